@@ -1,0 +1,28 @@
+//! Command line parsers from small ones: the crate that a program uses.
+//!
+//! It stands on `bpaf_doc`, `bpaf_line`, `bpaf_text` and `bpaf_core`, and hands on all of them: a
+//! program lists `bpaf` alone. Of its own it has products: [`ParseCon`] over [`Both`] and [`Last`]
+//! evaluates fields in order and gives their values to a constructor.
+//!
+//! For the layers above: each type here proves the laws of `Parser` from the laws of its inner
+//! parsers alone, and its `outcome`, `reads` and `describes` are definitions over theirs
+//! (specs/Product.antt).
+//!
+//! The modules [`parsers`], [`params`] and [`doc`] hand on the parser types, the leaves, and what
+//! texts are made of, as bpaf's modules of these names do.
+//!
+//! The source of the design is bpaf's `lib.rs` and `structs.rs`.
+#![tactic(auto)]
+
+pub mod doc;
+pub mod params;
+pub mod parsers;
+mod product;
+
+pub use bpaf_core::{OptionParser, Parser, missing, read_text};
+pub use bpaf_doc::{Doc, Item, Meta, Metavar, Piece, ShortLong, Style, Text};
+pub use bpaf_line::{
+    Arg, Args, Error, LentWord, Message, MissingItem, MissingItems, ParseFailure, State,
+};
+pub use bpaf_text::{FromText, NamedArg, TextFault, long, short};
+pub use product::{Both, Fields, Last, ParseCon};

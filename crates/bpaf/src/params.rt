@@ -1,0 +1,2 @@
+//! The parsers of one option (bpaf's module `params`).
+pub use bpaf_text::{NamedArg, ParseArgument, ParseFlag};

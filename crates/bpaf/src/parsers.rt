@@ -1,0 +1,3 @@
+//! The parser types (bpaf's module `parsers`).
+pub use crate::product::ParseCon;
+pub use bpaf_text::{NamedArg, ParseArgument, ParseFlag};

@@ -1,0 +1,176 @@
+ghost use Rattle.std.specs.Prelude.{◌≡◌, OnOk, map};
+ghost use Rattle.bpaf_doc.specs.Shape.{shape_of};
+ghost use Rattle.bpaf.specs.Product.{AppendsShapes};
+
+use bpaf_core::Parser;
+use bpaf_doc::Meta;
+use bpaf_line::{Error, State};
+use std::alloc::{AllocError, Global};
+use std::marker::PhantomData;
+
+/// The fields of a product, in order: their values are nested pairs. bpaf has a closure in its place.
+pub trait Fields<V>: Sized {
+    ghost use Rattle.std.specs.Prelude.{List};
+    ghost use Rattle.bpaf_doc.specs.Shape.{Shape};
+    ghost use Rattle.bpaf_core.specs.Reading.{Outcome, Readings};
+    ghost use Rattle.bpaf_core.specs.Laws.{Lawful};
+
+    /// Whether each field may be evaluated.
+    ghost can_eval: { Self → Type 0 };
+
+    /// What the fields may show of themselves, in order.
+    ghost describes: { Self → List Shape → Type 0 };
+
+    /// Which values may be read off which places of a line.
+    ghost reads: { Self → Readings V };
+
+    /// What an evaluation of all fields may answer, and which situation it leaves.
+    ghost outcome: { Self → Outcome V };
+
+    /// Evaluates every field in order, also after an error; the first failing field's error is the
+    /// answer. Want of memory is the answer at once.
+    fn eval_fields(&self, state: &mut State) -> Result<V, Error>
+        requires { can_eval self.now }
+        ensures { outcome self.now state.old result state.new };
+
+    /// Appends what each field shows; refused only for want of memory.
+    fn push_metas(&self, alloc: Global, metas: &mut Vec<Meta>) -> Result<(), AllocError>
+        requires { can_eval self.now }
+        ensures { OnOk result (AppendsShapes (describes self.now) (map shape_of metas.old.items) (map shape_of metas.new.items)) };
+
+    /// What each implementation keeps to.
+    ghost lawful: { (p : Self) → Lawful V (outcome p) (reads p) };
+}
+
+/// The last field of a product.
+#[derive(Drop)]
+pub struct Last<A> {
+    pub last: A,
+}
+
+impl<T: Drop, A: Parser<T>> Fields<T> for Last<A> {
+    ghost use Rattle.bpaf.specs.Product.{LastDescribes};
+
+    ghost can_eval = { λ p. A.can_eval p.last };
+
+    ghost describes = { λ p. LastDescribes (A.describes p.last) };
+
+    ghost reads = { λ p. A.reads p.last };
+
+    ghost outcome = { λ p. A.outcome p.last };
+
+    fn eval_fields(&self, state: &mut State) -> Result<T, Error> {
+        self.last.eval(state)
+    }
+
+    fn push_metas(&self, alloc: Global, metas: &mut Vec<Meta>) -> Result<(), AllocError> {
+        metas.push(self.last.meta(alloc)?)?;
+        Ok(())
+    }
+
+    ghost lawful = { λ p. A.lawful p.last };
+}
+
+/// A field of a product, and the fields after it.
+#[derive(Drop)]
+pub struct Both<A, R> {
+    pub first: A,
+    pub rest: R,
+}
+
+impl<T: Drop, V: Drop, A: Parser<T>, R: Fields<V>> Fields<(T, V)> for Both<A, R> {
+    ghost use Rattle.bpaf.specs.Product.{BothOutcome, BothReads, BothDescribes, both_lawful};
+
+    ghost can_eval = { λ p. A.can_eval p.first × R.can_eval p.rest };
+
+    ghost describes = { λ p. BothDescribes (A.describes p.first) (R.describes p.rest) };
+
+    ghost reads = { λ p. BothReads T V (A.reads p.first) (R.reads p.rest) };
+
+    ghost outcome = { λ p. BothOutcome (A.outcome p.first) (R.outcome p.rest) };
+
+    fn eval_fields(&self, state: &mut State) -> Result<(T, V), Error> {
+        match self.first.eval(state) {
+            Ok(first) => match self.rest.eval_fields(state) {
+                Ok(rest) => Ok((first, rest)),
+                Err(error) => Err(error),
+            },
+            Err(error) => {
+                if error.0.is_memory() {
+                    return Err(error);
+                }
+                match self.rest.eval_fields(state) {
+                    Ok(_) => Err(error),
+                    Err(later) => {
+                        if later.0.is_memory() {
+                            Err(later)
+                        } else {
+                            Err(error)
+                        }
+                    }
+                }
+            }
+        }
+    }
+
+    fn push_metas(&self, alloc: Global, metas: &mut Vec<Meta>) -> Result<(), AllocError> {
+        metas.push(self.first.meta(alloc)?)?;
+        self.rest.push_metas(alloc, metas)
+    }
+
+    ghost lawful = { λ p. both_lawful (A.lawful p.first) (R.lawful p.rest) };
+}
+
+/// A product: what a constructor makes of the values of fields (bpaf's `ParseCon`, in `structs.rs`).
+///
+/// `V` is the type of the fields' values, nested pairs.
+#[derive(Drop)]
+pub struct ParseCon<V, P, F> {
+    pub fields: P,
+    pub make: F,
+    pub values: PhantomData<V>,
+}
+
+impl<V, P, F> ParseCon<V, P, F> {
+    /// A product of these fields.
+    pub fn new<T>(fields: P, make: F) -> ParseCon<V, P, F>
+    where
+        P: Fields<V>,
+        F: Fn(V) -> T,
+        requires { F.IsAlwaysCallable make }
+        ensures fields { result.fields ≡ fields }
+        ensures make { result.make ≡ make }
+    {
+        ParseCon {
+            fields,
+            make,
+            values: PhantomData,
+        }
+    }
+}
+
+impl<V: Drop, T: Drop, P: Fields<V>, F: Fn(V) -> T> Parser<T> for ParseCon<V, P, F> {
+    ghost use Rattle.bpaf.specs.Product.{ProductOutcome, ProductReads, ProductDescribes, product_lawful};
+
+    ghost can_eval = { λ p. P.can_eval p.fields × F.IsAlwaysCallable p.make };
+
+    ghost describes = { λ p. ProductDescribes (P.describes p.fields) };
+
+    ghost reads = { λ p. ProductReads V T (P.reads p.fields) (λ x y. F.post p.make x y) };
+
+    ghost outcome = { λ p. ProductOutcome (P.outcome p.fields) (λ x y. F.post p.make x y) };
+
+    fn eval(&self, state: &mut State) -> Result<T, Error> {
+        let values = self.fields.eval_fields(state);
+        state.set_current(None);
+        Ok((self.make)(values?))
+    }
+
+    fn meta(&self, alloc: Global) -> Result<Meta, AllocError> {
+        let mut metas = Vec::new(alloc);
+        self.fields.push_metas(alloc, &mut metas)?;
+        Ok(Meta::And(metas))
+    }
+
+    ghost lawful = { λ p. product_lawful (λ x y. F.post p.make x y) (P.lawful p.fields) };
+}

@@ -1,0 +1,79 @@
+-- What a run accepts is dealt out of its words.
+use Rattle.std.proofs.Common.{◌≡◌, ℕ, zero, suc, ◌+◌, ◌<◌, Bool, true, false, not, ◌&&◌, if◌then◌else◌, length, List, Option, Result, Ok, Err, IfOk, refl, sym, subst, ap, ◌∙◌, arith, true≢false, nat_lt, ⊎_elim}
+use Rattle.std.proofs.lemmas.Bool.{cases_eq}
+use Rattle.std.proofs.lemmas.Bool.Decides.{nat_tests}
+use mathlib.Core.Path.{fun_ext}
+use Rattle.bpaf_line.specs.declared.arg.Arg.{Arg}
+use Rattle.bpaf_line.specs.declared.failure.ParseFailure.{ParseFailure}
+use Rattle.bpaf_line.specs.Spelling.{Known}
+use Rattle.bpaf_line.specs.Line.{IsLine}
+use Rattle.bpaf_line.specs.Situation.{Situation, Context, beginning, is_taken, is_open, in_scope, is_marker, is_dealt_place, count_below, open_count}
+use Rattle.bpaf_line.proofs.Beginning.{taken_at_beginning}
+use Rattle.bpaf_core.specs.Reading.{Readings, Outcome, Share}
+use Rattle.bpaf_core.specs.Laws.{Lawful, Reads, Keeps, Closes, newly}
+use Rattle.bpaf_core.specs.Run.{Given, context_in, Runs, RunsWords, value, leftover, refused, ran, no_line, no_memory}
+use Rattle.bpaf_core.specs.Dealt.{IsDealtOut}
+
+none_at : (b : Bool) (n : ℕ) → (if b then (n + 1) else n) ≡ 0 → (b ≡ false) × (n ≡ 0)
+none_at true n e = absurd (omega arith)
+none_at false n e = (refl, e)
+
+-- a set without numbers below n lacks each of them
+none_below : (set : ℕ → Bool) (n : ℕ) → count_below set n ≡ 0 → (p : ℕ) → p < n → set p ≡ false
+none_below set zero e p within = absurd (omega arith)
+none_below set (suc n) e p within =
+    let parts = none_at (set n) (count_below set n) e in
+    ⊎_elim
+    (λ (same : p ≡ n). subst (λ q. set q ≡ false) (sym same) parts.0)
+    (λ other. none_below set n parts.1 p (omega arith))
+    (cases_eq p n)
+
+dealt_at : (taken before dealt : Bool) → before ≡ not dealt → (dealt ≡ true → taken ≡ true) → (taken && not before) ≡ dealt
+dealt_at taken before true e h = rw (e, h refl) refl
+dealt_at true before false e h = rw e refl
+dealt_at false before false e h = refl
+
+taken_at : (inside taken : Bool) → (inside ≡ false → taken ≡ true) → (inside && not taken) ≡ false → taken ≡ true
+taken_at true true closed none = refl
+taken_at true false closed none = absurd (true≢false none)
+taken_at false taken closed none = closed refl
+
+dealt_within : (line : List Arg) (marker : Option ℕ) (p : ℕ) → is_dealt_place line marker p ≡ true → p < length line
+dealt_within line marker p dealt = of_and (nat_lt p (length line)) (is_marker marker p) refl dealt
+  where
+    of_and : (x y : Bool) → nat_lt p (length line) ≡ x → (x && not y) ≡ true → p < length line
+    of_and true y e both = grind (arith, nat_tests)
+    of_and false y e both = cc
+
+in_whole_line : (context : Context) (marker : Option ℕ) (p : ℕ) → p < length context.line → in_scope (beginning context marker) p ≡ true
+in_whole_line context marker p within = grind (arith, nat_tests)
+
+-- an evaluation from the beginning that left nothing took all places but that of the marker
+all_newly : (context : Context) (marker : Option ℕ) (t : Situation) → Keeps (beginning context marker) t → Closes (beginning context marker) t → open_count t ≡ 0
+    → newly (beginning context marker) t ≡ is_dealt_place context.line marker
+all_newly context marker t keeps closed none = fun_ext (λ p. dealt_at (is_taken t p) (is_taken (beginning context marker) p) (is_dealt_place context.line marker p)
+    (taken_at_beginning context marker p)
+    (λ dealt.
+    let within : p < length context.line = dealt_within context.line marker p dealt in
+    let same : length t.context.line ≡ length context.line = ap (λ c. length c.line) keeps.context in
+    taken_at (in_scope t p) (is_taken t p) (closed p (in_whole_line context marker p within)) (none_below (is_open t) (length t.context.line) none p (omega arith))))
+
+module _ {T : Type 0} {inner : Outcome T} {reads : Readings T} (known : Known) (given : Given) (law : Lawful T inner reads) where
+  dealt_from : (line : List Arg) (marker : Option ℕ) (v : T) → IsLine known given.words line marker → Runs T inner (beginning (context_in given line) marker) (Ok v) → IsDealtOut T reads known given v
+  dealt_from line marker v is (value v' t answered none) =
+      let read = law.ok (beginning (context_in given line) marker) t v' answered in
+      record {
+        line = line;
+        marker = marker;
+        is_line = is;
+        read = subst (λ (share : Share). reads (context_in given line) share v') (all_newly (context_in given line) marker t read.keeps read.closed none) read.reading;
+      }
+
+  -- a value that a run over words answers is dealt out of them
+  pub words_dealt : (v : T) → RunsWords T inner known given (Ok v) → IsDealtOut T reads known given v
+  words_dealt v (ran line marker r is run) = dealt_from line marker v is run
+
+  -- so is each value among its answers
+  pub if_dealt : (r : Result T ParseFailure) → RunsWords T inner known given r → IfOk r (λ v. IsDealtOut T reads known given v)
+  if_dealt (Ok v) run = words_dealt v run
+  if_dealt (Err f) run = tt

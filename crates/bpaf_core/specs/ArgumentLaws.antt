@@ -1,0 +1,73 @@
+-- Arguments keep to the laws.
+use Rattle.std.specs.Prelude.{◌≡◌, ◌≢◌, ℕ, ◌+◌, Bool, true, false, not, ◌&&◌, List, Result, Ok, Err, Option, Some, None, option_and_then, if◌then◌else◌, refl}
+use Rattle.std.proofs.Common.{sym, subst, ap, ◌∙◌, ⊎_elim, arith}
+use Rattle.bpaf_doc.specs.Names.{Names}
+use Rattle.bpaf_text.specs.Named.{Named}
+use Rattle.bpaf_line.specs.Items.{is_argument_key, value_text}
+use Rattle.bpaf_line.specs.Situation.{Situation, is_open, is_taken, in_scope, item_at, take_place}
+use Rattle.bpaf_line.specs.Taking.{TakesValue, value_after}
+use Rattle.bpaf_line.proofs.Places.{taken_other}
+use Rattle.bpaf_line.specs.declared.error.Error.{Error}
+use Rattle.bpaf_line.specs.declared.error.Message.{Message}
+use Rattle.bpaf_line.specs.declared.error.Message.TheVariants.{Memory, Missing, ParseFailed, NoArgument, Ambiguity}
+use Rattle.bpaf_core.specs.Reading.{Readings}
+use Rattle.bpaf_core.specs.Laws.{Keeps, Reads, Lawful}
+use Rattle.bpaf_core.specs.Keeping.{keeps_refl, keeps_trans, closes_take_both, keeps_take, newly_take_both}
+use Rattle.bpaf_core.specs.FlagLaws.{first_of_and, second_of_and}
+use Rattle.bpaf_core.specs.Argument.{ArgumentReads, ArgumentOutcome, ArgumentFails}
+
+if_some : {A : Type 0} (b : Bool) (o : Option A) (x : A) → (if b then o else None) ≡ Some x → (b ≡ true) × (o ≡ Some x)
+if_some true o x e = (refl, e)
+if_some false o x e = cc
+
+module _ (names : Names) (s : Situation) (text : List ℕ) (t : Situation) (takes : TakesValue names false s text t) where
+  key_open : is_open s takes.key ≡ true
+  key_open = first_of_and (is_open s takes.key) _ takes.first.matches
+
+  value_there : (is_open s (takes.key + 1) ≡ true) × (option_and_then value_text (item_at s (takes.key + 1)) ≡ Some text)
+  value_there = if_some (is_open s (takes.key + 1)) (option_and_then value_text (item_at s (takes.key + 1))) text takes.value
+
+  value_open : is_open (take_place s takes.key) (takes.key + 1) ≡ true
+  value_open =
+      let other : takes.key + 1 ≢ takes.key = (λ e. absurd (omega arith)) in
+      ap (λ taken. in_scope s (takes.key + 1) && not taken) (taken_other s takes.key (takes.key + 1) other) ∙ value_there.0
+
+  -- what taking a key and its value keeps
+  pub value_keeps : Keeps s t
+  value_keeps =
+      let m = take_place s takes.key in
+      subst (Keeps s) (sym takes.taken) (keeps_trans s m (take_place m (takes.key + 1)) (keeps_take s takes.key key_open) (keeps_take m (takes.key + 1) value_open))
+
+module _ (T : Type 0) (means : List ℕ → T → Type 0) (named : Named) (metavar : List ℕ) where
+  abbrev reads_argument : Readings T
+  reads_argument = ArgumentReads T means named
+
+  argument_read : (s t : Situation) (v : T) (text : List ℕ) → TakesValue named.names false s text t → means text v → Reads T reads_argument s v t
+  argument_read s t v text takes meant =
+      subst (λ w. Reads T reads_argument s v w) (sym takes.taken) (record {
+        keeps = subst (Keeps s) takes.taken (value_keeps named.names s text t takes);
+        closed = closes_take_both s takes.key (takes.key + 1);
+        reading = record {
+          key = takes.key;
+          is_key = second_of_and (is_open s takes.key) _ takes.first.matches;
+          text = text;
+          behind = (value_there named.names s text t takes).1;
+          places = newly_take_both s takes.key (key_open named.names s text t takes) (value_open named.names s text t takes);
+          meant = meant;
+        };
+      })
+
+  argument_refused : (s t : Situation) (m : Message) → ArgumentFails means named metavar s m t → Keeps s t
+  argument_refused s t (Missing items) fails = subst (Keeps s) (sym fails.1) (keeps_refl s)
+  argument_refused s t (NoArgument key name) fails = subst (Keeps s) (sym fails.1) (keeps_refl s)
+  argument_refused s t (ParseFailed place fault) fails = value_keeps named.names s fails.0 t fails.1
+  argument_refused s t Memory fails =
+      ⊎_elim (λ same. subst (Keeps s) (sym same) (keeps_refl s)) (λ taken. value_keeps named.names s taken.0 t taken.1) fails
+  argument_refused s t (Ambiguity word number) fails = absurd fails
+
+  -- arguments keep to the laws
+  pub argument_lawful : Lawful T (ArgumentOutcome means named metavar) reads_argument
+  argument_lawful = record {
+    ok = λ s t v o. argument_read s t v o.0 o.1 o.2;
+    err = λ s t e o. argument_refused s t e.0 o;
+  }

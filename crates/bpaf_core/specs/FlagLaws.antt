@@ -1,0 +1,64 @@
+-- Flags keep to the laws.
+use Rattle.std.specs.Prelude.{◌≡◌, ℕ, Bool, true, false, ◌&&◌, Result, Ok, Err, Option, refl}
+use Rattle.std.proofs.Common.{sym, subst, ⊎_elim}
+use Rattle.bpaf_doc.specs.Names.{Names}
+use Rattle.bpaf_text.specs.Named.{Named}
+use Rattle.bpaf_line.specs.Items.{is_key_of}
+use Rattle.bpaf_line.specs.Situation.{Situation, is_open}
+use Rattle.bpaf_line.specs.Taking.{TakesFlag}
+use Rattle.bpaf_line.specs.declared.error.Error.{Error}
+use Rattle.bpaf_line.specs.declared.error.Message.{Message}
+use Rattle.bpaf_line.specs.declared.error.Message.TheVariants.{Memory, Missing, ParseFailed, NoArgument, Ambiguity}
+use Rattle.bpaf_core.specs.Reading.{Readings}
+use Rattle.bpaf_core.specs.Laws.{Keeps, Reads, Lawful}
+use Rattle.bpaf_core.specs.Keeping.{keeps_refl, closes_refl, closes_take, newly_none, keeps_take, newly_take}
+use Rattle.bpaf_core.specs.Flag.{FlagReads, at_key, nowhere, FlagOutcome, FlagFails, IsAbsentValue}
+
+-- both of two tests
+pub first_of_and : (x y : Bool) → (x && y) ≡ true → x ≡ true
+first_of_and true y h = refl
+first_of_and false y h = h
+
+pub second_of_and : (x y : Bool) → (x && y) ≡ true → y ≡ true
+second_of_and true y h = h
+second_of_and false y h = cc
+
+-- what looking for a flag keeps
+pub flag_keeps : (names : Names) (s : Situation) (found : Bool) (t : Situation) → TakesFlag names s found t → Keeps s t
+flag_keeps names s true t takes = subst (Keeps s) (sym takes.2) (keeps_take s takes.0 (first_of_and (is_open s takes.0) _ takes.1.matches))
+flag_keeps names s false t takes = subst (Keeps s) (sym takes.1) (keeps_refl s)
+
+module _ (T : Type 0) (clones : T → T → Type 0) (named : Named) (present : T) (absent : Option T) where
+  abbrev reads_flag : Readings T
+  reads_flag = FlagReads T clones named present absent
+
+  flag_found : (s t : Situation) (v : T) → TakesFlag named.names s true t → clones present v → Reads T reads_flag s v t
+  flag_found s t v takes value =
+      let there : is_open s takes.0 ≡ true = first_of_and (is_open s takes.0) _ takes.1.matches in
+      subst (λ w. Reads T reads_flag s v w) (sym takes.2) (record {
+        keeps = keeps_take s takes.0 there;
+        closed = closes_take s takes.0;
+        reading = at_key takes.0 (second_of_and (is_open s takes.0) _ takes.1.matches) (newly_take s takes.0 there) value;
+      })
+
+  flag_absent : (s t : Situation) (v : T) → TakesFlag named.names s false t → IsAbsentValue clones absent v → Reads T reads_flag s v t
+  flag_absent s t v takes value =
+      subst (λ w. Reads T reads_flag s v w) (sym takes.1) (record {
+        keeps = keeps_refl s;
+        closed = closes_refl s;
+        reading = nowhere (newly_none s) value;
+      })
+
+  flag_refused : (s t : Situation) (m : Message) → FlagFails named absent s m t → Keeps s t
+  flag_refused s t (Missing items) fails = flag_keeps named.names s false t fails.0
+  flag_refused s t Memory fails = flag_keeps named.names s fails.0 t fails.1
+  flag_refused s t (ParseFailed place fault) fails = absurd fails
+  flag_refused s t (NoArgument place metavar) fails = absurd fails
+  flag_refused s t (Ambiguity word number) fails = absurd fails
+
+  -- flags keep to the laws
+  pub flag_lawful : Lawful T (FlagOutcome clones named present absent) reads_flag
+  flag_lawful = record {
+    ok = λ s t v o. ⊎_elim (λ found. flag_found s t v found.0 found.1) (λ none. flag_absent s t v none.0 none.1) o;
+    err = λ s t e o. flag_refused s t e.0 o;
+  }

@@ -1,0 +1,11 @@
+pub mod Reading
+pub mod Laws
+pub mod Keeping
+pub mod Missing
+pub mod Value
+pub mod Flag
+pub mod FlagLaws
+pub mod Argument
+pub mod ArgumentLaws
+pub mod Run
+pub mod Dealt

@@ -1,0 +1,50 @@
+use crate::missed::missing;
+use crate::parser::Parser;
+use bpaf_doc::Meta;
+use bpaf_line::{Error, State};
+use bpaf_text::ParseFlag;
+use std::alloc::{AllocError, Global};
+
+/// Present where a key with one of the names is taken, else absent (bpaf's `ParseFlag`, in
+/// `params.rs`).
+///
+/// A required flag, which has no absent value, answers Missing where no key is there. The value is a
+/// clone of the kept one, which may be refused for memory.
+impl<T: Clone + Drop> Parser<T> for ParseFlag<T> {
+    ghost use Rattle.std.specs.Prelude.{◌≡◌};
+    ghost use Rattle.bpaf_core.specs.Flag.{FlagOutcome, FlagReads, flag_shape};
+    ghost use Rattle.bpaf_core.specs.FlagLaws.{flag_lawful};
+
+    ghost can_eval = { λ p. Unit {0} };
+
+    ghost describes = { λ p shape. shape ≡ flag_shape p.named p.absent };
+
+    ghost reads = { λ p. FlagReads T T.is_clone p.named p.present p.absent };
+
+    ghost outcome = { λ p. FlagOutcome T.is_clone p.named p.present p.absent };
+
+    fn eval(&self, state: &mut State) -> Result<T, Error> {
+        if state.take_flag(self.named.shorts(), self.named.longs()) {
+            return Ok(self.present.clone()?);
+        }
+        match &self.absent {
+            Some(absent) => Ok(absent.clone()?),
+            None => {
+                let item = self.named.flag_item(state.alloc())?;
+                Err(missing(state, item)?)
+            }
+        }
+    }
+
+    fn meta(&self, alloc: Global) -> Result<Meta, AllocError> {
+        let Some(item) = self.named.flag_item(alloc)? else {
+            return Ok(Meta::Skip);
+        };
+        match &self.absent {
+            Some(_) => Ok(Meta::Optional(Box::new(alloc, Meta::Item(item))?)),
+            None => Ok(Meta::Item(item)),
+        }
+    }
+
+    ghost lawful = { λ p. flag_lawful T T.is_clone p.named p.present p.absent };
+}

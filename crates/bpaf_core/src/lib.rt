@@ -1,0 +1,31 @@
+//! Parsers: what reads a value off a line, and a run over a whole line.
+//!
+//! It stands on `bpaf_doc`, `bpaf_line` and `bpaf_text`. For the layers above:
+//!
+//! - [`Parser`] is the trait of every parser. By its ghost members an implementation says what it
+//!   means: `reads`, which values may be read off which places of a line; `outcome`, what one
+//!   evaluation may answer in a situation and which situation it leaves; `describes`, what it may
+//!   show of itself. Its law `lawful` ties the outcome to the readings: the newly taken places with
+//!   the value are a reading, each taken place lay present in the scope, and so on
+//!   (specs/Laws.antt). Every implementation proves it, from the laws of its inner parsers alone.
+//! - [`bpaf_text::ParseFlag`] and [`bpaf_text::ParseArgument`] are the first parsers.
+//! - [`OptionParser::run_inner`] runs a parser over words. It answers a value only where that is
+//!   dealt out of the words: read off all items of their line but the first `--`, each used once
+//!   (specs/Dealt.antt), whatever the parser's type.
+//!
+//! Nothing above this crate uses more of a parser than these members, and its law.
+//!
+//! The source of the design is bpaf's `lib.rs`, `params.rs` and `info.rs`.
+#![tactic(auto)]
+
+mod argument;
+mod flag;
+mod missed;
+mod options;
+mod parser;
+mod reading;
+
+pub use missed::missing;
+pub use options::OptionParser;
+pub use parser::Parser;
+pub use reading::read_text;

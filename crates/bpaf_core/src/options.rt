@@ -1,0 +1,83 @@
+ghost use Rattle.std.specs.Prelude.{IfOk};
+ghost use Rattle.bpaf_core.specs.Run.{Runs, RunsWords, IsRefusal, Tells, given_of, no_names};
+ghost use Rattle.bpaf_core.specs.Dealt.{IsDealtOut};
+
+use crate::parser::Parser;
+use bpaf_doc::Doc;
+use bpaf_line::{Args, Message, ParseFailure, State};
+use std::alloc::{AllocError, Global};
+use std::marker::PhantomData;
+
+/// A parser that can run over words (bpaf's `OptionParser`, in `info.rs`).
+#[derive(Drop)]
+pub struct OptionParser<T, P> {
+    pub inner: P,
+    pub alloc: Global,
+    pub of: PhantomData<T>,
+}
+
+/// The text of a refusal, as long as messages have no texts of their own.
+fn refusal(alloc: Global) -> ParseFailure
+    ensures { IsRefusal result }
+{
+    match refused(alloc) {
+        Ok(doc) => ParseFailure::Stderr(doc),
+        Err(_) => ParseFailure::Memory,
+    }
+}
+
+fn refused(alloc: Global) -> Result<Doc, AllocError>
+    ensures { IfOk result (λ doc. IsRefusal (ParseFailure.Stderr doc)) }
+{
+    let mut doc = Doc::new(alloc);
+    doc.literal("refused")?;
+    Ok(doc)
+}
+
+/// What a run ends with where a parser, or the line, refuses: want of memory stays that.
+fn told(alloc: Global, message: Message) -> ParseFailure
+    ensures { Tells message result }
+{
+    if message.is_memory() {
+        return ParseFailure::Memory;
+    }
+    refusal(alloc)
+}
+
+impl<T: Drop, P: Parser<T>> OptionParser<T, P> {
+    /// The value that the words give (bpaf's `run_inner`).
+    ///
+    /// Ok(v) comes only where v is dealt out of the words: read off all items of their line but the
+    /// first `--`, each used once. Else the answer is a message, or want of memory. The parser is
+    /// unchanged, and may run again.
+    pub fn run_inner(&self, args: Args<'_>) -> Result<T, ParseFailure>
+        requires { P.can_eval self.now.inner }
+        ensures outcome { RunsWords T (P.outcome self.now.inner) no_names (given_of args.entry) result }
+        ensures dealt { IfOk result (λ v. IsDealtOut T (P.reads self.now.inner) no_names (given_of args.entry) v) }
+    {
+        match State::construct(self.alloc, args, &[], &[]) {
+            Ok(state) => {
+                let mut state = state;
+                self.run_from(&mut state)
+            }
+            Err(message) => Err(told(self.alloc, message)),
+        }
+    }
+
+    /// A run from a state on.
+    fn run_from(&self, state: &mut State) -> Result<T, ParseFailure>
+        requires { P.can_eval self.now.inner }
+        ensures { Runs T (P.outcome self.now.inner) state.old result }
+    {
+        match self.inner.eval(state) {
+            Ok(value) => {
+                if state.is_empty() {
+                    return Ok(value);
+                }
+                drop(value);
+                Err(refusal(self.alloc))
+            }
+            Err(error) => Err(told(self.alloc, error.0)),
+        }
+    }
+}

@@ -1,0 +1,22 @@
+ghost use Rattle.bpaf_core.specs.Value.{ReadsValue};
+
+use bpaf_doc::Text;
+use bpaf_line::{Error, Message, State};
+use bpaf_text::{FromText, TextFault};
+
+/// The value that a taken text means.
+///
+/// Refused with ParseFailed, which names the current place, where the text means none; or for want
+/// of memory.
+pub fn read_text<T: FromText>(state: &State, text: &str) -> Result<T, Error>
+    ensures { ReadsValue T.means text.now state.now.current result }
+{
+    match T::from_text(state.alloc(), text) {
+        Ok(value) => Ok(value),
+        Err(TextFault::Memory) => Err(Error(Message::Memory)),
+        Err(TextFault::Fault(fault)) => Err(Error(Message::ParseFailed(
+            state.current(),
+            Text::from(fault),
+        ))),
+    }
+}

@@ -1,0 +1,54 @@
+-- Options that are dealt out of the words, and what a run of the program does.
+use Rattle.std.specs.Prelude.{◌≡◌, ◌⊎◌, ℕ, Bool, true, false, List, [], ◌∷◌, Option, Some, codes}
+use Rattle.std.specs.Io.KnownBytes.{Keeps, Appends}
+use Rattle.bpaf_doc.specs.Names.{Names}
+use Rattle.bpaf_text.specs.Named.{Named}
+use Rattle.bpaf_text.specs.Meaning.{SpellsUnsigned}
+use Rattle.bpaf_line.specs.declared.arg.Arg.{Arg}
+use Rattle.bpaf_line.specs.Items.{is_key_of}
+use Rattle.bpaf_line.specs.Line.{IsLine}
+use Rattle.bpaf_line.specs.Situation.{Context, is_dealt_place}
+use Rattle.bpaf_core.specs.Reading.{Share, Joins, IsPlace, IsEmptyShare, HasItem}
+use Rattle.bpaf_core.specs.Argument.{ArgumentReads}
+use Rattle.bpaf_core.specs.Run.{no_names}
+use Rattle.bpaf_demo.specs.declared.options.Options.{Options}
+use Rattle.bpaf_demo.specs.Lines.{lines}
+
+-- the names of the switch
+abbrev pub verbose_names : Names
+verbose_names = record { shorts = 118 ∷ []; longs = codes "verbose" ∷ [] }
+
+-- the names of the number
+abbrev pub num_names : Names
+num_names = record { shorts = 110 ∷ []; longs = codes "num" ∷ [] }
+
+-- the context of a line of the program
+abbrev pub program_context : List Arg → Context
+program_context line = record { line = line; env = []; name = Some (codes "bpaf_demo") }
+
+-- the switch is on by one of its keys, attached or not, and off by no place
+abbrev pub SwitchReads : Names → Context → Share → Bool → Type 0
+SwitchReads names context share true = (key : ℕ) × HasItem (is_key_of names) context key × IsPlace key share
+SwitchReads names context share false = IsEmptyShare share
+
+-- all places of the words' line but the first `--` are dealt out to the switch and the number, each used once
+pub record IsDealtOptions (words : List (List ℕ)) (v : Options) : Type 0 where
+  pub line : List Arg
+  pub marker : Option ℕ
+  pub is_line : IsLine no_names words line marker
+  pub verbose_share : Share
+  pub num_share : Share
+  pub joins : Joins verbose_share num_share (is_dealt_place line marker)
+  pub verbose : SwitchReads verbose_names (program_context line) verbose_share v.verbose
+  pub num : ArgumentReads ℕ (SpellsUnsigned 64) (record { names = num_names }) (program_context line) num_share v.num
+
+-- status 0: nothing on the error writer, and on the other exactly the lines of options that are dealt out of the words
+pub record Succeeds (words : List (List ℕ)) (out out_after err err_after : Option (List ℕ)) : Type 0 where
+  pub quiet : Keeps err err_after
+  pub options : Options
+  pub dealt : IsDealtOptions words options
+  pub printed : Appends out out_after (lines options)
+
+-- status 1: nothing on the writer, or there are such options, and a write failed
+abbrev pub Fails : List (List ℕ) → Option (List ℕ) → Option (List ℕ) → Type 0
+Fails words out out_after = Keeps out out_after ⊎ ((v : Options) × IsDealtOptions words v)

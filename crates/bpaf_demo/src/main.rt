@@ -1,0 +1,36 @@
+//! A program over a record of options: a switch and a number.
+//!
+//! It stands on `bpaf` alone, and has no contract for a layer above: it is the top. `run` is the whole
+//! program over two writers; `main` hands it the words, standard output and standard error, and ends
+//! with its status.
+//!
+//! ```text
+//! bpaf_demo -v -n 3      verbose: true, num: 3, a line each, status 0
+//! bpaf_demo --num=3      verbose: false, num: 3
+//! bpaf_demo -n           Error: refused, on standard error, status 1
+//! ```
+//!
+//! What is proved of it: where the writers tell their bytes, status 0 comes only where the value that
+//! was printed is dealt out of the words (specs/Record.antt, specs/Lines.antt).
+#![tactic(auto)]
+
+mod options;
+mod print;
+mod run;
+
+use run::run;
+use std::process::ExitCode;
+use std::{env, io};
+
+#[cfg(test)]
+mod tests;
+
+fn main(rt: HostRuntime) -> io::Result<ExitCode> {
+    let mut words = Vec::new(rt.alloc());
+    for word in env::args(&rt)?.skip(1) {
+        words.push(word)?;
+    }
+    let mut out = rt.stdout();
+    let mut err = rt.stderr();
+    Ok(ExitCode::from(run(rt.alloc(), words.as_slice(), &mut out, &mut err)))
+}

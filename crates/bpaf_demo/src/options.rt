@@ -1,0 +1,28 @@
+ghost use Rattle.std.specs.Prelude.{IfOk, IfErr, map, string_bytes};
+ghost use Rattle.bpaf_core.specs.Run.{IsRefusal};
+ghost use Rattle.bpaf_demo.specs.Record.{IsDealtOptions};
+
+use bpaf::{Args, Both, Last, ParseCon, ParseFailure, Parser, short};
+use std::alloc::Global;
+
+/// What the program is asked for.
+#[derive(Drop)]
+pub struct Options {
+    pub verbose: bool,
+    pub num: u64,
+}
+
+/// The options that the words give; refused where they give none, or for want of memory.
+pub fn read_options(alloc: Global, words: &[String]) -> Result<Options, ParseFailure>
+    ensures { IfOk result (λ v. IsDealtOptions (map string_bytes words.now) v) }
+{
+    let verbose = short(alloc, 'v')?.long("verbose")?.switch();
+    let num = short(alloc, 'n')?.long("num")?.argument::<u64>("NUM");
+    let fields = Both {
+        first: verbose,
+        rest: Last { last: num },
+    };
+    let record = ParseCon::new(fields, |(verbose, num)| Options { verbose, num });
+    let options = record.to_options(alloc)?;
+    options.run_inner(Args::from(words).set_name("bpaf_demo"))
+}

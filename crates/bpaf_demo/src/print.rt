@@ -1,0 +1,18 @@
+ghost use Rattle.std.specs.Prelude.{OnOk};
+ghost use Rattle.std.specs.Io.KnownBytes.{Appends};
+ghost use Rattle.bpaf_demo.specs.Lines.{lines};
+
+use crate::options::Options;
+use std::io;
+use std::io::Write;
+
+/// Prints the lines of the options; refused where a write fails.
+pub fn print_options<W: Write>(options: &Options, out: &mut W) -> io::Result<()>
+    ensures { OnOk result (Appends (W.contents out.old) (W.contents out.new) (lines options.now)) }
+{
+    let verbose = options.verbose;
+    let num = options.num;
+    writeln!(out, "verbose: {verbose}")?;
+    writeln!(out, "num: {num}")?;
+    Ok(())
+}

@@ -1,0 +1,3 @@
+pub mod Print
+pub mod Names
+pub mod Shape

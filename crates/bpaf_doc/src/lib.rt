@@ -1,0 +1,25 @@
+//! Documents and shapes: what a parser shows of itself, and what is printed.
+//!
+//! The lowest layer. It stands on std alone, and knows nothing of lines, values or runs.
+//!
+//! - [`Text`] is a text that contracts see as its bytes, so that values that hold texts compare by
+//!   what they say and not by the room that they take.
+//! - [`Doc`] is a list of pieces, each a text with a [`Style`]. Its contract for the layers above: a
+//!   `Doc` is the list of the pieces that its calls appended, and `monochrome` is their text.
+//! - [`Item`] is one flag or one argument as it is shown, and [`Meta`] the tree of them that a
+//!   parser shows. Contracts see both through `part_of` and `shape_of` (specs/Shape.antt), data in
+//!   which neither addresses nor capacities stand.
+//!
+//! The source of the design is bpaf's `buffer.rs`, `item.rs` and `meta.rs`.
+#![tactic(auto)]
+
+mod doc;
+mod meta;
+mod text;
+
+pub use doc::{Doc, Piece, Style};
+pub use meta::{Item, Meta, Metavar, ShortLong};
+pub use text::Text;
+
+#[cfg(test)]
+mod tests;

@@ -1,0 +1,10 @@
+pub mod Lists
+pub mod SplitLemmas
+pub mod JoinedLemmas
+pub mod OneSpelling
+pub mod LineLemmas
+pub mod OneLine
+pub mod Places
+pub mod Items
+pub mod Sound
+pub mod Beginning

@@ -1,0 +1,94 @@
+-- Places: what a place that is taken changes. The layers above cite these lemmas in place of the marks.
+use Rattle.std.proofs.Common.{◌≡◌, ◌≢◌, ℕ, zero, suc, ◌+◌, ◌<◌, ◌≤◌, Bool, true, false, not, ◌&&◌, ◌||◌, List, length, refl, ap, sym, ◌∙◌, arith, if◌then◌else◌, get_or-set_same, get_or-set_other, length-set, ⊎_elim, nat_lt, slice_index_or, slice_set}
+use Rattle.std.proofs.lemmas.Bool.{cases_lt}
+use Rattle.std.proofs.lemmas.Bool.Decides.{nat_tests}
+use Rattle.std.proofs.lemmas.List.{get_or_past}
+use Rattle.bpaf_line.specs.declared.state.Mark.{Mark}
+use Rattle.bpaf_line.specs.declared.state.Mark.TheVariants.{Taken}
+use Rattle.bpaf_line.specs.Situation.{Situation, is_open, is_taken, in_scope, is_taken_mark, take_place, count_below, open_count}
+
+-- two sets that agree below n have as many numbers there
+pub count_below-same : (f g : ℕ → Bool) (n : ℕ) → ((q : ℕ) → q < n → f q ≡ g q) → count_below f n ≡ count_below g n
+count_below-same f g zero agree = refl
+count_below-same f g (suc n) agree =
+    let below = count_below-same f g n (λ q l. agree q (omega arith)) in
+    rw (agree n (omega arith), below) refl
+
+counted_one : (b : Bool) (m n : ℕ) → m + 1 ≡ n → (if b then (m + 1) else m) + 1 ≡ (if b then (n + 1) else n)
+counted_one true m n e = omega arith
+counted_one false m n e = e
+
+-- a set that lacks one number of another has one fewer
+pub count_below-fewer : (f g : ℕ → Bool) (n p : ℕ) → p < n → f p ≡ true → g p ≡ false → ((q : ℕ) → q ≢ p → f q ≡ g q) → count_below g n + 1 ≡ count_below f n
+count_below-fewer f g zero p within has lacks agree = absurd (omega arith)
+count_below-fewer f g (suc n) p within has lacks agree =
+    ⊎_elim
+    (λ below.
+    let fewer = count_below-fewer f g n p below has lacks agree in
+    let same : f n ≡ g n = agree n (λ z. absurd (omega arith)) in
+    rw same (counted_one (g n) (count_below g n) (count_below f n) fewer))
+    (λ above.
+    let at : n ≡ p = omega arith in
+    let same : count_below f n ≡ count_below g n = count_below-same f g n (λ q k. agree q (λ z. absurd (omega arith))) in
+    let there : f n ≡ true = ap f at ∙ has in
+    let lacking : g n ≡ false = ap g at ∙ lacks in
+    rw (there, lacking, same) refl)
+    (cases_lt p n)
+
+-- a set with all numbers below n has n of them
+pub count_below-all : (f : ℕ → Bool) (n : ℕ) → ((q : ℕ) → q < n → f q ≡ true) → count_below f n ≡ n
+count_below-all f zero all = refl
+count_below-all f (suc n) all =
+    let below = count_below-all f n (λ q l. all q (omega arith)) in
+    rw (all n (omega arith), below) (omega arith)
+
+-- a present place of the scope lies in the scope
+pub open_in_scope : (s : Situation) (p : ℕ) → is_open s p ≡ true → (s.start ≤ p) × (p < s.end)
+open_in_scope s p there = grind (arith, nat_tests)
+
+-- and in the line
+pub open_in_line : (s : Situation) (p : ℕ) → is_open s p ≡ true → p < length s.context.line
+open_in_line s p there = grind (arith, nat_tests)
+
+-- and is not taken
+pub open_not_taken : (s : Situation) (p : ℕ) → is_open s p ≡ true → is_taken s p ≡ false
+open_not_taken s p there = of_and (in_scope s p) (is_taken s p) there
+  where
+    of_and : (x y : Bool) → (x && not y) ≡ true → y ≡ false
+    of_and true true h = cc
+    of_and true false h = refl
+    of_and false y h = cc
+
+or_true : (b : Bool) → (b || true) ≡ true
+or_true true = refl
+or_true false = refl
+
+and_false : (b : Bool) → (b && false) ≡ false
+and_false true = refl
+and_false false = refl
+
+set_there : (marks : List Mark) (p : ℕ) → slice_index_or (slice_set marks p Taken) p Taken ≡ Taken
+set_there marks p =
+    ⊎_elim
+    (λ (within : p < length marks). get_or-set_same marks p Taken Taken within)
+    (λ (past : length marks ≤ p). get_or_past (slice_set marks p Taken) p Taken (omega (arith, length-set marks p Taken)))
+    (cases_lt p (length marks))
+
+-- a place that was taken is taken
+pub taken_here : (s : Situation) (p : ℕ) → is_taken (take_place s p) p ≡ true
+taken_here s p = ap (λ mark. not (nat_lt p (length s.context.line)) || is_taken_mark mark) (set_there s.marks p) ∙ or_true (not (nat_lt p (length s.context.line)))
+
+-- the other places are as they were
+pub taken_other : (s : Situation) (p q : ℕ) → q ≢ p → is_taken (take_place s p) q ≡ is_taken s q
+taken_other s p q other = ap (λ mark. not (nat_lt q (length s.context.line)) || is_taken_mark mark) (get_or-set_other s.marks p q Taken Taken other)
+
+-- the scope is as it was
+pub scope_after_take : (s : Situation) (p q : ℕ) → in_scope (take_place s p) q ≡ in_scope s q
+scope_after_take s p q = refl
+
+-- one present place fewer
+pub open_count-take_place : (s : Situation) (p : ℕ) → is_open s p ≡ true → open_count (take_place s p) + 1 ≡ open_count s
+open_count-take_place s p there =
+    count_below-fewer (is_open s) (is_open (take_place s p)) (length s.context.line) p (open_in_line s p there) there
+    (ap (λ t. in_scope s p && not t) (taken_here s p) ∙ and_false (in_scope s p))
+    (λ q other. ap (λ t. in_scope s q && not t) (sym (taken_other s p q other)))

@@ -1,0 +1,6 @@
+use Rattle.std.proofs.Common.{◌≡◌, ℕ, ◌<◌, false}
+use Rattle.bpaf_line.specs.Taking.{is_match}
+use Rattle.bpaf_line.proofs.state.State.first_open.Given as goal
+
+abbrev pub invariant-loop-place : goal.invariant-loop-place
+invariant-loop-place g l = (q : ℕ) → q < l.place → is_match g.passes l.self q ≡ false

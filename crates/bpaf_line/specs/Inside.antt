@@ -1,0 +1,23 @@
+-- What a `State` is kept as, and what it then means.
+use Rattle.std.specs.Prelude.{◌≡◌, ◌≤◌, length, map, string_bytes, IfSome, slice_get, Some}
+use Rattle.std.specs.Rc.{rc_slice_items}
+use Rattle.bpaf_line.specs.declared.state.State.TheInside.{Inside}
+use Rattle.bpaf_line.specs.Situation.{Situation, open_count}
+
+abbrev pub situation_of : Inside → Situation
+situation_of s = record {
+  context = record { line = rc_slice_items s.items; env = rc_slice_items s.env; name = s.name };
+  marks = s.marks.items;
+  start = s.start;
+  end = s.end;
+  path = map string_bytes s.path.items;
+  current = s.current;
+}
+
+-- each place has its mark, the scope lies in the line, the count is right, and the path begins with the set name
+pub record IsSound (s : Inside) : Type 0 where
+  pub marked : length s.marks.items ≡ length (rc_slice_items s.items)
+  pub ordered : s.start ≤ s.end
+  pub inside : s.end ≤ length (rc_slice_items s.items)
+  pub counted : s.left ≡ open_count (situation_of s)
+  pub named : IfSome s.name (λ n. slice_get (map string_bytes s.path.items) 0 ≡ Some n)

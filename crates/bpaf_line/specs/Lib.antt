@@ -1,0 +1,12 @@
+pub mod Items
+pub mod Missing
+pub mod Messages
+pub mod Failure
+pub mod Spelling
+pub mod Splitting
+pub mod Line
+pub mod Arguments
+pub mod Situation
+pub mod Inside
+pub mod Taking
+pub mod Constructing

@@ -1,0 +1,60 @@
+-- What the calls of a state answer, and which situation they leave.
+use Rattle.std.specs.Prelude.{◌≡◌, ℕ, ◌+◌, ◌<◌, Bool, true, false, ◌&&◌, List, Option, Some, None, Result, Ok, Err, bytes_eq, string_bytes, String, if◌then◌else◌, option_and_then, option_map, find, ⊤}
+use Rattle.std.specs.Option.{option_map_or}
+use Rattle.std.specs.declared.alloc.Global.{Global}
+use Rattle.bpaf_doc.specs.Names.{Names}
+use Rattle.bpaf_line.specs.declared.arg.Arg.{Arg}
+use Rattle.bpaf_line.specs.declared.error.Error.{Error}
+use Rattle.bpaf_line.specs.declared.error.Message.{Message}
+use Rattle.bpaf_line.specs.declared.error.Message.TheVariants.{Memory, NoArgument}
+use Rattle.bpaf_line.specs.Items.{is_key_of, is_argument_key, value_text}
+use Rattle.bpaf_line.specs.Situation.{Situation, item_at, is_open, take_place}
+
+-- the item at p is present, in scope, and passes the test
+abbrev pub is_match : (Arg → Bool) → Situation → ℕ → Bool
+is_match test s p = is_open s p && option_map_or test (item_at s p) false
+
+-- p is the first place with a match
+pub record IsFirst (test : Arg → Bool) (s : Situation) (p : ℕ) : Type 0 where
+  pub matches : is_match test s p ≡ true
+  pub first : (q : ℕ) → q < p → is_match test s q ≡ false
+
+-- no place has a match
+abbrev pub HasNone : (Arg → Bool) → Situation → Type 0
+HasNone test s = (q : ℕ) → is_match test s q ≡ false
+
+-- `take_flag`: the first key with one of the names is taken; or there is none, and nothing changes
+abbrev pub TakesFlag : Names → Situation → Bool → Situation → Type 0
+TakesFlag names s true t = (p : ℕ) × IsFirst (is_key_of names) s p × (t ≡ take_place s p)
+TakesFlag names s false t = HasNone (is_key_of names) s × (t ≡ s)
+
+-- the value of a key at p: the text of the next place, where that is present and in scope
+abbrev pub value_after : Situation → ℕ → Option (List ℕ)
+value_after s p = if is_open s (p + 1) then option_and_then value_text (item_at s (p + 1)) else None
+
+-- the first key and its value, which is this text, are taken
+pub record TakesValue (names : Names) (adjacent : Bool) (s : Situation) (text : List ℕ) (t : Situation) : Type 0 where
+  pub key : ℕ
+  pub first : IsFirst (is_argument_key names adjacent) s key
+  pub value : value_after s key ≡ Some text
+  pub taken : t ≡ take_place (take_place s key) (key + 1)
+
+-- no value: the first key is named; or memory is wanted
+abbrev pub RefusesArgument : Names → Bool → List ℕ → Situation → Message → Type 0
+RefusesArgument names adjacent metavar s (NoArgument p m) = IsFirst (is_argument_key names adjacent) s p × (value_after s p ≡ None) × (m ≡ metavar)
+RefusesArgument names adjacent metavar s Memory = ⊤
+RefusesArgument names adjacent metavar s m = ⊥
+
+-- `take_arg`: the first key and its value are taken; or there is no key; or a refusal; then nothing changes
+abbrev pub TakesArgument : Names → Bool → List ℕ → Situation → Result (Option (String Global)) Error → Situation → Type 0
+TakesArgument names adjacent metavar s (Ok (Some text)) t = TakesValue names adjacent s (string_bytes text) t
+TakesArgument names adjacent metavar s (Ok None) t = HasNone (is_argument_key names adjacent) s × (t ≡ s)
+TakesArgument names adjacent metavar s (Err e) t = RefusesArgument names adjacent metavar s e.0 × (t ≡ s)
+
+-- the item at p, where it is present and in scope
+abbrev pub open_item : Situation → ℕ → Option Arg
+open_item s p = if is_open s p then item_at s p else None
+
+-- the value of the first entry of that name
+abbrev pub entry_of : List (List ℕ × List ℕ) → List ℕ → Option (List ℕ)
+entry_of env name = option_map (λ e. e.1) (find (λ e. bytes_eq e.0 name) env)

@@ -1,0 +1,39 @@
+//! The line: words, the items that they spell, and which of them are taken.
+//!
+//! It stands on `bpaf_doc`, whose texts and items it holds. For the layers above:
+//!
+//! - [`Args`] lends the words, the name and the environment of a run.
+//! - [`State::construct`] reads the words into a line of items ([`Arg`]); contracts say which by
+//!   `Spells` and `IsLine` (specs/Spelling.antt, specs/Line.antt), by the ways in which a word falls
+//!   into parts and not by a walk over it. A line is refused only where a word is ambiguous.
+//! - [`State`] is a parse in progress. Contracts see it as a `Situation` (specs/Situation.antt), and
+//!   the layers above speak of one only through its accessors (`item_at`, `is_taken`, `in_scope`,
+//!   `is_open`, `open_count`, and the steps `take_place`, `with_current`, `beginning`): how the marks
+//!   are kept is this crate's own affair.
+//! - The take calls meet their relation of specs/Taking.antt for every answer, over the whole state.
+//! - [`Message`], [`Error`] and [`ParseFailure`] say why a parser, or a whole run, gives no value.
+//!
+//! The source of the design is bpaf's `arg.rs`, `args.rs` and `error.rs`.
+#![tactic(auto)]
+
+mod arg;
+mod args;
+mod construct;
+mod error;
+mod failure;
+mod laws;
+mod missing;
+mod split;
+mod state;
+
+pub use arg::Arg;
+pub use args::{Args, LentWord, Words};
+pub use error::{Error, Message};
+pub use failure::ParseFailure;
+pub use laws::{lines_are_unique, spellings_are_unique};
+pub use missing::{MissingItem, MissingItems};
+pub use split::{SplitFault, split_word};
+pub use state::{Mark, State};
+
+#[cfg(test)]
+mod tests;

@@ -1,0 +1,33 @@
+-- A key before it becomes a parser, as contracts see it, and the part that it shows.
+use Rattle.std.specs.Prelude.{ℕ, List, [], ◌∷◌, ◌++◌, Option}
+use Rattle.std.specs.Option.{option_map}
+use Rattle.bpaf_doc.specs.Names.{Names}
+use Rattle.bpaf_doc.specs.Shape.{Part, Flag, Argument, shown_name}
+
+-- what a key holds
+pub record Named : Type 0 where
+  pub names : Names
+
+-- a key that holds nothing
+abbrev pub nothing_named : Named
+nothing_named = record { names = record { shorts = []; longs = [] } }
+
+-- the key with one more short name, behind those that it has
+abbrev pub with_short : Named → ℕ → Named
+with_short named name =
+    record named { names = record named.names { shorts = named.names.shorts ++ name ∷ [] } }
+
+-- the key with one more long name, behind those that it has
+abbrev pub with_long : Named → List ℕ → Named
+with_long named name =
+    record named { names = record named.names { longs = named.names.longs ++ name ∷ [] } }
+
+-- the part that a key without a value shows; none where it has no name
+abbrev pub flag_part : Named → Option Part
+flag_part named =
+    option_map (λ name. Flag name named.names.shorts) (shown_name named.names)
+
+-- the part that a key with a value shows, with its metavar; none where it has no name
+abbrev pub argument_part : Named → List ℕ → Option Part
+argument_part named metavar =
+    option_map (λ name. Argument name named.names.shorts metavar) (shown_name named.names)

@@ -1,0 +1,37 @@
+//! Values from text, and the names of keys.
+//!
+//! The layer that says what a word of the command line means as a value, and by which names a key
+//! is found and shown. It stands on `bpaf_doc` alone, and knows nothing of lines or runs.
+//!
+//! - [`FromText`] is the trait of the types that are read from one word. Its contract for the
+//!   layers above: `from_text` gives a value that the text means, and a [`TextFault::Fault`] only
+//!   where the text means none. Which values a text means is the ghost relation `means` of the
+//!   implementation, with the words for it in specs/Meaning.antt. Implementations stand for the
+//!   whole numbers, `bool`, `char` and `String`, and a caller writes more for types of its own.
+//! - [`NamedArg`] is a key with its names, built by [`short()`] and [`long()`]. Contracts see it as
+//!   the two lists of names in the order in which they were given (specs/Named.antt), so each
+//!   builder is one equation: it appends one name and keeps the others.
+//! - [`ParseFlag`] and [`ParseArgument`] are what a key becomes: the key as it was, and what it
+//!   gives. Their fields are public, since the layers above look for the key on a line by them.
+//! - `flag_item` and `argument_item` say what a key shows, as a part of specs/Shape.antt in
+//!   `bpaf_doc`: the first short and the first long name, all short names, and no item where the
+//!   key has no name.
+//!
+//! Each refusal that is not a fault is for want of memory. How a key is sought on a line, and how a
+//! flag or an argument is evaluated, stands in the crates above.
+//!
+//! The source of the design is bpaf's `params.rs` and `from_os_str.rs`.
+#![tactic(auto)]
+
+mod fault;
+mod from_text;
+mod named;
+mod params;
+
+pub use fault::TextFault;
+pub use from_text::FromText;
+pub use named::{NamedArg, long, short};
+pub use params::{ParseArgument, ParseFlag};
+
+#[cfg(test)]
+mod tests;

@@ -1,0 +1,195 @@
+ghost use Rattle.std.specs.Prelude.{◌≡◌, Some, None, true, false, IfOk};
+ghost use Rattle.std.specs.Option.{option_map};
+ghost use Rattle.bpaf_doc.specs.Shape.{name_of, part_of, shown_name};
+ghost use Rattle.bpaf_text.specs.Named.{flag_part, argument_part};
+ghost use Rattle.bpaf_text.specs.Named.{nothing_named, with_short, with_long};
+
+use crate::params::{ParseArgument, ParseFlag, build_argument, build_flag_parser};
+use bpaf_doc::{Item, Metavar, ShortLong, Text};
+use std::alloc::{AllocError, Global};
+use std::marker::Model;
+
+/// The names of a key, before it is said what the key gives (bpaf's `NamedArg`, in `params.rs`).
+///
+/// It starts with [`short()`] or [`long()`], takes more names, and becomes a parser at last:
+///
+/// ```text
+/// let verbose = short(alloc, 'v')?.long("verbose")?.switch();
+/// let size = long(alloc, "size")?.short('s')?.argument::<u32>("NUM");
+/// ```
+///
+/// The first short and the first long name are shown. The others are hidden aliases, which a user
+/// may type all the same.
+///
+/// Unlike in bpaf the names are copies, so they need not live for the whole program.
+#[derive(Debug, Drop)]
+pub struct NamedArg {
+    shorts: Vec<char>,
+    longs: Vec<Text>,
+}
+
+impl Model for NamedArg {
+    ghost use Rattle.bpaf_text.specs.Named.{Named};
+
+    ghost Value = { Named };
+
+    ghost view = { λ named.
+        record { names = record { shorts = named.shorts.items; longs = named.longs.items } } };
+}
+
+/// A key with one short name, such as `v` for `-v` (bpaf's `short`, in `lib.rs`); refused only
+/// for want of memory.
+pub fn short(alloc: Global, name: char) -> Result<NamedArg, AllocError>
+    ensures { IfOk result (λ named. named ≡ with_short nothing_named name) }
+{
+    let mut shorts = Vec::new(alloc);
+    shorts.push(name)?;
+    Ok(NamedArg {
+        shorts,
+        longs: Vec::new(alloc),
+    })
+}
+
+/// A key with one long name, such as `size` for `--size` (bpaf's `long`, in `lib.rs`); refused
+/// only for want of memory.
+pub fn long(alloc: Global, name: &str) -> Result<NamedArg, AllocError>
+    ensures { IfOk result (λ named. named ≡ with_long nothing_named name.now) }
+{
+    let mut longs = Vec::new(alloc);
+    longs.push(Text::new(alloc, name)?)?;
+    Ok(NamedArg {
+        shorts: Vec::new(alloc),
+        longs,
+    })
+}
+
+impl NamedArg {
+    /// The key with one more short name, behind those that it has; refused only for want of memory,
+    /// and then the key is gone.
+    pub fn short(mut self, name: char) -> Result<NamedArg, AllocError>
+        ensures { IfOk result (λ named. named ≡ with_short self name) }
+    {
+        self.shorts.push(name)?;
+        Ok(self)
+    }
+
+    /// The key with one more long name, behind those that it has; refused only for want of memory,
+    /// and then the key is gone.
+    pub fn long(mut self, name: &str) -> Result<NamedArg, AllocError>
+        ensures { IfOk result (λ named. named ≡ with_long self name.now) }
+    {
+        let name = Text::new(*self.longs.allocator(), name)?;
+        self.longs.push(name)?;
+        Ok(self)
+    }
+
+    /// All short names, in the order in which they were given.
+    pub fn shorts(&self) -> &[char]
+        ensures { result.now ≡ self.now.names.shorts }
+    {
+        self.shorts.as_slice()
+    }
+
+    /// All long names, in the order in which they were given.
+    pub fn longs(&self) -> &[Text]
+        ensures { result.now ≡ self.now.names.longs }
+    {
+        self.longs.as_slice()
+    }
+
+    /// A flag that is true where the key stands on the line, and false where it does not.
+    pub fn switch(self) -> ParseFlag<bool>
+        ensures { result ≡ record { present = true; absent = Some false; named = self } }
+    {
+        build_flag_parser(true, Some(false), self)
+    }
+
+    /// A flag with the value `present` where the key stands on the line, and `absent` where it does
+    /// not.
+    ///
+    /// ```text
+    /// short(alloc, 'q')?.flag(Level::Quiet, Level::Normal)
+    /// ```
+    pub fn flag<T>(self, present: T, absent: T) -> ParseFlag<T>
+        ensures { result ≡ record { present = present; absent = Some absent; named = self } }
+    {
+        build_flag_parser(present, Some(absent), self)
+    }
+
+    /// A flag that must stand on the line, and then has the value `present`.
+    pub fn req_flag<T>(self, present: T) -> ParseFlag<T>
+        ensures { result ≡ record { present = present; absent = None; named = self } }
+    {
+        build_flag_parser(present, None, self)
+    }
+
+    /// A key with a value of the type `T`, for which `metavar` stands where the key is shown.
+    ///
+    /// ```text
+    /// long(alloc, "size")?.argument::<u32>("NUM")
+    /// ```
+    pub fn argument<T>(self, metavar: &'static str) -> ParseArgument<T>
+        ensures named { result.named ≡ self }
+        ensures metavar { result.metavar.0 ≡ metavar.entry }
+    {
+        build_argument(self, metavar)
+    }
+
+    /// What the key shows as a flag (bpaf's `flag_item`, in `params.rs`): `None` where it has no
+    /// name; refused only for want of memory.
+    pub fn flag_item(&self, alloc: Global) -> Result<Option<Item>, AllocError>
+        ensures { IfOk result (λ item. option_map part_of item ≡ flag_part self.now) }
+    {
+        match self.shown_name(alloc)? {
+            Some(name) => Ok(Some(Item::Flag {
+                name,
+                shorts: Vec::from_slice(alloc, self.shorts())?,
+            })),
+            None => Ok(None),
+        }
+    }
+
+    /// What the key shows as an argument with this metavar (bpaf's `ParseArgument::item`, in
+    /// `params.rs`): `None` where it has no name; refused only for want of memory.
+    pub fn argument_item(&self, alloc: Global, metavar: Metavar) -> Result<Option<Item>, AllocError>
+        ensures { IfOk result (λ item.
+            option_map part_of item ≡ argument_part self.now metavar.0.now) }
+    {
+        match self.shown_name(alloc)? {
+            Some(name) => Ok(Some(Item::Argument {
+                name,
+                shorts: Vec::from_slice(alloc, self.shorts())?,
+                metavar: Text::new(alloc, metavar.0)?,
+            })),
+            None => Ok(None),
+        }
+    }
+
+    /// The first short and the first long name, where there are such (bpaf's `ShortLong::try_from`).
+    fn shown_name(&self, alloc: Global) -> Result<Option<ShortLong>, AllocError>
+        ensures { IfOk result (λ name. option_map name_of name ≡ shown_name self.now.names) }
+    {
+        match (self.shorts.first(), self.longs.first()) {
+            (None, None) => Ok(None),
+            (Some(short), None) => Ok(Some(ShortLong::Short(*short))),
+            (None, Some(long)) => Ok(Some(ShortLong::Long(Text::new(alloc, long.as_str())?))),
+            (Some(short), Some(long)) => Ok(Some(ShortLong::Both(
+                *short,
+                Text::new(alloc, long.as_str())?,
+            ))),
+        }
+    }
+
+    /// An equal key; refused only for want of memory.
+    pub fn copy(&self) -> Result<NamedArg, AllocError>
+        ensures { IfOk result (λ named. named ≡ self.now) }
+    {
+        let alloc = *self.longs.allocator();
+        let shorts = Vec::from_slice(alloc, &self.shorts)?;
+        let mut longs = Vec::new(alloc);
+        for long in &self.longs {
+            longs.push(long.copy()?)?;
+        }
+        Ok(NamedArg { shorts, longs })
+    }
+}
