@@ -1,1 +1,3 @@
 pub mod Product
+pub mod Positional
+pub mod PositionalLaws

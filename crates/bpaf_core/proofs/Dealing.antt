@@ -5,13 +5,15 @@ use Rattle.std.proofs.lemmas.Bool.Decides.{nat_tests}
 use mathlib.Core.Path.{fun_ext}
 use Rattle.bpaf_line.specs.declared.arg.Arg.{Arg}
 use Rattle.bpaf_line.specs.declared.failure.ParseFailure.{ParseFailure}
-use Rattle.bpaf_line.specs.Spelling.{Known}
+use Rattle.bpaf_doc.specs.Shape.{Shape}
+use Rattle.bpaf_core.specs.declared.info.Info.{Info}
+use Rattle.bpaf_core.specs.Known.{known_names}
 use Rattle.bpaf_line.specs.Line.{IsLine}
 use Rattle.bpaf_line.specs.Situation.{Situation, Context, beginning, is_taken, is_open, in_scope, is_marker, is_dealt_place, count_below, open_count}
 use Rattle.bpaf_line.proofs.Beginning.{taken_at_beginning}
 use Rattle.bpaf_core.specs.Reading.{Readings, Outcome, Share}
 use Rattle.bpaf_core.specs.Laws.{Lawful, Reads, Keeps, Closes, newly}
-use Rattle.bpaf_core.specs.Run.{Given, context_in, Runs, RunsWords, value, leftover, refused, ran, no_line, no_memory}
+use Rattle.bpaf_core.specs.Run.{Given, context_in, Runs, RunsShown, RunsWords, value, leftover, refused, ran, no_line, shown, no_memory}
 use Rattle.bpaf_core.specs.Dealt.{IsDealtOut}
 
 none_at : (b : Bool) (n : ℕ) → (if b then (n + 1) else n) ≡ 0 → (b ≡ false) × (n ≡ 0)
@@ -58,22 +60,28 @@ all_newly context marker t keeps closed none = fun_ext (λ p. dealt_at (is_taken
     let same : length t.context.line ≡ length context.line = ap (λ c. length c.line) keeps.context in
     taken_at (in_scope t p) (is_taken t p) (closed p (in_whole_line context marker p within)) (none_below (is_open t) (length t.context.line) none p (omega arith))))
 
-module _ {T : Type 0} {inner : Outcome T} {reads : Readings T} (known : Known) (given : Given) (law : Lawful T inner reads) where
-  dealt_from : (line : List Arg) (marker : Option ℕ) (v : T) → IsLine known given.words line marker → Runs T inner (beginning (context_in given line) marker) (Ok v) → IsDealtOut T reads known given v
-  dealt_from line marker v is (value v' t answered none) =
+module _ {T : Type 0} {inner : Outcome T} {reads : Readings T} {describes : Shape → Type 0} {info : Info} (given : Given) (law : Lawful T inner reads) where
+  dealt_from : (shape : Shape) → describes shape → (line : List Arg) (marker : Option ℕ) (v : T) → IsLine (known_names info shape) given.words line marker
+      → Runs T inner (beginning (context_in given line) marker) (Ok v) → IsDealtOut T reads describes info given v
+  dealt_from shape is line marker v is_line (value v' t answered none) =
       let read = law.ok (beginning (context_in given line) marker) t v' answered in
       record {
+        shape = shape;
+        shown = is;
         line = line;
         marker = marker;
-        is_line = is;
+        is_line = is_line;
         read = subst (λ (share : Share). reads (context_in given line) share v') (all_newly (context_in given line) marker t read.keeps read.closed none) read.reading;
       }
 
+  dealt_shown : (shape : Shape) → describes shape → (v : T) → RunsShown T inner info shape given (Ok v) → IsDealtOut T reads describes info given v
+  dealt_shown shape is v (ran line marker r is_line run) = dealt_from shape is line marker v is_line run
+
   -- a value that a run over words answers is dealt out of them
-  pub words_dealt : (v : T) → RunsWords T inner known given (Ok v) → IsDealtOut T reads known given v
-  words_dealt v (ran line marker r is run) = dealt_from line marker v is run
+  pub words_dealt : (v : T) → RunsWords T inner describes info given (Ok v) → IsDealtOut T reads describes info given v
+  words_dealt v (shown shape r is run) = dealt_shown shape is v run
 
   -- so is each value among its answers
-  pub if_dealt : (r : Result T ParseFailure) → RunsWords T inner known given r → IfOk r (λ v. IsDealtOut T reads known given v)
+  pub if_dealt : (r : Result T ParseFailure) → RunsWords T inner describes info given r → IfOk r (λ v. IsDealtOut T reads describes info given v)
   if_dealt (Ok v) run = words_dealt v run
   if_dealt (Err f) run = tt

@@ -10,7 +10,7 @@ use Rattle.bpaf_line.specs.declared.error.Error.{Error}
 use Rattle.bpaf_line.specs.declared.error.Message.{Message}
 use Rattle.bpaf_line.specs.declared.error.Message.TheVariants.{Memory, Missing, ParseFailed, NoArgument}
 use Rattle.bpaf_core.specs.Reading.{Share, Readings, Outcome, IsPair, HasItem, item_in}
-use Rattle.bpaf_core.specs.Missing.{missing_in}
+use Rattle.bpaf_line.specs.MissingIn.{missing_in}
 use Rattle.bpaf_core.specs.Value.{FaultsText}
 
 -- a key with one of the names and the next place, a Word or an ArgWord, whose text means the value

@@ -9,7 +9,7 @@ use Rattle.bpaf_line.specs.Taking.{TakesValue, value_after}
 use Rattle.bpaf_line.proofs.Places.{taken_other}
 use Rattle.bpaf_line.specs.declared.error.Error.{Error}
 use Rattle.bpaf_line.specs.declared.error.Message.{Message}
-use Rattle.bpaf_line.specs.declared.error.Message.TheVariants.{Memory, Missing, ParseFailed, NoArgument, Ambiguity}
+use Rattle.bpaf_line.specs.declared.error.Message.TheVariants.{Memory, Missing, ParseFailed, NoArgument}
 use Rattle.bpaf_core.specs.Reading.{Readings}
 use Rattle.bpaf_core.specs.Laws.{Keeps, Reads, Lawful}
 use Rattle.bpaf_core.specs.Keeping.{keeps_refl, keeps_trans, closes_take_both, keeps_take, newly_take_both}
@@ -63,7 +63,7 @@ module _ (T : Type 0) (means : List ℕ → T → Type 0) (named : Named) (metav
   argument_refused s t (ParseFailed place fault) fails = value_keeps named.names s fails.0 t fails.1
   argument_refused s t Memory fails =
       ⊎_elim (λ same. subst (Keeps s) (sym same) (keeps_refl s)) (λ taken. value_keeps named.names s taken.0 t taken.1) fails
-  argument_refused s t (Ambiguity word number) fails = absurd fails
+  argument_refused s t other fails = absurd fails
 
   -- arguments keep to the laws
   pub argument_lawful : Lawful T (ArgumentOutcome means named metavar) reads_argument

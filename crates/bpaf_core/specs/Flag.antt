@@ -10,7 +10,7 @@ use Rattle.bpaf_line.specs.declared.error.Error.{Error}
 use Rattle.bpaf_line.specs.declared.error.Message.{Message}
 use Rattle.bpaf_line.specs.declared.error.Message.TheVariants.{Memory, Missing}
 use Rattle.bpaf_core.specs.Reading.{Share, Readings, Outcome, IsEmptyShare, IsPlace, HasItem}
-use Rattle.bpaf_core.specs.Missing.{missing_in}
+use Rattle.bpaf_line.specs.MissingIn.{missing_in}
 
 -- a value that a flag gives where its key is absent: a clone of the absent value, where there is one
 abbrev pub IsAbsentValue : {T : Type 0} → (T → T → Type 0) → Option T → T → Type 0

@@ -8,7 +8,7 @@ use Rattle.bpaf_line.specs.Situation.{Situation, is_open}
 use Rattle.bpaf_line.specs.Taking.{TakesFlag}
 use Rattle.bpaf_line.specs.declared.error.Error.{Error}
 use Rattle.bpaf_line.specs.declared.error.Message.{Message}
-use Rattle.bpaf_line.specs.declared.error.Message.TheVariants.{Memory, Missing, ParseFailed, NoArgument, Ambiguity}
+use Rattle.bpaf_line.specs.declared.error.Message.TheVariants.{Memory, Missing}
 use Rattle.bpaf_core.specs.Reading.{Readings}
 use Rattle.bpaf_core.specs.Laws.{Keeps, Reads, Lawful}
 use Rattle.bpaf_core.specs.Keeping.{keeps_refl, closes_refl, closes_take, newly_none, keeps_take, newly_take}
@@ -52,9 +52,7 @@ module _ (T : Type 0) (clones : T → T → Type 0) (named : Named) (present : T
   flag_refused : (s t : Situation) (m : Message) → FlagFails named absent s m t → Keeps s t
   flag_refused s t (Missing items) fails = flag_keeps named.names s false t fails.0
   flag_refused s t Memory fails = flag_keeps named.names s fails.0 t fails.1
-  flag_refused s t (ParseFailed place fault) fails = absurd fails
-  flag_refused s t (NoArgument place metavar) fails = absurd fails
-  flag_refused s t (Ambiguity word number) fails = absurd fails
+  flag_refused s t other fails = absurd fails
 
   -- flags keep to the laws
   pub flag_lawful : Lawful T (FlagOutcome clones named present absent) reads_flag

@@ -1,11 +1,12 @@
 pub mod Reading
 pub mod Laws
 pub mod Keeping
-pub mod Missing
+pub mod Counting
 pub mod Value
 pub mod Flag
 pub mod FlagLaws
 pub mod Argument
 pub mod ArgumentLaws
+pub mod Known
 pub mod Run
 pub mod Dealt

@@ -9,9 +9,11 @@ use Rattle.bpaf_line.specs.declared.failure.ParseFailure.{ParseFailure}
 use Rattle.bpaf_line.specs.declared.failure.ParseFailure.TheVariants as failure
 use Rattle.bpaf_line.specs.Arguments.{words_of, env_of, name_of}
 use Rattle.bpaf_line.specs.Messages.{is_memory}
-use Rattle.bpaf_line.specs.Spelling.{Known}
 use Rattle.bpaf_line.specs.Line.{IsLine, HasNoLine}
 use Rattle.bpaf_line.specs.Situation.{Situation, Context, beginning, open_count}
+use Rattle.bpaf_doc.specs.Shape.{Shape}
+use Rattle.bpaf_core.specs.declared.info.Info.{Info}
+use Rattle.bpaf_core.specs.Known.{known_names}
 use Rattle.bpaf_core.specs.Reading.{Outcome}
 
 -- what a run is given
@@ -28,9 +30,12 @@ given_of args = record { words = words_of args; env = env_of args; name = name_o
 abbrev pub context_in : Given → List Arg → Context
 context_in given line = record { line = line; env = given.env; name = given.name }
 
--- no known short names: joined words are one Word each
-abbrev pub no_names : Known
-no_names = record { flags = []; arguments = [] }
+-- short names that are the known ones of a shape that the parser may show
+pub record ShowsNames (describes : Shape → Type 0) (info : Info) (flags arguments : List ℕ) : Type 0 where
+  pub shape : Shape
+  pub shown : describes shape
+  pub flags_are : flags ≡ (known_names info shape).flags
+  pub arguments_are : arguments ≡ (known_names info shape).arguments
 
 -- a refusal's text; or want of memory for it
 abbrev pub IsRefusal : ParseFailure → Type 0
@@ -48,9 +53,13 @@ pub data Runs (T : Type 0) (inner : Outcome T) (s : Situation) : Result T ParseF
   leftover : (v : T) (t : Situation) (f : ParseFailure) → inner s (Ok v) t → 0 < open_count t → IsRefusal f → Runs T inner s (Err f)
   refused : (e : Error) (t : Situation) (f : ParseFailure) → inner s (Err e) t → Tells e.0 f → Runs T inner s (Err f)
 
--- a run over words: over their line; or they have none; or there is no memory for it
-pub data RunsWords (T : Type 0) (inner : Outcome T) (known : Known) (given : Given) : Result T ParseFailure → Type 0 where
-  ran : (line : List Arg) (marker : Option ℕ) (r : Result T ParseFailure) → IsLine known given.words line marker
-      → Runs T inner (beginning (context_in given line) marker) r → RunsWords T inner known given r
-  no_line : (word : List ℕ) (number : ℕ) (f : ParseFailure) → HasNoLine known given.words word number → IsRefusal f → RunsWords T inner known given (Err f)
-  no_memory : RunsWords T inner known given (Err failure.Memory)
+-- a run over words, where a parser may show this shape: over their line; or they have none
+pub data RunsShown (T : Type 0) (inner : Outcome T) (info : Info) (shape : Shape) (given : Given) : Result T ParseFailure → Type 0 where
+  ran : (line : List Arg) (marker : Option ℕ) (r : Result T ParseFailure) → IsLine (known_names info shape) given.words line marker
+      → Runs T inner (beginning (context_in given line) marker) r → RunsShown T inner info shape given r
+  no_line : (word : List ℕ) (number : ℕ) (f : ParseFailure) → HasNoLine (known_names info shape) given.words word number → IsRefusal f → RunsShown T inner info shape given (Err f)
+
+-- a run over words: with what the parser shows of itself; or there is no memory for it
+pub data RunsWords (T : Type 0) (inner : Outcome T) (describes : Shape → Type 0) (info : Info) (given : Given) : Result T ParseFailure → Type 0 where
+  shown : (shape : Shape) (r : Result T ParseFailure) → describes shape → RunsShown T inner info shape given r → RunsWords T inner describes info given r
+  no_memory : RunsWords T inner describes info given (Err failure.Memory)

@@ -1,4 +1,3 @@
-use crate::missed::missing;
 use crate::parser::Parser;
 use crate::reading::read_text;
 use bpaf_doc::Meta;
@@ -28,7 +27,7 @@ impl<T: FromText + Drop> Parser<T> for ParseArgument<T> {
         let taken = state.take_arg(self.named.shorts(), self.named.longs(), false, self.metavar)?;
         let Some(text) = taken else {
             let item = self.named.argument_item(state.alloc(), self.metavar)?;
-            return Err(missing(state, item)?);
+            return Err(state.missing(item)?);
         };
         read_text(state, text.as_str())
     }

@@ -1,4 +1,3 @@
-use crate::missed::missing;
 use crate::parser::Parser;
 use bpaf_doc::Meta;
 use bpaf_line::{Error, State};
@@ -31,7 +30,7 @@ impl<T: Clone + Drop> Parser<T> for ParseFlag<T> {
             Some(absent) => Ok(absent.clone()?),
             None => {
                 let item = self.named.flag_item(state.alloc())?;
-                Err(missing(state, item)?)
+                Err(state.missing(item)?)
             }
         }
     }

@@ -20,12 +20,14 @@
 
 mod argument;
 mod flag;
-mod missed;
+mod info;
+mod laws;
 mod options;
 mod parser;
 mod reading;
 
-pub use missed::missing;
+pub use info::Info;
+pub use laws::count_falls;
 pub use options::OptionParser;
 pub use parser::Parser;
 pub use reading::read_text;

@@ -1,7 +1,10 @@
 ghost use Rattle.std.specs.Prelude.{IfOk};
-ghost use Rattle.bpaf_core.specs.Run.{Runs, RunsWords, IsRefusal, Tells, given_of, no_names};
+ghost use Rattle.std.specs.Prelude.{◌≡◌};
+ghost use Rattle.bpaf_core.specs.Known.{known_names};
+ghost use Rattle.bpaf_core.specs.Run.{Runs, RunsWords, IsRefusal, Tells, ShowsNames, given_of};
 ghost use Rattle.bpaf_core.specs.Dealt.{IsDealtOut};
 
+use crate::info::Info;
 use crate::parser::Parser;
 use bpaf_doc::Doc;
 use bpaf_line::{Args, Message, ParseFailure, State};
@@ -12,6 +15,7 @@ use std::marker::PhantomData;
 #[derive(Drop)]
 pub struct OptionParser<T, P> {
     pub inner: P,
+    pub info: Info,
     pub alloc: Global,
     pub of: PhantomData<T>,
 }
@@ -52,16 +56,34 @@ impl<T: Drop, P: Parser<T>> OptionParser<T, P> {
     /// unchanged, and may run again.
     pub fn run_inner(&self, args: Args<'_>) -> Result<T, ParseFailure>
         requires { P.can_eval self.now.inner }
-        ensures outcome { RunsWords T (P.outcome self.now.inner) no_names (given_of args.entry) result }
-        ensures dealt { IfOk result (λ v. IsDealtOut T (P.reads self.now.inner) no_names (given_of args.entry) v) }
+        ensures outcome { RunsWords T (P.outcome self.now.inner) (P.describes self.now.inner) self.now.info (given_of args.entry) result }
+        ensures dealt { IfOk result (λ v. IsDealtOut T (P.reads self.now.inner) (P.describes self.now.inner) self.now.info (given_of args.entry) v) }
     {
-        match State::construct(self.alloc, args, &[], &[]) {
+        let Ok((flags, arguments)) = self.known_shorts() else {
+            return Err(ParseFailure::Memory);
+        };
+        match State::construct(self.alloc, args, &flags, &arguments) {
             Ok(state) => {
                 let mut state = state;
                 self.run_from(&mut state)
             }
             Err(message) => Err(told(self.alloc, message)),
         }
+    }
+
+    /// The known short names, by which joined words are read: those of the shown flags, of help and of
+    /// version as flags, and those of the shown arguments.
+    fn known_shorts(&self) -> Result<(Vec<char>, Vec<char>), AllocError>
+        requires { P.can_eval self.now.inner }
+        ensures { IfOk result (λ r. ShowsNames (P.describes self.now.inner) self.now.info r.0.items r.1.items) }
+    {
+        let meta = self.inner.meta(self.alloc)?;
+        let mut flags = Vec::new(self.alloc);
+        let mut arguments = Vec::new(self.alloc);
+        meta.collect_shorts(&mut flags, &mut arguments)?;
+        flags.extend_from_slice(self.info.help_arg.shorts())?;
+        flags.extend_from_slice(self.info.version_arg.shorts())?;
+        Ok((flags, arguments))
     }
 
     /// A run from a state on.

@@ -1,6 +1,8 @@
 ghost use Rattle.std.specs.Prelude.{◌≡◌, IfOk};
 ghost use Rattle.bpaf_doc.specs.Shape.{shape_of};
+ghost use Rattle.bpaf_core.specs.Known.{plain_info};
 
+use crate::info::Info;
 use crate::options::OptionParser;
 use bpaf_doc::Meta;
 use bpaf_line::{Error, State};
@@ -42,9 +44,11 @@ pub trait Parser<T>: Sized {
     where
         Self: Drop,
         requires { can_eval self }
-        ensures { IfOk result (λ options. options.inner ≡ self) }
+        ensures inner { IfOk result (λ options. options.inner ≡ self) }
+        ensures info { IfOk result (λ options. options.info ≡ plain_info) }
     {
         Ok(OptionParser {
+            info: Info::new(alloc)?,
             inner: self,
             alloc,
             of: PhantomData,

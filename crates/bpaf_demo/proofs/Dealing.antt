@@ -1,17 +1,21 @@
 -- From what a run says of the record's parser to options that are dealt out of the words.
-use Rattle.std.proofs.Common.{◌≡◌, ℕ, Bool, true, false, List, [], Option, Some, None, Result, Ok, Err, IfOk, codes, sym, subst, ap, ◌∙◌, refl}
+use Rattle.std.proofs.Common.{◌≡◌, ℕ, Bool, true, false, List, [], ◌∷◌, Option, Some, None, Result, Ok, Err, IfOk, codes, sym, subst, ap, ◌∙◌, refl}
 use Rattle.bpaf_text.specs.Named.{Named}
 use Rattle.bpaf_text.specs.Meaning.{SpellsUnsigned}
 use Rattle.bpaf_line.specs.declared.failure.ParseFailure.{ParseFailure}
 use Rattle.bpaf_line.specs.Situation.{Context}
 use Rattle.bpaf_core.specs.Reading.{Share}
-use Rattle.bpaf_core.specs.Flag.{FlagReads, at_key, nowhere}
-use Rattle.bpaf_core.specs.Argument.{ArgumentReads}
-use Rattle.bpaf_core.specs.Run.{Given, no_names}
+use Rattle.bpaf_doc.specs.Shape.{Shape, And, members}
+use Rattle.bpaf_line.specs.Line.{IsLine}
+use Rattle.bpaf_core.specs.declared.info.Info.{Info}
+use Rattle.bpaf_core.specs.Known.{known_names, plain_info}
+use Rattle.bpaf_core.specs.Flag.{FlagReads, at_key, nowhere, flag_shape}
+use Rattle.bpaf_core.specs.Argument.{ArgumentReads, argument_shape}
+use Rattle.bpaf_core.specs.Run.{Given}
 use Rattle.bpaf_core.specs.Dealt.{IsDealtOut}
-use Rattle.bpaf.specs.Product.{BothReads, ProductReads}
+use Rattle.bpaf.specs.Product.{BothReads, ProductReads, BothDescribes, LastDescribes, ProductDescribes}
 use Rattle.bpaf_demo.specs.declared.options.Options.{Options}
-use Rattle.bpaf_demo.specs.Record.{IsDealtOptions, SwitchReads, verbose_names, num_names, program_context}
+use Rattle.bpaf_demo.specs.Record.{IsDealtOptions, SwitchReads, verbose_names, num_names, program_known, program_context}
 
 switch_read : (clones : Bool → Bool → Type 0) → ((x y : Bool) → clones x y → y ≡ x) → (named : Named) (context : Context) (share : Share) (v : Bool)
     → FlagReads Bool clones named true (Some false) context share v → SwitchReads named.names context share v
@@ -20,26 +24,44 @@ switch_read clones same named context share v (at_key key is place value) =
 switch_read clones same named context share v (nowhere none value) =
     subst (SwitchReads named.names context share) (sym (same false v value)) none
 
--- what the record's parser reads, where its two fields and its constructor are these
-pub record IsRecordParser (clones : Bool → Bool → Type 0) (makes : Bool × ℕ → Options → Type 0) (verbose num : Named) (present : Bool) (absent : Option Bool) : Type 0 where
+-- what the record's parser is made of: its two fields and its constructor
+pub record IsRecordParser (clones : Bool → Bool → Type 0) (makes : Bool × ℕ → Options → Type 0) (verbose num : Named) (present : Bool) (absent : Option Bool) (info : Info) : Type 0 where
   pub same : (x y : Bool) → clones x y → y ≡ x
   pub made : (x : Bool × ℕ) (v : Options) → makes x v → v ≡ record { verbose = x.0; num = x.1 }
   pub verbose_is : verbose ≡ record { names = verbose_names }
   pub num_is : num ≡ record { names = num_names }
   pub present_is : present ≡ true
   pub absent_is : absent ≡ Some false
+  pub info_is : info ≡ plain_info
 
 -- what the program is given
 abbrev pub program_given : List (List ℕ) → Given
 program_given words = record { words = words; env = []; name = Some (codes "bpaf_demo") }
 
+-- what the record's parser reads
 abbrev RecordReads : (clones : Bool → Bool → Type 0) (makes : Bool × ℕ → Options → Type 0) (verbose num : Named) (present : Bool) (absent : Option Bool) → Context → Share → Options → Type 0
 RecordReads clones makes verbose num present absent =
     ProductReads (Bool × ℕ) Options (BothReads Bool ℕ (FlagReads Bool clones verbose present absent) (ArgumentReads ℕ (SpellsUnsigned 64) num)) makes
 
-module _ (clones : Bool → Bool → Type 0) (makes : Bool × ℕ → Options → Type 0) (words : List (List ℕ)) where
+-- what the record's parser shows
+abbrev RecordDescribes : (verbose num : Named) (absent : Option Bool) (metavar : List ℕ) → Shape → Type 0
+RecordDescribes verbose num absent metavar =
+    ProductDescribes (BothDescribes (λ shape. shape ≡ flag_shape verbose absent) (LastDescribes (λ shape. shape ≡ argument_shape num metavar)))
+
+-- the known names of what it shows
+known_shown : (metavar : List ℕ) (shape : Shape) → RecordDescribes (record { names = verbose_names }) (record { names = num_names }) (Some false) metavar shape
+    → known_names plain_info shape ≡ program_known
+known_shown metavar shape shown =
+    let fields = shown.1 in
+    let last = fields.3 in
+    let are : shown.0 ≡ flag_shape (record { names = verbose_names }) (Some false) ∷ argument_shape (record { names = num_names }) metavar ∷ [] =
+    fields.4 ∙ (ap (λ x. x ∷ fields.1) fields.2 ∙ ap (λ x. flag_shape (record { names = verbose_names }) (Some false) ∷ x) (last.2 ∙ ap (λ x. x ∷ []) last.1)) in
+    ap (known_names plain_info) (shown.2 ∙ ap (λ x. And (members x)) are)
+
+module _ (clones : Bool → Bool → Type 0) (makes : Bool × ℕ → Options → Type 0) (metavar : List ℕ) (words : List (List ℕ)) where
   options_dealt : ((x y : Bool) → clones x y → y ≡ x) → ((x : Bool × ℕ) (v : Options) → makes x v → v ≡ record { verbose = x.0; num = x.1 }) → (v : Options)
-      → IsDealtOut Options (RecordReads clones makes (record { names = verbose_names }) (record { names = num_names }) true (Some false)) no_names (program_given words) v
+      → IsDealtOut Options (RecordReads clones makes (record { names = verbose_names }) (record { names = num_names }) true (Some false))
+      (RecordDescribes (record { names = verbose_names }) (record { names = num_names }) (Some false) metavar) plain_info (program_given words) v
       → IsDealtOptions words v
   options_dealt same made v dealt =
       let read = dealt.read.read in
@@ -47,7 +69,7 @@ module _ (clones : Bool → Bool → Type 0) (makes : Bool × ℕ → Options �
       record {
         line = dealt.line;
         marker = dealt.marker;
-        is_line = dealt.is_line;
+        is_line = subst (λ known. IsLine known words dealt.line dealt.marker) (known_shown metavar dealt.shape dealt.shown) dealt.is_line;
         verbose_share = read.first_share;
         num_share = read.rest_share;
         joins = read.joins;
@@ -57,9 +79,10 @@ module _ (clones : Bool → Bool → Type 0) (makes : Bool × ℕ → Options �
       }
 
   -- an answer of the record's parser on the program's words
-  pub answer_dealt : (verbose num : Named) (present : Bool) (absent : Option Bool) (given : Given) → IsRecordParser clones makes verbose num present absent → given ≡ program_given words
-      → (r : Result Options ParseFailure) → IfOk r (λ v. IsDealtOut Options (RecordReads clones makes verbose num present absent) no_names given v) → IfOk r (λ v. IsDealtOptions words v)
-  answer_dealt verbose num present absent given parser is_given (Ok v) dealt =
+  pub answer_dealt : (verbose num : Named) (present : Bool) (absent : Option Bool) (info : Info) (given : Given) → IsRecordParser clones makes verbose num present absent info → given ≡ program_given words
+      → (r : Result Options ParseFailure)
+      → IfOk r (λ v. IsDealtOut Options (RecordReads clones makes verbose num present absent) (RecordDescribes verbose num absent metavar) info given v) → IfOk r (λ v. IsDealtOptions words v)
+  answer_dealt verbose num present absent info given parser is_given (Ok v) dealt =
       options_dealt parser.same parser.made v
-      (rw (parser.verbose_is, parser.num_is, parser.present_is, parser.absent_is, is_given) at dealt)
-  answer_dealt verbose num present absent given parser is_given (Err f) dealt = tt
+      (rw (parser.verbose_is, parser.num_is, parser.present_is, parser.absent_is, parser.info_is, is_given) at dealt)
+  answer_dealt verbose num present absent info given parser is_given (Err f) dealt = tt

@@ -6,11 +6,11 @@ use Rattle.bpaf_text.specs.Named.{Named}
 use Rattle.bpaf_text.specs.Meaning.{SpellsUnsigned}
 use Rattle.bpaf_line.specs.declared.arg.Arg.{Arg}
 use Rattle.bpaf_line.specs.Items.{is_key_of}
+use Rattle.bpaf_line.specs.Spelling.{Known}
 use Rattle.bpaf_line.specs.Line.{IsLine}
 use Rattle.bpaf_line.specs.Situation.{Context, is_dealt_place}
 use Rattle.bpaf_core.specs.Reading.{Share, Joins, IsPlace, IsEmptyShare, HasItem}
 use Rattle.bpaf_core.specs.Argument.{ArgumentReads}
-use Rattle.bpaf_core.specs.Run.{no_names}
 use Rattle.bpaf_demo.specs.declared.options.Options.{Options}
 use Rattle.bpaf_demo.specs.Lines.{lines}
 
@@ -21,6 +21,10 @@ verbose_names = record { shorts = 118 ∷ []; longs = codes "verbose" ∷ [] }
 -- the names of the number
 abbrev pub num_names : Names
 num_names = record { shorts = 110 ∷ []; longs = codes "num" ∷ [] }
+
+-- the known short names: those of the switch, of help and of version as flags, and that of the number
+abbrev pub program_known : Known
+program_known = record { flags = 118 ∷ 104 ∷ 86 ∷ []; arguments = 110 ∷ [] }
 
 -- the context of a line of the program
 abbrev pub program_context : List Arg → Context
@@ -35,7 +39,7 @@ SwitchReads names context share false = IsEmptyShare share
 pub record IsDealtOptions (words : List (List ℕ)) (v : Options) : Type 0 where
   pub line : List Arg
   pub marker : Option ℕ
-  pub is_line : IsLine no_names words line marker
+  pub is_line : IsLine program_known words line marker
   pub verbose_share : Share
   pub num_share : Share
   pub joins : Joins verbose_share num_share (is_dealt_place line marker)

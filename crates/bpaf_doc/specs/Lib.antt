@@ -1,3 +1,4 @@
 pub mod Print
 pub mod Names
 pub mod Shape
+pub mod Walks

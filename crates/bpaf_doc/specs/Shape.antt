@@ -15,15 +15,17 @@ pub data Name : Type 0 where
   Long : List ℕ → Name
   Both : ℕ → List ℕ → Name
 
--- one flag with its short names, or one argument with these and its metavar
+-- one flag with its short names, one argument with these and its metavar, or one word with its metavar
 pub data Part : Type 0 where
   Flag : Name → List ℕ → Part
   Argument : Name → List ℕ → List ℕ → Part
+  Positional : List ℕ → Part
 
 mutual
   pub data Shape : Type 0 where
     And : Shapes → Shape
     Optional : Shape → Shape
+    Strict : Shape → Shape
     Shown : Part → Shape
     Skip : Shape
 
@@ -48,11 +50,13 @@ name_of (short_long.Both c text) = Both c text
 abbrev pub part_of : Item → Part
 part_of (item.Flag name shorts) = Flag (name_of name) shorts.items
 part_of (item.Argument name shorts metavar) = Argument (name_of name) shorts.items metavar
+part_of (item.Positional metavar) = Positional metavar
 
 -- one layer of a meta, with what its children show in their places
 abbrev pub shape_layer : Meta-F Shape → Shape
 shape_layer (Meta-F.And all) = And (members all.items)
 shape_layer (Meta-F.Optional inner) = Optional inner.value
+shape_layer (Meta-F.Strict inner) = Strict inner.value
 shape_layer (Meta-F.Item part) = Shown (part_of part)
 shape_layer Meta-F.Skip = Skip
 

@@ -41,6 +41,22 @@ value_text (ArgWord text) = Some text
 value_text (Word text) = Some text
 value_text (PosWord text) = None
 
+-- a Word or a PosWord
+abbrev pub is_positional : Arg → Bool
+is_positional (Short c attached word) = false
+is_positional (Long name attached word) = false
+is_positional (ArgWord text) = false
+is_positional (Word text) = true
+is_positional (PosWord text) = true
+
+-- whether it is a PosWord, and its text
+abbrev pub word_text : Arg → Option (Bool × List ℕ)
+word_text (Short c attached word) = None
+word_text (Long name attached word) = None
+word_text (ArgWord text) = None
+word_text (Word text) = Some (false, text)
+word_text (PosWord text) = Some (true, text)
+
 -- how an item is printed: a key without its value, every other item as its text
 abbrev pub display : Arg → List ℕ
 display (Short c attached word) = codes "-" ++ encode_utf8 c

@@ -8,5 +8,6 @@ pub mod Line
 pub mod Arguments
 pub mod Situation
 pub mod Inside
+pub mod MissingIn
 pub mod Taking
 pub mod Constructing

@@ -3,12 +3,14 @@ use Rattle.std.specs.Prelude.{◌≡◌, ℕ, ◌+◌, ◌<◌, Bool, true, fals
 use Rattle.std.specs.Option.{option_map_or}
 use Rattle.std.specs.declared.alloc.Global.{Global}
 use Rattle.bpaf_doc.specs.Names.{Names}
+use Rattle.bpaf_doc.specs.Shape.{Positional}
 use Rattle.bpaf_line.specs.declared.arg.Arg.{Arg}
 use Rattle.bpaf_line.specs.declared.error.Error.{Error}
 use Rattle.bpaf_line.specs.declared.error.Message.{Message}
-use Rattle.bpaf_line.specs.declared.error.Message.TheVariants.{Memory, NoArgument}
-use Rattle.bpaf_line.specs.Items.{is_key_of, is_argument_key, value_text}
+use Rattle.bpaf_line.specs.declared.error.Message.TheVariants.{Memory, Missing, NoArgument}
+use Rattle.bpaf_line.specs.Items.{is_key_of, is_argument_key, value_text, is_positional, word_text}
 use Rattle.bpaf_line.specs.Situation.{Situation, item_at, is_open, take_place}
+use Rattle.bpaf_line.specs.MissingIn.{missing_in}
 
 -- the item at p is present, in scope, and passes the test
 abbrev pub is_match : (Arg → Bool) → Situation → ℕ → Bool
@@ -50,6 +52,23 @@ abbrev pub TakesArgument : Names → Bool → List ℕ → Situation → Result 
 TakesArgument names adjacent metavar s (Ok (Some text)) t = TakesValue names adjacent s (string_bytes text) t
 TakesArgument names adjacent metavar s (Ok None) t = HasNone (is_argument_key names adjacent) s × (t ≡ s)
 TakesArgument names adjacent metavar s (Err e) t = RefusesArgument names adjacent metavar s e.0 × (t ≡ s)
+
+-- the first Word or PosWord is at this place, has this text, and is taken
+pub record TakesText (s : Situation) (place : ℕ) (strict : Bool) (text : List ℕ) (t : Situation) : Type 0 where
+  pub first : IsFirst is_positional s place
+  pub is : option_and_then word_text (item_at s place) ≡ Some (strict, text)
+  pub taken : t ≡ take_place s place
+
+-- no word: a positional item is missing; or memory is wanted
+abbrev pub RefusesWord : List ℕ → Situation → Message → Type 0
+RefusesWord metavar s (Missing items) = HasNone is_positional s × (items ≡ missing_in s (Some (Positional metavar)))
+RefusesWord metavar s Memory = ⊤
+RefusesWord metavar s m = ⊥
+
+-- `take_positional_word`: the first word is taken: its place, whether it is a PosWord, its text; or a refusal; then nothing changes
+abbrev pub TakesWord : List ℕ → Situation → Result (ℕ × Bool × String Global) Error → Situation → Type 0
+TakesWord metavar s (Ok r) t = TakesText s r.0 r.1 (string_bytes r.2) t
+TakesWord metavar s (Err e) t = RefusesWord metavar s e.0 × (t ≡ s)
 
 -- the item at p, where it is present and in scope
 abbrev pub open_item : Situation → ℕ → Option Arg

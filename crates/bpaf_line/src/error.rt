@@ -14,6 +14,12 @@ pub enum Message {
     Missing(MissingItems),
     /// A text that could not be read: the place of its word, and the fault.
     ParseFailed(Option<usize>, Text),
+    /// The place of a word that stands on the left side of `--` and should stand on the right, and its
+    /// metavar.
+    StrictPos(usize, Text),
+    /// The place of a word that stands on the right side of `--` and should stand on the left, and its
+    /// metavar.
+    NonStrictPos(usize, Text),
     /// The place of a key without a value, and what stands for the value.
     NoArgument(usize, Text),
     /// A word with a character that is both a known flag and a known argument, and the number of

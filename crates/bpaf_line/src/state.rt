@@ -1,17 +1,20 @@
-ghost use Rattle.std.specs.Prelude.{◌≡◌, ◌+◌, ◌<◌, ◌≤◌, ◌^◌, ◌==◌, length, true, Bool, MatchOption, option_copied, option_to_list, option_map, All, IsUtf8, IfOk, OnOk, IfSome, string_bytes, map};
+ghost use Rattle.std.specs.Prelude.{◌≡◌, ◌+◌, ◌<◌, ◌≤◌, ◌^◌, ◌==◌, length, true, Bool, MatchOption, option_copied, option_to_list, option_map, option_and_then, Some, All, IsUtf8, IfOk, OnOk, IfSome, string_bytes, map};
 ghost use Rattle.std.specs.Borrow.{Bor};
 ghost use Rattle.bpaf_line.specs.declared.arg.Arg.{Arg};
 ghost use Rattle.bpaf_line.specs.Arguments.{words_of, name_of, env_of};
 ghost use Rattle.bpaf_line.specs.Constructing.{Constructs};
-ghost use Rattle.bpaf_line.specs.Items.{is_text_among, is_key_of, is_argument_key, is_attached, value_text};
-ghost use Rattle.bpaf_line.specs.Situation.{open_count, first_marks, is_open, take_place, with_current};
-ghost use Rattle.bpaf_line.specs.Taking.{HasNone, IsFirst, value_after, open_item, entry_of, TakesFlag, TakesArgument};
+ghost use Rattle.bpaf_line.specs.Items.{is_positional, is_text_among, is_key_of, is_argument_key, is_attached, value_text, word_text};
+ghost use Rattle.bpaf_line.specs.Situation.{item_at, open_count, first_marks, is_open, take_place, with_current};
+ghost use Rattle.bpaf_line.specs.Taking.{HasNone, IsFirst, value_after, open_item, entry_of, TakesFlag, TakesArgument, TakesWord};
+ghost use Rattle.bpaf_doc.specs.Shape.{part_of};
+ghost use Rattle.bpaf_line.specs.MissingIn.{missing_in};
 
 use crate::arg::Arg;
 use crate::args::Args;
 use crate::construct::{copy_env, push_rest, split_words};
 use crate::error::{Error, Message};
-use bpaf_doc::{Metavar, Text};
+use crate::missing::{MissingItem, MissingItems};
+use bpaf_doc::{Item, Metavar, Text};
 use std::alloc::{AllocError, Global};
 use std::marker::Model;
 use std::ops::Range;
@@ -193,6 +196,39 @@ impl State {
         Ok(Some(text.into_string()))
     }
 
+    /// Takes the first present Word or PosWord in scope: its place, whether it is a PosWord, its text.
+    ///
+    /// Refused with Missing of a positional item where there is none, or for want of memory. A refusal
+    /// takes nothing.
+    pub fn take_positional_word(&mut self, metavar: Metavar) -> Result<(usize, bool, String), Error>
+        ensures { TakesWord metavar.0.now self.old result self.new }
+    {
+        let Some((place, strict, word)) = self.first_word() else {
+            let name = Text::new(self.alloc(), metavar.0)?;
+            return Err(self.missing(Some(Item::Positional { metavar: name }))?);
+        };
+        let text = word.copy()?;
+        self.take(place);
+        Ok((place, strict, text.into_string()))
+    }
+
+    /// That an item was looked for in vain in the scope; of a key that shows no name, nothing.
+    ///
+    /// Refused only for want of memory.
+    pub fn missing(&self, item: Option<Item>) -> Result<Error, AllocError>
+        ensures { IfOk result (λ error. error.0 ≡ Message.Missing (missing_in self.now (option_map part_of item))) }
+    {
+        let Some(item) = item else {
+            return Ok(Error(Message::Missing(MissingItems::none(self.alloc()))));
+        };
+        let missed = MissingItem {
+            item,
+            position: self.start,
+            scope: self.start..self.end,
+        };
+        Ok(Error(Message::Missing(MissingItems::one(self.alloc(), missed)?)))
+    }
+
     /// Whether a place is present, and in scope.
     fn is_open(&self, place: usize) -> bool
         ensures { result ≡ is_open self.now place }
@@ -214,6 +250,19 @@ impl State {
             }
         }
         None
+    }
+
+    /// The first present Word or PosWord in scope: its place, whether it is a PosWord, its text.
+    fn first_word(&self) -> Option<(usize, bool, &Text)>
+        ensures { MatchOption result (HasNone is_positional self.now) (λ r. IsFirst is_positional self.now r.0 × (option_and_then word_text (item_at self.now r.0) ≡ Some (r.1, r.2.now))) }
+    {
+        let place = self.first_open(|item| is_positional(item))?;
+        let items = self.items.as_slice();
+        match &items[place] {
+            Arg::PosWord(text) => Some((place, true, text)),
+            Arg::Word(text) => Some((place, false, text)),
+            Arg::Short(..) | Arg::Long(..) | Arg::ArgWord(_) => unreachable!(),
+        }
     }
 
     /// Takes a place that is present and in scope.
@@ -274,6 +323,13 @@ fn is_attached(item: &Arg) -> bool
         Arg::Short(_, attached, _) | Arg::Long(_, attached, _) => *attached,
         Arg::ArgWord(_) | Arg::Word(_) | Arg::PosWord(_) => false,
     }
+}
+
+/// Whether the item is a Word or a PosWord.
+fn is_positional(item: &Arg) -> bool
+    ensures { result ≡ is_positional item.now }
+{
+    matches!(item, Arg::Word(_) | Arg::PosWord(_))
 }
 
 /// The text of a Word or an ArgWord.

@@ -253,6 +253,72 @@ fn words_name_and_environment_are_lent(rt: HostRuntime) -> Result<(), Fail> {
     Ok(())
 }
 
+/// The text of the first word that is taken.
+fn word(state: &mut State) -> Result<String, &'static str> {
+    match state.take_positional_word(Metavar("FILE")) {
+        Ok((_, _, text)) => Ok(text),
+        Err(_) => Err("refused"),
+    }
+}
+
+#[test]
+fn words_are_taken_behind_flags(rt: HostRuntime) -> Result<(), Fail> {
+    let a = rt.alloc();
+    let mut state = begun(a, Args::from(&["--speed", "12"]), &[], &[])?;
+    assert!(rt; state.take_flag(&[], &texts(a, &["speed"])?));
+    assert_eq!(rt; word(&mut state)?.as_str(), "12");
+    assert!(rt; state.is_empty());
+    let mut state = begun(a, Args::from(&["-v", "--", "-x"]), &[], &[])?;
+    assert!(rt; state.take_flag(&['v'], &[]));
+    assert_eq!(rt; word(&mut state)?.as_str(), "-x");
+    assert!(rt; state.is_empty());
+    Ok(())
+}
+
+#[test]
+fn words_are_taken_behind_arguments(rt: HostRuntime) -> Result<(), Fail> {
+    let a = rt.alloc();
+    let mut state = begun(a, Args::from(&["-v", "12", "--", "-x"]), &[], &[])?;
+    assert_eq!(rt; value(&mut state, &['v'], &[], false)?.as_str(), "12");
+    match state.take_positional_word(Metavar("FILE")) {
+        Ok((place, strict, text)) => {
+            assert_eq!(rt; place, 3);
+            assert!(rt; strict);
+            assert_eq!(rt; text.as_str(), "-x");
+        }
+        Err(_) => return Err(Fail::from("refused")),
+    }
+    assert!(rt; state.is_empty());
+    assert!(rt; word(&mut state).is_err());
+    Ok(())
+}
+
+#[test]
+fn joined_flags_are_taken_one_by_one(rt: HostRuntime) -> Result<(), Fail> {
+    let a = rt.alloc();
+    let mut state = begun(a, Args::from(&["-vvv"]), &['v'], &[])?;
+    assert!(rt; state.take_flag(&['v'], &[]));
+    assert!(rt; state.take_flag(&['v'], &[]));
+    assert!(rt; state.take_flag(&['v'], &[]));
+    assert!(rt; !state.take_flag(&['v'], &[]));
+    assert!(rt; state.is_empty());
+    Ok(())
+}
+
+#[test]
+fn joined_argument_takes_the_rest(rt: HostRuntime) -> Result<(), Fail> {
+    let a = rt.alloc();
+    let mut state = begun(a, Args::from(&["-abc"]), &[], &['a'])?;
+    assert_eq!(rt; value(&mut state, &['a'], &[], false)?.as_str(), "bc");
+    assert!(rt; state.is_empty());
+    let mut state = begun(a, Args::from(&["-abc"]), &['a', 'b', 'c'], &[])?;
+    assert!(rt; state.take_flag(&['a'], &[]));
+    assert!(rt; state.take_flag(&['b'], &[]));
+    assert!(rt; state.take_flag(&['c'], &[]));
+    assert!(rt; state.is_empty());
+    Ok(())
+}
+
 #[test]
 fn a_word_is_split_alone(rt: HostRuntime) -> Result<(), Fail> {
     let a = rt.alloc();

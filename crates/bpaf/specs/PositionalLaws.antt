@@ -1,0 +1,64 @@
+-- Positional words keep to the laws.
+use Rattle.std.specs.Prelude.{◌≡◌, ℕ, Bool, true, ◌&&◌, List, Result, Ok, Err}
+use Rattle.std.proofs.Common.{sym, subst, ⊎_elim}
+use Rattle.bpaf_line.specs.Items.{is_positional}
+use Rattle.bpaf_line.specs.Situation.{Situation, is_open}
+use Rattle.bpaf_line.specs.declared.error.Error.{Error}
+use Rattle.bpaf_line.specs.declared.error.Message.{Message}
+use Rattle.bpaf_line.specs.declared.error.Message.TheVariants.{Memory, Missing, ParseFailed, StrictPos, NonStrictPos}
+use Rattle.bpaf_line.specs.Taking.{TakesText}
+use Rattle.bpaf_core.specs.Reading.{Readings}
+use Rattle.bpaf_core.specs.Laws.{Keeps, Reads, Lawful}
+use Rattle.bpaf_core.specs.Keeping.{keeps_refl, closes_take, keeps_take, newly_take}
+use Rattle.bpaf_core.specs.FlagLaws.{first_of_and}
+use Rattle.bpaf.specs.declared.position.Position.{Position}
+use Rattle.bpaf.specs.Positional.{PositionalReads, PositionalOutcome, PositionalFails, TakesSome, accepts}
+
+module _ (s : Situation) (place : ℕ) (strict : Bool) (text : List ℕ) (t : Situation) (takes : TakesText s place strict text t) where
+  -- the word that is taken lay present in scope
+  word_open : is_open s place ≡ true
+  word_open = first_of_and (is_open s place) _ takes.first.matches
+
+  -- what taking a word keeps
+  pub word_keeps : Keeps s t
+  word_keeps = subst (Keeps s) (sym takes.taken) (keeps_take s place word_open)
+
+module _ (T : Type 0) (means : List ℕ → T → Type 0) (position : Position) (metavar : List ℕ) where
+  abbrev reads_positional : Readings T
+  reads_positional = PositionalReads T means position
+
+  positional_read : (s t : Situation) (v : T) (taken : TakesSome s t) → accepts position taken.strict ≡ true → means taken.text v → Reads T reads_positional s v t
+  positional_read s t v taken accepted meant =
+      let takes = taken.takes in
+      let there : is_open s taken.place ≡ true = word_open s taken.place taken.strict taken.text t takes in
+      subst (λ w. Reads T reads_positional s v w) (sym takes.taken) (record {
+        keeps = keeps_take s taken.place there;
+        closed = closes_take s taken.place;
+        reading = record {
+          place = taken.place;
+          strict = taken.strict;
+          text = taken.text;
+          is = takes.is;
+          accepted = accepted;
+          alone = newly_take s taken.place there;
+          meant = meant;
+        };
+      })
+
+  some_keeps : (s t : Situation) → TakesSome s t → Keeps s t
+  some_keeps s t taken = word_keeps s taken.place taken.strict taken.text t taken.takes
+
+  positional_refused : (s t : Situation) (m : Message) → PositionalFails means position metavar s m t → Keeps s t
+  positional_refused s t (Missing items) fails = subst (Keeps s) (sym fails.1) (keeps_refl s)
+  positional_refused s t (StrictPos place m) fails = word_keeps s place _ fails.2.0 t fails.2.1
+  positional_refused s t (NonStrictPos place m) fails = word_keeps s place _ fails.2.0 t fails.2.1
+  positional_refused s t (ParseFailed place fault) fails = some_keeps s t fails.0
+  positional_refused s t Memory fails = ⊎_elim (λ same. subst (Keeps s) (sym same) (keeps_refl s)) (λ taken. some_keeps s t taken) fails
+  positional_refused s t other fails = absurd fails
+
+  -- positional words keep to the laws
+  pub positional_lawful : Lawful T (PositionalOutcome means position metavar) reads_positional
+  positional_lawful = record {
+    ok = λ s t v o. positional_read s t v o.0 o.1 o.2;
+    err = λ s t e o. positional_refused s t e.0 o;
+  }

@@ -1,0 +1,12 @@
+//! What follows from the laws alone, for every parser: contracts of functions that do nothing.
+ghost use Rattle.bpaf_core.specs.Counting.{CountFalls};
+
+use crate::parser::Parser;
+
+/// Whatever a parser's type: after an Ok the count of present items has fallen by the number of newly
+/// taken places.
+pub fn count_falls<T, P: Parser<T>>(parser: &P)
+    ensures { CountFalls (P.outcome parser.now) }
+{
+    let _ = parser;
+}
