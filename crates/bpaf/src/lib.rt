@@ -1,8 +1,9 @@
 //! Command line parsers from small ones: the crate that a program uses.
 //!
 //! It stands on `bpaf_doc`, `bpaf_line`, `bpaf_text` and `bpaf_core`, and hands on all of them: a
-//! program lists `bpaf` alone. Of its own it has products: [`ParseCon`] over [`Both`] and [`Last`]
-//! evaluates fields in order and gives their values to a constructor.
+//! program lists `bpaf` alone. Of its own it has positional words ([`positional`]) and products:
+//! [`ParseCon`] over [`Both`] and [`Last`] evaluates fields in order and gives their values to a
+//! constructor; the macro [`construct!`] writes one down.
 //!
 //! For the layers above: each type here proves the laws of `Parser` from the laws of its inner
 //! parsers alone, and its `outcome`, `reads` and `describes` are definitions over theirs
@@ -14,6 +15,7 @@
 //! The source of the design is bpaf's `lib.rs` and `structs.rs`.
 #![tactic(auto)]
 
+mod construct;
 pub mod doc;
 pub mod params;
 pub mod parsers;

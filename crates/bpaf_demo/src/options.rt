@@ -1,8 +1,7 @@
-ghost use Rattle.std.specs.Prelude.{IfOk, IfErr, map, string_bytes};
-ghost use Rattle.bpaf_core.specs.Run.{IsRefusal};
+ghost use Rattle.std.specs.Prelude.{IfOk, map, string_bytes};
 ghost use Rattle.bpaf_demo.specs.Record.{IsDealtOptions};
 
-use bpaf::{Args, Both, Last, ParseCon, ParseFailure, Parser, short};
+use bpaf::{Args, ParseFailure, Parser, construct, short};
 use std::alloc::Global;
 
 /// What the program is asked for.
@@ -18,11 +17,6 @@ pub fn read_options(alloc: Global, words: &[String]) -> Result<Options, ParseFai
 {
     let verbose = short(alloc, 'v')?.long("verbose")?.switch();
     let num = short(alloc, 'n')?.long("num")?.argument::<u64>("NUM");
-    let fields = Both {
-        first: verbose,
-        rest: Last { last: num },
-    };
-    let record = ParseCon::new(fields, |(verbose, num)| Options { verbose, num });
-    let options = record.to_options(alloc)?;
+    let options = construct!(Options { verbose, num }).to_options(alloc)?;
     options.run_inner(Args::from(words).set_name("bpaf_demo"))
 }

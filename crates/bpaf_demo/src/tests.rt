@@ -50,6 +50,7 @@ fn prints(alloc: Global, words: &[&str], lines: &str) -> Result<bool, Fail> {
 fn options_are_printed(rt: HostRuntime) -> Result<(), Fail> {
     let a = rt.alloc();
     assert!(rt; prints(a, &["-v", "-n", "3"], "verbose: true\nnum: 3\n")?);
+    assert!(rt; prints(a, &["-vn3"], "verbose: true\nnum: 3\n")?);
     assert!(rt; prints(a, &["--num=3"], "verbose: false\nnum: 3\n")?);
     assert!(rt; prints(a, &["-n=3", "-v"], "verbose: true\nnum: 3\n")?);
     assert!(rt; prints(a, &["--num", "3", "--verbose"], "verbose: true\nnum: 3\n")?);

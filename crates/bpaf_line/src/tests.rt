@@ -139,15 +139,31 @@ fn marker_is_taken_from_the_start(rt: HostRuntime) -> Result<(), Fail> {
     Ok(())
 }
 
+/// The number of the ambiguous character of a line that has one.
+fn ambiguous_number(
+    alloc: Global,
+    words: &[&str],
+    flags: &[char],
+    arguments: &[char],
+) -> Option<usize> {
+    match State::construct(alloc, Args::from(words), flags, arguments) {
+        Err(Message::Ambiguity(_word, number)) => Some(number),
+        _ => None,
+    }
+}
+
 #[test]
 fn ambiguous_words_are_named(rt: HostRuntime) -> Result<(), Fail> {
-    match State::construct(rt.alloc(), Args::from(&["-va"]), &['v', 'a'], &['a']) {
-        Err(Message::Ambiguity(word, number)) => {
-            assert_eq!(rt; word.as_str(), "-va");
-            assert_eq!(rt; number, 2);
-        }
-        _ => return Err(Fail::from("not ambiguous")),
-    }
+    let a = rt.alloc();
+    assert_eq!(rt; ambiguous_number(a, &["-va"], &['v', 'a'], &['a']), Some(2));
+    assert_eq!(rt;
+        ambiguous_number(a, &["x", "-abc"], &['a', 'b', 'c'], &['a']),
+        Some(1)
+    );
+    assert_eq!(rt;
+        ambiguous_number(a, &["-b"], &['a', 'b', 'c'], &['a']),
+        None
+    );
     let state = begun(rt.alloc(), Args::from(&["--", "-va"]), &['v', 'a'], &['a'])?;
     assert_eq!(rt; state.len(), 1);
     Ok(())

@@ -99,6 +99,7 @@ fn shown(alloc: Global, item: &Item) -> Result<String, AllocError> {
             let name = named(alloc, name)?;
             format!(in alloc; "{name} {metavar}")
         }
+        Item::Positional { metavar } => format!(in alloc; "{metavar}"),
     }
 }
 
@@ -115,7 +116,7 @@ fn shape(alloc: Global, meta: &Meta) -> Result<String, AllocError> {
     match meta {
         Meta::Item(item) => shown(alloc, item),
         Meta::Optional(inner) => optional(alloc, inner),
-        Meta::And(_) | Meta::Skip => String::from_str(alloc, "no item"),
+        Meta::And(_) | Meta::Strict(_) | Meta::Skip => String::from_str(alloc, "no item"),
     }
 }
 

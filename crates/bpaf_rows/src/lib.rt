@@ -8,3 +8,5 @@
 mod flags;
 #[cfg(test)]
 mod products;
+#[cfg(test)]
+mod words;

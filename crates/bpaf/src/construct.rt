@@ -1,0 +1,80 @@
+/// Combines parsers into one: a product of its fields, whose values make a tuple or a value by name.
+///
+/// | call | answers a parser of |
+/// |---|---|
+/// | `construct!(a, b)` | the tuple `(a, b)` |
+/// | `construct!(Name { a, b })` | a struct with these fields, or a variant, as in `Command::Build { a, b }` |
+/// | `construct!(Name(a, b))` | a struct with numbered fields, or a variant, as in `Command::Run(a, b)` |
+/// | `construct!(a)` | what `a` parses: it is that parser itself |
+///
+/// A name may be a path, such as `self::One(a, b)`; a leading `::` is dropped. A trailing comma may stand. There are as many fields as one likes.
+///
+/// A field is one of these, and they are evaluated in the order in which they are written:
+///
+/// | field | is |
+/// |---|---|
+/// | `name` | a variable that holds a parser |
+/// | `name()` | what the function `name` answers |
+/// | `name(expression)` | the expression's value; `?` may stand in it |
+///
+/// ```text
+/// let num = short(alloc, 'n')?.long("num")?.argument::<u64>("NUM");
+/// let options = construct!(Options {
+///     verbose(short(alloc, 'v')?.long("verbose")?.switch()),
+///     num,
+/// });
+/// ```
+///
+/// `construct!(a(expression))` alone is a value by the name `a`, since a constructor is read before a field; with a trailing comma it is one field.
+///
+/// bpaf's macro makes a closure over the parsers, and evaluates them in it. This one makes a product, [`ParseCon`](crate::ParseCon) over nested [`Both`](crate::Both) and [`Last`](crate::Last), and a closure for the constructor alone: so what the whole parses follows from what its fields do. The two have the same forms, but for a choice and a value without fields, which are not here yet.
+#[macro_export]
+macro_rules! construct {
+    // construct!(Name { a, b })
+    ($(::)? $first:ident $(:: $more:ident)* { $($fields:tt)* }) => {
+        $crate::construct!(@fields [named [$first $(:: $more)*]] [] $($fields)*)
+    };
+    // construct!(Name(a, b))
+    ($(::)? $first:ident $(:: $more:ident)* ( $($fields:tt)* )) => {
+        $crate::construct!(@fields [numbered [$first $(:: $more)*]] [] $($fields)*)
+    };
+
+    // a field from a function, from an expression, and from a variable
+    (@fields $kind:tt [$($done:ident)*] $field:ident () $(, $($rest:tt)*)?) => {{
+        let $field = $field();
+        $crate::construct!(@fields $kind [$($done)* $field] $($($rest)*)?)
+    }};
+    (@fields $kind:tt [$($done:ident)*] $field:ident ($made:expr) $(, $($rest:tt)*)?) => {{
+        let $field = $made;
+        $crate::construct!(@fields $kind [$($done)* $field] $($($rest)*)?)
+    }};
+    (@fields $kind:tt [$($done:ident)*] $field:ident $(, $($rest:tt)*)?) => {
+        $crate::construct!(@fields $kind [$($done)* $field] $($($rest)*)?)
+    };
+
+    // one field by itself
+    (@fields [tuple] [$only:ident]) => { $only };
+    // a product
+    (@fields $kind:tt [$($field:ident)+]) => {
+        $crate::ParseCon::new(
+            $crate::construct!(@product $($field)+),
+            |$crate::construct!(@pattern $($field)+)| $crate::construct!(@make $kind $($field)+),
+        )
+    };
+
+    (@product $last:ident) => { $crate::Last { last: $last } };
+    (@product $first:ident $($rest:ident)+) => {
+        $crate::Both { first: $first, rest: $crate::construct!(@product $($rest)+) }
+    };
+    (@pattern $last:ident) => { $last };
+    (@pattern $first:ident $($rest:ident)+) => { ($first, $crate::construct!(@pattern $($rest)+)) };
+
+    (@make [named [$($name:tt)+]] $($field:ident)+) => { $($name)+ { $($field),+ } };
+    (@make [numbered [$($name:tt)+]] $($field:ident)+) => { $($name)+ ( $($field),+ ) };
+    (@make [tuple] $($field:ident)+) => { ( $($field),+ ) };
+
+    // construct!(a, b)
+    ($first:ident $($rest:tt)*) => {
+        $crate::construct!(@fields [tuple] [] $first $($rest)*)
+    };
+}
