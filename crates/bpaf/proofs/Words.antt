@@ -10,6 +10,7 @@ use Rattle.bpaf.specs.declared.position.Position.{Position}
 use Rattle.bpaf.specs.Positional.{PositionalOutcome, PositionalFails, accepts}
 
 module _ {T : Type 0} (means : List ℕ → T → Type 0) (position : Position) (metavar : List ℕ) (s t : Situation) (place : ℕ) (strict : Bool) (text : List ℕ) (takes : TakesText s place strict text t) where
+  -- a fault in the text of an accepted word is a refusal of the positional
   fault_told : (m : Message) → accepts position strict ≡ true → FaultsText means text t.current m → PositionalFails means position metavar s m t
   fault_told Memory accepted fault = inr (record { place = place; strict = strict; text = text; takes = takes })
   fault_told (ParseFailed at words) accepted fault = (record { place = place; strict = strict; text = text; takes = takes }, accepted, fault)

@@ -24,9 +24,11 @@ module _ (s : Situation) (place : ℕ) (strict : Bool) (text : List ℕ) (t : Si
   word_keeps = subst (Keeps s) (sym takes.taken) (keeps_take s place word_open)
 
 module _ (T : Type 0) (means : List ℕ → T → Type 0) (position : Position) (metavar : List ℕ) where
+  -- what a positional reads
   abbrev reads_positional : Readings T
   reads_positional = PositionalReads T means position
 
+  -- a taken word on an accepted side, whose text means the value, is a reading of it
   positional_read : (s t : Situation) (v : T) (taken : TakesSome s t) → accepts position taken.strict ≡ true → means taken.text v → Reads T reads_positional s v t
   positional_read s t v taken accepted meant =
       let takes = taken.takes in
@@ -45,9 +47,11 @@ module _ (T : Type 0) (means : List ℕ → T → Type 0) (position : Position) 
         };
       })
 
+  -- what taking some word keeps, whatever its text means
   some_keeps : (s t : Situation) → TakesSome s t → Keeps s t
   some_keeps s t taken = word_keeps s taken.place taken.strict taken.text t taken.takes
 
+  -- what a refusal of a positional keeps
   positional_refused : (s t : Situation) (m : Message) → PositionalFails means position metavar s m t → Keeps s t
   positional_refused s t (Missing items) fails = subst (Keeps s) (sym fails.1) (keeps_refl s)
   positional_refused s t (StrictPos place m) fails = word_keeps s place _ fails.2.0 t fails.2.1

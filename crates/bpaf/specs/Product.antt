@@ -44,6 +44,7 @@ abbrev pub BothOutcome : {A B : Type 0} → Outcome A → Outcome B → Outcome 
 BothOutcome {A} {B} first rest s (Ok v) t = BothRan A B first rest s (Ok v) t
 BothOutcome {A} {B} first rest s (Err e) t = BothRan A B first rest s (Err e) t ⊎ (first s (Err e) t × (is_memory e.0 ≡ true))
 
+-- the values of fields that were evaluated one after the other are a reading of both
 both_ok : (A B : Type 0) (first : Outcome A) (rest : Outcome B) (rf : Readings A) (rr : Readings B) → Lawful A first rf → Lawful B rest rr
     → (a : Result A Error) (b : Result B Error) (s m t : Situation) (v : A × B) → first s a m → rest m b t → Ok v ≡ joined a b
     → Reads (A × B) (BothReads A B rf rr) s v t
@@ -67,6 +68,7 @@ both_ok A B first rest rf rr fa fb (Ok x) (Err f) s m t v g r e = cc
 both_ok A B first rest rf rr fa fb (Err x) (Ok y) s m t v f r e = cc
 both_ok A B first rest rf rr fa fb (Err x) (Err y) s m t v f r e = elim (is_memory y.0) as (λ z. Ok v ≡ (if z then Err y else Err x) → Reads (A × B) (BothReads A B rf rr) s v t) [ true ↦ λ h. cc | false ↦ λ h. cc ] e
 
+-- fields that keep to the laws keep to them together
 pub both_lawful : {A B : Type 0} {first : Outcome A} {rest : Outcome B} {rf : Readings A} {rr : Readings B}
     → Lawful A first rf → Lawful B rest rr → Lawful (A × B) (BothOutcome first rest) (BothReads A B rf rr)
 both_lawful {A = A} {B = B} {first = first} {rest = rest} {rf = rf} {rr = rr} la lb = record {
@@ -88,6 +90,7 @@ pub record ProductReads (V T : Type 0) (fields : Readings V) (makes : V → T �
   pub read : fields context share values
   pub made : makes values v
 
+-- a product keeps to the laws where its fields do
 pub product_lawful : {V T : Type 0} {fields : Outcome V} {reads : Readings V} (makes : V → T → Type 0) → Lawful V fields reads
     → Lawful T (ProductOutcome fields makes) (ProductReads V T reads makes)
 product_lawful {V} {T} {fields} {reads} makes l = record {

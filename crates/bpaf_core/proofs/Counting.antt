@@ -5,6 +5,7 @@ use Rattle.bpaf_core.specs.Reading.{Outcome, Readings, Joins}
 use Rattle.bpaf_core.specs.Laws.{Keeps, Closes, Lawful, newly}
 use Rattle.bpaf_core.specs.Counting.{taken_count, CountFalls}
 
+-- with one number more, two sets apart still have together as many as the whole
 join_at : (w x y : Bool) (a b c : ℕ) → w ≡ (x || y) → (x && y) ≡ false → a ≡ b + c
     → (if w then (a + 1) else a) ≡ (if x then (b + 1) else b) + (if y then (c + 1) else c)
 join_at true true true a b c p q e = absurd (true≢false q)
@@ -22,6 +23,7 @@ pub count_below-joined : (whole f g : ℕ → Bool) (n : ℕ) → ((p : ℕ) →
 count_below-joined whole f g zero all apart = refl
 count_below-joined whole f g (suc n) all apart = join_at (whole n) (f n) (g n) _ _ _ (all n) (apart n) (count_below-joined whole f g n all apart)
 
+-- at one place: what is present at first is present still, or newly taken
 open_at : (ts tt is it : Bool) → (ts ≡ true → tt ≡ true) → ((tt && not ts) ≡ true → (is && not ts) ≡ true) → (it ≡ true → is ≡ true)
     → (is ≡ true → it ≡ false → tt ≡ true) → (is && not ts) ≡ ((it && not tt) || (tt && not ts))
 open_at true true true true a b c d = refl
@@ -37,6 +39,7 @@ open_at false false true false a b c d = absurd (true≢false (sym (d refl refl)
 open_at false false false true a b c d = absurd (true≢false (sym (c refl)))
 open_at false false false false a b c d = refl
 
+-- at one place: what is present still isn't newly taken
 open_apart_at : (ts tt it : Bool) → ((it && not tt) && (tt && not ts)) ≡ false
 open_apart_at ts true true = refl
 open_apart_at ts true false = refl

@@ -16,6 +16,7 @@ use Rattle.bpaf_core.specs.Laws.{Lawful, Reads, Keeps, Closes, newly}
 use Rattle.bpaf_core.specs.Run.{Given, context_in, Runs, RunsShown, RunsWords, value, leftover, refused, ran, no_line, shown, no_memory}
 use Rattle.bpaf_core.specs.Dealt.{IsDealtOut}
 
+-- a count of nothing counts neither this number nor any before it
 none_at : (b : Bool) (n : ℕ) → (if b then (n + 1) else n) ≡ 0 → (b ≡ false) × (n ≡ 0)
 none_at true n e = absurd (omega arith)
 none_at false n e = (refl, e)
@@ -30,16 +31,19 @@ none_below set (suc n) e p within =
     (λ other. none_below set n parts.1 p (omega arith))
     (cases_eq p n)
 
+-- at one place: newly taken is the same as dealt, where each dealt place is taken
 dealt_at : (taken before dealt : Bool) → before ≡ not dealt → (dealt ≡ true → taken ≡ true) → (taken && not before) ≡ dealt
 dealt_at taken before true e h = rw (e, h refl) refl
 dealt_at true before false e h = rw e refl
 dealt_at false before false e h = refl
 
+-- at one place: what isn't open, and would be taken outside the scope, is taken
 taken_at : (inside taken : Bool) → (inside ≡ false → taken ≡ true) → (inside && not taken) ≡ false → taken ≡ true
 taken_at true true closed none = refl
 taken_at true false closed none = absurd (true≢false none)
 taken_at false taken closed none = closed refl
 
+-- a place that is dealt out lies in the line
 dealt_within : (line : List Arg) (marker : Option ℕ) (p : ℕ) → is_dealt_place line marker p ≡ true → p < length line
 dealt_within line marker p dealt = of_and (nat_lt p (length line)) (is_marker marker p) refl dealt
   where
@@ -47,6 +51,7 @@ dealt_within line marker p dealt = of_and (nat_lt p (length line)) (is_marker ma
     of_and true y e both = grind (arith, nat_tests)
     of_and false y e both = cc
 
+-- at the beginning each place of the line lies in the scope
 in_whole_line : (context : Context) (marker : Option ℕ) (p : ℕ) → p < length context.line → in_scope (beginning context marker) p ≡ true
 in_whole_line context marker p within = grind (arith, nat_tests)
 
@@ -61,6 +66,7 @@ all_newly context marker t keeps closed none = fun_ext (λ p. dealt_at (is_taken
     taken_at (in_scope t p) (is_taken t p) (closed p (in_whole_line context marker p within)) (none_below (is_open t) (length t.context.line) none p (omega arith))))
 
 module _ {T : Type 0} {inner : Outcome T} {reads : Readings T} {describes : Shape → Type 0} {info : Info} (given : Given) (law : Lawful T inner reads) where
+  -- a value that a run over the words' line answers is dealt out of the words
   dealt_from : (shape : Shape) → describes shape → (line : List Arg) (marker : Option ℕ) (v : T) → IsLine (known_names info shape) given.words line marker
       → Runs T inner (beginning (context_in given line) marker) (Ok v) → IsDealtOut T reads describes info given v
   dealt_from shape is line marker v is_line (value v' t answered none) =
@@ -74,6 +80,7 @@ module _ {T : Type 0} {inner : Outcome T} {reads : Readings T} {describes : Shap
         read = subst (λ (share : Share). reads (context_in given line) share v') (all_newly (context_in given line) marker t read.keeps read.closed none) read.reading;
       }
 
+  -- so is a value of a run over words, for a shape that the parser may show
   dealt_shown : (shape : Shape) → describes shape → (v : T) → RunsShown T inner info shape given (Ok v) → IsDealtOut T reads describes info given v
   dealt_shown shape is v (ran line marker r is_line run) = dealt_from shape is line marker v is_line run
 

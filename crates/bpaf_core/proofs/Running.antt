@@ -39,6 +39,7 @@ module _ {T : Type 0} {inner : Outcome T} {describes : Shape → Type 0} {info :
       let made' : Constructs (known_names info names.shape) given.words given.env given.name (Ok s) = subst (λ k. Constructs k given.words given.env given.name (Ok s)) (known_are describes info flags arguments names) made in
       shown names.shape r names.shown (ran made'.0 made'.1 r made'.2 (subst (λ w. Runs T inner w r) made'.3 run))
 
+  -- what is told of words without a line, or of no memory for it, is an answer of the run
   line_told : (shape : Shape) → describes shape → (m : Message) (f : ParseFailure) → RefusesLine (known_names info shape) given.words m → Tells m f → RunsWords T inner describes info given (Err f)
   line_told shape is Memory f refuses tells = ⊎_elim
       (λ memory. subst (λ x. RunsWords T inner describes info given (Err x)) (sym memory.1) no_memory)
@@ -57,6 +58,7 @@ module _ {T : Type 0} {inner : Outcome T} {describes : Shape → Type 0} {info :
       line_told names.shape names.shown m f (subst (λ k. RefusesLine k given.words m) (known_are describes info flags arguments names) refuses) tells
 
 module _ {T : Type 0} (means : List ℕ → T → Type 0) (named : Named) (metavar : List ℕ) (s t : Situation) (text : List ℕ) where
+  -- a fault in the text of a taken argument is a refusal of the argument
   fault_told : (m : Message) → TakesValue named.names false s text t → FaultsText means text t.current m → ArgumentFails means named metavar s m t
   fault_told Memory takes fault = inr (text, takes)
   fault_told (ParseFailed place words) takes fault = (text, takes, fault)

@@ -16,17 +16,21 @@ use Rattle.bpaf_core.specs.Keeping.{keeps_refl, keeps_trans, closes_take_both, k
 use Rattle.bpaf_core.specs.FlagLaws.{first_of_and, second_of_and}
 use Rattle.bpaf_core.specs.Argument.{ArgumentReads, ArgumentOutcome, ArgumentFails}
 
+-- where an option under a condition is there, the condition holds, and it is that option
 if_some : {A : Type 0} (b : Bool) (o : Option A) (x : A) → (if b then o else None) ≡ Some x → (b ≡ true) × (o ≡ Some x)
 if_some true o x e = (refl, e)
 if_some false o x e = cc
 
 module _ (names : Names) (s : Situation) (text : List ℕ) (t : Situation) (takes : TakesValue names false s text t) where
+  -- the key that is taken lay present in scope
   key_open : is_open s takes.key ≡ true
   key_open = first_of_and (is_open s takes.key) _ takes.first.matches
 
+  -- the place behind the key lay present in scope, and has this text
   value_there : (is_open s (takes.key + 1) ≡ true) × (option_and_then value_text (item_at s (takes.key + 1)) ≡ Some text)
   value_there = if_some (is_open s (takes.key + 1)) (option_and_then value_text (item_at s (takes.key + 1))) text takes.value
 
+  -- that place is present in scope still when the key is taken
   value_open : is_open (take_place s takes.key) (takes.key + 1) ≡ true
   value_open =
       let other : takes.key + 1 ≢ takes.key = (λ e. absurd (omega arith)) in
@@ -39,9 +43,11 @@ module _ (names : Names) (s : Situation) (text : List ℕ) (t : Situation) (take
       subst (Keeps s) (sym takes.taken) (keeps_trans s m (take_place m (takes.key + 1)) (keeps_take s takes.key key_open) (keeps_take m (takes.key + 1) value_open))
 
 module _ (T : Type 0) (means : List ℕ → T → Type 0) (named : Named) (metavar : List ℕ) where
+  -- what an argument reads
   abbrev reads_argument : Readings T
   reads_argument = ArgumentReads T means named
 
+  -- a taken key and value, whose text means the answer, are a reading of it
   argument_read : (s t : Situation) (v : T) (text : List ℕ) → TakesValue named.names false s text t → means text v → Reads T reads_argument s v t
   argument_read s t v text takes meant =
       subst (λ w. Reads T reads_argument s v w) (sym takes.taken) (record {
@@ -57,6 +63,7 @@ module _ (T : Type 0) (means : List ℕ → T → Type 0) (named : Named) (metav
         };
       })
 
+  -- what a refusal of an argument keeps
   argument_refused : (s t : Situation) (m : Message) → ArgumentFails means named metavar s m t → Keeps s t
   argument_refused s t (Missing items) fails = subst (Keeps s) (sym fails.1) (keeps_refl s)
   argument_refused s t (NoArgument key name) fails = subst (Keeps s) (sym fails.1) (keeps_refl s)

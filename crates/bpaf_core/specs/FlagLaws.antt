@@ -19,6 +19,7 @@ pub first_of_and : (x y : Bool) → (x && y) ≡ true → x ≡ true
 first_of_and true y h = refl
 first_of_and false y h = h
 
+-- where both of two tests hold, the second does
 pub second_of_and : (x y : Bool) → (x && y) ≡ true → y ≡ true
 second_of_and true y h = h
 second_of_and false y h = cc
@@ -29,9 +30,11 @@ flag_keeps names s true t takes = subst (Keeps s) (sym takes.2) (keeps_take s ta
 flag_keeps names s false t takes = subst (Keeps s) (sym takes.1) (keeps_refl s)
 
 module _ (T : Type 0) (clones : T → T → Type 0) (named : Named) (present : T) (absent : Option T) where
+  -- what a flag reads
   abbrev reads_flag : Readings T
   reads_flag = FlagReads T clones named present absent
 
+  -- a taken key, with a clone of the present value, is a reading of the flag
   flag_found : (s t : Situation) (v : T) → TakesFlag named.names s true t → clones present v → Reads T reads_flag s v t
   flag_found s t v takes value =
       let there : is_open s takes.0 ≡ true = first_of_and (is_open s takes.0) _ takes.1.matches in
@@ -41,6 +44,7 @@ module _ (T : Type 0) (clones : T → T → Type 0) (named : Named) (present : T
         reading = at_key takes.0 (second_of_and (is_open s takes.0) _ takes.1.matches) (newly_take s takes.0 there) value;
       })
 
+  -- no key, with a clone of the absent value, is a reading of the flag
   flag_absent : (s t : Situation) (v : T) → TakesFlag named.names s false t → IsAbsentValue clones absent v → Reads T reads_flag s v t
   flag_absent s t v takes value =
       subst (λ w. Reads T reads_flag s v w) (sym takes.1) (record {
@@ -49,6 +53,7 @@ module _ (T : Type 0) (clones : T → T → Type 0) (named : Named) (present : T
         reading = nowhere (newly_none s) value;
       })
 
+  -- what a refusal of a flag keeps
   flag_refused : (s t : Situation) (m : Message) → FlagFails named absent s m t → Keeps s t
   flag_refused s t (Missing items) fails = flag_keeps named.names s false t fails.0
   flag_refused s t Memory fails = flag_keeps named.names s fails.0 t fails.1

@@ -41,9 +41,11 @@ closes_refl s p within outside = absurd (true≢false (sym within ∙ outside))
 pub closes_take : (s : Situation) (p : ℕ) → Closes s (take_place s p)
 closes_take s p q within outside = absurd (true≢false (sym within ∙ outside))
 
+-- nor does taking two places, one after the other
 pub closes_take_both : (s : Situation) (p q : ℕ) → Closes s (take_place (take_place s p) q)
 closes_take_both s p q r within outside = absurd (true≢false (sym within ∙ outside))
 
+-- at one place: what is newly taken in two steps was open at first
 fresh_at : (ts tm tt ss sm : Bool) → ((tm && not ts) ≡ true → (ss && not ts) ≡ true) → ((tt && not tm) ≡ true → (sm && not tm) ≡ true)
     → (sm ≡ true → ss ≡ true) → (tt && not ts) ≡ true → (ss && not ts) ≡ true
 fresh_at true tm true ss sm first second narrows new = cc
@@ -72,6 +74,7 @@ closes_trans s m t k a b p inside outside = closes_at (in_scope m p) refl
     closes_at true e = b p e outside
     closes_at false e = k.stays p (a p inside e)
 
+-- at one place: what is newly taken in two steps is newly taken in one of them
 joined_at : (x y z : Bool) → (x ≡ true → y ≡ true) → (y ≡ true → z ≡ true) → (z && not x) ≡ ((y && not x) || (z && not y))
 joined_at true true true f g = refl
 joined_at true true false f g = refl
@@ -81,6 +84,7 @@ joined_at false true false f g = absurd (true≢false (sym (g refl)))
 joined_at false false true f g = refl
 joined_at false false false f g = refl
 
+-- at one place: what the first of two steps newly takes, the second doesn't
 apart_at : (x y z : Bool) → ((y && not x) && (z && not y)) ≡ false
 apart_at true true true = refl
 apart_at true true false = refl
@@ -102,11 +106,13 @@ newly_joins s m t a b = record {
 pub keeps_current : (s t : Situation) (place : Option ℕ) → Keeps s t → Keeps s (with_current t place)
 keeps_current s t place k = record { context = k.context; stays = k.stays; fresh = k.fresh; narrows = k.narrows; path = k.path }
 
+-- at one place: what is as it was isn't newly taken
 same_new : (x y : Bool) → x ≡ y → (x && not y) ≡ false
 same_new true true e = refl
 same_new true false e = cc
 same_new false y e = refl
 
+-- at one place: what is taken, and wasn't before, is newly taken
 first_new : (x y : Bool) → x ≡ true → y ≡ false → (x && not y) ≡ true
 first_new true false a b = refl
 first_new true true a b = cc

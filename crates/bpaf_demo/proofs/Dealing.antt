@@ -17,6 +17,7 @@ use Rattle.bpaf.specs.Product.{BothReads, ProductReads, BothDescribes, LastDescr
 use Rattle.bpaf_demo.specs.declared.options.Options.{Options}
 use Rattle.bpaf_demo.specs.Record.{IsDealtOptions, SwitchReads, verbose_names, num_names, program_known, program_context}
 
+-- a flag that gives true, or false where its key is absent, reads as a switch
 switch_read : (clones : Bool → Bool → Type 0) → ((x y : Bool) → clones x y → y ≡ x) → (named : Named) (context : Context) (share : Share) (v : Bool)
     → FlagReads Bool clones named true (Some false) context share v → SwitchReads named.names context share v
 switch_read clones same named context share v (at_key key is place value) =
@@ -59,6 +60,7 @@ known_shown metavar shape shown =
     ap (known_names plain_info) (shown.2 ∙ ap (λ x. And (members x)) are)
 
 module _ (clones : Bool → Bool → Type 0) (makes : Bool × ℕ → Options → Type 0) (metavar : List ℕ) (words : List (List ℕ)) where
+  -- what the record's parser deals out are options dealt out of the words
   options_dealt : ((x y : Bool) → clones x y → y ≡ x) → ((x : Bool × ℕ) (v : Options) → makes x v → v ≡ record { verbose = x.0; num = x.1 }) → (v : Options)
       → IsDealtOut Options (RecordReads clones makes (record { names = verbose_names }) (record { names = num_names }) true (Some false))
       (RecordDescribes (record { names = verbose_names }) (record { names = num_names }) (Some false) metavar) plain_info (program_given words) v

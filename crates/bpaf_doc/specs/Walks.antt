@@ -5,6 +5,7 @@ use Rattle.bpaf_doc.specs.Shape.{Shape, Shapes, Part, And, Optional, Strict, Sho
 
 -- all parts in order
 abbrev mutual
+  -- the parts of a shape
   pub parts : Shape → List Part
   parts (And all) = parts_of_all all
   parts (Optional inner) = parts inner
@@ -12,6 +13,7 @@ abbrev mutual
   parts (Shown part) = part ∷ []
   parts Skip = []
 
+  -- the parts of the members of an And
   pub parts_of_all : Shapes → List Part
   parts_of_all none = []
   parts_of_all (first then rest) = parts first ++ parts_of_all rest

@@ -22,20 +22,24 @@ text_after : List ℕ → List ℕ → List ℕ
 text_after word [] = word
 text_after word (f ∷ fs) = []
 
+-- the items of one flag more: the new one has the text of the flag after the others
 flags_of_push : (word fs : List ℕ) (c : ℕ) → flags_of word (fs ++ c ∷ []) ≡ flags_of word fs ++ Short c false (text_after word fs) ∷ []
 unfolding text_after
 flags_of_push word [] c = refl
 flags_of_push word (f ∷ []) c = refl
 flags_of_push word (f ∷ g ∷ fs) c = ap (λ x. Short f false word ∷ x) (flags_of_push [] (g ∷ fs) c)
 
+-- the text of the next flag: the word for the first one, else the empty text
 text_after_is : (word fs : List ℕ) (count : ℕ) → count ≡ length fs → text_after word fs ≡ (if count == 0 then word else [])
 unfolding text_after
 text_after_is word [] count e = rw e
 text_after_is word (f ∷ fs) count e = grind (arith, nat_tests)
 
+-- a walk that hasn't begun: no flags, and all letters are left
 pub walked_none : (known : Known) (word letters : List ℕ) (old : List Arg) → Walked known word letters old old 0 letters
 walked_none known word letters old = record { fs = []; cut = refl; all_flags = λ k d l. absurd (omega arith); items = sym (append-nil old); counted = refl }
 
+-- a walk over one flag more
 pub walked_more : (known : Known) (word letters : List ℕ) (old new : List Arg) (count : ℕ) (rest : List ℕ) (c : ℕ) (after text : List ℕ) (newer : List Arg)
     → Walked known word letters old new count rest → rest ≡ encode_utf8 c ++ after → IsFlag known c → text ≡ (if count == 0 then word else []) → newer ≡ new ++ Short c false text ∷ []
     → Walked known word letters old newer (count + 1) after
@@ -71,6 +75,7 @@ stopped known word letters old new count rest c after cs w e l =
     let t = cons_from_encodes h.0 after c (h.2 ∙ e) in
     (t.0, h.1 ∙ ap (λ x. w.fs ++ x) t.1, t.2)
 
+-- where a walk leaves no letters: they spell the items of the flags
 pub ends : (known : Known) (word letters : List ℕ) (old new : List Arg) (count : ℕ) (rest : List ℕ) (cs : List ℕ)
     → Walked known word letters old new count rest → length rest ≡ 0 → letters ≡ encode_utf8_all cs
     → (xs : List Arg) × SpellsJoined known word cs (Items xs) × (new ≡ old ++ xs)
@@ -79,6 +84,7 @@ ends known word letters old new count rest cs w e l =
     let same : cs ≡ w.fs = encodes_same cs w.fs (sym l ∙ (w.cut ∙ (ap (λ x. encode_utf8_all w.fs ++ x) empty ∙ append-nil (encode_utf8_all w.fs)))) in
     (flags_of word w.fs, rw same (flags w.all_flags), w.items)
 
+-- where a walk stops at a character that is both: the letters are ambiguous there
 pub stops_both : (known : Known) (word letters : List ℕ) (old new : List Arg) (count : ℕ) (rest : List ℕ) (c : ℕ) (after : List ℕ)
     → Walked known word letters old new count rest → rest ≡ encode_utf8 c ++ after → IsBoth known c
     → (cs : List ℕ) → letters ≡ encode_utf8_all cs → SpellsJoined known word cs (Ambiguous (count + 1))
@@ -86,6 +92,7 @@ stops_both known word letters old new count rest c after w e b cs l =
     let s = stopped known word letters old new count rest c after cs w e l in
     rw w.counted (both w.fs c s.0 s.1 w.all_flags b)
 
+-- where a walk stops at a character that is neither: the letters spell the word itself
 pub stops_neither : (known : Known) (word letters : List ℕ) (old new newer : List Arg) (count : ℕ) (rest : List ℕ) (c : ℕ) (after : List ℕ)
     → Walked known word letters old new count rest → rest ≡ encode_utf8 c ++ after → IsNeither known c → newer ≡ old ++ Word word ∷ []
     → (cs : List ℕ) → letters ≡ encode_utf8_all cs → (xs : List Arg) × SpellsJoined known word cs (Items xs) × (newer ≡ old ++ xs)
@@ -93,6 +100,7 @@ stops_neither known word letters old new newer count rest c after w e b n cs l =
     let s = stopped known word letters old new count rest c after cs w e l in
     (Word word ∷ [], neither w.fs c s.0 s.1 w.all_flags b, n)
 
+-- where a walk stops at an argument: the letters spell the flags and that argument
 pub stops_argument : (known : Known) (word letters : List ℕ) (old new newer : List Arg) (count : ℕ) (rest : List ℕ) (c : ℕ) (after : List ℕ)
     → Walked known word letters old new count rest → rest ≡ encode_utf8 c ++ after → IsArgument known c → newer ≡ new ++ argument_of word c after
     → (cs : List ℕ) → letters ≡ encode_utf8_all cs → (xs : List Arg) × SpellsJoined known word cs (Items xs) × (newer ≡ old ++ xs)
@@ -100,9 +108,11 @@ stops_argument known word letters old new newer count rest c after w e b n cs l 
     let s = stopped known word letters old new count rest c after cs w e l in
     (flags_of word w.fs ++ argument_of word c (encode_utf8_all s.0), argument w.fs c s.0 s.1 w.all_flags b, rw s.2 (n ∙ (ap (λ x. x ++ argument_of word c after) w.items ∙ append_assoc old (flags_of word w.fs) (argument_of word c after))))
 
+-- items cut back to the old length are the old ones
 pub taken_back : (old zs ys : List Arg) (n : ℕ) → n ≡ length old → zs ≡ old ++ ys → take n zs ≡ old
 taken_back old zs ys n h e = rw (e, h) (grind (arith, common_steps))
 
+-- a text that is the word for the first flag, and empty for the others
 pub first_text : (word text : List ℕ) (count : ℕ) → (count ≡ 0 → text ≡ word) → (count ≢ 0 → text ≡ []) → text ≡ (if count == 0 then word else [])
 first_text word text zero f g = f refl
 first_text word text (suc n) f g = grind (arith, nat_tests, g (λ e. absurd (omega arith)))

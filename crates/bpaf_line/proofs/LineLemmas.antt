@@ -23,9 +23,11 @@ pub record Front (known : Known) (words : List (List ℕ)) (items : List Arg) : 
   pub no_marker : HasNoMarker words
   pub spelled : SpellAll known words items
 
+-- no words in front, and no items
 pub front_none : (known : Known) → Front known [] []
 front_none known = record { no_marker = λ k d l. absurd (omega arith); spelled = record { parts = []; spelled = tt; joined = refl } }
 
+-- one word more in front, and the items that it spells
 pub front_more : (known : Known) (words : List (List ℕ)) (i : ℕ) (old new xs : List Arg) (word : List ℕ) → Front known (take i words) old → slice_get words i ≡ Some word → word ≢ codes "--"
     → Spells known word (Items xs) → new ≡ old ++ xs → Front known (take (i + 1) words) new
 front_more known words i old new xs word f at n s e =
@@ -39,6 +41,7 @@ front_more known words i old new xs word f at n s e =
       };
     })
 
+-- words with an ambiguous one behind their spelled front have no line
 pub no_line : (known : Known) (words : List (List ℕ)) (i : ℕ) (old : List Arg) (word : List ℕ) (number : ℕ) → Front known (take i words) old → slice_get words i ≡ Some word → word ≢ codes "--"
     → Spells known word (Ambiguous number) → HasNoLine known words word number
 no_line known words i old word number f at n s = record {
@@ -52,6 +55,7 @@ no_line known words i old word number f at n s = record {
   ambiguous = s;
 }
 
+-- a word that the test tells apart from `--` isn't the marker
 pub not_marker : (word : List ℕ) → false ≡ bytes_eq word (codes "--") → word ≢ codes "--"
 not_marker word h e = let t : false ≡ true = h ∙ ap (λ x. bytes_eq x (codes "--")) e in cc
 
@@ -60,5 +64,6 @@ pub texts_more : (words : List (List ℕ)) (low i : ℕ) (word : List ℕ) → A
 texts_more words low i word h at u =
     AllWithin-more IsUtf8 words low i h (λ d. subst IsUtf8 (sym (get_or_from_slice_get words i word d at)) u)
 
+-- words that are texts in front of a place and from there on are all texts
 pub texts_all : (words : List (List ℕ)) (n : ℕ) → AllWithin IsUtf8 words 0 n → AllWithin IsUtf8 words n (length words) → All IsUtf8 words
 texts_all words n f r k d l = ⊎_elim (λ b. f k d (omega arith) b) (λ a. r k d a l) (cases_lt k n)

@@ -22,6 +22,7 @@ AllZip_push R [] (b ∷ ys) x y all r = absurd all
 AllZip_push R (a ∷ xs) [] x y all r = absurd all
 AllZip_push R (a ∷ xs) (b ∷ ys) x y all r = (all.0, AllZip_push R xs ys x y all.1 r)
 
+-- the front of the next length: the front, then the member at that place
 take_suc : {X : Type 0} (xs : List X) (i : ℕ) (x : X) → slice_get xs i ≡ Some x → take (suc i) xs ≡ take i xs ++ x ∷ []
 take_suc [] i x e = cc
 take_suc (y ∷ ys) zero x e = let same : y ≡ x = cc in ap (λ z. z ∷ []) same
@@ -31,6 +32,7 @@ take_suc (y ∷ ys) (suc i) x e = ap (λ z. y ∷ z) (take_suc ys i x e)
 pub take_next : {X : Type 0} (xs : List X) (i : ℕ) (x : X) → slice_get xs i ≡ Some x → take (i + 1) xs ≡ take i xs ++ x ∷ []
 take_next xs i x e = rw add-one (take_suc xs i x e)
 
+-- what begins at a place: the member there, then what begins at the next place
 drop_suc : {X : Type 0} (xs : List X) (i : ℕ) (x : X) → slice_get xs i ≡ Some x → drop i xs ≡ x ∷ drop (suc i) xs
 drop_suc [] i x e = cc
 drop_suc (y ∷ ys) zero x e = let same : y ≡ x = cc in ap (λ z. z ∷ ys) same
@@ -40,6 +42,7 @@ drop_suc (y ∷ ys) (suc i) x e = drop_suc ys i x e
 pub drop_next : {X : Type 0} (xs : List X) (i : ℕ) (x : X) → slice_get xs i ≡ Some x → drop i xs ≡ x ∷ drop (i + 1) xs
 drop_next xs i x e = rw add-one (drop_suc xs i x e)
 
+-- a list is its front and what is behind it
 take_with_drop : {X : Type 0} (xs : List X) (i : ℕ) → xs ≡ take i xs ++ drop i xs
 take_with_drop [] zero = refl
 take_with_drop [] (suc i) = refl

@@ -18,21 +18,26 @@ pub record Rest (known : Known) (word : List ℕ) (words : List (List ℕ)) (ite
   pub rest : SpellAll known words others
   pub is : items ≡ first ++ others
 
+-- the parts that words spell: those of the first word, then those of the others
 spell_rest : (known : Known) (word : List ℕ) (words : List (List ℕ)) (items : List Arg) (parts : List (List Arg))
     → AllZip (λ w xs. Spells known w (Items xs)) (word ∷ words) parts → items ≡ flat_map (λ xs. xs) parts → Rest known word words items
 spell_rest known word words items [] z e = absurd z
 spell_rest known word words items (xs ∷ parts) z e = record { first = xs; others = flat_map (λ ys. ys) parts; spelled = z.0; rest = record { parts = parts; spelled = z.1; joined = refl }; is = e }
 
+-- the items of words are those of the first word, then those of the others
 rest_of : (known : Known) (word : List ℕ) (words : List (List ℕ)) (items : List Arg) → SpellAll known (word ∷ words) items → Rest known word words items
 rest_of known word words items s = spell_rest known word words items s.parts s.spelled s.joined
 
+-- without words there are no parts, and so no items
 nothing_by : (known : Known) (items : List Arg) (parts : List (List Arg)) → AllZip (λ w xs. Spells known w (Items xs)) [] parts → items ≡ flat_map (λ xs. xs) parts → items ≡ []
 nothing_by known items [] z e = e
 nothing_by known items (xs ∷ parts) z e = absurd z
 
+-- without words there are no items
 nothing_of : (known : Known) (items : List Arg) → SpellAll known [] items → items ≡ []
 nothing_of known items s = nothing_by known items s.parts s.spelled s.joined
 
+-- the marker's place, behind these items
 abbrev moved : List Arg → Option ℕ → Option ℕ
 moved xs p = option_map (λ n. length xs + n) p
 
@@ -47,9 +52,11 @@ pub record Later (known : Known) (word : List ℕ) (words : List (List ℕ)) (li
   pub line_is : line ≡ first ++ others
   pub marker_is : marker ≡ moved first place
 
+-- how a line begins: with `--`, and all words are PosWords, or with the first word's items
 abbrev Begins : Known → List ℕ → List (List ℕ) → List Arg → Option ℕ → Type 0
 Begins known word words line marker = ((word ≡ codes "--") × (line ≡ map PosWord (word ∷ words)) × (marker ≡ Some 0)) ⊎ Later known word words line marker
 
+-- a line without a marker begins with the items of its first word
 later_unmarked : (known : Known) (word : List ℕ) (words : List (List ℕ)) (items : List Arg) → HasNoMarker (word ∷ words) → Rest known word words items → Later known word words items None
 later_unmarked known word words items h r = record {
   not_marker = All_head (λ w. w ≢ codes "--") word words h;
@@ -62,6 +69,7 @@ later_unmarked known word words items h r = record {
   marker_is = refl;
 }
 
+-- a line with a marker begins with `--`, or with the items of its first word
 begins_marked : (known : Known) (word : List ℕ) (words before after : List (List ℕ)) (items : List Arg) → word ∷ words ≡ before ++ codes "--" ∷ after → HasNoMarker before → SpellAll known before items
     → Begins known word words (items ++ PosWord (codes "--") ∷ map PosWord after) (Some (length items))
 begins_marked known word words [] after items e h s =
@@ -84,10 +92,12 @@ begins_marked known word words (b ∷ before) after items e h s =
       marker_is = ap Some (ap length r.is ∙ length-append r.first r.others);
     })
 
+-- each line of some words begins with `--`, or with the items of the first word
 begins : (known : Known) (word : List ℕ) (words : List (List ℕ)) (line : List Arg) (marker : Option ℕ) → IsLine known (word ∷ words) line marker → Begins known word words line marker
 begins known word words line marker (unmarked items h s) = inr (later_unmarked known word words items h (rest_of known word words items s))
 begins known word words line marker (marked before after items e h s) = begins_marked known word words before after items e h s
 
+-- the line of an empty list of words is empty, and has no marker
 no_words : (known : Known) (line : List Arg) (marker : Option ℕ) → IsLine known [] line marker → (line ≡ []) × (marker ≡ None)
 no_words known line marker (unmarked items h s) = (nothing_of known items s, refl)
 no_words known line marker (marked [] after items e h s) = cc
@@ -99,9 +109,11 @@ pub record LaterNone (known : Known) (word : List ℕ) (words : List (List ℕ))
   pub spelled : Spells known word (Items first)
   pub rest : HasNoLine known words v n
 
+-- words without a line: the first isn't `--`, and is ambiguous, or the others have none
 abbrev BeginsNone : Known → List ℕ → List (List ℕ) → List ℕ → ℕ → Type 0
 BeginsNone known word words v n = (word ≢ codes "--") × (((v ≡ word) × Spells known word (Ambiguous n)) ⊎ LaterNone known word words v n)
 
+-- words cut at an ambiguous one: it is the first, or the others have no line
 begins_none_by : (known : Known) (word : List ℕ) (words : List (List ℕ)) (v : List ℕ) (n : ℕ) (before after : List (List ℕ)) (items : List Arg) → word ∷ words ≡ before ++ v ∷ after → HasNoMarker before → SpellAll known before items
     → v ≢ codes "--" → Spells known v (Ambiguous n) → BeginsNone known word words v n
 begins_none_by known word words v n [] after items e h s m a =
@@ -119,13 +131,16 @@ begins_none_by known word words v n (b ∷ before) after items e h s m a =
       }),
     )
 
+-- where words have no line, the first is ambiguous, or the others have none
 begins_none : (known : Known) (word : List ℕ) (words : List (List ℕ)) (v : List ℕ) (n : ℕ) → HasNoLine known (word ∷ words) v n → BeginsNone known word words v n
 begins_none known word words v n h = begins_none_by known word words v n h.before h.after h.items h.cut h.unmarked h.spelled h.not_marker h.ambiguous
 
+-- an empty list of words can't be cut at a word
 no_words_by : (known : Known) (v : List ℕ) (before after : List (List ℕ)) → [] ≡ before ++ v ∷ after → ⊥
 no_words_by known v [] after e = cc
 no_words_by known v (b ∷ before) after e = cc
 
+-- an empty list of words isn't without a line
 no_words_none : (known : Known) (v : List ℕ) (n : ℕ) → HasNoLine known [] v n → ⊥
 no_words_none known v n h = no_words_by known v h.before h.after h.cut
 
@@ -133,12 +148,15 @@ no_words_none known v n h = no_words_by known v h.before h.after h.cut
 same_spelling : (known : Known) (word : List ℕ) → IsUtf8 word → word ≢ codes "--" → (s t : Spelling) → Spells known word s → Spells known word t → s ≡ t
 same_spelling known word u n s t a b = let h = one_spelling known word u n in (h.only s a).1 ∙ sym (h.only t b).1
 
+-- the items that a word spells are the same each time
 same_items : (known : Known) (word : List ℕ) → IsUtf8 word → word ≢ codes "--" → (xs ys : List Arg) → Spells known word (Items xs) → Spells known word (Items ys) → xs ≡ ys
 same_items known word u n xs ys a b = let e = same_spelling known word u n (Items xs) (Items ys) a b in cc
 
+-- a word that spells items isn't ambiguous
 not_ambiguous : (known : Known) (word : List ℕ) → IsUtf8 word → word ≢ codes "--" → (xs : List Arg) (n : ℕ) → Spells known word (Items xs) → Spells known word (Ambiguous n) → ⊥
 not_ambiguous known word u n xs k a b = let e = same_spelling known word u n (Items xs) (Ambiguous k) a b in cc
 
+-- two lines of the same words are one, with one place of the marker
 one_line : (known : Known) (words : List (List ℕ)) → All IsUtf8 words → (l m : List Arg) (p q : Option ℕ) → IsLine known words l p → IsLine known words m q → (l ≡ m) × (p ≡ q)
 one_line known [] u l m p q a b = let x = no_words known l p a in let y = no_words known m q b in (x.0 ∙ sym y.0, x.1 ∙ sym y.1)
 one_line known (w ∷ ws) u l m p q a b =
@@ -152,6 +170,7 @@ one_line known (w ∷ ws) u l m p q a b =
     (begins known w ws m q b))
     (begins known w ws l p a)
 
+-- words that have a line aren't without one
 not_both : (known : Known) (words : List (List ℕ)) → All IsUtf8 words → (l : List Arg) (p : Option ℕ) (v : List ℕ) (n : ℕ) → IsLine known words l p → HasNoLine known words v n → ⊥
 not_both known [] u l p v n a b = no_words_none known v n b
 not_both known (w ∷ ws) u l p v n a b =
@@ -161,6 +180,7 @@ not_both known (w ∷ ws) u l p v n a b =
     (λ y. not_both known ws (All_tail IsUtf8 w ws u) x.others x.place v n x.rest y.rest) none.1)
     (begins known w ws l p a)
 
+-- words without a line have one first ambiguous word, and one such character in it
 one_word : (known : Known) (words : List (List ℕ)) → All IsUtf8 words → (v w : List ℕ) (m n : ℕ) → HasNoLine known words v m → HasNoLine known words w n → (v ≡ w) × (m ≡ n)
 one_word known [] u v w m n a b = absurd (no_words_none known v m a)
 one_word known (x ∷ xs) u v w m n a b =
@@ -176,9 +196,11 @@ one_word known (x ∷ xs) u v w m n a b =
 abbrev Outcome : Known → List (List ℕ) → Type 0
 Outcome known words = ((line : List Arg) × (marker : Option ℕ) × IsLine known words line marker) ⊎ ((word : List ℕ) × (number : ℕ) × HasNoLine known words word number)
 
+-- one word more in front, and its items in front of the others
 one_more : (known : Known) (word : List ℕ) (words : List (List ℕ)) (xs items : List Arg) → Spells known word (Items xs) → SpellAll known words items → SpellAll known (word ∷ words) (xs ++ items)
 one_more known word words xs items a s = record { parts = xs ∷ s.parts; spelled = (a, s.spelled); joined = ap (λ z. xs ++ z) s.joined }
 
+-- words with a line have one too with a word in front that spells items
 line_more : (known : Known) (word : List ℕ) (words : List (List ℕ)) (xs : List Arg) (line : List Arg) (marker : Option ℕ) → word ≢ codes "--" → Spells known word (Items xs) → IsLine known words line marker → Outcome known (word ∷ words)
 line_more known word words xs line marker n a (unmarked items h s) =
     inl (xs ++ items, None, unmarked (xs ++ items) (All_cons (λ w. w ≢ codes "--") word words n h) (one_more known word words xs items a s))
@@ -189,6 +211,7 @@ line_more known word words xs line marker n a (marked before after items e h s) 
       marked (word ∷ before) after (xs ++ items) (ap (λ z. word ∷ z) e) (All_cons (λ w. w ≢ codes "--") word before n h) (one_more known word before xs items a s),
     )
 
+-- words without a line have none either with a word in front that spells items
 none_more : (known : Known) (word : List ℕ) (words : List (List ℕ)) (xs : List Arg) (v : List ℕ) (k : ℕ) → word ≢ codes "--" → Spells known word (Items xs) → HasNoLine known words v k → Outcome known (word ∷ words)
 none_more known word words xs v k n a h =
     inr (
@@ -206,14 +229,17 @@ none_more known word words xs v k n a h =
       },
     )
 
+-- an empty list of words spells no items
 empty : (known : Known) → SpellAll known [] []
 empty known = record { parts = []; spelled = tt; joined = refl }
 
+-- there is a line or none with one word more in front, by what it spells
 by_spelling : (known : Known) (word : List ℕ) (words : List (List ℕ)) (s : Spelling) → word ≢ codes "--" → Spells known word s → Outcome known words → Outcome known (word ∷ words)
 by_spelling known word words (Items xs) n a o = ⊎_elim (λ l. line_more known word words xs l.0 l.1 n a l.2) (λ m. none_more known word words xs m.0 m.1 n a m.2) o
 by_spelling known word words (Ambiguous k) n a o =
     inr (word, k, record { before = []; items = []; after = words; cut = refl; unmarked = λ i d l. absurd (omega arith); spelled = empty known; not_marker = n; ambiguous = a })
 
+-- there is a line or none with one word more in front, by whether it is `--`
 by_marker : (known : Known) (word : List ℕ) (words : List (List ℕ)) (b : Bool) → bytes_eq word (codes "--") ≡ b → IsUtf8 word → Outcome known words → Outcome known (word ∷ words)
 by_marker known word words true e u o =
     let w : word ≡ codes "--" = (bytes_decides word (codes "--")).0 e in
@@ -223,9 +249,11 @@ by_marker known word words false e u o =
     let h = one_spelling known word u n in
     by_spelling known word words h.spelling n h.spells o
 
+-- words that are texts have a line, or none
 outcome : (known : Known) (words : List (List ℕ)) → All IsUtf8 words → Outcome known words
 outcome known [] u = inl ([], None, unmarked [] (λ i d l. absurd (omega arith)) (empty known))
 outcome known (w ∷ ws) u = by_marker known w ws (bytes_eq w (codes "--")) refl (All_head IsUtf8 w ws u) (outcome known ws (All_tail IsUtf8 w ws u))
 
+-- words have one line, or none and then a first ambiguous word
 pub one_lines : LinesAreUnique
 one_lines known words u = record { some = outcome known words u; one_line = one_line known words u; one_word = one_word known words u; not_both = not_both known words u }

@@ -14,6 +14,7 @@ count_below-same f g (suc n) agree =
     let below = count_below-same f g n (λ q l. agree q (omega arith)) in
     rw (agree n (omega arith), below) refl
 
+-- a count that is one fewer stays so where the next number is in both sets or in neither
 counted_one : (b : Bool) (m n : ℕ) → m + 1 ≡ n → (if b then (m + 1) else m) + 1 ≡ (if b then (n + 1) else n)
 counted_one true m n e = omega arith
 counted_one false m n e = e
@@ -59,14 +60,17 @@ open_not_taken s p there = of_and (in_scope s p) (is_taken s p) there
     of_and true false h = refl
     of_and false y h = cc
 
+-- one of two tests holds, where the second does
 or_true : (b : Bool) → (b || true) ≡ true
 or_true true = refl
 or_true false = refl
 
+-- two tests don't both hold, where the second doesn't
 and_false : (b : Bool) → (b && false) ≡ false
 and_false true = refl
 and_false false = refl
 
+-- the mark of a place that was set as taken is Taken, also past the marks
 set_there : (marks : List Mark) (p : ℕ) → slice_index_or (slice_set marks p Taken) p Taken ≡ Taken
 set_there marks p =
     ⊎_elim

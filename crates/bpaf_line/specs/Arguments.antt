@@ -8,6 +8,7 @@ use Rattle.bpaf_line.specs.declared.args.Words.{Words}
 use Rattle.bpaf_line.specs.declared.args.Words.TheVariants.{Strs, Strings}
 use Rattle.bpaf_line.specs.declared.args.Args.{Args}
 
+-- given words, by their bytes
 abbrev pub words_in : Words → List (List ℕ)
 words_in (Strs words) = map (λ w. w.now) words.now
 words_in (Strings words) = map string_bytes words.now

@@ -27,6 +27,7 @@ RefusesLine known words (Ambiguity word number) = HasNoLine known words word num
 RefusesLine known words Memory = ⊤
 RefusesLine known words m = ⊥
 
+-- `split_words`: the items of the first words, up to a `--`, and their count; or a refusal
 abbrev pub SplitsWords : Known → List (List ℕ) → Result (Vec Arg Global × ℕ) Message → Type 0
 SplitsWords known words (Ok r) = SpellsFront known words r.0.items r.1
 SplitsWords known words (Err m) = RefusesLine known words m

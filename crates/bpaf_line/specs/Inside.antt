@@ -4,6 +4,7 @@ use Rattle.std.specs.Rc.{rc_slice_items}
 use Rattle.bpaf_line.specs.declared.state.State.TheInside.{Inside}
 use Rattle.bpaf_line.specs.Situation.{Situation, open_count}
 
+-- the situation that a kept state means
 abbrev pub situation_of : Inside → Situation
 situation_of s = record {
   context = record { line = rc_slice_items s.items; env = rc_slice_items s.env; name = s.name };

@@ -39,5 +39,6 @@ pub record HasOneLineOrNone (known : Known) (words : List (List ℕ)) : Type 0 w
   pub one_word : (v w : List ℕ) (m n : ℕ) → HasNoLine known words v m → HasNoLine known words w n → (v ≡ w) × (m ≡ n)
   pub not_both : (l : List Arg) (p : Option ℕ) (w : List ℕ) (n : ℕ) → IsLine known words l p → HasNoLine known words w n → ⊥
 
+-- words that are texts have one line, or none and then a first ambiguous word
 abbrev pub LinesAreUnique : Type 0
 LinesAreUnique = (known : Known) (words : List (List ℕ)) → All IsUtf8 words → HasOneLineOrNone known words

@@ -101,6 +101,7 @@ pub data Case : Type 0 where
   JoinedWithNeither : Case
   JoinedWithBoth : Case
 
+-- the case of joined characters that holds
 abbrev pub joined_case_of : {known : Known} {word cs : List ℕ} {s : Spelling} → SpellsJoined known word cs s → Case
 joined_case_of (flags a) = JoinedFlags
 joined_case_of (argument fs c rest a b d) = JoinedWithArgument

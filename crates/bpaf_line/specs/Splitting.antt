@@ -11,6 +11,7 @@ Answers spells old (Ok u) new = (xs : List Arg) × spells (Items xs) × (new ≡
 Answers spells old (Err (Ambiguous n)) new = spells (NoItems n)
 Answers spells old (Err Memory) new = ⊤
 
+-- what the splitter answers for a word, by what the word spells
 abbrev pub Splits : Known → List ℕ → List Arg → Result (Unit {0}) SplitFault → List Arg → Type 0
 Splits known word old result new = Answers (Spells known word) old result new
 
