@@ -1,14 +1,13 @@
 -- Positional words.
-use Rattle.std.specs.Prelude.{◌≡◌, ◌⊎◌, ℕ, Bool, true, false, not, List, Result, Ok, Err, Some, option_and_then}
+use Rattle.std.specs.Prelude.{◌≡◌, ◌⊎◌, ℕ, Bool, true, false, not, List, Ok, Err, Some, option_and_then}
 use Rattle.bpaf_doc.specs.Shape.{Shape, Shown, Positional, Strict as StrictShape}
 use Rattle.bpaf_line.specs.Items.{is_positional, word_text}
 use Rattle.bpaf_line.specs.MissingIn.{missing_in}
 use Rattle.bpaf_line.specs.Situation.{Situation, Context}
 use Rattle.bpaf_line.specs.Taking.{TakesText, HasNone}
-use Rattle.bpaf_line.specs.declared.error.Error.{Error}
 use Rattle.bpaf_line.specs.declared.error.Message.{Message}
 use Rattle.bpaf_line.specs.declared.error.Message.TheVariants.{Memory, Missing, ParseFailed, StrictPos, NonStrictPos}
-use Rattle.bpaf_core.specs.Reading.{Share, Readings, Outcome, IsPlace, item_in}
+use Rattle.bpaf_core.specs.Reading.{Share, Outcome, IsPlace, item_in}
 use Rattle.bpaf_core.specs.Value.{FaultsText}
 use Rattle.bpaf.specs.declared.position.Position.{Position}
 use Rattle.bpaf.specs.declared.position.Position.TheVariants.{Unrestricted, Strict, NonStrict}

@@ -1,9 +1,7 @@
 -- Positional words keep to the laws.
-use Rattle.std.specs.Prelude.{◌≡◌, ℕ, Bool, true, ◌&&◌, List, Result, Ok, Err}
+use Rattle.std.specs.Prelude.{◌≡◌, ℕ, Bool, true, List}
 use Rattle.std.proofs.Common.{sym, subst, ⊎_elim}
-use Rattle.bpaf_line.specs.Items.{is_positional}
 use Rattle.bpaf_line.specs.Situation.{Situation, is_open}
-use Rattle.bpaf_line.specs.declared.error.Error.{Error}
 use Rattle.bpaf_line.specs.declared.error.Message.{Message}
 use Rattle.bpaf_line.specs.declared.error.Message.TheVariants.{Memory, Missing, ParseFailed, StrictPos, NonStrictPos}
 use Rattle.bpaf_line.specs.Taking.{TakesText}

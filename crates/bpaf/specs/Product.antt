@@ -1,5 +1,5 @@
 -- Products: every field is evaluated, and a constructor makes the value of theirs.
-use Rattle.std.specs.Prelude.{◌≡◌, Bool, true, false, ◌⊎◌, List, [], ◌∷◌, ◌++◌, Result, Ok, Err, None, if◌then◌else◌}
+use Rattle.std.specs.Prelude.{◌≡◌, true, false, ◌⊎◌, List, [], ◌∷◌, ◌++◌, Result, Ok, Err, None, if◌then◌else◌}
 use Rattle.std.proofs.Common.{sym, subst, inl, inr}
 use Rattle.bpaf_doc.specs.Shape.{Shape, And, members}
 use Rattle.bpaf_line.specs.Situation.{Situation, Context, with_current}

@@ -1,5 +1,5 @@
 -- Counting what an evaluation newly took.
-use Rattle.std.proofs.Common.{◌≡◌, ℕ, zero, suc, ◌+◌, Bool, true, false, not, ◌&&◌, ◌||◌, if◌then◌else◌, length, Ok, refl, sym, ap, ◌∙◌, arith, true≢false}
+use Rattle.std.proofs.Common.{◌≡◌, ℕ, zero, suc, ◌+◌, Bool, true, false, not, ◌&&◌, ◌||◌, if◌then◌else◌, length, refl, sym, ap, ◌∙◌, arith, true≢false}
 use Rattle.bpaf_line.specs.Situation.{Situation, is_taken, is_open, in_scope, count_below, open_count}
 use Rattle.bpaf_core.specs.Reading.{Outcome, Readings, Joins}
 use Rattle.bpaf_core.specs.Laws.{Keeps, Closes, Lawful, newly}

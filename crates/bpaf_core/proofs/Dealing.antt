@@ -1,5 +1,5 @@
 -- What a run accepts is dealt out of its words.
-use Rattle.std.proofs.Common.{◌≡◌, ℕ, zero, suc, ◌+◌, ◌<◌, Bool, true, false, not, ◌&&◌, if◌then◌else◌, length, List, Option, Result, Ok, Err, IfOk, refl, sym, subst, ap, ◌∙◌, arith, true≢false, nat_lt, ⊎_elim}
+use Rattle.std.proofs.Common.{◌≡◌, ℕ, zero, suc, ◌+◌, ◌<◌, Bool, true, false, not, ◌&&◌, if◌then◌else◌, length, List, Option, Result, Ok, Err, IfOk, refl, sym, subst, ap, arith, true≢false, nat_lt, ⊎_elim}
 use Rattle.std.proofs.lemmas.Bool.{cases_eq}
 use Rattle.std.proofs.lemmas.Bool.Decides.{nat_tests}
 use mathlib.Core.Path.{fun_ext}
@@ -12,8 +12,8 @@ use Rattle.bpaf_line.specs.Line.{IsLine}
 use Rattle.bpaf_line.specs.Situation.{Situation, Context, beginning, is_taken, is_open, in_scope, is_marker, is_dealt_place, count_below, open_count}
 use Rattle.bpaf_line.proofs.Beginning.{taken_at_beginning}
 use Rattle.bpaf_core.specs.Reading.{Readings, Outcome, Share}
-use Rattle.bpaf_core.specs.Laws.{Lawful, Reads, Keeps, Closes, newly}
-use Rattle.bpaf_core.specs.Run.{Given, context_in, Runs, RunsShown, RunsWords, value, leftover, refused, ran, no_line, shown, no_memory}
+use Rattle.bpaf_core.specs.Laws.{Lawful, Keeps, Closes, newly}
+use Rattle.bpaf_core.specs.Run.{Given, context_in, Runs, RunsShown, RunsWords, value, ran, shown}
 use Rattle.bpaf_core.specs.Dealt.{IsDealtOut}
 
 -- a count of nothing counts neither this number nor any before it

@@ -1,5 +1,5 @@
 -- How the answers of a run, and of an argument, are put together.
-use Rattle.std.proofs.Common.{◌≡◌, ◌==◌, ℕ, ◌<◌, Bool, true, false, List, Option, Result, Ok, Err, ⊎_elim, inl, inr, subst, sym, refl, true≢false}
+use Rattle.std.proofs.Common.{◌≡◌, ◌==◌, ℕ, ◌<◌, Bool, true, false, List, Result, Ok, Err, ⊎_elim, inr, subst, sym, refl, true≢false}
 use Rattle.std.proofs.lemmas.Bool.Decides.{nat_tests}
 use Rattle.std.proofs.Common.{arith}
 use Rattle.bpaf_text.specs.Named.{Named}
@@ -7,7 +7,6 @@ use Rattle.bpaf_line.specs.declared.error.Error.{Error}
 use Rattle.bpaf_line.specs.declared.error.Message.{Message}
 use Rattle.bpaf_line.specs.declared.error.Message.TheVariants.{Memory, ParseFailed, Ambiguity}
 use Rattle.bpaf_line.specs.declared.failure.ParseFailure.{ParseFailure}
-use Rattle.bpaf_line.specs.declared.failure.ParseFailure.TheVariants as failure
 use Rattle.bpaf_line.specs.Situation.{Situation}
 use Rattle.bpaf_line.specs.Taking.{TakesValue}
 use Rattle.bpaf_line.specs.Constructing.{Constructs, RefusesLine}

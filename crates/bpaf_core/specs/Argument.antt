@@ -1,15 +1,14 @@
 -- Arguments: a key and the text behind it.
-use Rattle.std.specs.Prelude.{◌≡◌, ◌⊎◌, ℕ, ◌+◌, Bool, false, List, Result, Ok, Err, Option, Some, option_and_then}
+use Rattle.std.specs.Prelude.{◌≡◌, ◌⊎◌, ℕ, ◌+◌, false, List, Ok, Err, Some, option_and_then}
 use Rattle.std.specs.Option.{option_map_or}
 use Rattle.bpaf_doc.specs.Shape.{Shape, Shown, Skip}
 use Rattle.bpaf_text.specs.Named.{Named, argument_part}
 use Rattle.bpaf_line.specs.Items.{is_argument_key, value_text}
 use Rattle.bpaf_line.specs.Situation.{Situation, Context}
 use Rattle.bpaf_line.specs.Taking.{TakesValue, RefusesArgument, HasNone}
-use Rattle.bpaf_line.specs.declared.error.Error.{Error}
 use Rattle.bpaf_line.specs.declared.error.Message.{Message}
 use Rattle.bpaf_line.specs.declared.error.Message.TheVariants.{Memory, Missing, ParseFailed, NoArgument}
-use Rattle.bpaf_core.specs.Reading.{Share, Readings, Outcome, IsPair, HasItem, item_in}
+use Rattle.bpaf_core.specs.Reading.{Share, Outcome, IsPair, HasItem, item_in}
 use Rattle.bpaf_line.specs.MissingIn.{missing_in}
 use Rattle.bpaf_core.specs.Value.{FaultsText}
 

@@ -1,13 +1,12 @@
 -- Arguments keep to the laws.
-use Rattle.std.specs.Prelude.{◌≡◌, ◌≢◌, ℕ, ◌+◌, Bool, true, false, not, ◌&&◌, List, Result, Ok, Err, Option, Some, None, option_and_then, if◌then◌else◌, refl}
+use Rattle.std.specs.Prelude.{◌≡◌, ◌≢◌, ℕ, ◌+◌, Bool, true, false, not, ◌&&◌, List, Option, Some, None, option_and_then, if◌then◌else◌, refl}
 use Rattle.std.proofs.Common.{sym, subst, ap, ◌∙◌, ⊎_elim, arith}
 use Rattle.bpaf_doc.specs.Names.{Names}
 use Rattle.bpaf_text.specs.Named.{Named}
-use Rattle.bpaf_line.specs.Items.{is_argument_key, value_text}
-use Rattle.bpaf_line.specs.Situation.{Situation, is_open, is_taken, in_scope, item_at, take_place}
-use Rattle.bpaf_line.specs.Taking.{TakesValue, value_after}
+use Rattle.bpaf_line.specs.Items.{value_text}
+use Rattle.bpaf_line.specs.Situation.{Situation, is_open, in_scope, item_at, take_place}
+use Rattle.bpaf_line.specs.Taking.{TakesValue}
 use Rattle.bpaf_line.proofs.Places.{taken_other}
-use Rattle.bpaf_line.specs.declared.error.Error.{Error}
 use Rattle.bpaf_line.specs.declared.error.Message.{Message}
 use Rattle.bpaf_line.specs.declared.error.Message.TheVariants.{Memory, Missing, ParseFailed, NoArgument}
 use Rattle.bpaf_core.specs.Reading.{Readings}

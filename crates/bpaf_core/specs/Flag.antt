@@ -1,15 +1,14 @@
 -- Flags, with an absent value or without.
-use Rattle.std.specs.Prelude.{◌≡◌, ◌⊎◌, ℕ, Bool, true, false, Result, Ok, Err, Option, Some, None}
+use Rattle.std.specs.Prelude.{◌≡◌, ◌⊎◌, ℕ, Bool, true, false, Ok, Err, Option, Some, None}
 use Rattle.std.specs.Option.{option_map_or}
 use Rattle.bpaf_doc.specs.Shape.{Shape, Optional, Shown, Skip}
 use Rattle.bpaf_text.specs.Named.{Named, flag_part}
 use Rattle.bpaf_line.specs.Items.{is_key_of}
 use Rattle.bpaf_line.specs.Situation.{Situation, Context}
 use Rattle.bpaf_line.specs.Taking.{TakesFlag}
-use Rattle.bpaf_line.specs.declared.error.Error.{Error}
 use Rattle.bpaf_line.specs.declared.error.Message.{Message}
 use Rattle.bpaf_line.specs.declared.error.Message.TheVariants.{Memory, Missing}
-use Rattle.bpaf_core.specs.Reading.{Share, Readings, Outcome, IsEmptyShare, IsPlace, HasItem}
+use Rattle.bpaf_core.specs.Reading.{Share, Outcome, IsEmptyShare, IsPlace, HasItem}
 use Rattle.bpaf_line.specs.MissingIn.{missing_in}
 
 -- a value that a flag gives where its key is absent: a clone of the absent value, where there is one

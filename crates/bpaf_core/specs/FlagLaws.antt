@@ -1,12 +1,10 @@
 -- Flags keep to the laws.
-use Rattle.std.specs.Prelude.{◌≡◌, ℕ, Bool, true, false, ◌&&◌, Result, Ok, Err, Option, refl}
+use Rattle.std.specs.Prelude.{◌≡◌, Bool, true, false, ◌&&◌, Option, refl}
 use Rattle.std.proofs.Common.{sym, subst, ⊎_elim}
 use Rattle.bpaf_doc.specs.Names.{Names}
 use Rattle.bpaf_text.specs.Named.{Named}
-use Rattle.bpaf_line.specs.Items.{is_key_of}
 use Rattle.bpaf_line.specs.Situation.{Situation, is_open}
 use Rattle.bpaf_line.specs.Taking.{TakesFlag}
-use Rattle.bpaf_line.specs.declared.error.Error.{Error}
 use Rattle.bpaf_line.specs.declared.error.Message.{Message}
 use Rattle.bpaf_line.specs.declared.error.Message.TheVariants.{Memory, Missing}
 use Rattle.bpaf_core.specs.Reading.{Readings}

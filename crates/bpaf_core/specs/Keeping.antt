@@ -1,6 +1,6 @@
 -- How what evaluations keep is put together. No combinator builds a `Keeps` of its own: it goes through
 -- these lemmas and one for each call of a state, so that a clause can be added to the laws here.
-use Rattle.std.specs.Prelude.{◌≡◌, ◌≢◌, ℕ, ◌+◌, ◌==◌, Bool, true, false, not, ◌&&◌, ◌||◌, List, [], ◌++◌, Result, Ok, Err, Option, Some, refl}
+use Rattle.std.specs.Prelude.{◌≡◌, ◌≢◌, ℕ, ◌+◌, ◌==◌, Bool, true, false, not, ◌&&◌, ◌||◌, [], ◌++◌, Result, Ok, Err, Option, refl}
 use Rattle.std.proofs.Common.{sym, ◌∙◌, ap, subst, append_assoc, append-nil, arith, ⊎_elim, true≢false}
 use Rattle.std.proofs.lemmas.Bool.{cases_eq}
 use Rattle.std.proofs.lemmas.Bool.Decides.{nat_tests}
@@ -8,7 +8,7 @@ use Rattle.bpaf_line.specs.Situation.{Situation, is_taken, is_open, in_scope, ta
 use Rattle.bpaf_line.proofs.Places.{taken_here, taken_other, open_not_taken}
 use Rattle.bpaf_line.specs.declared.error.Error.{Error}
 use Rattle.bpaf_core.specs.Reading.{Readings, Outcome, Joins, IsEmptyShare, IsPlace, IsPair}
-use Rattle.bpaf_core.specs.Laws.{Extends, Keeps, Closes, Lawful, newly}
+use Rattle.bpaf_core.specs.Laws.{Keeps, Closes, Lawful, newly}
 
 -- what an evaluation keeps, whatever it answers
 pub keeps_of : {T : Type 0} {outcome : Outcome T} {reads : Readings T} → Lawful T outcome reads → (s : Situation) (r : Result T Error) (t : Situation) → outcome s r t → Keeps s t

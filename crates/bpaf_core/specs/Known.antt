@@ -1,5 +1,5 @@
 -- The known short names of a run, by which joined words are read.
-use Rattle.std.specs.Prelude.{◌≡◌, List, [], ◌∷◌, ◌++◌, codes}
+use Rattle.std.specs.Prelude.{[], ◌∷◌, ◌++◌, codes}
 use Rattle.bpaf_doc.specs.Shape.{Shape}
 use Rattle.bpaf_doc.specs.Walks.{flag_shorts, argument_shorts}
 use Rattle.bpaf_line.specs.Spelling.{Known}

@@ -1,5 +1,5 @@
 -- What every parser keeps to, whatever it parses.
-use Rattle.std.specs.Prelude.{◌≡◌, ℕ, Bool, true, false, not, ◌&&◌, List, ◌++◌, Result, Ok, Err}
+use Rattle.std.specs.Prelude.{◌≡◌, ℕ, true, false, not, ◌&&◌, List, ◌++◌, Ok, Err}
 use Rattle.bpaf_line.specs.Situation.{Situation, is_taken, is_open, in_scope}
 use Rattle.bpaf_line.specs.declared.error.Error.{Error}
 use Rattle.bpaf_core.specs.Reading.{Share, Readings, Outcome}

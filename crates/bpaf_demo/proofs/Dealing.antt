@@ -1,5 +1,5 @@
 -- From what a run says of the record's parser to options that are dealt out of the words.
-use Rattle.std.proofs.Common.{◌≡◌, ℕ, Bool, true, false, List, [], ◌∷◌, Option, Some, None, Result, Ok, Err, IfOk, codes, sym, subst, ap, ◌∙◌, refl}
+use Rattle.std.proofs.Common.{◌≡◌, ℕ, Bool, true, false, List, [], ◌∷◌, Option, Some, Result, Ok, Err, IfOk, codes, sym, subst, ap, ◌∙◌}
 use Rattle.bpaf_text.specs.Named.{Named}
 use Rattle.bpaf_text.specs.Meaning.{SpellsUnsigned}
 use Rattle.bpaf_line.specs.declared.failure.ParseFailure.{ParseFailure}

@@ -1,8 +1,7 @@
 -- Options that are dealt out of the words, and what a run of the program does.
-use Rattle.std.specs.Prelude.{◌≡◌, ◌⊎◌, ℕ, Bool, true, false, List, [], ◌∷◌, Option, Some, codes}
+use Rattle.std.specs.Prelude.{◌⊎◌, ℕ, Bool, true, false, List, [], ◌∷◌, Option, Some, codes}
 use Rattle.std.specs.Io.KnownBytes.{Keeps, Appends}
 use Rattle.bpaf_doc.specs.Names.{Names}
-use Rattle.bpaf_text.specs.Named.{Named}
 use Rattle.bpaf_text.specs.Meaning.{SpellsUnsigned}
 use Rattle.bpaf_line.specs.declared.arg.Arg.{Arg}
 use Rattle.bpaf_line.specs.Items.{is_key_of}

@@ -1,5 +1,5 @@
 -- What a parser shows of itself, as contracts see it: a tree without addresses and room.
-use Rattle.std.specs.Prelude.{ℕ, List, [], ◌∷◌, Option, Some, None, map}
+use Rattle.std.specs.Prelude.{ℕ, List, [], ◌∷◌, Option, Some, None}
 use Rattle.bpaf_doc.specs.declared.meta.ShortLong.{ShortLong}
 use Rattle.bpaf_doc.specs.declared.meta.ShortLong.TheVariants as short_long
 use Rattle.bpaf_doc.specs.declared.meta.Item.{Item}

@@ -1,5 +1,5 @@
 -- How a run begins: its line, and a sound state.
-use Rattle.std.proofs.Common.{◌≡◌, ℕ, zero, suc, ◌+◌, ◌-◌, ◌<◌, ◌≤◌, Bool, true, false, List, [], ◌++◌, length, take, drop, map, add-one, refl, ap, sym, ◌∙◌, subst, arith, append-nil, codes, Some, None, Option, IfSome, slice_get, get_or, replicate, length-set, length-append, length-drop, nat_lt, is_some, option_to_list, not, ◌≢◌, ⊎_elim}
+use Rattle.std.proofs.Common.{◌≡◌, ℕ, ◌+◌, ◌-◌, ◌<◌, ◌≤◌, Bool, true, false, List, [], ◌++◌, length, take, drop, map, refl, ap, sym, ◌∙◌, subst, arith, append-nil, codes, Some, None, Option, IfSome, slice_get, get_or, replicate, length-set, length-append, length-drop, nat_lt, is_some, option_to_list, not, ◌≢◌, ⊎_elim}
 use Rattle.std.specs.Bool.{then_some}
 use Rattle.std.specs.Int.{from_bool}
 use Rattle.std.proofs.lemmas.List.{length-map}
@@ -15,7 +15,7 @@ use Rattle.bpaf_line.specs.declared.state.State.TheInside.{Inside}
 use Rattle.bpaf_line.specs.Spelling.{Known}
 use Rattle.bpaf_line.specs.Line.{IsLine, unmarked, marked}
 use Rattle.bpaf_line.specs.Constructing.{SpellsFront}
-use Rattle.bpaf_line.specs.Situation.{Context, beginning, first_marks, open_count, is_open, is_taken, is_dealt_place, count_below, take_place}
+use Rattle.bpaf_line.specs.Situation.{Context, beginning, first_marks, open_count, is_open, is_taken, is_dealt_place, take_place}
 use Rattle.bpaf_line.specs.Inside.{situation_of, IsSound}
 use Rattle.bpaf_line.proofs.Lists.{cut_at, drop_next}
 use Rattle.std.proofs.lemmas.Bool.{cases_lt, cases_eq}

@@ -1,9 +1,9 @@
 -- Lines: a word more.
-use Rattle.std.proofs.Common.{◌≡◌, ◌≢◌, ℕ, zero, suc, ◌+◌, List, [], ◌∷◌, ◌++◌, take, drop, map, refl, ap, sym, ◌∙◌, arith, append_assoc, append-nil, codes, Some, slice_get, add-one, bytes_eq, true, false, IsUtf8, ⊎_elim, subst, length, ◌<◌, ◌≤◌, All}
+use Rattle.std.proofs.Common.{◌≡◌, ◌≢◌, ℕ, ◌+◌, List, [], ◌∷◌, ◌++◌, take, drop, map, refl, ap, sym, ◌∙◌, arith, append_assoc, append-nil, codes, Some, slice_get, bytes_eq, true, false, IsUtf8, ⊎_elim, subst, length, All}
 use Rattle.std.proofs.lemmas.Bool.{cases_lt}
 use Rattle.std.proofs.lemmas.Option.{get_or_from_slice_get}
 use Rattle.std.proofs.lemmas.List.Elements.{AllWithin-more}
-use Rattle.std.specs.List.{AllZip, flat_map, AllWithin}
+use Rattle.std.specs.List.{flat_map, AllWithin}
 use Rattle.std.proofs.lemmas.Grind.{flat_map-append}
 use Rattle.std.proofs.lemmas.List.Elements.{All-push}
 use Rattle.bpaf_line.specs.declared.arg.Arg.{Arg}

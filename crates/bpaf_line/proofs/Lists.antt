@@ -1,5 +1,5 @@
 -- Lists: what std's lemmas lack.
-use Rattle.std.proofs.Common.{◌≡◌, ◌∙◌, ℕ, zero, suc, ◌+◌, List, [], ◌∷◌, ◌++◌, length, take, drop, refl, ap, arith, Some, slice_get, add-one, All}
+use Rattle.std.proofs.Common.{◌≡◌, ◌∙◌, ℕ, zero, suc, ◌+◌, List, [], ◌∷◌, ◌++◌, take, drop, refl, ap, arith, Some, slice_get, add-one, All}
 use Rattle.std.specs.List.{AllZip}
 
 -- what holds of all members holds of the first

@@ -1,12 +1,12 @@
 -- Words have one line, or none and then a first ambiguous word.
-use Rattle.std.proofs.Common.{◌≡◌, ◌≢◌, ◌⊎◌, inl, inr, ⊎_elim, ℕ, zero, suc, ◌+◌, ◌<◌, List, [], ◌∷◌, ◌++◌, length, map, codes, refl, ap, sym, ◌∙◌, subst, arith, append_assoc, append-nil, None, Some, Option, All, IsUtf8, length-append, Bool, true, false, bytes_eq, zero-add, add-zero}
+use Rattle.std.proofs.Common.{◌≡◌, ◌≢◌, ◌⊎◌, inl, inr, ⊎_elim, ℕ, ◌+◌, List, [], ◌∷◌, ◌++◌, length, map, codes, refl, ap, sym, ◌∙◌, subst, arith, append_assoc, None, Some, Option, All, IsUtf8, length-append, Bool, true, false, bytes_eq}
 use Rattle.std.specs.Option.{option_map}
 use Rattle.std.specs.Cmp.Lexicographic.{bytes_decides}
 use Rattle.std.specs.List.{AllZip, flat_map}
 use Rattle.bpaf_line.specs.declared.arg.Arg.{Arg}
 use Rattle.bpaf_line.specs.declared.arg.Arg.TheVariants.{PosWord}
-use Rattle.bpaf_line.specs.Spelling.{Known, Spelling, Items, Ambiguous, Spells, HasOneSpelling}
-use Rattle.bpaf_line.specs.Line.{SpellAll, HasNoMarker, IsLine, HasNoLine, unmarked, marked, HasOneLineOrNone, LinesAreUnique}
+use Rattle.bpaf_line.specs.Spelling.{Known, Spelling, Items, Ambiguous, Spells}
+use Rattle.bpaf_line.specs.Line.{SpellAll, HasNoMarker, IsLine, HasNoLine, unmarked, marked, LinesAreUnique}
 use Rattle.bpaf_line.proofs.OneSpelling.{one_spelling}
 use Rattle.bpaf_line.proofs.Lists.{All_head, All_tail, All_cons}
 

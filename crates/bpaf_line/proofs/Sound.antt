@@ -1,16 +1,15 @@
 -- Steps that keep a state sound.
-use Rattle.std.proofs.Common.{◌≡◌, ℕ, ◌+◌, ◌-◌, ◌<◌, ◌≤◌, true, length, arith, Some, length-set, sym, ap, List, get_or, subst, refl, map, string_bytes, IfSome, slice_get, ◌∙◌}
+use Rattle.std.proofs.Common.{◌≡◌, ℕ, ◌+◌, ◌-◌, ◌<◌, ◌≤◌, true, length, arith, Some, length-set, ap, List, get_or, ◌∙◌}
 use Rattle.std.specs.Vec.{with_item}
 use Rattle.bpaf_line.specs.declared.state.Mark.TheVariants.{Taken}
 use Rattle.bpaf_line.specs.declared.state.State.TheInside.{Inside}
-use Rattle.bpaf_line.specs.Situation.{is_open, open_count}
+use Rattle.bpaf_line.specs.Situation.{is_open}
 use Rattle.bpaf_line.specs.Inside.{situation_of, IsSound}
 use Rattle.bpaf_line.specs.declared.arg.Arg.{Arg}
 use Rattle.bpaf_line.specs.Items.{value_text}
 use Rattle.bpaf_line.specs.Taking.{value_after}
 use Rattle.std.specs.Rc.{rc_slice_items}
 use Rattle.bpaf_line.proofs.Places.{open_count-take_place, open_in_scope}
-use Rattle.std.proofs.lemmas.Bool.Decides.{nat_tests}
 use Rattle.bpaf_line.proofs.Items.{value_is}
 
 -- where a place is open, the count of those left isn't nothing

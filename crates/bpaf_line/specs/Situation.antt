@@ -1,7 +1,7 @@
 -- A parse in progress, as contracts see it: the line, which of its places are taken, and the scope.
 -- The layers above speak by `item_at`, `is_taken`, `in_scope`, `is_open`, `open_count` and the steps
 -- `take_place`, `with_current`, `beginning` alone, so that the marks may be kept otherwise.
-use Rattle.std.specs.Prelude.{ℕ, ◌+◌, ◌==◌, Bool, true, false, not, ◌&&◌, ◌||◌, List, [], ◌∷◌, ◌++◌, length, Option, Some, None, zero, suc, nat_lt, nat_le, if◌then◌else◌, slice_get, slice_index_or, slice_set, replicate, option_to_list}
+use Rattle.std.specs.Prelude.{ℕ, ◌+◌, ◌==◌, Bool, true, false, not, ◌&&◌, ◌||◌, List, length, Option, Some, None, zero, suc, nat_lt, nat_le, if◌then◌else◌, slice_get, slice_index_or, slice_set, replicate, option_to_list}
 use Rattle.bpaf_line.specs.declared.arg.Arg.{Arg}
 use Rattle.bpaf_line.specs.declared.state.Mark.{Mark}
 use Rattle.bpaf_line.specs.declared.state.Mark.TheVariants.{Present, Taken}

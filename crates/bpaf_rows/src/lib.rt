@@ -7,6 +7,8 @@
 #[cfg(test)]
 mod flags;
 #[cfg(test)]
+mod forms;
+#[cfg(test)]
 mod products;
 #[cfg(test)]
 mod words;

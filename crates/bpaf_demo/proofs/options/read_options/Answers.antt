@@ -1,4 +1,4 @@
-use Rattle.std.proofs.Common.{rules, ap}
+use Rattle.std.proofs.Common.{rules}
 use Rattle.bpaf_core.specs.Run.{given_of}
 use Rattle.bpaf_demo.proofs.Dealing.{answer_dealt}
 use Rattle.bpaf_demo.proofs.options.read_options.Goals as goal
