@@ -53,7 +53,9 @@ fn ambiguous(alloc: Global, words: &[&str]) -> Result<bool, AllocError> {
 
 /// The text of an argument of this name.
 fn text(alloc: Global, name: char, words: &[&str]) -> Result<Option<String>, AllocError> {
-    let options = short(alloc, name)?.argument::<String>("S").to_options(alloc)?;
+    let options = short(alloc, name)?
+        .argument::<String>("S")
+        .to_options(alloc)?;
     Ok(options.run_inner(Args::from(words)).ok())
 }
 
