@@ -72,7 +72,7 @@ fn non_strict(alloc: Global, words: &[&str]) -> Result<Option<String>, AllocErro
 }
 
 /// Two words in a struct.
-fn pair(alloc: Global, words: &[&str]) -> Result<Option<String>, AllocError> {
+fn two_words(alloc: Global, words: &[&str]) -> Result<Option<String>, AllocError> {
     let a = positional::<String>("A");
     let b = positional::<String>("B");
     let options = construct!(Pair { a, b }).to_options(alloc)?;
@@ -142,8 +142,8 @@ fn strict_word_behind_marker(rt: HostRuntime) -> Result<(), Fail> {
 #[test]
 fn words_on_both_sides_of_marker(rt: HostRuntime) -> Result<(), Fail> {
     let a = rt.alloc();
-    assert!(rt; is(pair(a, &["x", "--", "-y"])?, "x -y"));
-    assert!(rt; pair(a, &["x"])?.is_none());
+    assert!(rt; is(two_words(a, &["x", "--", "-y"])?, "x -y"));
+    assert!(rt; two_words(a, &["x"])?.is_none());
     Ok(())
 }
 
