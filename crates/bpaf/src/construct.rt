@@ -7,7 +7,9 @@
 /// | `construct!(Name(a, b))` | a struct with numbered fields, or a variant, as in `Command::Run(a, b)` |
 /// | `construct!(a)` | what `a` parses: it is that parser itself |
 ///
-/// A name may be a path, such as `self::One(a, b)`; a leading `::` is dropped. A trailing comma may stand. There are as many fields as one likes.
+/// A name may be a path, such as `self::One(a, b)`; a leading `::` is dropped. A trailing comma may
+/// stand. One call takes up to some fifty fields, where the compiler's own limit lies; a product may
+/// itself be a field.
 ///
 /// A field is one of these, and they are evaluated in the order in which they are written:
 ///
@@ -25,9 +27,13 @@
 /// });
 /// ```
 ///
-/// `construct!(a(expression))` alone is a value by the name `a`, since a constructor is read before a field; with a trailing comma it is one field.
+/// `construct!(a(expression))` alone is a value by the name `a`, since a constructor is read before a
+/// field; with a trailing comma it is one field.
 ///
-/// bpaf's macro makes a closure over the parsers, and evaluates them in it. This one makes a product, [`ParseCon`](crate::ParseCon) over nested [`Both`](crate::Both) and [`Last`](crate::Last), and a closure for the constructor alone: so what the whole parses follows from what its fields do. The two have the same forms, but for a choice and a value without fields, which are not here yet.
+/// bpaf's macro makes a closure over the parsers, and evaluates them in it. This one makes a product,
+/// [`ParseCon`](crate::ParseCon) over nested [`Both`](crate::Both) and [`Last`](crate::Last), and a
+/// closure for the constructor alone: so what the whole parses follows from what its fields do. The two
+/// have the same forms, but for a choice and a value without fields, which are not here yet.
 #[macro_export]
 macro_rules! construct {
     // construct!(Name { a, b })

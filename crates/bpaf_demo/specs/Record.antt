@@ -52,6 +52,6 @@ pub record Succeeds (words : List (List ℕ)) (out out_after err err_after : Opt
   pub dealt : IsDealtOptions words options
   pub printed : Appends out out_after (lines options)
 
--- status 1: nothing on the writer, or there are such options, and a write failed
+-- status 1: nothing on the writer, or there are such options
 abbrev pub Fails : List (List ℕ) → Option (List ℕ) → Option (List ℕ) → Type 0
 Fails words out out_after = Keeps out out_after ⊎ ((v : Options) × IsDealtOptions words v)
