@@ -1,12 +1,12 @@
 -- What a parser shows of itself, as contracts see it: a tree without addresses and room.
-use Rattle.std.specs.Prelude.{ℕ, List, [], ◌∷◌, Option, Some, None}
-use Rattle.bpaf_doc.specs.declared.meta.ShortLong.{ShortLong}
-use Rattle.bpaf_doc.specs.declared.meta.ShortLong.TheVariants as short_long
-use Rattle.bpaf_doc.specs.declared.meta.Item.{Item}
-use Rattle.bpaf_doc.specs.declared.meta.Item.TheVariants as item
+use Rattle.std.specs.Prelude.{ℕ, Bool, List, [], ◌∷◌, Option, Some, None}
+use Rattle.bpaf_doc.specs.declared.doc.Piece.{Piece}
+use Rattle.bpaf_doc.specs.declared.item.ShortLong.{ShortLong}
+use Rattle.bpaf_doc.specs.declared.item.ShortLong.TheVariants as short_long
+use Rattle.bpaf_doc.specs.declared.item.Item.{Item}
+use Rattle.bpaf_doc.specs.declared.item.Item.TheOpen.{Item-F, Meta-F}
+use Rattle.bpaf_doc.specs.declared.item.Item.TheFolds.{fold-Item, fold-Meta}
 use Rattle.bpaf_doc.specs.declared.meta.Meta.{Meta}
-use Rattle.bpaf_doc.specs.declared.meta.Meta.TheOpen.{Meta-F}
-use Rattle.bpaf_doc.specs.declared.meta.Meta.TheFolds.{fold-Meta}
 use Rattle.bpaf_doc.specs.Names.{Names}
 
 -- the names that are shown: a short one, a long one, or both
@@ -15,24 +15,34 @@ pub data Name : Type 0 where
   Long : List ℕ → Name
   Both : ℕ → List ℕ → Name
 
--- one flag with its short names, one argument with these and its metavar, or one word with its metavar
-pub data Part : Type 0 where
-  Flag : Name → List ℕ → Part
-  Argument : Name → List ℕ → List ℕ → Part
-  Positional : List ℕ → Part
-
 mutual
+  -- one item, or items joined
   pub data Shape : Type 0 where
     And : Shapes → Shape
+    Or : Shapes → Shape
     Optional : Shape → Shape
+    Required : Shape → Shape
+    Adjacent : Shape → Shape
+    Many : Shape → Shape
     Strict : Shape → Shape
+    Subsection : Shape → List Piece → Shape
+    Suffix : Shape → List Piece → Shape
+    CustomUsage : Shape → List Piece → Shape
     Shown : Part → Shape
     Skip : Shape
 
-  -- the members of an And
+  -- the members of an And or an Or
   pub data Shapes : Type 0 where
     none : Shapes
     ◌then◌ : Shape → Shapes → Shapes
+
+  -- one item, its fields in the item's order
+  pub data Part : Type 0 where
+    Any : List Piece → Option (List Piece) → Bool → Part
+    Positional : List ℕ → Option (List Piece) → Part
+    Command : List ℕ → Option ℕ → Option (List Piece) → Shape → Part
+    Flag : Name → List ℕ → Option (List ℕ) → Option (List Piece) → Part
+    Argument : Name → List ℕ → List ℕ → Option (List ℕ) → Option (List Piece) → Part
 
 infixr 5 ◌then◌
 -- a list of shapes as members
@@ -46,23 +56,36 @@ name_of (short_long.Short c) = Short c
 name_of (short_long.Long text) = Long text
 name_of (short_long.Both c text) = Both c text
 
--- the part that an item of the program is
-abbrev pub part_of : Item → Part
-part_of (item.Flag name shorts) = Flag (name_of name) shorts.items
-part_of (item.Argument name shorts metavar) = Argument (name_of name) shorts.items metavar
-part_of (item.Positional metavar) = Positional metavar
+-- one item, with what a command shows in its place
+abbrev pub part_layer : Item-F Part Shape → Part
+part_layer (Item-F.Any metavar help anywhere) = Any metavar help anywhere
+part_layer (Item-F.Positional metavar help) = Positional metavar help
+part_layer (Item-F.Command name short help inner) = Command name short help inner.value
+part_layer (Item-F.Flag name shorts env help) = Flag (name_of name) shorts.items env help
+part_layer (Item-F.Argument name shorts metavar env help) = Argument (name_of name) shorts.items metavar env help
 
 -- one layer of a meta, with what its children show in their places
-abbrev pub shape_layer : Meta-F Shape → Shape
+abbrev pub shape_layer : Meta-F Part Shape → Shape
 shape_layer (Meta-F.And all) = And (members all.items)
+shape_layer (Meta-F.Or all) = Or (members all.items)
 shape_layer (Meta-F.Optional inner) = Optional inner.value
+shape_layer (Meta-F.Required inner) = Required inner.value
+shape_layer (Meta-F.Adjacent inner) = Adjacent inner.value
+shape_layer (Meta-F.Many inner) = Many inner.value
 shape_layer (Meta-F.Strict inner) = Strict inner.value
-shape_layer (Meta-F.Item part) = Shown (part_of part)
+shape_layer (Meta-F.Subsection inner title) = Subsection inner.value title
+shape_layer (Meta-F.Suffix inner text) = Suffix inner.value text
+shape_layer (Meta-F.CustomUsage inner text) = CustomUsage inner.value text
+shape_layer (Meta-F.Item part) = Shown part
 shape_layer Meta-F.Skip = Skip
+
+-- the part that an item of the program is
+abbrev pub part_of : Item → Part
+part_of = fold-Item Part Shape part_layer shape_layer
 
 -- the shape that a meta of the program is
 abbrev pub shape_of : Meta → Shape
-shape_of = fold-Meta Shape shape_layer
+shape_of = fold-Meta Part Shape part_layer shape_layer
 
 -- the first short and the first long name; none where there is neither
 abbrev pub first_names : List ℕ → List (List ℕ) → Option Name

@@ -1,34 +1,44 @@
 -- The walks over what a parser shows.
 use Rattle.std.specs.Prelude.{ℕ, List, [], ◌∷◌, ◌++◌}
 use Rattle.std.specs.List.{flat_map}
-use Rattle.bpaf_doc.specs.Shape.{Shape, Shapes, Part, And, Optional, Strict, Shown, Skip, none, ◌then◌, Flag, Argument, Positional}
+use Rattle.bpaf_doc.specs.Shape.{Shape, Shapes, Part, And, Or, Optional, Required, Adjacent, Many, Strict, Subsection, Suffix, CustomUsage, Shown, Skip, none, ◌then◌, Command, Flag, Argument}
 
--- all parts in order
+-- all parts in order, those inside commands too
 abbrev mutual
   -- the parts of a shape
   pub parts : Shape → List Part
   parts (And all) = parts_of_all all
+  parts (Or all) = parts_of_all all
   parts (Optional inner) = parts inner
+  parts (Required inner) = parts inner
+  parts (Adjacent inner) = parts inner
+  parts (Many inner) = parts inner
   parts (Strict inner) = parts inner
-  parts (Shown part) = part ∷ []
+  parts (Subsection inner title) = parts inner
+  parts (Suffix inner text) = parts inner
+  parts (CustomUsage inner text) = parts inner
+  parts (Shown part) = part ∷ parts_inside part
   parts Skip = []
 
-  -- the parts of the members of an And
+  -- the parts of the members of an And or an Or
   pub parts_of_all : Shapes → List Part
   parts_of_all none = []
   parts_of_all (first then rest) = parts first ++ parts_of_all rest
 
+  -- the parts that a command shows; those of another part none
+  pub parts_inside : Part → List Part
+  parts_inside (Command name short help inner) = parts inner
+  parts_inside _ = []
+
 -- the short names of a flag; of another part none
 abbrev pub shorts_of_flag : Part → List ℕ
-shorts_of_flag (Flag name shorts) = shorts
-shorts_of_flag (Argument name shorts metavar) = []
-shorts_of_flag (Positional metavar) = []
+shorts_of_flag (Flag name shorts env help) = shorts
+shorts_of_flag _ = []
 
 -- the short names of an argument; of another part none
 abbrev pub shorts_of_argument : Part → List ℕ
-shorts_of_argument (Flag name shorts) = []
-shorts_of_argument (Argument name shorts metavar) = shorts
-shorts_of_argument (Positional metavar) = []
+shorts_of_argument (Argument name shorts metavar env help) = shorts
+shorts_of_argument _ = []
 
 -- the short names of all flags among parts
 abbrev pub shorts_of_flags : List Part → List ℕ

@@ -6,19 +6,22 @@
 //!   what they say and not by the room that they take.
 //! - [`Doc`] is a list of pieces, each a text with a [`Style`]. Its contract for the layers above: a
 //!   `Doc` is the list of the pieces that its calls appended, and `monochrome` is their text.
-//! - [`Item`] is one flag or one argument as it is shown, and [`Meta`] the tree of them that a
-//!   parser shows. Contracts see both through `part_of` and `shape_of` (specs/Shape.antt), data in
+//! - [`Item`] is one flag, argument, word or command as it is shown, and [`Meta`] the tree of them
+//!   that a parser shows. Contracts see both through `part_of` and `shape_of` (specs/Shape.antt), data in
 //!   which neither addresses nor capacities stand.
 //!
 //! The source of the design is bpaf's `buffer.rs`, `item.rs` and `meta.rs`.
 #![tactic(auto)]
 
 mod doc;
+mod item;
 mod meta;
 mod text;
+mod walks;
 
 pub use doc::{Doc, Piece, Style};
-pub use meta::{Item, Meta, Metavar, ShortLong};
+pub use item::{Item, Metavar, ShortLong};
+pub use meta::Meta;
 pub use text::Text;
 
 #[cfg(test)]

@@ -17,6 +17,8 @@ fn flag(alloc: Global, name: char) -> Result<Meta, AllocError> {
     Ok(Meta::Item(Item::Flag {
         name: ShortLong::Short(name),
         shorts: vec![in alloc; name]?,
+        env: None,
+        help: None,
     }))
 }
 
@@ -25,6 +27,8 @@ fn argument(alloc: Global, name: char, alias: char) -> Result<Meta, AllocError> 
         name: ShortLong::Short(name),
         shorts: vec![in alloc; name, alias]?,
         metavar: Text::new(alloc, "A")?,
+        env: None,
+        help: None,
     }))
 }
 
@@ -33,6 +37,7 @@ fn short_names_are_collected(rt: HostRuntime) -> Result<(), Fail> {
     let a = rt.alloc();
     let word = Meta::Item(Item::Positional {
         metavar: Text::new(a, "FILE")?,
+        help: None,
     });
     let strict = Meta::Strict(Box::new(a, word)?);
     let optional = Meta::Optional(Box::new(a, flag(a, 'v')?)?);

@@ -1,0 +1,59 @@
+use crate::doc::Doc;
+use crate::meta::Meta;
+use crate::text::Text;
+
+/// What stands for a value in usage and messages, such as `NUM`.
+#[derive(Clone, Copy, Debug)]
+pub struct Metavar(pub &'static str);
+
+/// The names by which a key is shown: the first short one, the first long one, or both.
+///
+/// Unlike in bpaf it holds its long name, so it is not `Copy`.
+#[derive(Debug, Drop)]
+pub enum ShortLong {
+    Short(char),
+    Long(Text),
+    Both(char, Text),
+}
+
+/// One thing that a parser looks for, as it is shown (bpaf's `Item`).
+///
+/// `shorts` are all its short names, hidden aliases too; `env` is the environment variable that
+/// stands for it, and `help` what is said of it.
+#[cycle(meta)]
+#[derive(Debug, Drop)]
+pub enum Item {
+    /// A word that a test of the program's own accepts; `anywhere` where it may stand behind others.
+    Any {
+        metavar: Doc,
+        help: Option<Doc>,
+        anywhere: bool,
+    },
+    /// A word by itself.
+    Positional {
+        metavar: Text,
+        help: Option<Doc>,
+    },
+    /// A word that another parser follows, which shows `meta`.
+    Command {
+        name: Text,
+        short: Option<char>,
+        help: Option<Doc>,
+        meta: Box<Meta>,
+    },
+    /// A key without a value.
+    Flag {
+        name: ShortLong,
+        shorts: Vec<char>,
+        env: Option<Text>,
+        help: Option<Doc>,
+    },
+    /// A key with a value.
+    Argument {
+        name: ShortLong,
+        shorts: Vec<char>,
+        metavar: Text,
+        env: Option<Text>,
+        help: Option<Doc>,
+    },
+}

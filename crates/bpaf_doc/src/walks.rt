@@ -1,0 +1,75 @@
+ghost use Rattle.std.specs.Prelude.{◌≡◌, ◌++◌, ◌∷◌, OnOk, map};
+ghost use Rattle.bpaf_doc.specs.Shape.{shape_of, part_of, members};
+ghost use Rattle.bpaf_doc.specs.Walks.{flag_shorts, argument_shorts, shorts_of_flags, shorts_of_arguments, parts_of_all, parts_inside};
+
+use crate::item::Item;
+use crate::meta::Meta;
+use std::alloc::AllocError;
+
+#[cycle(collect)]
+fn collect_all(
+    all: &[Meta],
+    flags: &mut Vec<char>,
+    arguments: &mut Vec<char>,
+) -> Result<(), AllocError>
+    ensures flags { OnOk result (flags.new.items ≡ flags.old.items ++ shorts_of_flags (parts_of_all (members (map shape_of all.now)))) }
+    ensures arguments { OnOk result (arguments.new.items ≡ arguments.old.items ++ shorts_of_arguments (parts_of_all (members (map shape_of all.now)))) }
+{
+    for member in all {
+        member.collect_shorts(flags, arguments)?;
+    }
+    Ok(())
+}
+
+impl Item {
+    /// Appends its short names, those of a flag to the one list and those of an argument to the
+    /// other; of a command the names of what it shows.
+    #[cycle(collect)]
+    fn collect_shorts(
+        &self,
+        flags: &mut Vec<char>,
+        arguments: &mut Vec<char>,
+    ) -> Result<(), AllocError>
+        ensures flags { OnOk result (flags.new.items ≡ flags.old.items ++ shorts_of_flags (part_of self.now ∷ parts_inside (part_of self.now))) }
+        ensures arguments { OnOk result (arguments.new.items ≡ arguments.old.items ++ shorts_of_arguments (part_of self.now ∷ parts_inside (part_of self.now))) }
+    {
+        match self {
+            Item::Flag { shorts, .. } => flags.extend_from_slice(shorts),
+            Item::Argument { shorts, .. } => arguments.extend_from_slice(shorts),
+            Item::Command { meta, .. } => meta.collect_shorts(flags, arguments),
+            Item::Any { .. } => Ok(()),
+            Item::Positional { .. } => Ok(()),
+        }
+    }
+}
+
+impl Meta {
+    /// Appends the short names of all flags that it shows, hidden aliases and those inside commands
+    /// too, to the one list, and those of all arguments to the other (bpaf's `collect_shorts`).
+    ///
+    /// Refused only for want of memory.
+    #[cycle(collect)]
+    pub fn collect_shorts(
+        &self,
+        flags: &mut Vec<char>,
+        arguments: &mut Vec<char>,
+    ) -> Result<(), AllocError>
+        ensures flags { OnOk result (flags.new.items ≡ flags.old.items ++ flag_shorts (shape_of self.now)) }
+        ensures arguments { OnOk result (arguments.new.items ≡ arguments.old.items ++ argument_shorts (shape_of self.now)) }
+    {
+        match self {
+            Meta::And(all) => collect_all(all, flags, arguments),
+            Meta::Or(all) => collect_all(all, flags, arguments),
+            Meta::Optional(inner) => inner.collect_shorts(flags, arguments),
+            Meta::Required(inner) => inner.collect_shorts(flags, arguments),
+            Meta::Adjacent(inner) => inner.collect_shorts(flags, arguments),
+            Meta::Many(inner) => inner.collect_shorts(flags, arguments),
+            Meta::Strict(inner) => inner.collect_shorts(flags, arguments),
+            Meta::Subsection(inner, _) => inner.collect_shorts(flags, arguments),
+            Meta::Suffix(inner, _) => inner.collect_shorts(flags, arguments),
+            Meta::CustomUsage(inner, _) => inner.collect_shorts(flags, arguments),
+            Meta::Item(item) => item.collect_shorts(flags, arguments),
+            Meta::Skip => Ok(()),
+        }
+    }
+}
