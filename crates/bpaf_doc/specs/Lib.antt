@@ -1,4 +1,5 @@
 pub mod Print
+pub mod Fold
 pub mod Names
 pub mod Shape
 pub mod Walks

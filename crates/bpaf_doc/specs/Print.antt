@@ -1,8 +1,27 @@
 -- What a document prints.
-use Rattle.std.specs.Prelude.{ℕ, Bool, not, ◌||◌, List, filter}
-use Rattle.std.specs.List.{flat_map}
+use Rattle.std.specs.Prelude.{ℕ, Bool, false, not, ◌||◌, ◌==◌, List, [], ◌∷◌, ◌++◌, Option, Some, None, filter}
+use Rattle.std.specs.List.{flat_map, before_first}
 use Rattle.bpaf_doc.specs.declared.doc.Piece.{Piece}
+use Rattle.bpaf_doc.specs.declared.doc.Style.{Style}
+use Rattle.bpaf_doc.specs.declared.doc.Style.TheVariants as style
 
 -- the texts of the pieces in order, with the detail only in a full print
 abbrev pub printed : Bool → List Piece → List ℕ
 printed full pieces = flat_map (λ piece. piece.text) (filter (λ piece. full || not piece.detail) pieces)
+
+-- a piece that each print shows
+abbrev pub shown_as : Style → List ℕ → Piece
+shown_as style text = record { text = text; style = style; detail = false }
+
+-- a text between two backticks
+abbrev pub in_backticks : List ℕ → List ℕ
+in_backticks text = 96 ∷ text ++ 96 ∷ []
+
+-- a document of one plain piece; none where its text is empty
+abbrev pub unless_empty : List ℕ → Option (List Piece)
+unless_empty [] = None
+unless_empty (c ∷ rest) = Some (shown_as style.Text (c ∷ rest) ∷ [])
+
+-- what is printed without detail, up to its first line break
+abbrev pub first_line : List Piece → Option (List Piece)
+first_line pieces = unless_empty (before_first (λ c. c == 10) (printed false pieces))

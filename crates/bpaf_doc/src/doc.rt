@@ -1,6 +1,9 @@
-ghost use Rattle.std.specs.Prelude.{◌≡◌, IfOk, OnOk, OnErr, [], ◌∷◌, ◌++◌, false, string_bytes};
-ghost use Rattle.bpaf_doc.specs.Print.{printed};
+ghost use Rattle.std.specs.Prelude.{◌≡◌, ◌==◌, IfOk, OnOk, OnErr, List, [], ◌∷◌, ◌++◌, map, string_bytes};
+ghost use Rattle.std.specs.List.{before_first};
+ghost use Rattle.bpaf_doc.specs.Print.{printed, shown_as, in_backticks, first_line};
+ghost use Rattle.bpaf_doc.specs.Fold.{TextPieces};
 
+use crate::fold::text_pieces;
 use crate::text::Text;
 use std::alloc::{AllocError, Global};
 use std::marker::Model;
@@ -27,6 +30,19 @@ pub struct Piece {
     pub detail: bool,
 }
 
+impl Piece {
+    /// An equal piece; refused only for want of memory.
+    pub fn copy(&self) -> Result<Piece, AllocError>
+        ensures { IfOk result (λ piece. piece ≡ self.now) }
+    {
+        Ok(Piece {
+            text: self.text.copy()?,
+            style: self.style,
+            detail: self.detail,
+        })
+    }
+}
+
 /// A document: the list of the pieces that its calls appended (bpaf's `Doc`, in `buffer.rs`).
 ///
 /// A call that is refused for want of memory leaves it as it was.
@@ -44,6 +60,26 @@ impl Model for Doc {
     ghost view = { λ d. d.pieces.items };
 }
 
+fn copy_pieces(alloc: Global, pieces: &[Piece]) -> Result<Vec<Piece>, AllocError>
+    ensures { IfOk result (λ all. all.items ≡ pieces.now) }
+{
+    let mut all = Vec::with_capacity(alloc, pieces.len())?;
+    for piece in pieces {
+        all.push(piece.copy()?)?;
+    }
+    Ok(all)
+}
+
+/// The part before the first line break, or the whole text.
+fn line_of(text: &str) -> &str
+    ensures { result.now ≡ before_first (λ c. c == 10) text.now }
+{
+    match text.split_once('\n') {
+        None => text,
+        Some((line, _)) => line,
+    }
+}
+
 impl Doc {
     /// A document without pieces. It takes no memory.
     pub fn new(alloc: Global) -> Doc
@@ -54,18 +90,117 @@ impl Doc {
         }
     }
 
-    /// Appends one literal piece, the text as it is; refused only for want of memory.
-    pub fn literal(&mut self, text: &str) -> Result<(), AllocError>
-        ensures ok { OnOk result (self.new ≡ self.old ++ record { text = text.now; style = Style.Literal; detail = false } ∷ []) }
+    /// A document of one text, as `text` appends it (bpaf's `From<&str>`); refused only for want of
+    /// memory.
+    pub fn from_text(alloc: Global, text: &str) -> Result<Doc, AllocError>
+        ensures { IfOk result (TextPieces text.now) }
+    {
+        let mut doc = Doc::new(alloc);
+        doc.text(text)?;
+        Ok(doc)
+    }
+
+    /// A document of one piece for each text, the text as it is (bpaf's `From<&[(&str, Style)]>`);
+    /// refused only for want of memory.
+    ///
+    /// ```text
+    /// Doc::from_pieces(alloc, &[("Use ", Style::Text), ("--all", Style::Literal)])?
+    /// ```
+    pub fn from_pieces(alloc: Global, pieces: &[(&str, Style)]) -> Result<Doc, AllocError>
+        ensures { IfOk result (λ doc. doc ≡ map (λ piece. shown_as piece.1 piece.0.now) pieces.now) }
+    {
+        let mut doc = Doc::new(alloc);
+        for (text, style) in pieces {
+            doc.push(*style, Text::new(alloc, *text)?)?;
+        }
+        Ok(doc)
+    }
+
+    /// An equal document; refused only for want of memory.
+    pub fn copy(&self) -> Result<Doc, AllocError>
+        ensures { IfOk result (λ doc. doc ≡ self.now) }
+    {
+        Ok(Doc {
+            pieces: copy_pieces(*self.pieces.allocator(), &self.pieces)?,
+        })
+    }
+
+    fn push(&mut self, style: Style, text: Text) -> Result<(), AllocError>
+        ensures ok { OnOk result (self.new ≡ self.old ++ shown_as style text ∷ []) }
         ensures err { OnErr result (self.new ≡ self.old) }
     {
-        let text = Text::new(*self.pieces.allocator(), text)?;
         self.pieces.push(Piece {
             text,
-            style: Style::Literal,
+            style,
             detail: false,
         })?;
         Ok(())
+    }
+
+    /// Appends a text: its part before the first empty line, folded, and where there is one a second
+    /// piece, detail, of a line break and what follows the empty line, folded; refused only for want
+    /// of memory.
+    ///
+    /// Folded, a line break stays where a space or a line break follows it, where a line break stands
+    /// before it, or at the end; every other line break becomes one space.
+    ///
+    /// ```text
+    /// doc.text("Reads each\nfile.\n\nFiles are read\nin order.")?
+    /// ```
+    ///
+    /// appends `Reads each file.`, and as detail a line break and `Files are read in order.`
+    pub fn text(&mut self, text: &str) -> Result<(), AllocError>
+        ensures ok { OnOk result ((more : List Piece) × TextPieces text.now more × (self.new ≡ self.old ++ more)) }
+        ensures err { OnErr result (self.new ≡ self.old) }
+    {
+        let mut more = text_pieces(*self.pieces.allocator(), text)?;
+        self.pieces.append(&mut more)
+    }
+
+    /// Appends one literal piece, the text as it is; refused only for want of memory.
+    pub fn literal(&mut self, text: &str) -> Result<(), AllocError>
+        ensures ok { OnOk result (self.new ≡ self.old ++ shown_as Style.Literal text.now ∷ []) }
+        ensures err { OnErr result (self.new ≡ self.old) }
+    {
+        let text = Text::new(*self.pieces.allocator(), text)?;
+        self.push(Style::Literal, text)
+    }
+
+    /// Appends one piece: the text between two backticks; refused only for want of memory.
+    pub fn term(&mut self, style: Style, text: &str) -> Result<(), AllocError>
+        ensures ok { OnOk result (self.new ≡ self.old ++ shown_as style (in_backticks text.now) ∷ []) }
+        ensures err { OnErr result (self.new ≡ self.old) }
+    {
+        let mut quoted = String::new(*self.pieces.allocator());
+        quoted.push('`')?;
+        quoted.push_str(text)?;
+        quoted.push('`')?;
+        self.push(style, Text::from(quoted))
+    }
+
+    /// Appends the pieces of another document; refused only for want of memory.
+    pub fn doc(&mut self, other: &Doc) -> Result<(), AllocError>
+        ensures ok { OnOk result (self.new ≡ self.old ++ other.now) }
+        ensures err { OnErr result (self.new ≡ self.old) }
+    {
+        let mut more = copy_pieces(*self.pieces.allocator(), &other.pieces)?;
+        self.pieces.append(&mut more)
+    }
+
+    /// What is printed without detail, up to its first line break, as one plain piece; `None` where
+    /// that is empty (bpaf's `first_line`). Refused only for want of memory.
+    pub fn first_line(&self) -> Result<Option<Doc>, AllocError>
+        ensures { IfOk result (λ line. line ≡ first_line self.now) }
+    {
+        let alloc = *self.pieces.allocator();
+        let all = self.monochrome(false)?;
+        let line = line_of(all.as_str());
+        if line.is_empty() {
+            return Ok(None);
+        }
+        let mut doc = Doc::new(alloc);
+        doc.push(Style::Text, Text::new(alloc, line)?)?;
+        Ok(Some(doc))
     }
 
     /// The texts of all pieces in order, of the detail pieces only where `full` is true; refused only

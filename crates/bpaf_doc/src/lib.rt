@@ -14,6 +14,7 @@
 #![tactic(auto)]
 
 mod doc;
+mod fold;
 mod item;
 mod meta;
 mod text;

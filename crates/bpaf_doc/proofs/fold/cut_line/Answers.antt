@@ -1,0 +1,6 @@
+use Rattle.std.proofs.Common.{arith}
+use Rattle.std.proofs.lemmas.Str.Pattern.{split_parts}
+use Rattle.bpaf_doc.proofs.fold.cut_line.Goals as goal
+
+pub returns : goal.returns
+returns c = split_parts 10 _ _ c.split_once.ensures.cases (omega arith)

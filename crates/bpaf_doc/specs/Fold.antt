@@ -1,0 +1,38 @@
+-- Texts with their line breaks folded.
+use Rattle.std.specs.Prelude.{◌≡◌, ◌≢◌, ℕ, ◌<◌, ◌≤◌, Bool, true, false, not, ◌&&◌, ◌||◌, ◌==◌, List, [], ◌∷◌, ◌++◌, length, slice_index, if◌then◌else◌}
+use Rattle.std.specs.Str.Pattern.{LacksTextAt}
+use Rattle.bpaf_doc.specs.declared.doc.Piece.{Piece}
+use Rattle.bpaf_doc.specs.declared.doc.Style.TheVariants as style
+use Rattle.bpaf_doc.specs.Print.{shown_as}
+
+-- a line break stays before this text: before nothing, a space or a line break
+abbrev pub keeps_break : List ℕ → Bool
+keeps_break [] = true
+keeps_break (c ∷ rest) = c == 32 || c == 10
+
+-- every line break is a space, but one that stays before what follows it and one after a line break; the flag tells that a line break stands before the text
+abbrev pub folded_after : Bool → List ℕ → List ℕ
+folded_after after_break [] = []
+folded_after after_break (c ∷ rest) = (if c == 10 && not (after_break || keeps_break rest) then 32 else c) ∷ folded_after (c == 10) rest
+
+-- a whole text, folded
+abbrev pub folded : List ℕ → List ℕ
+folded text = folded_after false text
+
+-- a text without line breaks
+abbrev pub HasNoBreak : List ℕ → Type 0
+HasNoBreak text = (i : ℕ) → i < length text → slice_index text i ≢ 10
+
+-- an empty line: two line breaks in a row
+abbrev pub empty_line : List ℕ
+empty_line = 10 ∷ 10 ∷ []
+
+-- a piece that only a full print shows
+abbrev pub detail : List ℕ → Piece
+detail text = record { text = text; style = style.Text; detail = true }
+
+-- the pieces that a text gives: all of it folded, or the part before its first empty line and as detail a line break and the rest
+pub data TextPieces (text : List ℕ) : List Piece → Type 0 where
+  whole : ((i : ℕ) → i ≤ length text → LacksTextAt empty_line text i) → TextPieces text (shown_as style.Text (folded text) ∷ [])
+  cut : (before after : List ℕ) → text ≡ before ++ (empty_line ++ after) → ((i : ℕ) → i < length before → LacksTextAt empty_line text i)
+      → TextPieces text (shown_as style.Text (folded before) ∷ detail (10 ∷ folded after) ∷ [])

@@ -1,0 +1,97 @@
+ghost use Rattle.std.specs.Prelude.{◌≡◌, ◌++◌, ◌∷◌, ◌==◌, ◌&&◌, ◌||◌, [], if◌then◌else◌, IfOk, OnOk, MatchOption, length, string_bytes};
+ghost use Rattle.bpaf_doc.specs.Fold.{folded, keeps_break, HasNoBreak, TextPieces};
+
+use crate::doc::{Piece, Style};
+use crate::text::Text;
+use std::alloc::{AllocError, Global};
+
+/// What stands before the first line break, and what after it.
+fn cut_line(text: &str) -> Option<(&str, &str)>
+    ensures { MatchOption result (HasNoBreak text.now) (λ x. (text.now ≡ x.0.now ++ 10 ∷ x.1.now) × HasNoBreak x.0.now) }
+{
+    text.split_once('\n')
+}
+
+/// Whether a line break stays before this text.
+fn keeps_break(text: &str) -> bool
+    ensures { result ≡ keeps_break text.now }
+{
+    match text.as_bytes().first() {
+        None => true,
+        Some(first) => *first == b' ' || *first == b'\n',
+    }
+}
+
+/// Appends the line break between a line and what follows, as it is or as a space.
+fn push_break(
+    out: &mut String,
+    after_break: bool,
+    line: &str,
+    more: &str,
+) -> Result<(), AllocError>
+    ensures { OnOk result (string_bytes out.new ≡ string_bytes out.old ++ (if (after_break && (length line.now == 0)) || keeps_break more.now then 10 else 32) ∷ []) }
+{
+    if (after_break && line.is_empty()) || keeps_break(more) {
+        out.push('\n')
+    } else {
+        out.push(' ')
+    }
+}
+
+/// The text with its line breaks folded.
+fn folded(alloc: Global, text: &str) -> Result<Text, AllocError>
+    ensures { IfOk result (λ t. t ≡ folded text.now) }
+{
+    let mut out = String::new(alloc);
+    let mut rest = text;
+    let mut after_break = false;
+    while let Some((line, more)) = cut_line(rest) {
+        out.push_str(line)?;
+        push_break(&mut out, after_break, line, more)?;
+        after_break = true;
+        rest = more;
+    }
+    out.push_str(rest)?;
+    Ok(Text::from(out))
+}
+
+/// A line break and the folded text.
+fn folded_below(alloc: Global, text: &str) -> Result<Text, AllocError>
+    ensures { IfOk result (λ t. t ≡ 10 ∷ folded text.now) }
+{
+    let text = folded(alloc, text)?;
+    let mut whole = String::new(alloc);
+    whole.push('\n')?;
+    whole.push_str(text.as_str())?;
+    Ok(Text::from(whole))
+}
+
+/// The pieces that a text gives.
+pub fn text_pieces(alloc: Global, text: &str) -> Result<Vec<Piece>, AllocError>
+    ensures { IfOk result (λ all. TextPieces text.now all.items) }
+{
+    let mut all = Vec::with_capacity(alloc, 2)?;
+    match text.split_once("\n\n") {
+        None => {
+            all.push(Piece {
+                text: folded(alloc, text)?,
+                style: Style::Text,
+                detail: false,
+            })?;
+            Ok(all)
+        }
+        Some((first, rest)) => {
+            all.push(Piece {
+                text: folded(alloc, first)?,
+                style: Style::Text,
+                detail: false,
+            })?;
+            all.push(Piece {
+                text: folded_below(alloc, rest)?,
+                style: Style::Text,
+                detail: true,
+            })?;
+            Ok(all)
+        }
+    }
+}
