@@ -13,6 +13,7 @@
 //! The source of the design is bpaf's `buffer.rs`, `item.rs` and `meta.rs`.
 #![tactic(auto)]
 
+mod copies;
 mod doc;
 mod fold;
 mod item;
@@ -22,7 +23,7 @@ mod walks;
 
 pub use doc::{Doc, Piece, Style};
 pub use item::{Item, Metavar, ShortLong};
-pub use meta::Meta;
+pub use meta::{Meta, MetaInfo};
 pub use text::Text;
 
 #[cfg(test)]

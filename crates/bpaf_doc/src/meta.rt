@@ -1,3 +1,5 @@
+ghost use Rattle.std.specs.Prelude.{◌≡◌};
+
 use crate::doc::Doc;
 use crate::item::Item;
 
@@ -29,4 +31,25 @@ pub enum Meta {
     Item(Item),
     /// Nothing is shown.
     Skip,
+}
+
+/// What a parser shows of itself, lent to a closure that writes of it (bpaf's `MetaInfo`, in
+/// `buffer.rs`).
+#[derive(Clone, Copy)]
+pub struct MetaInfo<'a>(&'a Meta);
+
+impl<'a> MetaInfo<'a> {
+    /// Lends a tree.
+    pub fn new(meta: &'a Meta) -> MetaInfo<'a>
+        ensures { result.0 ≡ meta.entry }
+    {
+        MetaInfo(meta)
+    }
+
+    /// The tree itself.
+    pub fn meta(self) -> &'a Meta
+        ensures { result ≡ self.entry.0 }
+    {
+        self.0
+    }
 }

@@ -1,0 +1,150 @@
+ghost use Rattle.std.specs.Prelude.{◌≡◌, IfOk, map};
+ghost use Rattle.bpaf_doc.specs.Shape.{shape_of, part_of};
+
+use crate::doc::Doc;
+use crate::item::{Item, ShortLong};
+use crate::meta::Meta;
+use crate::text::Text;
+use std::alloc::AllocError;
+
+fn copy_help(help: &Option<Doc>) -> Result<Option<Doc>, AllocError>
+    ensures { IfOk result (λ new. new ≡ help.now) }
+{
+    match help {
+        None => Ok(None),
+        Some(doc) => Ok(Some(doc.copy()?)),
+    }
+}
+
+fn copy_env(env: &Option<Text>) -> Result<Option<Text>, AllocError>
+    ensures { IfOk result (λ new. new ≡ env.now) }
+{
+    match env {
+        None => Ok(None),
+        Some(text) => Ok(Some(text.copy()?)),
+    }
+}
+
+fn copy_shorts(shorts: &Vec<char>) -> Result<Vec<char>, AllocError>
+    ensures { IfOk result (λ new. new.items ≡ shorts.now.items) }
+{
+    Vec::from_slice(*shorts.allocator(), shorts)
+}
+
+#[cycle(copy)]
+fn copy_boxed(meta: &Box<Meta>) -> Result<Box<Meta>, AllocError>
+    ensures { IfOk result (λ new. shape_of new.value ≡ shape_of meta.now.value) }
+{
+    let inner = meta.copy()?;
+    Ok(Box::new(*Box::allocator(meta), inner)?)
+}
+
+#[cycle(copy)]
+fn copy_all(all: &Vec<Meta>) -> Result<Vec<Meta>, AllocError>
+    ensures { IfOk result (λ new. map shape_of new.items ≡ map shape_of all.now.items) }
+{
+    let mut copies = Vec::new(*all.allocator());
+    for member in all {
+        copies.push(member.copy()?)?;
+    }
+    Ok(copies)
+}
+
+impl ShortLong {
+    /// Equal names; refused only for want of memory.
+    pub fn copy(&self) -> Result<ShortLong, AllocError>
+        ensures { IfOk result (λ new. new ≡ self.now) }
+    {
+        match self {
+            ShortLong::Short(short) => Ok(ShortLong::Short(*short)),
+            ShortLong::Long(long) => Ok(ShortLong::Long(long.copy()?)),
+            ShortLong::Both(short, long) => Ok(ShortLong::Both(*short, long.copy()?)),
+        }
+    }
+}
+
+impl Item {
+    /// An item that shows the same; refused only for want of memory.
+    #[cycle(copy)]
+    pub fn copy(&self) -> Result<Item, AllocError>
+        ensures { IfOk result (λ new. part_of new ≡ part_of self.now) }
+    {
+        match self {
+            Item::Any {
+                metavar,
+                help,
+                anywhere,
+            } => Ok(Item::Any {
+                metavar: metavar.copy()?,
+                help: copy_help(help)?,
+                anywhere: *anywhere,
+            }),
+            Item::Positional { metavar, help } => Ok(Item::Positional {
+                metavar: metavar.copy()?,
+                help: copy_help(help)?,
+            }),
+            Item::Command {
+                name,
+                short,
+                help,
+                meta,
+            } => Ok(Item::Command {
+                name: name.copy()?,
+                short: *short,
+                help: copy_help(help)?,
+                meta: copy_boxed(meta)?,
+            }),
+            Item::Flag {
+                name,
+                shorts,
+                env,
+                help,
+            } => Ok(Item::Flag {
+                name: name.copy()?,
+                shorts: copy_shorts(shorts)?,
+                env: copy_env(env)?,
+                help: copy_help(help)?,
+            }),
+            Item::Argument {
+                name,
+                shorts,
+                metavar,
+                env,
+                help,
+            } => Ok(Item::Argument {
+                name: name.copy()?,
+                shorts: copy_shorts(shorts)?,
+                metavar: metavar.copy()?,
+                env: copy_env(env)?,
+                help: copy_help(help)?,
+            }),
+        }
+    }
+}
+
+impl Meta {
+    /// A tree that shows the same; refused only for want of memory.
+    #[cycle(copy)]
+    pub fn copy(&self) -> Result<Meta, AllocError>
+        ensures { IfOk result (λ new. shape_of new ≡ shape_of self.now) }
+    {
+        match self {
+            Meta::And(all) => Ok(Meta::And(copy_all(all)?)),
+            Meta::Or(all) => Ok(Meta::Or(copy_all(all)?)),
+            Meta::Optional(inner) => Ok(Meta::Optional(copy_boxed(inner)?)),
+            Meta::Required(inner) => Ok(Meta::Required(copy_boxed(inner)?)),
+            Meta::Adjacent(inner) => Ok(Meta::Adjacent(copy_boxed(inner)?)),
+            Meta::Many(inner) => Ok(Meta::Many(copy_boxed(inner)?)),
+            Meta::Strict(inner) => Ok(Meta::Strict(copy_boxed(inner)?)),
+            Meta::Subsection(inner, title) => {
+                Ok(Meta::Subsection(copy_boxed(inner)?, title.copy()?))
+            }
+            Meta::Suffix(inner, text) => Ok(Meta::Suffix(copy_boxed(inner)?, text.copy()?)),
+            Meta::CustomUsage(inner, text) => {
+                Ok(Meta::CustomUsage(copy_boxed(inner)?, text.copy()?))
+            }
+            Meta::Item(item) => Ok(Meta::Item(item.copy()?)),
+            Meta::Skip => Ok(Meta::Skip),
+        }
+    }
+}
