@@ -1,5 +1,6 @@
 pub mod Print
 pub mod Fold
 pub mod Names
+pub mod Order
 pub mod Shape
 pub mod Walks

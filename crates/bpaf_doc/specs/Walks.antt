@@ -1,5 +1,5 @@
 -- The walks over what a parser shows.
-use Rattle.std.specs.Prelude.{ℕ, List, [], ◌∷◌, ◌++◌}
+use Rattle.std.specs.Prelude.{ℕ, List, [], ◌∷◌, ◌++◌, Option, Some, None}
 use Rattle.std.specs.List.{flat_map}
 use Rattle.bpaf_doc.specs.Shape.{Shape, Shapes, Part, And, Or, Optional, Required, Adjacent, Many, Strict, Subsection, Suffix, CustomUsage, Shown, Skip, none, ◌then◌, Command, Flag, Argument}
 
@@ -55,3 +55,25 @@ flag_shorts shape = shorts_of_flags (parts shape)
 -- the short names of all arguments that a shape shows
 abbrev pub argument_shorts : Shape → List ℕ
 argument_shorts shape = shorts_of_arguments (parts shape)
+
+-- the part that stands first
+abbrev mutual
+  -- of a shape; of an Or none
+  pub first_part : Shape → Option Part
+  first_part (And all) = first_of_all all
+  first_part (Or all) = None
+  first_part (Optional inner) = first_part inner
+  first_part (Required inner) = first_part inner
+  first_part (Adjacent inner) = first_part inner
+  first_part (Many inner) = first_part inner
+  first_part (Strict inner) = first_part inner
+  first_part (Subsection inner title) = first_part inner
+  first_part (Suffix inner text) = first_part inner
+  first_part (CustomUsage inner text) = first_part inner
+  first_part (Shown part) = Some part
+  first_part Skip = None
+
+  -- of the members of an And: that of the first one
+  pub first_of_all : Shapes → Option Part
+  first_of_all none = None
+  first_of_all (first then rest) = first_part first

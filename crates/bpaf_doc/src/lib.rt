@@ -18,6 +18,7 @@ mod doc;
 mod fold;
 mod item;
 mod meta;
+mod order;
 mod text;
 mod walks;
 

@@ -1,6 +1,6 @@
-ghost use Rattle.std.specs.Prelude.{◌≡◌, ◌++◌, ◌∷◌, OnOk, map};
+ghost use Rattle.std.specs.Prelude.{◌≡◌, ◌++◌, ◌∷◌, OnOk, MatchOption, Some, None, map};
 ghost use Rattle.bpaf_doc.specs.Shape.{shape_of, part_of, members};
-ghost use Rattle.bpaf_doc.specs.Walks.{flag_shorts, argument_shorts, shorts_of_flags, shorts_of_arguments, parts_of_all, parts_inside};
+ghost use Rattle.bpaf_doc.specs.Walks.{flag_shorts, argument_shorts, shorts_of_flags, shorts_of_arguments, parts_of_all, parts_inside, first_part};
 
 use crate::item::Item;
 use crate::meta::Meta;
@@ -70,6 +70,30 @@ impl Meta {
             Meta::CustomUsage(inner, _) => inner.collect_shorts(flags, arguments),
             Meta::Item(item) => item.collect_shorts(flags, arguments),
             Meta::Skip => Ok(()),
+        }
+    }
+
+    /// The item that stands first: of members that are all wanted that of the first one, of members
+    /// to choose from none (bpaf's `first_item`).
+    pub fn first_item(&self) -> Option<&Item>
+        ensures { MatchOption result (first_part (shape_of self.now) ≡ None) (λ item. first_part (shape_of self.now) ≡ Some (part_of item.now)) }
+    {
+        match self {
+            Meta::And(all) => match all.first() {
+                None => None,
+                Some(first) => first.first_item(),
+            },
+            Meta::Or(_) => None,
+            Meta::Optional(inner) => inner.first_item(),
+            Meta::Required(inner) => inner.first_item(),
+            Meta::Adjacent(inner) => inner.first_item(),
+            Meta::Many(inner) => inner.first_item(),
+            Meta::Strict(inner) => inner.first_item(),
+            Meta::Subsection(inner, _) => inner.first_item(),
+            Meta::Suffix(inner, _) => inner.first_item(),
+            Meta::CustomUsage(inner, _) => inner.first_item(),
+            Meta::Item(item) => Some(item),
+            Meta::Skip => None,
         }
     }
 }
