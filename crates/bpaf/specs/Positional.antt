@@ -1,8 +1,9 @@
 -- Positional words.
-use Rattle.std.specs.Prelude.{◌≡◌, ◌⊎◌, ℕ, Bool, true, false, not, List, Ok, Err, Some, option_and_then}
+use Rattle.std.specs.Prelude.{◌≡◌, ◌⊎◌, ℕ, Bool, true, false, not, List, Ok, Err, Option, Some, None, option_and_then}
+use Rattle.bpaf_doc.specs.declared.doc.Piece.{Piece}
 use Rattle.bpaf_doc.specs.Shape.{Shape, Shown, Positional, Strict as StrictShape}
 use Rattle.bpaf_line.specs.Items.{is_positional, word_text}
-use Rattle.bpaf_line.specs.MissingIn.{missing_in}
+use Rattle.bpaf_line.specs.MissingIn.{IsMissingIn}
 use Rattle.bpaf_line.specs.Situation.{Situation, Context}
 use Rattle.bpaf_line.specs.Taking.{TakesText, HasNone}
 use Rattle.bpaf_line.specs.declared.error.Message.{Message}
@@ -42,7 +43,7 @@ pub record TakesSome (s t : Situation) : Type 0 where
 
 -- a refusal: no word; a word on the wrong side, or one whose text means no value, which is taken; or want of memory, with nothing taken or the word
 abbrev pub PositionalFails : {T : Type 0} → (List ℕ → T → Type 0) → Position → List ℕ → Situation → Message → Situation → Type 0
-PositionalFails means position metavar s (Missing items) t = HasNone is_positional s × (t ≡ s) × (items ≡ missing_in s (Some (Positional metavar)))
+PositionalFails means position metavar s (Missing items) t = HasNone is_positional s × (t ≡ s) × IsMissingIn s (Some (Positional metavar None)) items
 PositionalFails means position metavar s (StrictPos place m) t = (accepts position false ≡ false) × (m ≡ metavar) × ((text : List ℕ) × TakesText s place false text t)
 PositionalFails means position metavar s (NonStrictPos place m) t = (accepts position true ≡ false) × (m ≡ metavar) × ((text : List ℕ) × TakesText s place true text t)
 PositionalFails means position metavar s (ParseFailed place fault) t =
@@ -56,7 +57,7 @@ PositionalOutcome means position metavar s (Ok v) t = (taken : TakesSome s t) ×
 PositionalOutcome means position metavar s (Err e) t = PositionalFails means position metavar s e.0 t
 
 -- what a positional shows: its item, behind `--` where it must stand there
-abbrev pub positional_shape : Position → List ℕ → Shape
-positional_shape Unrestricted metavar = Shown (Positional metavar)
-positional_shape Strict metavar = StrictShape (Shown (Positional metavar))
-positional_shape NonStrict metavar = Shown (Positional metavar)
+abbrev pub positional_shape : Position → List ℕ → Option (List Piece) → Shape
+positional_shape Unrestricted metavar help = Shown (Positional metavar help)
+positional_shape Strict metavar help = StrictShape (Shown (Positional metavar help))
+positional_shape NonStrict metavar help = Shown (Positional metavar help)

@@ -1,8 +1,8 @@
-ghost use Rattle.std.specs.Prelude.{◌≡◌, IfOk};
+ghost use Rattle.std.specs.Prelude.{◌≡◌, IfOk, Some, None};
 ghost use Rattle.bpaf.specs.Positional.{accepts, misplaced};
 
 use bpaf_core::{Parser, read_text};
-use bpaf_doc::{Item, Meta, Metavar, Text};
+use bpaf_doc::{Doc, Item, Meta, Metavar, Text};
 use bpaf_line::{Error, Message, State};
 use bpaf_text::FromText;
 use std::alloc::{AllocError, Global};
@@ -37,6 +37,7 @@ impl Position {
 pub struct ParsePositional<T> {
     pub metavar: Metavar,
     pub position: Position,
+    pub help: Option<Doc>,
     pub of: PhantomData<T>,
 }
 
@@ -48,23 +49,70 @@ pub struct ParsePositional<T> {
 pub fn positional<T>(metavar: &'static str) -> ParsePositional<T>
     ensures metavar { result.metavar.0 ≡ metavar.entry }
     ensures position { result.position ≡ Position.Unrestricted }
+    ensures help { result.help ≡ None }
 {
     ParsePositional {
         metavar: Metavar(metavar),
         position: Position::Unrestricted,
+        help: None,
         of: PhantomData,
     }
 }
 
 impl<T> ParsePositional<T> {
+    /// The word with this help, in place of the one that it has (bpaf's `ParsePositional::help`). It
+    /// takes no memory.
+    ///
+    /// ```text
+    /// positional::<String>("FILE").help(Doc::from_text(alloc, "File to process")?)
+    /// ```
+    pub fn help(self, help: Doc) -> ParsePositional<T>
+        ensures metavar { result.metavar ≡ self.metavar }
+        ensures position { result.position ≡ self.position }
+        ensures help { result.help ≡ Some help }
+    {
+        ParsePositional {
+            metavar: self.metavar,
+            position: self.position,
+            help: Some(help),
+            of: PhantomData,
+        }
+    }
+
+    /// An equal word; refused only for want of memory.
+    pub fn copy(&self) -> Result<ParsePositional<T>, AllocError>
+        ensures metavar { IfOk result (λ word. word.metavar ≡ self.now.metavar) }
+        ensures position { IfOk result (λ word. word.position ≡ self.now.position) }
+        ensures help { IfOk result (λ word. word.help ≡ self.now.help) }
+    {
+        Ok(ParsePositional {
+            metavar: self.metavar,
+            position: self.position,
+            help: self.help_copy()?,
+            of: PhantomData,
+        })
+    }
+
+    /// An equal help, where there is one; refused only for want of memory.
+    fn help_copy(&self) -> Result<Option<Doc>, AllocError>
+        ensures { IfOk result (λ help. help ≡ self.now.help) }
+    {
+        match &self.help {
+            Some(help) => Ok(Some(help.copy()?)),
+            None => Ok(None),
+        }
+    }
+
     /// The word must stand on the right side of `--`; one that does not is taken and refused.
     pub fn strict(self) -> ParsePositional<T>
         ensures metavar { result.metavar ≡ self.metavar }
         ensures position { result.position ≡ Position.Strict }
+        ensures help { result.help ≡ self.help }
     {
         ParsePositional {
             metavar: self.metavar,
             position: Position::Strict,
+            help: self.help,
             of: PhantomData,
         }
     }
@@ -73,10 +121,12 @@ impl<T> ParsePositional<T> {
     pub fn non_strict(self) -> ParsePositional<T>
         ensures metavar { result.metavar ≡ self.metavar }
         ensures position { result.position ≡ Position.NonStrict }
+        ensures help { result.help ≡ self.help }
     {
         ParsePositional {
             metavar: self.metavar,
             position: Position::NonStrict,
+            help: self.help,
             of: PhantomData,
         }
     }
@@ -111,7 +161,7 @@ impl<T: FromText + Drop> Parser<T> for ParsePositional<T> {
 
     ghost can_eval = { λ p. Unit {0} };
 
-    ghost describes = { λ p shape. shape ≡ positional_shape p.position p.metavar.0.now };
+    ghost describes = { λ p shape. shape ≡ positional_shape p.position p.metavar.0.now p.help };
 
     ghost reads = { λ p. PositionalReads T T.means p.position };
 
@@ -127,7 +177,8 @@ impl<T: FromText + Drop> Parser<T> for ParsePositional<T> {
 
     fn meta(&self, alloc: Global) -> Result<Meta, AllocError> {
         let metavar = Text::new(alloc, self.metavar.0)?;
-        let item = Meta::Item(Item::Positional { metavar });
+        let help = self.help_copy()?;
+        let item = Meta::Item(Item::Positional { metavar, help });
         match self.position {
             Position::Strict => Ok(Meta::Strict(Box::new(alloc, item)?)),
             Position::Unrestricted | Position::NonStrict => Ok(item),

@@ -9,7 +9,7 @@ use Rattle.bpaf_line.specs.Taking.{TakesValue, RefusesArgument, HasNone}
 use Rattle.bpaf_line.specs.declared.error.Message.{Message}
 use Rattle.bpaf_line.specs.declared.error.Message.TheVariants.{Memory, Missing, ParseFailed, NoArgument}
 use Rattle.bpaf_core.specs.Reading.{Share, Outcome, IsPair, HasItem, item_in}
-use Rattle.bpaf_line.specs.MissingIn.{missing_in}
+use Rattle.bpaf_line.specs.MissingIn.{IsMissingIn}
 use Rattle.bpaf_core.specs.Value.{FaultsText}
 
 -- a key with one of the names and the next place, a Word or an ArgWord, whose text means the value
@@ -23,7 +23,7 @@ pub record ArgumentReads (T : Type 0) (means : List ℕ → T → Type 0) (named
 
 -- a refusal: no key; a key without a value; a text that means no value, its places taken; or want of memory, with nothing taken or both places
 abbrev pub ArgumentFails : {T : Type 0} → (List ℕ → T → Type 0) → Named → List ℕ → Situation → Message → Situation → Type 0
-ArgumentFails means named metavar s (Missing items) t = HasNone (is_argument_key named.names false) s × (t ≡ s) × (items ≡ missing_in s (argument_part named metavar))
+ArgumentFails means named metavar s (Missing items) t = HasNone (is_argument_key named.names false) s × (t ≡ s) × IsMissingIn s (argument_part named metavar) items
 ArgumentFails means named metavar s (NoArgument key m) t = RefusesArgument named.names false metavar s (NoArgument key m) × (t ≡ s)
 ArgumentFails means named metavar s (ParseFailed place fault) t =
     (text : List ℕ) × TakesValue named.names false s text t × FaultsText means text t.current (ParseFailed place fault)

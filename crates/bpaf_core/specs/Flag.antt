@@ -9,7 +9,7 @@ use Rattle.bpaf_line.specs.Taking.{TakesFlag}
 use Rattle.bpaf_line.specs.declared.error.Message.{Message}
 use Rattle.bpaf_line.specs.declared.error.Message.TheVariants.{Memory, Missing}
 use Rattle.bpaf_core.specs.Reading.{Share, Outcome, IsEmptyShare, IsPlace, HasItem}
-use Rattle.bpaf_line.specs.MissingIn.{missing_in}
+use Rattle.bpaf_line.specs.MissingIn.{IsMissingIn}
 
 -- a value that a flag gives where its key is absent: a clone of the absent value, where there is one
 abbrev pub IsAbsentValue : {T : Type 0} → (T → T → Type 0) → Option T → T → Type 0
@@ -23,7 +23,7 @@ pub data FlagReads (T : Type 0) (clones : T → T → Type 0) (named : Named) (p
 
 -- a refusal: a flag without absent value is missing; or a clone, or the refusal, wanted memory
 abbrev pub FlagFails : {T : Type 0} → Named → Option T → Situation → Message → Situation → Type 0
-FlagFails named absent s (Missing items) t = TakesFlag named.names s false t × (absent ≡ None) × (items ≡ missing_in s (flag_part named))
+FlagFails named absent s (Missing items) t = TakesFlag named.names s false t × (absent ≡ None) × IsMissingIn s (flag_part named) items
 FlagFails named absent s Memory t = (found : Bool) × TakesFlag named.names s found t
 FlagFails named absent s m t = ⊥
 

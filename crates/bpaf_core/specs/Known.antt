@@ -3,13 +3,14 @@ use Rattle.std.specs.Prelude.{[], ◌∷◌, ◌++◌, codes}
 use Rattle.bpaf_doc.specs.Shape.{Shape}
 use Rattle.bpaf_doc.specs.Walks.{flag_shorts, argument_shorts}
 use Rattle.bpaf_line.specs.Spelling.{Known}
+use Rattle.bpaf_text.specs.Named.{key_named}
 use Rattle.bpaf_core.specs.declared.info.Info.{Info}
 
 -- what a run knows beside its parser, where nothing is set
 abbrev pub plain_info : Info
 plain_info = record {
-  help_arg = record { names = record { shorts = 104 ∷ []; longs = codes "help" ∷ [] } };
-  version_arg = record { names = record { shorts = 86 ∷ []; longs = codes "version" ∷ [] } };
+  help_arg = key_named (record { shorts = 104 ∷ []; longs = codes "help" ∷ [] });
+  version_arg = key_named (record { shorts = 86 ∷ []; longs = codes "version" ∷ [] });
 }
 
 -- those of the flags and arguments that a parser shows, and as flags those of help and version

@@ -22,4 +22,14 @@ impl Info {
             version_arg: long(alloc, "version")?.short('V')?,
         })
     }
+
+    /// An equal one; refused only for want of memory.
+    pub fn copy(&self) -> Result<Info, AllocError>
+        ensures { IfOk result (λ info. info ≡ self.now) }
+    {
+        Ok(Info {
+            help_arg: self.help_arg.copy()?,
+            version_arg: self.version_arg.copy()?,
+        })
+    }
 }

@@ -1,6 +1,6 @@
 -- From what a run says of the record's parser to options that are dealt out of the words.
 use Rattle.std.proofs.Common.{◌≡◌, ℕ, Bool, true, false, List, [], ◌∷◌, Option, Some, Result, Ok, Err, IfOk, codes, sym, subst, ap, ◌∙◌}
-use Rattle.bpaf_text.specs.Named.{Named}
+use Rattle.bpaf_text.specs.Named.{Named, key_named}
 use Rattle.bpaf_text.specs.Meaning.{SpellsUnsigned}
 use Rattle.bpaf_line.specs.declared.failure.ParseFailure.{ParseFailure}
 use Rattle.bpaf_line.specs.Situation.{Context}
@@ -29,8 +29,8 @@ switch_read clones same named context share v (nowhere none value) =
 pub record IsRecordParser (clones : Bool → Bool → Type 0) (makes : Bool × ℕ → Options → Type 0) (verbose num : Named) (present : Bool) (absent : Option Bool) (info : Info) : Type 0 where
   pub same : (x y : Bool) → clones x y → y ≡ x
   pub made : (x : Bool × ℕ) (v : Options) → makes x v → v ≡ record { verbose = x.0; num = x.1 }
-  pub verbose_is : verbose ≡ record { names = verbose_names }
-  pub num_is : num ≡ record { names = num_names }
+  pub verbose_is : verbose ≡ key_named verbose_names
+  pub num_is : num ≡ key_named num_names
   pub present_is : present ≡ true
   pub absent_is : absent ≡ Some false
   pub info_is : info ≡ plain_info
@@ -50,20 +50,20 @@ RecordDescribes verbose num absent metavar =
     ProductDescribes (BothDescribes (λ shape. shape ≡ flag_shape verbose absent) (LastDescribes (λ shape. shape ≡ argument_shape num metavar)))
 
 -- the known names of what it shows
-known_shown : (metavar : List ℕ) (shape : Shape) → RecordDescribes (record { names = verbose_names }) (record { names = num_names }) (Some false) metavar shape
+known_shown : (metavar : List ℕ) (shape : Shape) → RecordDescribes (key_named verbose_names) (key_named num_names) (Some false) metavar shape
     → known_names plain_info shape ≡ program_known
 known_shown metavar shape shown =
     let fields = shown.1 in
     let last = fields.3 in
-    let are : shown.0 ≡ flag_shape (record { names = verbose_names }) (Some false) ∷ argument_shape (record { names = num_names }) metavar ∷ [] =
-    fields.4 ∙ (ap (λ x. x ∷ fields.1) fields.2 ∙ ap (λ x. flag_shape (record { names = verbose_names }) (Some false) ∷ x) (last.2 ∙ ap (λ x. x ∷ []) last.1)) in
+    let are : shown.0 ≡ flag_shape (key_named verbose_names) (Some false) ∷ argument_shape (key_named num_names) metavar ∷ [] =
+    fields.4 ∙ (ap (λ x. x ∷ fields.1) fields.2 ∙ ap (λ x. flag_shape (key_named verbose_names) (Some false) ∷ x) (last.2 ∙ ap (λ x. x ∷ []) last.1)) in
     ap (known_names plain_info) (shown.2 ∙ ap (λ x. And (members x)) are)
 
 module _ (clones : Bool → Bool → Type 0) (makes : Bool × ℕ → Options → Type 0) (metavar : List ℕ) (words : List (List ℕ)) where
   -- what the record's parser deals out are options dealt out of the words
   options_dealt : ((x y : Bool) → clones x y → y ≡ x) → ((x : Bool × ℕ) (v : Options) → makes x v → v ≡ record { verbose = x.0; num = x.1 }) → (v : Options)
-      → IsDealtOut Options (RecordReads clones makes (record { names = verbose_names }) (record { names = num_names }) true (Some false))
-      (RecordDescribes (record { names = verbose_names }) (record { names = num_names }) (Some false) metavar) plain_info (program_given words) v
+      → IsDealtOut Options (RecordReads clones makes (key_named verbose_names) (key_named num_names) true (Some false))
+      (RecordDescribes (key_named verbose_names) (key_named num_names) (Some false) metavar) plain_info (program_given words) v
       → IsDealtOptions words v
   options_dealt same made v dealt =
       let read = dealt.read.read in
@@ -76,8 +76,8 @@ module _ (clones : Bool → Bool → Type 0) (makes : Bool × ℕ → Options �
         num_share = read.rest_share;
         joins = read.joins;
         verbose = subst (λ (o : Options). SwitchReads verbose_names (program_context dealt.line) read.first_share o.verbose) (sym is)
-            (switch_read clones same (record { names = verbose_names }) (program_context dealt.line) read.first_share dealt.read.values.0 read.first_read);
-        num = subst (λ (o : Options). ArgumentReads ℕ (SpellsUnsigned 64) (record { names = num_names }) (program_context dealt.line) read.rest_share o.num) (sym is) read.rest_read;
+            (switch_read clones same (key_named verbose_names) (program_context dealt.line) read.first_share dealt.read.values.0 read.first_read);
+        num = subst (λ (o : Options). ArgumentReads ℕ (SpellsUnsigned 64) (key_named num_names) (program_context dealt.line) read.rest_share o.num) (sym is) read.rest_read;
       }
 
   -- an answer of the record's parser on the program's words

@@ -3,6 +3,7 @@ use Rattle.std.specs.Prelude.{◌⊎◌, ℕ, Bool, true, false, List, [], ◌�
 use Rattle.std.specs.Io.KnownBytes.{Keeps, Appends}
 use Rattle.bpaf_doc.specs.Names.{Names}
 use Rattle.bpaf_text.specs.Meaning.{SpellsUnsigned}
+use Rattle.bpaf_text.specs.Named.{key_named}
 use Rattle.bpaf_line.specs.declared.arg.Arg.{Arg}
 use Rattle.bpaf_line.specs.Items.{is_key_of}
 use Rattle.bpaf_line.specs.Spelling.{Known}
@@ -43,7 +44,7 @@ pub record IsDealtOptions (words : List (List ℕ)) (v : Options) : Type 0 where
   pub num_share : Share
   pub joins : Joins verbose_share num_share (is_dealt_place line marker)
   pub verbose : SwitchReads verbose_names (program_context line) verbose_share v.verbose
-  pub num : ArgumentReads ℕ (SpellsUnsigned 64) (record { names = num_names }) (program_context line) num_share v.num
+  pub num : ArgumentReads ℕ (SpellsUnsigned 64) (key_named num_names) (program_context line) num_share v.num
 
 -- status 0: nothing on the error writer, and on the other exactly the lines of options that are dealt out of the words
 pub record Succeeds (words : List (List ℕ)) (out out_after err err_after : Option (List ℕ)) : Type 0 where

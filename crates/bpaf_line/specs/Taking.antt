@@ -10,7 +10,7 @@ use Rattle.bpaf_line.specs.declared.error.Message.{Message}
 use Rattle.bpaf_line.specs.declared.error.Message.TheVariants.{Memory, Missing, NoArgument}
 use Rattle.bpaf_line.specs.Items.{is_key_of, is_argument_key, value_text, is_positional, word_text}
 use Rattle.bpaf_line.specs.Situation.{Situation, item_at, is_open, take_place}
-use Rattle.bpaf_line.specs.MissingIn.{missing_in}
+use Rattle.bpaf_line.specs.MissingIn.{IsMissingIn}
 
 -- the item at p is present, in scope, and passes the test
 abbrev pub is_match : (Arg → Bool) → Situation → ℕ → Bool
@@ -61,7 +61,7 @@ pub record TakesText (s : Situation) (place : ℕ) (strict : Bool) (text : List 
 
 -- no word: a positional item is missing; or memory is wanted
 abbrev pub RefusesWord : List ℕ → Situation → Message → Type 0
-RefusesWord metavar s (Missing items) = HasNone is_positional s × (items ≡ missing_in s (Some (Positional metavar)))
+RefusesWord metavar s (Missing items) = HasNone is_positional s × IsMissingIn s (Some (Positional metavar None)) items
 RefusesWord metavar s Memory = ⊤
 RefusesWord metavar s m = ⊥
 

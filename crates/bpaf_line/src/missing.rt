@@ -1,5 +1,4 @@
 ghost use Rattle.std.specs.Prelude.{◌≡◌, IfOk, [], ◌∷◌};
-ghost use Rattle.bpaf_line.specs.Missing.{missed_of};
 
 use bpaf_doc::Item;
 use std::alloc::{AllocError, Global};
@@ -17,19 +16,24 @@ pub struct MissingItem {
 
 /// The items that parsers looked for in vain, in order.
 ///
-/// bpaf has a `Vec` in its place; contracts see this list without its room.
+/// bpaf has a `Vec` in its place; contracts see this list without its room, and compare it by what
+/// its items are seen as (`missed_of`, specs/Missing.antt).
 #[derive(Debug, Drop)]
 pub struct MissingItems {
     items: Vec<MissingItem>,
 }
 
 impl Model for MissingItems {
-    ghost use Rattle.std.specs.Prelude.{List, map};
-    ghost use Rattle.bpaf_line.specs.Missing.{Missed, missed_of};
+    ghost use Rattle.std.specs.Prelude.{List};
+    ghost use Rattle.bpaf_line.specs.declared.missing.MissingItem.{MissingItem};
+    ghost use Rattle.bpaf_doc.specs.contracts.item.Item as item;
+    ghost use Rattle.std.specs.Coded.{codes};
 
-    ghost Value = { List Missed };
+    ghost Value = { List MissingItem };
 
-    ghost view = { λ m. map missed_of m.items.items };
+    ghost coded = { Prim.hlevel (codes, item.the_row.coded) };
+
+    ghost view = { λ m. m.items.items };
 }
 
 impl MissingItems {
@@ -44,7 +48,7 @@ impl MissingItems {
 
     /// One item alone; refused only for want of memory.
     pub fn one(alloc: Global, item: MissingItem) -> Result<MissingItems, AllocError>
-        ensures { IfOk result (λ items. items ≡ missed_of item ∷ []) }
+        ensures { IfOk result (λ items. items ≡ item ∷ []) }
     {
         let mut items = Vec::new(alloc);
         items.push(item)?;

@@ -1,4 +1,4 @@
-ghost use Rattle.std.specs.Prelude.{◌≡◌, ◌+◌, ◌<◌, ◌≤◌, ◌^◌, ◌==◌, length, true, Bool, MatchOption, option_copied, option_to_list, option_map, option_and_then, Some, All, IsUtf8, IfOk, OnOk, IfSome, string_bytes, map};
+ghost use Rattle.std.specs.Prelude.{◌≡◌, ◌+◌, ◌<◌, ◌≤◌, ◌^◌, ◌==◌, length, true, Bool, MatchOption, option_copied, option_to_list, option_map, option_and_then, Some, All, IsUtf8, IfOk, OnOk, IfSome, string_bytes, map, List};
 ghost use Rattle.std.specs.Borrow.{Bor};
 ghost use Rattle.bpaf_line.specs.declared.arg.Arg.{Arg};
 ghost use Rattle.bpaf_line.specs.Arguments.{words_of, name_of, env_of};
@@ -7,7 +7,7 @@ ghost use Rattle.bpaf_line.specs.Items.{is_positional, is_text_among, is_key_of,
 ghost use Rattle.bpaf_line.specs.Situation.{item_at, open_count, first_marks, is_open, take_place, with_current};
 ghost use Rattle.bpaf_line.specs.Taking.{HasNone, IsFirst, value_after, open_item, entry_of, TakesFlag, TakesArgument, TakesWord};
 ghost use Rattle.bpaf_doc.specs.Shape.{part_of};
-ghost use Rattle.bpaf_line.specs.MissingIn.{missing_in};
+ghost use Rattle.bpaf_line.specs.MissingIn.{IsMissingIn};
 
 use crate::arg::Arg;
 use crate::args::Args;
@@ -205,7 +205,10 @@ impl State {
     {
         let Some((place, strict, word)) = self.first_word() else {
             let name = Text::new(self.alloc(), metavar.0)?;
-            return Err(self.missing(Some(Item::Positional { metavar: name }))?);
+            return Err(self.missing(Some(Item::Positional {
+                metavar: name,
+                help: None,
+            }))?);
         };
         let text = word.copy()?;
         self.take(place);
@@ -216,7 +219,7 @@ impl State {
     ///
     /// Refused only for want of memory.
     pub fn missing(&self, item: Option<Item>) -> Result<Error, AllocError>
-        ensures { IfOk result (λ error. error.0 ≡ Message.Missing (missing_in self.now (option_map part_of item))) }
+        ensures { IfOk result (λ error. (items : List MissingItem) × (error.0 ≡ Message.Missing items) × IsMissingIn self.now (option_map part_of item) items) }
     {
         let Some(item) = item else {
             return Ok(Error(Message::Missing(MissingItems::none(self.alloc()))));

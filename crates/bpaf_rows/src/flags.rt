@@ -87,19 +87,17 @@ fn flags_give_their_values(rt: HostRuntime) -> Result<(), Fail> {
     Ok(())
 }
 
-/// The names and the metavar of a shown item, in words.
+/// The names and the metavar of a shown key, in words.
 fn shown(alloc: Global, item: &Item) -> Result<String, AllocError> {
     match item {
-        Item::Flag { name, shorts: _ } => named(alloc, name),
-        Item::Argument {
-            name,
-            shorts: _,
-            metavar,
-        } => {
+        Item::Flag { name, .. } => named(alloc, name),
+        Item::Argument { name, metavar, .. } => {
             let name = named(alloc, name)?;
             format!(in alloc; "{name} {metavar}")
         }
-        Item::Positional { metavar } => format!(in alloc; "{metavar}"),
+        Item::Positional { .. } | Item::Any { .. } | Item::Command { .. } => {
+            String::from_str(alloc, "no key")
+        }
     }
 }
 
@@ -116,7 +114,7 @@ fn shape(alloc: Global, meta: &Meta) -> Result<String, AllocError> {
     match meta {
         Meta::Item(item) => shown(alloc, item),
         Meta::Optional(inner) => optional(alloc, inner),
-        Meta::And(_) | Meta::Strict(_) | Meta::Skip => String::from_str(alloc, "no item"),
+        _ => String::from_str(alloc, "no item"),
     }
 }
 

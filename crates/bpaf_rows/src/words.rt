@@ -1,5 +1,5 @@
 //! Rows on positional words and on joined words.
-use bpaf::{Args, Item, Meta, Parser, construct, positional, short};
+use bpaf::{Args, Doc, Item, Meta, Parser, construct, positional, short};
 use std::alloc::{AllocError, Global};
 use std::test::Fail;
 
@@ -154,5 +154,27 @@ fn positionals_show_their_items(rt: HostRuntime) -> Result<(), Fail> {
     assert!(rt; matches!(&plain, Meta::Item(Item::Positional { .. })));
     let strict = positional::<String>("FILE").strict().meta(a)?;
     assert!(rt; matches!(&strict, Meta::Strict(_)));
+    Ok(())
+}
+
+/// The help of a shown positional word, where it has one.
+fn help_of(meta: &Meta) -> Result<Option<String>, AllocError> {
+    match meta {
+        Meta::Item(Item::Positional { help, .. }) => match help {
+            Some(help) => Ok(Some(help.monochrome(true)?)),
+            None => Ok(None),
+        },
+        _ => Ok(None),
+    }
+}
+
+#[test]
+fn positionals_show_their_help(rt: HostRuntime) -> Result<(), Fail> {
+    let a = rt.alloc();
+    let help = Doc::from_text(a, "File to process")?;
+    let word = positional::<String>("FILE").help(help);
+    assert!(rt; is(help_of(&word.meta(a)?)?, "File to process"));
+    assert!(rt; is(help_of(&word.copy()?.meta(a)?)?, "File to process"));
+    assert!(rt; help_of(&positional::<String>("FILE").meta(a)?)?.is_none());
     Ok(())
 }

@@ -1,16 +1,22 @@
 -- A key before it becomes a parser, as contracts see it, and the part that it shows.
-use Rattle.std.specs.Prelude.{ℕ, List, [], ◌∷◌, ◌++◌, Option}
+use Rattle.std.specs.Prelude.{ℕ, List, [], ◌∷◌, ◌++◌, Option, Some, None}
 use Rattle.std.specs.Option.{option_map}
+use Rattle.bpaf_doc.specs.declared.doc.Piece.{Piece}
 use Rattle.bpaf_doc.specs.Names.{Names}
 use Rattle.bpaf_doc.specs.Shape.{Part, Flag, Argument, shown_name}
 
--- what a key holds
+-- what a key holds: its names, and the help that is shown with it
 pub record Named : Type 0 where
   pub names : Names
+  pub help : Option (List Piece)
+
+-- a key with these names, without help
+abbrev pub key_named : Names → Named
+key_named names = record { names = names; help = None }
 
 -- a key that holds nothing
 abbrev pub nothing_named : Named
-nothing_named = record { names = record { shorts = []; longs = [] } }
+nothing_named = key_named (record { shorts = []; longs = [] })
 
 -- the key with one more short name, behind those that it has
 abbrev pub with_short : Named → ℕ → Named
@@ -22,12 +28,16 @@ abbrev pub with_long : Named → List ℕ → Named
 with_long named name =
     record named { names = record named.names { longs = named.names.longs ++ name ∷ [] } }
 
+-- the key with this help, in place of the one that it has
+abbrev pub with_help : Named → List Piece → Named
+with_help named help = record named { help = Some help }
+
 -- the part that a key without a value shows; none where it has no name
 abbrev pub flag_part : Named → Option Part
 flag_part named =
-    option_map (λ name. Flag name named.names.shorts) (shown_name named.names)
+    option_map (λ name. Flag name named.names.shorts None named.help) (shown_name named.names)
 
 -- the part that a key with a value shows, with its metavar; none where it has no name
 abbrev pub argument_part : Named → List ℕ → Option Part
 argument_part named metavar =
-    option_map (λ name. Argument name named.names.shorts metavar) (shown_name named.names)
+    option_map (λ name. Argument name named.names.shorts metavar None named.help) (shown_name named.names)

@@ -2,10 +2,10 @@ ghost use Rattle.std.specs.Prelude.{◌≡◌, Some, None, true, false, IfOk};
 ghost use Rattle.std.specs.Option.{option_map};
 ghost use Rattle.bpaf_doc.specs.Shape.{name_of, part_of, shown_name};
 ghost use Rattle.bpaf_text.specs.Named.{flag_part, argument_part};
-ghost use Rattle.bpaf_text.specs.Named.{nothing_named, with_short, with_long};
+ghost use Rattle.bpaf_text.specs.Named.{nothing_named, with_short, with_long, with_help};
 
 use crate::params::{ParseArgument, ParseFlag, build_argument, build_flag_parser};
-use bpaf_doc::{Item, Metavar, ShortLong, Text};
+use bpaf_doc::{Doc, Item, Metavar, ShortLong, Text};
 use std::alloc::{AllocError, Global};
 use std::marker::Model;
 
@@ -26,6 +26,7 @@ use std::marker::Model;
 pub struct NamedArg {
     shorts: Vec<char>,
     longs: Vec<Text>,
+    help: Option<Doc>,
 }
 
 impl Model for NamedArg {
@@ -34,7 +35,10 @@ impl Model for NamedArg {
     ghost Value = { Named };
 
     ghost view = { λ named.
-        record { names = record { shorts = named.shorts.items; longs = named.longs.items } } };
+        record {
+          names = record { shorts = named.shorts.items; longs = named.longs.items };
+          help = named.help;
+        } };
 }
 
 /// A key with one short name, such as `v` for `-v` (bpaf's `short`, in `lib.rs`); refused only
@@ -47,6 +51,7 @@ pub fn short(alloc: Global, name: char) -> Result<NamedArg, AllocError>
     Ok(NamedArg {
         shorts,
         longs: Vec::new(alloc),
+        help: None,
     })
 }
 
@@ -60,6 +65,7 @@ pub fn long(alloc: Global, name: &str) -> Result<NamedArg, AllocError>
     Ok(NamedArg {
         shorts: Vec::new(alloc),
         longs,
+        help: None,
     })
 }
 
@@ -81,6 +87,18 @@ impl NamedArg {
         let name = Text::new(*self.longs.allocator(), name)?;
         self.longs.push(name)?;
         Ok(self)
+    }
+
+    /// The key with this help, in place of the one that it has. It takes no memory.
+    ///
+    /// ```text
+    /// let size = long(alloc, "size")?.help(Doc::from_text(alloc, "Width of a line")?);
+    /// ```
+    pub fn help(mut self, help: Doc) -> NamedArg
+        ensures { result ≡ with_help self help }
+    {
+        self.help = Some(help);
+        self
     }
 
     /// All short names, in the order in which they were given.
@@ -144,6 +162,8 @@ impl NamedArg {
             Some(name) => Ok(Some(Item::Flag {
                 name,
                 shorts: Vec::from_slice(alloc, self.shorts())?,
+                env: None,
+                help: self.help_copy()?,
             })),
             None => Ok(None),
         }
@@ -160,6 +180,8 @@ impl NamedArg {
                 name,
                 shorts: Vec::from_slice(alloc, self.shorts())?,
                 metavar: Text::new(alloc, metavar.0)?,
+                env: None,
+                help: self.help_copy()?,
             })),
             None => Ok(None),
         }
@@ -190,6 +212,20 @@ impl NamedArg {
         for long in &self.longs {
             longs.push(long.copy()?)?;
         }
-        Ok(NamedArg { shorts, longs })
+        Ok(NamedArg {
+            shorts,
+            longs,
+            help: self.help_copy()?,
+        })
+    }
+
+    /// An equal help, where there is one; refused only for want of memory.
+    fn help_copy(&self) -> Result<Option<Doc>, AllocError>
+        ensures { IfOk result (λ help. help ≡ self.now.help) }
+    {
+        match &self.help {
+            Some(help) => Ok(Some(help.copy()?)),
+            None => Ok(None),
+        }
     }
 }

@@ -1,7 +1,9 @@
-ghost use Rattle.std.specs.Prelude.{◌≡◌};
+ghost use Rattle.std.specs.Prelude.{◌≡◌, IfOk, IsSomeAnd, MatchOption, None};
+ghost use Rattle.bpaf_text.specs.Named.{with_help};
 
 use crate::named::NamedArg;
-use bpaf_doc::Metavar;
+use bpaf_doc::{Doc, Metavar};
+use std::alloc::AllocError;
 use std::marker::PhantomData;
 
 /// A key without a value: `present` where it stands on the line, and `absent` where it does not
@@ -29,6 +31,68 @@ pub struct ParseArgument<T> {
     pub metavar: Metavar,
     /// The type of the value.
     pub of: PhantomData<T>,
+}
+
+impl<T> ParseFlag<T> {
+    /// The flag with this help, in place of the one that it has (bpaf's `ParseFlag::help`). It takes
+    /// no memory.
+    pub fn help(self, help: Doc) -> ParseFlag<T>
+        ensures { result ≡ record self { named = with_help self.named help } }
+    {
+        ParseFlag {
+            named: self.named.help(help),
+            present: self.present,
+            absent: self.absent,
+        }
+    }
+}
+
+impl<T: Clone + Drop> ParseFlag<T> {
+    /// The same flag, with clones of its values; where clones equal their source it is an equal one.
+    ///
+    /// Refused only for want of memory.
+    pub fn copy(&self) -> Result<ParseFlag<T>, AllocError>
+        ensures named { IfOk result (λ flag. flag.named ≡ self.now.named) }
+        ensures present { IfOk result (λ flag. T.is_clone self.now.present flag.present) }
+        ensures absent { IfOk result (λ flag. MatchOption self.now.absent (flag.absent ≡ None) (λ kept. IsSomeAnd flag.absent (T.is_clone kept))) }
+    {
+        let absent = match &self.absent {
+            Some(absent) => Some(absent.clone()?),
+            None => None,
+        };
+        Ok(ParseFlag {
+            present: self.present.clone()?,
+            absent,
+            named: self.named.copy()?,
+        })
+    }
+}
+
+impl<T> ParseArgument<T> {
+    /// The argument with this help, in place of the one that it has (bpaf's `ParseArgument::help`).
+    /// It takes no memory.
+    pub fn help(self, help: Doc) -> ParseArgument<T>
+        ensures named { result.named ≡ with_help self.named help }
+        ensures metavar { result.metavar ≡ self.metavar }
+    {
+        ParseArgument {
+            named: self.named.help(help),
+            metavar: self.metavar,
+            of: PhantomData,
+        }
+    }
+
+    /// An equal argument; refused only for want of memory.
+    pub fn copy(&self) -> Result<ParseArgument<T>, AllocError>
+        ensures named { IfOk result (λ argument. argument.named ≡ self.now.named) }
+        ensures metavar { IfOk result (λ argument. argument.metavar ≡ self.now.metavar) }
+    {
+        Ok(ParseArgument {
+            named: self.named.copy()?,
+            metavar: self.metavar,
+            of: PhantomData,
+        })
+    }
 }
 
 /// A flag of these parts.

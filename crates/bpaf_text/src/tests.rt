@@ -2,7 +2,7 @@ ghost use Rattle.std.specs.Prelude.{◌≡◌, codes};
 ghost use Rattle.bpaf_text.specs.Meaning.{ReadsText};
 
 use crate::{FromText, NamedArg, TextFault, long, short};
-use bpaf_doc::{Item, Metavar, ShortLong};
+use bpaf_doc::{Doc, Item, Metavar, ShortLong};
 use std::alloc::{AllocError, Global};
 use std::fmt::Debug;
 use std::process::Abort;
@@ -153,7 +153,7 @@ fn keys_become_flags_and_arguments(rt: HostRuntime) -> Result<(), Fail> {
 fn keys_show_their_first_names(rt: HostRuntime) -> Result<(), Fail> {
     let alloc = rt.alloc();
     match size(alloc)?.flag_item(alloc)? {
-        Some(Item::Flag { name, shorts }) => {
+        Some(Item::Flag { name, shorts, .. }) => {
             assert!(rt; matches!(&name, ShortLong::Both('s', long) if long.as_str() == "size"));
             assert_eq!(rt; shorts.as_slice(), ['s', 'n'].as_slice());
         }
@@ -165,6 +165,7 @@ fn keys_show_their_first_names(rt: HostRuntime) -> Result<(), Fail> {
                 name,
                 shorts,
                 metavar,
+                ..
             },
         ) => {
             assert!(rt; matches!(&name, ShortLong::Long(long) if long.as_str() == "size"));
@@ -173,5 +174,68 @@ fn keys_show_their_first_names(rt: HostRuntime) -> Result<(), Fail> {
         }
         other => panic!(rt; "{other:?}"),
     }
+    Ok(())
+}
+
+// The help of a shown key, where it has one.
+fn help_of(item: Option<Item>) -> Result<Option<String>, AllocError> {
+    match item {
+        Some(Item::Flag { help, .. } | Item::Argument { help, .. }) => match help {
+            Some(help) => Ok(Some(help.monochrome(true)?)),
+            None => Ok(None),
+        },
+        _ => Ok(None),
+    }
+}
+
+// Asserts that the key shows this help.
+fn expect_help(
+    rt: &impl Abort,
+    alloc: Global,
+    key: &NamedArg,
+    text: &str,
+) -> Result<(), AllocError> {
+    let flag = help_of(key.flag_item(alloc)?)?;
+    assert!(rt; flag.is_some_and(|help| help.as_str() == text));
+    let argument = help_of(key.argument_item(alloc, Metavar("NUM"))?)?;
+    assert!(rt; argument.is_some_and(|help| help.as_str() == text));
+    Ok(())
+}
+
+#[test]
+fn keys_show_their_help(rt: HostRuntime) -> Result<(), Fail> {
+    let alloc = rt.alloc();
+    assert!(rt; help_of(size(alloc)?.flag_item(alloc)?)?.is_none());
+    let key = size(alloc)?.help(Doc::from_text(alloc, "one")?);
+    expect_help(&rt, alloc, &key, "one")?;
+    expect_help(&rt, alloc, &key.copy()?, "one")?;
+    expect_help(&rt, alloc, &key.help(Doc::from_text(alloc, "two")?), "two")?;
+    Ok(())
+}
+
+#[test]
+fn flags_and_arguments_take_help(rt: HostRuntime) -> Result<(), Fail> {
+    let alloc = rt.alloc();
+    let flag = size(alloc)?.flag(3, 4).help(Doc::from_text(alloc, "one")?);
+    assert_eq!(rt; (flag.present, flag.absent), (3, Some(4)));
+    expect_help(&rt, alloc, &flag.named, "one")?;
+    let argument = size(alloc)?.argument::<u32>("NUM");
+    let argument = argument.help(Doc::from_text(alloc, "two")?);
+    assert_eq!(rt; argument.metavar.0, "NUM");
+    expect_help(&rt, alloc, &argument.named, "two")?;
+    Ok(())
+}
+
+#[test]
+fn flags_and_arguments_are_copied(rt: HostRuntime) -> Result<(), Fail> {
+    let alloc = rt.alloc();
+    let flag = size(alloc)?.flag(3, 4).copy()?;
+    assert_eq!(rt; (flag.present, flag.absent), (3, Some(4)));
+    expect_names(&rt, &flag.named, &['s', 'n'], &["size", "number"]);
+    let required = size(alloc)?.req_flag(5).copy()?;
+    assert_eq!(rt; (required.present, required.absent), (5, None));
+    let argument = size(alloc)?.argument::<u32>("NUM").copy()?;
+    assert_eq!(rt; argument.metavar.0, "NUM");
+    expect_names(&rt, &argument.named, &['s', 'n'], &["size", "number"]);
     Ok(())
 }
