@@ -37,3 +37,5 @@ pub use state::{Mark, State};
 
 #[cfg(test)]
 mod tests;
+#[cfg(test)]
+mod tests_state;

@@ -7,7 +7,7 @@ use std::alloc::{AllocError, Global};
 use std::collections::BTreeMap;
 use std::test::Fail;
 
-fn begun(
+pub(crate) fn begun(
     alloc: Global,
     args: Args<'_>,
     flags: &[char],
@@ -24,7 +24,7 @@ fn texts(alloc: Global, names: &[&str]) -> Result<Vec<Text>, AllocError> {
     Ok(all)
 }
 
-fn value(
+pub(crate) fn value(
     state: &mut State,
     shorts: &[char],
     longs: &[&str],
@@ -270,7 +270,7 @@ fn words_name_and_environment_are_lent(rt: HostRuntime) -> Result<(), Fail> {
 }
 
 /// The text of the first word that is taken.
-fn word(state: &mut State) -> Result<String, &'static str> {
+pub(crate) fn word(state: &mut State) -> Result<String, &'static str> {
     match state.take_positional_word(Metavar("FILE")) {
         Ok((_, _, text)) => Ok(text),
         Err(_) => Err("refused"),
