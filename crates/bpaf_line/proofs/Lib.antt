@@ -7,4 +7,5 @@ pub mod OneLine
 pub mod Places
 pub mod Items
 pub mod Sound
+pub mod OpenItems
 pub mod Beginning

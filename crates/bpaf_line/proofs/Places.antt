@@ -1,11 +1,11 @@
 -- Places: what a place that is taken changes. The layers above cite these lemmas in place of the marks.
-use Rattle.std.proofs.Common.{◌≡◌, ◌≢◌, ℕ, zero, suc, ◌+◌, ◌<◌, ◌≤◌, Bool, true, false, not, ◌&&◌, ◌||◌, List, length, refl, ap, sym, ◌∙◌, arith, if◌then◌else◌, get_or-set_same, get_or-set_other, length-set, ⊎_elim, nat_lt, slice_index_or, slice_set}
+use Rattle.std.proofs.Common.{◌≡◌, ◌≢◌, ℕ, zero, suc, ◌+◌, ◌<◌, ◌≤◌, Bool, true, false, not, ◌&&◌, ◌||◌, List, Option, length, refl, ap, sym, ◌∙◌, arith, if◌then◌else◌, get_or-set_same, get_or-set_other, length-set, ⊎_elim, nat_lt, nat_le, slice_index_or, slice_set}
 use Rattle.std.proofs.lemmas.Bool.{cases_lt}
 use Rattle.std.proofs.lemmas.Bool.Decides.{nat_tests}
 use Rattle.std.proofs.lemmas.List.{get_or_past}
 use Rattle.bpaf_line.specs.declared.state.Mark.{Mark}
 use Rattle.bpaf_line.specs.declared.state.Mark.TheVariants.{Taken}
-use Rattle.bpaf_line.specs.Situation.{Situation, is_open, is_taken, in_scope, is_taken_mark, take_place, count_below, open_count}
+use Rattle.bpaf_line.specs.Situation.{Situation, is_open, is_taken, in_scope, is_taken_mark, take_place, with_scope, with_path, with_current, item_at, count_below, open_count}
 
 -- two sets that agree below n have as many numbers there
 pub count_below-same : (f g : ℕ → Bool) (n : ℕ) → ((q : ℕ) → q < n → f q ≡ g q) → count_below f n ≡ count_below g n
@@ -35,6 +35,22 @@ count_below-fewer f g (suc n) p within has lacks agree =
     let lacking : g n ≡ false = ap g at ∙ lacks in
     rw (there, lacking, same) refl)
     (cases_lt p n)
+
+-- a set without numbers below n has none of them
+pub count_below-none : (f : ℕ → Bool) (n : ℕ) → ((q : ℕ) → q < n → f q ≡ false) → count_below f n ≡ 0
+count_below-none f zero lacks = refl
+count_below-none f (suc n) lacks =
+    let below = count_below-none f n (λ q l. lacks q (omega arith)) in
+    rw (lacks n (omega arith)) below
+
+-- a set without numbers from n on has no more of them
+pub count_below-cut : (f : ℕ → Bool) (n m : ℕ) → n ≤ m → ((q : ℕ) → n ≤ q → f q ≡ false) → count_below f m ≡ count_below f n
+count_below-cut f n zero within lacks = let at : n ≡ 0 = omega arith in rw at refl
+count_below-cut f n (suc m) within lacks =
+    ⊎_elim
+    (λ (below : m < n). let at : n ≡ suc m = omega arith in rw at refl)
+    (λ (above : n ≤ m). rw (lacks m above) (count_below-cut f n m above lacks))
+    (cases_lt m n)
 
 -- a set with all numbers below n has n of them
 pub count_below-all : (f : ℕ → Bool) (n : ℕ) → ((q : ℕ) → q < n → f q ≡ true) → count_below f n ≡ n
@@ -96,3 +112,51 @@ open_count-take_place s p there =
     count_below-fewer (is_open s) (is_open (take_place s p)) (length s.context.line) p (open_in_line s p there) there
     (ap (λ t. in_scope s p && not t) (taken_here s p) ∙ and_false (in_scope s p))
     (λ q other. ap (λ t. in_scope s q && not t) (sym (taken_other s p q other)))
+
+-- another scope leaves each item
+pub item_after_scope : (s : Situation) (start end p : ℕ) → item_at (with_scope s start end) p ≡ item_at s p
+item_after_scope s start end p = refl
+
+-- another scope leaves what is taken
+pub taken_after_scope : (s : Situation) (start end p : ℕ) → is_taken (with_scope s start end) p ≡ is_taken s p
+taken_after_scope s start end p = refl
+
+-- the places from its start up to its end are in it
+pub in_new_scope : (s : Situation) (start end p : ℕ) → in_scope (with_scope s start end) p ≡ (nat_le start p && nat_lt p end)
+in_new_scope s start end p = refl
+
+-- a place of the new scope is open in it where it isn't taken
+pub open_after_scope : (s : Situation) (start end p : ℕ) → is_open (with_scope s start end) p ≡ ((nat_le start p && nat_lt p end) && not (is_taken s p))
+open_after_scope s start end p = refl
+
+-- a scope and then another is that other
+pub scope_twice : (s : Situation) (a b start end : ℕ) → with_scope (with_scope s a b) start end ≡ with_scope s start end
+scope_twice s a b start end = refl
+
+-- the scope that is there already changes nothing
+pub scope_as_it_was : (s : Situation) → with_scope s s.start s.end ≡ s
+scope_as_it_was s = refl
+
+-- a place taken under another scope is taken as under the old one
+pub take_in_scope : (s : Situation) (start end p : ℕ) → take_place (with_scope s start end) p ≡ with_scope (take_place s p) start end
+take_in_scope s start end p = refl
+
+-- a longer path leaves each item
+pub item_after_path : (s : Situation) (entry : List ℕ) (p : ℕ) → item_at (with_path s entry) p ≡ item_at s p
+item_after_path s entry p = refl
+
+-- a longer path leaves what is taken
+pub taken_after_path : (s : Situation) (entry : List ℕ) (p : ℕ) → is_taken (with_path s entry) p ≡ is_taken s p
+taken_after_path s entry p = refl
+
+-- a longer path leaves what is open
+pub open_after_path : (s : Situation) (entry : List ℕ) (p : ℕ) → is_open (with_path s entry) p ≡ is_open s p
+open_after_path s entry p = refl
+
+-- a longer path leaves the count of open places
+pub open_count-with_path : (s : Situation) (entry : List ℕ) → open_count (with_path s entry) ≡ open_count s
+open_count-with_path s entry = refl
+
+-- another current place leaves what is open
+pub open_after_current : (s : Situation) (current : Option ℕ) (p : ℕ) → is_open (with_current s current) p ≡ is_open s p
+open_after_current s current p = refl

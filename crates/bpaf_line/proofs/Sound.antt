@@ -1,16 +1,20 @@
 -- Steps that keep a state sound.
-use Rattle.std.proofs.Common.{◌≡◌, ℕ, ◌+◌, ◌-◌, ◌<◌, ◌≤◌, true, length, arith, Some, length-set, ap, List, get_or, ◌∙◌}
+use Rattle.std.proofs.Common.{◌≡◌, ℕ, ◌+◌, ◌-◌, ◌<◌, ◌≤◌, true, false, length, arith, Some, length-set, ap, sym, subst, refl, List, get_or, ◌∙◌, map, string_bytes, IfSome, slice_get, Option, Vec, String}
 use Rattle.std.specs.Vec.{with_item}
 use Rattle.bpaf_line.specs.declared.state.Mark.TheVariants.{Taken}
 use Rattle.bpaf_line.specs.declared.state.State.TheInside.{Inside}
-use Rattle.bpaf_line.specs.Situation.{is_open}
-use Rattle.bpaf_line.specs.Inside.{situation_of, IsSound}
+use Rattle.bpaf_line.specs.Situation.{is_open, open_count, with_scope, count_below}
+use Rattle.bpaf_line.specs.Inside.{situation_of, IsSound, is_present_from}
 use Rattle.bpaf_line.specs.declared.arg.Arg.{Arg}
 use Rattle.bpaf_line.specs.Items.{value_text}
 use Rattle.bpaf_line.specs.Taking.{value_after}
 use Rattle.std.specs.Rc.{rc_slice_items}
-use Rattle.bpaf_line.proofs.Places.{open_count-take_place, open_in_scope}
+use Rattle.std.specs.declared.rc.RcSlice.{RcSlice}
+use Rattle.std.specs.declared.alloc.Global.{Global}
+use Rattle.bpaf_line.specs.declared.state.Mark.{Mark}
+use Rattle.bpaf_line.proofs.Places.{open_count-take_place, open_in_scope, count_below-same, count_below-cut}
 use Rattle.bpaf_line.proofs.Items.{value_is}
+use Rattle.std.proofs.lemmas.Bool.Decides.{nat_tests}
 
 -- where a place is open, the count of those left isn't nothing
 pub open_left : (s : Inside) (p : ℕ) → IsSound s → is_open (situation_of s) p ≡ true → 1 ≤ s.left
@@ -39,3 +43,52 @@ open_below_end s p o = omega (arith, open_in_scope (situation_of s) p o)
 pub value_of : (s : Inside) (p : ℕ) (xs : List Arg) (item : Arg) → IsSound s → xs ≡ rc_slice_items s.items → is_open (situation_of s) (p + 1) ≡ true
     → item ≡ get_or xs (p + 1) item → value_after (situation_of s) p ≡ value_text item
 value_of s p xs item h e o i = value_is (situation_of s) p item o (open_in_line s (p + 1) h o) (i ∙ ap (λ ys. get_or ys (p + 1) item) e)
+
+-- another sound state of the same situation, with the same count
+pub sound_same : (i j : Inside) → situation_of i ≡ situation_of j → i.left ≡ j.left → IsSound j → IsSound i
+sound_same i j same left h = record {
+  marked = ap (λ s. length s.marks) same ∙ (h.marked ∙ sym (ap (λ s. length s.context.line) same));
+  ordered = rw (ap (λ s. s.start) same, ap (λ s. s.end) same) h.ordered;
+  inside = rw (ap (λ s. s.end) same, ap (λ s. length s.context.line) same) h.inside;
+  counted = left ∙ (h.counted ∙ sym (ap open_count same));
+  named = subst (λ s. IfSome s.context.name (λ n. slice_get s.path 0 ≡ Some n)) (sym same) h.named;
+}
+
+-- a state with equal parts in the place of some of its own
+abbrev pub with_parts : Inside → RcSlice Arg Global → RcSlice (List ℕ × List ℕ) Global → Vec Mark Global → Vec (String Global) Global → Option (List ℕ) → Inside
+with_parts i items env marks path name = record i { items = items; env = env; marks = marks; path = path; name = name }
+
+-- it is of the same situation
+pub same_parts : (i : Inside) (items : RcSlice Arg Global) (env : RcSlice (List ℕ × List ℕ) Global) (marks : Vec Mark Global) (path : Vec (String Global) Global) (name : Option (List ℕ))
+    → rc_slice_items items ≡ rc_slice_items i.items → rc_slice_items env ≡ rc_slice_items i.env → marks.items ≡ i.marks.items → map string_bytes path.items ≡ map string_bytes i.path.items → name ≡ i.name
+    → situation_of (with_parts i items env marks path name) ≡ situation_of i
+same_parts i items env marks path name same_items same_env same_marks same_path same_name = rw (same_items, same_env, same_marks, same_path, same_name) refl
+
+-- and sound
+pub sound_parts : (i : Inside) (items : RcSlice Arg Global) (env : RcSlice (List ℕ × List ℕ) Global) (marks : Vec Mark Global) (path : Vec (String Global) Global) (name : Option (List ℕ))
+    → rc_slice_items items ≡ rc_slice_items i.items → rc_slice_items env ≡ rc_slice_items i.env → marks.items ≡ i.marks.items → map string_bytes path.items ≡ map string_bytes i.path.items → name ≡ i.name
+    → IsSound i → IsSound (with_parts i items env marks path name)
+sound_parts i items env marks path name same_items same_env same_marks same_path same_name h =
+    sound_same (with_parts i items env marks path name) i (same_parts i items env marks path name same_items same_env same_marks same_path same_name) refl h
+
+-- a place of the line below the end of a scope is open in it where it is present from its start on
+present_is_open : (i : Inside) (start end q : ℕ) → end ≤ length (rc_slice_items i.items) → q < end → is_present_from i.marks.items start q ≡ is_open (with_scope (situation_of i) start end) q
+present_is_open i start end q inside within = grind (arith, nat_tests)
+
+-- no place is open from the end of a scope on
+none_open_past : (i : Inside) (start end q : ℕ) → end ≤ q → is_open (with_scope (situation_of i) start end) q ≡ false
+none_open_past i start end q past = grind (arith, nat_tests)
+
+-- a new scope, counted anew, is sound
+pub sound_scope : (i : Inside) (start end left : ℕ) → IsSound i → start ≤ end → end ≤ length (rc_slice_items i.items) → left ≡ count_below (is_present_from i.marks.items start) end
+    → IsSound (record i { start = start; end = end; left = left })
+sound_scope i start end left h ordered inside counted =
+    let s = with_scope (situation_of i) start end in
+    record {
+      marked = h.marked;
+      ordered = ordered;
+      inside = inside;
+      counted = counted ∙ (count_below-same (is_present_from i.marks.items start) (is_open s) end (λ q within. present_is_open i start end q inside within)
+          ∙ sym (count_below-cut (is_open s) end (length (rc_slice_items i.items)) inside (λ q past. none_open_past i start end q past)));
+      named = h.named;
+    }

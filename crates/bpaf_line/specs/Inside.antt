@@ -1,8 +1,10 @@
 -- What a `State` is kept as, and what it then means.
-use Rattle.std.specs.Prelude.{◌≡◌, ◌≤◌, length, map, string_bytes, IfSome, slice_get, Some}
+use Rattle.std.specs.Prelude.{◌≡◌, ◌≤◌, ℕ, Bool, not, ◌&&◌, nat_le, List, length, map, string_bytes, IfSome, slice_get, slice_index_or, Some}
 use Rattle.std.specs.Rc.{rc_slice_items}
 use Rattle.bpaf_line.specs.declared.state.State.TheInside.{Inside}
-use Rattle.bpaf_line.specs.Situation.{Situation, open_count}
+use Rattle.bpaf_line.specs.declared.state.Mark.{Mark}
+use Rattle.bpaf_line.specs.declared.state.Mark.TheVariants.{Taken}
+use Rattle.bpaf_line.specs.Situation.{Situation, is_taken_mark, open_count}
 
 -- the situation that a kept state means
 abbrev pub situation_of : Inside → Situation
@@ -22,3 +24,7 @@ pub record IsSound (s : Inside) : Type 0 where
   pub inside : s.end ≤ length (rc_slice_items s.items)
   pub counted : s.left ≡ open_count (situation_of s)
   pub named : IfSome s.name (λ n. slice_get (map string_bytes s.path.items) 0 ≡ Some n)
+
+-- a place is at least the start, and its mark is not that of a taken one
+abbrev pub is_present_from : List Mark → ℕ → ℕ → Bool
+is_present_from marks start p = nat_le start p && not (is_taken_mark (slice_index_or marks p Taken))

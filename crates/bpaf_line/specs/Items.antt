@@ -1,6 +1,7 @@
 -- Items: what a test on one computes.
 use Rattle.std.specs.Prelude.{ℕ, Bool, true, false, not, ◌&&◌, ◌==◌, List, ◌++◌, Option, Some, None, bytes_eq, codes, encode_utf8}
 use Rattle.std.specs.List.{list_any}
+use Rattle.std.specs.Option.{option_map_or}
 use Rattle.bpaf_doc.specs.Names.{Names}
 use Rattle.bpaf_line.specs.declared.arg.Arg.{Arg}
 use Rattle.bpaf_line.specs.declared.arg.Arg.TheVariants.{Short, Long, ArgWord, Word, PosWord}
@@ -56,6 +57,23 @@ word_text (Long name attached word) = None
 word_text (ArgWord text) = None
 word_text (Word text) = Some (false, text)
 word_text (PosWord text) = Some (true, text)
+
+-- the whole word by which an item may name a command: that of a Word, of a Short, or of a Long that isn't attached
+abbrev pub command_word : Arg → Option (List ℕ)
+command_word (Short c attached word) = Some word
+command_word (Long name true word) = None
+command_word (Long name false word) = Some word
+command_word (ArgWord text) = None
+command_word (Word text) = Some text
+command_word (PosWord text) = None
+
+-- an item is the word of a command
+abbrev pub is_command_word : List ℕ → Arg → Bool
+is_command_word word item = option_map_or (λ own. bytes_eq own word) (command_word item) false
+
+-- every item
+abbrev pub any_item : Arg → Bool
+any_item item = true
 
 -- how an item is printed: a key without its value, every other item as its text
 abbrev pub display : Arg → List ℕ

@@ -10,4 +10,5 @@ pub mod Situation
 pub mod Inside
 pub mod MissingIn
 pub mod Taking
+pub mod OpenItems
 pub mod Constructing

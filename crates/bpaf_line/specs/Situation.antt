@@ -1,7 +1,8 @@
 -- A parse in progress, as contracts see it: the line, which of its places are taken, and the scope.
 -- The layers above speak by `item_at`, `is_taken`, `in_scope`, `is_open`, `open_count` and the steps
--- `take_place`, `with_current`, `beginning` alone, so that the marks may be kept otherwise.
-use Rattle.std.specs.Prelude.{ℕ, ◌+◌, ◌==◌, Bool, true, false, not, ◌&&◌, ◌||◌, List, length, Option, Some, None, zero, suc, nat_lt, nat_le, if◌then◌else◌, slice_get, slice_index_or, slice_set, replicate, option_to_list}
+-- `take_place`, `with_scope`, `with_path`, `with_current`, `beginning` alone, so that the marks may be
+-- kept otherwise.
+use Rattle.std.specs.Prelude.{ℕ, ◌+◌, ◌==◌, Bool, true, false, not, ◌&&◌, ◌||◌, List, [], ◌∷◌, ◌++◌, length, Option, Some, None, zero, suc, nat_lt, nat_le, if◌then◌else◌, slice_get, slice_index_or, slice_set, replicate, option_to_list}
 use Rattle.bpaf_line.specs.declared.arg.Arg.{Arg}
 use Rattle.bpaf_line.specs.declared.state.Mark.{Mark}
 use Rattle.bpaf_line.specs.declared.state.Mark.TheVariants.{Present, Taken}
@@ -58,6 +59,14 @@ open_count s = count_below (is_open s) (length s.context.line)
 -- a place taken, which is then the current one
 abbrev pub take_place : Situation → ℕ → Situation
 take_place s p = record s { marks = slice_set s.marks p Taken; current = Some p }
+
+-- another scope
+abbrev pub with_scope : Situation → ℕ → ℕ → Situation
+with_scope s start end = record s { start = start; end = end }
+
+-- one name more at the end of the path
+abbrev pub with_path : Situation → List ℕ → Situation
+with_path s entry = record s { path = s.path ++ entry ∷ [] }
 
 -- another current place, or none
 abbrev pub with_current : Situation → Option ℕ → Situation

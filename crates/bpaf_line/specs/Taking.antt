@@ -8,8 +8,8 @@ use Rattle.bpaf_line.specs.declared.arg.Arg.{Arg}
 use Rattle.bpaf_line.specs.declared.error.Error.{Error}
 use Rattle.bpaf_line.specs.declared.error.Message.{Message}
 use Rattle.bpaf_line.specs.declared.error.Message.TheVariants.{Memory, Missing, NoArgument}
-use Rattle.bpaf_line.specs.Items.{is_key_of, is_argument_key, value_text, is_positional, word_text}
-use Rattle.bpaf_line.specs.Situation.{Situation, item_at, is_open, take_place}
+use Rattle.bpaf_line.specs.Items.{is_key_of, is_argument_key, value_text, is_positional, word_text, any_item, is_command_word}
+use Rattle.bpaf_line.specs.Situation.{Situation, item_at, is_open, take_place, with_current}
 use Rattle.bpaf_line.specs.MissingIn.{IsMissingIn}
 
 -- the item at p is present, in scope, and passes the test
@@ -69,6 +69,20 @@ RefusesWord metavar s m = ⊥
 abbrev pub TakesWord : List ℕ → Situation → Result (ℕ × Bool × String Global) Error → Situation → Type 0
 TakesWord metavar s (Ok r) t = TakesText s r.0 r.1 (string_bytes r.2) t
 TakesWord metavar s (Err e) t = RefusesWord metavar s e.0 × (t ≡ s)
+
+-- the first present item in scope is at p, and is the word of the command
+pub record IsCommandAt (word : List ℕ) (s : Situation) (p : ℕ) : Type 0 where
+  pub first : IsFirst any_item s p
+  pub named : option_map_or (is_command_word word) (item_at s p) false ≡ true
+
+-- there is no present item in scope, or the first one isn't the word of the command
+abbrev pub HasNoCommand : List ℕ → Situation → Type 0
+HasNoCommand word s = (p : ℕ) → IsFirst any_item s p → option_map_or (is_command_word word) (item_at s p) false ≡ false
+
+-- `take_cmd`: the first item is the word of the command, and is taken; or it isn't, and then no place is the current one
+abbrev pub TakesCommand : List ℕ → Situation → Bool → Situation → Type 0
+TakesCommand word s true t = (p : ℕ) × IsCommandAt word s p × (t ≡ take_place s p)
+TakesCommand word s false t = HasNoCommand word s × (t ≡ with_current s None)
 
 -- the item at p, where it is present and in scope
 abbrev pub open_item : Situation → ℕ → Option Arg

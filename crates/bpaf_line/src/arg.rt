@@ -1,3 +1,6 @@
+ghost use Rattle.std.specs.Prelude.{◌≡◌, option_copied};
+ghost use Rattle.bpaf_line.specs.Items.{is_text_among, is_key_of, is_argument_key, is_attached, is_positional, value_text, is_command_word};
+
 use bpaf_doc::Text;
 use std::fmt;
 
@@ -35,5 +38,69 @@ impl fmt::Display for Arg {
             Arg::Word(text) => write!(f, "{text}"),
             Arg::PosWord(text) => write!(f, "{text}"),
         }
+    }
+}
+
+/// Whether a text is among others.
+fn is_text_among(texts: &[Text], text: &str) -> bool
+    ensures { result ≡ is_text_among texts.now text.now }
+{
+    texts.iter().any(|other| other.as_str() == text)
+}
+
+/// Whether the item is a key with one of the names.
+pub(crate) fn is_key_of(item: &Arg, shorts: &[char], longs: &[Text]) -> bool
+    ensures { result ≡ is_key_of (record { shorts = shorts.now; longs = longs.now }) item.now }
+{
+    match item {
+        Arg::Short(c, _, _) => shorts.contains(c),
+        Arg::Long(name, _, _) => is_text_among(longs, name.as_str()),
+        Arg::ArgWord(_) | Arg::Word(_) | Arg::PosWord(_) => false,
+    }
+}
+
+/// Whether the item is such a key; under `adjacent` an attached one.
+pub(crate) fn is_argument_key(item: &Arg, shorts: &[char], longs: &[Text], adjacent: bool) -> bool
+    ensures { result ≡ is_argument_key (record { shorts = shorts.now; longs = longs.now }) adjacent item.now }
+{
+    is_key_of(item, shorts, longs) && !(adjacent && !is_attached(item))
+}
+
+/// Whether the item is a key with its value in its own word.
+fn is_attached(item: &Arg) -> bool
+    ensures { result ≡ is_attached item.now }
+{
+    match item {
+        Arg::Short(_, attached, _) | Arg::Long(_, attached, _) => *attached,
+        Arg::ArgWord(_) | Arg::Word(_) | Arg::PosWord(_) => false,
+    }
+}
+
+/// Whether the item is a Word or a PosWord.
+pub(crate) fn is_positional(item: &Arg) -> bool
+    ensures { result ≡ is_positional item.now }
+{
+    matches!(item, Arg::Word(_) | Arg::PosWord(_))
+}
+
+/// The text of a Word or an ArgWord.
+pub(crate) fn value_text(item: &Arg) -> Option<&Text>
+    ensures { option_copied result ≡ value_text item.now }
+{
+    match item {
+        Arg::Word(text) => Some(text),
+        Arg::ArgWord(text) => Some(text),
+        Arg::Short(..) | Arg::Long(..) | Arg::PosWord(_) => None,
+    }
+}
+
+/// Whether the item is the word of a command: a Word, a Short, or a Long that isn't attached, whose
+/// whole word is this one.
+pub(crate) fn is_command_word(item: &Arg, word: &str) -> bool
+    ensures { result ≡ is_command_word word.now item.now }
+{
+    match item {
+        Arg::Word(text) | Arg::Short(_, _, text) | Arg::Long(_, false, text) => text.as_str() == word,
+        Arg::Long(_, true, _) | Arg::ArgWord(_) | Arg::PosWord(_) => false,
     }
 }

@@ -8,9 +8,11 @@
 //!   into parts and not by a walk over it. A line is refused only where a word is ambiguous.
 //! - [`State`] is a parse in progress. Contracts see it as a `Situation` (specs/Situation.antt), and
 //!   the layers above speak of one only through its accessors (`item_at`, `is_taken`, `in_scope`,
-//!   `is_open`, `open_count`, and the steps `take_place`, `with_current`, `beginning`): how the marks
-//!   are kept is this crate's own affair.
+//!   `is_open`, `open_count`, and the steps `take_place`, `with_scope`, `with_path`, `with_current`,
+//!   `beginning`): how the marks are kept is this crate's own affair. What the steps change of them
+//!   is in proofs/Places.antt.
 //! - The take calls meet their relation of specs/Taking.antt for every answer, over the whole state.
+//!   [`State::items_iter`] walks the `open_items` (specs/OpenItems.antt).
 //! - [`Message`], [`Error`] and [`ParseFailure`] say why a parser, or a whole run, gives no value.
 //!
 //! The source of the design is bpaf's `arg.rs`, `args.rs` and `error.rs`.
@@ -21,15 +23,18 @@ mod args;
 mod construct;
 mod error;
 mod failure;
+mod iter;
 mod laws;
 mod missing;
 mod split;
 mod state;
+mod take;
 
 pub use arg::Arg;
 pub use args::{Args, LentWord, Words};
 pub use error::{Error, Message};
 pub use failure::ParseFailure;
+pub use iter::ArgsIter;
 pub use laws::{lines_are_unique, spellings_are_unique};
 pub use missing::{MissingItem, MissingItems};
 pub use split::{SplitFault, split_word};

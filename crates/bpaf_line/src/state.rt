@@ -1,20 +1,23 @@
-ghost use Rattle.std.specs.Prelude.{◌≡◌, ◌+◌, ◌<◌, ◌≤◌, ◌^◌, ◌==◌, length, true, Bool, MatchOption, option_copied, option_to_list, option_map, option_and_then, Some, All, IsUtf8, IfOk, OnOk, IfSome, string_bytes, map, List};
+ghost use Rattle.std.specs.Prelude.{◌≡◌, ◌+◌, ◌<◌, ◌≤◌, ◌^◌, ◌==◌, [], ◌∷◌, if◌then◌else◌, not, length, true, Bool, MatchOption, option_copied, option_to_list, option_map, option_and_then, Some, All, IsUtf8, IfOk, OnOk, OnErr, IfSome, string_bytes, map, List};
 ghost use Rattle.std.specs.Borrow.{Bor};
 ghost use Rattle.bpaf_line.specs.declared.arg.Arg.{Arg};
 ghost use Rattle.bpaf_line.specs.Arguments.{words_of, name_of, env_of};
 ghost use Rattle.bpaf_line.specs.Constructing.{Constructs};
-ghost use Rattle.bpaf_line.specs.Items.{is_positional, is_text_among, is_key_of, is_argument_key, is_attached, value_text, word_text};
-ghost use Rattle.bpaf_line.specs.Situation.{item_at, open_count, first_marks, is_open, take_place, with_current};
-ghost use Rattle.bpaf_line.specs.Taking.{HasNone, IsFirst, value_after, open_item, entry_of, TakesFlag, TakesArgument, TakesWord};
+ghost use Rattle.bpaf_line.specs.Inside.{is_present_from};
+ghost use Rattle.bpaf_line.specs.Items.{is_positional, word_text};
+ghost use Rattle.bpaf_line.specs.OpenItems.{open_items, open_items_from};
+ghost use Rattle.bpaf_line.specs.Situation.{item_at, count_below, open_count, first_marks, is_taken, is_open, take_place, with_scope, with_path, with_current};
+ghost use Rattle.bpaf_line.specs.Taking.{HasNone, IsFirst, value_after, open_item, entry_of};
 ghost use Rattle.bpaf_doc.specs.Shape.{part_of};
 ghost use Rattle.bpaf_line.specs.MissingIn.{IsMissingIn};
 
-use crate::arg::Arg;
+use crate::arg::{Arg, is_positional, value_text};
 use crate::args::Args;
 use crate::construct::{copy_env, push_rest, split_words};
 use crate::error::{Error, Message};
+use crate::iter::ArgsIter;
 use crate::missing::{MissingItem, MissingItems};
-use bpaf_doc::{Item, Metavar, Text};
+use bpaf_doc::{Item, Text};
 use std::alloc::{AllocError, Global};
 use std::marker::Model;
 use std::ops::Range;
@@ -93,6 +96,29 @@ impl State {
         })
     }
 
+    /// An equal state, which shares the line and the environment (bpaf's `Clone`); refused only for
+    /// want of memory.
+    pub fn copy(&self) -> Result<State, AllocError>
+        ensures { IfOk result (λ state. state ≡ self.now) }
+    {
+        let items = self.items.clone()?;
+        let env = self.env.clone()?;
+        let marks = Vec::from_slice(self.alloc(), self.marks.as_slice())?;
+        let path = copy_path(self.alloc(), self.path.as_slice())?;
+        let name = copy_name(&self.name)?;
+        Ok(State {
+            items,
+            env,
+            marks,
+            start: self.start,
+            end: self.end,
+            left: self.left,
+            path,
+            name,
+            current: self.current,
+        })
+    }
+
     /// The allocator that it keeps.
     pub fn alloc(&self) -> Global {
         *self.path.allocator()
@@ -122,6 +148,41 @@ impl State {
         self.start..self.end
     }
 
+    /// Makes other places the scope, perhaps none of them, and counts anew what is present there.
+    pub fn set_scope(&mut self, scope: Range<usize>)
+        requires ordered { scope.start ≤ scope.end }
+        requires inside { scope.end ≤ length self.old.context.line }
+        ensures { self.new ≡ with_scope self.old scope.start scope.end }
+    {
+        self.left = count_present(self.marks.as_slice(), scope.start, scope.end);
+        self.start = scope.start;
+        self.end = scope.end;
+    }
+
+    /// How many entries the path has.
+    pub fn depth(&self) -> usize
+        ensures { result ≡ length self.now.path }
+    {
+        self.path.len()
+    }
+
+    /// The set name, where there is one, and then the names that were put on the path.
+    pub fn path(&self) -> &[String]
+        ensures { map string_bytes result.now ≡ self.now.path }
+    {
+        self.path.as_slice()
+    }
+
+    /// Puts a name at the end of the path; refused only for want of memory, and then nothing changes.
+    pub fn push_path(&mut self, entry: &str) -> Result<(), AllocError>
+        ensures ok { OnOk result (self.new ≡ with_path self.old entry.now) }
+        ensures err { OnErr result (self.new ≡ self.old) }
+    {
+        let entry = String::from_str(self.alloc(), entry)?;
+        self.path.push(entry)?;
+        Ok(())
+    }
+
     /// The place that a message of a failed value names: that taken last, where one is.
     pub fn current(&self) -> Option<usize>
         ensures { result ≡ self.now.current }
@@ -147,72 +208,51 @@ impl State {
         Some(&items[place])
     }
 
+    /// Whether the item at a place is present, in scope or not; None past the line.
+    pub fn present(&self, place: usize) -> Option<bool>
+        ensures { result ≡ option_map (λ _. not (is_taken self.now place)) (item_at self.now place) }
+    {
+        let mark = self.marks.get(place)?;
+        Some(!matches!(mark, Mark::Taken))
+    }
+
+    /// Takes a place that is present and in scope; at another place nothing changes. It takes no memory.
+    pub fn remove(&mut self, place: usize)
+        ensures { self.new ≡ (if is_open self.old place then take_place self.old place else self.old) }
+    {
+        if self.is_open(place) {
+            self.take(place);
+        }
+    }
+
+    /// The present items in scope, in order, with their places. It takes no memory.
+    pub fn items_iter(&self) -> ArgsIter<'_>
+        ensures { open_items_from result.state.now result.place ≡ open_items self.now }
+    {
+        ArgsIter {
+            state: self,
+            place: 0,
+        }
+    }
+
+    /// The first present item in scope from a place on, with its place.
+    pub(crate) fn next_open(&self, from: usize) -> Option<(usize, &Arg)>
+        ensures items { MatchOption result (open_items_from self.now from ≡ []) (λ r. open_items_from self.now from ≡ (r.0, r.1.now) ∷ open_items_from self.now (r.0 + 1)) }
+        ensures fits { IfSome result (λ r. r.0 + 1 < 2 ^ 64) }
+    {
+        for place in from..self.end {
+            if let Some(item) = self.get(place) {
+                return Some((place, item));
+            }
+        }
+        None
+    }
+
     /// What the environment has under a name: the value of its first entry of that name.
     pub fn env(&self, name: &str) -> Option<&str>
         ensures { option_copied result ≡ entry_of self.now.context.env name.now }
     {
         value_of(self.env.as_slice(), name)
-    }
-
-    /// Takes the first present key in scope with one of the names, attached or not; false, and
-    /// nothing changes, where there is none. It takes no memory.
-    pub fn take_flag(&mut self, shorts: &[char], longs: &[Text]) -> bool
-        ensures { TakesFlag (record { shorts = shorts.now; longs = longs.now }) self.old result self.new }
-    {
-        match self.first_open(|item| is_key_of(item, shorts, longs)) {
-            Some(place) => {
-                self.take(place);
-                true
-            }
-            None => false,
-        }
-    }
-
-    /// Takes the first present key in scope with one of the names (under `adjacent` an attached one)
-    /// and the text behind it; None, and nothing changes, where there is no such key.
-    ///
-    /// Refused with NoArgument where the next place isn't a present Word or ArgWord in scope, or for
-    /// want of memory. A refusal takes nothing.
-    pub fn take_arg(
-        &mut self,
-        shorts: &[char],
-        longs: &[Text],
-        adjacent: bool,
-        metavar: Metavar,
-    ) -> Result<Option<String>, Error>
-        ensures { TakesArgument (record { shorts = shorts.now; longs = longs.now }) adjacent metavar.0.now self.old result self.new }
-    {
-        let Some(key) = self.first_open(move |item| is_argument_key(item, shorts, longs, adjacent))
-        else {
-            return Ok(None);
-        };
-        let Some(value) = self.value_after(key) else {
-            let metavar = Text::new(self.alloc(), metavar.0)?;
-            return Err(Error(Message::NoArgument(key, metavar)));
-        };
-        let text = value.copy()?;
-        self.take(key);
-        self.take(key + 1);
-        Ok(Some(text.into_string()))
-    }
-
-    /// Takes the first present Word or PosWord in scope: its place, whether it is a PosWord, its text.
-    ///
-    /// Refused with Missing of a positional item where there is none, or for want of memory. A refusal
-    /// takes nothing.
-    pub fn take_positional_word(&mut self, metavar: Metavar) -> Result<(usize, bool, String), Error>
-        ensures { TakesWord metavar.0.now self.old result self.new }
-    {
-        let Some((place, strict, word)) = self.first_word() else {
-            let name = Text::new(self.alloc(), metavar.0)?;
-            return Err(self.missing(Some(Item::Positional {
-                metavar: name,
-                help: None,
-            }))?);
-        };
-        let text = word.copy()?;
-        self.take(place);
-        Ok((place, strict, text.into_string()))
     }
 
     /// That an item was looked for in vain in the scope; of a key that shows no name, nothing.
@@ -240,7 +280,7 @@ impl State {
     }
 
     /// The first place with an item that is present, in scope, and passes the test.
-    fn first_open<F: Fn(&Arg) -> bool>(&self, test: F) -> Option<usize>
+    pub(crate) fn first_open<F: Fn(&Arg) -> bool>(&self, test: F) -> Option<usize>
         ghost passes: { Arg → Bool }
         requires callable { F.IsAlwaysCallable test }
         requires means { (item : Bor Arg) (answer : Bool) → F.post test item answer → answer ≡ passes item.now }
@@ -256,7 +296,7 @@ impl State {
     }
 
     /// The first present Word or PosWord in scope: its place, whether it is a PosWord, its text.
-    fn first_word(&self) -> Option<(usize, bool, &Text)>
+    pub(crate) fn first_word(&self) -> Option<(usize, bool, &Text)>
         ensures { MatchOption result (HasNone is_positional self.now) (λ r. IsFirst is_positional self.now r.0 × (option_and_then word_text (item_at self.now r.0) ≡ Some (r.1, r.2.now))) }
     {
         let place = self.first_open(|item| is_positional(item))?;
@@ -269,7 +309,7 @@ impl State {
     }
 
     /// Takes a place that is present and in scope.
-    fn take(&mut self, place: usize)
+    pub(crate) fn take(&mut self, place: usize)
         requires { is_open self.old place ≡ true }
         ensures { self.new ≡ take_place self.old place }
     {
@@ -279,7 +319,7 @@ impl State {
     }
 
     /// The text of the place after a key, where that is present, in scope, and a Word or an ArgWord.
-    fn value_after(&self, key: usize) -> Option<&Text>
+    pub(crate) fn value_after(&self, key: usize) -> Option<&Text>
         requires { is_open self.now key ≡ true }
         ensures text { option_copied result ≡ value_after self.now key }
         ensures fits { key + 1 < 2 ^ 64 }
@@ -290,59 +330,6 @@ impl State {
             return None;
         }
         value_text(&items[place])
-    }
-}
-
-/// Whether a text is among others.
-fn is_text_among(texts: &[Text], text: &str) -> bool
-    ensures { result ≡ is_text_among texts.now text.now }
-{
-    texts.iter().any(|other| other.as_str() == text)
-}
-
-/// Whether the item is a key with one of the names.
-fn is_key_of(item: &Arg, shorts: &[char], longs: &[Text]) -> bool
-    ensures { result ≡ is_key_of (record { shorts = shorts.now; longs = longs.now }) item.now }
-{
-    match item {
-        Arg::Short(c, _, _) => shorts.contains(c),
-        Arg::Long(name, _, _) => is_text_among(longs, name.as_str()),
-        Arg::ArgWord(_) | Arg::Word(_) | Arg::PosWord(_) => false,
-    }
-}
-
-/// Whether the item is such a key; under `adjacent` an attached one.
-fn is_argument_key(item: &Arg, shorts: &[char], longs: &[Text], adjacent: bool) -> bool
-    ensures { result ≡ is_argument_key (record { shorts = shorts.now; longs = longs.now }) adjacent item.now }
-{
-    is_key_of(item, shorts, longs) && !(adjacent && !is_attached(item))
-}
-
-/// Whether the item is a key with its value in its own word.
-fn is_attached(item: &Arg) -> bool
-    ensures { result ≡ is_attached item.now }
-{
-    match item {
-        Arg::Short(_, attached, _) | Arg::Long(_, attached, _) => *attached,
-        Arg::ArgWord(_) | Arg::Word(_) | Arg::PosWord(_) => false,
-    }
-}
-
-/// Whether the item is a Word or a PosWord.
-fn is_positional(item: &Arg) -> bool
-    ensures { result ≡ is_positional item.now }
-{
-    matches!(item, Arg::Word(_) | Arg::PosWord(_))
-}
-
-/// The text of a Word or an ArgWord.
-fn value_text(item: &Arg) -> Option<&Text>
-    ensures { option_copied result ≡ value_text item.now }
-{
-    match item {
-        Arg::Word(text) => Some(text),
-        Arg::ArgWord(text) => Some(text),
-        Arg::Short(..) | Arg::Long(..) | Arg::PosWord(_) => None,
     }
 }
 
@@ -383,4 +370,40 @@ fn value_of<'a>(entries: &'a [(Text, Text)], name: &str) -> Option<&'a str>
         }
     }
     None
+}
+
+/// How many places from `start` up to `end` are present.
+fn count_present(marks: &[Mark], start: usize, end: usize) -> usize
+    requires ordered { start ≤ end }
+    requires inside { end ≤ length marks.now }
+    ensures { result ≡ count_below (is_present_from marks.now start) end }
+{
+    let mut count = 0;
+    for place in start..end {
+        if !matches!(marks[place], Mark::Taken) {
+            count += 1;
+        }
+    }
+    count
+}
+
+/// An equal path.
+fn copy_path(alloc: Global, path: &[String]) -> Result<Vec<String>, AllocError>
+    ensures { IfOk result (λ copy. map string_bytes copy.items ≡ map string_bytes path.now) }
+{
+    let mut copy = Vec::new(alloc);
+    for entry in path {
+        copy.push(String::from_str(alloc, entry.as_str())?)?;
+    }
+    Ok(copy)
+}
+
+/// An equal name.
+fn copy_name(name: &Option<Text>) -> Result<Option<Text>, AllocError>
+    ensures { IfOk result (λ copy. copy ≡ name.now) }
+{
+    match name {
+        None => Ok(None),
+        Some(name) => Ok(Some(name.copy()?)),
+    }
 }

@@ -1,0 +1,27 @@
+use crate::arg::Arg;
+use crate::state::State;
+
+/// The present items in scope, in order, with their places (bpaf's `ArgsIter`); of
+/// [`State::items_iter`].
+#[derive(Drop)]
+pub struct ArgsIter<'a> {
+    pub(crate) state: &'a State,
+    pub(crate) place: usize,
+}
+
+impl<'a> Iterator for ArgsIter<'a> {
+    type Item = (usize, &'a Arg);
+
+    ghost use Rattle.std.specs.Iterator.{YieldsFirstBy, item_count};
+    ghost use Rattle.bpaf_line.specs.OpenItems.{open_items_from};
+
+    ghost next_gives = { YieldsFirstBy (λ x. (x.0, x.1.now)) (λ s. open_items_from s.state.now s.place) };
+
+    ghost remaining = { item_count (λ s. open_items_from s.state.now s.place) };
+
+    fn next(&mut self) -> Option<(usize, &'a Arg)> {
+        let (place, item) = self.state.next_open(self.place)?;
+        self.place = place + 1;
+        Some((place, item))
+    }
+}

@@ -1,0 +1,103 @@
+//! The calls of a state that look for an item and take it.
+ghost use Rattle.bpaf_line.specs.Items.{any_item, is_command_word};
+ghost use Rattle.bpaf_line.specs.Taking.{TakesFlag, TakesArgument, TakesWord, TakesCommand, HasNoCommand, IsCommandAt};
+ghost use Rattle.std.specs.Prelude.{◌≡◌, MatchOption};
+
+use crate::arg::{is_argument_key, is_command_word, is_key_of};
+use crate::error::{Error, Message};
+use crate::state::State;
+use bpaf_doc::{Item, Metavar, Text};
+
+impl State {
+    /// Takes the first present key in scope with one of the names, attached or not; false, and
+    /// nothing changes, where there is none. It takes no memory.
+    pub fn take_flag(&mut self, shorts: &[char], longs: &[Text]) -> bool
+        ensures { TakesFlag (record { shorts = shorts.now; longs = longs.now }) self.old result self.new }
+    {
+        match self.first_open(|item| is_key_of(item, shorts, longs)) {
+            Some(place) => {
+                self.take(place);
+                true
+            }
+            None => false,
+        }
+    }
+
+    /// Takes the first present key in scope with one of the names (under `adjacent` an attached one)
+    /// and the text behind it; None, and nothing changes, where there is no such key.
+    ///
+    /// Refused with NoArgument where the next place isn't a present Word or ArgWord in scope, or for
+    /// want of memory. A refusal takes nothing.
+    pub fn take_arg(
+        &mut self,
+        shorts: &[char],
+        longs: &[Text],
+        adjacent: bool,
+        metavar: Metavar,
+    ) -> Result<Option<String>, Error>
+        ensures { TakesArgument (record { shorts = shorts.now; longs = longs.now }) adjacent metavar.0.now self.old result self.new }
+    {
+        let Some(key) = self.first_open(move |item| is_argument_key(item, shorts, longs, adjacent))
+        else {
+            return Ok(None);
+        };
+        let Some(value) = self.value_after(key) else {
+            let metavar = Text::new(self.alloc(), metavar.0)?;
+            return Err(Error(Message::NoArgument(key, metavar)));
+        };
+        let text = value.copy()?;
+        self.take(key);
+        self.take(key + 1);
+        Ok(Some(text.into_string()))
+    }
+
+    /// Takes the first present Word or PosWord in scope: its place, whether it is a PosWord, its text.
+    ///
+    /// Refused with Missing of a positional item where there is none, or for want of memory. A refusal
+    /// takes nothing.
+    pub fn take_positional_word(&mut self, metavar: Metavar) -> Result<(usize, bool, String), Error>
+        ensures { TakesWord metavar.0.now self.old result self.new }
+    {
+        let Some((place, strict, word)) = self.first_word() else {
+            let metavar = Text::new(self.alloc(), metavar.0)?;
+            let help = None;
+            return Err(self.missing(Some(Item::Positional { metavar, help }))?);
+        };
+        let text = word.copy()?;
+        self.take(place);
+        Ok((place, strict, text.into_string()))
+    }
+
+    /// Takes the first present item in scope, where it is the word of a command: a Word, any Short, or
+    /// a Long that isn't attached, whose word is this one. It takes no memory.
+    ///
+    /// Later items are not looked at. Otherwise false, no place is then the current one, and nothing
+    /// else changes.
+    pub fn take_cmd(&mut self, word: &str) -> bool
+        ensures { TakesCommand word.now self.old result self.new }
+    {
+        match self.first_command(word) {
+            Some(first) => {
+                self.take(first);
+                true
+            }
+            None => {
+                self.set_current(None);
+                false
+            }
+        }
+    }
+
+    /// The first place that is present and in scope, where its item is the word of the command.
+    fn first_command(&self, word: &str) -> Option<usize>
+        ensures { MatchOption result (HasNoCommand word.now self.now) (IsCommandAt word.now self.now) }
+    {
+        let place = self.first_open(|_| true)?;
+        let item = self.get(place)?;
+        if is_command_word(item, word) {
+            Some(place)
+        } else {
+            None
+        }
+    }
+}
