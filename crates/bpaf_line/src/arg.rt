@@ -100,7 +100,8 @@ pub(crate) fn is_command_word(item: &Arg, word: &str) -> bool
     ensures { result ≡ is_command_word word.now item.now }
 {
     match item {
-        Arg::Word(text) | Arg::Short(_, _, text) | Arg::Long(_, false, text) => text.as_str() == word,
+        Arg::Word(text) | Arg::Short(_, _, text) | Arg::Long(_, false, text) => text.as_str()
+            == word,
         Arg::Long(_, true, _) | Arg::ArgWord(_) | Arg::PosWord(_) => false,
     }
 }

@@ -59,9 +59,9 @@ impl State {
         ensures { TakesWord metavar.0.now self.old result self.new }
     {
         let Some((place, strict, word)) = self.first_word() else {
-            let metavar = Text::new(self.alloc(), metavar.0)?;
-            let help = None;
-            return Err(self.missing(Some(Item::Positional { metavar, help }))?);
+            let name = Text::new(self.alloc(), metavar.0)?;
+            let item = Item::Positional { metavar: name, help: None };
+            return Err(self.missing(Some(item))?);
         };
         let text = word.copy()?;
         self.take(place);
