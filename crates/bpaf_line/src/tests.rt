@@ -356,6 +356,8 @@ fn missing_items_are_listed(rt: HostRuntime) -> Result<(), Fail> {
     let item = Item::Flag {
         name: ShortLong::Short('v'),
         shorts: vec![in a; 'v']?,
+        env: None,
+        help: None,
     };
     let one = MissingItems::one(
         a,
