@@ -1,30 +1,59 @@
-ghost use Rattle.std.specs.Prelude.{◌≡◌};
-ghost use Rattle.bpaf_line.specs.Messages.{is_memory};
+ghost use Rattle.std.specs.Prelude.{◌≡◌, if◌then◌else◌};
+ghost use Rattle.bpaf_line.specs.Combining.{Combines};
+ghost use Rattle.bpaf_line.specs.Messages.{is_memory, can_catch, is_wrong_input};
 
+use crate::failure::ParseFailure;
 use crate::missing::MissingItems;
-use bpaf_doc::Text;
+use bpaf_doc::{Item, Text};
 use std::alloc::AllocError;
 
 /// Why a parser gives no value, or words have no line (bpaf's `Message`).
+///
+/// A place is that of an item in the line. bpaf keeps some of the texts as `&'static str`, here each is
+/// a [`Text`].
 #[derive(Debug, Drop)]
 pub enum Message {
     /// Memory was wanted and refused. bpaf has no such case.
     Memory,
+    /// The name of an environment variable that is not set, where nothing else could give the value.
+    NoEnv(Text),
+    /// What a parser says that wants one value at least and found none.
+    ParseSome(Text),
+    /// What a parser says that always fails.
+    ParseFail(Text),
+    /// What a closure said that was to make a value of nothing.
+    PureFailed(Text),
     /// Items that parsers looked for in vain.
     Missing(MissingItems),
-    /// A text that could not be read: the place of its word, and the fault.
-    ParseFailed(Option<usize>, Text),
+    /// The whole answer of an inner run, such as the help of a command.
+    ParseFailure(ParseFailure),
     /// The place of a word that stands on the left side of `--` and should stand on the right, and its
     /// metavar.
     StrictPos(usize, Text),
     /// The place of a word that stands on the right side of `--` and should stand on the left, and its
     /// metavar.
     NonStrictPos(usize, Text),
+    /// A text that could not be read: the place of its word, where it came from the line, and the fault.
+    ParseFailed(Option<usize>, Text),
+    /// A value that a check refused: the place of its word, where it came from the line, and what the
+    /// check says.
+    GuardFailed(Option<usize>, Text),
     /// The place of a key without a value, and what stands for the value.
     NoArgument(usize, Text),
+    /// The place of an item that no parser took.
+    Unconsumed(usize),
     /// A word with a character that is both a known flag and a known argument, and the number of
     /// that character, the dash being 0.
     Ambiguity(Text, usize),
+    /// The places of two items that exclude each other: that of the one which was taken, and that of the
+    /// one which is left.
+    Conflict(usize, usize),
+    /// The items of which one should stand there, and the place of what stands there instead, if
+    /// anything does.
+    Expected(Vec<Item>, Option<usize>),
+    /// The places of two keys of one name that may stand once only: that of the earlier one, and that
+    /// of the one which is left.
+    OnlyOnce(usize, usize),
 }
 
 /// A refusal of a parser (bpaf's `Error`).
@@ -37,6 +66,113 @@ impl Message {
         ensures { result ≡ is_memory self.now }
     {
         matches!(self, Message::Memory)
+    }
+
+    /// Whether a parser that may do without a value goes on past it: nothing on the line is at fault,
+    /// something is only not there. It takes no memory.
+    pub fn can_catch(&self) -> bool
+        ensures { result ≡ can_catch self.now }
+    {
+        matches!(
+            self,
+            Message::NoEnv(_)
+                | Message::ParseSome(_)
+                | Message::ParseFail(_)
+                | Message::PureFailed(_)
+                | Message::Missing(_)
+                | Message::NonStrictPos(..)
+        )
+    }
+
+    /// Whether the words of the line are at fault, which even a repeat that catches every fault of a
+    /// value doesn't go past. It takes no memory.
+    pub fn wrong_input(&self) -> bool
+        ensures { result ≡ is_wrong_input self.now }
+    {
+        matches!(
+            self,
+            Message::StrictPos(..)
+                | Message::NonStrictPos(..)
+                | Message::NoArgument(..)
+                | Message::Unconsumed(_)
+                | Message::Ambiguity(..)
+        )
+    }
+
+    /// The first where it can't be caught, else the other.
+    fn or_other(self, other: Message) -> Message
+        ensures { result ≡ (if can_catch self then other else self) }
+    {
+        if self.can_catch() {
+            drop(self);
+            other
+        } else {
+            drop(other);
+            self
+        }
+    }
+
+    /// The one refusal of two parsers of which either would have served.
+    ///
+    /// It is Memory where one of the two is; else the ParseFailure, the first before the second; else
+    /// of two Missing all that is missing; else the first where it can't be caught, else the second.
+    /// Joining two Missing may want memory, and then it is Memory too.
+    pub fn combine_with(self, other: Message) -> Message
+        ensures { Combines self other result }
+    {
+        match (self, other) {
+            (Message::Memory, second) => {
+                drop(second);
+                Message::Memory
+            }
+            (first, Message::Memory) => {
+                drop(first);
+                Message::Memory
+            }
+            (Message::ParseFailure(failure), second) => {
+                drop(second);
+                Message::ParseFailure(failure)
+            }
+            (first, Message::ParseFailure(failure)) => {
+                drop(first);
+                Message::ParseFailure(failure)
+            }
+            (Message::Missing(items), Message::Missing(others)) => match items.join(others) {
+                Ok(all) => Message::Missing(all),
+                Err(_refused) => Message::Memory,
+            },
+            (first, second) => first.or_other(second),
+        }
+    }
+}
+
+impl Error {
+    /// Whether it is want of memory, as [`Message::is_memory`].
+    pub fn is_memory(&self) -> bool
+        ensures { result ≡ is_memory self.now.0 }
+    {
+        self.0.is_memory()
+    }
+
+    /// Whether a parser that may do without a value goes on past it, as [`Message::can_catch`].
+    pub fn can_catch(&self) -> bool
+        ensures { result ≡ can_catch self.now.0 }
+    {
+        self.0.can_catch()
+    }
+
+    /// Whether the words of the line are at fault, as [`Message::wrong_input`].
+    pub fn wrong_input(&self) -> bool
+        ensures { result ≡ is_wrong_input self.now.0 }
+    {
+        self.0.wrong_input()
+    }
+
+    /// The one refusal of two, as [`Message::combine_with`].
+    pub fn combine_with(self, other: Error) -> Error
+        ensures { Combines self.0 other.0 result.0 }
+    {
+        Error(self.0.combine_with(other.0))
     }
 }
 

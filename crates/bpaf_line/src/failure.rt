@@ -16,6 +16,17 @@ pub enum ParseFailure {
 }
 
 impl ParseFailure {
+    /// An equal one (bpaf's `Clone`); refused only for want of memory.
+    pub fn copy(&self) -> Result<ParseFailure, AllocError>
+        ensures { IfOk result (λ new. new ≡ self.now) }
+    {
+        match self {
+            ParseFailure::Stdout(doc, full) => Ok(ParseFailure::Stdout(doc.copy()?, *full)),
+            ParseFailure::Stderr(doc) => Ok(ParseFailure::Stderr(doc.copy()?)),
+            ParseFailure::Memory => Ok(ParseFailure::Memory),
+        }
+    }
+
     /// The text of a Stdout, with its detail where all of it is shown; None for the others.
     ///
     /// Refused only for want of memory. bpaf's call panics on the others.

@@ -13,7 +13,10 @@
 //!   is in proofs/Places.antt.
 //! - The take calls meet their relation of specs/Taking.antt for every answer, over the whole state.
 //!   [`State::items_iter`] walks the `open_items` (specs/OpenItems.antt).
-//! - [`Message`], [`Error`] and [`ParseFailure`] say why a parser, or a whole run, gives no value.
+//! - [`Message`], [`Error`] and [`ParseFailure`] say why a parser, or a whole run, gives no value. A
+//!   [`Message`] is want of memory (`is_memory`), one past which an optional parser goes on
+//!   (`can_catch`), one for which the words are at fault (`is_wrong_input`; specs/Messages.antt), or
+//!   none of these. Of two there is one by `Combines` (specs/Combining.antt).
 //!
 //! The source of the design is bpaf's `arg.rs`, `args.rs` and `error.rs`.
 #![tactic(auto)]
@@ -42,5 +45,7 @@ pub use state::{Mark, State};
 
 #[cfg(test)]
 mod tests;
+#[cfg(test)]
+mod tests_messages;
 #[cfg(test)]
 mod tests_state;

@@ -1,4 +1,5 @@
-ghost use Rattle.std.specs.Prelude.{◌≡◌, IfOk, [], ◌∷◌};
+ghost use Rattle.std.specs.Prelude.{◌≡◌, IfOk, [], ◌∷◌, ◌++◌, map};
+ghost use Rattle.bpaf_line.specs.Missing.{missed_of};
 
 use bpaf_doc::Item;
 use std::alloc::{AllocError, Global};
@@ -36,6 +37,19 @@ impl Model for MissingItems {
     ghost view = { λ m. m.items.items };
 }
 
+impl MissingItem {
+    /// One that says the same (bpaf's `Clone`); refused only for want of memory.
+    pub fn copy(&self) -> Result<MissingItem, AllocError>
+        ensures { IfOk result (λ new. missed_of new ≡ missed_of self.now) }
+    {
+        Ok(MissingItem {
+            item: self.item.copy()?,
+            position: self.position,
+            scope: self.scope.start..self.scope.end,
+        })
+    }
+}
+
 impl MissingItems {
     /// No items. It takes no memory.
     pub fn none(alloc: Global) -> MissingItems
@@ -52,6 +66,34 @@ impl MissingItems {
     {
         let mut items = Vec::new(alloc);
         items.push(item)?;
+        Ok(MissingItems { items })
+    }
+
+    /// The items, to be looked at. It takes no memory.
+    pub fn as_slice(&self) -> &[MissingItem]
+        ensures { result.now ≡ self.now }
+    {
+        self.items.as_slice()
+    }
+
+    /// A list that says the same; refused only for want of memory.
+    pub fn copy(&self) -> Result<MissingItems, AllocError>
+        ensures { IfOk result (λ new. map missed_of new ≡ map missed_of self.now) }
+    {
+        let mut items = Vec::new(*self.items.allocator());
+        for missed in &self.items {
+            items.push(missed.copy()?)?;
+        }
+        Ok(MissingItems { items })
+    }
+
+    /// The items of both, its own before the others; refused only for want of memory.
+    pub fn join(self, other: MissingItems) -> Result<MissingItems, AllocError>
+        ensures { IfOk result (λ items. items ≡ self ++ other) }
+    {
+        let mut items = self.items;
+        let mut others = other.items;
+        items.append(&mut others)?;
         Ok(MissingItems { items })
     }
 }

@@ -59,8 +59,10 @@ impl State {
         ensures { TakesWord metavar.0.now self.old result self.new }
     {
         let Some((place, strict, word)) = self.first_word() else {
-            let name = Text::new(self.alloc(), metavar.0)?;
-            let item = Item::Positional { metavar: name, help: None };
+            let item = Item::Positional {
+                metavar: Text::new(self.alloc(), metavar.0)?,
+                help: None,
+            };
             return Err(self.missing(Some(item))?);
         };
         let text = word.copy()?;
