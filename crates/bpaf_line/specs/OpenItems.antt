@@ -2,6 +2,7 @@
 use Rattle.std.specs.Prelude.{ℕ, ◌-◌, List, length, Option, option_map, filter_map}
 use Rattle.std.specs.List.{range_with_len}
 use Rattle.bpaf_line.specs.declared.arg.Arg.{Arg}
+use Rattle.bpaf_line.specs.declared.iter.ArgsIter.{ArgsIter}
 use Rattle.bpaf_line.specs.Situation.{Situation}
 use Rattle.bpaf_line.specs.Taking.{open_item}
 
@@ -16,3 +17,7 @@ open_items_from s from = filter_map (placed_item s) (range_with_len from (length
 -- those of all places
 abbrev pub open_items : Situation → List (ℕ × Arg)
 open_items s = open_items_from s 0
+
+-- those that a walk has before it
+abbrev pub items_left : ArgsIter → List (ℕ × Arg)
+items_left walk = open_items_from walk.state.now walk.place

@@ -13,11 +13,11 @@ impl<'a> Iterator for ArgsIter<'a> {
     type Item = (usize, &'a Arg);
 
     ghost use Rattle.std.specs.Iterator.{YieldsFirstBy, item_count};
-    ghost use Rattle.bpaf_line.specs.OpenItems.{open_items_from};
+    ghost use Rattle.bpaf_line.specs.OpenItems.{items_left};
 
-    ghost next_gives = { YieldsFirstBy (λ x. (x.0, x.1.now)) (λ s. open_items_from s.state.now s.place) };
+    ghost next_gives = { YieldsFirstBy (λ x. (x.0, x.1.now)) items_left };
 
-    ghost remaining = { item_count (λ s. open_items_from s.state.now s.place) };
+    ghost remaining = { item_count items_left };
 
     fn next(&mut self) -> Option<(usize, &'a Arg)> {
         let (place, item) = self.state.next_open(self.place)?;

@@ -5,7 +5,7 @@ ghost use Rattle.bpaf_line.specs.Arguments.{words_of, name_of, env_of};
 ghost use Rattle.bpaf_line.specs.Constructing.{Constructs};
 ghost use Rattle.bpaf_line.specs.Inside.{is_present_from};
 ghost use Rattle.bpaf_line.specs.Items.{is_positional, word_text};
-ghost use Rattle.bpaf_line.specs.OpenItems.{open_items, open_items_from};
+ghost use Rattle.bpaf_line.specs.OpenItems.{open_items, open_items_from, items_left};
 ghost use Rattle.bpaf_line.specs.Situation.{item_at, count_below, open_count, first_marks, is_taken, is_open, take_place, with_scope, with_path, with_current};
 ghost use Rattle.bpaf_line.specs.Taking.{HasNone, IsFirst, value_after, open_item, entry_of};
 ghost use Rattle.bpaf_doc.specs.Shape.{part_of};
@@ -227,7 +227,7 @@ impl State {
 
     /// The present items in scope, in order, with their places. It takes no memory.
     pub fn items_iter(&self) -> ArgsIter<'_>
-        ensures { open_items_from result.state.now result.place ≡ open_items self.now }
+        ensures { items_left result ≡ open_items self.now }
     {
         ArgsIter {
             state: self,

@@ -17,23 +17,14 @@ fn word(alloc: Global) -> Result<Text, AllocError> {
 
 /// That a positional item of some metavar is missing.
 fn missing(alloc: Global, metavar: &str) -> Result<Message, AllocError> {
-    let item = Item::Positional {
-        metavar: Text::new(alloc, metavar)?,
-        help: None,
-    };
-    let missed = MissingItem {
-        item,
-        position: 0,
-        scope: 0..2,
-    };
-    Ok(Message::Missing(MissingItems::one(alloc, missed)?))
+    let items = MissingItems::one(alloc, missed(alloc, metavar)?)?;
+    Ok(Message::Missing(items))
 }
 
 /// The whole answer of an inner run: a text.
 fn answered(alloc: Global, text: &str) -> Result<Message, AllocError> {
-    let mut doc = Doc::new(alloc);
-    doc.literal(text)?;
-    Ok(Message::ParseFailure(ParseFailure::Stderr(doc)))
+    let failure = ParseFailure::Stderr(document(alloc, text)?);
+    Ok(Message::ParseFailure(failure))
 }
 
 #[test]
@@ -144,5 +135,52 @@ fn what_cannot_be_caught_is_kept(rt: HostRuntime) -> Result<(), Fail> {
     assert_eq!(rt; both.as_str(), "unconsumed 4");
     let both = combined(a, missing(a, "LEFT")?, Message::NoEnv(word(a)?))?;
     assert_eq!(rt; both.as_str(), "word");
+    Ok(())
+}
+
+/// One missing item, a positional of that metavar.
+fn missed(alloc: Global, metavar: &str) -> Result<MissingItem, AllocError> {
+    Ok(MissingItem {
+        item: Item::Positional {
+            metavar: Text::new(alloc, metavar)?,
+            help: None,
+        },
+        position: 1,
+        scope: 1..3,
+    })
+}
+
+#[test]
+fn copies_of_missing_items_say_the_same(rt: HostRuntime) -> Result<(), Fail> {
+    let a = rt.alloc();
+    let one = missed(a, "FILE")?.copy()?;
+    assert_eq!(rt; one.position, 1);
+    assert_eq!(rt; one.scope, 1..3);
+    let items = MissingItems::one(a, one)?.join(MissingItems::one(a, missed(a, "DIR")?)?)?;
+    let copy = items.copy()?;
+    assert_eq!(rt; metavars(a, copy.as_slice())?.as_str(), "FILE;DIR;");
+    assert_eq!(rt; metavars(a, items.as_slice())?.as_str(), "FILE;DIR;");
+    assert_eq!(rt; MissingItems::none(a).copy()?.as_slice().len(), 0);
+    Ok(())
+}
+
+/// A document of one text.
+fn document(alloc: Global, text: &str) -> Result<Doc, AllocError> {
+    let mut doc = Doc::new(alloc);
+    doc.literal(text)?;
+    Ok(doc)
+}
+
+#[test]
+fn copies_of_failures_say_the_same(rt: HostRuntime) -> Result<(), Fail> {
+    let a = rt.alloc();
+    let help = ParseFailure::Stdout(document(a, "help")?, true);
+    let copy = help.copy()?.unwrap_stdout()?;
+    assert_eq!(rt; copy.ok_or("none")?.as_str(), "help");
+    let told = ParseFailure::Stderr(document(a, "no")?);
+    let copy = told.copy()?.unwrap_stderr()?;
+    assert_eq!(rt; copy.ok_or("none")?.as_str(), "no");
+    assert_eq!(rt; ParseFailure::Memory.copy()?.exit_code(), 1);
+    assert_eq!(rt; help.copy()?.exit_code(), 0);
     Ok(())
 }
