@@ -1,5 +1,5 @@
 ghost use Rattle.std.specs.Prelude.{◌≡◌, IfOk, map};
-ghost use Rattle.bpaf_doc.specs.Shape.{shape_of, part_of};
+ghost use Rattle.bpaf_doc.specs.Shape.{shape_of, part_of, name_of, Flag, Argument};
 
 use crate::doc::Doc;
 use crate::item::{Item, ShortLong};
@@ -29,6 +29,40 @@ fn copy_shorts(shorts: &Vec<char>) -> Result<Vec<char>, AllocError>
     ensures { IfOk result (λ new. new.items ≡ shorts.now.items) }
 {
     Vec::from_slice(*shorts.allocator(), shorts)
+}
+
+fn copy_flag(
+    name: &ShortLong,
+    shorts: &Vec<char>,
+    env: &Option<Text>,
+    help: &Option<Doc>,
+) -> Result<Item, AllocError>
+    ensures { IfOk result (λ new. part_of new ≡ Flag (name_of name.now) shorts.now.items env.now help.now) }
+{
+    Ok(Item::Flag {
+        name: name.copy()?,
+        shorts: copy_shorts(shorts)?,
+        env: copy_env(env)?,
+        help: copy_help(help)?,
+    })
+}
+
+fn copy_argument(
+    name: &ShortLong,
+    shorts: &Vec<char>,
+    metavar: &Text,
+    env: &Option<Text>,
+    help: &Option<Doc>,
+) -> Result<Item, AllocError>
+    ensures { IfOk result (λ new. part_of new ≡ Argument (name_of name.now) shorts.now.items metavar.now env.now help.now) }
+{
+    Ok(Item::Argument {
+        name: name.copy()?,
+        shorts: copy_shorts(shorts)?,
+        metavar: metavar.copy()?,
+        env: copy_env(env)?,
+        help: copy_help(help)?,
+    })
 }
 
 #[cycle(copy)]
@@ -99,25 +133,14 @@ impl Item {
                 shorts,
                 env,
                 help,
-            } => Ok(Item::Flag {
-                name: name.copy()?,
-                shorts: copy_shorts(shorts)?,
-                env: copy_env(env)?,
-                help: copy_help(help)?,
-            }),
+            } => copy_flag(name, shorts, env, help),
             Item::Argument {
                 name,
                 shorts,
                 metavar,
                 env,
                 help,
-            } => Ok(Item::Argument {
-                name: name.copy()?,
-                shorts: copy_shorts(shorts)?,
-                metavar: metavar.copy()?,
-                env: copy_env(env)?,
-                help: copy_help(help)?,
-            }),
+            } => copy_argument(name, shorts, metavar, env, help),
         }
     }
 }

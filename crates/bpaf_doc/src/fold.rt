@@ -23,12 +23,7 @@ fn keeps_break(text: &str) -> bool
 }
 
 /// Appends the line break between a line and what follows, as it is or as a space.
-fn push_break(
-    out: &mut String,
-    after_break: bool,
-    line: &str,
-    more: &str,
-) -> Result<(), AllocError>
+fn push_break(out: &mut String, after_break: bool, line: &str, more: &str) -> Result<(), AllocError>
     ensures { OnOk result (string_bytes out.new ≡ string_bytes out.old ++ (if (after_break && (length line.now == 0)) || keeps_break more.now then 10 else 32) ∷ []) }
 {
     if (after_break && line.is_empty()) || keeps_break(more) {

@@ -168,12 +168,7 @@ fn all_of(alloc: Global, first: Meta, second: Meta) -> Result<Meta, AllocError> 
     Ok(Meta::And(vec![in alloc; first, second]?))
 }
 
-fn all_of_three(
-    alloc: Global,
-    first: Meta,
-    second: Meta,
-    third: Meta,
-) -> Result<Meta, AllocError> {
+fn all_of_three(alloc: Global, first: Meta, second: Meta, third: Meta) -> Result<Meta, AllocError> {
     Ok(Meta::And(vec![in alloc; first, second, third]?))
 }
 
@@ -195,10 +190,7 @@ fn optional_argument(alloc: Global) -> Result<Meta, AllocError> {
 
 fn section(alloc: Global) -> Result<Meta, AllocError> {
     let inner = optional_argument(alloc)?;
-    Ok(Meta::Subsection(
-        Box::new(alloc, inner)?,
-        Doc::from_text(alloc, "Sizes")?,
-    ))
+    Ok(Meta::Subsection(Box::new(alloc, inner)?, Doc::from_text(alloc, "Sizes")?))
 }
 
 fn collects(alloc: Global, meta: Meta, flag: char) -> Result<bool, AllocError> {
