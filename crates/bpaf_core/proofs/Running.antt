@@ -1,19 +1,19 @@
 -- How the answers of a run, and of an argument, are put together.
-use Rattle.std.proofs.Common.{◌≡◌, ◌==◌, ℕ, ◌<◌, Bool, true, false, List, Result, Ok, Err, ⊎_elim, inr, subst, sym, refl, true≢false}
+use Rattle.std.proofs.Common.{◌≡◌, ◌==◌, ℕ, ◌<◌, Bool, true, false, List, [], ◌∷◌, Option, Some, None, Result, Ok, Err, ⊎_elim, inl, inr, subst, sym, refl, true≢false}
 use Rattle.std.proofs.lemmas.Bool.Decides.{nat_tests}
 use Rattle.std.proofs.Common.{arith}
-use Rattle.bpaf_text.specs.Named.{Named}
+use Rattle.bpaf_text.specs.Named.{Named, argument_part}
 use Rattle.bpaf_line.specs.declared.error.Error.{Error}
 use Rattle.bpaf_line.specs.declared.error.Message.{Message}
 use Rattle.bpaf_line.specs.declared.error.Message.TheVariants.{Memory, ParseFailed, Ambiguity}
 use Rattle.bpaf_line.specs.declared.failure.ParseFailure.{ParseFailure}
 use Rattle.bpaf_line.specs.Situation.{Situation}
-use Rattle.bpaf_line.specs.Taking.{TakesValue}
 use Rattle.bpaf_line.specs.Constructing.{Constructs, RefusesLine}
 use Rattle.bpaf_core.specs.Reading.{Outcome}
 use Rattle.bpaf_core.specs.Value.{ReadsValue, FaultsText}
-use Rattle.bpaf_core.specs.Argument.{ArgumentOutcome, ArgumentFails}
-use Rattle.bpaf_doc.specs.Shape.{Shape}
+use Rattle.bpaf_core.specs.Argument.{ArgumentOutcome, ArgumentFails, GetsText, RefusesText}
+use Rattle.bpaf_core.specs.Environment.{IsAbsence}
+use Rattle.bpaf_doc.specs.Shape.{Shape, Part}
 use Rattle.bpaf_core.specs.declared.info.Info.{Info}
 use Rattle.bpaf_core.specs.Known.{known_names}
 use Rattle.bpaf_core.specs.Run.{Given, Runs, RunsWords, shown, ran, no_line, no_memory, Tells, ShowsNames}
@@ -57,13 +57,24 @@ module _ {T : Type 0} {inner : Outcome T} {describes : Shape → Type 0} {info :
       line_told names.shape names.shown m f (subst (λ k. RefusesLine k given.words m) (known_are describes info flags arguments names) refuses) tells
 
 module _ {T : Type 0} (means : List ℕ → T → Type 0) (named : Named) (metavar : List ℕ) (s t : Situation) (text : List ℕ) where
-  -- a fault in the text of a taken argument is a refusal of the argument
-  fault_told : (m : Message) → TakesValue named.names false s text t → FaultsText means text t.current m → ArgumentFails means named metavar s m t
-  fault_told Memory takes fault = inr (text, takes)
-  fault_told (ParseFailed place words) takes fault = (text, takes, fault)
-  fault_told other takes fault = absurd fault
+  -- a fault in the text of an argument is a refusal of the argument
+  fault_told : (m : Message) → GetsText named s text t → FaultsText means text t.current m → ArgumentFails means named metavar s m t
+  fault_told Memory gets fault = inr (text, gets)
+  fault_told (ParseFailed place words) gets fault = (text, gets, fault)
+  fault_told other gets fault = absurd fault
 
-  -- what reading the text of a taken argument answers
-  pub value_read : (r : Result T Error) → TakesValue named.names false s text t → ReadsValue means text t.current r → ArgumentOutcome means named metavar s r t
-  value_read (Ok v) takes meant = (text, takes, meant)
-  value_read (Err e) takes fault = fault_told e.0 takes fault
+  -- what reading the text of an argument answers
+  pub value_read : (r : Result T Error) → GetsText named s text t → ReadsValue means text t.current r → ArgumentOutcome means named metavar s r t
+  value_read (Ok v) gets meant = (text, gets, meant)
+  value_read (Err e) gets fault = fault_told e.0 gets fault
+
+  -- where there is no text, the argument refuses so
+  pub no_text : (m : Message) → RefusesText named metavar s m t → ArgumentFails means named metavar s m t
+  no_text Memory refuses = inl refuses
+  no_text (ParseFailed place fault) refuses = absurd (never (argument_part named metavar) named.envs refuses.1)
+    where
+      never : (part : Option Part) (envs : List (List ℕ)) → IsAbsence s part envs (ParseFailed place fault) → ⊥
+      never (Some part) envs is = is
+      never None [] is = is
+      never None (name ∷ envs) is = is
+  no_text other refuses = refuses

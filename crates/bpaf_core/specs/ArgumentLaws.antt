@@ -8,12 +8,12 @@ use Rattle.bpaf_line.specs.Situation.{Situation, is_open, in_scope, item_at, tak
 use Rattle.bpaf_line.specs.Taking.{TakesValue}
 use Rattle.bpaf_line.proofs.Places.{taken_other}
 use Rattle.bpaf_line.specs.declared.error.Message.{Message}
-use Rattle.bpaf_line.specs.declared.error.Message.TheVariants.{Memory, Missing, ParseFailed, NoArgument}
+use Rattle.bpaf_line.specs.declared.error.Message.TheVariants.{Memory, ParseFailed, NoArgument}
 use Rattle.bpaf_core.specs.Reading.{Readings}
 use Rattle.bpaf_core.specs.Laws.{Keeps, Reads, Lawful}
-use Rattle.bpaf_core.specs.Keeping.{keeps_refl, keeps_trans, closes_take_both, keeps_take, newly_take_both}
+use Rattle.bpaf_core.specs.Keeping.{keeps_refl, keeps_trans, keeps_current, closes_refl, closes_take_both, keeps_take, newly_none, newly_take_both}
 use Rattle.bpaf_core.specs.FlagLaws.{first_of_and, second_of_and}
-use Rattle.bpaf_core.specs.Argument.{ArgumentReads, ArgumentOutcome, ArgumentFails}
+use Rattle.bpaf_core.specs.Argument.{ArgumentReads, behind_key, in_variable, ArgumentOutcome, ArgumentFails, GetsText, ReadsVariable}
 
 -- where an option under a condition is there, the condition holds, and it is that option
 if_some : {A : Type 0} (b : Bool) (o : Option A) (x : A) → (if b then o else None) ≡ Some x → (b ≡ true) × (o ≡ Some x)
@@ -52,28 +52,40 @@ module _ (T : Type 0) (means : List ℕ → T → Type 0) (named : Named) (metav
       subst (λ w. Reads T reads_argument s v w) (sym takes.taken) (record {
         keeps = subst (Keeps s) takes.taken (value_keeps named.names s text t takes);
         closed = closes_take_both s takes.key (takes.key + 1);
-        reading = record {
+        reading = behind_key text (record {
           key = takes.key;
           is_key = second_of_and (is_open s takes.key) _ takes.first.matches;
-          text = text;
           behind = (value_there named.names s text t takes).1;
           places = newly_take_both s takes.key (key_open named.names s text t takes) (value_open named.names s text t takes);
-          meant = meant;
-        };
+        }) meant;
       })
+
+  -- a text of the environment, which means the answer, is a reading of it
+  variable_read : (s t : Situation) (v : T) (text : List ℕ) → ReadsVariable named s text t → means text v → Reads T reads_argument s v t
+  variable_read s t v text reads meant =
+      subst (λ w. Reads T reads_argument s v w) (sym reads.left) (record {
+        keeps = keeps_current s s None (keeps_refl s);
+        closed = closes_refl s;
+        reading = in_variable text (newly_none s) reads.set meant;
+      })
+
+  -- what getting a text keeps
+  text_keeps : (s t : Situation) (text : List ℕ) → GetsText named s text t → Keeps s t
+  text_keeps s t text gets = ⊎_elim
+      (λ takes. value_keeps named.names s text t takes)
+      (λ reads. subst (Keeps s) (sym reads.left) (keeps_current s s None (keeps_refl s)))
+      gets
 
   -- what a refusal of an argument keeps
   argument_refused : (s t : Situation) (m : Message) → ArgumentFails means named metavar s m t → Keeps s t
-  argument_refused s t (Missing items) fails = subst (Keeps s) (sym fails.1) (keeps_refl s)
   argument_refused s t (NoArgument key name) fails = subst (Keeps s) (sym fails.1) (keeps_refl s)
-  argument_refused s t (ParseFailed place fault) fails = value_keeps named.names s fails.0 t fails.1
-  argument_refused s t Memory fails =
-      ⊎_elim (λ same. subst (Keeps s) (sym same) (keeps_refl s)) (λ taken. value_keeps named.names s taken.0 t taken.1) fails
-  argument_refused s t other fails = absurd fails
+  argument_refused s t (ParseFailed place fault) fails = text_keeps s t fails.0 fails.1
+  argument_refused s t Memory fails = ⊎_elim (λ same. subst (Keeps s) (sym same) (keeps_refl s)) (λ got. text_keeps s t got.0 got.1) fails
+  argument_refused s t other fails = subst (Keeps s) (sym fails.0.2) (keeps_refl s)
 
   -- arguments keep to the laws
   pub argument_lawful : Lawful T (ArgumentOutcome means named metavar) reads_argument
   argument_lawful = record {
-    ok = λ s t v o. argument_read s t v o.0 o.1 o.2;
+    ok = λ s t v o. ⊎_elim (λ takes. argument_read s t v o.0 takes o.2) (λ reads. variable_read s t v o.0 reads o.2) o.1;
     err = λ s t e o. argument_refused s t e.0 o;
   }

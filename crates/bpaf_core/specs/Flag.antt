@@ -7,30 +7,38 @@ use Rattle.bpaf_line.specs.Items.{is_key_of}
 use Rattle.bpaf_line.specs.Situation.{Situation, Context}
 use Rattle.bpaf_line.specs.Taking.{TakesFlag}
 use Rattle.bpaf_line.specs.declared.error.Message.{Message}
-use Rattle.bpaf_line.specs.declared.error.Message.TheVariants.{Memory, Missing}
+use Rattle.bpaf_line.specs.declared.error.Message.TheVariants.{Memory}
 use Rattle.bpaf_core.specs.Reading.{Share, Outcome, IsEmptyShare, IsPlace, HasItem}
-use Rattle.bpaf_line.specs.MissingIn.{IsMissingIn}
+use Rattle.bpaf_core.specs.Environment.{is_set, IsAbsence}
 
 -- a value that a flag gives where its key is absent: a clone of the absent value, where there is one
 abbrev pub IsAbsentValue : {T : Type 0} → (T → T → Type 0) → Option T → T → Type 0
 IsAbsentValue clones None v = ⊥
 IsAbsentValue clones (Some kept) v = clones kept v
 
--- one key with one of the names, attached or not, and a clone of the present value; or no place, and one of the absent value
+-- one key with one of the names, attached or not, and a clone of the present value; or no place, and one of the present value where an environment name is set, else one of the absent value
 pub data FlagReads (T : Type 0) (clones : T → T → Type 0) (named : Named) (present : T) (absent : Option T) (context : Context) (share : Share) (v : T) : Type 0 where
   at_key : (key : ℕ) → HasItem (is_key_of named.names) context key → IsPlace key share → clones present v → FlagReads T clones named present absent context share v
-  nowhere : IsEmptyShare share → IsAbsentValue clones absent v → FlagReads T clones named present absent context share v
+  in_environment : IsEmptyShare share → is_set context.env named.envs ≡ true → clones present v → FlagReads T clones named present absent context share v
+  nowhere : IsEmptyShare share → is_set context.env named.envs ≡ false → IsAbsentValue clones absent v → FlagReads T clones named present absent context share v
 
--- a refusal: a flag without absent value is missing; or a clone, or the refusal, wanted memory
+-- a flag is present: its key is taken; or it is not on the line, and an environment name is set
+abbrev pub IsFlagPresent : Named → Situation → Situation → Type 0
+IsFlagPresent named s t = TakesFlag named.names s true t ⊎ (TakesFlag named.names s false t × (is_set s.context.env named.envs ≡ true))
+
+-- it is neither on the line nor in the environment
+abbrev pub IsFlagAbsent : Named → Situation → Situation → Type 0
+IsFlagAbsent named s t = TakesFlag named.names s false t × (is_set s.context.env named.envs ≡ false)
+
+-- a refusal: a flag without absent value is absent; or a clone, or the refusal, wanted memory
 abbrev pub FlagFails : {T : Type 0} → Named → Option T → Situation → Message → Situation → Type 0
-FlagFails named absent s (Missing items) t = TakesFlag named.names s false t × (absent ≡ None) × IsMissingIn s (flag_part named) items
 FlagFails named absent s Memory t = (found : Bool) × TakesFlag named.names s found t
-FlagFails named absent s m t = ⊥
+FlagFails named absent s m t = IsFlagAbsent named s t × (absent ≡ None) × IsAbsence s (flag_part named) named.envs m
 
--- the first key is taken and the present value given; or there is none, and the absent value is given
+-- present with the present value, or absent with the absent one
 abbrev pub FlagOutcome : {T : Type 0} → (T → T → Type 0) → Named → T → Option T → Outcome T
 FlagOutcome clones named present absent s (Ok v) t =
-    (TakesFlag named.names s true t × clones present v) ⊎ (TakesFlag named.names s false t × IsAbsentValue clones absent v)
+    (IsFlagPresent named s t × clones present v) ⊎ (IsFlagAbsent named s t × IsAbsentValue clones absent v)
 FlagOutcome clones named present absent s (Err e) t = FlagFails named absent s e.0 t
 
 -- what may be left out is shown so

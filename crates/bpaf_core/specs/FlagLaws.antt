@@ -6,11 +6,12 @@ use Rattle.bpaf_text.specs.Named.{Named}
 use Rattle.bpaf_line.specs.Situation.{Situation, is_open}
 use Rattle.bpaf_line.specs.Taking.{TakesFlag}
 use Rattle.bpaf_line.specs.declared.error.Message.{Message}
-use Rattle.bpaf_line.specs.declared.error.Message.TheVariants.{Memory, Missing}
+use Rattle.bpaf_line.specs.declared.error.Message.TheVariants.{Memory}
 use Rattle.bpaf_core.specs.Reading.{Readings}
-use Rattle.bpaf_core.specs.Laws.{Keeps, Reads, Lawful}
+use Rattle.bpaf_core.specs.Laws.{Keeps, Reads, Lawful, newly}
 use Rattle.bpaf_core.specs.Keeping.{keeps_refl, closes_refl, closes_take, newly_none, keeps_take, newly_take}
-use Rattle.bpaf_core.specs.Flag.{FlagReads, at_key, nowhere, FlagOutcome, FlagFails, IsAbsentValue}
+use Rattle.bpaf_core.specs.Environment.{is_set}
+use Rattle.bpaf_core.specs.Flag.{FlagReads, at_key, in_environment, nowhere, FlagOutcome, FlagFails, IsAbsentValue, IsFlagPresent, IsFlagAbsent}
 
 -- both of two tests
 pub first_of_and : (x y : Bool) → (x && y) ≡ true → x ≡ true
@@ -42,24 +43,34 @@ module _ (T : Type 0) (clones : T → T → Type 0) (named : Named) (present : T
         reading = at_key takes.0 (second_of_and (is_open s takes.0) _ takes.1.matches) (newly_take s takes.0 there) value;
       })
 
-  -- no key, with a clone of the absent value, is a reading of the flag
-  flag_absent : (s t : Situation) (v : T) → TakesFlag named.names s false t → IsAbsentValue clones absent v → Reads T reads_flag s v t
-  flag_absent s t v takes value =
+  -- a reading of no place, where no key is taken
+  flag_elsewhere : (s t : Situation) (v : T) → TakesFlag named.names s false t → FlagReads T clones named present absent s.context (newly s s) v → Reads T reads_flag s v t
+  flag_elsewhere s t v takes reading =
       subst (λ w. Reads T reads_flag s v w) (sym takes.1) (record {
         keeps = keeps_refl s;
         closed = closes_refl s;
-        reading = nowhere (newly_none s) value;
+        reading = reading;
       })
+
+  -- a flag that is present, with a clone of the present value, is a reading
+  flag_present : (s t : Situation) (v : T) → IsFlagPresent named s t → clones present v → Reads T reads_flag s v t
+  flag_present s t v is value = ⊎_elim
+      (λ takes. flag_found s t v takes value)
+      (λ set. flag_elsewhere s t v set.0 (in_environment (newly_none s) set.1 value))
+      is
+
+  -- a flag that is absent, with a clone of the absent value, is a reading
+  flag_absent : (s t : Situation) (v : T) → IsFlagAbsent named s t → IsAbsentValue clones absent v → Reads T reads_flag s v t
+  flag_absent s t v is value = flag_elsewhere s t v is.0 (nowhere (newly_none s) is.1 value)
 
   -- what a refusal of a flag keeps
   flag_refused : (s t : Situation) (m : Message) → FlagFails named absent s m t → Keeps s t
-  flag_refused s t (Missing items) fails = flag_keeps named.names s false t fails.0
   flag_refused s t Memory fails = flag_keeps named.names s fails.0 t fails.1
-  flag_refused s t other fails = absurd fails
+  flag_refused s t other fails = flag_keeps named.names s false t fails.0.0
 
   -- flags keep to the laws
   pub flag_lawful : Lawful T (FlagOutcome clones named present absent) reads_flag
   flag_lawful = record {
-    ok = λ s t v o. ⊎_elim (λ found. flag_found s t v found.0 found.1) (λ none. flag_absent s t v none.0 none.1) o;
+    ok = λ s t v o. ⊎_elim (λ here. flag_present s t v here.0 here.1) (λ none. flag_absent s t v none.0 none.1) o;
     err = λ s t e o. flag_refused s t e.0 o;
   }

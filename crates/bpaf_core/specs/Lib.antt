@@ -3,6 +3,7 @@ pub mod Laws
 pub mod Keeping
 pub mod Counting
 pub mod Value
+pub mod Environment
 pub mod Flag
 pub mod FlagLaws
 pub mod Argument

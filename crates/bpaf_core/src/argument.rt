@@ -1,15 +1,38 @@
+ghost use Rattle.bpaf_core.specs.Argument.{TakesText};
+
+use crate::environment::{absence, first_set};
 use crate::parser::Parser;
 use crate::reading::read_text;
-use bpaf_doc::Meta;
+use bpaf_doc::{Meta, Metavar};
 use bpaf_line::{Error, State};
-use bpaf_text::{FromText, ParseArgument};
+use bpaf_text::{FromText, NamedArg, ParseArgument};
 use std::alloc::{AllocError, Global};
 
-/// What the text behind the first key with one of the names means (bpaf's `ParseArgument`, in
+/// The text of an argument: that behind its key, or, where there is no key, that of the first name in
+/// the environment that is set (bpaf's `take_argument`).
+fn take_argument(named: &NamedArg, metavar: Metavar, state: &mut State) -> Result<String, Error>
+    ensures { TakesText named.now metavar.0.now state.old result state.new }
+{
+    let taken = state.take_arg(named.shorts(), named.longs(), false, metavar)?;
+    if let Some(text) = taken {
+        return Ok(text);
+    }
+    let Some(value) = first_set(state, named.envs()) else {
+        let item = named.argument_item(state.alloc(), metavar)?;
+        return Err(absence(state, item, named.envs())?);
+    };
+    let text = String::from_str(state.alloc(), value)?;
+    state.set_current(None);
+    Ok(text)
+}
+
+/// What the text behind the first key with one of the names means, or, where there is no such key,
+/// that of the first of its names in the environment that is set (bpaf's `ParseArgument`, in
 /// `params.rs`).
 ///
-/// Refused with Missing where there is no such key, with NoArgument where no text stands behind it,
-/// and with ParseFailed, its places taken, where the text means no value; or for want of memory.
+/// Refused with Missing where there is neither, or NoEnv where it has names in the environment alone;
+/// with NoArgument where no text stands behind the key; with ParseFailed, its places taken, where the
+/// text means no value; or for want of memory. A text of the environment leaves no place current.
 impl<T: FromText + Drop> Parser<T> for ParseArgument<T> {
     ghost use Rattle.std.specs.Prelude.{◌≡◌};
     ghost use Rattle.bpaf_core.specs.Argument.{ArgumentOutcome, ArgumentReads, argument_shape};
@@ -24,11 +47,7 @@ impl<T: FromText + Drop> Parser<T> for ParseArgument<T> {
     ghost outcome = { λ p. ArgumentOutcome T.means p.named p.metavar.0.now };
 
     fn eval(&self, state: &mut State) -> Result<T, Error> {
-        let taken = state.take_arg(self.named.shorts(), self.named.longs(), false, self.metavar)?;
-        let Some(text) = taken else {
-            let item = self.named.argument_item(state.alloc(), self.metavar)?;
-            return Err(state.missing(item)?);
-        };
+        let text = take_argument(&self.named, self.metavar, state)?;
         read_text(state, text.as_str())
     }
 

@@ -1,14 +1,16 @@
+use crate::environment::{absence, first_set};
 use crate::parser::Parser;
 use bpaf_doc::Meta;
 use bpaf_line::{Error, State};
 use bpaf_text::ParseFlag;
 use std::alloc::{AllocError, Global};
 
-/// Present where a key with one of the names is taken, else absent (bpaf's `ParseFlag`, in
-/// `params.rs`).
+/// Present where a key with one of the names is taken, or else where one of its names in the
+/// environment is set; else absent (bpaf's `ParseFlag`, in `params.rs`).
 ///
-/// A required flag, which has no absent value, answers Missing where no key is there. The value is a
-/// clone of the kept one, which may be refused for memory.
+/// A required flag, which has no absent value, answers Missing where it is absent, or NoEnv where it
+/// has names in the environment alone. The value is a clone of the kept one, which may be refused for
+/// memory.
 impl<T: Clone + Drop> Parser<T> for ParseFlag<T> {
     ghost use Rattle.std.specs.Prelude.{◌≡◌};
     ghost use Rattle.bpaf_core.specs.Flag.{FlagOutcome, FlagReads, flag_shape};
@@ -23,14 +25,15 @@ impl<T: Clone + Drop> Parser<T> for ParseFlag<T> {
     ghost outcome = { λ p. FlagOutcome T.is_clone p.named p.present p.absent };
 
     fn eval(&self, state: &mut State) -> Result<T, Error> {
-        if state.take_flag(self.named.shorts(), self.named.longs()) {
+        let found = state.take_flag(self.named.shorts(), self.named.longs());
+        if found || first_set(state, self.named.envs()).is_some() {
             return Ok(self.present.clone()?);
         }
         match &self.absent {
             Some(absent) => Ok(absent.clone()?),
             None => {
                 let item = self.named.flag_item(state.alloc())?;
-                Err(state.missing(item)?)
+                Err(absence(state, item, self.named.envs())?)
             }
         }
     }

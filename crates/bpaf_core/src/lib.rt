@@ -19,6 +19,7 @@
 #![tactic(auto)]
 
 mod argument;
+mod environment;
 mod flag;
 mod info;
 mod laws;

@@ -5,14 +5,15 @@ use Rattle.bpaf_doc.specs.declared.doc.Piece.{Piece}
 use Rattle.bpaf_doc.specs.Names.{Names}
 use Rattle.bpaf_doc.specs.Shape.{Part, Flag, Argument, shown_name}
 
--- what a key holds: its names, and the help that is shown with it
+-- what a key holds: its names, its names in the environment, and the help that is shown with it
 pub record Named : Type 0 where
   pub names : Names
+  pub envs : List (List ℕ)
   pub help : Option (List Piece)
 
--- a key with these names, without help
+-- a key with these names and nothing else
 abbrev pub key_named : Names → Named
-key_named names = record { names = names; help = None }
+key_named names = record { names = names; envs = []; help = None }
 
 -- a key that holds nothing
 abbrev pub nothing_named : Named
@@ -28,16 +29,25 @@ abbrev pub with_long : Named → List ℕ → Named
 with_long named name =
     record named { names = record named.names { longs = named.names.longs ++ name ∷ [] } }
 
+-- the key with one more name in the environment, behind those that it has
+abbrev pub with_env : Named → List ℕ → Named
+with_env named name = record named { envs = named.envs ++ name ∷ [] }
+
 -- the key with this help, in place of the one that it has
 abbrev pub with_help : Named → List Piece → Named
 with_help named help = record named { help = Some help }
 
--- the part that a key without a value shows; none where it has no name
+-- the first of some texts
+abbrev pub first_text : List (List ℕ) → Option (List ℕ)
+first_text [] = None
+first_text (text ∷ texts) = Some text
+
+-- the part that a key without a value shows; none where it has no short and no long name
 abbrev pub flag_part : Named → Option Part
 flag_part named =
-    option_map (λ name. Flag name named.names.shorts None named.help) (shown_name named.names)
+    option_map (λ name. Flag name named.names.shorts (first_text named.envs) named.help) (shown_name named.names)
 
--- the part that a key with a value shows, with its metavar; none where it has no name
+-- the part that a key with a value shows, with its metavar; none where it has no short and no long name
 abbrev pub argument_part : Named → List ℕ → Option Part
 argument_part named metavar =
-    option_map (λ name. Argument name named.names.shorts metavar None named.help) (shown_name named.names)
+    option_map (λ name. Argument name named.names.shorts metavar (first_text named.envs) named.help) (shown_name named.names)

@@ -8,9 +8,10 @@
 //!   where the text means none. Which values a text means is the ghost relation `means` of the
 //!   implementation, with the words for it in specs/Meaning.antt. Implementations stand for the
 //!   whole numbers, `bool`, `char` and `String`, and a caller writes more for types of its own.
-//! - [`NamedArg`] is a key with its names, built by [`short()`] and [`long()`]. Contracts see it as
-//!   the two lists of names in the order in which they were given (specs/Named.antt), so each
-//!   builder is one equation: it appends one name and keeps the others.
+//! - [`NamedArg`] is a key with its names, built by [`short()`], [`long()`] and [`env()`]. Contracts
+//!   see it as the lists of its names in the order in which they were given, those in the
+//!   environment among them, and its help (specs/Named.antt), so each builder is one equation: it
+//!   appends one name, or sets the help, and keeps the rest.
 //! - [`ParseFlag`] and [`ParseArgument`] are what a key becomes: the key as it was, and what it
 //!   gives. Their fields are public, since the layers above look for the key on a line by them.
 //! - `flag_item` and `argument_item` say what a key shows, as a part of specs/Shape.antt in
@@ -30,7 +31,7 @@ mod params;
 
 pub use fault::TextFault;
 pub use from_text::FromText;
-pub use named::{NamedArg, long, short};
+pub use named::{NamedArg, env, long, short};
 pub use params::{ParseArgument, ParseFlag};
 
 #[cfg(test)]

@@ -2,7 +2,7 @@ ghost use Rattle.std.specs.Prelude.{◌≡◌, Some, None, true, false, IfOk};
 ghost use Rattle.std.specs.Option.{option_map};
 ghost use Rattle.bpaf_doc.specs.Shape.{name_of, part_of, shown_name};
 ghost use Rattle.bpaf_text.specs.Named.{flag_part, argument_part};
-ghost use Rattle.bpaf_text.specs.Named.{nothing_named, with_short, with_long, with_help};
+ghost use Rattle.bpaf_text.specs.Named.{nothing_named, with_short, with_long, with_env, with_help, first_text};
 
 use crate::params::{ParseArgument, ParseFlag, build_argument, build_flag_parser};
 use bpaf_doc::{Doc, Item, Metavar, ShortLong, Text};
@@ -26,6 +26,7 @@ use std::marker::Model;
 pub struct NamedArg {
     shorts: Vec<char>,
     longs: Vec<Text>,
+    envs: Vec<Text>,
     help: Option<Doc>,
 }
 
@@ -37,6 +38,7 @@ impl Model for NamedArg {
     ghost view = { λ named.
         record {
           names = record { shorts = named.shorts.items; longs = named.longs.items };
+          envs = named.envs.items;
           help = named.help;
         } };
 }
@@ -51,6 +53,7 @@ pub fn short(alloc: Global, name: char) -> Result<NamedArg, AllocError>
     Ok(NamedArg {
         shorts,
         longs: Vec::new(alloc),
+        envs: Vec::new(alloc),
         help: None,
     })
 }
@@ -65,6 +68,26 @@ pub fn long(alloc: Global, name: &str) -> Result<NamedArg, AllocError>
     Ok(NamedArg {
         shorts: Vec::new(alloc),
         longs,
+        envs: Vec::new(alloc),
+        help: None,
+    })
+}
+
+/// A key with one name in the environment and none on the line (bpaf's `env`, in `lib.rs`); refused
+/// only for want of memory.
+///
+/// ```text
+/// let home = env(alloc, "HOME")?.argument::<String>("DIR");
+/// ```
+pub fn env(alloc: Global, name: &str) -> Result<NamedArg, AllocError>
+    ensures { IfOk result (λ named. named ≡ with_env nothing_named name.now) }
+{
+    let mut envs = Vec::new(alloc);
+    envs.push(Text::new(alloc, name)?)?;
+    Ok(NamedArg {
+        shorts: Vec::new(alloc),
+        longs: Vec::new(alloc),
+        envs,
         help: None,
     })
 }
@@ -86,6 +109,18 @@ impl NamedArg {
     {
         let name = Text::new(*self.longs.allocator(), name)?;
         self.longs.push(name)?;
+        Ok(self)
+    }
+
+    /// The key with one more name in the environment, behind those that it has; refused only for want
+    /// of memory, and then the key is gone.
+    ///
+    /// Where no key stands on the line, the first of these names that is set counts in its place.
+    pub fn env(mut self, name: &str) -> Result<NamedArg, AllocError>
+        ensures { IfOk result (λ named. named ≡ with_env self name.now) }
+    {
+        let name = Text::new(*self.envs.allocator(), name)?;
+        self.envs.push(name)?;
         Ok(self)
     }
 
@@ -113,6 +148,13 @@ impl NamedArg {
         ensures { result.now ≡ self.now.names.longs }
     {
         self.longs.as_slice()
+    }
+
+    /// All names in the environment, in the order in which they were given.
+    pub fn envs(&self) -> &[Text]
+        ensures { result.now ≡ self.now.envs }
+    {
+        self.envs.as_slice()
     }
 
     /// A flag that is true where the key stands on the line, and false where it does not.
@@ -162,7 +204,7 @@ impl NamedArg {
             Some(name) => Ok(Some(Item::Flag {
                 name,
                 shorts: Vec::from_slice(alloc, self.shorts())?,
-                env: None,
+                env: self.first_env()?,
                 help: self.help_copy()?,
             })),
             None => Ok(None),
@@ -180,7 +222,7 @@ impl NamedArg {
                 name,
                 shorts: Vec::from_slice(alloc, self.shorts())?,
                 metavar: Text::new(alloc, metavar.0)?,
-                env: None,
+                env: self.first_env()?,
                 help: self.help_copy()?,
             })),
             None => Ok(None),
@@ -208,15 +250,22 @@ impl NamedArg {
     {
         let alloc = *self.longs.allocator();
         let shorts = Vec::from_slice(alloc, &self.shorts)?;
-        let mut longs = Vec::new(alloc);
-        for long in &self.longs {
-            longs.push(long.copy()?)?;
-        }
         Ok(NamedArg {
             shorts,
-            longs,
+            longs: copy_texts(alloc, &self.longs)?,
+            envs: copy_texts(alloc, &self.envs)?,
             help: self.help_copy()?,
         })
+    }
+
+    /// The first name in the environment, where there is one; refused only for want of memory.
+    fn first_env(&self) -> Result<Option<Text>, AllocError>
+        ensures { IfOk result (λ name. name ≡ first_text self.now.envs) }
+    {
+        match self.envs.first() {
+            Some(name) => Ok(Some(name.copy()?)),
+            None => Ok(None),
+        }
     }
 
     /// An equal help, where there is one; refused only for want of memory.
@@ -228,4 +277,15 @@ impl NamedArg {
             None => Ok(None),
         }
     }
+}
+
+/// Equal texts; refused only for want of memory.
+fn copy_texts(alloc: Global, texts: &[Text]) -> Result<Vec<Text>, AllocError>
+    ensures { IfOk result (λ copies. copies.items ≡ texts.now) }
+{
+    let mut copies = Vec::new(alloc);
+    for text in texts {
+        copies.push(text.copy()?)?;
+    }
+    Ok(copies)
 }
