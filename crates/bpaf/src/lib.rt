@@ -22,11 +22,11 @@ pub mod parsers;
 mod position;
 mod product;
 
-pub use bpaf_core::{Info, OptionParser, Parser, count_falls, read_text};
+pub use bpaf_core::{Info, OptionParser, Parser, count_falls, key_before_environment, read_text};
 pub use bpaf_doc::{Doc, Item, Meta, Metavar, Piece, ShortLong, Style, Text};
 pub use bpaf_line::{
     Arg, Args, Error, LentWord, Message, MissingItem, MissingItems, ParseFailure, State,
 };
-pub use bpaf_text::{FromText, NamedArg, TextFault, long, short};
+pub use bpaf_text::{FromText, NamedArg, TextFault, env, long, short};
 pub use position::{ParsePositional, Position, positional};
 pub use product::{Both, Fields, Last, ParseCon};

@@ -1,3 +1,4 @@
 pub mod Running
 pub mod Dealing
 pub mod Counting
+pub mod KeyFirst

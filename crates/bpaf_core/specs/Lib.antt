@@ -8,6 +8,7 @@ pub mod Flag
 pub mod FlagLaws
 pub mod Argument
 pub mod ArgumentLaws
+pub mod KeyFirst
 pub mod Known
 pub mod Run
 pub mod Dealt

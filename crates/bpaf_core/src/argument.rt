@@ -1,4 +1,5 @@
-ghost use Rattle.bpaf_core.specs.Argument.{TakesText};
+ghost use Rattle.bpaf_core.specs.Argument.{TakesText, ArgumentOutcome};
+ghost use Rattle.bpaf_core.specs.KeyFirst.{KeyBeforeEnvironment};
 
 use crate::environment::{absence, first_set};
 use crate::parser::Parser;
@@ -59,4 +60,12 @@ impl<T: FromText + Drop> Parser<T> for ParseArgument<T> {
     }
 
     ghost lawful = { λ p. argument_lawful T T.means p.named p.metavar.0.now };
+}
+
+/// Where a key of an argument is present in scope, no variable of the environment is read: a value comes
+/// from the text behind that key.
+pub fn key_before_environment<T: FromText>(argument: &ParseArgument<T>)
+    ensures { KeyBeforeEnvironment (ArgumentOutcome T.means argument.now.named argument.now.metavar.0.now) T.means argument.now.named }
+{
+    let _ = argument;
 }

@@ -27,6 +27,7 @@ mod options;
 mod parser;
 mod reading;
 
+pub use argument::key_before_environment;
 pub use info::Info;
 pub use laws::count_falls;
 pub use options::OptionParser;

@@ -1,5 +1,6 @@
 -- From what a run says of the record's parser to options that are dealt out of the words.
-use Rattle.std.proofs.Common.{◌≡◌, ℕ, Bool, true, false, List, [], ◌∷◌, Option, Some, Result, Ok, Err, IfOk, codes, sym, subst, ap, ◌∙◌}
+use Rattle.std.proofs.Common.{◌≡◌, ℕ, Bool, true, false, List, [], ◌∷◌, Option, Some, Result, Ok, Err, IfOk, codes, sym, subst, ap, ◌∙◌, true≢false}
+use Rattle.bpaf_doc.specs.Names.{Names}
 use Rattle.bpaf_text.specs.Named.{Named, key_named}
 use Rattle.bpaf_text.specs.Meaning.{SpellsUnsigned}
 use Rattle.bpaf_line.specs.declared.failure.ParseFailure.{ParseFailure}
@@ -9,21 +10,27 @@ use Rattle.bpaf_doc.specs.Shape.{Shape, And, members}
 use Rattle.bpaf_line.specs.Line.{IsLine}
 use Rattle.bpaf_core.specs.declared.info.Info.{Info}
 use Rattle.bpaf_core.specs.Known.{known_names, plain_info}
-use Rattle.bpaf_core.specs.Flag.{FlagReads, at_key, nowhere, flag_shape}
-use Rattle.bpaf_core.specs.Argument.{ArgumentReads, argument_shape}
+use Rattle.bpaf_core.specs.Flag.{FlagReads, at_key, in_environment, nowhere, flag_shape}
+use Rattle.bpaf_core.specs.Argument.{ArgumentReads, behind_key, in_variable, argument_shape}
 use Rattle.bpaf_core.specs.Run.{Given}
 use Rattle.bpaf_core.specs.Dealt.{IsDealtOut}
 use Rattle.bpaf.specs.Product.{BothReads, ProductReads, BothDescribes, LastDescribes, ProductDescribes}
 use Rattle.bpaf_demo.specs.declared.options.Options.{Options}
-use Rattle.bpaf_demo.specs.Record.{IsDealtOptions, SwitchReads, verbose_names, num_names, program_known, program_context}
+use Rattle.bpaf_demo.specs.Record.{IsDealtOptions, SwitchReads, NumberReads, verbose_names, num_names, program_known, program_context}
 
 -- a flag that gives true, or false where its key is absent, reads as a switch
-switch_read : (clones : Bool → Bool → Type 0) → ((x y : Bool) → clones x y → y ≡ x) → (named : Named) (context : Context) (share : Share) (v : Bool)
-    → FlagReads Bool clones named true (Some false) context share v → SwitchReads named.names context share v
-switch_read clones same named context share v (at_key key is place value) =
-    subst (SwitchReads named.names context share) (sym (same true v value)) (key, is, place)
-switch_read clones same named context share v (nowhere none value) =
-    subst (SwitchReads named.names context share) (sym (same false v value)) none
+switch_read : (clones : Bool → Bool → Type 0) → ((x y : Bool) → clones x y → y ≡ x) → (names : Names) (context : Context) (share : Share) (v : Bool)
+    → FlagReads Bool clones (key_named names) true (Some false) context share v → SwitchReads names context share v
+switch_read clones same names context share v (at_key key is place value) =
+    subst (SwitchReads names context share) (sym (same true v value)) (key, is, place)
+switch_read clones same names context share v (in_environment none set value) = absurd (true≢false (sym set))
+switch_read clones same names context share v (nowhere none unset value) =
+    subst (SwitchReads names context share) (sym (same false v value)) none
+
+-- an argument without environment names reads as a number
+number_read : (names : Names) (context : Context) (share : Share) (v : ℕ) → ArgumentReads ℕ (SpellsUnsigned 64) (key_named names) context share v → NumberReads names context share v
+number_read names context share v (behind_key text there meant) = (text, there, meant)
+number_read names context share v (in_variable text none set meant) = cc
 
 -- what the record's parser is made of: its two fields and its constructor
 pub record IsRecordParser (clones : Bool → Bool → Type 0) (makes : Bool × ℕ → Options → Type 0) (verbose num : Named) (present : Bool) (absent : Option Bool) (info : Info) : Type 0 where
@@ -76,8 +83,9 @@ module _ (clones : Bool → Bool → Type 0) (makes : Bool × ℕ → Options �
         num_share = read.rest_share;
         joins = read.joins;
         verbose = subst (λ (o : Options). SwitchReads verbose_names (program_context dealt.line) read.first_share o.verbose) (sym is)
-            (switch_read clones same (key_named verbose_names) (program_context dealt.line) read.first_share dealt.read.values.0 read.first_read);
-        num = subst (λ (o : Options). ArgumentReads ℕ (SpellsUnsigned 64) (key_named num_names) (program_context dealt.line) read.rest_share o.num) (sym is) read.rest_read;
+            (switch_read clones same verbose_names (program_context dealt.line) read.first_share dealt.read.values.0 read.first_read);
+        num = subst (λ (o : Options). NumberReads num_names (program_context dealt.line) read.rest_share o.num) (sym is)
+            (number_read num_names (program_context dealt.line) read.rest_share dealt.read.values.1 read.rest_read);
       }
 
   -- an answer of the record's parser on the program's words

@@ -10,7 +10,7 @@ use Rattle.bpaf_line.specs.Spelling.{Known}
 use Rattle.bpaf_line.specs.Line.{IsLine}
 use Rattle.bpaf_line.specs.Situation.{Context, is_dealt_place}
 use Rattle.bpaf_core.specs.Reading.{Share, Joins, IsPlace, IsEmptyShare, HasItem}
-use Rattle.bpaf_core.specs.Argument.{ArgumentReads}
+use Rattle.bpaf_core.specs.Argument.{IsKeyWithText}
 use Rattle.bpaf_demo.specs.declared.options.Options.{Options}
 use Rattle.bpaf_demo.specs.Lines.{lines}
 
@@ -35,6 +35,10 @@ abbrev pub SwitchReads : Names → Context → Share → Bool → Type 0
 SwitchReads names context share true = (key : ℕ) × HasItem (is_key_of names) context key × IsPlace key share
 SwitchReads names context share false = IsEmptyShare share
 
+-- the number is what the text behind one of the keys spells
+abbrev pub NumberReads : Names → Context → Share → ℕ → Type 0
+NumberReads names context share number = (text : List ℕ) × IsKeyWithText (key_named names) context share text × SpellsUnsigned 64 text number
+
 -- all places of the words' line but the first `--` are dealt out to the switch and the number, each used once
 pub record IsDealtOptions (words : List (List ℕ)) (v : Options) : Type 0 where
   pub line : List Arg
@@ -44,7 +48,7 @@ pub record IsDealtOptions (words : List (List ℕ)) (v : Options) : Type 0 where
   pub num_share : Share
   pub joins : Joins verbose_share num_share (is_dealt_place line marker)
   pub verbose : SwitchReads verbose_names (program_context line) verbose_share v.verbose
-  pub num : ArgumentReads ℕ (SpellsUnsigned 64) (key_named num_names) (program_context line) num_share v.num
+  pub num : NumberReads num_names (program_context line) num_share v.num
 
 -- status 0: nothing on the error writer, and on the other exactly the lines of options that are dealt out of the words
 pub record Succeeds (words : List (List ℕ)) (out out_after err err_after : Option (List ℕ)) : Type 0 where

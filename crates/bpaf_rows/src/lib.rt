@@ -5,6 +5,8 @@
 #![tactic(auto)]
 
 #[cfg(test)]
+mod environment;
+#[cfg(test)]
 mod flags;
 #[cfg(test)]
 mod forms;

@@ -1,7 +1,7 @@
 ghost use Rattle.std.specs.Prelude.{◌≡◌, codes};
 ghost use Rattle.bpaf_text.specs.Meaning.{ReadsText};
 
-use crate::{FromText, NamedArg, TextFault, long, short};
+use crate::{FromText, NamedArg, TextFault, env, long, short};
 use bpaf_doc::{Doc, Item, Metavar, ShortLong};
 use std::alloc::{AllocError, Global};
 use std::fmt::Debug;
@@ -237,5 +237,24 @@ fn flags_and_arguments_are_copied(rt: HostRuntime) -> Result<(), Fail> {
     let argument = size(alloc)?.argument::<u32>("NUM").copy()?;
     assert_eq!(rt; argument.metavar.0, "NUM");
     expect_names(&rt, &argument.named, &['s', 'n'], &["size", "number"]);
+    Ok(())
+}
+
+// Asserts that the key has these names in the environment.
+fn expect_envs(rt: &impl Abort, key: &NamedArg, names: &[&str]) {
+    assert_eq!(rt; key.envs().len(), names.len());
+    for (env, name) in key.envs().iter().zip(names) {
+        assert_eq!(rt; env.as_str(), *name);
+    }
+}
+
+#[test]
+fn names_in_the_environment_are_kept_in_order(rt: HostRuntime) -> Result<(), Fail> {
+    let alloc = rt.alloc();
+    expect_envs(&rt, &size(alloc)?, &[]);
+    let key = env(alloc, "SIZE")?.env("WIDTH")?;
+    expect_names(&rt, &key, &[], &[]);
+    expect_envs(&rt, &key, &["SIZE", "WIDTH"]);
+    expect_envs(&rt, &key.copy()?, &["SIZE", "WIDTH"]);
     Ok(())
 }

@@ -1,0 +1,116 @@
+//! Rows on names in the environment.
+use bpaf::{Args, Item, Meta, Parser, env, short};
+use std::alloc::{AllocError, Global};
+use std::collections::BTreeMap;
+use std::test::Fail;
+
+/// An environment of one variable.
+fn variable(
+    alloc: Global,
+    name: &str,
+    value: &str,
+) -> Result<BTreeMap<String, String>, AllocError> {
+    let mut variables = BTreeMap::new(alloc);
+    variables.insert(
+        String::from_str(alloc, name)?,
+        String::from_str(alloc, value)?,
+    )?;
+    Ok(variables)
+}
+
+/// The switch `-v`, or `COLOR` in the environment, where that has this value.
+fn colored(alloc: Global, value: &str, words: &[&str]) -> Result<Option<bool>, AllocError> {
+    let variables = variable(alloc, "COLOR", value)?;
+    let options = short(alloc, 'v')?.env("COLOR")?.switch().to_options(alloc)?;
+    Ok(
+        options
+            .run_inner(Args::from(words).set_env(&variables))
+            .ok(),
+    )
+}
+
+/// The number `-n`, or `NUM` in the environment, where a variable of this name is set to that value.
+fn number(
+    alloc: Global,
+    name: &str,
+    value: &str,
+    words: &[&str],
+) -> Result<Option<u64>, AllocError> {
+    let variables = variable(alloc, name, value)?;
+    let named = short(alloc, 'n')?.env("NUM")?.env("COUNT")?;
+    let options = named.argument::<u64>("NUM").to_options(alloc)?;
+    Ok(
+        options
+            .run_inner(Args::from(words).set_env(&variables))
+            .ok(),
+    )
+}
+
+#[test]
+fn set_variable_makes_a_flag_present(rt: HostRuntime) -> Result<(), Fail> {
+    let a = rt.alloc();
+    assert_eq!(rt; colored(a, "", &[])?, Some(true));
+    assert_eq!(rt; colored(a, "", &["-v"])?, Some(true));
+    Ok(())
+}
+
+#[test]
+fn key_before_variable(rt: HostRuntime) -> Result<(), Fail> {
+    let a = rt.alloc();
+    assert_eq!(rt; number(a, "NUM", "5", &[])?, Some(5));
+    assert_eq!(rt; number(a, "NUM", "5", &["-n", "3"])?, Some(3));
+    assert_eq!(rt; number(a, "COUNT", "7", &[])?, Some(7));
+    Ok(())
+}
+
+#[test]
+fn unreadable_variable_refused(rt: HostRuntime) -> Result<(), Fail> {
+    let a = rt.alloc();
+    assert_eq!(rt; number(a, "NUM", "z", &[])?, None);
+    assert_eq!(rt; number(a, "OTHER", "5", &[])?, None);
+    Ok(())
+}
+
+/// The number `K` of the environment alone.
+fn variable_alone(alloc: Global, name: &str) -> Result<Option<u64>, AllocError> {
+    let variables = variable(alloc, name, "4")?;
+    let options = env(alloc, "K")?.argument::<u64>("K").to_options(alloc)?;
+    let none: &[&str] = &["x"];
+    Ok(
+        options
+            .run_inner(Args::from(&none[1..]).set_env(&variables))
+            .ok(),
+    )
+}
+
+#[test]
+fn variable_alone_gives_the_value(rt: HostRuntime) -> Result<(), Fail> {
+    let a = rt.alloc();
+    assert_eq!(rt; variable_alone(a, "K")?, Some(4));
+    assert_eq!(rt; variable_alone(a, "L")?, None);
+    Ok(())
+}
+
+/// The name in the environment that a parser shows with its item.
+fn shown_variable(alloc: Global, meta: Meta) -> Result<Option<String>, AllocError> {
+    match meta {
+        Meta::Item(
+            Item::Argument {
+                env: Some(name),
+                ..
+            },
+        ) => Ok(Some(String::from_str(alloc, name.as_str())?)),
+        _ => Ok(None),
+    }
+}
+
+#[test]
+fn first_variable_is_shown(rt: HostRuntime) -> Result<(), Fail> {
+    let a = rt.alloc();
+    let named = short(a, 'n')?.env("NUM")?.env("COUNT")?;
+    let shown = shown_variable(a, named.argument::<u64>("NUM").meta(a)?)?;
+    assert!(rt; shown.is_some_and(|name| name.as_str() == "NUM"));
+    let alone = env(a, "K")?.argument::<u64>("K").meta(a)?;
+    assert!(rt; matches!(&alone, Meta::Skip));
+    Ok(())
+}
