@@ -1,5 +1,5 @@
 ghost use Rattle.std.specs.Prelude.{◌≡◌, IfOk, map};
-ghost use Rattle.bpaf_doc.specs.Shape.{shape_of, part_of, name_of, Flag, Argument};
+ghost use Rattle.bpaf_doc.specs.Shape.{shape_of, part_of, name_of, Any, Flag, Argument};
 
 use crate::doc::Doc;
 use crate::item::{Item, ShortLong};
@@ -25,10 +25,14 @@ fn copy_env(env: &Option<Text>) -> Result<Option<Text>, AllocError>
     }
 }
 
-fn copy_shorts(shorts: &Vec<char>) -> Result<Vec<char>, AllocError>
-    ensures { IfOk result (λ new. new.items ≡ shorts.now.items) }
+fn copy_any(metavar: &Doc, help: &Option<Doc>, anywhere: bool) -> Result<Item, AllocError>
+    ensures { IfOk result (λ new. part_of new ≡ Any metavar.now help.now anywhere) }
 {
-    Vec::from_slice(*shorts.allocator(), shorts)
+    Ok(Item::Any {
+        metavar: metavar.copy()?,
+        help: copy_help(help)?,
+        anywhere,
+    })
 }
 
 fn copy_flag(
@@ -63,6 +67,12 @@ fn copy_argument(
         env: copy_env(env)?,
         help: copy_help(help)?,
     })
+}
+
+fn copy_shorts(shorts: &Vec<char>) -> Result<Vec<char>, AllocError>
+    ensures { IfOk result (λ new. new.items ≡ shorts.now.items) }
+{
+    Vec::from_slice(*shorts.allocator(), shorts)
 }
 
 #[cycle(copy)]
@@ -108,11 +118,7 @@ impl Item {
                 metavar,
                 help,
                 anywhere,
-            } => Ok(Item::Any {
-                metavar: metavar.copy()?,
-                help: copy_help(help)?,
-                anywhere: *anywhere,
-            }),
+            } => copy_any(metavar, help, *anywhere),
             Item::Positional { metavar, help } => Ok(Item::Positional {
                 metavar: metavar.copy()?,
                 help: copy_help(help)?,
