@@ -23,9 +23,9 @@ mod position;
 mod product;
 
 pub use bpaf_core::{Info, OptionParser, Parser, count_falls, key_before_environment, read_text};
-pub use bpaf_doc::{Doc, Item, Meta, Metavar, Piece, ShortLong, Style, Text};
+pub use bpaf_doc::{Doc, Item, Meta, MetaInfo, Metavar, Piece, ShortLong, Style, Text};
 pub use bpaf_line::{
-    Arg, Args, Error, LentWord, Message, MissingItem, MissingItems, ParseFailure, State,
+    Arg, Args, ArgsIter, Error, LentWord, Message, MissingItem, MissingItems, ParseFailure, State,
 };
 pub use bpaf_text::{FromText, NamedArg, TextFault, env, long, short};
 pub use position::{ParsePositional, Position, positional};
