@@ -9,6 +9,12 @@ pub mod FlagLaws
 pub mod Argument
 pub mod ArgumentLaws
 pub mod KeyFirst
+pub mod Transform
+pub mod TransformLaws
+pub mod Step
+pub mod Default
+pub mod DefaultLaws
+pub mod Spared
 pub mod Known
 pub mod Run
 pub mod Dealt

@@ -20,16 +20,22 @@
 
 mod argument;
 mod environment;
+mod fallback;
 mod flag;
 mod info;
 mod laws;
+mod optional;
 mod options;
 mod parser;
 mod reading;
+mod transform;
 
 pub use argument::key_before_environment;
+pub use fallback::{ParseFallback, ParseFallbackWith};
 pub use info::Info;
-pub use laws::count_falls;
+pub use laws::{count_falls, default_takes_nothing, memory_is_never_caught};
+pub use optional::ParseOptional;
 pub use options::OptionParser;
 pub use parser::Parser;
 pub use reading::read_text;
+pub use transform::{ParseGuard, ParseMap, ParseWith};

@@ -2,11 +2,15 @@ ghost use Rattle.std.specs.Prelude.{◌≡◌, IfOk};
 ghost use Rattle.bpaf_doc.specs.Shape.{shape_of};
 ghost use Rattle.bpaf_core.specs.Known.{plain_info};
 
+use crate::fallback::{ParseFallback, ParseFallbackWith};
 use crate::info::Info;
+use crate::optional::ParseOptional;
 use crate::options::OptionParser;
+use crate::transform::{ParseGuard, ParseMap, ParseWith};
 use bpaf_doc::Meta;
 use bpaf_line::{Error, State};
 use std::alloc::{AllocError, Global};
+use std::fmt::Display;
 use std::marker::PhantomData;
 
 /// What reads a value off a line (bpaf's `Parser`).
@@ -38,6 +42,126 @@ pub trait Parser<T>: Sized {
     fn meta(&self, alloc: Global) -> Result<Meta, AllocError>
         requires { can_eval self.now }
         ensures { IfOk result (λ meta. describes self.now (shape_of meta)) };
+
+    /// The closure's value in place of the one read (bpaf's `Parser::map`).
+    ///
+    /// ```text
+    /// long(alloc, "size")?.argument::<u64>("KB").map(|kilobytes| Size(kilobytes))
+    /// ```
+    final fn map<R, F: Fn(T) -> R>(self, map: F) -> ParseMap<T, Self, F, R>
+        requires inner { can_eval self }
+        requires callable { F.IsAlwaysCallable map }
+        ensures inner { result.inner ≡ self }
+        ensures map_fn { result.map_fn ≡ map }
+    {
+        ParseMap {
+            inner: self,
+            map_fn: map,
+            inner_res: PhantomData,
+            res: PhantomData,
+        }
+    }
+
+    /// The closure's value in place of the one read, or its fault as a refusal (bpaf's
+    /// `Parser::parse`).
+    ///
+    /// ```text
+    /// long(alloc, "size")?.argument::<u64>("KB").parse(|size| {
+    ///     if size < 10 { Ok(size) } else { Err("too big") }
+    /// })
+    /// ```
+    final fn parse<R, E: Display, F: Fn(T) -> Result<R, E>>(
+        self,
+        f: F,
+    ) -> ParseWith<T, Self, F, E, R>
+        requires inner { can_eval self }
+        requires callable { F.IsAlwaysCallable f }
+        ensures inner { result.inner ≡ self }
+        ensures parse_fn { result.parse_fn ≡ f }
+    {
+        ParseWith {
+            inner: self,
+            parse_fn: f,
+            inner_res: PhantomData,
+            err: PhantomData,
+            res: PhantomData,
+        }
+    }
+
+    /// The value read, refused with the message where the check is false of it (bpaf's
+    /// `Parser::guard`).
+    ///
+    /// ```text
+    /// long(alloc, "size")?.argument::<u64>("KB").guard(|size| *size < 10, "below 10")
+    /// ```
+    final fn guard<F: Fn(&T) -> bool>(self, check: F, message: &'static str) -> ParseGuard<Self, F>
+        requires inner { can_eval self }
+        requires callable { F.IsAlwaysCallable check }
+        ensures inner { result.inner ≡ self }
+        ensures check { result.check ≡ check }
+        ensures message { result.message ≡ message.entry }
+    {
+        ParseGuard {
+            inner: self,
+            check,
+            message,
+        }
+    }
+
+    /// None where there is nothing to read (bpaf's `Parser::optional`).
+    ///
+    /// A value that stands there and can't be read is refused as before.
+    ///
+    /// ```text
+    /// long(alloc, "size")?.argument::<u64>("KB").optional()
+    /// ```
+    final fn optional(self) -> ParseOptional<Self>
+        requires { can_eval self }
+        ensures { result.inner ≡ self }
+    {
+        ParseOptional { inner: self }
+    }
+
+    /// A kept value where there is nothing to read (bpaf's `Parser::fallback`); it is cloned when it is
+    /// given out.
+    ///
+    /// A value that stands there and can't be read is refused as before.
+    ///
+    /// ```text
+    /// long(alloc, "jobs")?.argument::<u64>("N").fallback(1)
+    /// ```
+    final fn fallback(self, value: T) -> ParseFallback<Self, T>
+        requires { can_eval self }
+        ensures inner { result.inner ≡ self }
+        ensures value { result.value ≡ value }
+    {
+        ParseFallback { inner: self, value }
+    }
+
+    /// The closure's value where there is nothing to read, or its fault as a refusal (bpaf's
+    /// `Parser::fallback_with`).
+    ///
+    /// A value that stands there and can't be read is refused as before; the closure isn't called.
+    ///
+    /// ```text
+    /// long(alloc, "version")?.argument::<u64>("N").fallback_with(|| newest_version())
+    /// ```
+    final fn fallback_with<E: Display, F: Fn() -> Result<T, E>>(
+        self,
+        fallback: F,
+    ) -> ParseFallbackWith<T, Self, F, E>
+        requires inner { can_eval self }
+        requires callable { F.IsAlwaysCallable fallback }
+        ensures inner { result.inner ≡ self }
+        ensures fallback { result.fallback ≡ fallback }
+    {
+        ParseFallbackWith {
+            inner: self,
+            fallback,
+            inner_res: PhantomData,
+            err: PhantomData,
+        }
+    }
 
     /// A parser that can run over words; refused only for want of memory.
     final fn to_options(self, alloc: Global) -> Result<OptionParser<T, Self>, AllocError>

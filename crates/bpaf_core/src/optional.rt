@@ -1,0 +1,96 @@
+ghost use Rattle.std.specs.Prelude.{◌≡◌, IfOk};
+ghost use Rattle.bpaf_doc.specs.Shape.{shape_of};
+ghost use Rattle.bpaf_core.specs.Default.{OptionalDescribes};
+ghost use Rattle.bpaf_core.specs.Step.{StepOutcome, stops_step};
+
+use crate::parser::Parser;
+use bpaf_doc::Meta;
+use bpaf_line::{Error, Message, State};
+use std::alloc::{AllocError, Global};
+
+/// Whether a step stops at an error; `untouched` tells that as many items are present as before it.
+fn stops_step(catches: bool, message: &Message, untouched: bool) -> bool
+    ensures { result ≡ stops_step catches message.now untouched }
+{
+    match message {
+        Message::Memory => false,
+        Message::Missing(_) => catches || untouched,
+        other => (catches && !other.wrong_input()) || other.can_catch(),
+    }
+}
+
+/// One step of an optional value or a repeat (bpaf's `parse_option`, in `structs.rs`): Some of a
+/// value, or None where it stops.
+///
+/// `catches` tells that it stops at every error but those of wrong input and want of memory, `first`
+/// that no value came before it.
+fn parse_option<T: Drop, P: Parser<T>>(
+    parser: &P,
+    state: &mut State,
+    catches: bool,
+    first: bool,
+) -> Result<Option<T>, Error>
+    requires { P.can_eval parser.now }
+    ensures { StepOutcome (P.outcome parser.now) catches first state.old result state.new }
+{
+    let before = state.copy()?;
+    match parser.eval(state) {
+        Ok(value) => {
+            if first || state.len() < before.len() {
+                Ok(Some(value))
+            } else {
+                Ok(None)
+            }
+        }
+        Err(error) => {
+            let untouched = state.len() == before.len();
+            if stops_step(catches, &error.0, untouched) {
+                *state = before;
+                Ok(None)
+            } else {
+                Err(error)
+            }
+        }
+    }
+}
+
+/// What a parser shows, as what may be left out; refused only for want of memory.
+pub(crate) fn optional_meta<T, P: Parser<T>>(parser: &P, alloc: Global) -> Result<Meta, AllocError>
+    requires { P.can_eval parser.now }
+    ensures { IfOk result (λ meta. OptionalDescribes (P.describes parser.now) (shape_of meta)) }
+{
+    Ok(Meta::Optional(Box::new(alloc, parser.meta(alloc)?)?))
+}
+
+/// Some of the inner value, or None (bpaf's `ParseOptional`, in `structs.rs`).
+#[derive(Drop)]
+pub struct ParseOptional<P> {
+    pub inner: P,
+}
+
+/// None where the inner parser answers Missing and took nothing, or another error that can be caught;
+/// all is then as before. Every other error is refused, with the state that it left; so is want of
+/// memory.
+impl<T: Drop, P: Parser<T>> Parser<Option<T>> for ParseOptional<P> {
+    ghost use Rattle.std.specs.Prelude.{true, false};
+    ghost use Rattle.bpaf_core.specs.Default.{OptionalReads, OptionalDescribes};
+    ghost use Rattle.bpaf_core.specs.DefaultLaws.{optional_lawful};
+
+    ghost can_eval = { λ p. P.can_eval p.inner };
+
+    ghost describes = { λ p. OptionalDescribes (P.describes p.inner) };
+
+    ghost reads = { λ p. OptionalReads (P.reads p.inner) };
+
+    ghost outcome = { λ p. StepOutcome (P.outcome p.inner) false true };
+
+    fn eval(&self, state: &mut State) -> Result<Option<T>, Error> {
+        parse_option(&self.inner, state, false, true)
+    }
+
+    fn meta(&self, alloc: Global) -> Result<Meta, AllocError> {
+        optional_meta(&self.inner, alloc)
+    }
+
+    ghost lawful = { λ p. optional_lawful (P.lawful p.inner) false };
+}
