@@ -1,3 +1,5 @@
 pub mod Product
 pub mod Positional
 pub mod PositionalLaws
+pub mod Pure
+pub mod PureLaws

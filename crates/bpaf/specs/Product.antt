@@ -8,11 +8,7 @@ use Rattle.bpaf_line.specs.declared.error.Error.{Error}
 use Rattle.bpaf_core.specs.Reading.{Share, Readings, Outcome, Joins}
 use Rattle.bpaf_core.specs.Laws.{Keeps, Reads, Lawful, newly}
 use Rattle.bpaf_core.specs.Keeping.{keeps_of, keeps_trans, keeps_current, closes_trans, newly_joins}
-
--- an answer that isn't want of memory
-abbrev pub IsSpared : {T : Type 0} → Result T Error → Type 0
-IsSpared (Ok v) = Unit {0}
-IsSpared (Err e) = is_memory e.0 ≡ false
+use Rattle.bpaf_core.specs.Spared.{IsSpared}
 
 -- the join of the fields' shares, and the fields' values
 pub record BothReads (A B : Type 0) (first : Readings A) (rest : Readings B) (context : Context) (share : Share) (v : A × B) : Type 0 where

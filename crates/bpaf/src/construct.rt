@@ -5,6 +5,7 @@
 /// | `construct!(a, b)` | the tuple `(a, b)` |
 /// | `construct!(Name { a, b })` | a struct with these fields, or a variant, as in `Command::Build { a, b }` |
 /// | `construct!(Name(a, b))` | a struct with numbered fields, or a variant, as in `Command::Run(a, b)` |
+/// | `construct!(Name {})`, `construct!(Name())` | that value: it is [`pure`](crate::pure) of it |
 /// | `construct!(a)` | what `a` parses: it is that parser itself |
 ///
 /// A name may be a path, such as `self::One(a, b)`; a leading `::` is dropped. A trailing comma may
@@ -33,9 +34,13 @@
 /// bpaf's macro makes a closure over the parsers, and evaluates them in it. This one makes a product,
 /// [`ParseCon`](crate::ParseCon) over nested [`Both`](crate::Both) and [`Last`](crate::Last), and a
 /// closure for the constructor alone: so what the whole parses follows from what its fields do. The two
-/// have the same forms, but for a choice and a value without fields, which are not here yet.
+/// have the same forms, but for a choice, which is not here yet.
 #[macro_export]
 macro_rules! construct {
+    // construct!(Name {}) and construct!(Name())
+    ($(::)? $first:ident $(:: $more:ident)* {}) => { $crate::pure($first $(:: $more)* {}) };
+    ($(::)? $first:ident $(:: $more:ident)* ()) => { $crate::pure($first $(:: $more)* ()) };
+
     // construct!(Name { a, b })
     ($(::)? $first:ident $(:: $more:ident)* { $($fields:tt)* }) => {
         $crate::construct!(@fields [named [$first $(:: $more)*]] [] $($fields)*)
