@@ -68,8 +68,8 @@ impl Message {
         matches!(self, Message::Memory)
     }
 
-    /// Whether a parser that may do without a value goes on past it: nothing on the line is at fault,
-    /// something is only not there. It takes no memory.
+    /// Whether a parser that may do without a value goes on past it: something wasn't there, or a
+    /// closure had no value to give. It takes no memory.
     pub fn can_catch(&self) -> bool
         ensures { result ≡ can_catch self.now }
     {

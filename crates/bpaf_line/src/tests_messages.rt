@@ -105,6 +105,8 @@ fn memory_is_never_combined_away(rt: HostRuntime) -> Result<(), Fail> {
     assert_eq!(rt; both.as_str(), "memory");
     let both = combined(a, answered(a, "no")?, Message::Memory)?;
     assert_eq!(rt; both.as_str(), "memory");
+    assert!(rt; Error(Message::Memory).is_memory());
+    assert!(rt; !Error(Message::Unconsumed(3)).is_memory());
     Ok(())
 }
 
