@@ -2,7 +2,6 @@
 use Rattle.std.specs.Prelude.{◌≡◌, Ok, None}
 use Rattle.std.proofs.Common.{sym, subst}
 use Rattle.bpaf_line.specs.Situation.{Situation, with_current}
-use Rattle.bpaf_core.specs.Reading.{Readings}
 use Rattle.bpaf_core.specs.Laws.{Keeps, Reads, Lawful}
 use Rattle.bpaf_core.specs.Keeping.{keeps_refl, keeps_current, closes_refl, newly_none}
 use Rattle.bpaf_core.specs.Default.{Gives}

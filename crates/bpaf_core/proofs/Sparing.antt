@@ -1,14 +1,13 @@
 -- Want of memory isn't caught, and what stands for a value that isn't there takes nothing.
-use Rattle.std.proofs.Common.{◌≡◌, ◌⊎◌, Bool, true, false, Result, Ok, Err, Some, None, refl, inl, inr, ⊎_elim, true≢false, sym, ◌∙◌}
+use Rattle.std.proofs.Common.{◌≡◌, Bool, true, false, Ok, Err, Some, None, refl, inl, inr, ⊎_elim, true≢false, sym, ◌∙◌}
 use Rattle.bpaf_line.specs.Messages.{is_memory, can_catch}
 use Rattle.bpaf_line.specs.Situation.{Situation}
-use Rattle.bpaf_line.specs.declared.error.Error.{Error}
 use Rattle.bpaf_line.specs.declared.error.Message.{Message}
 use Rattle.bpaf_line.specs.declared.error.Message.TheVariants.{Memory}
 use Rattle.bpaf_core.specs.Reading.{Outcome}
 use Rattle.bpaf_core.specs.Step.{StepOutcome, stops_step}
 use Rattle.bpaf_core.specs.Default.{Gives, FallbackOutcome, AttemptOutcome}
-use Rattle.bpaf_core.specs.Spared.{IsSpared, WithoutMemory, CatchesNoMemory, NoneTakesNothing, FallbackTakesNothing}
+use Rattle.bpaf_core.specs.Spared.{WithoutMemory, CatchesNoMemory, NoneTakesNothing, FallbackTakesNothing}
 
 -- an error at which a step stops isn't want of memory
 stop_spared : (catches : Bool) (m : Message) (untouched : Bool) → stops_step catches m untouched ≡ true → is_memory m ≡ false

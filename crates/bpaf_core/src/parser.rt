@@ -94,7 +94,11 @@ pub trait Parser<T>: Sized {
     /// ```text
     /// long(alloc, "size")?.argument::<u64>("KB").guard(|size| *size < 10, "below 10")
     /// ```
-    final fn guard<F: Fn(&T) -> bool>(self, check: F, message: &'static str) -> ParseGuard<Self, F>
+    final fn guard<'m, F: Fn(&T) -> bool>(
+        self,
+        check: F,
+        message: &'m str,
+    ) -> ParseGuard<'m, Self, F>
         requires inner { can_eval self }
         requires callable { F.IsAlwaysCallable check }
         ensures inner { result.inner ≡ self }

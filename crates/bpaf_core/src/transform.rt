@@ -97,15 +97,15 @@ fn guard_failed(state: &State, message: &str) -> Error
 
 /// The inner value, where a check is true of it (bpaf's `ParseGuard`, in `structs.rs`).
 #[derive(Drop)]
-pub struct ParseGuard<P, F> {
+pub struct ParseGuard<'m, P, F> {
     pub inner: P,
     pub check: F,
-    pub message: &'static str,
+    pub message: &'m str,
 }
 
 /// The state stays as the inner parser left it. Beside what that refuses it refuses a value of which
 /// the check is false, with GuardFailed, which names the current place; or for want of memory.
-impl<T: Drop, P: Parser<T>, F: Fn(&T) -> bool> Parser<T> for ParseGuard<P, F> {
+impl<'m, T: Drop, P: Parser<T>, F: Fn(&T) -> bool> Parser<T> for ParseGuard<'m, P, F> {
     ghost use Rattle.std.specs.Fn.{FnReturnsAt};
     ghost use Rattle.bpaf_core.specs.Transform.{GuardOutcome, GuardReads};
     ghost use Rattle.bpaf_core.specs.TransformLaws.{guard_lawful};
