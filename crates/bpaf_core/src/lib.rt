@@ -8,14 +8,20 @@
 //!   show of itself. Its law `lawful` ties the outcome to the readings: the newly taken places with
 //!   the value are a reading, each taken place lay present in the scope, and so on
 //!   (specs/Laws.antt). Every implementation proves it, from the laws of its inner parsers alone.
-//! - [`bpaf_text::ParseFlag`] and [`bpaf_text::ParseArgument`] are the first parsers.
+//! - [`bpaf_text::ParseFlag`] and [`bpaf_text::ParseArgument`] are the first parsers. Where their key
+//!   isn't on the line, the first of their names in the environment that is set counts
+//!   (specs/Environment.antt).
+//! - [`ParseMap`], [`ParseWith`] and [`ParseGuard`] change or check a value (specs/Transform.antt);
+//!   [`ParseOptional`], [`ParseFallback`] and [`ParseFallbackWith`] stand in for one that isn't there
+//!   (specs/Step.antt, specs/Default.antt). None of them catches want of memory, and what stands in
+//!   takes nothing (specs/Spared.antt).
 //! - [`OptionParser::run_inner`] runs a parser over words. It answers a value only where that is
 //!   dealt out of the words: read off all items of their line but the first `--`, each used once
 //!   (specs/Dealt.antt), whatever the parser's type.
 //!
 //! Nothing above this crate uses more of a parser than these members, and its law.
 //!
-//! The source of the design is bpaf's `lib.rs`, `params.rs` and `info.rs`.
+//! The source of the design is bpaf's `lib.rs`, `params.rs`, `structs.rs` and `info.rs`.
 #![tactic(auto)]
 
 mod argument;
