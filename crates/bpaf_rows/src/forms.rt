@@ -36,8 +36,21 @@ enum Command {
     Run(bool, u64),
 }
 
+/// A struct without fields, by name and by number, and a variant of each kind.
+#[derive(Clone, Debug, Drop, PartialEq)]
+struct Named {}
+
+#[derive(Clone, Debug, Drop, PartialEq)]
+struct Unnamed();
+
+#[derive(Clone, Debug, Drop, PartialEq)]
+enum Nothing {
+    Named {},
+    Unnamed(),
+}
+
 /// The value of a parser on words; none where they are refused.
-fn value<T: Drop, P: Parser<T> + Drop>(
+pub(crate) fn value<T: Drop, P: Parser<T> + Drop>(
     alloc: Global,
     parser: P,
     words: &[&str],
@@ -209,5 +222,22 @@ fn values_are_made_by_number(rt: HostRuntime) -> Result<(), Fail> {
         Some(Command::Run(true, 3))
     );
     assert_eq!(rt; by_path(rt.alloc(), &["-n", "3"])?, Some(Single(3)));
+    Ok(())
+}
+
+#[test]
+fn values_without_fields_are_made(rt: HostRuntime) -> Result<(), Fail> {
+    let a = rt.alloc();
+    assert_eq!(rt; value(a, construct!(Named {}), &[])?, Some(Named {}));
+    assert_eq!(rt; value(a, construct!(Unnamed()), &[])?, Some(Unnamed()));
+    assert_eq!(rt;
+        value(a, construct!(Nothing::Named {}), &[])?,
+        Some(Nothing::Named {})
+    );
+    assert_eq!(rt;
+        value(a, construct!(::Nothing::Unnamed()), &[])?,
+        Some(Nothing::Unnamed())
+    );
+    assert_eq!(rt; value(a, construct!(Unnamed()), &["x"])?, None);
     Ok(())
 }

@@ -5,6 +5,8 @@
 #![tactic(auto)]
 
 #[cfg(test)]
+mod defaults;
+#[cfg(test)]
 mod environment;
 #[cfg(test)]
 mod flags;
@@ -12,5 +14,7 @@ mod flags;
 mod forms;
 #[cfg(test)]
 mod products;
+#[cfg(test)]
+mod transforms;
 #[cfg(test)]
 mod words;
