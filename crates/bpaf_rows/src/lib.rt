@@ -13,6 +13,8 @@ mod flags;
 #[cfg(test)]
 mod forms;
 #[cfg(test)]
+mod laws;
+#[cfg(test)]
 mod products;
 #[cfg(test)]
 mod transforms;
