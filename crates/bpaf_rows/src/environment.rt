@@ -1,5 +1,5 @@
 //! Rows on names in the environment.
-use bpaf::{Args, Item, Meta, Parser, env, short};
+use bpaf::{Args, Item, Meta, Parser, Text, env, short};
 use std::alloc::{AllocError, Global};
 use std::collections::BTreeMap;
 use std::test::Fail;
@@ -91,16 +91,18 @@ fn variable_alone_gives_the_value(rt: HostRuntime) -> Result<(), Fail> {
     Ok(())
 }
 
-/// The name in the environment that a parser shows with its item.
-fn shown_variable(alloc: Global, meta: Meta) -> Result<Option<String>, AllocError> {
+/// Whether an argument is shown with this name in the environment.
+fn shows_variable(meta: &Meta, name: &str) -> bool {
     match meta {
-        Meta::Item(
-            Item::Argument {
-                env: Some(name),
-                ..
-            },
-        ) => Ok(Some(String::from_str(alloc, name.as_str())?)),
-        _ => Ok(None),
+        Meta::Item(Item::Argument { env, .. }) => is_variable(env, name),
+        _ => false,
+    }
+}
+
+fn is_variable(env: &Option<Text>, name: &str) -> bool {
+    match env {
+        Some(env) => env.as_str() == name,
+        None => false,
     }
 }
 
@@ -108,8 +110,8 @@ fn shown_variable(alloc: Global, meta: Meta) -> Result<Option<String>, AllocErro
 fn first_variable_is_shown(rt: HostRuntime) -> Result<(), Fail> {
     let a = rt.alloc();
     let named = short(a, 'n')?.env("NUM")?.env("COUNT")?;
-    let shown = shown_variable(a, named.argument::<u64>("NUM").meta(a)?)?;
-    assert!(rt; shown.is_some_and(|name| name.as_str() == "NUM"));
+    let shown = named.argument::<u64>("NUM").meta(a)?;
+    assert!(rt; shows_variable(&shown, "NUM"));
     let alone = env(a, "K")?.argument::<u64>("K").meta(a)?;
     assert!(rt; matches!(&alone, Meta::Skip));
     Ok(())

@@ -177,13 +177,19 @@ fn keys_show_their_first_names(rt: HostRuntime) -> Result<(), Fail> {
     Ok(())
 }
 
+// What a help prints, where there is one.
+fn printed(help: &Option<Doc>) -> Result<Option<String>, AllocError> {
+    match help {
+        Some(help) => Ok(Some(help.monochrome(true)?)),
+        None => Ok(None),
+    }
+}
+
 // The help of a shown key, where it has one.
-fn help_of(item: Option<Item>) -> Result<Option<String>, AllocError> {
+fn help_of(item: &Option<Item>) -> Result<Option<String>, AllocError> {
     match item {
-        Some(Item::Flag { help, .. } | Item::Argument { help, .. }) => match help {
-            Some(help) => Ok(Some(help.monochrome(true)?)),
-            None => Ok(None),
-        },
+        Some(Item::Flag { help, .. }) => printed(help),
+        Some(Item::Argument { help, .. }) => printed(help),
         _ => Ok(None),
     }
 }
@@ -195,9 +201,9 @@ fn expect_help(
     key: &NamedArg,
     text: &str,
 ) -> Result<(), AllocError> {
-    let flag = help_of(key.flag_item(alloc)?)?;
+    let flag = help_of(&key.flag_item(alloc)?)?;
     assert!(rt; flag.is_some_and(|help| help.as_str() == text));
-    let argument = help_of(key.argument_item(alloc, Metavar("NUM"))?)?;
+    let argument = help_of(&key.argument_item(alloc, Metavar("NUM"))?)?;
     assert!(rt; argument.is_some_and(|help| help.as_str() == text));
     Ok(())
 }
@@ -205,7 +211,7 @@ fn expect_help(
 #[test]
 fn keys_show_their_help(rt: HostRuntime) -> Result<(), Fail> {
     let alloc = rt.alloc();
-    assert!(rt; help_of(size(alloc)?.flag_item(alloc)?)?.is_none());
+    assert!(rt; help_of(&size(alloc)?.flag_item(alloc)?)?.is_none());
     let key = size(alloc)?.help(Doc::from_text(alloc, "one")?);
     expect_help(&rt, alloc, &key, "one")?;
     expect_help(&rt, alloc, &key.copy()?, "one")?;
