@@ -7,7 +7,7 @@ use Rattle.bpaf_line.specs.declared.error.Message.TheVariants.{Memory, Missing, 
 use Rattle.bpaf_line.specs.Taking.{TakesText}
 use Rattle.bpaf_core.specs.Reading.{Readings}
 use Rattle.bpaf_core.specs.Laws.{Keeps, Reads, Lawful}
-use Rattle.bpaf_core.specs.Keeping.{keeps_refl, closes_take, keeps_take, newly_take}
+use Rattle.bpaf_core.specs.Keeping.{keeps_same, closes_take, keeps_take, newly_take}
 use Rattle.bpaf_core.specs.FlagLaws.{first_of_and}
 use Rattle.bpaf.specs.declared.position.Position.{Position}
 use Rattle.bpaf.specs.Positional.{PositionalReads, PositionalOutcome, PositionalFails, TakesSome, accepts}
@@ -51,11 +51,11 @@ module _ (T : Type 0) (means : List ℕ → T → Type 0) (position : Position) 
 
   -- what a refusal of a positional keeps
   positional_refused : (s t : Situation) (m : Message) → PositionalFails means position metavar s m t → Keeps s t
-  positional_refused s t (Missing items) fails = subst (Keeps s) (sym fails.1) (keeps_refl s)
+  positional_refused s t (Missing items) fails = keeps_same s t fails.1
   positional_refused s t (StrictPos place m) fails = word_keeps s place _ fails.2.0 t fails.2.1
   positional_refused s t (NonStrictPos place m) fails = word_keeps s place _ fails.2.0 t fails.2.1
   positional_refused s t (ParseFailed place fault) fails = some_keeps s t fails.0
-  positional_refused s t Memory fails = ⊎_elim (λ same. subst (Keeps s) (sym same) (keeps_refl s)) (λ taken. some_keeps s t taken) fails
+  positional_refused s t Memory fails = ⊎_elim (λ same. keeps_same s t same) (λ taken. some_keeps s t taken) fails
   positional_refused s t other fails = absurd fails
 
   -- positional words keep to the laws

@@ -88,19 +88,9 @@ impl<T> ParsePositional<T> {
         Ok(ParsePositional {
             metavar: self.metavar,
             position: self.position,
-            help: self.help_copy()?,
+            help: Doc::copy_of(&self.help)?,
             of: PhantomData,
         })
-    }
-
-    /// An equal help, where there is one; refused only for want of memory.
-    fn help_copy(&self) -> Result<Option<Doc>, AllocError>
-        ensures { IfOk result (λ help. help ≡ self.now.help) }
-    {
-        match &self.help {
-            Some(help) => Ok(Some(help.copy()?)),
-            None => Ok(None),
-        }
     }
 
     /// The word must stand on the right side of `--`; one that does not is taken and refused.
@@ -177,7 +167,7 @@ impl<T: FromText + Drop> Parser<T> for ParsePositional<T> {
 
     fn meta(&self, alloc: Global) -> Result<Meta, AllocError> {
         let metavar = Text::new(alloc, self.metavar.0)?;
-        let help = self.help_copy()?;
+        let help = Doc::copy_of(&self.help)?;
         let item = Meta::Item(Item::Positional { metavar, help });
         match self.position {
             Position::Strict => Ok(Meta::Strict(Box::new(alloc, item)?)),

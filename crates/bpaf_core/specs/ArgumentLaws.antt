@@ -11,7 +11,7 @@ use Rattle.bpaf_line.specs.declared.error.Message.{Message}
 use Rattle.bpaf_line.specs.declared.error.Message.TheVariants.{Memory, ParseFailed, NoArgument}
 use Rattle.bpaf_core.specs.Reading.{Readings}
 use Rattle.bpaf_core.specs.Laws.{Keeps, Reads, Lawful}
-use Rattle.bpaf_core.specs.Keeping.{keeps_refl, keeps_trans, keeps_current, closes_refl, closes_take_both, keeps_take, newly_none, newly_take_both}
+use Rattle.bpaf_core.specs.Keeping.{keeps_same, keeps_unset, keeps_trans, reads_unset, closes_take_both, keeps_take, newly_none, newly_take_both}
 use Rattle.bpaf_core.specs.FlagLaws.{first_of_and, second_of_and}
 use Rattle.bpaf_core.specs.Argument.{ArgumentReads, behind_key, in_variable, ArgumentOutcome, ArgumentFails, GetsText, ReadsVariable}
 
@@ -62,26 +62,21 @@ module _ (T : Type 0) (means : List ℕ → T → Type 0) (named : Named) (metav
 
   -- a text of the environment, which means the answer, is a reading of it
   variable_read : (s t : Situation) (v : T) (text : List ℕ) → ReadsVariable named s text t → means text v → Reads T reads_argument s v t
-  variable_read s t v text reads meant =
-      subst (λ w. Reads T reads_argument s v w) (sym reads.left) (record {
-        keeps = keeps_current s s None (keeps_refl s);
-        closed = closes_refl s;
-        reading = in_variable text (newly_none s) reads.set meant;
-      })
+  variable_read s t v text reads meant = reads_unset reads_argument s t v reads.left (in_variable text (newly_none s) reads.set meant)
 
   -- what getting a text keeps
   text_keeps : (s t : Situation) (text : List ℕ) → GetsText named s text t → Keeps s t
   text_keeps s t text gets = ⊎_elim
       (λ takes. value_keeps named.names s text t takes)
-      (λ reads. subst (Keeps s) (sym reads.left) (keeps_current s s None (keeps_refl s)))
+      (λ reads. keeps_unset s t reads.left)
       gets
 
   -- what a refusal of an argument keeps
   argument_refused : (s t : Situation) (m : Message) → ArgumentFails means named metavar s m t → Keeps s t
-  argument_refused s t (NoArgument key name) fails = subst (Keeps s) (sym fails.1) (keeps_refl s)
+  argument_refused s t (NoArgument key name) fails = keeps_same s t fails.1
   argument_refused s t (ParseFailed place fault) fails = text_keeps s t fails.0 fails.1
-  argument_refused s t Memory fails = ⊎_elim (λ same. subst (Keeps s) (sym same) (keeps_refl s)) (λ got. text_keeps s t got.0 got.1) fails
-  argument_refused s t other fails = subst (Keeps s) (sym fails.0.2) (keeps_refl s)
+  argument_refused s t Memory fails = ⊎_elim (λ same. keeps_same s t same) (λ got. text_keeps s t got.0 got.1) fails
+  argument_refused s t other fails = keeps_same s t fails.0.2
 
   -- arguments keep to the laws
   pub argument_lawful : Lawful T (ArgumentOutcome means named metavar) reads_argument

@@ -1,22 +1,13 @@
 -- Parsers that have something in place of a value that isn't there keep to the laws where the inner one does.
 use Rattle.std.specs.Prelude.{◌≡◌, Bool, true, Ok, Err, Option, Some, None}
-use Rattle.std.proofs.Common.{sym, subst, ⊎_elim, inl, inr, true≢false}
+use Rattle.std.proofs.Common.{⊎_elim, inl, inr, true≢false}
 use Rattle.bpaf_line.specs.Situation.{Situation}
 use Rattle.bpaf_line.specs.declared.error.Error.{Error}
 use Rattle.bpaf_core.specs.Reading.{Readings, Outcome}
-use Rattle.bpaf_core.specs.Laws.{Keeps, Reads, Lawful, newly}
-use Rattle.bpaf_core.specs.Keeping.{keeps_refl, closes_refl, newly_none}
+use Rattle.bpaf_core.specs.Laws.{Keeps, Reads, Lawful}
+use Rattle.bpaf_core.specs.Keeping.{keeps_same, reads_same, newly_none}
 use Rattle.bpaf_core.specs.Step.{StepOutcome}
 use Rattle.bpaf_core.specs.Default.{Gives, OptionalReads, FallbackReads, FallbackOutcome}
-
--- where the situation is as before, all is kept
-keeps_same : (s t : Situation) → t ≡ s → Keeps s t
-keeps_same s t same = subst (Keeps s) (sym same) (keeps_refl s)
-
--- and a value that may be read off no place is read
-reads_same : {T : Type 0} (reads : Readings T) (s t : Situation) (v : T) → t ≡ s → reads s.context (newly s s) v → Reads T reads s v t
-reads_same {T} reads s t v same read =
-    subst (Reads T reads s v) (sym same) (record { keeps = keeps_refl s; closed = closes_refl s; reading = read })
 
 module _ {T : Type 0} {inner : Outcome T} {reads : Readings T} (law : Lawful T inner reads) where
   -- what an optional value answers is a reading

@@ -8,8 +8,8 @@ use Rattle.bpaf_line.specs.Taking.{TakesFlag}
 use Rattle.bpaf_line.specs.declared.error.Message.{Message}
 use Rattle.bpaf_line.specs.declared.error.Message.TheVariants.{Memory}
 use Rattle.bpaf_core.specs.Reading.{Readings}
-use Rattle.bpaf_core.specs.Laws.{Keeps, Reads, Lawful, newly}
-use Rattle.bpaf_core.specs.Keeping.{keeps_refl, closes_refl, closes_take, newly_none, keeps_take, newly_take}
+use Rattle.bpaf_core.specs.Laws.{Keeps, Reads, Lawful}
+use Rattle.bpaf_core.specs.Keeping.{keeps_same, reads_same, closes_take, newly_none, keeps_take, newly_take}
 use Rattle.bpaf_core.specs.Environment.{is_set}
 use Rattle.bpaf_core.specs.Flag.{FlagReads, at_key, in_environment, nowhere, FlagOutcome, FlagFails, IsAbsentValue, IsFlagPresent, IsFlagAbsent}
 
@@ -26,7 +26,7 @@ second_of_and false y h = cc
 -- what looking for a flag keeps
 pub flag_keeps : (names : Names) (s : Situation) (found : Bool) (t : Situation) → TakesFlag names s found t → Keeps s t
 flag_keeps names s true t takes = subst (Keeps s) (sym takes.2) (keeps_take s takes.0 (first_of_and (is_open s takes.0) _ takes.1.matches))
-flag_keeps names s false t takes = subst (Keeps s) (sym takes.1) (keeps_refl s)
+flag_keeps names s false t takes = keeps_same s t takes.1
 
 module _ (T : Type 0) (clones : T → T → Type 0) (named : Named) (present : T) (absent : Option T) where
   -- what a flag reads
@@ -43,25 +43,16 @@ module _ (T : Type 0) (clones : T → T → Type 0) (named : Named) (present : T
         reading = at_key takes.0 (second_of_and (is_open s takes.0) _ takes.1.matches) (newly_take s takes.0 there) value;
       })
 
-  -- a reading of no place, where no key is taken
-  flag_elsewhere : (s t : Situation) (v : T) → TakesFlag named.names s false t → FlagReads T clones named present absent s.context (newly s s) v → Reads T reads_flag s v t
-  flag_elsewhere s t v takes reading =
-      subst (λ w. Reads T reads_flag s v w) (sym takes.1) (record {
-        keeps = keeps_refl s;
-        closed = closes_refl s;
-        reading = reading;
-      })
-
   -- a flag that is present, with a clone of the present value, is a reading
   flag_present : (s t : Situation) (v : T) → IsFlagPresent named s t → clones present v → Reads T reads_flag s v t
   flag_present s t v is value = ⊎_elim
       (λ takes. flag_found s t v takes value)
-      (λ set. flag_elsewhere s t v set.0 (in_environment (newly_none s) set.1 value))
+      (λ set. reads_same reads_flag s t v set.0.1 (in_environment (newly_none s) set.1 value))
       is
 
   -- a flag that is absent, with a clone of the absent value, is a reading
   flag_absent : (s t : Situation) (v : T) → IsFlagAbsent named s t → IsAbsentValue clones absent v → Reads T reads_flag s v t
-  flag_absent s t v is value = flag_elsewhere s t v is.0 (nowhere (newly_none s) is.1 value)
+  flag_absent s t v is value = reads_same reads_flag s t v is.0.1 (nowhere (newly_none s) is.1 value)
 
   -- what a refusal of a flag keeps
   flag_refused : (s t : Situation) (m : Message) → FlagFails named absent s m t → Keeps s t

@@ -1,6 +1,6 @@
 -- How what evaluations keep is put together. No combinator builds a `Keeps` of its own: it goes through
 -- these lemmas and one for each call of a state, so that a clause can be added to the laws here.
-use Rattle.std.specs.Prelude.{◌≡◌, ◌≢◌, ℕ, ◌+◌, ◌==◌, Bool, true, false, not, ◌&&◌, ◌||◌, [], ◌++◌, Result, Ok, Err, Option, refl}
+use Rattle.std.specs.Prelude.{◌≡◌, ◌≢◌, ℕ, ◌+◌, ◌==◌, Bool, true, false, not, ◌&&◌, ◌||◌, [], ◌++◌, Result, Ok, Err, Option, None, refl}
 use Rattle.std.proofs.Common.{sym, ◌∙◌, ap, subst, append_assoc, append-nil, arith, ⊎_elim, true≢false}
 use Rattle.std.proofs.lemmas.Bool.{cases_eq}
 use Rattle.std.proofs.lemmas.Bool.Decides.{nat_tests}
@@ -8,7 +8,7 @@ use Rattle.bpaf_line.specs.Situation.{Situation, is_taken, is_open, in_scope, ta
 use Rattle.bpaf_line.proofs.Places.{taken_here, taken_other, open_not_taken}
 use Rattle.bpaf_line.specs.declared.error.Error.{Error}
 use Rattle.bpaf_core.specs.Reading.{Readings, Outcome, Joins, IsEmptyShare, IsPlace, IsPair}
-use Rattle.bpaf_core.specs.Laws.{Keeps, Closes, Lawful, newly}
+use Rattle.bpaf_core.specs.Laws.{Keeps, Closes, Reads, Lawful, newly}
 
 -- what an evaluation keeps, whatever it answers
 pub keeps_of : {T : Type 0} {outcome : Outcome T} {reads : Readings T} → Lawful T outcome reads → (s : Situation) (r : Result T Error) (t : Situation) → outcome s r t → Keeps s t
@@ -105,6 +105,24 @@ newly_joins s m t a b = record {
 -- what the current place is doesn't matter
 pub keeps_current : (s t : Situation) (place : Option ℕ) → Keeps s t → Keeps s (with_current t place)
 keeps_current s t place k = record { context = k.context; stays = k.stays; fresh = k.fresh; narrows = k.narrows; path = k.path }
+
+-- where the situation is as before, all is kept
+pub keeps_same : (s t : Situation) → t ≡ s → Keeps s t
+keeps_same s t same = subst (Keeps s) (sym same) (keeps_refl s)
+
+-- and a value that may be read off no place is read
+pub reads_same : {T : Type 0} (reads : Readings T) (s t : Situation) (v : T) → t ≡ s → reads s.context (newly s s) v → Reads T reads s v t
+reads_same {T} reads s t v same read =
+    subst (Reads T reads s v) (sym same) (record { keeps = keeps_refl s; closed = closes_refl s; reading = read })
+
+-- where no place is current any more, all is kept
+pub keeps_unset : (s t : Situation) → t ≡ with_current s None → Keeps s t
+keeps_unset s t unset = subst (Keeps s) (sym unset) (keeps_current s s None (keeps_refl s))
+
+-- and a value that may be read off no place is read
+pub reads_unset : {T : Type 0} (reads : Readings T) (s t : Situation) (v : T) → t ≡ with_current s None → reads s.context (newly s s) v → Reads T reads s v t
+reads_unset {T} reads s t v unset read =
+    subst (Reads T reads s v) (sym unset) (record { keeps = keeps_current s s None (keeps_refl s); closed = closes_refl s; reading = read })
 
 -- at one place: what is as it was isn't newly taken
 same_new : (x y : Bool) → x ≡ y → (x && not y) ≡ false

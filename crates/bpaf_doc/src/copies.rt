@@ -7,30 +7,12 @@ use crate::meta::Meta;
 use crate::text::Text;
 use std::alloc::AllocError;
 
-fn copy_help(help: &Option<Doc>) -> Result<Option<Doc>, AllocError>
-    ensures { IfOk result (λ new. new ≡ help.now) }
-{
-    match help {
-        None => Ok(None),
-        Some(doc) => Ok(Some(doc.copy()?)),
-    }
-}
-
-fn copy_env(env: &Option<Text>) -> Result<Option<Text>, AllocError>
-    ensures { IfOk result (λ new. new ≡ env.now) }
-{
-    match env {
-        None => Ok(None),
-        Some(text) => Ok(Some(text.copy()?)),
-    }
-}
-
 fn copy_any(metavar: &Doc, help: &Option<Doc>, anywhere: bool) -> Result<Item, AllocError>
     ensures { IfOk result (λ new. part_of new ≡ Any metavar.now help.now anywhere) }
 {
     Ok(Item::Any {
         metavar: metavar.copy()?,
-        help: copy_help(help)?,
+        help: Doc::copy_of(help)?,
         anywhere,
     })
 }
@@ -46,8 +28,8 @@ fn copy_flag(
     Ok(Item::Flag {
         name: name.copy()?,
         shorts: copy_shorts(shorts)?,
-        env: copy_env(env)?,
-        help: copy_help(help)?,
+        env: Text::copy_of(env)?,
+        help: Doc::copy_of(help)?,
     })
 }
 
@@ -64,8 +46,8 @@ fn copy_argument(
         name: name.copy()?,
         shorts: copy_shorts(shorts)?,
         metavar: metavar.copy()?,
-        env: copy_env(env)?,
-        help: copy_help(help)?,
+        env: Text::copy_of(env)?,
+        help: Doc::copy_of(help)?,
     })
 }
 
@@ -121,7 +103,7 @@ impl Item {
             } => copy_any(metavar, help, *anywhere),
             Item::Positional { metavar, help } => Ok(Item::Positional {
                 metavar: metavar.copy()?,
-                help: copy_help(help)?,
+                help: Doc::copy_of(help)?,
             }),
             Item::Command {
                 name,
@@ -131,7 +113,7 @@ impl Item {
             } => Ok(Item::Command {
                 name: name.copy()?,
                 short: *short,
-                help: copy_help(help)?,
+                help: Doc::copy_of(help)?,
                 meta: copy_boxed(meta)?,
             }),
             Item::Flag {

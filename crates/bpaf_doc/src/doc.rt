@@ -125,6 +125,16 @@ impl Doc {
         })
     }
 
+    /// An equal document, where there is one; refused only for want of memory.
+    pub fn copy_of(doc: &Option<Doc>) -> Result<Option<Doc>, AllocError>
+        ensures { IfOk result (λ copy. copy ≡ doc.now) }
+    {
+        match doc {
+            Some(doc) => Ok(Some(doc.copy()?)),
+            None => Ok(None),
+        }
+    }
+
     fn push(&mut self, style: Style, text: Text) -> Result<(), AllocError>
         ensures ok { OnOk result (self.new ≡ self.old ++ shown_as style text ∷ []) }
         ensures err { OnErr result (self.new ≡ self.old) }

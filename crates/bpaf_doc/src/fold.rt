@@ -62,7 +62,7 @@ fn folded_below(alloc: Global, text: &str) -> Result<Text, AllocError>
 }
 
 /// The pieces that a text gives.
-pub fn text_pieces(alloc: Global, text: &str) -> Result<Vec<Piece>, AllocError>
+pub(crate) fn text_pieces(alloc: Global, text: &str) -> Result<Vec<Piece>, AllocError>
     ensures { IfOk result (λ all. TextPieces text.now all.items) }
 {
     let mut all = Vec::with_capacity(alloc, 2)?;

@@ -121,6 +121,20 @@ fn a_piece_is_copied(rt: HostRuntime) -> Result<(), Fail> {
     Ok(())
 }
 
+#[test]
+fn what_may_be_left_out_is_copied(rt: HostRuntime) -> Result<(), Fail> {
+    let a = rt.alloc();
+    assert!(rt; Text::copy_of(&None)?.is_none());
+    assert!(rt; Doc::copy_of(&None)?.is_none());
+    let text = Text::copy_of(&Some(Text::new(a, "a")?))?;
+    assert!(rt; matches!(&text, Some(text) if text.as_str() == "a"));
+    let mut doc = Doc::new(a);
+    doc.text("b")?;
+    let copy = Doc::copy_of(&Some(doc))?;
+    assert!(rt; matches!(&copy, Some(copy) if copy.monochrome(true)?.as_str() == "b"));
+    Ok(())
+}
+
 fn flag(alloc: Global, name: char) -> Result<Meta, AllocError> {
     Ok(Meta::Item(Item::Flag {
         name: ShortLong::Short(name),

@@ -46,6 +46,16 @@ impl Text {
         })
     }
 
+    /// An equal text, where there is one; refused only for want of memory.
+    pub fn copy_of(text: &Option<Text>) -> Result<Option<Text>, AllocError>
+        ensures { IfOk result (λ copy. copy ≡ text.now) }
+    {
+        match text {
+            Some(text) => Ok(Some(text.copy()?)),
+            None => Ok(None),
+        }
+    }
+
     /// The `String` of it, without memory.
     pub fn into_string(self) -> String
         ensures { string_bytes result ≡ self }

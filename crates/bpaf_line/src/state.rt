@@ -105,7 +105,7 @@ impl State {
         let env = self.env.clone()?;
         let marks = Vec::from_slice(self.alloc(), self.marks.as_slice())?;
         let path = copy_path(self.alloc(), self.path.as_slice())?;
-        let name = copy_name(&self.name)?;
+        let name = Text::copy_of(&self.name)?;
         Ok(State {
             items,
             env,
@@ -396,14 +396,4 @@ fn copy_path(alloc: Global, path: &[String]) -> Result<Vec<String>, AllocError>
         copy.push(String::from_str(alloc, entry.as_str())?)?;
     }
     Ok(copy)
-}
-
-/// An equal name.
-fn copy_name(name: &Option<Text>) -> Result<Option<Text>, AllocError>
-    ensures { IfOk result (λ copy. copy ≡ name.now) }
-{
-    match name {
-        None => Ok(None),
-        Some(name) => Ok(Some(name.copy()?)),
-    }
 }

@@ -205,7 +205,7 @@ impl NamedArg {
                 name,
                 shorts: Vec::from_slice(alloc, self.shorts())?,
                 env: self.first_env()?,
-                help: self.help_copy()?,
+                help: Doc::copy_of(&self.help)?,
             })),
             None => Ok(None),
         }
@@ -223,7 +223,7 @@ impl NamedArg {
                 shorts: Vec::from_slice(alloc, self.shorts())?,
                 metavar: Text::new(alloc, metavar.0)?,
                 env: self.first_env()?,
-                help: self.help_copy()?,
+                help: Doc::copy_of(&self.help)?,
             })),
             None => Ok(None),
         }
@@ -254,7 +254,7 @@ impl NamedArg {
             shorts,
             longs: copy_texts(alloc, &self.longs)?,
             envs: copy_texts(alloc, &self.envs)?,
-            help: self.help_copy()?,
+            help: Doc::copy_of(&self.help)?,
         })
     }
 
@@ -264,16 +264,6 @@ impl NamedArg {
     {
         match self.envs.first() {
             Some(name) => Ok(Some(name.copy()?)),
-            None => Ok(None),
-        }
-    }
-
-    /// An equal help, where there is one; refused only for want of memory.
-    fn help_copy(&self) -> Result<Option<Doc>, AllocError>
-        ensures { IfOk result (λ help. help ≡ self.now.help) }
-    {
-        match &self.help {
-            Some(help) => Ok(Some(help.copy()?)),
             None => Ok(None),
         }
     }
