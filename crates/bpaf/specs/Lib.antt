@@ -3,3 +3,4 @@ pub mod Positional
 pub mod PositionalLaws
 pub mod Pure
 pub mod PureLaws
+pub mod Spared

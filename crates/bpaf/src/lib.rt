@@ -18,6 +18,7 @@
 
 mod construct;
 pub mod doc;
+mod laws;
 mod leaf;
 pub mod params;
 pub mod parsers;
@@ -25,14 +26,16 @@ mod position;
 mod product;
 
 pub use bpaf_core::{
-    Info, OptionParser, Parser, count_falls, default_takes_nothing, key_before_environment,
-    memory_is_never_caught, read_text,
+    FromList, Info, OptionParser, Parser, count_falls, default_takes_nothing,
+    key_before_environment, memory_is_never_caught, read_text, repeat_is_bounded,
+    repeats_catch_no_memory,
 };
 pub use bpaf_doc::{Doc, Item, Meta, MetaInfo, Metavar, Piece, ShortLong, Style, Text};
 pub use bpaf_line::{
     Arg, Args, ArgsIter, Error, LentWord, Message, MissingItem, MissingItems, ParseFailure, State,
 };
 pub use bpaf_text::{FromText, NamedArg, TextFault, env, long, short};
+pub use laws::products_catch_no_memory;
 pub use leaf::{fail, pure, pure_with};
 pub use position::{ParsePositional, Position, positional};
 pub use product::{Both, Fields, Last, ParseCon};

@@ -3,6 +3,7 @@ pub use crate::leaf::{ParseFail, ParsePure, ParsePureWith};
 pub use crate::position::ParsePositional;
 pub use crate::product::ParseCon;
 pub use bpaf_core::{
-    ParseFallback, ParseFallbackWith, ParseGuard, ParseMap, ParseOptional, ParseWith,
+    ParseCollect, ParseCount, ParseFallback, ParseFallbackWith, ParseGuard, ParseLast, ParseMany,
+    ParseMap, ParseOptional, ParseSome, ParseWith,
 };
 pub use bpaf_text::{NamedArg, ParseArgument, ParseFlag};

@@ -1,5 +1,6 @@
 pub mod Running
 pub mod Dealing
-pub mod Counting
 pub mod KeyFirst
 pub mod Sparing
+pub mod Repeating
+pub mod RepeatSparing

@@ -15,6 +15,10 @@
 //!   [`ParseOptional`], [`ParseFallback`] and [`ParseFallbackWith`] stand in for one that isn't there
 //!   (specs/Step.antt, specs/Default.antt). None of them catches want of memory, and what stands in
 //!   takes nothing (specs/Spared.antt).
+//! - [`ParseMany`], [`ParseSome`], [`ParseCollect`], [`ParseCount`] and [`ParseLast`] step one parser
+//!   until a step stops (specs/Repeat.antt); [`FromList`] is what a list of values fills. Each step but
+//!   the first takes an item, so there are no more values than items present at the start and one
+//!   ([`repeat_is_bounded`]), and none catches want of memory ([`repeats_catch_no_memory`]).
 //! - [`OptionParser::run_inner`] runs a parser over words. It answers a value only where that is
 //!   dealt out of the words: read off all items of their line but the first `--`, each used once
 //!   (specs/Dealt.antt), whatever the parser's type.
@@ -25,6 +29,8 @@
 #![tactic(auto)]
 
 mod argument;
+mod collect;
+mod count;
 mod environment;
 mod fallback;
 mod flag;
@@ -34,14 +40,21 @@ mod optional;
 mod options;
 mod parser;
 mod reading;
+mod repeat;
 mod transform;
 
 pub use argument::key_before_environment;
+pub use collect::{FromList, ParseCollect};
+pub use count::{ParseCount, ParseLast};
 pub use fallback::{ParseFallback, ParseFallbackWith};
 pub use info::Info;
-pub use laws::{count_falls, default_takes_nothing, memory_is_never_caught};
+pub use laws::{
+    count_falls, default_takes_nothing, memory_is_never_caught, repeat_is_bounded,
+    repeats_catch_no_memory,
+};
 pub use optional::ParseOptional;
 pub use options::OptionParser;
 pub use parser::Parser;
 pub use reading::read_text;
+pub use repeat::{ParseMany, ParseSome};
 pub use transform::{ParseGuard, ParseMap, ParseWith};
