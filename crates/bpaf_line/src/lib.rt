@@ -42,10 +42,3 @@ pub use laws::{lines_are_unique, spellings_are_unique};
 pub use missing::{MissingItem, MissingItems};
 pub use split::{SplitFault, split_word};
 pub use state::{Mark, State};
-
-#[cfg(test)]
-mod tests;
-#[cfg(test)]
-mod tests_messages;
-#[cfg(test)]
-mod tests_state;
