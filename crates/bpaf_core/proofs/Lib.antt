@@ -3,3 +3,6 @@ pub mod Dealing
 pub mod Counting
 pub mod KeyFirst
 pub mod Sparing
+pub mod Members
+pub mod Choosing
+pub mod Leftmost

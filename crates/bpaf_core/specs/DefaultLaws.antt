@@ -10,11 +10,11 @@ use Rattle.bpaf_core.specs.Step.{StepOutcome}
 use Rattle.bpaf_core.specs.Default.{Gives, OptionalReads, FallbackReads, FallbackOutcome}
 
 -- where the situation is as before, all is kept
-keeps_same : (s t : Situation) → t ≡ s → Keeps s t
+pub keeps_same : (s t : Situation) → t ≡ s → Keeps s t
 keeps_same s t same = subst (Keeps s) (sym same) (keeps_refl s)
 
 -- and a value that may be read off no place is read
-reads_same : {T : Type 0} (reads : Readings T) (s t : Situation) (v : T) → t ≡ s → reads s.context (newly s s) v → Reads T reads s v t
+pub reads_same : {T : Type 0} (reads : Readings T) (s t : Situation) (v : T) → t ≡ s → reads s.context (newly s s) v → Reads T reads s v t
 reads_same {T} reads s t v same read =
     subst (Reads T reads s v) (sym same) (record { keeps = keeps_refl s; closed = closes_refl s; reading = read })
 

@@ -15,6 +15,8 @@ pub mod Step
 pub mod Default
 pub mod DefaultLaws
 pub mod Spared
+pub mod Choice
+pub mod ChoiceLaws
 pub mod Known
 pub mod Run
 pub mod Dealt

@@ -15,6 +15,9 @@
 //!   [`ParseOptional`], [`ParseFallback`] and [`ParseFallbackWith`] stand in for one that isn't there
 //!   (specs/Step.antt, specs/Default.antt). None of them catches want of memory, and what stands in
 //!   takes nothing (specs/Spared.antt).
+//! - [`ParseOrElse`] is one of two parsers, both evaluated from the same state: the table of
+//!   [`this_or_that`] tells which answer stands (specs/Choice.antt), for choices of other types too.
+//!   The branch that took the leftmost place taken by only one of them wins ([`leftmost_wins`]).
 //! - [`OptionParser::run_inner`] runs a parser over words. It answers a value only where that is
 //!   dealt out of the words: read off all items of their line but the first `--`, each used once
 //!   (specs/Dealt.antt), whatever the parser's type.
@@ -25,6 +28,7 @@
 #![tactic(auto)]
 
 mod argument;
+mod choice;
 mod environment;
 mod fallback;
 mod flag;
@@ -37,6 +41,9 @@ mod reading;
 mod transform;
 
 pub use argument::key_before_environment;
+pub use choice::{
+    ParseOrElse, choice_never_catches_memory, is_want, leftmost_wins, or_meta, this_or_that,
+};
 pub use fallback::{ParseFallback, ParseFallbackWith};
 pub use info::Info;
 pub use laws::{count_falls, default_takes_nothing, memory_is_never_caught};
