@@ -1,2 +1,3 @@
 pub mod Shapes
 pub mod Words
+pub mod Choosing

@@ -1,8 +1,9 @@
 //! The parser types (bpaf's module `parsers`).
+pub use crate::choices::ParseChoice;
 pub use crate::leaf::{ParseFail, ParsePure, ParsePureWith};
 pub use crate::position::ParsePositional;
 pub use crate::product::ParseCon;
 pub use bpaf_core::{
-    ParseFallback, ParseFallbackWith, ParseGuard, ParseMap, ParseOptional, ParseWith,
+    ParseFallback, ParseFallbackWith, ParseGuard, ParseMap, ParseOptional, ParseOrElse, ParseWith,
 };
 pub use bpaf_text::{NamedArg, ParseArgument, ParseFlag};
