@@ -4,3 +4,5 @@ pub mod PositionalLaws
 pub mod Pure
 pub mod PureLaws
 pub mod Spared
+pub mod Choice
+pub mod ChoiceLaws

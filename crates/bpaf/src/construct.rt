@@ -1,4 +1,5 @@
-/// Combines parsers into one: a product of its fields, whose values make a tuple or a value by name.
+/// Combines parsers into one: a product of its fields, whose values make a tuple or a value by name, or
+/// a choice of them.
 ///
 /// | call | answers a parser of |
 /// |---|---|
@@ -7,6 +8,8 @@
 /// | `construct!(Name(a, b))` | a struct with numbered fields, or a variant, as in `Command::Run(a, b)` |
 /// | `construct!(Name {})`, `construct!(Name())` | that value: it is [`pure`](crate::pure) of it |
 /// | `construct!(a)` | what `a` parses: it is that parser itself |
+/// | `construct!([a, b, c])` | what one of them parses: it is `a.or_else(b).or_else(c)` |
+/// | `construct!([a])` | what `a` parses: it is that parser itself |
 ///
 /// A name may be a path, such as `self::One(a, b)`; a leading `::` is dropped. A trailing comma may
 /// stand. One call takes up to some fifty fields, where the compiler's own limit lies; a product may
@@ -34,7 +37,7 @@
 /// bpaf's macro makes a closure over the parsers, and evaluates them in it. This one makes a product,
 /// [`ParseCon`](crate::ParseCon) over nested [`Both`](crate::Both) and [`Last`](crate::Last), and a
 /// closure for the constructor alone: so what the whole parses follows from what its fields do. The two
-/// have the same forms, but for a choice, which is not here yet.
+/// have the same forms.
 #[macro_export]
 macro_rules! construct {
     // construct!(Name {}) and construct!(Name())
@@ -50,6 +53,11 @@ macro_rules! construct {
         $crate::construct!(@fields [numbered [$first $(:: $more)*]] [] $($fields)*)
     };
 
+    // construct!([a, b])
+    ([ $($fields:tt)+ ]) => {
+        $crate::construct!(@fields [choice] [] $($fields)+)
+    };
+
     // a field from a function, from an expression, and from a variable
     (@fields $kind:tt [$($done:ident)*] $field:ident () $(, $($rest:tt)*)?) => {{
         let $field = $field();
@@ -63,6 +71,10 @@ macro_rules! construct {
         $crate::construct!(@fields $kind [$($done)* $field] $($($rest)*)?)
     };
 
+    // a choice
+    (@fields [choice] [$first:ident $($rest:ident)*]) => {
+        $crate::construct!(@choice [$first] $($rest)*)
+    };
     // one field by itself
     (@fields [tuple] [$only:ident]) => { $only };
     // a product
@@ -71,6 +83,11 @@ macro_rules! construct {
             $crate::construct!(@product $($field)+),
             |$crate::construct!(@pattern $($field)+)| $crate::construct!(@make $kind $($field)+),
         )
+    };
+
+    (@choice [$($made:tt)*]) => { $($made)* };
+    (@choice [$($made:tt)*] $next:ident $($rest:ident)*) => {
+        $crate::construct!(@choice [$crate::Parser::or_else($($made)*, $next)] $($rest)*)
     };
 
     (@product $last:ident) => { $crate::Last { last: $last } };

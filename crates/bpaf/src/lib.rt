@@ -4,11 +4,11 @@
 //! program lists `bpaf` alone. Of its own it has positional words ([`positional`]), leaves that look at
 //! no item ([`pure`], [`pure_with`], [`fail`]) and products: [`ParseCon`] over [`Both`] and [`Last`]
 //! evaluates fields in order and gives their values to a constructor; the macro [`construct!`] writes
-//! one down.
+//! one down, or a choice. [`choice`] is one of any number of parsers of one type.
 //!
 //! For the layers above: each type here proves the laws of `Parser` from the laws of its inner
 //! parsers alone, and its `outcome`, `reads` and `describes` are definitions over theirs
-//! (specs/Product.antt, specs/Pure.antt).
+//! (specs/Product.antt, specs/Pure.antt, specs/Choice.antt).
 //!
 //! The modules [`parsers`], [`params`] and [`doc`] hand on the parser types, the leaves, and what
 //! texts are made of, as bpaf's modules of these names do.
@@ -16,6 +16,7 @@
 //! The source of the design is bpaf's `lib.rs` and `structs.rs`.
 #![tactic(auto)]
 
+mod choices;
 mod construct;
 pub mod doc;
 mod laws;
@@ -26,15 +27,16 @@ mod position;
 mod product;
 
 pub use bpaf_core::{
-    FromList, Info, OptionParser, Parser, count_falls, default_takes_nothing,
-    key_before_environment, memory_is_never_caught, read_text, repeat_is_bounded,
-    repeats_catch_no_memory,
+    FromList, Info, OptionParser, Parser, choice_never_catches_memory, count_falls,
+    default_takes_nothing, key_before_environment, leftmost_wins, memory_is_never_caught, read_text,
+    repeat_is_bounded, repeats_catch_no_memory,
 };
 pub use bpaf_doc::{Doc, Item, Meta, MetaInfo, Metavar, Piece, ShortLong, Style, Text};
 pub use bpaf_line::{
     Arg, Args, ArgsIter, Error, LentWord, Message, MissingItem, MissingItems, ParseFailure, State,
 };
 pub use bpaf_text::{FromText, NamedArg, TextFault, env, long, short};
+pub use choices::{ParseChoice, choice, choices_never_catch_memory};
 pub use laws::products_catch_no_memory;
 pub use leaf::{fail, pure, pure_with};
 pub use position::{ParsePositional, Position, positional};

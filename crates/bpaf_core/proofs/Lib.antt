@@ -4,3 +4,6 @@ pub mod KeyFirst
 pub mod Sparing
 pub mod Repeating
 pub mod RepeatSparing
+pub mod Members
+pub mod Choosing
+pub mod Leftmost

@@ -6,6 +6,7 @@ use Rattle.std.proofs.lemmas.Bool.{cases_eq}
 use Rattle.std.proofs.lemmas.Bool.Decides.{nat_tests}
 use Rattle.bpaf_line.specs.Situation.{Situation, is_taken, is_open, in_scope, take_place, with_current}
 use Rattle.bpaf_line.proofs.Places.{taken_here, taken_other, open_not_taken}
+use Rattle.bpaf_line.specs.Conflicts.{ConflictsSaved}
 use Rattle.bpaf_line.specs.declared.error.Error.{Error}
 use Rattle.bpaf_core.specs.Reading.{Readings, Outcome, Joins, IsEmptyShare, IsPlace, IsPair}
 use Rattle.bpaf_core.specs.Laws.{Keeps, Closes, Reads, Lawful, newly}
@@ -175,3 +176,26 @@ newly_take_both s p first second q =
   where
     both_are : (a b c d : Bool) → a ≡ b → c ≡ d → (a || c) ≡ (b || d)
     both_are a b c d e f = rw (e, f) refl
+
+module _ (s m loser : Situation) (winner : ℕ) (t : Situation) (saved : ConflictsSaved m loser winner t) where
+  -- conflict marks leave the scope
+  scope_conflicts : (p : ℕ) → in_scope t p ≡ in_scope m p
+  scope_conflicts p = rw (saved.start, saved.end) refl
+
+  -- they take nothing
+  pub newly_conflicts : newly s t ≡ newly s m
+  newly_conflicts = λ i p. ap (λ taken. taken && not (is_taken s p)) (saved.taken p) i
+
+  -- they leave what is kept
+  pub keeps_conflicts : Keeps s m → Keeps s t
+  keeps_conflicts k = record {
+    context = saved.context ∙ k.context;
+    stays = λ p taken. saved.taken p ∙ k.stays p taken;
+    fresh = λ p new. k.fresh p (sym (ap (λ share. share p) newly_conflicts) ∙ new);
+    narrows = λ p within. k.narrows p (sym (scope_conflicts p) ∙ within);
+    path = record { more = k.path.more; is = saved.path ∙ k.path.is };
+  }
+
+  -- and open nothing
+  pub closes_conflicts : Closes s m → Closes s t
+  closes_conflicts closed p inside outside = saved.taken p ∙ closed p inside (sym (scope_conflicts p) ∙ outside)

@@ -19,6 +19,8 @@ pub mod Collect
 pub mod Repeat
 pub mod RepeatLaws
 pub mod Spared
+pub mod Choice
+pub mod ChoiceLaws
 pub mod Known
 pub mod Run
 pub mod Dealt

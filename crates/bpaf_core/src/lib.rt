@@ -19,6 +19,9 @@
 //!   until a step stops (specs/Repeat.antt); [`FromList`] is what a list of values fills. Each step but
 //!   the first takes an item, so there are no more values than items present at the start and one
 //!   ([`repeat_is_bounded`]), and none catches want of memory ([`repeats_catch_no_memory`]).
+//! - [`ParseOrElse`] is one of two parsers, both evaluated from the same state: the table of
+//!   [`this_or_that`] tells which answer stands (specs/Choice.antt), for choices of other types too.
+//!   The branch that took the leftmost place taken by only one of them wins ([`leftmost_wins`]).
 //! - [`OptionParser::run_inner`] runs a parser over words. It answers a value only where that is
 //!   dealt out of the words: read off all items of their line but the first `--`, each used once
 //!   (specs/Dealt.antt), whatever the parser's type.
@@ -29,6 +32,7 @@
 #![tactic(auto)]
 
 mod argument;
+mod choice;
 mod collect;
 mod count;
 mod environment;
@@ -44,6 +48,9 @@ mod repeat;
 mod transform;
 
 pub use argument::key_before_environment;
+pub use choice::{
+    ParseOrElse, choice_never_catches_memory, is_want, leftmost_wins, or_meta, this_or_that,
+};
 pub use collect::{FromList, ParseCollect};
 pub use count::{ParseCount, ParseLast};
 pub use fallback::{ParseFallback, ParseFallbackWith};

@@ -2,6 +2,7 @@ ghost use Rattle.std.specs.Prelude.{◌≡◌, IfOk, false};
 ghost use Rattle.bpaf_doc.specs.Shape.{shape_of};
 ghost use Rattle.bpaf_core.specs.Known.{plain_info};
 
+use crate::choice::ParseOrElse;
 use crate::collect::{FromList, ParseCollect};
 use crate::count::{ParseCount, ParseLast};
 use crate::fallback::{ParseFallback, ParseFallbackWith};
@@ -256,6 +257,23 @@ pub trait Parser<T>: Sized {
         ensures { result.inner ≡ self }
     {
         ParseLast { inner: self }
+    }
+
+    /// What one of two parsers reads (bpaf's `Parser::or_else`).
+    ///
+    /// Both are evaluated from the same state. Of two values that of the parser which took the leftmost
+    /// item counts, and what only the other one took stays on the line, in conflict with that item.
+    ///
+    /// ```text
+    /// long(alloc, "meters")?.argument::<u64>("M").or_else(long(alloc, "miles")?.argument("MI"))
+    /// ```
+    final fn or_else<P: Parser<T>>(self, that: P) -> ParseOrElse<Self, P>
+        requires this { can_eval self }
+        requires that { P.can_eval that }
+        ensures this { result.this ≡ self }
+        ensures that { result.that ≡ that }
+    {
+        ParseOrElse { this: self, that }
     }
 
     /// A parser that can run over words; refused only for want of memory.

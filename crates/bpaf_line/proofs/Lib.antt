@@ -8,4 +8,6 @@ pub mod Places
 pub mod Items
 pub mod Sound
 pub mod OpenItems
+pub mod Conflicts
+pub mod Commands
 pub mod Beginning

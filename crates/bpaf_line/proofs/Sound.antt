@@ -1,9 +1,9 @@
 -- Steps that keep a state sound.
 use Rattle.std.proofs.Common.{◌≡◌, ℕ, ◌+◌, ◌-◌, ◌<◌, ◌≤◌, true, false, length, arith, Some, length-set, ap, sym, subst, refl, List, get_or, ◌∙◌, map, string_bytes, IfSome, slice_get, Option, Vec, String}
 use Rattle.std.specs.Vec.{with_item}
-use Rattle.bpaf_line.specs.declared.state.Mark.TheVariants.{Taken}
+use Rattle.bpaf_line.specs.declared.state.Mark.TheVariants.{Taken, Conflict}
 use Rattle.bpaf_line.specs.declared.state.State.TheInside.{Inside}
-use Rattle.bpaf_line.specs.Situation.{is_open, open_count, with_scope, count_below}
+use Rattle.bpaf_line.specs.Situation.{is_open, is_taken, open_count, with_scope, count_below}
 use Rattle.bpaf_line.specs.Inside.{situation_of, IsSound, is_present_from}
 use Rattle.bpaf_line.specs.declared.arg.Arg.{Arg}
 use Rattle.bpaf_line.specs.Items.{value_text}
@@ -14,6 +14,7 @@ use Rattle.std.specs.declared.alloc.Global.{Global}
 use Rattle.bpaf_line.specs.declared.state.Mark.{Mark}
 use Rattle.bpaf_line.proofs.Places.{open_count-take_place, open_in_scope, count_below-same, count_below-cut}
 use Rattle.bpaf_line.proofs.Items.{value_is}
+use Rattle.bpaf_line.proofs.Conflicts.{open_count-with_conflict}
 use Rattle.std.proofs.lemmas.Bool.Decides.{nat_tests}
 
 -- where a place is open, the count of those left isn't nothing
@@ -28,6 +29,16 @@ sound_taken s p h o = record {
   ordered = h.ordered;
   inside = h.inside;
   counted = omega (arith, h.counted, open_count-take_place (situation_of s) p o);
+  named = h.named;
+}
+
+-- or when a place that isn't taken gets a conflict mark
+pub sound_conflict : (s : Inside) (p winner : ℕ) → IsSound s → is_taken (situation_of s) p ≡ false → IsSound (record s { marks = with_item s.marks p (Conflict winner) })
+sound_conflict s p winner h free = record {
+  marked = simp length-set h.marked;
+  ordered = h.ordered;
+  inside = h.inside;
+  counted = h.counted ∙ sym (open_count-with_conflict (situation_of s) p winner free);
   named = h.named;
 }
 

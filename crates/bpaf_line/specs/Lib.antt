@@ -12,4 +12,5 @@ pub mod Inside
 pub mod MissingIn
 pub mod Taking
 pub mod OpenItems
+pub mod Conflicts
 pub mod Constructing

@@ -1,11 +1,11 @@
 -- A parse in progress, as contracts see it: the line, which of its places are taken, and the scope.
--- The layers above speak by `item_at`, `is_taken`, `in_scope`, `is_open`, `open_count` and the steps
--- `take_place`, `with_scope`, `with_path`, `with_current`, `beginning` alone, so that the marks may be
--- kept otherwise.
+-- The layers above speak by `item_at`, `is_taken`, `conflict_at`, `in_scope`, `is_open`, `open_count` and
+-- the steps `take_place`, `with_scope`, `with_path`, `with_current`, `beginning` alone, so that the marks
+-- may be kept otherwise.
 use Rattle.std.specs.Prelude.{ℕ, ◌+◌, ◌==◌, Bool, true, false, not, ◌&&◌, ◌||◌, List, [], ◌∷◌, ◌++◌, length, Option, Some, None, zero, suc, nat_lt, nat_le, if◌then◌else◌, slice_get, slice_index_or, slice_set, replicate, option_to_list}
 use Rattle.bpaf_line.specs.declared.arg.Arg.{Arg}
 use Rattle.bpaf_line.specs.declared.state.Mark.{Mark}
-use Rattle.bpaf_line.specs.declared.state.Mark.TheVariants.{Present, Taken}
+use Rattle.bpaf_line.specs.declared.state.Mark.TheVariants.{Present, Conflict, Taken}
 
 -- what no evaluation changes: the line, the environment and the set name
 pub record Context : Type 0 where
@@ -33,11 +33,22 @@ mark_at s p = slice_index_or s.marks p Taken
 -- whether a mark says so
 abbrev pub is_taken_mark : Mark → Bool
 is_taken_mark Present = false
+is_taken_mark (Conflict winner) = false
 is_taken_mark Taken = true
 
 -- a place is taken; past the line every place counts as taken
 abbrev pub is_taken : Situation → ℕ → Bool
 is_taken s p = not (nat_lt p (length s.context.line)) || is_taken_mark (mark_at s p)
+
+-- what a mark names, where it is one of a conflict
+abbrev pub named_by : Mark → Option ℕ
+named_by Present = None
+named_by (Conflict winner) = Some winner
+named_by Taken = None
+
+-- what the conflict mark of a place names, where it has one
+abbrev pub conflict_at : Situation → ℕ → Option ℕ
+conflict_at s p = named_by (mark_at s p)
 
 -- a place lies in the scope
 abbrev pub in_scope : Situation → ℕ → Bool
@@ -59,6 +70,10 @@ open_count s = count_below (is_open s) (length s.context.line)
 -- a place taken, which is then the current one
 abbrev pub take_place : Situation → ℕ → Situation
 take_place s p = record s { marks = slice_set s.marks p Taken; current = Some p }
+
+-- a conflict mark at a place, which names another
+abbrev pub with_conflict : Situation → ℕ → ℕ → Situation
+with_conflict s p winner = record s { marks = slice_set s.marks p (Conflict winner) }
 
 -- another scope
 abbrev pub with_scope : Situation → ℕ → ℕ → Situation

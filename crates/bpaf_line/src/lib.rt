@@ -7,12 +7,15 @@
 //!   `Spells` and `IsLine` (specs/Spelling.antt, specs/Line.antt), by the ways in which a word falls
 //!   into parts and not by a walk over it. A line is refused only where a word is ambiguous.
 //! - [`State`] is a parse in progress. Contracts see it as a `Situation` (specs/Situation.antt), and
-//!   the layers above speak of one only through its accessors (`item_at`, `is_taken`, `in_scope`,
-//!   `is_open`, `open_count`, and the steps `take_place`, `with_scope`, `with_path`, `with_current`,
+//!   the layers above speak of one only through its accessors (`item_at`, `is_taken`, `conflict_at`,
+//!   `in_scope`, `is_open`, `open_count`, and the steps `take_place`, `with_scope`, `with_path`, `with_current`,
 //!   `beginning`): how the marks are kept is this crate's own affair. What the steps change of them
 //!   is in proofs/Places.antt.
 //! - The take calls meet their relation of specs/Taking.antt for every answer, over the whole state.
 //!   [`State::items_iter`] walks the `open_items` (specs/OpenItems.antt).
+//! - Of two states of a line [`State::pick_winner`] tells which took the leftmost place that only one
+//!   took; [`State::save_conflicts`] marks what the other took, and [`State::conflict`] answers such a
+//!   mark (specs/Conflicts.antt; `conflict_at` is the accessor). What is marked is present.
 //! - [`Message`], [`Error`] and [`ParseFailure`] say why a parser, or a whole run, gives no value. A
 //!   [`Message`] is want of memory (`is_memory`), one past which an optional parser goes on
 //!   (`can_catch`), one for which the words are at fault (`is_wrong_input`; specs/Messages.antt), or
@@ -23,6 +26,7 @@
 
 mod arg;
 mod args;
+mod conflict;
 mod construct;
 mod error;
 mod failure;

@@ -1,4 +1,4 @@
-ghost use Rattle.std.specs.Prelude.{◌≡◌, ◌+◌, ◌<◌, ◌≤◌, ◌^◌, ◌==◌, [], ◌∷◌, if◌then◌else◌, not, length, true, Bool, MatchOption, option_copied, option_to_list, option_map, option_and_then, Some, All, IsUtf8, IfOk, OnOk, OnErr, IfSome, string_bytes, map, List};
+ghost use Rattle.std.specs.Prelude.{◌≡◌, ◌+◌, ◌<◌, ◌≤◌, ◌^◌, ◌==◌, [], ◌∷◌, if◌then◌else◌, not, length, true, false, Bool, MatchOption, option_copied, option_to_list, option_map, option_and_then, Some, All, IsUtf8, IfOk, OnOk, OnErr, IfSome, string_bytes, map, List};
 ghost use Rattle.std.specs.Borrow.{Bor};
 ghost use Rattle.bpaf_line.specs.declared.arg.Arg.{Arg};
 ghost use Rattle.bpaf_line.specs.Arguments.{words_of, name_of, env_of};
@@ -6,7 +6,7 @@ ghost use Rattle.bpaf_line.specs.Constructing.{Constructs};
 ghost use Rattle.bpaf_line.specs.Inside.{is_present_from};
 ghost use Rattle.bpaf_line.specs.Items.{is_positional, word_text};
 ghost use Rattle.bpaf_line.specs.OpenItems.{open_items, open_items_from, items_left};
-ghost use Rattle.bpaf_line.specs.Situation.{item_at, count_below, open_count, first_marks, is_taken, is_open, take_place, with_scope, with_path, with_current};
+ghost use Rattle.bpaf_line.specs.Situation.{item_at, count_below, open_count, first_marks, is_taken, is_open, take_place, with_scope, with_path, with_current, conflict_at, with_conflict};
 ghost use Rattle.bpaf_line.specs.Taking.{HasNone, IsFirst, value_after, open_item, entry_of};
 ghost use Rattle.bpaf_doc.specs.Shape.{part_of};
 ghost use Rattle.bpaf_line.specs.MissingIn.{IsMissingIn};
@@ -27,6 +27,8 @@ use std::rc::RcSlice;
 #[derive(Clone, Copy, Debug)]
 pub enum Mark {
     Present,
+    /// It is present, and what took the named place excludes it.
+    Conflict(usize),
     Taken,
 }
 
@@ -270,6 +272,38 @@ impl State {
             scope: self.start..self.end,
         };
         Ok(Error(Message::Missing(MissingItems::one(self.alloc(), missed)?)))
+    }
+
+    /// How many places the line has.
+    pub(crate) fn line_len(&self) -> usize
+        ensures { result ≡ length self.now.context.line }
+    {
+        self.marks.len()
+    }
+
+    /// Whether a place is taken; past the line every place counts as taken.
+    pub(crate) fn is_taken(&self, place: usize) -> bool
+        ensures { result ≡ is_taken self.now place }
+    {
+        place >= self.marks.len() || matches!(self.marks[place], Mark::Taken)
+    }
+
+    /// What the conflict mark of a place names, where it has one.
+    pub(crate) fn conflict_at(&self, place: usize) -> Option<usize>
+        ensures { result ≡ conflict_at self.now place }
+    {
+        match self.marks.get(place)? {
+            Mark::Conflict(winner) => Some(*winner),
+            Mark::Present | Mark::Taken => None,
+        }
+    }
+
+    /// Gives a place that isn't taken a conflict mark.
+    pub(crate) fn mark_conflict(&mut self, place: usize, winner: usize)
+        requires { is_taken self.old place ≡ false }
+        ensures { self.new ≡ with_conflict self.old place winner }
+    {
+        self.marks[place] = Mark::Conflict(winner);
     }
 
     /// Whether a place is present, and in scope.

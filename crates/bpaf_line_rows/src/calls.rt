@@ -32,6 +32,7 @@ pub(crate) enum Call<'a> {
     Env(&'a str),
     Get(usize),
     Present(usize),
+    Conflict,
     Items,
 }
 
@@ -113,6 +114,7 @@ fn looked(alloc: Global, state: &State, call: Call<'_>) -> Result<String, Fail> 
         Call::Env(name) => text(alloc, state.env(name).unwrap_or("none")),
         Call::Get(place) => shown(alloc, state.get(place)),
         Call::Present(place) => presence(alloc, state.present(place)),
+        Call::Conflict => conflict(alloc, state.conflict()),
         Call::Items => listed(alloc, state),
         _ => text(alloc, "no look"),
     }
@@ -149,6 +151,13 @@ fn place(alloc: Global, answer: Option<usize>) -> Result<String, Fail> {
 fn presence(alloc: Global, answer: Option<bool>) -> Result<String, Fail> {
     match answer {
         Some(answer) => truth(alloc, answer),
+        None => text(alloc, "none"),
+    }
+}
+
+fn conflict(alloc: Global, answer: Option<(usize, usize)>) -> Result<String, Fail> {
+    match answer {
+        Some((place, winner)) => Ok(format!(in alloc; "{place} {winner}")?),
         None => text(alloc, "none"),
     }
 }

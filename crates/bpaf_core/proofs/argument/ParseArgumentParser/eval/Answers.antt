@@ -1,4 +1,4 @@
-use Rattle.bpaf_core.proofs.Running.{value_read, no_text}
+use Rattle.bpaf_core.proofs.Running.{value_read}
 use Rattle.bpaf_core.proofs.argument.ParseArgumentParser.eval.Goals as goal
 
 pub returns : goal.returns

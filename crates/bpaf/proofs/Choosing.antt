@@ -1,0 +1,91 @@
+-- Choices of any number of parsers: one parser after another.
+use Rattle.std.proofs.Common.{◌≡◌, true, false, List, [], ◌∷◌, ◌++◌, Result, Ok, Err, IsErrAnd, length, ◌==◌, refl, sym, ap, subst, inl, inr, ⊎_elim, true≢false}
+use Rattle.bpaf_doc.specs.Shape.{Shape}
+use Rattle.bpaf_line.specs.Messages.{is_memory}
+use Rattle.bpaf_line.specs.Situation.{Situation}
+use Rattle.bpaf_line.specs.declared.error.Error.{Error}
+use Rattle.bpaf_line.specs.declared.error.Message.TheVariants.{Memory}
+use Rattle.bpaf_core.specs.Reading.{Outcome}
+use Rattle.bpaf_core.specs.Spared.{IsSpared, WithoutMemory}
+use Rattle.bpaf_core.specs.Choice.{is_want, Chosen, BranchesRan, ChoiceOutcome, ChoiceDescribes, either}
+use Rattle.bpaf_core.proofs.Choosing.{ran_outcome, choice_spared}
+use Rattle.bpaf.specs.Choice.{ChoiceFrom, DescribesFrom, ChoicesCatchNoMemory}
+
+module _ {T P : Type 0} (outcome : P → Outcome T) where
+  -- one more parser at the end
+  from_more : (before : Outcome T) (ps : List P) (p : P) → ChoiceFrom outcome before (ps ++ p ∷ []) ≡ ChoiceOutcome (ChoiceFrom outcome before ps) (outcome p)
+  from_more before [] p = refl
+  from_more before (q ∷ ps) p = from_more (ChoiceOutcome before (outcome q)) ps p
+
+  -- one more parser's answer
+  pub one_more : (before : Outcome T) (ps : List P) (p : P) (s : Situation) (a : Result T Error) (sa : Situation) (b : Result T Error) (sb : Situation) (r : Result T Error) (t : Situation)
+      → ChoiceFrom outcome before ps s a sa → outcome p s b sb → is_want a ≡ false → is_want b ≡ false → Chosen s a sa b sb r t → ChoiceFrom outcome before (ps ++ p ∷ []) s r t
+  one_more before ps p s a sa b sb r t first second x y chosen =
+      subst (λ combined. combined s r t) (sym (from_more before ps p)) (ran_outcome (ChoiceFrom outcome before ps) (outcome p) s a sa b sb r t first second x y chosen)
+
+  -- want of memory is the answer at once, and leaves all as before
+  want_of_later : (before : Outcome T) (s : Situation) (e : Error) (ps : List P) → is_memory e.0 ≡ true → before s (Err e) s → ChoiceFrom outcome before ps s (Err e) s
+  want_of_later before s e [] want at = at
+  want_of_later before s e (p ∷ ps) want at = want_of_later (ChoiceOutcome before (outcome p)) s e ps want (inr (want, refl))
+
+  -- want of memory, where there are parsers after the first
+  pub wants : (before : Outcome T) (s : Situation) (r : Result T Error) (ps : List P) → (length ps == 0) ≡ false → is_want r ≡ true → ChoiceFrom outcome before ps s r s
+  wants before s (Ok v) ps some want = absurd (true≢false (sym want))
+  wants before s (Err e) [] some want = absurd (true≢false some)
+  wants before s (Err e) (p ∷ ps) some want = want_of_later (ChoiceOutcome before (outcome p)) s e ps want (inr (want, refl))
+
+-- a refused growth is want of memory
+pub want_of : {T : Type 0} (r : Result T Error) → IsErrAnd r (λ e. e.0 ≡ Memory) → is_want r ≡ true
+want_of (Ok v) refused = absurd refused
+want_of (Err e) refused = ap is_memory refused
+
+-- one more parser's shape
+shows_more : {P : Type 0} (describes : P → Shape → Type 0) (before : Shape → Type 0) (ps : List P) (p : P) → DescribesFrom describes before (ps ++ p ∷ []) ≡ ChoiceDescribes (DescribesFrom describes before ps) (describes p)
+shows_more describes before [] p = refl
+shows_more describes before (q ∷ ps) p = shows_more describes (ChoiceDescribes before (describes q)) ps p
+
+-- so it is shown
+pub one_more_shown : {P : Type 0} (describes : P → Shape → Type 0) (before : Shape → Type 0) (ps : List P) (p : P) (a b shape : Shape)
+    → DescribesFrom describes before ps a → describes p b → shape ≡ either a b → DescribesFrom describes before (ps ++ p ∷ []) shape
+one_more_shown describes before ps p a b shape first last is = subst (λ shows. shows shape) (sym (shows_more describes before ps p)) (a, b, first, last, is)
+
+-- fewer answers before give fewer answers of a choice
+choice_fewer : {T : Type 0} (before less second : Outcome T) → ((s t : Situation) (r : Result T Error) → before s r t → less s r t) → (s t : Situation) (r : Result T Error) → ChoiceOutcome before second s r t → ChoiceOutcome less second s r t
+choice_fewer {T} before less second within s t r o = by_answer r o
+  where
+    ran : (r : Result T Error) → BranchesRan before second s r t → BranchesRan less second s r t
+    ran r o = record {
+      a = o.a;
+      sa = o.sa;
+      b = o.b;
+      sb = o.sb;
+      first_ran = within s o.sa o.a o.first_ran;
+      second_ran = o.second_ran;
+      first_spared = o.first_spared;
+      second_spared = o.second_spared;
+      chosen = o.chosen;
+    }
+
+    by_answer : (r : Result T Error) → ChoiceOutcome before second s r t → ChoiceOutcome less second s r t
+    by_answer (Ok v) o = ran (Ok v) o
+    by_answer (Err e) o = ⊎_elim (λ branches. inl (ran (Err e) branches)) (λ want. inr want) o
+
+-- so it is of many
+from_fewer : {T P : Type 0} (outcome : P → Outcome T) (before less : Outcome T) (ps : List P) → ((s t : Situation) (r : Result T Error) → before s r t → less s r t)
+    → (s t : Situation) (r : Result T Error) → ChoiceFrom outcome before ps s r t → ChoiceFrom outcome less ps s r t
+from_fewer outcome before less [] within s t r o = within s t r o
+from_fewer outcome before less (p ∷ ps) within s t r o =
+    from_fewer outcome (ChoiceOutcome before (outcome p)) (ChoiceOutcome less (outcome p)) ps (choice_fewer before less (outcome p) within) s t r o
+
+-- a choice of many catches no want of memory
+from_spared : {T P : Type 0} (outcome : P → Outcome T) (before : Outcome T) (ps : List P) (s t : Situation) (r : Result T Error)
+    → ChoiceFrom outcome before ps s r t → IsSpared r → ChoiceFrom (λ p. WithoutMemory (outcome p)) (WithoutMemory before) ps s r t
+from_spared outcome before [] s t r o spared = (o, spared)
+from_spared outcome before (p ∷ ps) s t r o spared =
+    from_fewer (λ q. WithoutMemory (outcome q)) (WithoutMemory (ChoiceOutcome before (outcome p))) (ChoiceOutcome (WithoutMemory before) (WithoutMemory (outcome p))) ps
+    (λ m n answer answered. choice_spared before (outcome p) m n answer answered.0 answered.1) s t r (from_spared outcome (ChoiceOutcome before (outcome p)) ps s t r o spared)
+
+-- nor does a choice of any number
+pub choices_spared : {T P : Type 0} (outcome : P → Outcome T) (ps : List P) → ChoicesCatchNoMemory outcome ps
+choices_spared outcome [] s t r o spared = o
+choices_spared outcome (p ∷ ps) s t r o spared = from_spared outcome (outcome p) ps s t r o spared

@@ -1,0 +1,6 @@
+use Rattle.std.proofs.Common.{take}
+use Rattle.bpaf.specs.Choice.{ChoiceFrom}
+use Rattle.bpaf.proofs.choices.choose_from.Given as goal
+
+abbrev pub invariant-loop-parser : goal.invariant-loop-parser
+invariant-loop-parser g l = ChoiceFrom g.P.Parser.outcome (g.P.Parser.outcome l.first) (take l.parser-index l.rest) l.fn.state l.answer l.best

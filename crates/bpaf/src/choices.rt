@@ -1,0 +1,115 @@
+ghost use Rattle.std.specs.Prelude.{◌≡◌, IfOk, All};
+ghost use Rattle.bpaf_doc.specs.Shape.{shape_of};
+ghost use Rattle.bpaf.specs.Choice.{ChoiceFrom, DescribesFrom, ChoicesCatchNoMemory};
+
+use bpaf_core::{Parser, is_want, or_meta, this_or_that};
+use bpaf_doc::{Meta, Text};
+use bpaf_line::{Error, Message, State};
+use std::alloc::{AllocError, Global};
+
+/// One of any number of parsers of one type; bpaf answers them boxed.
+#[derive(Drop)]
+pub struct ParseChoice<P> {
+    pub parsers: Vec<P>,
+}
+
+/// What one of several parsers of one type reads (bpaf's `choice`): `a`, `b` and `c` are
+/// `a.or_else(b).or_else(c)`.
+///
+/// Without parsers it refuses every line.
+///
+/// ```text
+/// let colors = vec![in alloc; long(alloc, "red")?.req_flag(0), long(alloc, "blue")?.req_flag(1)]?;
+/// let color = choice(colors);
+/// ```
+pub fn choice<P>(parsers: Vec<P>) -> ParseChoice<P>
+    ensures { result.parsers ≡ parsers }
+{
+    ParseChoice { parsers }
+}
+
+/// The answer of a parser and of the others after it, each of which may take its place.
+fn choose_from<T: Drop, P: Parser<T>>(first: &P, rest: &[P], state: &mut State) -> Result<T, Error>
+    requires first { P.can_eval first.now }
+    requires rest { All P.can_eval rest.now }
+    ensures { ChoiceFrom P.outcome (P.outcome first.now) rest.now state.old result state.new }
+{
+    if rest.is_empty() {
+        return first.eval(state);
+    }
+    let mut best = state.copy()?;
+    let mut answer = first.eval(&mut best);
+    for parser in rest {
+        if is_want(&answer) {
+            return answer;
+        }
+        let mut that = state.copy()?;
+        let other = parser.eval(&mut that);
+        if is_want(&other) {
+            return other;
+        }
+        let mut next = state.copy()?;
+        answer = this_or_that(&mut next, answer, best, other, that);
+        best = next;
+    }
+    *state = best;
+    answer
+}
+
+/// What a parser and the others after it show, as one choice.
+fn meta_from<T, P: Parser<T>>(first: &P, rest: &[P], alloc: Global) -> Result<Meta, AllocError>
+    requires first { P.can_eval first.now }
+    requires rest { All P.can_eval rest.now }
+    ensures { IfOk result (λ meta. DescribesFrom P.describes (P.describes first.now) rest.now (shape_of meta)) }
+{
+    let mut shown = first.meta(alloc)?;
+    for parser in rest {
+        shown = or_meta(alloc, shown, parser.meta(alloc)?)?;
+    }
+    Ok(shown)
+}
+
+/// The parsers are evaluated as nested choices of two, the first ones innermost
+/// ([`this_or_that`](bpaf_core::this_or_that)). Want of memory in one of them is refused at once, with
+/// the state as before. Without parsers it is refused with ParseFail, or for want of memory for the
+/// message, and no place is current then.
+impl<T: Drop, P: Parser<T> + Drop> Parser<T> for ParseChoice<P> {
+    ghost use Rattle.std.specs.Prelude.{All};
+    ghost use Rattle.bpaf.specs.Choice.{ChoicesOutcome, ChoicesReads, ChoicesDescribes};
+    ghost use Rattle.bpaf.specs.ChoiceLaws.{choices_lawful};
+
+    ghost can_eval = { λ p. All P.can_eval p.parsers.items };
+
+    ghost describes = { λ p. ChoicesDescribes P.describes p.parsers.items };
+
+    ghost reads = { λ p. ChoicesReads P.reads p.parsers.items };
+
+    ghost outcome = { λ p. ChoicesOutcome P.outcome p.parsers.items };
+
+    fn eval(&self, state: &mut State) -> Result<T, Error> {
+        match self.parsers.as_slice() {
+            [] => {
+                state.set_current(None);
+                let message = Text::new(state.alloc(), "Invalid choice usage")?;
+                Err(Error(Message::ParseFail(message)))
+            }
+            [first, rest @ ..] => choose_from(first, rest, state),
+        }
+    }
+
+    fn meta(&self, alloc: Global) -> Result<Meta, AllocError> {
+        match self.parsers.as_slice() {
+            [] => Ok(Meta::Skip),
+            [first, rest @ ..] => meta_from(first, rest, alloc),
+        }
+    }
+
+    ghost lawful = { λ p. choices_lawful P.outcome P.reads p.parsers.items P.lawful };
+}
+
+/// No choice of any number goes past want of memory of one of its parsers.
+pub fn choices_never_catch_memory<T, P: Parser<T>>(choice: &ParseChoice<P>)
+    ensures { ChoicesCatchNoMemory P.outcome choice.now.parsers.items }
+{
+    let _ = choice;
+}

@@ -1,0 +1,71 @@
+//! The form `construct!([..])`, as a program writes it.
+use bpaf::params::ParseArgument;
+use bpaf::parsers::ParseOrElse;
+use bpaf::{Args, Parser, construct, fail, long, short};
+use std::alloc::{AllocError, Global};
+use std::test::Fail;
+
+/// The value of a parser on words; none where they are refused.
+pub(crate) fn value<T: Drop, P: Parser<T> + Drop>(
+    alloc: Global,
+    parser: P,
+    words: &[&str],
+) -> Result<Option<T>, AllocError>
+    requires { P.can_eval parser }
+{
+    let options = parser.to_options(alloc)?;
+    Ok(options.run_inner(Args::from(words)).ok())
+}
+
+/// A number behind a key.
+pub(crate) fn num(alloc: Global, name: char) -> Result<ParseArgument<u64>, AllocError> {
+    Ok(short(alloc, name)?.argument("NUM"))
+}
+
+/// A number behind one of two keys.
+pub(crate) fn one_of_two(
+    alloc: Global,
+) -> Result<ParseOrElse<ParseArgument<u64>, ParseArgument<u64>>, AllocError> {
+    let a = num(alloc, 'a')?;
+    let b = num(alloc, 'b')?;
+    Ok(construct!([a, b]))
+}
+
+/// A flag that has to stand there.
+fn accepted(alloc: Global, words: &[&str]) -> Result<Option<()>, AllocError> {
+    let parser = construct!([
+        accept(long(alloc, "accept")?.req_flag(())),
+        refuse(fail::<()>("You must accept")),
+    ]);
+    value(alloc, parser, words)
+}
+
+/// Three branches: a variable, what a function answers, and an expression.
+fn three(alloc: Global, words: &[&str]) -> Result<Option<u64>, AllocError> {
+    let a = num(alloc, 'a')?;
+    let number = num(alloc, 'b')?;
+    let b = move || number;
+    value(alloc, construct!([a, b(), c(num(alloc, 'c')?)]), words)
+}
+
+/// One branch by itself.
+fn alone(alloc: Global, words: &[&str]) -> Result<Option<u64>, AllocError> {
+    let a = num(alloc, 'a')?;
+    value(alloc, construct!([a]), words)
+}
+
+#[test]
+fn flag_or_refusal(rt: HostRuntime) -> Result<(), Fail> {
+    assert_eq!(rt; accepted(rt.alloc(), &[])?, None);
+    assert_eq!(rt; accepted(rt.alloc(), &["--accept"])?, Some(()));
+    Ok(())
+}
+
+#[test]
+fn branches_of_each_form(rt: HostRuntime) -> Result<(), Fail> {
+    assert_eq!(rt; three(rt.alloc(), &["-a", "1"])?, Some(1));
+    assert_eq!(rt; three(rt.alloc(), &["-b", "2"])?, Some(2));
+    assert_eq!(rt; three(rt.alloc(), &["-c", "3"])?, Some(3));
+    assert_eq!(rt; alone(rt.alloc(), &["-a", "1"])?, Some(1));
+    Ok(())
+}
