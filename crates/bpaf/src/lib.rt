@@ -28,8 +28,8 @@ mod product;
 
 pub use bpaf_core::{
     FromList, Info, OptionParser, Parser, choice_never_catches_memory, count_falls,
-    default_takes_nothing, key_before_environment, leftmost_wins, memory_is_never_caught, read_text,
-    repeat_is_bounded, repeats_catch_no_memory,
+    default_takes_nothing, key_before_environment, leftmost_wins, memory_is_never_caught,
+    read_text, repeat_is_bounded, repeats_catch_no_memory,
 };
 pub use bpaf_doc::{Doc, Item, Meta, MetaInfo, Metavar, Piece, ShortLong, Style, Text};
 pub use bpaf_line::{

@@ -10,7 +10,6 @@ use Rattle.bpaf_line.specs.declared.error.Message.TheVariants.{Memory}
 use Rattle.bpaf_core.specs.Reading.{Readings}
 use Rattle.bpaf_core.specs.Laws.{Keeps, Reads, Lawful}
 use Rattle.bpaf_core.specs.Keeping.{keeps_same, reads_same, closes_take, newly_none, keeps_take, newly_take}
-use Rattle.bpaf_core.specs.Environment.{is_set}
 use Rattle.bpaf_core.specs.Flag.{FlagReads, at_key, in_environment, nowhere, FlagOutcome, FlagFails, IsAbsentValue, IsFlagPresent, IsFlagAbsent}
 
 -- both of two tests
