@@ -10,6 +10,7 @@ use Rattle.bpaf_core.specs.Laws.{Lawful}
 use Rattle.bpaf_core.specs.Step.{is_untouched}
 use Rattle.bpaf_core.specs.Choice.{depth, Winner, EqualDepths, Chosen, IsChosen, TookAndIsChosen, LeftmostWins}
 use Rattle.bpaf_core.specs.CountingLaws.{same_took_none}
+use Rattle.bpaf_core.specs.FlagLaws.{first_of_and, second_of_and}
 
 -- what stays taken and isn't newly taken is as it was
 no_more : (x y : Bool) → (x ≡ true → y ≡ true) → (y && not x) ≡ false → y ≡ x
@@ -31,11 +32,6 @@ one_leftmost s other p q a b = ⊎_elim
     (λ (apart : q ≢ p). absurd (differ (is_taken s q) (is_taken other q) b.differs (a.first q (omega arith))))
     (cases_eq q p))
     (cases_lt p q)
-
--- both of two tests hold
-both_of : (x y : Bool) → (x && y) ≡ true → (x ≡ true) × (y ≡ true)
-both_of true y both = (refl, both)
-both_of false y both = absurd (true≢false (sym both))
 
 -- the opposite of a test that is false
 not_false : (x y : Bool) → y ≡ false → y ≡ not x → x ≡ true
@@ -79,8 +75,8 @@ module _ {T : Type 0} {first second : Outcome T} {rf rs : Readings T} (lf : Lawf
   -- where neither took an item no place is taken by only one
   none_differs : (x : T) (sa : Situation) (y : T) (sb : Situation) → first s (Ok x) sa → second s (Ok y) sb → (is_untouched s sa && is_untouched s sb) ≡ true → TakeTheSame sa sb
   none_differs x sa y sb f g both p =
-      let untouched = both_of (is_untouched s sa) (is_untouched s sb) both in
-      took_nothing lf s sa x f untouched.0 p ∙ sym (took_nothing ls s sb y g untouched.1 p)
+      took_nothing lf s sa x f (first_of_and (is_untouched s sa) (is_untouched s sb) both) p
+      ∙ sym (took_nothing ls s sb y g (second_of_and (is_untouched s sa) (is_untouched s sb) both) p)
 
   -- at equal depths the chosen one took the leftmost place
   equal_took : (a : Result T Error) (sa : Situation) (b : Result T Error) (sb : Situation) → first s a sa → second s b sb
