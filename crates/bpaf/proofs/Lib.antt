@@ -1,3 +1,4 @@
 pub mod Shapes
 pub mod Words
 pub mod Choosing
+pub mod Sparing

@@ -5,3 +5,4 @@ pub mod Pure
 pub mod PureLaws
 pub mod Choice
 pub mod ChoiceLaws
+pub mod Spared

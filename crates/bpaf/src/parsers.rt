@@ -4,6 +4,7 @@ pub use crate::leaf::{ParseFail, ParsePure, ParsePureWith};
 pub use crate::position::ParsePositional;
 pub use crate::product::ParseCon;
 pub use bpaf_core::{
-    ParseFallback, ParseFallbackWith, ParseGuard, ParseMap, ParseOptional, ParseOrElse, ParseWith,
+    ParseCollect, ParseCount, ParseFallback, ParseFallbackWith, ParseGuard, ParseLast, ParseMany,
+    ParseMap, ParseOptional, ParseOrElse, ParseSome, ParseWith,
 };
 pub use bpaf_text::{NamedArg, ParseArgument, ParseFlag};

@@ -1,6 +1,5 @@
 -- What a run accepts is dealt out of its words.
-use Rattle.std.proofs.Common.{◌≡◌, ℕ, zero, suc, ◌+◌, ◌<◌, Bool, true, false, not, ◌&&◌, if◌then◌else◌, length, List, Option, Result, Ok, Err, IfOk, refl, sym, subst, ap, arith, true≢false, nat_lt, ⊎_elim}
-use Rattle.std.proofs.lemmas.Bool.{cases_eq}
+use Rattle.std.proofs.Common.{◌≡◌, ℕ, ◌<◌, Bool, true, false, not, ◌&&◌, length, List, Option, Result, Ok, Err, IfOk, refl, subst, ap, arith, true≢false, nat_lt}
 use Rattle.std.proofs.lemmas.Bool.Decides.{nat_tests}
 use mathlib.Core.Path.{fun_ext}
 use Rattle.bpaf_line.specs.declared.arg.Arg.{Arg}
@@ -9,27 +8,13 @@ use Rattle.bpaf_doc.specs.Shape.{Shape}
 use Rattle.bpaf_core.specs.declared.info.Info.{Info}
 use Rattle.bpaf_core.specs.Known.{known_names}
 use Rattle.bpaf_line.specs.Line.{IsLine}
-use Rattle.bpaf_line.specs.Situation.{Situation, Context, beginning, is_taken, is_open, in_scope, is_marker, is_dealt_place, count_below, open_count}
+use Rattle.bpaf_line.specs.Situation.{Situation, Context, beginning, is_taken, is_open, in_scope, is_marker, is_dealt_place, open_count}
 use Rattle.bpaf_line.proofs.Beginning.{taken_at_beginning}
 use Rattle.bpaf_core.specs.Reading.{Readings, Outcome, Share}
 use Rattle.bpaf_core.specs.Laws.{Lawful, Keeps, Closes, newly}
+use Rattle.bpaf_core.specs.CountingLaws.{none_below}
 use Rattle.bpaf_core.specs.Run.{Given, context_in, Runs, RunsShown, RunsWords, value, ran, shown}
 use Rattle.bpaf_core.specs.Dealt.{IsDealtOut}
-
--- a count of nothing counts neither this number nor any before it
-none_at : (b : Bool) (n : ℕ) → (if b then (n + 1) else n) ≡ 0 → (b ≡ false) × (n ≡ 0)
-none_at true n e = absurd (omega arith)
-none_at false n e = (refl, e)
-
--- a set without numbers below n lacks each of them
-none_below : (set : ℕ → Bool) (n : ℕ) → count_below set n ≡ 0 → (p : ℕ) → p < n → set p ≡ false
-none_below set zero e p within = absurd (omega arith)
-none_below set (suc n) e p within =
-    let parts = none_at (set n) (count_below set n) e in
-    ⊎_elim
-    (λ (same : p ≡ n). subst (λ q. set q ≡ false) (sym same) parts.0)
-    (λ other. none_below set n parts.1 p (omega arith))
-    (cases_eq p n)
 
 -- at one place: newly taken is the same as dealt, where each dealt place is taken
 dealt_at : (taken before dealt : Bool) → before ≡ not dealt → (dealt ≡ true → taken ≡ true) → (taken && not before) ≡ dealt

@@ -13,31 +13,7 @@ use Rattle.bpaf_line.specs.Situation.{count_below}
 use Rattle.bpaf_line.proofs.Places.{open_in_line}
 use Rattle.bpaf_core.specs.Laws.{Keeps, Closes}
 use Rattle.bpaf_core.specs.Counting.{taken_count}
-use Rattle.bpaf_core.proofs.Counting.{open_count-falls}
-
--- a set that has no number below n lacks each of them
-count_below-zero : (f : ℕ → Bool) (n : ℕ) → count_below f n ≡ 0 → (q : ℕ) → q < n → f q ≡ false
-count_below-zero f zero none q within = absurd (omega arith)
-count_below-zero f (suc n) none q within = at_test (f n) refl none (λ none_below within_below. count_below-zero f n none_below q within_below)
-  where
-    at_test : (x : Bool) → f n ≡ x → (if x then (count_below f n + 1) else count_below f n) ≡ 0 → (count_below f n ≡ 0 → q < n → f q ≡ false) → f q ≡ false
-    at_test true here sum below = absurd (omega arith)
-    at_test false here sum below = ⊎_elim (λ (same : q ≡ n). subst (λ p. f p ≡ false) (sym same) here) (λ (other : q ≢ n). below sum (omega arith)) (cases_eq q n)
-
--- a test that isn't true is false
-else_false : (x : Bool) → (x ≡ true → ⊥) → x ≡ false
-else_false true never = absurd (never refl)
-else_false false never = refl
-
--- an evaluation that left as many places present took none
-took_none : (s t : Situation) → Keeps s t → Closes s t → open_count t ≡ open_count s → (p : ℕ) → newly s t p ≡ false
-took_none s t k closed same p =
-    let fall = open_count-falls s t k closed in
-    let none : taken_count s t ≡ 0 = omega arith in
-    ⊎_elim
-    (λ (within : p < length s.context.line). count_below-zero (newly s t) (length s.context.line) none p within)
-    (λ (past : length s.context.line ≤ p). else_false (newly s t p) (λ new. let within : p < length s.context.line = open_in_line s p (k.fresh p new) in absurd (omega arith)))
-    (cases_lt p (length s.context.line))
+use Rattle.bpaf_core.specs.CountingLaws.{same_took_none}
 
 -- what stays taken and isn't newly taken is as it was
 no_more : (x y : Bool) → (x ≡ true → y ≡ true) → (y && not x) ≡ false → y ≡ x
@@ -101,7 +77,7 @@ took_nothing : {T : Type 0} {outcome : Outcome T} {reads : Readings T} → Lawfu
 took_nothing law s t v ran untouched p =
     let read = law.ok s t v ran in
     let same : open_count t ≡ open_count s = grind (arith, nat_tests) in
-    no_more (is_taken s p) (is_taken t p) (read.keeps.stays p) (took_none s t read.keeps read.closed same p)
+    no_more (is_taken s p) (is_taken t p) (read.keeps.stays p) (same_took_none s t read.keeps read.closed (omega arith) p)
 
 module _ {T : Type 0} {first second : Outcome T} {rf rs : Readings T} (lf : Lawful T first rf) (ls : Lawful T second rs) (s : Situation) (v : T) (t : Situation) where
   -- where neither took an item no place is taken by only one

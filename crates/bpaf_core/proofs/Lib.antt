@@ -1,8 +1,9 @@
 pub mod Running
 pub mod Dealing
-pub mod Counting
 pub mod KeyFirst
 pub mod Sparing
 pub mod Members
 pub mod Choosing
 pub mod Leftmost
+pub mod Repeating
+pub mod RepeatSparing

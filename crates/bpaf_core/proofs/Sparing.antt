@@ -20,7 +20,7 @@ caught_spared Memory caught = absurd (true≢false (sym caught))
 caught_spared other caught = refl
 
 -- an answer isn't want of memory and is
-not_both : (m : Message) → is_memory m ≡ false → is_memory m ≡ true → ⊥
+pub not_both : (m : Message) → is_memory m ≡ false → is_memory m ≡ true → ⊥
 not_both m spared memory = true≢false (sym memory ∙ spared)
 
 module _ {T : Type 0} (inner : Outcome T) where

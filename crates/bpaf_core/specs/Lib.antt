@@ -2,6 +2,7 @@ pub mod Reading
 pub mod Laws
 pub mod Keeping
 pub mod Counting
+pub mod CountingLaws
 pub mod Value
 pub mod Environment
 pub mod Flag
@@ -14,6 +15,9 @@ pub mod TransformLaws
 pub mod Step
 pub mod Default
 pub mod DefaultLaws
+pub mod Collect
+pub mod Repeat
+pub mod RepeatLaws
 pub mod Spared
 pub mod Choice
 pub mod ChoiceLaws

@@ -21,6 +21,10 @@ Outcome T = Situation → Result T Error → Situation → Type 0
 abbrev pub IsEmptyShare : Share → Type 0
 IsEmptyShare share = (p : ℕ) → share p ≡ false
 
+-- one place at least
+abbrev pub HasPlace : Share → Type 0
+HasPlace share = (p : ℕ) × (share p ≡ true)
+
 -- one place alone
 abbrev pub IsPlace : ℕ → Share → Type 0
 IsPlace place share = (p : ℕ) → share p ≡ (p == place)

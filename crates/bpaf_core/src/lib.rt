@@ -18,6 +18,10 @@
 //! - [`ParseOrElse`] is one of two parsers, both evaluated from the same state: the table of
 //!   [`this_or_that`] tells which answer stands (specs/Choice.antt), for choices of other types too.
 //!   The branch that took the leftmost place taken by only one of them wins ([`leftmost_wins`]).
+//! - [`ParseMany`], [`ParseSome`], [`ParseCollect`], [`ParseCount`] and [`ParseLast`] step one parser
+//!   until a step stops (specs/Repeat.antt); [`FromList`] is what a list of values fills. Each step but
+//!   the first takes an item, so there are no more values than items present at the start and one
+//!   ([`repeat_is_bounded`]), and none catches want of memory ([`repeats_catch_no_memory`]).
 //! - [`OptionParser::run_inner`] runs a parser over words. It answers a value only where that is
 //!   dealt out of the words: read off all items of their line but the first `--`, each used once
 //!   (specs/Dealt.antt), whatever the parser's type.
@@ -29,6 +33,8 @@
 
 mod argument;
 mod choice;
+mod collect;
+mod count;
 mod environment;
 mod fallback;
 mod flag;
@@ -38,17 +44,24 @@ mod optional;
 mod options;
 mod parser;
 mod reading;
+mod repeat;
 mod transform;
 
 pub use argument::key_before_environment;
 pub use choice::{
     ParseOrElse, choice_never_catches_memory, is_want, leftmost_wins, or_meta, this_or_that,
 };
+pub use collect::{FromList, ParseCollect};
+pub use count::{ParseCount, ParseLast};
 pub use fallback::{ParseFallback, ParseFallbackWith};
 pub use info::Info;
-pub use laws::{count_falls, default_takes_nothing, memory_is_never_caught};
+pub use laws::{
+    count_falls, default_takes_nothing, memory_is_never_caught, repeat_is_bounded,
+    repeats_catch_no_memory,
+};
 pub use optional::ParseOptional;
 pub use options::OptionParser;
 pub use parser::Parser;
 pub use reading::read_text;
+pub use repeat::{ParseMany, ParseSome};
 pub use transform::{ParseGuard, ParseMap, ParseWith};

@@ -1,4 +1,4 @@
-ghost use Rattle.std.specs.Prelude.{◌≡◌, IfOk};
+ghost use Rattle.std.specs.Prelude.{◌≡◌, IfOk, true};
 ghost use Rattle.bpaf_doc.specs.Shape.{shape_of};
 ghost use Rattle.bpaf_core.specs.Default.{OptionalDescribes};
 ghost use Rattle.bpaf_core.specs.Step.{StepOutcome, stops_step};
@@ -24,7 +24,7 @@ fn stops_step(catches: bool, message: &Message, untouched: bool) -> bool
 ///
 /// `catches` tells that it stops at every error but those of wrong input and want of memory, `first`
 /// that no value came before it.
-fn parse_option<T: Drop, P: Parser<T>>(
+pub(crate) fn parse_option<T: Drop, P: Parser<T>>(
     parser: &P,
     state: &mut State,
     catches: bool,
@@ -66,13 +66,28 @@ pub(crate) fn optional_meta<T, P: Parser<T>>(parser: &P, alloc: Global) -> Resul
 #[derive(Drop)]
 pub struct ParseOptional<P> {
     pub inner: P,
+    pub catch: bool,
 }
 
-/// None where the inner parser answers Missing and took nothing, or another error that can be caught;
-/// all is then as before. Every other error is refused, with the state that it left; so is want of
-/// memory.
+impl<P> ParseOptional<P> {
+    /// The same, where each error but those of wrong input and want of memory gives None (bpaf's
+    /// `ParseOptional::catch`).
+    pub fn catch(self) -> ParseOptional<P>
+        ensures inner { result.inner ≡ self.inner }
+        ensures catch { result.catch ≡ true }
+    {
+        ParseOptional {
+            inner: self.inner,
+            catch: true,
+        }
+    }
+}
+
+/// None where the inner parser answers Missing and took nothing, or another error that can be caught, or
+/// with `catch` any that isn't of wrong input; all is then as before. Every other error is refused, with
+/// the state that it left; so is want of memory.
 impl<T: Drop, P: Parser<T>> Parser<Option<T>> for ParseOptional<P> {
-    ghost use Rattle.std.specs.Prelude.{true, false};
+    ghost use Rattle.std.specs.Prelude.{true};
     ghost use Rattle.bpaf_core.specs.Default.{OptionalReads, OptionalDescribes};
     ghost use Rattle.bpaf_core.specs.DefaultLaws.{optional_lawful};
 
@@ -82,15 +97,15 @@ impl<T: Drop, P: Parser<T>> Parser<Option<T>> for ParseOptional<P> {
 
     ghost reads = { λ p. OptionalReads (P.reads p.inner) };
 
-    ghost outcome = { λ p. StepOutcome (P.outcome p.inner) false true };
+    ghost outcome = { λ p. StepOutcome (P.outcome p.inner) p.catch true };
 
     fn eval(&self, state: &mut State) -> Result<Option<T>, Error> {
-        parse_option(&self.inner, state, false, true)
+        parse_option(&self.inner, state, self.catch, true)
     }
 
     fn meta(&self, alloc: Global) -> Result<Meta, AllocError> {
         optional_meta(&self.inner, alloc)
     }
 
-    ghost lawful = { λ p. optional_lawful (P.lawful p.inner) false };
+    ghost lawful = { λ p. optional_lawful (P.lawful p.inner) p.catch };
 }

@@ -1,12 +1,15 @@
-ghost use Rattle.std.specs.Prelude.{◌≡◌, IfOk};
+ghost use Rattle.std.specs.Prelude.{◌≡◌, IfOk, false};
 ghost use Rattle.bpaf_doc.specs.Shape.{shape_of};
 ghost use Rattle.bpaf_core.specs.Known.{plain_info};
 
 use crate::choice::ParseOrElse;
+use crate::collect::{FromList, ParseCollect};
+use crate::count::{ParseCount, ParseLast};
 use crate::fallback::{ParseFallback, ParseFallbackWith};
 use crate::info::Info;
 use crate::optional::ParseOptional;
 use crate::options::OptionParser;
+use crate::repeat::{ParseMany, ParseSome};
 use crate::transform::{ParseGuard, ParseMap, ParseWith};
 use bpaf_doc::Meta;
 use bpaf_line::{Error, State};
@@ -122,9 +125,13 @@ pub trait Parser<T>: Sized {
     /// ```
     final fn optional(self) -> ParseOptional<Self>
         requires { can_eval self }
-        ensures { result.inner ≡ self }
+        ensures inner { result.inner ≡ self }
+        ensures catch { result.catch ≡ false }
     {
-        ParseOptional { inner: self }
+        ParseOptional {
+            inner: self,
+            catch: false,
+        }
     }
 
     /// A kept value where there is nothing to read (bpaf's `Parser::fallback`); it is cloned when it is
@@ -183,6 +190,90 @@ pub trait Parser<T>: Sized {
         ensures that { result.that ≡ that }
     {
         ParseOrElse { this: self, that }
+    }
+
+    /// All values, as often as there is one to read (bpaf's `Parser::many`); each but the first takes an
+    /// item.
+    ///
+    /// A value that stands there and can't be read is refused as before.
+    ///
+    /// ```text
+    /// positional::<String>("FILE").many()
+    /// ```
+    final fn many(self) -> ParseMany<Self>
+        requires { can_eval self }
+        ensures inner { result.inner ≡ self }
+        ensures catch { result.catch ≡ false }
+    {
+        ParseMany {
+            inner: self,
+            catch: false,
+        }
+    }
+
+    /// All values, of which there has to be one (bpaf's `Parser::some`): without one the message is the
+    /// refusal.
+    ///
+    /// ```text
+    /// positional::<String>("FILE").some("name a file")
+    /// ```
+    final fn some<'m>(self, message: &'m str) -> ParseSome<'m, Self>
+        requires { can_eval self }
+        ensures inner { result.inner ≡ self }
+        ensures message { result.message ≡ message.entry }
+        ensures catch { result.catch ≡ false }
+    {
+        ParseSome {
+            inner: self,
+            message,
+            catch: false,
+        }
+    }
+
+    /// All values in a collection, filled from front to back (bpaf's `Parser::collect`).
+    ///
+    /// ```text
+    /// short(alloc, 'n')?.argument::<u64>("NUM").collect::<BTreeSet<u64>>()
+    /// ```
+    final fn collect<C: FromList<T>>(self) -> ParseCollect<Self, C, T>
+        requires { can_eval self }
+        ensures inner { result.inner ≡ self }
+        ensures catch { result.catch ≡ false }
+    {
+        ParseCollect {
+            inner: self,
+            catch: false,
+            collection: PhantomData,
+            inner_res: PhantomData,
+        }
+    }
+
+    /// How many values there are (bpaf's `Parser::count`); one that takes no item is counted and ends
+    /// it.
+    ///
+    /// ```text
+    /// short(alloc, 'v')?.req_flag(()).count()
+    /// ```
+    final fn count(self) -> ParseCount<Self, T>
+        requires { can_eval self }
+        ensures { result.inner ≡ self }
+    {
+        ParseCount {
+            inner: self,
+            inner_res: PhantomData,
+        }
+    }
+
+    /// The last value (bpaf's `Parser::last`). Where there is none it is refused as without `last`.
+    ///
+    /// ```text
+    /// short(alloc, 'n')?.argument::<u64>("NUM").last()
+    /// ```
+    final fn last(self) -> ParseLast<Self>
+        requires { can_eval self }
+        ensures { result.inner ≡ self }
+    {
+        ParseLast { inner: self }
     }
 
     /// A parser that can run over words; refused only for want of memory.

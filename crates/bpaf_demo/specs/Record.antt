@@ -1,18 +1,18 @@
 -- Options that are dealt out of the words, and what a run of the program does.
-use Rattle.std.specs.Prelude.{◌⊎◌, ℕ, Bool, true, false, List, [], ◌∷◌, Option, Some, codes}
+use Rattle.std.specs.Prelude.{◌≡◌, ◌⊎◌, ℕ, Bool, true, false, List, [], ◌∷◌, Option, Some, codes, option_and_then}
 use Rattle.std.specs.Io.KnownBytes.{Keeps, Appends}
 use Rattle.bpaf_doc.specs.Names.{Names}
 use Rattle.bpaf_text.specs.Meaning.{SpellsUnsigned}
 use Rattle.bpaf_text.specs.Named.{key_named}
 use Rattle.bpaf_line.specs.declared.arg.Arg.{Arg}
-use Rattle.bpaf_line.specs.Items.{is_key_of}
+use Rattle.bpaf_line.specs.Items.{is_key_of, word_text}
 use Rattle.bpaf_line.specs.Spelling.{Known}
 use Rattle.bpaf_line.specs.Line.{IsLine}
 use Rattle.bpaf_line.specs.Situation.{Context, is_dealt_place}
-use Rattle.bpaf_core.specs.Reading.{Share, Joins, IsPlace, IsEmptyShare, HasItem}
+use Rattle.bpaf_core.specs.Reading.{Share, Joins, IsPlace, IsEmptyShare, HasItem, item_in}
 use Rattle.bpaf_core.specs.Argument.{IsKeyWithText}
 use Rattle.bpaf_demo.specs.declared.options.Options.{Options}
-use Rattle.bpaf_demo.specs.Lines.{lines}
+use Rattle.bpaf_demo.specs.Lines.{lines, file_texts}
 
 -- the names of the switch
 abbrev pub verbose_names : Names
@@ -39,16 +39,30 @@ SwitchReads names context share false = IsEmptyShare share
 abbrev pub NumberReads : Names → Context → Share → ℕ → Type 0
 NumberReads names context share number = (text : List ℕ) × IsKeyWithText (key_named names) context share text × SpellsUnsigned 64 text number
 
--- all places of the words' line but the first `--` are dealt out to the switch and the number, each used once
+-- a file is the text of one word, on either side of `--`
+abbrev pub FileReads : Context → Share → List ℕ → Type 0
+FileReads context share text =
+    (place : ℕ) × (strict : Bool) × (option_and_then word_text (item_in context place) ≡ Some (strict, text)) × IsPlace place share
+
+-- the files are read off shares that are joined, each off its own
+abbrev pub FilesRead : Context → Share → List (List ℕ) → Type 0
+FilesRead context share [] = IsEmptyShare share
+FilesRead context share (text ∷ texts) = (own : Share) × (rest : Share) × Joins own rest share × FileReads context own text × FilesRead context rest texts
+
+-- all places of the words' line but the first `--` are dealt out to the switch, the number and the files, each used once
 pub record IsDealtOptions (words : List (List ℕ)) (v : Options) : Type 0 where
   pub line : List Arg
   pub marker : Option ℕ
   pub is_line : IsLine program_known words line marker
   pub verbose_share : Share
   pub num_share : Share
-  pub joins : Joins verbose_share num_share (is_dealt_place line marker)
+  pub files_share : Share
+  pub other_share : Share
+  pub joins : Joins verbose_share other_share (is_dealt_place line marker)
+  pub others_join : Joins num_share files_share other_share
   pub verbose : SwitchReads verbose_names (program_context line) verbose_share v.verbose
   pub num : NumberReads num_names (program_context line) num_share v.num
+  pub files : FilesRead (program_context line) files_share (file_texts v)
 
 -- status 0: nothing on the error writer, and on the other exactly the lines of options that are dealt out of the words
 pub record Succeeds (words : List (List ℕ)) (out out_after err err_after : Option (List ℕ)) : Type 0 where

@@ -1,4 +1,4 @@
-//! A program over a record of options: a switch and a number.
+//! A program over a record of options: a switch, a number, and any number of files.
 //!
 //! It stands on `bpaf` alone, and has no contract for a layer above: it is the top. `run` is the whole
 //! program over two writers; `main` hands it the words, standard output and standard error, and ends
@@ -7,6 +7,7 @@
 //! ```text
 //! bpaf_demo -v -n 3      verbose: true, num: 3, a line each, status 0
 //! bpaf_demo --num=3      verbose: false, num: 3
+//! bpaf_demo -n 3 a b     verbose: false, num: 3, file: a, file: b
 //! bpaf_demo -n           Error: refused, on standard error, status 1
 //! ```
 //!

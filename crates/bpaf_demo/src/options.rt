@@ -1,7 +1,7 @@
 ghost use Rattle.std.specs.Prelude.{IfOk, map, string_bytes};
 ghost use Rattle.bpaf_demo.specs.Record.{IsDealtOptions};
 
-use bpaf::{Args, ParseFailure, Parser, construct, short};
+use bpaf::{Args, Doc, ParseFailure, Parser, construct, positional, short};
 use std::alloc::Global;
 
 /// What the program is asked for.
@@ -9,6 +9,7 @@ use std::alloc::Global;
 pub struct Options {
     pub verbose: bool,
     pub num: u64,
+    pub files: Vec<String>,
 }
 
 /// The options that the words give; refused where they give none, or for want of memory.
@@ -17,6 +18,14 @@ pub fn read_options(alloc: Global, words: &[String]) -> Result<Options, ParseFai
 {
     let verbose = short(alloc, 'v')?.long("verbose")?.switch();
     let num = short(alloc, 'n')?.long("num")?.argument::<u64>("NUM");
-    let options = construct!(Options { verbose, num }).to_options(alloc)?;
+    let files = positional::<String>("FILE")
+        .help(Doc::from_text(alloc, "Files to read")?)
+        .many();
+    let options = construct!(Options {
+        verbose,
+        num,
+        files
+    })
+    .to_options(alloc)?;
     options.run_inner(Args::from(words).set_name("bpaf_demo"))
 }

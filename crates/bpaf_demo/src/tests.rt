@@ -58,12 +58,21 @@ fn options_are_printed(rt: HostRuntime) -> Result<(), Fail> {
 }
 
 #[test]
+fn files_are_printed(rt: HostRuntime) -> Result<(), Fail> {
+    let a = rt.alloc();
+    assert!(rt; prints(a, &["-n", "3", "x"], "verbose: false\nnum: 3\nfile: x\n")?);
+    let words = ["-n", "3", "a", "-v", "b"];
+    assert!(rt; prints(a, &words, "verbose: true\nnum: 3\nfile: a\nfile: b\n")?);
+    Ok(())
+}
+
+#[test]
 fn refusals_print_no_options(rt: HostRuntime) -> Result<(), Fail> {
     let a = rt.alloc();
     assert!(rt; is_refused(a, &[])?);
     assert!(rt; is_refused(a, &["-n"])?);
     assert!(rt; is_refused(a, &["-n", "3", "-n", "4"])?);
-    assert!(rt; is_refused(a, &["-n", "3", "x"])?);
+    assert!(rt; is_refused(a, &["x"])?);
     assert!(rt; is_refused(a, &["--verbose=yes", "-n", "3"])?);
     Ok(())
 }

@@ -5,7 +5,7 @@ use Rattle.bpaf_demo.proofs.options.read_options.Goals as goal
 
 pub returns : goal.returns
 returns c =
-    answer_dealt _ _ _ _ _ _ _ _ _ (given_of c.set_name.result)
+    answer_dealt _ _ _ _ _ _ _ _ _ _ _ _ (given_of c.set_name.result)
     (record {
       same = λ x y e. e;
       made = λ x v e. search rules;
@@ -13,6 +13,7 @@ returns c =
       num_is = search rules;
       present_is = search rules;
       absent_is = search rules;
+      position_is = search rules;
       info_is = search rules;
     })
     (search rules)

@@ -1,7 +1,9 @@
 -- Counting what an evaluation newly took.
-use Rattle.std.proofs.Common.{◌≡◌, ℕ, zero, suc, ◌+◌, Bool, true, false, not, ◌&&◌, ◌||◌, if◌then◌else◌, length, refl, sym, ap, ◌∙◌, arith, true≢false}
+use Rattle.std.proofs.Common.{◌≡◌, ℕ, zero, suc, ◌+◌, ◌<◌, ◌≤◌, Bool, true, false, not, ◌&&◌, ◌||◌, if◌then◌else◌, length, refl, sym, subst, ap, ◌∙◌, ⊎_elim, arith, true≢false}
+use Rattle.std.proofs.lemmas.Bool.{cases_eq, cases_lt, false_from_ne_true}
 use Rattle.bpaf_line.specs.Situation.{Situation, is_taken, is_open, in_scope, count_below, open_count}
-use Rattle.bpaf_core.specs.Reading.{Outcome, Readings, Joins}
+use Rattle.bpaf_line.proofs.Places.{open_in_line}
+use Rattle.bpaf_core.specs.Reading.{Outcome, Readings, Joins, IsEmptyShare, HasPlace}
 use Rattle.bpaf_core.specs.Laws.{Keeps, Closes, Lawful, newly}
 use Rattle.bpaf_core.specs.Counting.{taken_count, CountFalls}
 
@@ -64,3 +66,44 @@ open_count-falls s t k c =
 -- so it does for every parser that keeps to the laws
 pub lawful_falls : {T : Type 0} {outcome : Outcome T} {reads : Readings T} → Lawful T outcome reads → CountFalls outcome
 lawful_falls law s t v answered = let read = law.ok s t v answered in open_count-falls s t read.keeps read.closed
+
+-- a count of nothing counts neither this number nor any before it
+none_at : (b : Bool) (n : ℕ) → (if b then (n + 1) else n) ≡ 0 → (b ≡ false) × (n ≡ 0)
+none_at true n e = absurd (omega arith)
+none_at false n e = (refl, e)
+
+-- a set without numbers below n lacks each of them
+pub none_below : (set : ℕ → Bool) (n : ℕ) → count_below set n ≡ 0 → (p : ℕ) → p < n → set p ≡ false
+none_below set zero e p within = absurd (omega arith)
+none_below set (suc n) e p within =
+    let parts = none_at (set n) (count_below set n) e in
+    ⊎_elim
+    (λ (same : p ≡ n). subst (λ q. set q ≡ false) (sym same) parts.0)
+    (λ other. none_below set n parts.1 p (omega arith))
+    (cases_eq p n)
+
+-- a set with some numbers below n has one
+some_below : (set : ℕ → Bool) (n : ℕ) → 0 < count_below set n → HasPlace set
+some_below set zero some = absurd (omega arith)
+some_below set (suc n) some = at (set n) refl some (λ fewer. some_below set n fewer)
+  where
+    at : (b : Bool) → set n ≡ b → 0 < (if b then (count_below set n + 1) else (count_below set n)) → (0 < count_below set n → HasPlace set) → HasPlace set
+    at true here more below = (n, here)
+    at false lacking more below = below more
+
+-- an evaluation that left fewer present places took one
+pub fewer_took : (s t : Situation) → Keeps s t → Closes s t → open_count t < open_count s → HasPlace (newly s t)
+fewer_took s t k c fewer =
+    let falls = open_count-falls s t k c in
+    some_below (newly s t) (length s.context.line) (omega arith)
+
+-- an evaluation that left as many present places took none
+pub same_took_none : (s t : Situation) → Keeps s t → Closes s t → open_count s ≤ open_count t → IsEmptyShare (newly s t)
+same_took_none s t k c same p =
+    let falls = open_count-falls s t k c in
+    let none : taken_count s t ≡ 0 = omega arith in
+    ⊎_elim
+    (λ within. none_below (newly s t) (length s.context.line) none p within)
+    (λ (beyond : length s.context.line ≤ p).
+    false_from_ne_true (newly s t p) (λ new. let within = open_in_line s p (k.fresh p new) in absurd (omega arith)))
+    (cases_lt p (length s.context.line))

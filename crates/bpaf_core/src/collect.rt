@@ -1,0 +1,126 @@
+ghost use Rattle.std.specs.Prelude.{◌≡◌, true};
+
+use crate::parser::Parser;
+use crate::repeat::{many_meta, values_until_stop};
+use bpaf_doc::Meta;
+use bpaf_line::{Error, State};
+use std::alloc::{AllocError, Global};
+use std::collections::{BTreeSet, VecDeque};
+use std::marker::PhantomData;
+
+/// What a list of values fills, front to back. bpaf has `FromIterator` in its place.
+///
+/// A type of your own says by `fills` what it holds then:
+///
+/// ```text
+/// impl FromList<u64> for Sum {
+///     ghost fills = { λ items sum. sum.0 ≡ sum_of items };
+///
+///     fn from_list(items: Vec<u64>) -> Result<Sum, AllocError> { .. }
+/// }
+/// ```
+pub trait FromList<T>: Sized {
+    ghost use Rattle.std.specs.Prelude.{List, IfOk};
+
+    /// What a collection may be that is filled from these values.
+    ghost fills: { List T → Self → Type 0 };
+
+    /// Fills a collection; refused only for want of memory, which drops the values.
+    fn from_list(items: Vec<T>) -> Result<Self, AllocError>
+        ensures { IfOk result (λ filled. fills items.items filled) };
+}
+
+/// The list itself.
+impl<T: Drop> FromList<T> for Vec<T> {
+    ghost use Rattle.std.specs.Prelude.{◌≡◌, IfOk};
+
+    ghost fills = { λ items list. list.items ≡ items };
+
+    fn from_list(items: Vec<T>) -> Result<Vec<T>, AllocError>
+        ensures { IfOk result (λ list. list.items ≡ items.items) }
+    {
+        Ok(items)
+    }
+}
+
+/// The values in order, the first in front.
+impl<T: Drop> FromList<T> for VecDeque<T> {
+    ghost use Rattle.std.specs.Prelude.{◌≡◌, IfOk};
+
+    ghost fills = { λ items queue. queue.items ≡ items };
+
+    fn from_list(items: Vec<T>) -> Result<VecDeque<T>, AllocError>
+        ensures { IfOk result (λ queue. queue.items ≡ items.items) }
+    {
+        Ok(VecDeque::from(items))
+    }
+}
+
+/// The values inserted one after another: of two equal ones the first stays.
+impl<T: Ord + Drop> FromList<T> for BTreeSet<T> {
+    ghost use Rattle.std.specs.Prelude.{◌≡◌, [], IfOk};
+    ghost use Rattle.bpaf_core.specs.Collect.{inserted};
+
+    ghost fills = { λ items set. set.keys ≡ inserted T.cmp [] items };
+
+    fn from_list(items: Vec<T>) -> Result<BTreeSet<T>, AllocError>
+        ensures { IfOk result (λ set. set.keys ≡ inserted T.cmp [] items.items) }
+    {
+        let mut set = BTreeSet::new(*items.allocator());
+        for item in items {
+            set.insert(item)?;
+        }
+        Ok(set)
+    }
+}
+
+/// All inner values in a collection (bpaf's `ParseCollect`, in `structs.rs`).
+#[derive(Drop)]
+pub struct ParseCollect<P, C, T> {
+    pub inner: P,
+    pub catch: bool,
+    pub collection: PhantomData<C>,
+    pub inner_res: PhantomData<T>,
+}
+
+impl<P, C, T> ParseCollect<P, C, T> {
+    /// The same, where each error but those of wrong input and want of memory ends the list (bpaf's
+    /// `ParseCollect::catch`).
+    pub fn catch(self) -> ParseCollect<P, C, T>
+        ensures inner { result.inner ≡ self.inner }
+        ensures catch { result.catch ≡ true }
+    {
+        ParseCollect {
+            inner: self.inner,
+            catch: true,
+            collection: PhantomData,
+            inner_res: PhantomData,
+        }
+    }
+}
+
+/// As `many`, with what is filled from the list in its place; refused also where the collection wants
+/// memory.
+impl<T: Drop, C: FromList<T> + Drop, P: Parser<T>> Parser<C> for ParseCollect<P, C, T> {
+    ghost use Rattle.bpaf_core.specs.Repeat.{CollectOutcome, CollectReads, ManyDescribes};
+    ghost use Rattle.bpaf_core.specs.RepeatLaws.{collect_lawful};
+
+    ghost can_eval = { λ p. P.can_eval p.inner };
+
+    ghost describes = { λ p. ManyDescribes (P.describes p.inner) };
+
+    ghost reads = { λ p. CollectReads (P.reads p.inner) C.fills };
+
+    ghost outcome = { λ p. CollectOutcome (P.outcome p.inner) p.catch C.fills };
+
+    fn eval(&self, state: &mut State) -> Result<C, Error> {
+        let values = values_until_stop(&self.inner, state, self.catch)?;
+        Ok(C::from_list(values)?)
+    }
+
+    fn meta(&self, alloc: Global) -> Result<Meta, AllocError> {
+        many_meta(&self.inner, alloc)
+    }
+
+    ghost lawful = { λ p. collect_lawful (P.lawful p.inner) p.catch C.fills };
+}

@@ -1,0 +1,93 @@
+use crate::optional::parse_option;
+use crate::parser::Parser;
+use crate::repeat::{many_meta, some_meta};
+use bpaf_doc::Meta;
+use bpaf_line::{Error, State};
+use std::alloc::{AllocError, Global};
+use std::marker::PhantomData;
+
+/// How many inner values there are (bpaf's `ParseCount`, in `structs.rs`).
+#[derive(Drop)]
+pub struct ParseCount<P, T> {
+    pub inner: P,
+    pub inner_res: PhantomData<T>,
+}
+
+/// The number of inner values, until a step stops or a value took nothing, which is counted. Every error
+/// at which no step stops is refused, with the state that it left; so is want of memory.
+impl<T: Drop, P: Parser<T>> Parser<usize> for ParseCount<P, T> {
+    ghost use Rattle.bpaf_core.specs.Repeat.{CountOutcome, CountReads, ManyDescribes};
+    ghost use Rattle.bpaf_core.specs.RepeatLaws.{count_lawful};
+
+    ghost can_eval = { λ p. P.can_eval p.inner };
+
+    ghost describes = { λ p. ManyDescribes (P.describes p.inner) };
+
+    ghost reads = { λ p. CountReads (P.reads p.inner) };
+
+    ghost outcome = { λ p. CountOutcome (P.outcome p.inner) };
+
+    fn eval(&self, state: &mut State) -> Result<usize, Error> {
+        let most = state.len();
+        let mut left = most;
+        let mut count = 0;
+        while let Some(_) = parse_option(&self.inner, state, false, count == 0)? {
+            count += 1;
+            if state.len() == left {
+                return Ok(count);
+            }
+            left = state.len();
+        }
+        Ok(count)
+    }
+
+    fn meta(&self, alloc: Global) -> Result<Meta, AllocError> {
+        many_meta(&self.inner, alloc)
+    }
+
+    ghost lawful = { λ p. count_lawful (P.lawful p.inner) };
+}
+
+/// The last inner value (bpaf's `ParseLast`, in `structs.rs`).
+#[derive(Drop)]
+pub struct ParseLast<P> {
+    pub inner: P,
+}
+
+/// The last inner value before a step stops, or one that took nothing. Without a value the inner parser
+/// is evaluated once more, and what it answers is the answer. Every error at which no step stops is
+/// refused, with the state that it left; so is want of memory.
+impl<T: Drop, P: Parser<T>> Parser<T> for ParseLast<P> {
+    ghost use Rattle.bpaf_core.specs.Repeat.{LastOutcome, LastReads, SomeDescribes};
+    ghost use Rattle.bpaf_core.specs.RepeatLaws.{last_lawful};
+
+    ghost can_eval = { λ p. P.can_eval p.inner };
+
+    ghost describes = { λ p. SomeDescribes (P.describes p.inner) };
+
+    ghost reads = { λ p. LastReads (P.reads p.inner) };
+
+    ghost outcome = { λ p. LastOutcome (P.outcome p.inner) };
+
+    fn eval(&self, state: &mut State) -> Result<T, Error> {
+        let mut left = state.len();
+        let mut last = None;
+        while let Some(value) = parse_option(&self.inner, state, false, last.is_none())? {
+            if state.len() == left {
+                return Ok(value);
+            }
+            left = state.len();
+            last = Some(value);
+        }
+        match last {
+            Some(value) => Ok(value),
+            None => self.inner.eval(state),
+        }
+    }
+
+    fn meta(&self, alloc: Global) -> Result<Meta, AllocError> {
+        some_meta(&self.inner, alloc)
+    }
+
+    ghost lawful = { λ p. last_lawful (P.lawful p.inner) };
+}

@@ -1,0 +1,151 @@
+ghost use Rattle.std.specs.Prelude.{◌≡◌, ◌++◌, ◌∷◌, [], IfOk, OnOk, true};
+ghost use Rattle.bpaf_doc.specs.Shape.{shape_of};
+ghost use Rattle.bpaf_core.specs.Repeat.{ManyOutcome, ManyDescribes, SomeDescribes};
+
+use crate::optional::parse_option;
+use crate::parser::Parser;
+use bpaf_doc::{Meta, Text};
+use bpaf_line::{Error, Message, State};
+use std::alloc::{AllocError, Global};
+
+/// Puts a value behind the others; refused only for want of memory, which drops it.
+fn push_value<T: Drop>(values: &mut Vec<T>, value: T) -> Result<(), AllocError>
+    ensures { OnOk result (values.new.items ≡ values.old.items ++ value ∷ []) }
+{
+    values.push(value)?;
+    Ok(())
+}
+
+/// The values of steps, until one stops; an error of a step is the answer.
+pub(crate) fn values_until_stop<T: Drop, P: Parser<T>>(
+    parser: &P,
+    state: &mut State,
+    catches: bool,
+) -> Result<Vec<T>, Error>
+    requires { P.can_eval parser.now }
+    ensures { ManyOutcome (P.outcome parser.now) catches state.old result state.new }
+{
+    let mut values = Vec::new(state.alloc());
+    while let Some(value) = parse_option(parser, state, catches, values.is_empty())? {
+        push_value(&mut values, value)?;
+    }
+    Ok(values)
+}
+
+/// What a parser shows, as what may stand any number of times; refused only for want of memory.
+pub(crate) fn many_meta<T, P: Parser<T>>(parser: &P, alloc: Global) -> Result<Meta, AllocError>
+    requires { P.can_eval parser.now }
+    ensures { IfOk result (λ meta. ManyDescribes (P.describes parser.now) (shape_of meta)) }
+{
+    let optional = Meta::Optional(Box::new(alloc, parser.meta(alloc)?)?);
+    Ok(Meta::Many(Box::new(alloc, optional)?))
+}
+
+/// What a parser shows, as what has to stand once or more; refused only for want of memory.
+pub(crate) fn some_meta<T, P: Parser<T>>(parser: &P, alloc: Global) -> Result<Meta, AllocError>
+    requires { P.can_eval parser.now }
+    ensures { IfOk result (λ meta. SomeDescribes (P.describes parser.now) (shape_of meta)) }
+{
+    let required = Meta::Required(Box::new(alloc, parser.meta(alloc)?)?);
+    Ok(Meta::Many(Box::new(alloc, required)?))
+}
+
+/// All inner values (bpaf's `ParseMany`, in `structs.rs`).
+#[derive(Drop)]
+pub struct ParseMany<P> {
+    pub inner: P,
+    pub catch: bool,
+}
+
+impl<P> ParseMany<P> {
+    /// The same, where each error but those of wrong input and want of memory ends the list (bpaf's
+    /// `ParseMany::catch`).
+    pub fn catch(self) -> ParseMany<P>
+        ensures inner { result.inner ≡ self.inner }
+        ensures catch { result.catch ≡ true }
+    {
+        ParseMany {
+            inner: self.inner,
+            catch: true,
+        }
+    }
+}
+
+/// The inner values in order, until a step stops: where the inner parser answers Missing and took
+/// nothing, or another error that can be caught, or a value after the first that took nothing. Every
+/// other error is refused, with the state that it left; so is want of memory.
+impl<T: Drop, P: Parser<T>> Parser<Vec<T>> for ParseMany<P> {
+    ghost use Rattle.bpaf_core.specs.Repeat.{ManyOutcome, ManyReads, ManyDescribes};
+    ghost use Rattle.bpaf_core.specs.RepeatLaws.{many_lawful};
+
+    ghost can_eval = { λ p. P.can_eval p.inner };
+
+    ghost describes = { λ p. ManyDescribes (P.describes p.inner) };
+
+    ghost reads = { λ p. ManyReads (P.reads p.inner) };
+
+    ghost outcome = { λ p. ManyOutcome (P.outcome p.inner) p.catch };
+
+    fn eval(&self, state: &mut State) -> Result<Vec<T>, Error> {
+        values_until_stop(&self.inner, state, self.catch)
+    }
+
+    fn meta(&self, alloc: Global) -> Result<Meta, AllocError> {
+        many_meta(&self.inner, alloc)
+    }
+
+    ghost lawful = { λ p. many_lawful (P.lawful p.inner) p.catch };
+}
+
+/// All inner values, of which there has to be one (bpaf's `ParseSome`, in `structs.rs`).
+#[derive(Drop)]
+pub struct ParseSome<'m, P> {
+    pub inner: P,
+    pub message: &'m str,
+    pub catch: bool,
+}
+
+impl<'m, P> ParseSome<'m, P> {
+    /// The same, where each error but those of wrong input and want of memory ends the list (bpaf's
+    /// `ParseSome::catch`).
+    pub fn catch(self) -> ParseSome<'m, P>
+        ensures inner { result.inner ≡ self.entry.inner }
+        ensures message { result.message ≡ self.entry.message }
+        ensures catch { result.catch ≡ true }
+    {
+        ParseSome {
+            inner: self.inner,
+            message: self.message,
+            catch: true,
+        }
+    }
+}
+
+/// As `many`; without a value it refuses with ParseSome and the message.
+impl<'m, T: Drop, P: Parser<T>> Parser<Vec<T>> for ParseSome<'m, P> {
+    ghost use Rattle.bpaf_core.specs.Repeat.{SomeOutcome, SomeReads, SomeDescribes};
+    ghost use Rattle.bpaf_core.specs.RepeatLaws.{some_lawful};
+
+    ghost can_eval = { λ p. P.can_eval p.inner };
+
+    ghost describes = { λ p. SomeDescribes (P.describes p.inner) };
+
+    ghost reads = { λ p. SomeReads (P.reads p.inner) };
+
+    ghost outcome = { λ p. SomeOutcome (P.outcome p.inner) p.catch p.message.now };
+
+    fn eval(&self, state: &mut State) -> Result<Vec<T>, Error> {
+        let values = values_until_stop(&self.inner, state, self.catch)?;
+        if values.is_empty() {
+            let message = Text::new(state.alloc(), self.message)?;
+            return Err(Error(Message::ParseSome(message)));
+        }
+        Ok(values)
+    }
+
+    fn meta(&self, alloc: Global) -> Result<Meta, AllocError> {
+        some_meta(&self.inner, alloc)
+    }
+
+    ghost lawful = { λ p. some_lawful (P.lawful p.inner) p.catch p.message.now };
+}
