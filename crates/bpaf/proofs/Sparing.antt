@@ -6,7 +6,7 @@ use Rattle.bpaf_line.specs.declared.error.Error.{Error}
 use Rattle.bpaf_core.specs.Reading.{Outcome}
 use Rattle.bpaf_core.specs.Spared.{IsSpared, WithoutMemory, CatchesNoMemory}
 use Rattle.bpaf_core.proofs.Sparing.{not_both}
-use Rattle.bpaf.specs.Product.{BothOutcome, BothRan, ProductOutcome, joined}
+use Rattle.bpaf.specs.Product.{BothRan, ProductOutcome, joined}
 use Rattle.bpaf.specs.Spared.{FieldsCatchNoMemory}
 
 -- where the joined answer isn't want of memory, that of the later fields isn't

@@ -10,13 +10,15 @@ use std::marker::PhantomData;
 
 /// What a list of values fills, front to back. bpaf has `FromIterator` in its place.
 ///
-/// A type of your own says by `fills` what it holds then:
+/// A type of your own says by `fills` what it holds then, and says it again of its `from_list`:
 ///
 /// ```text
 /// impl FromList<u64> for Sum {
 ///     ghost fills = { λ items sum. sum.0 ≡ sum_of items };
 ///
-///     fn from_list(items: Vec<u64>) -> Result<Sum, AllocError> { .. }
+///     fn from_list(items: Vec<u64>) -> Result<Sum, AllocError>
+///         ensures { IfOk result (λ sum. sum.0 ≡ sum_of items.items) }
+///     { .. }
 /// }
 /// ```
 pub trait FromList<T>: Sized {
