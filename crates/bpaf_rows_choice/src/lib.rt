@@ -8,3 +8,5 @@
 mod choices;
 #[cfg(test)]
 mod forms;
+#[cfg(test)]
+mod repeats;
