@@ -1,8 +1,10 @@
 //! Rows on `optional`, both fallbacks, and the leaves that look at no item.
+use crate::answers::{reads, same};
 use crate::forms::value;
 use bpaf::params::ParseArgument;
 use bpaf::{Meta, Parser, construct, fail, positional, pure, pure_with, short};
 use std::alloc::{AllocError, Global};
+use std::process::Abort;
 use std::test::Fail;
 
 fn num(alloc: Global) -> Result<ParseArgument<u64>, AllocError> {
@@ -39,74 +41,95 @@ fn or_none(alloc: Global, words: &[&str]) -> Result<Option<String>, AllocError> 
 
 #[test]
 fn missing_number_is_none(rt: HostRuntime) -> Result<(), Fail> {
-    assert_eq!(rt; optional(rt.alloc(), &[])?, Some(None));
-    assert_eq!(rt; optional(rt.alloc(), &["-n", "3"])?, Some(Some(3)));
-    assert_eq!(rt; optional(rt.alloc(), &["-n"])?, None);
-    assert_eq!(rt; optional(rt.alloc(), &["-n", "x"])?, None);
-    Ok(())
+    same(&rt, optional(rt.alloc(), &[]), Some(None))?;
+    same(&rt, optional(rt.alloc(), &["-n", "3"]), Some(Some(3)))?;
+    same(&rt, optional(rt.alloc(), &["-n"]), None)?;
+    same(&rt, optional(rt.alloc(), &["-n", "x"]), None)
+}
+
+/// Compares a number and a file with the wanted ones.
+fn leaves(
+    rt: &(impl Abort + AllocGlobal),
+    words: &[&str],
+    num: Option<u64>,
+    file: &str,
+) -> Result<(), Fail> {
+    let file = String::from_str(rt.alloc(), file)?;
+    same(rt, beside_a_file(rt.alloc(), words), Some((num, file)))
 }
 
 #[test]
 fn missing_number_leaves_the_word(rt: HostRuntime) -> Result<(), Fail> {
-    let file = String::from_str(rt.alloc(), "x")?;
-    assert_eq!(rt; beside_a_file(rt.alloc(), &["x"])?, Some((None, file)));
-    let file = String::from_str(rt.alloc(), "x")?;
-    assert_eq!(rt;
-        beside_a_file(rt.alloc(), &["x", "-n", "3"])?,
-        Some((Some(3), file))
-    );
-    Ok(())
+    leaves(&rt, &["x"], None, "x")?;
+    leaves(&rt, &["x", "-n", "3"], Some(3), "x")
 }
 
 #[test]
 fn fallback_for_a_missing_number(rt: HostRuntime) -> Result<(), Fail> {
-    assert_eq!(rt; or_seven(rt.alloc(), &[])?, Some(7));
-    assert_eq!(rt; or_seven(rt.alloc(), &["-n", "x"])?, None);
-    assert_eq!(rt; or_seven(rt.alloc(), &["-n"])?, None);
-    assert_eq!(rt; or_seven(rt.alloc(), &["-n", "3"])?, Some(3));
-    Ok(())
+    same(&rt, or_seven(rt.alloc(), &[]), Some(7))?;
+    same(&rt, or_seven(rt.alloc(), &["-n", "x"]), None)?;
+    same(&rt, or_seven(rt.alloc(), &["-n"]), None)?;
+    same(&rt, or_seven(rt.alloc(), &["-n", "3"]), Some(3))
 }
 
 #[test]
 fn fallback_may_be_a_string(rt: HostRuntime) -> Result<(), Fail> {
-    let none = String::from_str(rt.alloc(), "none")?;
-    assert_eq!(rt; or_none(rt.alloc(), &[])?, Some(none));
-    let x = String::from_str(rt.alloc(), "x")?;
-    assert_eq!(rt; or_none(rt.alloc(), &["x"])?, Some(x));
-    Ok(())
+    reads(&rt, or_none(rt.alloc(), &[]), "none")?;
+    reads(&rt, or_none(rt.alloc(), &["x"]), "x")
 }
 
-/// A number, or what a closure answers: 5, or the fault `no`.
-fn or_asked(alloc: Global, words: &[&str]) -> Result<(Option<u64>, Option<u64>), AllocError> {
-    let five = num(alloc)?.fallback_with(|| Ok::<u64, &str>(5));
-    let none = num(alloc)?.fallback_with(|| Err::<u64, &str>("no"));
-    Ok((value(alloc, five, words)?, value(alloc, none, words)?))
+/// A number, or what a closure answers: 5.
+fn or_five(alloc: Global, words: &[&str]) -> Result<Option<u64>, AllocError> {
+    value(
+        alloc,
+        num(alloc)?.fallback_with(|| Ok::<u64, &str>(5)),
+        words,
+    )
+}
+
+/// A number, or what a closure answers: the fault `no`.
+fn or_fault(alloc: Global, words: &[&str]) -> Result<Option<u64>, AllocError> {
+    value(
+        alloc,
+        num(alloc)?.fallback_with(|| Err::<u64, &str>("no")),
+        words,
+    )
 }
 
 #[test]
 fn closure_for_a_missing_number(rt: HostRuntime) -> Result<(), Fail> {
-    assert_eq!(rt; or_asked(rt.alloc(), &[])?, (Some(5), None));
-    assert_eq!(rt; or_asked(rt.alloc(), &["-n", "3"])?, (Some(3), Some(3)));
-    assert_eq!(rt; or_asked(rt.alloc(), &["-n", "x"])?, (None, None));
-    Ok(())
+    same(&rt, or_five(rt.alloc(), &[]), Some(5))?;
+    same(&rt, or_five(rt.alloc(), &["-n", "3"]), Some(3))?;
+    same(&rt, or_five(rt.alloc(), &["-n", "x"]), None)
 }
 
-/// A closure that fails with `no`: alone, under a fallback, and optional.
-fn failing(alloc: Global) -> Result<(Option<u64>, Option<u64>, Option<Option<u64>>), AllocError> {
-    let alone = pure_with(|| Err::<u64, &str>("no"));
-    let fallback = pure_with(|| Err::<u64, &str>("no")).fallback(4);
-    let optional = pure_with(|| Err::<u64, &str>("no")).optional();
-    Ok((
-        value(alloc, alone, &[])?,
-        value(alloc, fallback, &[])?,
-        value(alloc, optional, &[])?,
-    ))
+#[test]
+fn fault_for_a_missing_number(rt: HostRuntime) -> Result<(), Fail> {
+    same(&rt, or_fault(rt.alloc(), &[]), None)?;
+    same(&rt, or_fault(rt.alloc(), &["-n", "3"]), Some(3))?;
+    same(&rt, or_fault(rt.alloc(), &["-n", "x"]), None)
+}
+
+/// A closure that fails with `no`.
+fn failing(alloc: Global) -> Result<Option<u64>, AllocError> {
+    value(alloc, pure_with(|| Err::<u64, &str>("no")), &[])
+}
+
+/// The same, or 4.
+fn failing_or_four(alloc: Global) -> Result<Option<u64>, AllocError> {
+    value(alloc, pure_with(|| Err::<u64, &str>("no")).fallback(4), &[])
+}
+
+/// The same, where it may be left out.
+fn failing_or_left_out(alloc: Global) -> Result<Option<Option<u64>>, AllocError> {
+    value(alloc, pure_with(|| Err::<u64, &str>("no")).optional(), &[])
 }
 
 #[test]
 fn fault_of_pure_with_is_caught(rt: HostRuntime) -> Result<(), Fail> {
-    assert_eq!(rt; failing(rt.alloc())?, (None, Some(4), Some(None)));
-    Ok(())
+    same(&rt, failing(rt.alloc()), None)?;
+    same(&rt, failing_or_four(rt.alloc()), Some(4))?;
+    same(&rt, failing_or_left_out(rt.alloc()), Some(None))
 }
 
 /// A closure that answers 6.
@@ -114,22 +137,38 @@ fn asked(alloc: Global, words: &[&str]) -> Result<Option<u64>, AllocError> {
     value(alloc, pure_with(|| Ok::<u64, &str>(6)), words)
 }
 
-/// What always fails: alone, under a fallback, and optional.
-fn never(alloc: Global) -> Result<(Option<u64>, Option<u64>, Option<Option<u64>>), AllocError> {
-    Ok((
-        value(alloc, fail::<u64>("never"), &[])?,
-        value(alloc, fail::<u64>("never").fallback(4), &[])?,
-        value(alloc, fail::<u64>("never").optional(), &[])?,
-    ))
+/// A constant.
+fn eight(alloc: Global, words: &[&str]) -> Result<Option<u64>, AllocError> {
+    value(alloc, pure(8u64), words)
+}
+
+/// What always fails.
+fn never(alloc: Global) -> Result<Option<u64>, AllocError> {
+    value(alloc, fail::<u64>("never"), &[])
+}
+
+/// The same, or 4.
+fn never_or_four(alloc: Global) -> Result<Option<u64>, AllocError> {
+    value(alloc, fail::<u64>("never").fallback(4), &[])
+}
+
+/// The same, where it may be left out.
+fn never_or_left_out(alloc: Global) -> Result<Option<Option<u64>>, AllocError> {
+    value(alloc, fail::<u64>("never").optional(), &[])
 }
 
 #[test]
 fn values_without_items(rt: HostRuntime) -> Result<(), Fail> {
-    assert_eq!(rt; value(rt.alloc(), pure(8u64), &[])?, Some(8));
-    assert_eq!(rt; value(rt.alloc(), pure(8u64), &["x"])?, None);
-    assert_eq!(rt; asked(rt.alloc(), &[])?, Some(6));
-    assert_eq!(rt; never(rt.alloc())?, (None, Some(4), Some(None)));
-    Ok(())
+    same(&rt, eight(rt.alloc(), &[]), Some(8))?;
+    same(&rt, eight(rt.alloc(), &["x"]), None)?;
+    same(&rt, asked(rt.alloc(), &[]), Some(6))
+}
+
+#[test]
+fn fail_is_caught(rt: HostRuntime) -> Result<(), Fail> {
+    same(&rt, never(rt.alloc()), None)?;
+    same(&rt, never_or_four(rt.alloc()), Some(4))?;
+    same(&rt, never_or_left_out(rt.alloc()), Some(None))
 }
 
 /// Whether a parser shows an item that may be left out.
@@ -144,22 +183,51 @@ fn is_item(meta: &Meta) -> bool {
     matches!(meta, Meta::Item(_))
 }
 
+fn shows_optional_number(alloc: Global) -> Result<bool, AllocError> {
+    let meta = num(alloc)?.optional().meta(alloc)?;
+    Ok(shows_optional(&meta))
+}
+
+fn shows_fallback(alloc: Global) -> Result<bool, AllocError> {
+    let meta = num(alloc)?.fallback(7).meta(alloc)?;
+    Ok(shows_optional(&meta))
+}
+
+fn shows_fallback_with(alloc: Global) -> Result<bool, AllocError> {
+    let asked = num(alloc)?.fallback_with(|| Ok::<u64, &str>(5));
+    let meta = asked.meta(alloc)?;
+    Ok(shows_optional(&meta))
+}
+
 #[test]
 fn defaults_show_what_may_be_left_out(rt: HostRuntime) -> Result<(), Fail> {
-    let a = rt.alloc();
-    assert!(rt; shows_optional(&num(a)?.optional().meta(a)?));
-    assert!(rt; shows_optional(&num(a)?.fallback(7).meta(a)?));
-    let asked = num(a)?.fallback_with(|| Ok::<u64, &str>(5));
-    assert!(rt; shows_optional(&asked.meta(a)?));
-    Ok(())
+    same(&rt, shows_optional_number(rt.alloc()), true)?;
+    same(&rt, shows_fallback(rt.alloc()), true)?;
+    same(&rt, shows_fallback_with(rt.alloc()), true)
+}
+
+fn is_skip(meta: &Meta) -> bool {
+    matches!(meta, Meta::Skip)
+}
+
+fn pure_shows_nothing(alloc: Global) -> Result<bool, AllocError> {
+    let meta = pure(8u64).meta(alloc)?;
+    Ok(is_skip(&meta))
+}
+
+fn pure_with_shows_nothing(alloc: Global) -> Result<bool, AllocError> {
+    let meta = pure_with(|| Ok::<u64, &str>(6)).meta(alloc)?;
+    Ok(is_skip(&meta))
+}
+
+fn fail_shows_nothing(alloc: Global) -> Result<bool, AllocError> {
+    let meta = fail::<u64>("never").meta(alloc)?;
+    Ok(is_skip(&meta))
 }
 
 #[test]
 fn values_without_items_show_nothing(rt: HostRuntime) -> Result<(), Fail> {
-    let a = rt.alloc();
-    assert!(rt; matches!(pure(8u64).meta(a)?, Meta::Skip));
-    let asked = pure_with(|| Ok::<u64, &str>(6));
-    assert!(rt; matches!(asked.meta(a)?, Meta::Skip));
-    assert!(rt; matches!(fail::<u64>("never").meta(a)?, Meta::Skip));
-    Ok(())
+    same(&rt, pure_shows_nothing(rt.alloc()), true)?;
+    same(&rt, pure_with_shows_nothing(rt.alloc()), true)?;
+    same(&rt, fail_shows_nothing(rt.alloc()), true)
 }

@@ -1,4 +1,5 @@
 //! Rows on names in the environment.
+use crate::answers::same;
 use bpaf::{Args, Item, Meta, Parser, Text, env, short};
 use std::alloc::{AllocError, Global};
 use std::collections::BTreeMap;
@@ -49,26 +50,23 @@ fn number(
 #[test]
 fn set_variable_makes_a_flag_present(rt: HostRuntime) -> Result<(), Fail> {
     let a = rt.alloc();
-    assert_eq!(rt; colored(a, "", &[])?, Some(true));
-    assert_eq!(rt; colored(a, "", &["-v"])?, Some(true));
-    Ok(())
+    same(&rt, colored(a, "", &[]), Some(true))?;
+    same(&rt, colored(a, "", &["-v"]), Some(true))
 }
 
 #[test]
 fn key_before_variable(rt: HostRuntime) -> Result<(), Fail> {
     let a = rt.alloc();
-    assert_eq!(rt; number(a, "NUM", "5", &[])?, Some(5));
-    assert_eq!(rt; number(a, "NUM", "5", &["-n", "3"])?, Some(3));
-    assert_eq!(rt; number(a, "COUNT", "7", &[])?, Some(7));
-    Ok(())
+    same(&rt, number(a, "NUM", "5", &[]), Some(5))?;
+    same(&rt, number(a, "NUM", "5", &["-n", "3"]), Some(3))?;
+    same(&rt, number(a, "COUNT", "7", &[]), Some(7))
 }
 
 #[test]
 fn unreadable_variable_refused(rt: HostRuntime) -> Result<(), Fail> {
     let a = rt.alloc();
-    assert_eq!(rt; number(a, "NUM", "z", &[])?, None);
-    assert_eq!(rt; number(a, "OTHER", "5", &[])?, None);
-    Ok(())
+    same(&rt, number(a, "NUM", "z", &[]), None)?;
+    same(&rt, number(a, "OTHER", "5", &[]), None)
 }
 
 /// The number `K` of the environment alone.
@@ -86,9 +84,8 @@ fn variable_alone(alloc: Global, name: &str) -> Result<Option<u64>, AllocError> 
 #[test]
 fn variable_alone_gives_the_value(rt: HostRuntime) -> Result<(), Fail> {
     let a = rt.alloc();
-    assert_eq!(rt; variable_alone(a, "K")?, Some(4));
-    assert_eq!(rt; variable_alone(a, "L")?, None);
-    Ok(())
+    same(&rt, variable_alone(a, "K"), Some(4))?;
+    same(&rt, variable_alone(a, "L"), None)
 }
 
 /// Whether an argument is shown with this name in the environment.
@@ -106,13 +103,25 @@ fn is_variable(env: &Option<Text>, name: &str) -> bool {
     }
 }
 
+/// Whether an argument of two names in the environment is shown with the first.
+fn shows_first(alloc: Global) -> Result<bool, AllocError> {
+    let named = short(alloc, 'n')?.env("NUM")?.env("COUNT")?;
+    let shown = named.argument::<u64>("NUM").meta(alloc)?;
+    Ok(shows_variable(&shown, "NUM"))
+}
+
+/// Whether an argument of a name in the environment alone is not shown.
+fn shows_nothing(alloc: Global) -> Result<bool, AllocError> {
+    let shown = env(alloc, "K")?.argument::<u64>("K").meta(alloc)?;
+    Ok(is_skip(&shown))
+}
+
+fn is_skip(meta: &Meta) -> bool {
+    matches!(meta, Meta::Skip)
+}
+
 #[test]
 fn first_variable_is_shown(rt: HostRuntime) -> Result<(), Fail> {
-    let a = rt.alloc();
-    let named = short(a, 'n')?.env("NUM")?.env("COUNT")?;
-    let shown = named.argument::<u64>("NUM").meta(a)?;
-    assert!(rt; shows_variable(&shown, "NUM"));
-    let alone = env(a, "K")?.argument::<u64>("K").meta(a)?;
-    assert!(rt; matches!(&alone, Meta::Skip));
-    Ok(())
+    same(&rt, shows_first(rt.alloc()), true)?;
+    same(&rt, shows_nothing(rt.alloc()), true)
 }

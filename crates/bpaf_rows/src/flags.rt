@@ -1,21 +1,22 @@
 //! Rows on flags and arguments by themselves.
-use bpaf::{Args, Item, Meta, Parser, ShortLong, long, short};
+use crate::answers::{same, told};
+use bpaf::{Args, Item, Meta, ParseFailure, Parser, ShortLong, long, short};
 use std::alloc::{AllocError, Global};
 use std::test::Fail;
 
-/// The value of `short('n').argument::<u64>("NUM")` on words; none where they are refused by a message.
-fn num(alloc: Global, words: &[&str]) -> Result<Option<u64>, Fail> {
+/// The value of `short('n').argument::<u64>("NUM")` on words, or the message that refuses them.
+fn num(alloc: Global, words: &[&str]) -> Result<String, AllocError> {
     let options = short(alloc, 'n')?.argument::<u64>("NUM").to_options(alloc)?;
     match options.run_inner(Args::from(words)) {
-        Ok(value) => Ok(Some(value)),
-        Err(failure) => {
-            let message = failure.unwrap_stderr()?.ok_or("no message")?;
-            if message.as_str() == "refused" {
-                Ok(None)
-            } else {
-                Err(Fail::from("another message"))
-            }
-        }
+        Ok(value) => format!(in alloc; "{value}"),
+        Err(failure) => message(alloc, failure),
+    }
+}
+
+fn message(alloc: Global, failure: ParseFailure) -> Result<String, AllocError> {
+    match failure.unwrap_stderr()? {
+        Some(message) => Ok(message),
+        None => String::from_str(alloc, "no message"),
     }
 }
 
@@ -44,47 +45,46 @@ fn quiet(alloc: Global, words: &[&str]) -> Result<Option<u8>, AllocError> {
 
 #[test]
 fn second_value_refused(rt: HostRuntime) -> Result<(), Fail> {
-    assert_eq!(rt; num(rt.alloc(), &["-n", "3"])?, Some(3));
-    assert_eq!(rt; num(rt.alloc(), &["-n=3"])?, Some(3));
-    assert_eq!(rt; num(rt.alloc(), &["-n", "3", "-n", "4"])?, None);
-    assert_eq!(rt; num(rt.alloc(), &["-n"])?, None);
-    assert_eq!(rt; num(rt.alloc(), &[])?, None);
-    assert_eq!(rt; num(rt.alloc(), &["-n", "x"])?, None);
-    Ok(())
+    told(&rt, num(rt.alloc(), &["-n", "3"]), "3")?;
+    told(&rt, num(rt.alloc(), &["-n=3"]), "3")?;
+    told(&rt, num(rt.alloc(), &["-n", "3", "-n", "4"]), "refused")?;
+    told(&rt, num(rt.alloc(), &["-n"]), "refused")?;
+    told(&rt, num(rt.alloc(), &[]), "refused")?;
+    told(&rt, num(rt.alloc(), &["-n", "x"]), "refused")
 }
 
 #[test]
 fn marker_ends_options(rt: HostRuntime) -> Result<(), Fail> {
-    assert_eq!(rt; num(rt.alloc(), &["-n", "--", "3"])?, None);
-    assert_eq!(rt; num(rt.alloc(), &["-n", "3", "--"])?, Some(3));
-    Ok(())
+    told(&rt, num(rt.alloc(), &["-n", "--", "3"]), "refused")?;
+    told(&rt, num(rt.alloc(), &["-n", "3", "--"]), "3")
 }
 
 #[test]
 fn greatest_number_read(rt: HostRuntime) -> Result<(), Fail> {
-    let greatest = num(rt.alloc(), &["-n", "18446744073709551615"])?;
-    assert_eq!(rt; greatest, Some(u64::MAX));
-    assert_eq!(rt; num(rt.alloc(), &["-n", "18446744073709551616"])?, None);
-    Ok(())
+    let greatest = "18446744073709551615";
+    told(&rt, num(rt.alloc(), &["-n", greatest]), greatest)?;
+    told(
+        &rt,
+        num(rt.alloc(), &["-n", "18446744073709551616"]),
+        "refused",
+    )
 }
 
 #[test]
 fn value_of_switch_refused(rt: HostRuntime) -> Result<(), Fail> {
-    assert_eq!(rt; verbose(rt.alloc(), &["--verbose"])?, (Some(true), true));
-    assert_eq!(rt; verbose(rt.alloc(), &["-v"])?, (Some(true), true));
-    assert_eq!(rt; verbose(rt.alloc(), &[])?, (Some(false), true));
-    assert_eq!(rt; verbose(rt.alloc(), &["--verbose=yes"])?, (None, true));
-    assert_eq!(rt; verbose(rt.alloc(), &["-v", "-v"])?, (None, true));
-    Ok(())
+    same(&rt, verbose(rt.alloc(), &["--verbose"]), (Some(true), true))?;
+    same(&rt, verbose(rt.alloc(), &["-v"]), (Some(true), true))?;
+    same(&rt, verbose(rt.alloc(), &[]), (Some(false), true))?;
+    same(&rt, verbose(rt.alloc(), &["--verbose=yes"]), (None, true))?;
+    same(&rt, verbose(rt.alloc(), &["-v", "-v"]), (None, true))
 }
 
 #[test]
 fn flags_give_their_values(rt: HostRuntime) -> Result<(), Fail> {
-    assert_eq!(rt; accepted(rt.alloc(), &["--accept"])?, Some(7));
-    assert_eq!(rt; accepted(rt.alloc(), &[])?, None);
-    assert_eq!(rt; quiet(rt.alloc(), &["-q"])?, Some(1));
-    assert_eq!(rt; quiet(rt.alloc(), &[])?, Some(2));
-    Ok(())
+    same(&rt, accepted(rt.alloc(), &["--accept"]), Some(7))?;
+    same(&rt, accepted(rt.alloc(), &[]), None)?;
+    same(&rt, quiet(rt.alloc(), &["-q"]), Some(1))?;
+    same(&rt, quiet(rt.alloc(), &[]), Some(2))
 }
 
 /// The names and the metavar of a shown key, in words.
@@ -128,26 +128,32 @@ fn optional(alloc: Global, meta: &Meta) -> Result<String, AllocError> {
     }
 }
 
+fn shown_switch(alloc: Global) -> Result<String, AllocError> {
+    let meta = short(alloc, 'v')?.long("verbose")?.switch().meta(alloc)?;
+    shape(alloc, &meta)
+}
+
+fn shown_required_flag(alloc: Global) -> Result<String, AllocError> {
+    let meta = long(alloc, "accept")?.req_flag(()).meta(alloc)?;
+    shape(alloc, &meta)
+}
+
+fn shown_argument(alloc: Global) -> Result<String, AllocError> {
+    let meta = short(alloc, 'n')?.argument::<u64>("NUM").meta(alloc)?;
+    shape(alloc, &meta)
+}
+
 #[test]
 fn switch_shows_its_item(rt: HostRuntime) -> Result<(), Fail> {
-    let a = rt.alloc();
-    let meta = short(a, 'v')?.long("verbose")?.switch().meta(a)?;
-    assert_eq!(rt; shape(a, &meta)?.as_str(), "[-v --verbose]");
-    Ok(())
+    told(&rt, shown_switch(rt.alloc()), "[-v --verbose]")
 }
 
 #[test]
 fn required_flag_shows_its_item(rt: HostRuntime) -> Result<(), Fail> {
-    let a = rt.alloc();
-    let meta = long(a, "accept")?.req_flag(()).meta(a)?;
-    assert_eq!(rt; shape(a, &meta)?.as_str(), "--accept");
-    Ok(())
+    told(&rt, shown_required_flag(rt.alloc()), "--accept")
 }
 
 #[test]
 fn argument_shows_its_item(rt: HostRuntime) -> Result<(), Fail> {
-    let a = rt.alloc();
-    let meta = short(a, 'n')?.argument::<u64>("NUM").meta(a)?;
-    assert_eq!(rt; shape(a, &meta)?.as_str(), "-n NUM");
-    Ok(())
+    told(&rt, shown_argument(rt.alloc()), "-n NUM")
 }

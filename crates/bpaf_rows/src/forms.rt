@@ -1,6 +1,7 @@
 //! Every form of `construct!`, as a program writes it.
 ghost use Rattle.std.specs.Prelude.{Ok};
 
+use crate::answers::same;
 use bpaf::params::{ParseArgument, ParseFlag};
 use bpaf::{Args, Parser, construct, short};
 use std::alloc::{AllocError, Global};
@@ -166,78 +167,75 @@ fn given<F: FnOnce(Global) -> Result<P, AllocError>, P: Parser<u64> + Drop>(
 
 #[test]
 fn fields_named_in_place_absent(rt: HostRuntime) -> Result<(), Fail> {
-    assert_eq!(rt; in_place(rt.alloc(), &[])?, Some((false, false)));
-    Ok(())
+    same(&rt, in_place(rt.alloc(), &[]), Some((false, false)))
 }
 
 #[test]
 fn fields_named_in_place_present(rt: HostRuntime) -> Result<(), Fail> {
-    assert_eq!(rt; in_place(rt.alloc(), &["-a", "-b"])?, Some((true, true)));
-    Ok(())
+    same(&rt, in_place(rt.alloc(), &["-a", "-b"]), Some((true, true)))
 }
 
 #[test]
 fn tuples_are_made(rt: HostRuntime) -> Result<(), Fail> {
-    assert_eq!(rt; tuple(rt.alloc(), &["-v", "-n", "3"])?, Some((true, 3)));
-    assert_eq!(rt; alone(rt.alloc(), &["-n", "3"])?, Some(3));
-    assert_eq!(rt;
-        nested(rt.alloc(), &["-q", "-n", "3"])?,
-        Some(((false, 3), Level::Quiet))
-    );
-    assert_eq!(rt; answered(rt.alloc(), &["-n", "3"])?, Some((false, 3)));
-    assert_eq!(rt; given(rt.alloc(), num, &["-n", "3"])?, Some((false, 3)));
-    Ok(())
+    same(&rt, tuple(rt.alloc(), &["-v", "-n", "3"]), Some((true, 3)))?;
+    same(&rt, alone(rt.alloc(), &["-n", "3"]), Some(3))?;
+    same(
+        &rt,
+        nested(rt.alloc(), &["-q", "-n", "3"]),
+        Some(((false, 3), Level::Quiet)),
+    )?;
+    same(&rt, answered(rt.alloc(), &["-n", "3"]), Some((false, 3)))?;
+    same(&rt, given(rt.alloc(), num, &["-n", "3"]), Some((false, 3)))
 }
 
 #[test]
 fn values_are_made_by_name(rt: HostRuntime) -> Result<(), Fail> {
-    let found = named_fields(rt.alloc(), &["-n", "3", "-v"])?;
-    assert_eq!(rt;
-        found,
-        Some(Settings {
-            verbose: true,
-            num: 3,
-            level: Level::Normal
-        })
-    );
-    let found = named_variant(rt.alloc(), &["-n", "3"])?;
-    assert_eq!(rt;
-        found,
-        Some(Command::Build {
-            verbose: false,
-            num: 3
-        })
-    );
-    Ok(())
+    let settings = Settings {
+        verbose: true,
+        num: 3,
+        level: Level::Normal,
+    };
+    same(
+        &rt,
+        named_fields(rt.alloc(), &["-n", "3", "-v"]),
+        Some(settings),
+    )?;
+    let build = Command::Build {
+        verbose: false,
+        num: 3,
+    };
+    same(&rt, named_variant(rt.alloc(), &["-n", "3"]), Some(build))
 }
 
 #[test]
 fn values_are_made_by_number(rt: HostRuntime) -> Result<(), Fail> {
-    assert_eq!(rt;
-        numbered_fields(rt.alloc(), &["-v", "-n", "3"])?,
-        Some(Numbered(true, 3))
-    );
-    assert_eq!(rt;
-        numbered_variant(rt.alloc(), &["-v", "-n", "3"])?,
-        Some(Command::Run(true, 3))
-    );
-    assert_eq!(rt; by_path(rt.alloc(), &["-n", "3"])?, Some(Single(3)));
-    Ok(())
+    same(
+        &rt,
+        numbered_fields(rt.alloc(), &["-v", "-n", "3"]),
+        Some(Numbered(true, 3)),
+    )?;
+    same(
+        &rt,
+        numbered_variant(rt.alloc(), &["-v", "-n", "3"]),
+        Some(Command::Run(true, 3)),
+    )?;
+    same(&rt, by_path(rt.alloc(), &["-n", "3"]), Some(Single(3)))
 }
 
 #[test]
 fn values_without_fields_are_made(rt: HostRuntime) -> Result<(), Fail> {
     let a = rt.alloc();
-    assert_eq!(rt; value(a, construct!(Named {}), &[])?, Some(Named {}));
-    assert_eq!(rt; value(a, construct!(Unnamed()), &[])?, Some(Unnamed()));
-    assert_eq!(rt;
-        value(a, construct!(Nothing::Named {}), &[])?,
-        Some(Nothing::Named {})
-    );
-    assert_eq!(rt;
-        value(a, construct!(::Nothing::Unnamed()), &[])?,
-        Some(Nothing::Unnamed())
-    );
-    assert_eq!(rt; value(a, construct!(Unnamed()), &["x"])?, None);
-    Ok(())
+    same(&rt, value(a, construct!(Named {}), &[]), Some(Named {}))?;
+    same(&rt, value(a, construct!(Unnamed()), &[]), Some(Unnamed()))?;
+    same(
+        &rt,
+        value(a, construct!(Nothing::Named {}), &[]),
+        Some(Nothing::Named {}),
+    )?;
+    same(
+        &rt,
+        value(a, construct!(::Nothing::Unnamed()), &[]),
+        Some(Nothing::Unnamed()),
+    )?;
+    same(&rt, value(a, construct!(Unnamed()), &["x"]), None)
 }

@@ -1,4 +1,5 @@
 //! Rows on products.
+use crate::answers::same;
 use bpaf::{Args, Both, Last, Meta, ParseCon, Parser, short};
 use std::alloc::{AllocError, Global};
 use std::test::Fail;
@@ -17,30 +18,40 @@ fn both(alloc: Global, words: &[&str]) -> Result<Option<(bool, u64)>, AllocError
 
 #[test]
 fn fields_are_read_in_any_order(rt: HostRuntime) -> Result<(), Fail> {
-    assert_eq!(rt; both(rt.alloc(), &["-v", "-n", "3"])?, Some((true, 3)));
-    assert_eq!(rt; both(rt.alloc(), &["-n=3", "-v"])?, Some((true, 3)));
-    assert_eq!(rt; both(rt.alloc(), &["-n", "3"])?, Some((false, 3)));
-    assert_eq!(rt; both(rt.alloc(), &["-v"])?, None);
-    assert_eq!(rt; both(rt.alloc(), &["-v", "-n", "3", "x"])?, None);
-    Ok(())
+    same(&rt, both(rt.alloc(), &["-v", "-n", "3"]), Some((true, 3)))?;
+    same(&rt, both(rt.alloc(), &["-n=3", "-v"]), Some((true, 3)))?;
+    same(&rt, both(rt.alloc(), &["-n", "3"]), Some((false, 3)))?;
+    same(&rt, both(rt.alloc(), &["-v"]), None)?;
+    same(&rt, both(rt.alloc(), &["-v", "-n", "3", "x"]), None)
+}
+
+/// Whether a product shows two items, of which the first may be left out.
+fn shows_both(meta: &Meta) -> bool {
+    match meta {
+        Meta::And(all) => are_both(all.as_slice()),
+        _ => false,
+    }
+}
+
+fn are_both(all: &[Meta]) -> bool {
+    all.len() == 2
+        && matches!(all.first(), Some(Meta::Optional(_)))
+        && matches!(all.last(), Some(Meta::Item(_)))
+}
+
+fn product_shows_both(alloc: Global) -> Result<bool, AllocError> {
+    let fields = Both {
+        first: short(alloc, 'v')?.switch(),
+        rest: Last {
+            last: short(alloc, 'n')?.argument::<u64>("NUM"),
+        },
+    };
+    let product = ParseCon::new(fields, |(verbose, num)| (verbose, num));
+    let meta = product.meta(alloc)?;
+    Ok(shows_both(&meta))
 }
 
 #[test]
 fn products_show_all_fields(rt: HostRuntime) -> Result<(), Fail> {
-    let a = rt.alloc();
-    let fields = Both {
-        first: short(a, 'v')?.switch(),
-        rest: Last {
-            last: short(a, 'n')?.argument::<u64>("NUM"),
-        },
-    };
-    match ParseCon::new(fields, |(verbose, num)| (verbose, num)).meta(a)? {
-        Meta::And(all) => {
-            assert_eq!(rt; all.len(), 2);
-            assert!(rt; matches!(all.first(), Some(Meta::Optional(_))));
-            assert!(rt; matches!(all.last(), Some(Meta::Item(_))));
-        }
-        _ => return Err(Fail::from("no product")),
-    }
-    Ok(())
+    same(&rt, product_shows_both(rt.alloc()), true)
 }

@@ -1,6 +1,8 @@
 //! Rows on `map`, `parse` and `guard`.
+use crate::answers::same;
 use bpaf::{Args, Meta, Parser, construct, positional, short};
 use std::alloc::{AllocError, Global};
+use std::process::Abort;
 use std::test::Fail;
 
 /// Twice the number behind `-n`.
@@ -43,51 +45,69 @@ fn guarded_pair(alloc: Global, words: &[&str]) -> Result<Option<(u64, String)>, 
 
 #[test]
 fn mapped_value_is_the_closures(rt: HostRuntime) -> Result<(), Fail> {
-    assert_eq!(rt; twice(rt.alloc(), &["-n", "3"])?, Some(6));
-    assert_eq!(rt; twice(rt.alloc(), &["-n", "x"])?, None);
-    assert_eq!(rt; twice(rt.alloc(), &[])?, None);
-    Ok(())
+    same(&rt, twice(rt.alloc(), &["-n", "3"]), Some(6))?;
+    same(&rt, twice(rt.alloc(), &["-n", "x"]), None)?;
+    same(&rt, twice(rt.alloc(), &[]), None)
 }
 
 #[test]
 fn fault_of_parse_refused(rt: HostRuntime) -> Result<(), Fail> {
-    assert_eq!(rt; parsed(rt.alloc(), &["-n", "12"])?, None);
-    assert_eq!(rt; parsed(rt.alloc(), &["-n", "3"])?, Some(3));
-    Ok(())
+    same(&rt, parsed(rt.alloc(), &["-n", "12"]), None)?;
+    same(&rt, parsed(rt.alloc(), &["-n", "3"]), Some(3))
 }
 
 #[test]
 fn guarded_value_refused(rt: HostRuntime) -> Result<(), Fail> {
-    assert_eq!(rt; guarded(rt.alloc(), &["-n", "12"])?, None);
-    assert_eq!(rt; guarded(rt.alloc(), &["-n", "3"])?, Some(3));
-    Ok(())
+    same(&rt, guarded(rt.alloc(), &["-n", "12"]), None)?;
+    same(&rt, guarded(rt.alloc(), &["-n", "3"]), Some(3))
+}
+
+/// Compares a number and a file with the wanted ones.
+fn gives_pair(
+    rt: &(impl Abort + AllocGlobal),
+    words: &[&str],
+    num: u64,
+    file: &str,
+) -> Result<(), Fail> {
+    let file = String::from_str(rt.alloc(), file)?;
+    same(rt, guarded_pair(rt.alloc(), words), Some((num, file)))
 }
 
 #[test]
 fn guard_on_a_product(rt: HostRuntime) -> Result<(), Fail> {
-    let file = String::from_str(rt.alloc(), "x")?;
-    let words = ["-n", "3", "x"];
-    assert_eq!(rt; guarded_pair(rt.alloc(), &words)?, Some((3, file)));
-    assert_eq!(rt; guarded_pair(rt.alloc(), &["-n", "12", "x"])?, None);
-    Ok(())
+    gives_pair(&rt, &["-n", "3", "x"], 3, "x")?;
+    same(&rt, guarded_pair(rt.alloc(), &["-n", "12", "x"]), None)
 }
 
 fn is_item(meta: &Meta) -> bool {
     matches!(meta, Meta::Item(_))
 }
 
-#[test]
-fn transforms_show_the_inner_item(rt: HostRuntime) -> Result<(), Fail> {
-    let a = rt.alloc();
-    let mapped = short(a, 'n')?.argument::<u64>("NUM").map(|n| n > 3);
-    assert!(rt; is_item(&mapped.meta(a)?));
-    let parsed = short(a, 'n')?
+fn map_shows_item(alloc: Global) -> Result<bool, AllocError> {
+    let mapped = short(alloc, 'n')?.argument::<u64>("NUM").map(|n| n > 3);
+    let meta = mapped.meta(alloc)?;
+    Ok(is_item(&meta))
+}
+
+fn parse_shows_item(alloc: Global) -> Result<bool, AllocError> {
+    let parsed = short(alloc, 'n')?
         .argument::<u64>("NUM")
         .parse(|n| if n < 10 { Ok(n) } else { Err("too big") });
-    assert!(rt; is_item(&parsed.meta(a)?));
-    let guarded = short(a, 'n')?
+    let meta = parsed.meta(alloc)?;
+    Ok(is_item(&meta))
+}
+
+fn guard_shows_item(alloc: Global) -> Result<bool, AllocError> {
+    let guarded = short(alloc, 'n')?
         .argument::<u64>("NUM")
         .guard(|n| *n < 10, "below 10");
-    assert!(rt; is_item(&guarded.meta(a)?));
-    Ok(())
+    let meta = guarded.meta(alloc)?;
+    Ok(is_item(&meta))
+}
+
+#[test]
+fn transforms_show_the_inner_item(rt: HostRuntime) -> Result<(), Fail> {
+    same(&rt, map_shows_item(rt.alloc()), true)?;
+    same(&rt, parse_shows_item(rt.alloc()), true)?;
+    same(&rt, guard_shows_item(rt.alloc()), true)
 }

@@ -1,4 +1,6 @@
 //! Rows on positional words and on joined words.
+use crate::answers::{reads, refused, same};
+use bpaf::params::ParsePositional;
 use bpaf::{Args, Doc, Item, Meta, Parser, construct, positional, short};
 use std::alloc::{AllocError, Global};
 use std::test::Fail;
@@ -82,79 +84,83 @@ fn two_words(alloc: Global, words: &[&str]) -> Result<Option<String>, AllocError
     }
 }
 
-fn is(answer: Option<String>, wanted: &str) -> bool {
-    match answer {
-        Some(text) => text.as_str() == wanted,
-        None => false,
-    }
-}
-
 #[test]
 fn joined_words_in_a_product(rt: HostRuntime) -> Result<(), Fail> {
     let a = rt.alloc();
-    assert!(rt; is(three(a, &["-vn3", "x"])?, "true 3 x"));
-    assert!(rt; is(three(a, &["x", "-n", "3", "-v"])?, "true 3 x"));
-    Ok(())
+    reads(&rt, three(a, &["-vn3", "x"]), "true 3 x")?;
+    reads(&rt, three(a, &["x", "-n", "3", "-v"]), "true 3 x")
 }
 
 #[test]
 fn unknown_joined_word_is_positional(rt: HostRuntime) -> Result<(), Fail> {
     let a = rt.alloc();
-    assert!(rt; is(switch_and_word(a, &["-vx"])?, "false -vx"));
-    Ok(())
+    reads(&rt, switch_and_word(a, &["-vx"]), "false -vx")
 }
 
 #[test]
 fn second_number_refused_beside_word(rt: HostRuntime) -> Result<(), Fail> {
     let a = rt.alloc();
-    assert!(rt; number_and_word_refuses(a, &["-n", "3", "-n", "4"])?);
-    assert!(rt; !number_and_word_refuses(a, &["-n", "3", "4"])?);
-    Ok(())
+    same(
+        &rt,
+        number_and_word_refuses(a, &["-n", "3", "-n", "4"]),
+        true,
+    )?;
+    same(&rt, number_and_word_refuses(a, &["-n", "3", "4"]), false)
 }
 
 #[test]
 fn ambiguous_words_are_refused(rt: HostRuntime) -> Result<(), Fail> {
     let a = rt.alloc();
-    assert!(rt; ambiguous(a, &["-abc"])?);
-    assert!(rt; ambiguous(a, &["-a", "x", "-ba"])?);
-    Ok(())
+    same(&rt, ambiguous(a, &["-abc"]), true)?;
+    same(&rt, ambiguous(a, &["-a", "x", "-ba"]), true)
 }
 
 #[test]
 fn values_behind_equals(rt: HostRuntime) -> Result<(), Fail> {
     let a = rt.alloc();
-    assert!(rt; is(text(a, 'ñ', &["-ñ=x"])?, "x"));
-    assert!(rt; is(text(a, 'O', &["-Obits=2048"])?, "bits=2048"));
-    assert!(rt; is(text(a, 'O', &["-Obits"])?, "bits"));
-    Ok(())
+    reads(&rt, text(a, 'ñ', &["-ñ=x"]), "x")?;
+    reads(&rt, text(a, 'O', &["-Obits=2048"]), "bits=2048")?;
+    reads(&rt, text(a, 'O', &["-Obits"]), "bits")
 }
 
 #[test]
 fn strict_word_behind_marker(rt: HostRuntime) -> Result<(), Fail> {
     let a = rt.alloc();
-    assert!(rt; strict(a, &["a"])?.is_none());
-    assert!(rt; is(strict(a, &["--", "a"])?, "a"));
-    assert!(rt; non_strict(a, &["--", "a"])?.is_none());
-    assert!(rt; is(non_strict(a, &["a"])?, "a"));
-    Ok(())
+    refused(&rt, strict(a, &["a"]))?;
+    reads(&rt, strict(a, &["--", "a"]), "a")?;
+    refused(&rt, non_strict(a, &["--", "a"]))?;
+    reads(&rt, non_strict(a, &["a"]), "a")
 }
 
 #[test]
 fn words_on_both_sides_of_marker(rt: HostRuntime) -> Result<(), Fail> {
     let a = rt.alloc();
-    assert!(rt; is(two_words(a, &["x", "--", "-y"])?, "x -y"));
-    assert!(rt; two_words(a, &["x"])?.is_none());
-    Ok(())
+    reads(&rt, two_words(a, &["x", "--", "-y"]), "x -y")?;
+    refused(&rt, two_words(a, &["x"]))
+}
+
+fn shows_word(alloc: Global) -> Result<bool, AllocError> {
+    let meta = positional::<String>("FILE").meta(alloc)?;
+    Ok(is_word(&meta))
+}
+
+fn is_word(meta: &Meta) -> bool {
+    matches!(meta, Meta::Item(Item::Positional { .. }))
+}
+
+fn shows_strict(alloc: Global) -> Result<bool, AllocError> {
+    let meta = positional::<String>("FILE").strict().meta(alloc)?;
+    Ok(is_strict(&meta))
+}
+
+fn is_strict(meta: &Meta) -> bool {
+    matches!(meta, Meta::Strict(_))
 }
 
 #[test]
 fn positionals_show_their_items(rt: HostRuntime) -> Result<(), Fail> {
-    let a = rt.alloc();
-    let plain = positional::<String>("FILE").meta(a)?;
-    assert!(rt; matches!(&plain, Meta::Item(Item::Positional { .. })));
-    let strict = positional::<String>("FILE").strict().meta(a)?;
-    assert!(rt; matches!(&strict, Meta::Strict(_)));
-    Ok(())
+    same(&rt, shows_word(rt.alloc()), true)?;
+    same(&rt, shows_strict(rt.alloc()), true)
 }
 
 /// The help of a shown positional word, where it has one.
@@ -168,13 +174,30 @@ fn help_of(meta: &Meta) -> Result<Option<String>, AllocError> {
     }
 }
 
+/// A word with a help.
+fn helped(alloc: Global) -> Result<ParsePositional<String>, AllocError> {
+    let help = Doc::from_text(alloc, "File to process")?;
+    Ok(positional::<String>("FILE").help(help))
+}
+
+fn shown_help(alloc: Global) -> Result<Option<String>, AllocError> {
+    let meta = helped(alloc)?.meta(alloc)?;
+    help_of(&meta)
+}
+
+fn copied_help(alloc: Global) -> Result<Option<String>, AllocError> {
+    let meta = helped(alloc)?.copy()?.meta(alloc)?;
+    help_of(&meta)
+}
+
+fn no_help(alloc: Global) -> Result<Option<String>, AllocError> {
+    let meta = positional::<String>("FILE").meta(alloc)?;
+    help_of(&meta)
+}
+
 #[test]
 fn positionals_show_their_help(rt: HostRuntime) -> Result<(), Fail> {
-    let a = rt.alloc();
-    let help = Doc::from_text(a, "File to process")?;
-    let word = positional::<String>("FILE").help(help);
-    assert!(rt; is(help_of(&word.meta(a)?)?, "File to process"));
-    assert!(rt; is(help_of(&word.copy()?.meta(a)?)?, "File to process"));
-    assert!(rt; help_of(&positional::<String>("FILE").meta(a)?)?.is_none());
-    Ok(())
+    reads(&rt, shown_help(rt.alloc()), "File to process")?;
+    reads(&rt, copied_help(rt.alloc()), "File to process")?;
+    refused(&rt, no_help(rt.alloc()))
 }
