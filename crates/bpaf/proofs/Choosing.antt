@@ -9,7 +9,7 @@ use Rattle.bpaf_core.specs.Reading.{Outcome}
 use Rattle.bpaf_core.specs.Spared.{IsSpared, WithoutMemory}
 use Rattle.bpaf_core.specs.Choice.{is_want, Chosen, BranchesRan, ChoiceOutcome, ChoiceDescribes, either}
 use Rattle.bpaf_core.proofs.Choosing.{ran_outcome, choice_spared}
-use Rattle.bpaf.specs.Choice.{ChoiceFrom, DescribesFrom, ChoicesCatchNoMemory}
+use Rattle.bpaf.specs.Choice.{ChoiceFrom, ChoicesOutcome, DescribesFrom}
 
 module _ {T P : Type 0} (outcome : P → Outcome T) where
   -- one more parser at the end
@@ -50,7 +50,7 @@ pub one_more_shown : {P : Type 0} (describes : P → Shape → Type 0) (before :
 one_more_shown describes before ps p a b shape first last is = subst (λ shows. shows shape) (sym (shows_more describes before ps p)) (a, b, first, last, is)
 
 -- fewer answers before give fewer answers of a choice
-choice_fewer : {T : Type 0} (before less second : Outcome T) → ((s t : Situation) (r : Result T Error) → before s r t → less s r t) → (s t : Situation) (r : Result T Error) → ChoiceOutcome before second s r t → ChoiceOutcome less second s r t
+pub choice_fewer : {T : Type 0} (before less second : Outcome T) → ((s t : Situation) (r : Result T Error) → before s r t → less s r t) → (s t : Situation) (r : Result T Error) → ChoiceOutcome before second s r t → ChoiceOutcome less second s r t
 choice_fewer {T} before less second within s t r o = by_answer r o
   where
     ran : (r : Result T Error) → BranchesRan before second s r t → BranchesRan less second s r t
@@ -86,6 +86,7 @@ from_spared outcome before (p ∷ ps) s t r o spared =
     (λ m n answer answered. choice_spared before (outcome p) m n answer answered.0 answered.1) s t r (from_spared outcome (ChoiceOutcome before (outcome p)) ps s t r o spared)
 
 -- nor does a choice of any number
-pub choices_spared : {T P : Type 0} (outcome : P → Outcome T) (ps : List P) → ChoicesCatchNoMemory outcome ps
+pub choices_spared : {T P : Type 0} (outcome : P → Outcome T) (ps : List P) (s t : Situation) (r : Result T Error)
+    → ChoicesOutcome outcome ps s r t → IsSpared r → ChoicesOutcome (λ p. WithoutMemory (outcome p)) ps s r t
 choices_spared outcome [] s t r o spared = o
 choices_spared outcome (p ∷ ps) s t r o spared = from_spared outcome (outcome p) ps s t r o spared

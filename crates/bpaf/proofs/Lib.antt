@@ -1,4 +1,4 @@
 pub mod Shapes
 pub mod Words
-pub mod Sparing
 pub mod Choosing
+pub mod Leftmost

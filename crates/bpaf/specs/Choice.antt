@@ -1,11 +1,8 @@
 -- A choice of any number of parsers of one type: choices of two, nested to the left.
-use Rattle.std.specs.Prelude.{◌≡◌, ℕ, List, [], ◌∷◌, Result, codes}
+use Rattle.std.specs.Prelude.{◌≡◌, ℕ, List, [], ◌∷◌, codes}
 use Rattle.bpaf_doc.specs.Shape.{Shape, Skip}
-use Rattle.bpaf_line.specs.Situation.{Situation}
-use Rattle.bpaf_line.specs.declared.error.Error.{Error}
 use Rattle.bpaf_core.specs.Reading.{Readings, Outcome}
-use Rattle.bpaf_core.specs.Spared.{IsSpared, WithoutMemory}
-use Rattle.bpaf_core.specs.Choice.{ChoiceOutcome, ChoiceReads, ChoiceDescribes}
+use Rattle.bpaf_core.specs.Choice.{ChoiceOutcome, ChoiceReads, ChoiceDescribes, LeftmostWins}
 use Rattle.bpaf.specs.Pure.{GivesRefusal, PureOutcome, PureReads}
 
 -- an outcome, and the choice of it and of each later parser in turn
@@ -42,7 +39,16 @@ abbrev pub ChoicesDescribes : {P : Type 0} → (P → Shape → Type 0) → List
 ChoicesDescribes describes [] shape = shape ≡ Skip
 ChoicesDescribes describes (p ∷ ps) shape = DescribesFrom describes (describes p) ps shape
 
--- what isn't want of memory comes of parsers of which none wanted memory
-abbrev pub ChoicesCatchNoMemory : {T P : Type 0} → (P → Outcome T) → List P → Type 0
-ChoicesCatchNoMemory {T} outcome ps =
-    (s t : Situation) (r : Result T Error) → ChoicesOutcome outcome ps s r t → IsSpared r → ChoicesOutcome (λ p. WithoutMemory (outcome p)) ps s r t
+-- a choice of two in which the leftmost wins
+abbrev pub LeftmostChoice : {T : Type 0} → Outcome T → Outcome T → Outcome T
+LeftmostChoice first second s r t = ChoiceOutcome first second s r t × LeftmostWins first second s r t
+
+-- an outcome, and the choice of it and of each later parser in turn, in each of which the leftmost wins
+abbrev pub LeftmostFrom : {T P : Type 0} → (P → Outcome T) → Outcome T → List P → Outcome T
+LeftmostFrom outcome before [] = before
+LeftmostFrom outcome before (p ∷ ps) = LeftmostFrom outcome (LeftmostChoice before (outcome p)) ps
+
+-- the leftmost wins in the choice of all parsers
+abbrev pub LeftmostOfAll : {T P : Type 0} → (P → Outcome T) → List P → Outcome T
+LeftmostOfAll outcome [] s r t = Unit {0}
+LeftmostOfAll outcome (p ∷ ps) s r t = LeftmostFrom outcome (outcome p) ps s r t

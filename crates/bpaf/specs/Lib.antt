@@ -3,6 +3,5 @@ pub mod Positional
 pub mod PositionalLaws
 pub mod Pure
 pub mod PureLaws
-pub mod Spared
 pub mod Choice
 pub mod ChoiceLaws

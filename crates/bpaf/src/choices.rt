@@ -1,6 +1,6 @@
 ghost use Rattle.std.specs.Prelude.{◌≡◌, IfOk, All};
 ghost use Rattle.bpaf_doc.specs.Shape.{shape_of};
-ghost use Rattle.bpaf.specs.Choice.{ChoiceFrom, DescribesFrom, ChoicesCatchNoMemory};
+ghost use Rattle.bpaf.specs.Choice.{ChoiceFrom, ChoicesOutcome, DescribesFrom};
 
 use bpaf_core::{Parser, is_want, or_meta, this_or_that};
 use bpaf_doc::{Meta, Text};
@@ -56,6 +56,21 @@ fn choose_from<T: Drop, P: Parser<T>>(first: &P, rest: &[P], state: &mut State) 
     answer
 }
 
+/// The answer of one of these parsers; without parsers a refusal.
+fn choose<T: Drop, P: Parser<T>>(parsers: &[P], state: &mut State) -> Result<T, Error>
+    requires { All P.can_eval parsers.now }
+    ensures { ChoicesOutcome P.outcome parsers.now state.old result state.new }
+{
+    match parsers {
+        [] => {
+            state.set_current(None);
+            let message = Text::new(state.alloc(), "Invalid choice usage")?;
+            Err(Error(Message::ParseFail(message)))
+        }
+        [first, rest @ ..] => choose_from(first, rest, state),
+    }
+}
+
 /// What a parser and the others after it show, as one choice.
 fn meta_from<T, P: Parser<T>>(first: &P, rest: &[P], alloc: Global) -> Result<Meta, AllocError>
     requires first { P.can_eval first.now }
@@ -75,7 +90,8 @@ fn meta_from<T, P: Parser<T>>(first: &P, rest: &[P], alloc: Global) -> Result<Me
 /// message, and no place is current then.
 impl<T: Drop, P: Parser<T> + Drop> Parser<T> for ParseChoice<P> {
     ghost use Rattle.std.specs.Prelude.{All};
-    ghost use Rattle.bpaf.specs.Choice.{ChoicesOutcome, ChoicesReads, ChoicesDescribes};
+    ghost use Rattle.bpaf_core.specs.Spared.{IsSpared, WithoutMemory};
+    ghost use Rattle.bpaf.specs.Choice.{ChoicesOutcome, ChoicesReads, ChoicesDescribes, LeftmostOfAll};
     ghost use Rattle.bpaf.specs.ChoiceLaws.{choices_lawful};
 
     ghost can_eval = { λ p. All P.can_eval p.parsers.items };
@@ -86,15 +102,13 @@ impl<T: Drop, P: Parser<T> + Drop> Parser<T> for ParseChoice<P> {
 
     ghost outcome = { λ p. ChoicesOutcome P.outcome p.parsers.items };
 
-    fn eval(&self, state: &mut State) -> Result<T, Error> {
-        match self.parsers.as_slice() {
-            [] => {
-                state.set_current(None);
-                let message = Text::new(state.alloc(), "Invalid choice usage")?;
-                Err(Error(Message::ParseFail(message)))
-            }
-            [first, rest @ ..] => choose_from(first, rest, state),
-        }
+    fn eval(&self, state: &mut State) -> Result<T, Error>
+        requires { All P.can_eval self.now.parsers.items }
+        ensures outcome { ChoicesOutcome P.outcome self.now.parsers.items state.old result state.new }
+        ensures leftmost_wins { LeftmostOfAll P.outcome self.now.parsers.items state.old result state.new }
+        ensures memory_is_never_caught { IsSpared result → ChoicesOutcome (λ p. WithoutMemory (P.outcome p)) self.now.parsers.items state.old result state.new }
+    {
+        choose(self.parsers.as_slice(), state)
     }
 
     fn meta(&self, alloc: Global) -> Result<Meta, AllocError> {
@@ -105,11 +119,4 @@ impl<T: Drop, P: Parser<T> + Drop> Parser<T> for ParseChoice<P> {
     }
 
     ghost lawful = { λ p. choices_lawful P.outcome P.reads p.parsers.items P.lawful };
-}
-
-/// No choice of any number goes past want of memory of one of its parsers.
-pub fn choices_never_catch_memory<T, P: Parser<T>>(choice: &ParseChoice<P>)
-    ensures { ChoicesCatchNoMemory P.outcome choice.now.parsers.items }
-{
-    let _ = choice;
 }

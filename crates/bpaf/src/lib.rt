@@ -19,25 +19,19 @@
 mod choices;
 mod construct;
 pub mod doc;
-mod laws;
 mod leaf;
 pub mod params;
 pub mod parsers;
 mod position;
 mod product;
 
-pub use bpaf_core::{
-    FromList, Info, OptionParser, Parser, choice_never_catches_memory, count_falls,
-    default_takes_nothing, key_before_environment, leftmost_wins, memory_is_never_caught,
-    read_text, repeat_is_bounded, repeats_catch_no_memory,
-};
+pub use bpaf_core::{FromList, Info, OptionParser, Parser, count_falls, read_text};
 pub use bpaf_doc::{Doc, Item, Meta, MetaInfo, Metavar, Piece, ShortLong, Style, Text};
 pub use bpaf_line::{
     Arg, Args, ArgsIter, Error, LentWord, Message, MissingItem, MissingItems, ParseFailure, State,
 };
 pub use bpaf_text::{FromText, NamedArg, TextFault, env, long, short};
-pub use choices::{ParseChoice, choice, choices_never_catch_memory};
-pub use laws::products_catch_no_memory;
+pub use choices::{ParseChoice, choice};
 pub use leaf::{fail, pure, pure_with};
 pub use position::{ParsePositional, Position, positional};
 pub use product::{Both, Fields, Last, ParseCon};

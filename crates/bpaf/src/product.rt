@@ -79,6 +79,7 @@ pub struct Both<A, R> {
 }
 
 impl<T: Drop, V: Drop, A: Parser<T>, R: Fields<V>> Fields<(T, V)> for Both<A, R> {
+    ghost use Rattle.bpaf_core.specs.Spared.{IsSpared, WithoutMemory};
     ghost use Rattle.bpaf.specs.Product.{BothOutcome, BothReads, BothDescribes, both_lawful};
 
     ghost can_eval = { λ p. A.can_eval p.first × R.can_eval p.rest };
@@ -89,7 +90,12 @@ impl<T: Drop, V: Drop, A: Parser<T>, R: Fields<V>> Fields<(T, V)> for Both<A, R>
 
     ghost outcome = { λ p. BothOutcome (A.outcome p.first) (R.outcome p.rest) };
 
-    fn eval_fields(&self, state: &mut State) -> Result<(T, V), Error> {
+    fn eval_fields(&self, state: &mut State) -> Result<(T, V), Error>
+        requires first { A.can_eval self.now.first }
+        requires rest { R.can_eval self.now.rest }
+        ensures outcome { BothOutcome (A.outcome self.now.first) (R.outcome self.now.rest) state.old result state.new }
+        ensures memory_is_never_caught { IsSpared result → BothOutcome (WithoutMemory (A.outcome self.now.first)) (WithoutMemory (R.outcome self.now.rest)) state.old result state.new }
+    {
         match self.first.eval(state) {
             Ok(first) => match self.rest.eval_fields(state) {
                 Ok(rest) => Ok((first, rest)),
@@ -150,6 +156,7 @@ impl<V, P, F> ParseCon<V, P, F> {
 }
 
 impl<V: Drop, T: Drop, P: Fields<V>, F: Fn(V) -> T> Parser<T> for ParseCon<V, P, F> {
+    ghost use Rattle.bpaf_core.specs.Spared.{IsSpared, WithoutMemory};
     ghost use Rattle.bpaf.specs.Product.{ProductOutcome, ProductReads, ProductDescribes, product_lawful};
 
     ghost can_eval = { λ p. P.can_eval p.fields × F.IsAlwaysCallable p.make };
@@ -160,7 +167,12 @@ impl<V: Drop, T: Drop, P: Fields<V>, F: Fn(V) -> T> Parser<T> for ParseCon<V, P,
 
     ghost outcome = { λ p. ProductOutcome (P.outcome p.fields) (λ x y. F.post p.make x y) };
 
-    fn eval(&self, state: &mut State) -> Result<T, Error> {
+    fn eval(&self, state: &mut State) -> Result<T, Error>
+        requires fields { P.can_eval self.now.fields }
+        requires callable { F.IsAlwaysCallable self.now.make }
+        ensures outcome { ProductOutcome (P.outcome self.now.fields) (λ x y. F.post self.now.make x y) state.old result state.new }
+        ensures memory_is_never_caught { IsSpared result → ProductOutcome (WithoutMemory (P.outcome self.now.fields)) (λ x y. F.post self.now.make x y) state.old result state.new }
+    {
         let values = self.fields.eval_fields(state);
         state.set_current(None);
         Ok((self.make)(values?))

@@ -4,7 +4,7 @@ use Rattle.bpaf_line.specs.Situation.{Situation}
 use Rattle.bpaf_line.specs.declared.error.Error.{Error}
 use Rattle.bpaf_core.specs.Reading.{Outcome}
 use Rattle.bpaf_core.specs.Spared.{IsSpared, WithoutMemory}
-use Rattle.bpaf_core.specs.Choice.{is_want, Chosen, BranchesRan, ChoiceOutcome, ChoiceCatchesNoMemory}
+use Rattle.bpaf_core.specs.Choice.{is_want, Chosen, BranchesRan, ChoiceOutcome}
 
 -- an answer that isn't want of memory
 spared_of : {T : Type 0} (r : Result T Error) → is_want r ≡ false → IsSpared r
@@ -35,7 +35,7 @@ module _ {T : Type 0} (first second : Outcome T) where
   }
 
   -- a choice catches no want of memory
-  pub choice_spared : ChoiceCatchesNoMemory first second
+  pub choice_spared : (s t : Situation) (r : Result T Error) → ChoiceOutcome first second s r t → IsSpared r → ChoiceOutcome (WithoutMemory first) (WithoutMemory second) s r t
   choice_spared s t (Ok v) o spared = ran_spared s (Ok v) t o
   choice_spared s t (Err e) o spared =
       ⊎_elim (λ ran. inl (ran_spared s (Err e) t ran)) (λ want. absurd (true≢false (sym want.0 ∙ spared))) o

@@ -8,7 +8,7 @@ use Rattle.bpaf_line.specs.declared.error.Error.{Error}
 use Rattle.bpaf_core.specs.Reading.{Readings, Outcome}
 use Rattle.bpaf_core.specs.Laws.{Lawful}
 use Rattle.bpaf_core.specs.Step.{is_untouched}
-use Rattle.bpaf_core.specs.Choice.{depth, Winner, EqualDepths, Chosen, IsChosen, TookAndIsChosen, LeftmostWins}
+use Rattle.bpaf_core.specs.Choice.{depth, Winner, EqualDepths, Chosen, IsChosen, TookAndIsChosen, ChoiceOutcome, LeftmostWins}
 use Rattle.bpaf_core.specs.CountingLaws.{same_took_none}
 use Rattle.bpaf_core.specs.FlagLaws.{first_of_and, second_of_and}
 
@@ -105,8 +105,10 @@ module _ {T : Type 0} {first second : Outcome T} {rf rs : Readings T} (lf : Lawf
       o
 
 -- in every choice
-pub leftmost_is_chosen : {T : Type 0} {first second : Outcome T} {rf rs : Readings T} → Lawful T first rf → Lawful T second rs → LeftmostWins first second
-leftmost_is_chosen lf ls s t v o = record {
+pub leftmost_is_chosen : {T : Type 0} {first second : Outcome T} {rf rs : Readings T} → Lawful T first rf → Lawful T second rs
+    → (s t : Situation) (r : Result T Error) → ChoiceOutcome first second s r t → LeftmostWins first second s r t
+leftmost_is_chosen lf ls s t (Err e) o = tt
+leftmost_is_chosen lf ls s t (Ok v) o = record {
   a = o.a;
   sa = o.sa;
   b = o.b;

@@ -4,6 +4,7 @@ pub mod KeyFirst
 pub mod Sparing
 pub mod Repeating
 pub mod RepeatSparing
+pub mod Bounded
 pub mod Members
 pub mod Choosing
 pub mod Leftmost

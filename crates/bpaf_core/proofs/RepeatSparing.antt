@@ -6,8 +6,8 @@ use Rattle.bpaf_line.specs.Situation.{Situation}
 use Rattle.bpaf_line.specs.declared.error.Error.{Error}
 use Rattle.bpaf_core.specs.Reading.{Outcome}
 use Rattle.bpaf_core.specs.Repeat.{is_nil, Steps, UntilRest, UntilFault, stops, rests, ListOutcome, ManyOutcome, SomeOutcome, CollectOutcome, CountOutcome, LastOutcome}
-use Rattle.bpaf_core.specs.Spared.{WithoutMemory, CatchesNoMemory}
-use Rattle.bpaf_core.proofs.Sparing.{spared_step, not_both}
+use Rattle.bpaf_core.specs.Spared.{WithoutMemory}
+use Rattle.bpaf_core.proofs.Sparing.{CatchesNoMemory, spared_step, not_both}
 
 module _ {T : Type 0} (inner : Outcome T) where
   -- steps that answered values are those of inner answers that aren't want of memory

@@ -8,7 +8,7 @@ use Rattle.bpaf_line.specs.Conflicts.{IsLeftmost, TakeTheSame, IsWinner, Conflic
 use Rattle.bpaf_line.specs.Situation.{Situation, is_taken}
 use Rattle.bpaf_line.specs.declared.error.Error.{Error}
 use Rattle.bpaf_core.specs.Reading.{Readings, Outcome}
-use Rattle.bpaf_core.specs.Spared.{IsSpared, WithoutMemory}
+use Rattle.bpaf_core.specs.Spared.{IsSpared}
 use Rattle.bpaf_core.specs.Step.{is_untouched}
 
 -- how many names the path has
@@ -120,11 +120,7 @@ pub record LeftmostIsChosen {T : Type 0} (first second : Outcome T) (s : Situati
   pub leftmost : IsOk a → IsOk b → depth sa ≡ depth sb → (p : ℕ) → IsLeftmost sa sb p → TookAndIsChosen p a sa v t ⊎ TookAndIsChosen p b sb v t
   pub else_first : IsOk a → IsOk b → depth sa ≡ depth sb → TakeTheSame sa sb → IsChosen a sa v t
 
--- so it is wherever a choice answers a value
-abbrev pub LeftmostWins : {T : Type 0} → Outcome T → Outcome T → Type 0
-LeftmostWins {T} first second = (s t : Situation) (v : T) → ChoiceOutcome first second s (Ok v) t → LeftmostIsChosen first second s v t
-
--- what isn't want of memory comes of branches of which neither wanted memory
-abbrev pub ChoiceCatchesNoMemory : {T : Type 0} → Outcome T → Outcome T → Type 0
-ChoiceCatchesNoMemory {T} first second =
-    (s t : Situation) (r : Result T Error) → ChoiceOutcome first second s r t → IsSpared r → ChoiceOutcome (WithoutMemory first) (WithoutMemory second) s r t
+-- so it is where a choice answers a value
+abbrev pub LeftmostWins : {T : Type 0} → Outcome T → Outcome T → Outcome T
+LeftmostWins first second s (Ok v) t = LeftmostIsChosen first second s v t
+LeftmostWins first second s (Err e) t = Unit {0}

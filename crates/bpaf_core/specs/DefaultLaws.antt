@@ -1,5 +1,5 @@
 -- Parsers that have something in place of a value that isn't there keep to the laws where the inner one does.
-use Rattle.std.specs.Prelude.{◌≡◌, Bool, true, Ok, Err, Option, Some, None}
+use Rattle.std.specs.Prelude.{Bool, true, Ok, Err, Option, Some, None}
 use Rattle.std.proofs.Common.{⊎_elim, inl, inr, true≢false}
 use Rattle.bpaf_line.specs.Situation.{Situation}
 use Rattle.bpaf_line.specs.declared.error.Error.{Error}

@@ -1,5 +1,4 @@
-ghost use Rattle.bpaf_core.specs.Argument.{TakesText, ArgumentOutcome};
-ghost use Rattle.bpaf_core.specs.KeyFirst.{KeyBeforeEnvironment};
+ghost use Rattle.bpaf_core.specs.Argument.{TakesText};
 
 use crate::environment::{absence, first_set};
 use crate::parser::Parser;
@@ -38,6 +37,7 @@ impl<T: FromText + Drop> Parser<T> for ParseArgument<T> {
     ghost use Rattle.std.specs.Prelude.{◌≡◌};
     ghost use Rattle.bpaf_core.specs.Argument.{ArgumentOutcome, ArgumentReads, argument_shape};
     ghost use Rattle.bpaf_core.specs.ArgumentLaws.{argument_lawful};
+    ghost use Rattle.bpaf_core.specs.KeyFirst.{KeyBeforeEnvironment};
 
     ghost can_eval = { λ p. Unit {0} };
 
@@ -47,7 +47,10 @@ impl<T: FromText + Drop> Parser<T> for ParseArgument<T> {
 
     ghost outcome = { λ p. ArgumentOutcome T.means p.named p.metavar.0.now };
 
-    fn eval(&self, state: &mut State) -> Result<T, Error> {
+    fn eval(&self, state: &mut State) -> Result<T, Error>
+        ensures outcome { ArgumentOutcome T.means self.now.named self.now.metavar.0.now state.old result state.new }
+        ensures key_before_environment { KeyBeforeEnvironment T.means self.now.named state.old result state.new }
+    {
         let text = take_argument(&self.named, self.metavar, state)?;
         read_text(state, text.as_str())
     }
@@ -60,12 +63,4 @@ impl<T: FromText + Drop> Parser<T> for ParseArgument<T> {
     }
 
     ghost lawful = { λ p. argument_lawful T T.means p.named p.metavar.0.now };
-}
-
-/// Where a key of an argument is present in scope, no variable of the environment is read: a value comes
-/// from the text behind that key.
-pub fn key_before_environment<T: FromText>(argument: &ParseArgument<T>)
-    ensures { KeyBeforeEnvironment (ArgumentOutcome T.means argument.now.named argument.now.metavar.0.now) T.means argument.now.named }
-{
-    let _ = argument;
 }

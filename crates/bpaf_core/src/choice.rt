@@ -2,7 +2,7 @@ ghost use Rattle.std.specs.Prelude.{◌≡◌, ◌&&◌, IfOk, map};
 ghost use Rattle.bpaf_doc.specs.Shape.{shape_of};
 ghost use Rattle.bpaf_line.specs.Messages.{is_wrong_input};
 ghost use Rattle.bpaf_core.specs.Step.{is_untouched};
-ghost use Rattle.bpaf_core.specs.Choice.{Chosen, Won, OneOk, is_want, alternatives, either, LeftmostWins, ChoiceCatchesNoMemory};
+ghost use Rattle.bpaf_core.specs.Choice.{Chosen, Won, OneOk, is_want, alternatives, either};
 
 use crate::parser::Parser;
 use bpaf_doc::Meta;
@@ -138,8 +138,9 @@ pub struct ParseOrElse<A, B> {
 /// Both are evaluated, each on a copy of the state, the first one first; [`this_or_that`] tells which
 /// answer stands. Want of memory in either is refused at once, with the state as before.
 impl<T: Drop, A: Parser<T>, B: Parser<T>> Parser<T> for ParseOrElse<A, B> {
-    ghost use Rattle.bpaf_core.specs.Choice.{ChoiceOutcome, ChoiceReads, ChoiceDescribes};
+    ghost use Rattle.bpaf_core.specs.Choice.{ChoiceOutcome, ChoiceReads, ChoiceDescribes, LeftmostWins};
     ghost use Rattle.bpaf_core.specs.ChoiceLaws.{choice_lawful};
+    ghost use Rattle.bpaf_core.specs.Spared.{IsSpared, WithoutMemory};
 
     ghost can_eval = { λ p. A.can_eval p.this × B.can_eval p.that };
 
@@ -149,7 +150,13 @@ impl<T: Drop, A: Parser<T>, B: Parser<T>> Parser<T> for ParseOrElse<A, B> {
 
     ghost outcome = { λ p. ChoiceOutcome (A.outcome p.this) (B.outcome p.that) };
 
-    fn eval(&self, state: &mut State) -> Result<T, Error> {
+    fn eval(&self, state: &mut State) -> Result<T, Error>
+        requires this { A.can_eval self.now.this }
+        requires that { B.can_eval self.now.that }
+        ensures outcome { ChoiceOutcome (A.outcome self.now.this) (B.outcome self.now.that) state.old result state.new }
+        ensures leftmost_wins { LeftmostWins (A.outcome self.now.this) (B.outcome self.now.that) state.old result state.new }
+        ensures memory_is_never_caught { IsSpared result → ChoiceOutcome (WithoutMemory (A.outcome self.now.this)) (WithoutMemory (B.outcome self.now.that)) state.old result state.new }
+    {
         let mut this = state.copy()?;
         let mut that = state.copy()?;
         let first = self.this.eval(&mut this);
@@ -170,19 +177,4 @@ impl<T: Drop, A: Parser<T>, B: Parser<T>> Parser<T> for ParseOrElse<A, B> {
     }
 
     ghost lawful = { λ p. choice_lawful (A.lawful p.this) (B.lawful p.that) };
-}
-
-/// Whatever the two branches are: where both answer a value at equal depths, the chosen one took the
-/// leftmost place taken by only one of them, and without such a place the first is chosen.
-pub fn leftmost_wins<T, A: Parser<T>, B: Parser<T>>(choice: &ParseOrElse<A, B>)
-    ensures { LeftmostWins (A.outcome choice.now.this) (B.outcome choice.now.that) }
-{
-    let _ = choice;
-}
-
-/// No choice goes past want of memory of one of its branches.
-pub fn choice_never_catches_memory<T, A: Parser<T>, B: Parser<T>>(choice: &ParseOrElse<A, B>)
-    ensures { ChoiceCatchesNoMemory (A.outcome choice.now.this) (B.outcome choice.now.that) }
-{
-    let _ = choice;
 }

@@ -1,4 +1,5 @@
 ghost use Rattle.std.specs.Prelude.{◌≡◌, true};
+ghost use Rattle.bpaf_core.specs.Repeat.{CollectOutcome};
 
 use crate::parser::Parser;
 use crate::repeat::{many_meta, values_until_stop};
@@ -76,6 +77,19 @@ impl<T: Ord + Drop> FromList<T> for BTreeSet<T> {
     }
 }
 
+/// What is filled from the values of steps, until one stops; refused also where it wants memory.
+fn collect_values<T: Drop, C: FromList<T>, P: Parser<T>>(
+    parser: &P,
+    state: &mut State,
+    catches: bool,
+) -> Result<C, Error>
+    requires { P.can_eval parser.now }
+    ensures { CollectOutcome (P.outcome parser.now) catches C.fills state.old result state.new }
+{
+    let values = values_until_stop(parser, state, catches)?;
+    Ok(C::from_list(values)?)
+}
+
 /// All inner values in a collection (bpaf's `ParseCollect`, in `structs.rs`).
 #[derive(Drop)]
 pub struct ParseCollect<P, C, T> {
@@ -104,8 +118,10 @@ impl<P, C, T> ParseCollect<P, C, T> {
 /// As `many`, with what is filled from the list in its place; refused also where the collection wants
 /// memory.
 impl<T: Drop, C: FromList<T> + Drop, P: Parser<T>> Parser<C> for ParseCollect<P, C, T> {
-    ghost use Rattle.bpaf_core.specs.Repeat.{CollectOutcome, CollectReads, ManyDescribes};
+    ghost use Rattle.std.specs.Prelude.{List, IfOk};
+    ghost use Rattle.bpaf_core.specs.Repeat.{CollectOutcome, CollectReads, ManyDescribes, IsBounded};
     ghost use Rattle.bpaf_core.specs.RepeatLaws.{collect_lawful};
+    ghost use Rattle.bpaf_core.specs.Spared.{IsSpared, WithoutMemory};
 
     ghost can_eval = { λ p. P.can_eval p.inner };
 
@@ -115,9 +131,13 @@ impl<T: Drop, C: FromList<T> + Drop, P: Parser<T>> Parser<C> for ParseCollect<P,
 
     ghost outcome = { λ p. CollectOutcome (P.outcome p.inner) p.catch C.fills };
 
-    fn eval(&self, state: &mut State) -> Result<C, Error> {
-        let values = values_until_stop(&self.inner, state, self.catch)?;
-        Ok(C::from_list(values)?)
+    fn eval(&self, state: &mut State) -> Result<C, Error>
+        requires { P.can_eval self.now.inner }
+        ensures outcome { CollectOutcome (P.outcome self.now.inner) self.now.catch C.fills state.old result state.new }
+        ensures repeat_is_bounded { IfOk result (λ filled. (values : List T) × C.fills values filled × IsBounded (P.outcome self.now.inner) state.old values) }
+        ensures memory_is_never_caught { IsSpared result → CollectOutcome (WithoutMemory (P.outcome self.now.inner)) self.now.catch C.fills state.old result state.new }
+    {
+        collect_values(&self.inner, state, self.catch)
     }
 
     fn meta(&self, alloc: Global) -> Result<Meta, AllocError> {

@@ -1,3 +1,5 @@
+ghost use Rattle.bpaf_core.specs.Repeat.{CountOutcome, LastOutcome};
+
 use crate::optional::parse_option;
 use crate::parser::Parser;
 use crate::repeat::{many_meta, some_meta};
@@ -5,6 +7,45 @@ use bpaf_doc::Meta;
 use bpaf_line::{Error, State};
 use std::alloc::{AllocError, Global};
 use std::marker::PhantomData;
+
+/// The number of values, until a step stops or a value took nothing, which is counted.
+fn count_values<T: Drop, P: Parser<T>>(parser: &P, state: &mut State) -> Result<usize, Error>
+    requires { P.can_eval parser.now }
+    ensures { CountOutcome (P.outcome parser.now) state.old result state.new }
+{
+    let most = state.len();
+    let mut left = most;
+    let mut count = 0;
+    while let Some(_) = parse_option(parser, state, false, count == 0)? {
+        count += 1;
+        if state.len() == left {
+            return Ok(count);
+        }
+        left = state.len();
+    }
+    Ok(count)
+}
+
+/// The last value before a step stops, or one that took nothing; without a value what the parser answers
+/// once more.
+fn last_value<T: Drop, P: Parser<T>>(parser: &P, state: &mut State) -> Result<T, Error>
+    requires { P.can_eval parser.now }
+    ensures { LastOutcome (P.outcome parser.now) state.old result state.new }
+{
+    let mut left = state.len();
+    let mut last = None;
+    while let Some(value) = parse_option(parser, state, false, last.is_none())? {
+        if state.len() == left {
+            return Ok(value);
+        }
+        left = state.len();
+        last = Some(value);
+    }
+    match last {
+        Some(value) => Ok(value),
+        None => parser.eval(state),
+    }
+}
 
 /// How many inner values there are (bpaf's `ParseCount`, in `structs.rs`).
 #[derive(Drop)]
@@ -18,6 +59,7 @@ pub struct ParseCount<P, T> {
 impl<T: Drop, P: Parser<T>> Parser<usize> for ParseCount<P, T> {
     ghost use Rattle.bpaf_core.specs.Repeat.{CountOutcome, CountReads, ManyDescribes};
     ghost use Rattle.bpaf_core.specs.RepeatLaws.{count_lawful};
+    ghost use Rattle.bpaf_core.specs.Spared.{IsSpared, WithoutMemory};
 
     ghost can_eval = { λ p. P.can_eval p.inner };
 
@@ -27,18 +69,12 @@ impl<T: Drop, P: Parser<T>> Parser<usize> for ParseCount<P, T> {
 
     ghost outcome = { λ p. CountOutcome (P.outcome p.inner) };
 
-    fn eval(&self, state: &mut State) -> Result<usize, Error> {
-        let most = state.len();
-        let mut left = most;
-        let mut count = 0;
-        while let Some(_) = parse_option(&self.inner, state, false, count == 0)? {
-            count += 1;
-            if state.len() == left {
-                return Ok(count);
-            }
-            left = state.len();
-        }
-        Ok(count)
+    fn eval(&self, state: &mut State) -> Result<usize, Error>
+        requires { P.can_eval self.now.inner }
+        ensures outcome { CountOutcome (P.outcome self.now.inner) state.old result state.new }
+        ensures memory_is_never_caught { IsSpared result → CountOutcome (WithoutMemory (P.outcome self.now.inner)) state.old result state.new }
+    {
+        count_values(&self.inner, state)
     }
 
     fn meta(&self, alloc: Global) -> Result<Meta, AllocError> {
@@ -60,6 +96,7 @@ pub struct ParseLast<P> {
 impl<T: Drop, P: Parser<T>> Parser<T> for ParseLast<P> {
     ghost use Rattle.bpaf_core.specs.Repeat.{LastOutcome, LastReads, SomeDescribes};
     ghost use Rattle.bpaf_core.specs.RepeatLaws.{last_lawful};
+    ghost use Rattle.bpaf_core.specs.Spared.{IsSpared, WithoutMemory};
 
     ghost can_eval = { λ p. P.can_eval p.inner };
 
@@ -69,20 +106,12 @@ impl<T: Drop, P: Parser<T>> Parser<T> for ParseLast<P> {
 
     ghost outcome = { λ p. LastOutcome (P.outcome p.inner) };
 
-    fn eval(&self, state: &mut State) -> Result<T, Error> {
-        let mut left = state.len();
-        let mut last = None;
-        while let Some(value) = parse_option(&self.inner, state, false, last.is_none())? {
-            if state.len() == left {
-                return Ok(value);
-            }
-            left = state.len();
-            last = Some(value);
-        }
-        match last {
-            Some(value) => Ok(value),
-            None => self.inner.eval(state),
-        }
+    fn eval(&self, state: &mut State) -> Result<T, Error>
+        requires { P.can_eval self.now.inner }
+        ensures outcome { LastOutcome (P.outcome self.now.inner) state.old result state.new }
+        ensures memory_is_never_caught { IsSpared result → LastOutcome (WithoutMemory (P.outcome self.now.inner)) state.old result state.new }
+    {
+        last_value(&self.inner, state)
     }
 
     fn meta(&self, alloc: Global) -> Result<Meta, AllocError> {

@@ -43,6 +43,7 @@ pub struct ParseFallback<P, T> {
 impl<T: Clone + Drop, P: Parser<T>> Parser<T> for ParseFallback<P, T> {
     ghost use Rattle.bpaf_core.specs.Default.{FallbackOutcome, FallbackReads, GivesClone, OptionalDescribes};
     ghost use Rattle.bpaf_core.specs.DefaultLaws.{fallback_lawful};
+    ghost use Rattle.bpaf_core.specs.Spared.{IsSpared, WithoutMemory, DefaultTakesNothing};
 
     ghost can_eval = { λ p. P.can_eval p.inner };
 
@@ -52,7 +53,12 @@ impl<T: Clone + Drop, P: Parser<T>> Parser<T> for ParseFallback<P, T> {
 
     ghost outcome = { λ p. FallbackOutcome (P.outcome p.inner) (GivesClone T.is_clone p.value) };
 
-    fn eval(&self, state: &mut State) -> Result<T, Error> {
+    fn eval(&self, state: &mut State) -> Result<T, Error>
+        requires { P.can_eval self.now.inner }
+        ensures outcome { FallbackOutcome (P.outcome self.now.inner) (GivesClone T.is_clone self.now.value) state.old result state.new }
+        ensures default_takes_nothing { DefaultTakesNothing (P.outcome self.now.inner) state.old result state.new }
+        ensures memory_is_never_caught { IsSpared result → FallbackOutcome (WithoutMemory (P.outcome self.now.inner)) (GivesClone T.is_clone self.now.value) state.old result state.new }
+    {
         match attempt(&self.inner, state)? {
             Some(value) => Ok(value),
             None => Ok(self.value.clone()?),
@@ -82,6 +88,7 @@ impl<T: Drop, E: Display + Drop, P: Parser<T>, F: Fn() -> Result<T, E>> Parser<T
     for ParseFallbackWith<T, P, F, E> {
     ghost use Rattle.bpaf_core.specs.Default.{FallbackOutcome, FallbackReads, GivesAnswer, OptionalDescribes};
     ghost use Rattle.bpaf_core.specs.DefaultLaws.{fallback_lawful};
+    ghost use Rattle.bpaf_core.specs.Spared.{IsSpared, WithoutMemory, DefaultTakesNothing};
 
     ghost can_eval = { λ p. P.can_eval p.inner × F.IsAlwaysCallable p.fallback };
 
@@ -91,7 +98,13 @@ impl<T: Drop, E: Display + Drop, P: Parser<T>, F: Fn() -> Result<T, E>> Parser<T
 
     ghost outcome = { λ p. FallbackOutcome (P.outcome p.inner) (GivesAnswer (λ r. F.post p.fallback r) E.output) };
 
-    fn eval(&self, state: &mut State) -> Result<T, Error> {
+    fn eval(&self, state: &mut State) -> Result<T, Error>
+        requires inner { P.can_eval self.now.inner }
+        requires callable { F.IsAlwaysCallable self.now.fallback }
+        ensures outcome { FallbackOutcome (P.outcome self.now.inner) (GivesAnswer (λ r. F.post self.now.fallback r) E.output) state.old result state.new }
+        ensures default_takes_nothing { DefaultTakesNothing (P.outcome self.now.inner) state.old result state.new }
+        ensures memory_is_never_caught { IsSpared result → FallbackOutcome (WithoutMemory (P.outcome self.now.inner)) (GivesAnswer (λ r. F.post self.now.fallback r) E.output) state.old result state.new }
+    {
         if let Some(value) = attempt(&self.inner, state)? {
             return Ok(value);
         }

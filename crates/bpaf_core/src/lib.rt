@@ -47,18 +47,12 @@ mod reading;
 mod repeat;
 mod transform;
 
-pub use argument::key_before_environment;
-pub use choice::{
-    ParseOrElse, choice_never_catches_memory, is_want, leftmost_wins, or_meta, this_or_that,
-};
+pub use choice::{ParseOrElse, is_want, or_meta, this_or_that};
 pub use collect::{FromList, ParseCollect};
 pub use count::{ParseCount, ParseLast};
 pub use fallback::{ParseFallback, ParseFallbackWith};
 pub use info::Info;
-pub use laws::{
-    count_falls, default_takes_nothing, memory_is_never_caught, repeat_is_bounded,
-    repeats_catch_no_memory,
-};
+pub use laws::count_falls;
 pub use optional::ParseOptional;
 pub use options::OptionParser;
 pub use parser::Parser;

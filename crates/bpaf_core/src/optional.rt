@@ -89,6 +89,7 @@ impl<P> ParseOptional<P> {
 impl<T: Drop, P: Parser<T>> Parser<Option<T>> for ParseOptional<P> {
     ghost use Rattle.std.specs.Prelude.{true};
     ghost use Rattle.bpaf_core.specs.Default.{OptionalReads, OptionalDescribes};
+    ghost use Rattle.bpaf_core.specs.Spared.{IsSpared, WithoutMemory, NoneTakesNothing};
     ghost use Rattle.bpaf_core.specs.DefaultLaws.{optional_lawful};
 
     ghost can_eval = { λ p. P.can_eval p.inner };
@@ -99,7 +100,12 @@ impl<T: Drop, P: Parser<T>> Parser<Option<T>> for ParseOptional<P> {
 
     ghost outcome = { λ p. StepOutcome (P.outcome p.inner) p.catch true };
 
-    fn eval(&self, state: &mut State) -> Result<Option<T>, Error> {
+    fn eval(&self, state: &mut State) -> Result<Option<T>, Error>
+        requires { P.can_eval self.now.inner }
+        ensures outcome { StepOutcome (P.outcome self.now.inner) self.now.catch true state.old result state.new }
+        ensures default_takes_nothing { NoneTakesNothing state.old result state.new }
+        ensures memory_is_never_caught { IsSpared result → StepOutcome (WithoutMemory (P.outcome self.now.inner)) self.now.catch true state.old result state.new }
+    {
         parse_option(&self.inner, state, self.catch, true)
     }
 

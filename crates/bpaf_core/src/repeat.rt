@@ -1,6 +1,6 @@
 ghost use Rattle.std.specs.Prelude.{◌≡◌, ◌++◌, ◌∷◌, [], IfOk, OnOk, true};
 ghost use Rattle.bpaf_doc.specs.Shape.{shape_of};
-ghost use Rattle.bpaf_core.specs.Repeat.{ManyOutcome, ManyDescribes, SomeDescribes};
+ghost use Rattle.bpaf_core.specs.Repeat.{ManyOutcome, SomeOutcome, ManyDescribes, SomeDescribes};
 
 use crate::optional::parse_option;
 use crate::parser::Parser;
@@ -75,8 +75,10 @@ impl<P> ParseMany<P> {
 /// nothing, or another error that can be caught, or a value after the first that took nothing. Every
 /// other error is refused, with the state that it left; so is want of memory.
 impl<T: Drop, P: Parser<T>> Parser<Vec<T>> for ParseMany<P> {
-    ghost use Rattle.bpaf_core.specs.Repeat.{ManyOutcome, ManyReads, ManyDescribes};
+    ghost use Rattle.std.specs.Prelude.{IfOk};
+    ghost use Rattle.bpaf_core.specs.Repeat.{ManyOutcome, ManyReads, ManyDescribes, IsBounded};
     ghost use Rattle.bpaf_core.specs.RepeatLaws.{many_lawful};
+    ghost use Rattle.bpaf_core.specs.Spared.{IsSpared, WithoutMemory};
 
     ghost can_eval = { λ p. P.can_eval p.inner };
 
@@ -86,7 +88,12 @@ impl<T: Drop, P: Parser<T>> Parser<Vec<T>> for ParseMany<P> {
 
     ghost outcome = { λ p. ManyOutcome (P.outcome p.inner) p.catch };
 
-    fn eval(&self, state: &mut State) -> Result<Vec<T>, Error> {
+    fn eval(&self, state: &mut State) -> Result<Vec<T>, Error>
+        requires { P.can_eval self.now.inner }
+        ensures outcome { ManyOutcome (P.outcome self.now.inner) self.now.catch state.old result state.new }
+        ensures repeat_is_bounded { IfOk result (λ values. IsBounded (P.outcome self.now.inner) state.old values.items) }
+        ensures memory_is_never_caught { IsSpared result → ManyOutcome (WithoutMemory (P.outcome self.now.inner)) self.now.catch state.old result state.new }
+    {
         values_until_stop(&self.inner, state, self.catch)
     }
 
@@ -95,6 +102,24 @@ impl<T: Drop, P: Parser<T>> Parser<Vec<T>> for ParseMany<P> {
     }
 
     ghost lawful = { λ p. many_lawful (P.lawful p.inner) p.catch };
+}
+
+/// The values of steps, until one stops; without a value it refuses with ParseSome and the message.
+fn some_values<T: Drop, P: Parser<T>>(
+    parser: &P,
+    state: &mut State,
+    catches: bool,
+    message: &str,
+) -> Result<Vec<T>, Error>
+    requires { P.can_eval parser.now }
+    ensures { SomeOutcome (P.outcome parser.now) catches message.now state.old result state.new }
+{
+    let values = values_until_stop(parser, state, catches)?;
+    if values.is_empty() {
+        let message = Text::new(state.alloc(), message)?;
+        return Err(Error(Message::ParseSome(message)));
+    }
+    Ok(values)
 }
 
 /// All inner values, of which there has to be one (bpaf's `ParseSome`, in `structs.rs`).
@@ -123,8 +148,10 @@ impl<'m, P> ParseSome<'m, P> {
 
 /// As `many`; without a value it refuses with ParseSome and the message.
 impl<'m, T: Drop, P: Parser<T>> Parser<Vec<T>> for ParseSome<'m, P> {
-    ghost use Rattle.bpaf_core.specs.Repeat.{SomeOutcome, SomeReads, SomeDescribes};
+    ghost use Rattle.std.specs.Prelude.{IfOk};
+    ghost use Rattle.bpaf_core.specs.Repeat.{SomeOutcome, SomeReads, SomeDescribes, IsBounded};
     ghost use Rattle.bpaf_core.specs.RepeatLaws.{some_lawful};
+    ghost use Rattle.bpaf_core.specs.Spared.{IsSpared, WithoutMemory};
 
     ghost can_eval = { λ p. P.can_eval p.inner };
 
@@ -134,13 +161,13 @@ impl<'m, T: Drop, P: Parser<T>> Parser<Vec<T>> for ParseSome<'m, P> {
 
     ghost outcome = { λ p. SomeOutcome (P.outcome p.inner) p.catch p.message.now };
 
-    fn eval(&self, state: &mut State) -> Result<Vec<T>, Error> {
-        let values = values_until_stop(&self.inner, state, self.catch)?;
-        if values.is_empty() {
-            let message = Text::new(state.alloc(), self.message)?;
-            return Err(Error(Message::ParseSome(message)));
-        }
-        Ok(values)
+    fn eval(&self, state: &mut State) -> Result<Vec<T>, Error>
+        requires { P.can_eval self.now.inner }
+        ensures outcome { SomeOutcome (P.outcome self.now.inner) self.now.catch self.now.message.now state.old result state.new }
+        ensures repeat_is_bounded { IfOk result (λ values. IsBounded (P.outcome self.now.inner) state.old values.items) }
+        ensures memory_is_never_caught { IsSpared result → SomeOutcome (WithoutMemory (P.outcome self.now.inner)) self.now.catch self.now.message.now state.old result state.new }
+    {
+        some_values(&self.inner, state, self.catch, self.message)
     }
 
     fn meta(&self, alloc: Global) -> Result<Meta, AllocError> {

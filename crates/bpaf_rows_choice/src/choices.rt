@@ -2,10 +2,7 @@
 use crate::forms::{num, one_of_two, value};
 use bpaf::params::{ParseArgument, ParseFlag};
 use bpaf::parsers::ParseChoice;
-use bpaf::{
-    Args, Meta, Parser, State, choice, choice_never_catches_memory, choices_never_catch_memory,
-    leftmost_wins, long, short,
-};
+use bpaf::{Args, Meta, Parser, State, choice, long, short};
 use std::alloc::{AllocError, Global};
 use std::test::Fail;
 
@@ -112,15 +109,5 @@ fn choices_show_their_members(rt: HostRuntime) -> Result<(), Fail> {
     assert!(rt; matches!(nothing(a).meta(a)?, Meta::Skip));
     let right = num(a, 'c')?.or_else(one_of_two(a)?);
     assert_eq!(rt; members(&right.meta(a)?), 3);
-    Ok(())
-}
-
-#[test]
-fn laws_hold_of_choices(rt: HostRuntime) -> Result<(), Fail> {
-    let a = rt.alloc();
-    let two = one_of_two(a)?;
-    leftmost_wins(&two);
-    choice_never_catches_memory(&two);
-    choices_never_catch_memory(&flags(a)?);
     Ok(())
 }

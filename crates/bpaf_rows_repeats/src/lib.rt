@@ -7,8 +7,6 @@
 #[cfg(test)]
 mod forms;
 #[cfg(test)]
-mod laws;
-#[cfg(test)]
 mod lists;
 #[cfg(test)]
 mod numbers;
