@@ -13,15 +13,15 @@
 //!   (specs/Environment.antt).
 //! - [`ParseMap`], [`ParseWith`] and [`ParseGuard`] change or check a value (specs/Transform.antt);
 //!   [`ParseOptional`], [`ParseFallback`] and [`ParseFallbackWith`] stand in for one that isn't there
-//!   (specs/Step.antt, specs/Default.antt). None of them catches want of memory, and what stands in
-//!   takes nothing (specs/Spared.antt).
+//!   (specs/Step.antt, specs/Default.antt). By clauses of their `eval` none of these three catches want
+//!   of memory, and what stands in takes nothing (specs/Spared.antt).
 //! - [`ParseMany`], [`ParseSome`], [`ParseCollect`], [`ParseCount`] and [`ParseLast`] step one parser
 //!   until a step stops (specs/Repeat.antt); [`FromList`] is what a list of values fills. Each step but
 //!   the first takes an item, so there are no more values than items present at the start and one
-//!   ([`repeat_is_bounded`]), and none catches want of memory ([`repeats_catch_no_memory`]).
+//!   (clause `repeat_is_bounded`), and none catches want of memory (clause `memory_is_never_caught`).
 //! - [`ParseOrElse`] is one of two parsers, both evaluated from the same state: the table of
 //!   [`this_or_that`] tells which answer stands (specs/Choice.antt), for choices of other types too.
-//!   The branch that took the leftmost place taken by only one of them wins ([`leftmost_wins`]).
+//!   The branch that took the leftmost place taken by only one of them wins (clause `leftmost_wins`).
 //! - [`OptionParser::run_inner`] runs a parser over words. It answers a value only where that is
 //!   dealt out of the words: read off all items of their line but the first `--`, each used once
 //!   (specs/Dealt.antt), whatever the parser's type.
