@@ -13,8 +13,8 @@
 //!   (specs/Environment.antt).
 //! - [`ParseMap`], [`ParseWith`] and [`ParseGuard`] change or check a value (specs/Transform.antt);
 //!   [`ParseOptional`], [`ParseFallback`] and [`ParseFallbackWith`] stand in for one that isn't there
-//!   (specs/Step.antt, specs/Default.antt). By clauses of their `eval` none of these three catches want
-//!   of memory, and what stands in takes nothing (specs/Spared.antt).
+//!   (specs/Step.antt, specs/Default.antt). By clauses of their `eval` none of these catches want of
+//!   memory, and what stands in takes nothing (specs/Spared.antt).
 //! - [`ParseMany`], [`ParseSome`], [`ParseCollect`], [`ParseCount`] and [`ParseLast`] step one parser
 //!   until a step stops (specs/Repeat.antt); [`FromList`] is what a list of values fills. Each step but
 //!   the first takes an item, so there are no more values than items present at the start and one

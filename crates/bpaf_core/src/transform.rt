@@ -18,6 +18,7 @@ pub struct ParseMap<T, P, F, R> {
 
 /// The state stays as the inner parser left it, and what that refuses is refused.
 impl<T: Drop, R: Drop, P: Parser<T>, F: Fn(T) -> R> Parser<R> for ParseMap<T, P, F, R> {
+    ghost use Rattle.bpaf_core.specs.Spared.{IsSpared, WithoutMemory};
     ghost use Rattle.bpaf_core.specs.Transform.{MapOutcome, MapReads};
     ghost use Rattle.bpaf_core.specs.TransformLaws.{map_lawful};
 
@@ -29,7 +30,12 @@ impl<T: Drop, R: Drop, P: Parser<T>, F: Fn(T) -> R> Parser<R> for ParseMap<T, P,
 
     ghost outcome = { λ p. MapOutcome (P.outcome p.inner) (λ x y. F.post p.map_fn x y) };
 
-    fn eval(&self, state: &mut State) -> Result<R, Error> {
+    fn eval(&self, state: &mut State) -> Result<R, Error>
+        requires inner { P.can_eval self.now.inner }
+        requires callable { F.IsAlwaysCallable self.now.map_fn }
+        ensures outcome { MapOutcome (P.outcome self.now.inner) (λ x y. F.post self.now.map_fn x y) state.old result state.new }
+        ensures memory_is_never_caught { IsSpared result → MapOutcome (WithoutMemory (P.outcome self.now.inner)) (λ x y. F.post self.now.map_fn x y) state.old result state.new }
+    {
         let value = self.inner.eval(state)?;
         Ok((self.map_fn)(value))
     }
@@ -56,6 +62,7 @@ pub struct ParseWith<T, P, F, E, R> {
 impl<T: Drop, R: Drop, E: Display + Drop, P: Parser<T>, F: Fn(T) -> Result<R, E>> Parser<R>
     for ParseWith<T, P, F, E, R> {
     ghost use Rattle.std.specs.Prelude.{Ok};
+    ghost use Rattle.bpaf_core.specs.Spared.{IsSpared, WithoutMemory};
     ghost use Rattle.bpaf_core.specs.Transform.{ParseOutcome, MapReads};
     ghost use Rattle.bpaf_core.specs.TransformLaws.{parse_lawful};
 
@@ -67,7 +74,12 @@ impl<T: Drop, R: Drop, E: Display + Drop, P: Parser<T>, F: Fn(T) -> Result<R, E>
 
     ghost outcome = { λ p. ParseOutcome (P.outcome p.inner) (λ x y. F.post p.parse_fn x y) E.output };
 
-    fn eval(&self, state: &mut State) -> Result<R, Error> {
+    fn eval(&self, state: &mut State) -> Result<R, Error>
+        requires inner { P.can_eval self.now.inner }
+        requires callable { F.IsAlwaysCallable self.now.parse_fn }
+        ensures outcome { ParseOutcome (P.outcome self.now.inner) (λ x y. F.post self.now.parse_fn x y) E.output state.old result state.new }
+        ensures memory_is_never_caught { IsSpared result → ParseOutcome (WithoutMemory (P.outcome self.now.inner)) (λ x y. F.post self.now.parse_fn x y) E.output state.old result state.new }
+    {
         let value = self.inner.eval(state)?;
         match (self.parse_fn)(value) {
             Ok(value) => Ok(value),
@@ -107,6 +119,7 @@ pub struct ParseGuard<'m, P, F> {
 /// the check is false, with GuardFailed, which names the current place; or for want of memory.
 impl<'m, T: Drop, P: Parser<T>, F: Fn(&T) -> bool> Parser<T> for ParseGuard<'m, P, F> {
     ghost use Rattle.std.specs.Fn.{FnReturnsAt};
+    ghost use Rattle.bpaf_core.specs.Spared.{IsSpared, WithoutMemory};
     ghost use Rattle.bpaf_core.specs.Transform.{GuardOutcome, GuardReads};
     ghost use Rattle.bpaf_core.specs.TransformLaws.{guard_lawful};
 
@@ -118,7 +131,12 @@ impl<'m, T: Drop, P: Parser<T>, F: Fn(&T) -> bool> Parser<T> for ParseGuard<'m, 
 
     ghost outcome = { λ p. GuardOutcome (P.outcome p.inner) (FnReturnsAt F.Fn p.check) p.message.now };
 
-    fn eval(&self, state: &mut State) -> Result<T, Error> {
+    fn eval(&self, state: &mut State) -> Result<T, Error>
+        requires inner { P.can_eval self.now.inner }
+        requires callable { F.IsAlwaysCallable self.now.check }
+        ensures outcome { GuardOutcome (P.outcome self.now.inner) (FnReturnsAt F.Fn self.now.check) self.now.message.now state.old result state.new }
+        ensures memory_is_never_caught { IsSpared result → GuardOutcome (WithoutMemory (P.outcome self.now.inner)) (FnReturnsAt F.Fn self.now.check) self.now.message.now state.old result state.new }
+    {
         let value = self.inner.eval(state)?;
         if (self.check)(&value) {
             Ok(value)
