@@ -25,12 +25,12 @@ pub mod parsers;
 mod position;
 mod product;
 
-pub use bpaf_core::{FromList, Info, OptionParser, Parser, count_falls, read_text};
+pub use bpaf_core::{Info, OptionParser, Parser, count_falls, read_text};
 pub use bpaf_doc::{Doc, Item, Meta, MetaInfo, Metavar, Piece, ShortLong, Style, Text};
 pub use bpaf_line::{
     Arg, Args, ArgsIter, Error, LentWord, Message, MissingItem, MissingItems, ParseFailure, State,
 };
-pub use bpaf_text::{FromText, NamedArg, TextFault, env, long, short};
+pub use bpaf_text::{FromList, FromText, NamedArg, TextFault, env, long, short};
 pub use choices::{ParseChoice, choice};
 pub use leaf::{fail, pure, pure_with};
 pub use position::{ParsePositional, Position, positional};

@@ -15,7 +15,6 @@ pub mod TransformLaws
 pub mod Step
 pub mod Default
 pub mod DefaultLaws
-pub mod Collect
 pub mod Repeat
 pub mod RepeatLaws
 pub mod Spared

@@ -16,7 +16,7 @@
 //!   (specs/Step.antt, specs/Default.antt). By clauses of their `eval` none of these catches want of
 //!   memory, and what stands in takes nothing (specs/Spared.antt).
 //! - [`ParseMany`], [`ParseSome`], [`ParseCollect`], [`ParseCount`] and [`ParseLast`] step one parser
-//!   until a step stops (specs/Repeat.antt); [`FromList`] is what a list of values fills. Each step but
+//!   until a step stops (specs/Repeat.antt); [`bpaf_text::FromList`] is what a list of values fills. Each step but
 //!   the first takes an item, so there are no more values than items present at the start and one
 //!   (clause `repeat_is_bounded`), and none catches want of memory (clause `memory_is_never_caught`).
 //! - [`ParseOrElse`] is one of two parsers, both evaluated from the same state: the table of
@@ -48,7 +48,7 @@ mod repeat;
 mod transform;
 
 pub use choice::{ParseOrElse, is_want, or_meta, this_or_that};
-pub use collect::{FromList, ParseCollect};
+pub use collect::ParseCollect;
 pub use count::{ParseCount, ParseLast};
 pub use fallback::{ParseFallback, ParseFallbackWith};
 pub use info::Info;

@@ -3,7 +3,7 @@ ghost use Rattle.bpaf_doc.specs.Shape.{shape_of};
 ghost use Rattle.bpaf_core.specs.Known.{plain_info};
 
 use crate::choice::ParseOrElse;
-use crate::collect::{FromList, ParseCollect};
+use crate::collect::ParseCollect;
 use crate::count::{ParseCount, ParseLast};
 use crate::fallback::{ParseFallback, ParseFallbackWith};
 use crate::info::Info;
@@ -13,6 +13,7 @@ use crate::repeat::{ParseMany, ParseSome};
 use crate::transform::{ParseGuard, ParseMap, ParseWith};
 use bpaf_doc::Meta;
 use bpaf_line::{Error, State};
+use bpaf_text::FromList;
 use std::alloc::{AllocError, Global};
 use std::fmt::Display;
 use std::marker::PhantomData;

@@ -1,4 +1,4 @@
-//! Values from text, and the names of keys.
+//! Values from text, what a list of values fills, and the names of keys.
 //!
 //! The layer that says what a word of the command line means as a value, and by which names a key
 //! is found and shown. It stands on `bpaf_doc` alone, and knows nothing of lines or runs.
@@ -8,6 +8,9 @@
 //!   where the text means none. Which values a text means is the ghost relation `means` of the
 //!   implementation, with the words for it in specs/Meaning.antt. Implementations stand for the
 //!   whole numbers, `bool`, `char` and `String`, and a caller writes more for types of its own.
+//! - [`FromList`] is the trait of what a list of values fills, from front to back: by its ghost
+//!   relation `fills` an implementation says what it holds then. Implementations stand for `Vec`,
+//!   `VecDeque` and `BTreeSet` (specs/Filled.antt), and a caller writes more.
 //! - [`NamedArg`] is a key with its names, built by [`short()`], [`long()`] and [`env()`]. Contracts
 //!   see it as the lists of its names in the order in which they were given, those in the
 //!   environment among them, and its help (specs/Named.antt), so each builder is one equation: it
@@ -25,11 +28,13 @@
 #![tactic(auto)]
 
 mod fault;
+mod from_list;
 mod from_text;
 mod named;
 mod params;
 
 pub use fault::TextFault;
+pub use from_list::FromList;
 pub use from_text::FromText;
 pub use named::{NamedArg, env, long, short};
 pub use params::{ParseArgument, ParseFlag};

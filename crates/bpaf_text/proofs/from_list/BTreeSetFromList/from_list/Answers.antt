@@ -1,8 +1,8 @@
 use Rattle.std.proofs.Common.{◌≡◌, List, [], ◌∷◌, ◌++◌, refl, sym, ap, ◌∙◌}
 use Rattle.std.specs.BTreeSet.{insert_key}
 use Rattle.std.specs.declared.cmp.Ordering.{Ordering}
-use Rattle.bpaf_core.specs.Collect.{inserted}
-use Rattle.bpaf_core.proofs.collect.BTreeSetFromList.from_list.Goals as goal
+use Rattle.bpaf_text.specs.Filled.{inserted}
+use Rattle.bpaf_text.proofs.from_list.BTreeSetFromList.from_list.Goals as goal
 
 -- one value more at the end is inserted last
 inserted_more : {T : Type 0} (cmp : T → T → Ordering) (keys vs : List T) (v : T) → inserted cmp keys (vs ++ v ∷ []) ≡ insert_key cmp (inserted cmp keys vs) v
