@@ -49,26 +49,25 @@ pub one_more_shown : {P : Type 0} (describes : P → Shape → Type 0) (before :
     → DescribesFrom describes before ps a → describes p b → shape ≡ either a b → DescribesFrom describes before (ps ++ p ∷ []) shape
 one_more_shown describes before ps p a b shape first last is = subst (λ shows. shows shape) (sym (shows_more describes before ps p)) (a, b, first, last, is)
 
--- fewer answers before give fewer answers of a choice
-pub choice_fewer : {T : Type 0} (before less second : Outcome T) → ((s t : Situation) (r : Result T Error) → before s r t → less s r t) → (s t : Situation) (r : Result T Error) → ChoiceOutcome before second s r t → ChoiceOutcome less second s r t
-choice_fewer {T} before less second within s t r o = by_answer r o
-  where
-    ran : (r : Result T Error) → BranchesRan before second s r t → BranchesRan less second s r t
-    ran r o = record {
-      a = o.a;
-      sa = o.sa;
-      b = o.b;
-      sb = o.sb;
-      first_ran = within s o.sa o.a o.first_ran;
-      second_ran = o.second_ran;
-      first_spared = o.first_spared;
-      second_spared = o.second_spared;
-      chosen = o.chosen;
-    }
+module _ {T : Type 0} (before less second : Outcome T) (within : (s t : Situation) (r : Result T Error) → before s r t → less s r t) where
+  -- fewer answers before give fewer runs of two branches
+  abbrev pub ran_fewer : (s t : Situation) (r : Result T Error) → BranchesRan before second s r t → BranchesRan less second s r t
+  ran_fewer s t r o = record {
+    a = o.a;
+    sa = o.sa;
+    b = o.b;
+    sb = o.sb;
+    first_ran = within s o.sa o.a o.first_ran;
+    second_ran = o.second_ran;
+    first_spared = o.first_spared;
+    second_spared = o.second_spared;
+    chosen = o.chosen;
+  }
 
-    by_answer : (r : Result T Error) → ChoiceOutcome before second s r t → ChoiceOutcome less second s r t
-    by_answer (Ok v) o = ran (Ok v) o
-    by_answer (Err e) o = ⊎_elim (λ branches. inl (ran (Err e) branches)) (λ want. inr want) o
+  -- and fewer answers of a choice
+  pub choice_fewer : (s t : Situation) (r : Result T Error) → ChoiceOutcome before second s r t → ChoiceOutcome less second s r t
+  choice_fewer s t (Ok v) o = ran_fewer s t (Ok v) o
+  choice_fewer s t (Err e) o = ⊎_elim (λ ran. inl (ran_fewer s t (Err e) ran)) (λ want. inr want) o
 
 -- so it is of many
 from_fewer : {T P : Type 0} (outcome : P → Outcome T) (before less : Outcome T) (ps : List P) → ((s t : Situation) (r : Result T Error) → before s r t → less s r t)

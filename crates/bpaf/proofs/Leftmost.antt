@@ -7,30 +7,17 @@ use Rattle.bpaf_core.specs.Laws.{Lawful}
 use Rattle.bpaf_core.specs.Choice.{ChoiceOutcome, ChoiceReads, LeftmostWins}
 use Rattle.bpaf_core.specs.ChoiceLaws.{choice_lawful}
 use Rattle.bpaf_core.proofs.Leftmost.{leftmost_is_chosen}
-use Rattle.bpaf.specs.Choice.{ChoiceFrom, ChoicesOutcome, LeftmostChoice, LeftmostFrom, LeftmostOfAll}
-use Rattle.bpaf.proofs.Choosing.{choice_fewer}
-
--- fewer answers before leave the winner as it is
-wins_fewer : {T : Type 0} (before less second : Outcome T) → ((s t : Situation) (r : Result T Error) → before s r t → less s r t)
-    → (s t : Situation) (r : Result T Error) → LeftmostWins before second s r t → LeftmostWins less second s r t
-wins_fewer before less second within s t (Err e) o = tt
-wins_fewer before less second within s t (Ok v) o = record {
-  a = o.a;
-  sa = o.sa;
-  b = o.b;
-  sb = o.sb;
-  first_ran = within s o.sa o.a o.first_ran;
-  second_ran = o.second_ran;
-  leftmost = o.leftmost;
-  else_first = o.else_first;
-}
+use Rattle.bpaf.specs.Choice.{ChoiceFrom, ChoicesOutcome, LeftmostFrom, LeftmostOfAll}
+use Rattle.bpaf.proofs.Choosing.{ran_fewer, choice_fewer}
 
 -- one choice more in which the leftmost wins
 choice_leftmost : {T : Type 0} {before second : Outcome T} {rb rs : Readings T} (less : Outcome T) → Lawful T before rb → Lawful T second rs
     → ((s t : Situation) (r : Result T Error) → before s r t → less s r t)
-    → (s t : Situation) (r : Result T Error) → ChoiceOutcome before second s r t → LeftmostChoice less second s r t
-choice_leftmost {before = before} {second = second} less lb ls within s t r o =
-    (choice_fewer before less second within s t r o, wins_fewer before less second within s t r (leftmost_is_chosen lb ls s t r o))
+    → (s t : Situation) (r : Result T Error) → ChoiceOutcome before second s r t → LeftmostWins less second s r t
+choice_leftmost {before = before} {second = second} less lb ls within s t (Err e) o = choice_fewer before less second within s t (Err e) o
+choice_leftmost {before = before} {second = second} less lb ls within s t (Ok v) o =
+    let won = leftmost_is_chosen lb ls s t (Ok v) o in
+    record { ran = ran_fewer before less second within s t (Ok v) won.ran; leftmost = won.leftmost; else_first = won.else_first }
 
 module _ {T P : Type 0} (outcome : P → Outcome T) (reads : P → Readings T) (laws : (p : P) → Lawful T (outcome p) (reads p)) where
   -- so it is in each of the later choices
@@ -39,7 +26,7 @@ module _ {T P : Type 0} (outcome : P → Outcome T) (reads : P → Readings T) (
       → (s t : Situation) (r : Result T Error) → ChoiceFrom outcome before ps s r t → LeftmostFrom outcome less ps s r t
   from_leftmost less lb [] within s t r o = within s t r o
   from_leftmost {before = before} {rb = rb} less lb (p ∷ ps) within s t r o =
-      from_leftmost {before = ChoiceOutcome before (outcome p)} {rb = ChoiceReads rb (reads p)} (LeftmostChoice less (outcome p)) (choice_lawful lb (laws p)) ps
+      from_leftmost {before = ChoiceOutcome before (outcome p)} {rb = ChoiceReads rb (reads p)} (LeftmostWins less (outcome p)) (choice_lawful lb (laws p)) ps
       (λ m n a ran. choice_leftmost less lb (laws p) within m n a ran) s t r o
 
   -- and in the choice of all parsers

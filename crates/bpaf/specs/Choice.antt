@@ -39,14 +39,10 @@ abbrev pub ChoicesDescribes : {P : Type 0} → (P → Shape → Type 0) → List
 ChoicesDescribes describes [] shape = shape ≡ Skip
 ChoicesDescribes describes (p ∷ ps) shape = DescribesFrom describes (describes p) ps shape
 
--- a choice of two in which the leftmost wins
-abbrev pub LeftmostChoice : {T : Type 0} → Outcome T → Outcome T → Outcome T
-LeftmostChoice first second s r t = ChoiceOutcome first second s r t × LeftmostWins first second s r t
-
 -- an outcome, and the choice of it and of each later parser in turn, in each of which the leftmost wins
 abbrev pub LeftmostFrom : {T P : Type 0} → (P → Outcome T) → Outcome T → List P → Outcome T
 LeftmostFrom outcome before [] = before
-LeftmostFrom outcome before (p ∷ ps) = LeftmostFrom outcome (LeftmostChoice before (outcome p)) ps
+LeftmostFrom outcome before (p ∷ ps) = LeftmostFrom outcome (LeftmostWins before (outcome p)) ps
 
 -- the leftmost wins in the choice of all parsers
 abbrev pub LeftmostOfAll : {T P : Type 0} → (P → Outcome T) → List P → Outcome T

@@ -107,14 +107,9 @@ module _ {T : Type 0} {first second : Outcome T} {rf rs : Readings T} (lf : Lawf
 -- in every choice
 pub leftmost_is_chosen : {T : Type 0} {first second : Outcome T} {rf rs : Readings T} → Lawful T first rf → Lawful T second rs
     → (s t : Situation) (r : Result T Error) → ChoiceOutcome first second s r t → LeftmostWins first second s r t
-leftmost_is_chosen lf ls s t (Err e) o = tt
+leftmost_is_chosen lf ls s t (Err e) o = o
 leftmost_is_chosen lf ls s t (Ok v) o = record {
-  a = o.a;
-  sa = o.sa;
-  b = o.b;
-  sb = o.sb;
-  first_ran = o.first_ran;
-  second_ran = o.second_ran;
+  ran = o;
   leftmost = λ h k same p left. equal_took lf ls s v t o.a o.sa o.b o.sb o.first_ran o.second_ran (at_equal lf ls s v t o.a o.sa o.b o.sb o.chosen same) h k p left;
   else_first = λ h k same all. equal_first lf ls s v t o.a o.sa o.b o.sb (at_equal lf ls s v t o.a o.sa o.b o.sb o.chosen same) h k all;
 }

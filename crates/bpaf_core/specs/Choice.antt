@@ -108,19 +108,15 @@ pub record TookAndIsChosen {T : Type 0} (p : ℕ) (a : Result T Error) (sa : Sit
   pub chosen : IsChosen a sa v t
   pub took : is_taken sa p ≡ true
 
--- two branches of equal depth that both answer a value: the chosen one took the leftmost place taken by only one of
--- them; without such a place the first is chosen
+-- the answer comes of two branches that ran; where these are equally deep and both answer a value the chosen one took the
+-- leftmost place taken by only one of them, and without such a place the first is chosen
 pub record LeftmostIsChosen {T : Type 0} (first second : Outcome T) (s : Situation) (v : T) (t : Situation) : Type 0 where
-  pub a : Result T Error
-  pub sa : Situation
-  pub b : Result T Error
-  pub sb : Situation
-  pub first_ran : first s a sa
-  pub second_ran : second s b sb
-  pub leftmost : IsOk a → IsOk b → depth sa ≡ depth sb → (p : ℕ) → IsLeftmost sa sb p → TookAndIsChosen p a sa v t ⊎ TookAndIsChosen p b sb v t
-  pub else_first : IsOk a → IsOk b → depth sa ≡ depth sb → TakeTheSame sa sb → IsChosen a sa v t
+  pub ran : BranchesRan first second s (Ok v) t
+  pub leftmost : IsOk ran.a → IsOk ran.b → depth ran.sa ≡ depth ran.sb
+      → (p : ℕ) → IsLeftmost ran.sa ran.sb p → TookAndIsChosen p ran.a ran.sa v t ⊎ TookAndIsChosen p ran.b ran.sb v t
+  pub else_first : IsOk ran.a → IsOk ran.b → depth ran.sa ≡ depth ran.sb → TakeTheSame ran.sa ran.sb → IsChosen ran.a ran.sa v t
 
--- so it is where a choice answers a value
+-- the table, in which the leftmost wins
 abbrev pub LeftmostWins : {T : Type 0} → Outcome T → Outcome T → Outcome T
 LeftmostWins first second s (Ok v) t = LeftmostIsChosen first second s v t
-LeftmostWins first second s (Err e) t = Unit {0}
+LeftmostWins first second s (Err e) t = ChoiceOutcome first second s (Err e) t
