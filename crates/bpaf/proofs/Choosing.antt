@@ -9,27 +9,28 @@ use Rattle.bpaf_core.specs.Reading.{Outcome}
 use Rattle.bpaf_core.specs.Spared.{IsSpared, WithoutMemory}
 use Rattle.bpaf_core.specs.Choice.{is_want, Chosen, BranchesRan, ChoiceOutcome, ChoiceDescribes, either}
 use Rattle.bpaf_core.proofs.Choosing.{ran_outcome, choice_spared}
-use Rattle.bpaf.specs.Choice.{ChoiceFrom, ChoicesOutcome, DescribesFrom}
+use Rattle.bpaf.specs.Choice.{Nested, ChoicesOutcome}
+
+-- one more parser at the end
+nested_more : {A : Type 1} {P : Type 0} (choice : A → A → A) (meaning : P → A) (before : A) (ps : List P) (p : P)
+    → Nested choice meaning before (ps ++ p ∷ []) ≡ choice (Nested choice meaning before ps) (meaning p)
+nested_more choice meaning before [] p = refl
+nested_more choice meaning before (q ∷ ps) p = nested_more choice meaning (choice before (meaning q)) ps p
 
 module _ {T P : Type 0} (outcome : P → Outcome T) where
-  -- one more parser at the end
-  from_more : (before : Outcome T) (ps : List P) (p : P) → ChoiceFrom outcome before (ps ++ p ∷ []) ≡ ChoiceOutcome (ChoiceFrom outcome before ps) (outcome p)
-  from_more before [] p = refl
-  from_more before (q ∷ ps) p = from_more (ChoiceOutcome before (outcome q)) ps p
-
   -- one more parser's answer
   pub one_more : (before : Outcome T) (ps : List P) (p : P) (s : Situation) (a : Result T Error) (sa : Situation) (b : Result T Error) (sb : Situation) (r : Result T Error) (t : Situation)
-      → ChoiceFrom outcome before ps s a sa → outcome p s b sb → is_want a ≡ false → is_want b ≡ false → Chosen s a sa b sb r t → ChoiceFrom outcome before (ps ++ p ∷ []) s r t
+      → Nested ChoiceOutcome outcome before ps s a sa → outcome p s b sb → is_want a ≡ false → is_want b ≡ false → Chosen s a sa b sb r t → Nested ChoiceOutcome outcome before (ps ++ p ∷ []) s r t
   one_more before ps p s a sa b sb r t first second x y chosen =
-      subst (λ combined. combined s r t) (sym (from_more before ps p)) (ran_outcome (ChoiceFrom outcome before ps) (outcome p) s a sa b sb r t first second x y chosen)
+      subst (λ combined. combined s r t) (sym (nested_more ChoiceOutcome outcome before ps p)) (ran_outcome (Nested ChoiceOutcome outcome before ps) (outcome p) s a sa b sb r t first second x y chosen)
 
   -- want of memory is the answer at once, and leaves all as before
-  want_of_later : (before : Outcome T) (s : Situation) (e : Error) (ps : List P) → is_memory e.0 ≡ true → before s (Err e) s → ChoiceFrom outcome before ps s (Err e) s
+  want_of_later : (before : Outcome T) (s : Situation) (e : Error) (ps : List P) → is_memory e.0 ≡ true → before s (Err e) s → Nested ChoiceOutcome outcome before ps s (Err e) s
   want_of_later before s e [] want at = at
   want_of_later before s e (p ∷ ps) want at = want_of_later (ChoiceOutcome before (outcome p)) s e ps want (inr (want, refl))
 
   -- want of memory, where there are parsers after the first
-  pub wants : (before : Outcome T) (s : Situation) (r : Result T Error) (ps : List P) → (length ps == 0) ≡ false → is_want r ≡ true → ChoiceFrom outcome before ps s r s
+  pub wants : (before : Outcome T) (s : Situation) (r : Result T Error) (ps : List P) → (length ps == 0) ≡ false → is_want r ≡ true → Nested ChoiceOutcome outcome before ps s r s
   wants before s (Ok v) ps some want = absurd (true≢false (sym want))
   wants before s (Err e) [] some want = absurd (true≢false some)
   wants before s (Err e) (p ∷ ps) some want = want_of_later (ChoiceOutcome before (outcome p)) s e ps want (inr (want, refl))
@@ -39,15 +40,10 @@ pub want_of : {T : Type 0} (r : Result T Error) → IsErrAnd r (λ e. e.0 ≡ Me
 want_of (Ok v) refused = absurd refused
 want_of (Err e) refused = ap is_memory refused
 
--- one more parser's shape
-shows_more : {P : Type 0} (describes : P → Shape → Type 0) (before : Shape → Type 0) (ps : List P) (p : P) → DescribesFrom describes before (ps ++ p ∷ []) ≡ ChoiceDescribes (DescribesFrom describes before ps) (describes p)
-shows_more describes before [] p = refl
-shows_more describes before (q ∷ ps) p = shows_more describes (ChoiceDescribes before (describes q)) ps p
-
--- so it is shown
+-- one more parser is shown
 pub one_more_shown : {P : Type 0} (describes : P → Shape → Type 0) (before : Shape → Type 0) (ps : List P) (p : P) (a b shape : Shape)
-    → DescribesFrom describes before ps a → describes p b → shape ≡ either a b → DescribesFrom describes before (ps ++ p ∷ []) shape
-one_more_shown describes before ps p a b shape first last is = subst (λ shows. shows shape) (sym (shows_more describes before ps p)) (a, b, first, last, is)
+    → Nested ChoiceDescribes describes before ps a → describes p b → shape ≡ either a b → Nested ChoiceDescribes describes before (ps ++ p ∷ []) shape
+one_more_shown describes before ps p a b shape first last is = subst (λ shows. shows shape) (sym (nested_more ChoiceDescribes describes before ps p)) (a, b, first, last, is)
 
 module _ {T : Type 0} (before less second : Outcome T) (within : (s t : Situation) (r : Result T Error) → before s r t → less s r t) where
   -- fewer answers before give fewer runs of two branches
@@ -71,14 +67,14 @@ module _ {T : Type 0} (before less second : Outcome T) (within : (s t : Situatio
 
 -- so it is of many
 from_fewer : {T P : Type 0} (outcome : P → Outcome T) (before less : Outcome T) (ps : List P) → ((s t : Situation) (r : Result T Error) → before s r t → less s r t)
-    → (s t : Situation) (r : Result T Error) → ChoiceFrom outcome before ps s r t → ChoiceFrom outcome less ps s r t
+    → (s t : Situation) (r : Result T Error) → Nested ChoiceOutcome outcome before ps s r t → Nested ChoiceOutcome outcome less ps s r t
 from_fewer outcome before less [] within s t r o = within s t r o
 from_fewer outcome before less (p ∷ ps) within s t r o =
     from_fewer outcome (ChoiceOutcome before (outcome p)) (ChoiceOutcome less (outcome p)) ps (choice_fewer before less (outcome p) within) s t r o
 
 -- a choice of many catches no want of memory
 from_spared : {T P : Type 0} (outcome : P → Outcome T) (before : Outcome T) (ps : List P) (s t : Situation) (r : Result T Error)
-    → ChoiceFrom outcome before ps s r t → IsSpared r → ChoiceFrom (λ p. WithoutMemory (outcome p)) (WithoutMemory before) ps s r t
+    → Nested ChoiceOutcome outcome before ps s r t → IsSpared r → Nested ChoiceOutcome (λ p. WithoutMemory (outcome p)) (WithoutMemory before) ps s r t
 from_spared outcome before [] s t r o spared = (o, spared)
 from_spared outcome before (p ∷ ps) s t r o spared =
     from_fewer (λ q. WithoutMemory (outcome q)) (WithoutMemory (ChoiceOutcome before (outcome p))) (ChoiceOutcome (WithoutMemory before) (WithoutMemory (outcome p))) ps

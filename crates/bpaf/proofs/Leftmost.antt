@@ -7,7 +7,7 @@ use Rattle.bpaf_core.specs.Laws.{Lawful}
 use Rattle.bpaf_core.specs.Choice.{ChoiceOutcome, ChoiceReads, LeftmostWins}
 use Rattle.bpaf_core.specs.ChoiceLaws.{choice_lawful}
 use Rattle.bpaf_core.proofs.Leftmost.{leftmost_is_chosen}
-use Rattle.bpaf.specs.Choice.{ChoiceFrom, ChoicesOutcome, LeftmostFrom, LeftmostOfAll}
+use Rattle.bpaf.specs.Choice.{Nested, ChoicesOutcome, LeftmostOfAll}
 use Rattle.bpaf.proofs.Choosing.{ran_fewer, choice_fewer}
 
 -- one choice more in which the leftmost wins
@@ -23,7 +23,7 @@ module _ {T P : Type 0} (outcome : P → Outcome T) (reads : P → Readings T) (
   -- so it is in each of the later choices
   from_leftmost : {before : Outcome T} {rb : Readings T} (less : Outcome T) → Lawful T before rb → (ps : List P)
       → ((s t : Situation) (r : Result T Error) → before s r t → less s r t)
-      → (s t : Situation) (r : Result T Error) → ChoiceFrom outcome before ps s r t → LeftmostFrom outcome less ps s r t
+      → (s t : Situation) (r : Result T Error) → Nested ChoiceOutcome outcome before ps s r t → Nested LeftmostWins outcome less ps s r t
   from_leftmost less lb [] within s t r o = within s t r o
   from_leftmost {before = before} {rb = rb} less lb (p ∷ ps) within s t r o =
       from_leftmost {before = ChoiceOutcome before (outcome p)} {rb = ChoiceReads rb (reads p)} (LeftmostWins less (outcome p)) (choice_lawful lb (laws p)) ps

@@ -6,11 +6,11 @@ use Rattle.bpaf_core.specs.Choice.{ChoiceOutcome, ChoiceReads}
 use Rattle.bpaf_core.specs.ChoiceLaws.{choice_lawful}
 use Rattle.bpaf.specs.Pure.{GivesRefusal}
 use Rattle.bpaf.specs.PureLaws.{pure_lawful}
-use Rattle.bpaf.specs.Choice.{ChoiceFrom, ReadsFrom, ChoicesOutcome, ChoicesReads, no_choice}
+use Rattle.bpaf.specs.Choice.{Nested, ChoicesOutcome, ChoicesReads, no_choice}
 
 -- a choice of a lawful outcome and of lawful parsers is lawful
 from_lawful : {T P : Type 0} (outcome : P → Outcome T) (reads : P → Readings T) (before : Outcome T) (read : Readings T) (ps : List P)
-    → ((p : P) → Lawful T (outcome p) (reads p)) → Lawful T before read → Lawful T (ChoiceFrom outcome before ps) (ReadsFrom reads read ps)
+    → ((p : P) → Lawful T (outcome p) (reads p)) → Lawful T before read → Lawful T (Nested ChoiceOutcome outcome before ps) (Nested ChoiceReads reads read ps)
 from_lawful outcome reads before read [] each law = law
 from_lawful outcome reads before read (p ∷ ps) each law =
     from_lawful outcome reads (ChoiceOutcome before (outcome p)) (ChoiceReads read (reads p)) ps each (choice_lawful law (each p))

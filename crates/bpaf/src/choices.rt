@@ -1,6 +1,7 @@
 ghost use Rattle.std.specs.Prelude.{◌≡◌, IfOk, All};
 ghost use Rattle.bpaf_doc.specs.Shape.{shape_of};
-ghost use Rattle.bpaf.specs.Choice.{ChoiceFrom, ChoicesOutcome, DescribesFrom};
+ghost use Rattle.bpaf_core.specs.Choice.{ChoiceDescribes, ChoiceOutcome};
+ghost use Rattle.bpaf.specs.Choice.{ChoicesOutcome, Nested};
 
 use bpaf_core::{Parser, is_want, or_meta, this_or_that};
 use bpaf_doc::{Meta, Text};
@@ -32,7 +33,7 @@ pub fn choice<P>(parsers: Vec<P>) -> ParseChoice<P>
 fn choose_from<T: Drop, P: Parser<T>>(first: &P, rest: &[P], state: &mut State) -> Result<T, Error>
     requires first { P.can_eval first.now }
     requires rest { All P.can_eval rest.now }
-    ensures { ChoiceFrom P.outcome (P.outcome first.now) rest.now state.old result state.new }
+    ensures { Nested ChoiceOutcome P.outcome (P.outcome first.now) rest.now state.old result state.new }
 {
     if rest.is_empty() {
         return first.eval(state);
@@ -75,7 +76,7 @@ fn choose<T: Drop, P: Parser<T>>(parsers: &[P], state: &mut State) -> Result<T, 
 fn meta_from<T, P: Parser<T>>(first: &P, rest: &[P], alloc: Global) -> Result<Meta, AllocError>
     requires first { P.can_eval first.now }
     requires rest { All P.can_eval rest.now }
-    ensures { IfOk result (λ meta. DescribesFrom P.describes (P.describes first.now) rest.now (shape_of meta)) }
+    ensures { IfOk result (λ meta. Nested ChoiceDescribes P.describes (P.describes first.now) rest.now (shape_of meta)) }
 {
     let mut shown = first.meta(alloc)?;
     for parser in rest {

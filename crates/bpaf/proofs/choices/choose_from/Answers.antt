@@ -1,7 +1,7 @@
 use Rattle.std.proofs.Common.{◌≡◌, ◌+◌, ◌++◌, ◌∷◌, [], take, sym, ◌∙◌, subst, refl}
 use Rattle.std.proofs.lemmas.List.{take_more}
-use Rattle.bpaf_core.specs.Choice.{Chosen}
-use Rattle.bpaf.specs.Choice.{ChoiceFrom}
+use Rattle.bpaf_core.specs.Choice.{Chosen, ChoiceOutcome}
+use Rattle.bpaf.specs.Choice.{Nested}
 use Rattle.bpaf.proofs.Choosing.{one_more, wants, want_of}
 use Rattle.bpaf.proofs.choices.choose_from.Goals as goal
 
@@ -39,4 +39,4 @@ loop-parser-preserved g c =
     let both = one_more g.P.Parser.outcome (g.P.Parser.outcome c.args.first.now) (take i c.args.rest.now) c.parser-item.result s
     c.loop-parser.answer c.loop-parser.best c.eval-other.result c.eval-other.new.state c.this_or_that-answer.result c.this_or_that-answer.new.state
     c.loop-parser.invariant other (sym c.is_want.ensures ∙ c.if-is_want.false) (sym c.is_want-in-loop-parser.ensures ∙ c.if-is_want-2.false) chosen in
-    subst (λ ps. ChoiceFrom g.P.Parser.outcome (g.P.Parser.outcome c.args.first.now) ps s c.this_or_that-answer.result c.this_or_that-answer.new.state) (sym more) both
+    subst (λ ps. Nested ChoiceOutcome g.P.Parser.outcome (g.P.Parser.outcome c.args.first.now) ps s c.this_or_that-answer.result c.this_or_that-answer.new.state) (sym more) both

@@ -1,6 +1,7 @@
 use Rattle.std.proofs.Common.{take}
-use Rattle.bpaf.specs.Choice.{ChoiceFrom}
+use Rattle.bpaf_core.specs.Choice.{ChoiceOutcome}
+use Rattle.bpaf.specs.Choice.{Nested}
 use Rattle.bpaf.proofs.choices.choose_from.Given as goal
 
 abbrev pub invariant-loop-parser : goal.invariant-loop-parser
-invariant-loop-parser g l = ChoiceFrom g.P.Parser.outcome (g.P.Parser.outcome l.first) (take l.parser-index l.rest) l.fn.state l.answer l.best
+invariant-loop-parser g l = Nested ChoiceOutcome g.P.Parser.outcome (g.P.Parser.outcome l.first) (take l.parser-index l.rest) l.fn.state l.answer l.best

@@ -1,7 +1,8 @@
 use Rattle.std.proofs.Common.{◌≡◌, ◌+◌, ◌++◌, ◌∷◌, [], take, sym, ◌∙◌, subst, refl}
 use Rattle.std.proofs.lemmas.List.{take_more}
 use Rattle.bpaf_doc.specs.Shape.{shape_of}
-use Rattle.bpaf.specs.Choice.{DescribesFrom}
+use Rattle.bpaf_core.specs.Choice.{ChoiceDescribes}
+use Rattle.bpaf.specs.Choice.{Nested}
 use Rattle.bpaf.proofs.Choosing.{one_more_shown}
 use Rattle.bpaf.proofs.choices.meta_from.Goals as goal
 
@@ -10,6 +11,6 @@ loop-parser-preserved g c =
     let i = c.loop-parser.parser-index in
     let more : take (i + 1) c.args.rest.now ≡ take i c.args.rest.now ++ c.parser-item.result ∷ [] =
     take_more c.args.rest.now i c.parser-item.result c.loop-parser-test.true ∙ (rw (sym c.parser-item.is) refl) in
-    subst (λ ps. DescribesFrom g.P.Parser.describes (g.P.Parser.describes c.args.first.now) ps (shape_of c.in_ok-shown-2.shown)) (sym more)
+    subst (λ ps. Nested ChoiceDescribes g.P.Parser.describes (g.P.Parser.describes c.args.first.now) ps (shape_of c.in_ok-shown-2.shown)) (sym more)
     (one_more_shown g.P.Parser.describes (g.P.Parser.describes c.args.first.now) (take i c.args.rest.now) c.parser-item.result
     (shape_of c.loop-parser.shown) (shape_of c.in_ok-meta.field-0) (shape_of c.in_ok-shown-2.shown) c.loop-parser.invariant c.in_ok-meta.ensures c.in_ok-shown-2.ensures)
