@@ -1,4 +1,1 @@
-pub mod Shapes
 pub mod Words
-pub mod Choosing
-pub mod Leftmost

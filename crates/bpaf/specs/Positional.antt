@@ -2,14 +2,14 @@
 use Rattle.std.specs.Prelude.{◌≡◌, ◌⊎◌, ℕ, Bool, true, false, not, List, Ok, Err, Option, Some, None, option_and_then}
 use Rattle.bpaf_doc.specs.declared.doc.Piece.{Piece}
 use Rattle.bpaf_doc.specs.Shape.{Shape, Shown, Positional, Strict as StrictShape}
-use Rattle.bpaf_line.specs.Items.{is_positional, word_text}
+use Rattle.bpaf_words.specs.Items.{is_positional, word_text}
 use Rattle.bpaf_line.specs.MissingIn.{IsMissingIn}
-use Rattle.bpaf_line.specs.Situation.{Situation, Context}
+use Rattle.bpaf_line.specs.Situation.{Situation, Context, item_in}
 use Rattle.bpaf_line.specs.Taking.{TakesText, HasNone}
 use Rattle.bpaf_line.specs.declared.error.Message.{Message}
 use Rattle.bpaf_line.specs.declared.error.Message.TheVariants.{Memory, Missing, ParseFailed, StrictPos, NonStrictPos}
-use Rattle.bpaf_core.specs.Reading.{Share, Outcome, IsPlace, item_in}
-use Rattle.bpaf_core.specs.Value.{FaultsText}
+use Rattle.bpaf_laws.specs.Reading.{Share, Outcome, IsPlace}
+use Rattle.bpaf_laws.specs.Value.{FaultsText}
 use Rattle.bpaf.specs.declared.position.Position.{Position}
 use Rattle.bpaf.specs.declared.position.Position.TheVariants.{Unrestricted, Strict, NonStrict}
 

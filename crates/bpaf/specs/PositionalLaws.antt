@@ -5,17 +5,18 @@ use Rattle.bpaf_line.specs.Situation.{Situation, is_open}
 use Rattle.bpaf_line.specs.declared.error.Message.{Message}
 use Rattle.bpaf_line.specs.declared.error.Message.TheVariants.{Memory, Missing, ParseFailed, StrictPos, NonStrictPos}
 use Rattle.bpaf_line.specs.Taking.{TakesText}
-use Rattle.bpaf_core.specs.Reading.{Readings}
-use Rattle.bpaf_core.specs.Laws.{Keeps, Reads, Lawful}
-use Rattle.bpaf_core.specs.Keeping.{keeps_same, closes_take, keeps_take, newly_take}
-use Rattle.bpaf_core.specs.FlagLaws.{first_of_and}
+use Rattle.bpaf_laws.specs.Reading.{Readings}
+use Rattle.bpaf_laws.specs.Laws.{Keeps, Reads, Lawful}
+use Rattle.bpaf_laws.proofs.Keeping.{keeps_same, closes_take, keeps_take, newly_take}
+use Rattle.bpaf_words.specs.Items.{is_positional}
+use Rattle.bpaf_line.proofs.Matches.{match_is_open}
 use Rattle.bpaf.specs.declared.position.Position.{Position}
 use Rattle.bpaf.specs.Positional.{PositionalReads, PositionalOutcome, PositionalFails, TakesSome, accepts}
 
 module _ (s : Situation) (place : ℕ) (strict : Bool) (text : List ℕ) (t : Situation) (takes : TakesText s place strict text t) where
   -- the word that is taken lay present in scope
   word_open : is_open s place ≡ true
-  word_open = first_of_and (is_open s place) _ takes.first.matches
+  word_open = match_is_open is_positional s place takes.first.matches
 
   -- what taking a word keeps
   pub word_keeps : Keeps s t

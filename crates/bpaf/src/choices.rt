@@ -1,7 +1,7 @@
 ghost use Rattle.std.specs.Prelude.{◌≡◌, IfOk, All};
 ghost use Rattle.bpaf_doc.specs.Shape.{shape_of};
-ghost use Rattle.bpaf_core.specs.Choice.{ChoiceDescribes, ChoiceOutcome};
-ghost use Rattle.bpaf.specs.Choice.{ChoicesOutcome, Nested};
+ghost use Rattle.bpaf_laws.specs.Choice.{ChoiceDescribes, ChoiceOutcome};
+ghost use Rattle.bpaf_laws.specs.Choices.{ChoicesOutcome, Nested};
 
 use bpaf_core::{Parser, is_want, or_meta, this_or_that};
 use bpaf_doc::{Meta, Text};
@@ -91,9 +91,9 @@ fn meta_from<T, P: Parser<T>>(first: &P, rest: &[P], alloc: Global) -> Result<Me
 /// message, and no place is current then.
 impl<T: Drop, P: Parser<T> + Drop> Parser<T> for ParseChoice<P> {
     ghost use Rattle.std.specs.Prelude.{All};
-    ghost use Rattle.bpaf_core.specs.Spared.{IsSpared, WithoutMemory};
-    ghost use Rattle.bpaf.specs.Choice.{ChoicesOutcome, ChoicesReads, ChoicesDescribes, LeftmostOfAll};
-    ghost use Rattle.bpaf.specs.ChoiceLaws.{choices_lawful};
+    ghost use Rattle.bpaf_laws.specs.Spared.{IsNotMemory, WithoutMemory};
+    ghost use Rattle.bpaf_laws.specs.Choices.{ChoicesOutcome, ChoicesReads, ChoicesDescribes, LeftmostOfAll};
+    ghost use Rattle.bpaf_laws.proofs.ChoicesLaws.{choices_lawful};
 
     ghost can_eval = { λ p. All P.can_eval p.parsers.items };
 
@@ -107,7 +107,7 @@ impl<T: Drop, P: Parser<T> + Drop> Parser<T> for ParseChoice<P> {
         requires { All P.can_eval self.now.parsers.items }
         ensures outcome { ChoicesOutcome P.outcome self.now.parsers.items state.old result state.new }
         ensures leftmost_wins { LeftmostOfAll P.outcome self.now.parsers.items state.old result state.new }
-        ensures memory_is_never_caught { IsSpared result → ChoicesOutcome (λ p. WithoutMemory (P.outcome p)) self.now.parsers.items state.old result state.new }
+        ensures memory_is_never_caught { IsNotMemory result → ChoicesOutcome (λ p. WithoutMemory (P.outcome p)) self.now.parsers.items state.old result state.new }
     {
         choose(self.parsers.as_slice(), state)
     }

@@ -30,9 +30,9 @@ pub fn pure<T>(value: T) -> ParsePure<T>
 impl<T: Clone + Drop> Parser<T> for ParsePure<T> {
     ghost use Rattle.std.specs.Prelude.{◌≡◌};
     ghost use Rattle.bpaf_doc.specs.Shape.{Skip};
-    ghost use Rattle.bpaf_core.specs.Default.{GivesClone};
-    ghost use Rattle.bpaf.specs.Pure.{PureOutcome, PureReads};
-    ghost use Rattle.bpaf.specs.PureLaws.{pure_lawful};
+    ghost use Rattle.bpaf_laws.specs.Default.{GivesClone};
+    ghost use Rattle.bpaf_laws.specs.Pure.{PureOutcome, PureReads};
+    ghost use Rattle.bpaf_laws.proofs.PureLaws.{pure_lawful};
 
     ghost can_eval = { λ p. Unit {0} };
 
@@ -84,9 +84,9 @@ pub fn pure_with<T, E: Display, F: Fn() -> Result<T, E>>(f: F) -> ParsePureWith<
 impl<T: Drop, E: Display + Drop, F: Fn() -> Result<T, E>> Parser<T> for ParsePureWith<T, F, E> {
     ghost use Rattle.std.specs.Prelude.{◌≡◌};
     ghost use Rattle.bpaf_doc.specs.Shape.{Skip};
-    ghost use Rattle.bpaf_core.specs.Default.{GivesAnswer};
-    ghost use Rattle.bpaf.specs.Pure.{PureOutcome, PureReads};
-    ghost use Rattle.bpaf.specs.PureLaws.{pure_lawful};
+    ghost use Rattle.bpaf_laws.specs.Default.{GivesAnswer};
+    ghost use Rattle.bpaf_laws.specs.Pure.{PureOutcome, PureReads};
+    ghost use Rattle.bpaf_laws.proofs.PureLaws.{pure_lawful};
 
     ghost can_eval = { λ p. F.IsAlwaysCallable p.f };
 
@@ -139,8 +139,8 @@ pub fn fail<T>(message: &'static str) -> ParseFail<T>
 impl<T: Drop> Parser<T> for ParseFail<T> {
     ghost use Rattle.std.specs.Prelude.{◌≡◌};
     ghost use Rattle.bpaf_doc.specs.Shape.{Skip};
-    ghost use Rattle.bpaf.specs.Pure.{GivesRefusal, PureOutcome, PureReads};
-    ghost use Rattle.bpaf.specs.PureLaws.{pure_lawful};
+    ghost use Rattle.bpaf_laws.specs.Pure.{GivesRefusal, PureOutcome, PureReads};
+    ghost use Rattle.bpaf_laws.proofs.PureLaws.{pure_lawful};
 
     ghost can_eval = { λ p. Unit {0} };
 

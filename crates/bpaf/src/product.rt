@@ -1,6 +1,6 @@
 ghost use Rattle.std.specs.Prelude.{◌≡◌, OnOk, map};
 ghost use Rattle.bpaf_doc.specs.Shape.{shape_of};
-ghost use Rattle.bpaf.specs.Product.{AppendsShapes};
+ghost use Rattle.bpaf_laws.specs.Product.{AppendsShapes};
 
 use bpaf_core::Parser;
 use bpaf_doc::Meta;
@@ -12,8 +12,8 @@ use std::marker::PhantomData;
 pub trait Fields<V>: Sized {
     ghost use Rattle.std.specs.Prelude.{List};
     ghost use Rattle.bpaf_doc.specs.Shape.{Shape};
-    ghost use Rattle.bpaf_core.specs.Reading.{Outcome, Readings};
-    ghost use Rattle.bpaf_core.specs.Laws.{Lawful};
+    ghost use Rattle.bpaf_laws.specs.Reading.{Outcome, Readings};
+    ghost use Rattle.bpaf_laws.specs.Laws.{Lawful};
 
     /// Whether each field may be evaluated.
     ghost can_eval: { Self → Type 0 };
@@ -49,7 +49,7 @@ pub struct Last<A> {
 }
 
 impl<T: Drop, A: Parser<T>> Fields<T> for Last<A> {
-    ghost use Rattle.bpaf.specs.Product.{LastDescribes};
+    ghost use Rattle.bpaf_laws.specs.Product.{LastDescribes};
 
     ghost can_eval = { λ p. A.can_eval p.last };
 
@@ -79,8 +79,9 @@ pub struct Both<A, R> {
 }
 
 impl<T: Drop, V: Drop, A: Parser<T>, R: Fields<V>> Fields<(T, V)> for Both<A, R> {
-    ghost use Rattle.bpaf_core.specs.Spared.{IsSpared, WithoutMemory};
-    ghost use Rattle.bpaf.specs.Product.{BothOutcome, BothReads, BothDescribes, both_lawful};
+    ghost use Rattle.bpaf_laws.specs.Spared.{IsNotMemory, WithoutMemory};
+    ghost use Rattle.bpaf_laws.specs.Product.{BothOutcome, BothReads, BothDescribes};
+    ghost use Rattle.bpaf_laws.proofs.ProductLaws.{both_lawful};
 
     ghost can_eval = { λ p. A.can_eval p.first × R.can_eval p.rest };
 
@@ -94,7 +95,7 @@ impl<T: Drop, V: Drop, A: Parser<T>, R: Fields<V>> Fields<(T, V)> for Both<A, R>
         requires first { A.can_eval self.now.first }
         requires rest { R.can_eval self.now.rest }
         ensures outcome { BothOutcome (A.outcome self.now.first) (R.outcome self.now.rest) state.old result state.new }
-        ensures memory_is_never_caught { IsSpared result → BothOutcome (WithoutMemory (A.outcome self.now.first)) (WithoutMemory (R.outcome self.now.rest)) state.old result state.new }
+        ensures memory_is_never_caught { IsNotMemory result → BothOutcome (WithoutMemory (A.outcome self.now.first)) (WithoutMemory (R.outcome self.now.rest)) state.old result state.new }
     {
         match self.first.eval(state) {
             Ok(first) => match self.rest.eval_fields(state) {
@@ -156,8 +157,9 @@ impl<V, P, F> ParseCon<V, P, F> {
 }
 
 impl<V: Drop, T: Drop, P: Fields<V>, F: Fn(V) -> T> Parser<T> for ParseCon<V, P, F> {
-    ghost use Rattle.bpaf_core.specs.Spared.{IsSpared, WithoutMemory};
-    ghost use Rattle.bpaf.specs.Product.{ProductOutcome, ProductReads, ProductDescribes, product_lawful};
+    ghost use Rattle.bpaf_laws.specs.Spared.{IsNotMemory, WithoutMemory};
+    ghost use Rattle.bpaf_laws.specs.Product.{ProductOutcome, ProductReads, ProductDescribes};
+    ghost use Rattle.bpaf_laws.proofs.ProductLaws.{product_lawful};
 
     ghost can_eval = { λ p. P.can_eval p.fields × F.IsAlwaysCallable p.make };
 
@@ -171,7 +173,7 @@ impl<V: Drop, T: Drop, P: Fields<V>, F: Fn(V) -> T> Parser<T> for ParseCon<V, P,
         requires fields { P.can_eval self.now.fields }
         requires callable { F.IsAlwaysCallable self.now.make }
         ensures outcome { ProductOutcome (P.outcome self.now.fields) (λ x y. F.post self.now.make x y) state.old result state.new }
-        ensures memory_is_never_caught { IsSpared result → ProductOutcome (WithoutMemory (P.outcome self.now.fields)) (λ x y. F.post self.now.make x y) state.old result state.new }
+        ensures memory_is_never_caught { IsNotMemory result → ProductOutcome (WithoutMemory (P.outcome self.now.fields)) (λ x y. F.post self.now.make x y) state.old result state.new }
     {
         let values = self.fields.eval_fields(state);
         state.set_current(None);

@@ -1,19 +1,19 @@
 -- What a run accepts is dealt out of its words.
-use Rattle.std.proofs.Common.{◌≡◌, ℕ, ◌<◌, Bool, true, false, not, ◌&&◌, length, List, Option, Result, Ok, Err, IfOk, refl, subst, ap, arith, true≢false, nat_lt}
+use Rattle.std.proofs.Common.{◌≡◌, ℕ, ◌<◌, Bool, true, false, not, ◌&&◌, length, Result, Ok, Err, IfOk, refl, subst, ap, arith, true≢false, nat_lt}
 use Rattle.std.proofs.lemmas.Bool.Decides.{nat_tests}
 use mathlib.Core.Path.{fun_ext}
-use Rattle.bpaf_line.specs.declared.arg.Arg.{Arg}
 use Rattle.bpaf_line.specs.declared.failure.ParseFailure.{ParseFailure}
 use Rattle.bpaf_doc.specs.Shape.{Shape}
 use Rattle.bpaf_core.specs.declared.info.Info.{Info}
 use Rattle.bpaf_core.specs.Known.{known_names}
-use Rattle.bpaf_line.specs.Line.{IsLine}
+use Rattle.bpaf_words.specs.Arguments.{Given}
+use Rattle.bpaf_line.specs.Constructing.{IsContext}
 use Rattle.bpaf_line.specs.Situation.{Situation, Context, beginning, is_taken, is_open, in_scope, is_marker, is_dealt_place, open_count}
 use Rattle.bpaf_line.proofs.Beginning.{taken_at_beginning}
-use Rattle.bpaf_core.specs.Reading.{Readings, Outcome, Share}
-use Rattle.bpaf_core.specs.Laws.{Lawful, Keeps, Closes, newly}
-use Rattle.bpaf_core.specs.CountingLaws.{none_below}
-use Rattle.bpaf_core.specs.Run.{Given, context_in, Runs, RunsShown, RunsWords, value, ran, shown}
+use Rattle.bpaf_laws.specs.Reading.{Readings, Outcome, Share}
+use Rattle.bpaf_laws.specs.Laws.{Lawful, Keeps, Closes, newly}
+use Rattle.bpaf_laws.proofs.CountingLaws.{none_below}
+use Rattle.bpaf_core.specs.Run.{Runs, RunsShown, RunsWords, value, ran, shown}
 use Rattle.bpaf_core.specs.Dealt.{IsDealtOut}
 
 -- at one place: newly taken is the same as dealt, where each dealt place is taken
@@ -29,45 +29,44 @@ taken_at true false closed none = absurd (true≢false none)
 taken_at false taken closed none = closed refl
 
 -- a place that is dealt out lies in the line
-dealt_within : (line : List Arg) (marker : Option ℕ) (p : ℕ) → is_dealt_place line marker p ≡ true → p < length line
-dealt_within line marker p dealt = of_and (nat_lt p (length line)) (is_marker marker p) refl dealt
+dealt_within : (context : Context) (p : ℕ) → is_dealt_place context p ≡ true → p < length context.line
+dealt_within context p dealt = of_and (nat_lt p (length context.line)) (is_marker context.marker p) refl dealt
   where
-    of_and : (x y : Bool) → nat_lt p (length line) ≡ x → (x && not y) ≡ true → p < length line
+    of_and : (x y : Bool) → nat_lt p (length context.line) ≡ x → (x && not y) ≡ true → p < length context.line
     of_and true y e both = grind (arith, nat_tests)
     of_and false y e both = cc
 
 -- at the beginning each place of the line lies in the scope
-in_whole_line : (context : Context) (marker : Option ℕ) (p : ℕ) → p < length context.line → in_scope (beginning context marker) p ≡ true
-in_whole_line context marker p within = grind (arith, nat_tests)
+in_whole_line : (context : Context) (p : ℕ) → p < length context.line → in_scope (beginning context) p ≡ true
+in_whole_line context p within = grind (arith, nat_tests)
 
 -- an evaluation from the beginning that left nothing took all places but that of the marker
-all_newly : (context : Context) (marker : Option ℕ) (t : Situation) → Keeps (beginning context marker) t → Closes (beginning context marker) t → open_count t ≡ 0
-    → newly (beginning context marker) t ≡ is_dealt_place context.line marker
-all_newly context marker t keeps closed none = fun_ext (λ p. dealt_at (is_taken t p) (is_taken (beginning context marker) p) (is_dealt_place context.line marker p)
-    (taken_at_beginning context marker p)
+all_newly : (context : Context) (t : Situation) → Keeps (beginning context) t → Closes (beginning context) t → open_count t ≡ 0
+    → newly (beginning context) t ≡ is_dealt_place context
+all_newly context t keeps closed none = fun_ext (λ p. dealt_at (is_taken t p) (is_taken (beginning context) p) (is_dealt_place context p)
+    (taken_at_beginning context p)
     (λ dealt.
-    let within : p < length context.line = dealt_within context.line marker p dealt in
+    let within : p < length context.line = dealt_within context p dealt in
     let same : length t.context.line ≡ length context.line = ap (λ c. length c.line) keeps.context in
-    taken_at (in_scope t p) (is_taken t p) (closed p (in_whole_line context marker p within)) (none_below (is_open t) (length t.context.line) none p (omega arith))))
+    taken_at (in_scope t p) (is_taken t p) (closed p (in_whole_line context p within)) (none_below (is_open t) (length t.context.line) none p (omega arith))))
 
 module _ {T : Type 0} {inner : Outcome T} {reads : Readings T} {describes : Shape → Type 0} {info : Info} (given : Given) (law : Lawful T inner reads) where
   -- a value that a run over the words' line answers is dealt out of the words
-  dealt_from : (shape : Shape) → describes shape → (line : List Arg) (marker : Option ℕ) (v : T) → IsLine (known_names info shape) given.words line marker
-      → Runs T inner (beginning (context_in given line) marker) (Ok v) → IsDealtOut T reads describes info given v
-  dealt_from shape is line marker v is_line (value v' t answered none) =
-      let read = law.ok (beginning (context_in given line) marker) t v' answered in
+  dealt_from : (shape : Shape) → describes shape → (context : Context) (v : T) (t : Situation) → IsContext (known_names info shape) given context
+      → Runs T inner (beginning context) (Ok v) t → IsDealtOut T reads describes info given v
+  dealt_from shape is context v t is_context (value w left answered none) =
+      let read = law.ok (beginning context) left w answered in
       record {
         shape = shape;
         shown = is;
-        line = line;
-        marker = marker;
-        is_line = is_line;
-        read = subst (λ (share : Share). reads (context_in given line) share v') (all_newly (context_in given line) marker t read.keeps read.closed none) read.reading;
+        context = context;
+        is_context = is_context;
+        read = subst (λ (share : Share). reads context share w) (all_newly context left read.keeps read.closed none) read.reading;
       }
 
   -- so is a value of a run over words, for a shape that the parser may show
   dealt_shown : (shape : Shape) → describes shape → (v : T) → RunsShown T inner info shape given (Ok v) → IsDealtOut T reads describes info given v
-  dealt_shown shape is v (ran line marker r is_line run) = dealt_from shape is line marker v is_line run
+  dealt_shown shape is v (ran context r t is_context run) = dealt_from shape is context v t is_context run
 
   -- a value that a run over words answers is dealt out of them
   pub words_dealt : (v : T) → RunsWords T inner describes info given (Ok v) → IsDealtOut T reads describes info given v

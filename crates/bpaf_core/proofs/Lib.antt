@@ -1,10 +1,2 @@
 pub mod Running
 pub mod Dealing
-pub mod KeyFirst
-pub mod Sparing
-pub mod Repeating
-pub mod RepeatSparing
-pub mod Bounded
-pub mod Members
-pub mod Choosing
-pub mod Leftmost

@@ -1,22 +1,20 @@
--- How the answers of a run, and of an argument, are put together.
+-- How the answers of a run are put together.
 use Rattle.std.proofs.Common.{◌≡◌, ◌==◌, ℕ, ◌<◌, Bool, true, false, List, [], ◌∷◌, Option, Some, None, Result, Ok, Err, ⊎_elim, inl, inr, subst, sym, refl, true≢false}
 use Rattle.std.proofs.lemmas.Bool.Decides.{nat_tests}
 use Rattle.std.proofs.Common.{arith}
-use Rattle.bpaf_text.specs.Named.{Named, argument_part}
 use Rattle.bpaf_line.specs.declared.error.Error.{Error}
 use Rattle.bpaf_line.specs.declared.error.Message.{Message}
-use Rattle.bpaf_line.specs.declared.error.Message.TheVariants.{Memory, ParseFailed, Ambiguity}
+use Rattle.bpaf_line.specs.declared.error.Message.TheVariants.{Memory, Ambiguity}
 use Rattle.bpaf_line.specs.declared.failure.ParseFailure.{ParseFailure}
 use Rattle.bpaf_line.specs.Situation.{Situation}
 use Rattle.bpaf_line.specs.Constructing.{Constructs, RefusesLine}
-use Rattle.bpaf_core.specs.Reading.{Outcome}
-use Rattle.bpaf_core.specs.Value.{ReadsValue, FaultsText}
-use Rattle.bpaf_core.specs.Argument.{ArgumentOutcome, ArgumentFails, GetsText, RefusesText}
-use Rattle.bpaf_core.specs.Environment.{IsAbsence}
-use Rattle.bpaf_doc.specs.Shape.{Shape, Part}
+use Rattle.bpaf_laws.specs.Reading.{Outcome}
+use Rattle.bpaf_doc.specs.Shape.{Shape}
 use Rattle.bpaf_core.specs.declared.info.Info.{Info}
 use Rattle.bpaf_core.specs.Known.{known_names}
-use Rattle.bpaf_core.specs.Run.{Given, Runs, RunsWords, shown, ran, no_line, no_memory, Tells, ShowsNames}
+use Rattle.bpaf_words.specs.Arguments.{Given}
+use Rattle.bpaf_words.specs.Spelling.{knowing}
+use Rattle.bpaf_core.specs.Run.{Runs, RunsWords, shown, ran, no_line, no_memory, Tells, ShowsNames}
 
 -- a count that was tested for nothing
 pub nothing_left : (n : ℕ) (empty : Bool) → empty ≡ (n == 0) → empty ≡ true → n ≡ 0
@@ -27,16 +25,16 @@ pub something_left : (n : ℕ) (empty : Bool) → empty ≡ (n == 0) → empty �
 something_left n empty is otherwise = grind (arith, nat_tests)
 
 -- known names as a whole
-known_are : (describes : Shape → Type 0) (info : Info) (flags arguments : List ℕ) (n : ShowsNames describes info flags arguments) → record { flags = flags; arguments = arguments } ≡ known_names info n.shape
+known_are : (describes : Shape → Type 0) (info : Info) (flags arguments : List ℕ) (n : ShowsNames describes info flags arguments) → knowing (record { flags = flags; arguments = arguments }) ≡ known_names info n.shape
 known_are describes info flags arguments n = rw (n.flags_are, n.arguments_are) refl
 
 module _ {T : Type 0} {inner : Outcome T} {describes : Shape → Type 0} {info : Info} (given : Given) where
   -- a run from the state that the words made
-  pub started : (flags arguments : List ℕ) (s : Situation) (r : Result T ParseFailure) → ShowsNames describes info flags arguments
-      → Constructs (record { flags = flags; arguments = arguments }) given.words given.env given.name (Ok s) → Runs T inner s r → RunsWords T inner describes info given r
-  started flags arguments s r names made run =
-      let made' : Constructs (known_names info names.shape) given.words given.env given.name (Ok s) = subst (λ k. Constructs k given.words given.env given.name (Ok s)) (known_are describes info flags arguments names) made in
-      shown names.shape r names.shown (ran made'.0 made'.1 r made'.2 (subst (λ w. Runs T inner w r) made'.3 run))
+  pub started : (flags arguments : List ℕ) (s : Situation) (r : Result T ParseFailure) (t : Situation) → ShowsNames describes info flags arguments
+      → Constructs (knowing (record { flags = flags; arguments = arguments })) given (Ok s) → Runs T inner s r t → RunsWords T inner describes info given r
+  started flags arguments s r t names made run =
+      let known_made : Constructs (known_names info names.shape) given (Ok s) = subst (λ known. Constructs known given (Ok s)) (known_are describes info flags arguments names) made in
+      shown names.shape r names.shown (ran known_made.0 r t known_made.1 (subst (λ from. Runs T inner from r t) known_made.2 run))
 
   -- what is told of words without a line, or of no memory for it, is an answer of the run
   line_told : (shape : Shape) → describes shape → (m : Message) (f : ParseFailure) → RefusesLine (known_names info shape) given.words m → Tells m f → RunsWords T inner describes info given (Err f)
@@ -52,29 +50,6 @@ module _ {T : Type 0} {inner : Outcome T} {describes : Shape → Type 0} {info :
 
   -- words without a line, or no memory for it
   pub line_refused : (flags arguments : List ℕ) (m : Message) (f : ParseFailure) → ShowsNames describes info flags arguments
-      → RefusesLine (record { flags = flags; arguments = arguments }) given.words m → Tells m f → RunsWords T inner describes info given (Err f)
+      → RefusesLine (knowing (record { flags = flags; arguments = arguments })) given.words m → Tells m f → RunsWords T inner describes info given (Err f)
   line_refused flags arguments m f names refuses tells =
       line_told names.shape names.shown m f (subst (λ k. RefusesLine k given.words m) (known_are describes info flags arguments names) refuses) tells
-
-module _ {T : Type 0} (means : List ℕ → T → Type 0) (named : Named) (metavar : List ℕ) (s t : Situation) (text : List ℕ) where
-  -- a fault in the text of an argument is a refusal of the argument
-  fault_told : (m : Message) → GetsText named s text t → FaultsText means text t.current m → ArgumentFails means named metavar s m t
-  fault_told Memory gets fault = inr (text, gets)
-  fault_told (ParseFailed place words) gets fault = (text, gets, fault)
-  fault_told other gets fault = absurd fault
-
-  -- what reading the text of an argument answers
-  pub value_read : (r : Result T Error) → GetsText named s text t → ReadsValue means text t.current r → ArgumentOutcome means named metavar s r t
-  value_read (Ok v) gets meant = (text, gets, meant)
-  value_read (Err e) gets fault = fault_told e.0 gets fault
-
-  -- where there is no text, the argument refuses so
-  pub no_text : (m : Message) → RefusesText named metavar s m t → ArgumentFails means named metavar s m t
-  no_text Memory refuses = inl refuses
-  no_text (ParseFailed place fault) refuses = absurd (never (argument_part named metavar) named.envs refuses.1)
-    where
-      never : (part : Option Part) (envs : List (List ℕ)) → IsAbsence s part envs (ParseFailed place fault) → ⊥
-      never (Some part) envs is = is
-      never None [] is = is
-      never None (name ∷ envs) is = is
-  no_text other refuses = refuses

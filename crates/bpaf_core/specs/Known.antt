@@ -2,7 +2,7 @@
 use Rattle.std.specs.Prelude.{[], ◌∷◌, ◌++◌, codes}
 use Rattle.bpaf_doc.specs.Shape.{Shape}
 use Rattle.bpaf_doc.specs.Walks.{flag_shorts, argument_shorts}
-use Rattle.bpaf_line.specs.Spelling.{Known}
+use Rattle.bpaf_words.specs.Spelling.{Known, knowing}
 use Rattle.bpaf_text.specs.Named.{key_named}
 use Rattle.bpaf_core.specs.declared.info.Info.{Info}
 
@@ -15,7 +15,7 @@ plain_info = record {
 
 -- those of the flags and arguments that a parser shows, and as flags those of help and version
 abbrev pub known_names : Info → Shape → Known
-known_names info shape = record {
+known_names info shape = knowing (record {
   flags = flag_shorts shape ++ info.help_arg.names.shorts ++ info.version_arg.names.shorts;
   arguments = argument_shorts shape;
-}
+})

@@ -1,4 +1,4 @@
-ghost use Rattle.bpaf_core.specs.Argument.{TakesText};
+ghost use Rattle.bpaf_laws.specs.Argument.{TakesText};
 
 use crate::environment::{absence, first_set};
 use crate::parser::Parser;
@@ -35,9 +35,9 @@ fn take_argument(named: &NamedArg, metavar: Metavar, state: &mut State) -> Resul
 /// text means no value; or for want of memory. A text of the environment leaves no place current.
 impl<T: FromText + Drop> Parser<T> for ParseArgument<T> {
     ghost use Rattle.std.specs.Prelude.{◌≡◌};
-    ghost use Rattle.bpaf_core.specs.Argument.{ArgumentOutcome, ArgumentReads, argument_shape};
-    ghost use Rattle.bpaf_core.specs.ArgumentLaws.{argument_lawful};
-    ghost use Rattle.bpaf_core.specs.KeyFirst.{KeyBeforeEnvironment};
+    ghost use Rattle.bpaf_laws.specs.Argument.{ArgumentOutcome, ArgumentReads, argument_shape};
+    ghost use Rattle.bpaf_laws.proofs.ArgumentLaws.{argument_lawful};
+    ghost use Rattle.bpaf_laws.specs.KeyFirst.{KeyBeforeEnvironment};
 
     ghost can_eval = { λ p. Unit {0} };
 

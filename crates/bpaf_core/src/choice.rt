@@ -1,8 +1,8 @@
 ghost use Rattle.std.specs.Prelude.{◌≡◌, ◌&&◌, IfOk, map};
 ghost use Rattle.bpaf_doc.specs.Shape.{shape_of};
 ghost use Rattle.bpaf_line.specs.Messages.{is_wrong_input};
-ghost use Rattle.bpaf_core.specs.Step.{is_untouched};
-ghost use Rattle.bpaf_core.specs.Choice.{Chosen, Won, OneOk, is_want, alternatives, either};
+ghost use Rattle.bpaf_laws.specs.Step.{is_untouched};
+ghost use Rattle.bpaf_laws.specs.Choice.{Chosen, Won, OneOk, is_want, alternatives, either};
 
 use crate::parser::Parser;
 use bpaf_doc::Meta;
@@ -138,9 +138,9 @@ pub struct ParseOrElse<A, B> {
 /// Both are evaluated, each on a copy of the state, the first one first; [`this_or_that`] tells which
 /// answer stands. Want of memory in either is refused at once, with the state as before.
 impl<T: Drop, A: Parser<T>, B: Parser<T>> Parser<T> for ParseOrElse<A, B> {
-    ghost use Rattle.bpaf_core.specs.Choice.{ChoiceOutcome, ChoiceReads, ChoiceDescribes, LeftmostWins};
-    ghost use Rattle.bpaf_core.specs.ChoiceLaws.{choice_lawful};
-    ghost use Rattle.bpaf_core.specs.Spared.{IsSpared, WithoutMemory};
+    ghost use Rattle.bpaf_laws.specs.Choice.{ChoiceOutcome, ChoiceReads, ChoiceDescribes, LeftmostWins};
+    ghost use Rattle.bpaf_laws.proofs.ChoiceLaws.{choice_lawful};
+    ghost use Rattle.bpaf_laws.specs.Spared.{IsNotMemory, WithoutMemory};
 
     ghost can_eval = { λ p. A.can_eval p.this × B.can_eval p.that };
 
@@ -155,7 +155,7 @@ impl<T: Drop, A: Parser<T>, B: Parser<T>> Parser<T> for ParseOrElse<A, B> {
         requires that { B.can_eval self.now.that }
         ensures outcome { ChoiceOutcome (A.outcome self.now.this) (B.outcome self.now.that) state.old result state.new }
         ensures leftmost_wins { LeftmostWins (A.outcome self.now.this) (B.outcome self.now.that) state.old result state.new }
-        ensures memory_is_never_caught { IsSpared result → ChoiceOutcome (WithoutMemory (A.outcome self.now.this)) (WithoutMemory (B.outcome self.now.that)) state.old result state.new }
+        ensures memory_is_never_caught { IsNotMemory result → ChoiceOutcome (WithoutMemory (A.outcome self.now.this)) (WithoutMemory (B.outcome self.now.that)) state.old result state.new }
     {
         let mut this = state.copy()?;
         let mut that = state.copy()?;

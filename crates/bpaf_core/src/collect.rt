@@ -1,5 +1,5 @@
 ghost use Rattle.std.specs.Prelude.{◌≡◌, true};
-ghost use Rattle.bpaf_core.specs.Repeat.{CollectOutcome};
+ghost use Rattle.bpaf_laws.specs.Repeat.{CollectOutcome};
 
 use crate::parser::Parser;
 use crate::repeat::{many_meta, values_until_stop};
@@ -51,9 +51,9 @@ impl<P, C, T> ParseCollect<P, C, T> {
 /// memory.
 impl<T: Drop, C: FromList<T> + Drop, P: Parser<T>> Parser<C> for ParseCollect<P, C, T> {
     ghost use Rattle.std.specs.Prelude.{List, IfOk};
-    ghost use Rattle.bpaf_core.specs.Repeat.{CollectOutcome, CollectReads, ManyDescribes, IsBounded};
-    ghost use Rattle.bpaf_core.specs.RepeatLaws.{collect_lawful};
-    ghost use Rattle.bpaf_core.specs.Spared.{IsSpared, WithoutMemory};
+    ghost use Rattle.bpaf_laws.specs.Repeat.{CollectOutcome, CollectReads, ManyDescribes, IsBounded};
+    ghost use Rattle.bpaf_laws.proofs.RepeatLaws.{collect_lawful};
+    ghost use Rattle.bpaf_laws.specs.Spared.{IsNotMemory, WithoutMemory};
 
     ghost can_eval = { λ p. P.can_eval p.inner };
 
@@ -67,7 +67,7 @@ impl<T: Drop, C: FromList<T> + Drop, P: Parser<T>> Parser<C> for ParseCollect<P,
         requires { P.can_eval self.now.inner }
         ensures outcome { CollectOutcome (P.outcome self.now.inner) self.now.catch C.fills state.old result state.new }
         ensures repeat_is_bounded { IfOk result (λ filled. (values : List T) × C.fills values filled × IsBounded (P.outcome self.now.inner) state.old values) }
-        ensures memory_is_never_caught { IsSpared result → CollectOutcome (WithoutMemory (P.outcome self.now.inner)) self.now.catch C.fills state.old result state.new }
+        ensures memory_is_never_caught { IsNotMemory result → CollectOutcome (WithoutMemory (P.outcome self.now.inner)) self.now.catch C.fills state.old result state.new }
     {
         collect_values(&self.inner, state, self.catch)
     }

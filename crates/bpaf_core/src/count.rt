@@ -1,4 +1,4 @@
-ghost use Rattle.bpaf_core.specs.Repeat.{CountOutcome, LastOutcome};
+ghost use Rattle.bpaf_laws.specs.Repeat.{CountOutcome, LastOutcome};
 
 use crate::optional::parse_option;
 use crate::parser::Parser;
@@ -57,9 +57,9 @@ pub struct ParseCount<P, T> {
 /// The number of inner values, until a step stops or a value took nothing, which is counted. Every error
 /// at which no step stops is refused, with the state that it left; so is want of memory.
 impl<T: Drop, P: Parser<T>> Parser<usize> for ParseCount<P, T> {
-    ghost use Rattle.bpaf_core.specs.Repeat.{CountOutcome, CountReads, ManyDescribes};
-    ghost use Rattle.bpaf_core.specs.RepeatLaws.{count_lawful};
-    ghost use Rattle.bpaf_core.specs.Spared.{IsSpared, WithoutMemory};
+    ghost use Rattle.bpaf_laws.specs.Repeat.{CountOutcome, CountReads, ManyDescribes};
+    ghost use Rattle.bpaf_laws.proofs.RepeatLaws.{count_lawful};
+    ghost use Rattle.bpaf_laws.specs.Spared.{IsNotMemory, WithoutMemory};
 
     ghost can_eval = { λ p. P.can_eval p.inner };
 
@@ -72,7 +72,7 @@ impl<T: Drop, P: Parser<T>> Parser<usize> for ParseCount<P, T> {
     fn eval(&self, state: &mut State) -> Result<usize, Error>
         requires { P.can_eval self.now.inner }
         ensures outcome { CountOutcome (P.outcome self.now.inner) state.old result state.new }
-        ensures memory_is_never_caught { IsSpared result → CountOutcome (WithoutMemory (P.outcome self.now.inner)) state.old result state.new }
+        ensures memory_is_never_caught { IsNotMemory result → CountOutcome (WithoutMemory (P.outcome self.now.inner)) state.old result state.new }
     {
         count_values(&self.inner, state)
     }
@@ -94,9 +94,9 @@ pub struct ParseLast<P> {
 /// is evaluated once more, and what it answers is the answer. Every error at which no step stops is
 /// refused, with the state that it left; so is want of memory.
 impl<T: Drop, P: Parser<T>> Parser<T> for ParseLast<P> {
-    ghost use Rattle.bpaf_core.specs.Repeat.{LastOutcome, LastReads, SomeDescribes};
-    ghost use Rattle.bpaf_core.specs.RepeatLaws.{last_lawful};
-    ghost use Rattle.bpaf_core.specs.Spared.{IsSpared, WithoutMemory};
+    ghost use Rattle.bpaf_laws.specs.Repeat.{LastOutcome, LastReads, SomeDescribes};
+    ghost use Rattle.bpaf_laws.proofs.RepeatLaws.{last_lawful};
+    ghost use Rattle.bpaf_laws.specs.Spared.{IsNotMemory, WithoutMemory};
 
     ghost can_eval = { λ p. P.can_eval p.inner };
 
@@ -109,7 +109,7 @@ impl<T: Drop, P: Parser<T>> Parser<T> for ParseLast<P> {
     fn eval(&self, state: &mut State) -> Result<T, Error>
         requires { P.can_eval self.now.inner }
         ensures outcome { LastOutcome (P.outcome self.now.inner) state.old result state.new }
-        ensures memory_is_never_caught { IsSpared result → LastOutcome (WithoutMemory (P.outcome self.now.inner)) state.old result state.new }
+        ensures memory_is_never_caught { IsNotMemory result → LastOutcome (WithoutMemory (P.outcome self.now.inner)) state.old result state.new }
     {
         last_value(&self.inner, state)
     }

@@ -1,6 +1,6 @@
 ghost use Rattle.std.specs.Prelude.{◌≡◌, IfOk, option_copied, option_map};
 ghost use Rattle.bpaf_doc.specs.Shape.{part_of};
-ghost use Rattle.bpaf_core.specs.Environment.{first_set, IsAbsence};
+ghost use Rattle.bpaf_laws.specs.Environment.{first_set, IsAbsence};
 
 use bpaf_doc::{Item, Text};
 use bpaf_line::{Error, Message, State};

@@ -1,4 +1,4 @@
-ghost use Rattle.bpaf_core.specs.Default.{AttemptOutcome};
+ghost use Rattle.bpaf_laws.specs.Default.{AttemptOutcome};
 
 use crate::optional::optional_meta;
 use crate::parser::Parser;
@@ -41,9 +41,9 @@ pub struct ParseFallback<P, T> {
 /// caught. Every other error is refused; so is want of memory. After all but an inner value the state
 /// is as before.
 impl<T: Clone + Drop, P: Parser<T>> Parser<T> for ParseFallback<P, T> {
-    ghost use Rattle.bpaf_core.specs.Default.{FallbackOutcome, FallbackReads, GivesClone, OptionalDescribes};
-    ghost use Rattle.bpaf_core.specs.DefaultLaws.{fallback_lawful};
-    ghost use Rattle.bpaf_core.specs.Spared.{IsSpared, WithoutMemory, DefaultTakesNothing};
+    ghost use Rattle.bpaf_laws.specs.Default.{FallbackOutcome, FallbackReads, GivesClone, OptionalDescribes};
+    ghost use Rattle.bpaf_laws.proofs.DefaultLaws.{fallback_lawful};
+    ghost use Rattle.bpaf_laws.specs.Spared.{IsNotMemory, WithoutMemory, DefaultTakesNothing};
 
     ghost can_eval = { λ p. P.can_eval p.inner };
 
@@ -57,7 +57,7 @@ impl<T: Clone + Drop, P: Parser<T>> Parser<T> for ParseFallback<P, T> {
         requires { P.can_eval self.now.inner }
         ensures outcome { FallbackOutcome (P.outcome self.now.inner) (GivesClone T.is_clone self.now.value) state.old result state.new }
         ensures default_takes_nothing { DefaultTakesNothing (P.outcome self.now.inner) state.old result state.new }
-        ensures memory_is_never_caught { IsSpared result → FallbackOutcome (WithoutMemory (P.outcome self.now.inner)) (GivesClone T.is_clone self.now.value) state.old result state.new }
+        ensures memory_is_never_caught { IsNotMemory result → FallbackOutcome (WithoutMemory (P.outcome self.now.inner)) (GivesClone T.is_clone self.now.value) state.old result state.new }
     {
         match attempt(&self.inner, state)? {
             Some(value) => Ok(value),
@@ -86,9 +86,9 @@ pub struct ParseFallbackWith<T, P, F, E> {
 /// all but an inner value the state is as before.
 impl<T: Drop, E: Display + Drop, P: Parser<T>, F: Fn() -> Result<T, E>> Parser<T>
     for ParseFallbackWith<T, P, F, E> {
-    ghost use Rattle.bpaf_core.specs.Default.{FallbackOutcome, FallbackReads, GivesAnswer, OptionalDescribes};
-    ghost use Rattle.bpaf_core.specs.DefaultLaws.{fallback_lawful};
-    ghost use Rattle.bpaf_core.specs.Spared.{IsSpared, WithoutMemory, DefaultTakesNothing};
+    ghost use Rattle.bpaf_laws.specs.Default.{FallbackOutcome, FallbackReads, GivesAnswer, OptionalDescribes};
+    ghost use Rattle.bpaf_laws.proofs.DefaultLaws.{fallback_lawful};
+    ghost use Rattle.bpaf_laws.specs.Spared.{IsNotMemory, WithoutMemory, DefaultTakesNothing};
 
     ghost can_eval = { λ p. P.can_eval p.inner × F.IsAlwaysCallable p.fallback };
 
@@ -103,7 +103,7 @@ impl<T: Drop, E: Display + Drop, P: Parser<T>, F: Fn() -> Result<T, E>> Parser<T
         requires callable { F.IsAlwaysCallable self.now.fallback }
         ensures outcome { FallbackOutcome (P.outcome self.now.inner) (GivesAnswer (λ r. F.post self.now.fallback r) E.output) state.old result state.new }
         ensures default_takes_nothing { DefaultTakesNothing (P.outcome self.now.inner) state.old result state.new }
-        ensures memory_is_never_caught { IsSpared result → FallbackOutcome (WithoutMemory (P.outcome self.now.inner)) (GivesAnswer (λ r. F.post self.now.fallback r) E.output) state.old result state.new }
+        ensures memory_is_never_caught { IsNotMemory result → FallbackOutcome (WithoutMemory (P.outcome self.now.inner)) (GivesAnswer (λ r. F.post self.now.fallback r) E.output) state.old result state.new }
     {
         if let Some(value) = attempt(&self.inner, state)? {
             return Ok(value);

@@ -13,8 +13,8 @@ use std::alloc::{AllocError, Global};
 /// memory.
 impl<T: Clone + Drop> Parser<T> for ParseFlag<T> {
     ghost use Rattle.std.specs.Prelude.{◌≡◌};
-    ghost use Rattle.bpaf_core.specs.Flag.{FlagOutcome, FlagReads, flag_shape};
-    ghost use Rattle.bpaf_core.specs.FlagLaws.{flag_lawful};
+    ghost use Rattle.bpaf_laws.specs.Flag.{FlagOutcome, FlagReads, flag_shape};
+    ghost use Rattle.bpaf_laws.proofs.FlagLaws.{flag_lawful};
 
     ghost can_eval = { λ p. Unit {0} };
 

@@ -1,7 +1,7 @@
 ghost use Rattle.std.specs.Prelude.{◌≡◌, IfOk, true};
 ghost use Rattle.bpaf_doc.specs.Shape.{shape_of};
-ghost use Rattle.bpaf_core.specs.Default.{OptionalDescribes};
-ghost use Rattle.bpaf_core.specs.Step.{StepOutcome, stops_step};
+ghost use Rattle.bpaf_laws.specs.Default.{OptionalDescribes};
+ghost use Rattle.bpaf_laws.specs.Step.{StepOutcome, stops_step};
 
 use crate::parser::Parser;
 use bpaf_doc::Meta;
@@ -12,8 +12,10 @@ use std::alloc::{AllocError, Global};
 fn stops_step(catches: bool, message: &Message, untouched: bool) -> bool
     ensures { result ≡ stops_step catches message.now untouched }
 {
+    if message.is_memory() {
+        return false;
+    }
     match message {
-        Message::Memory => false,
         Message::Missing(_) => catches || untouched,
         other => (catches && !other.wrong_input()) || other.can_catch(),
     }
@@ -88,9 +90,9 @@ impl<P> ParseOptional<P> {
 /// the state that it left; so is want of memory.
 impl<T: Drop, P: Parser<T>> Parser<Option<T>> for ParseOptional<P> {
     ghost use Rattle.std.specs.Prelude.{true};
-    ghost use Rattle.bpaf_core.specs.Default.{OptionalReads, OptionalDescribes};
-    ghost use Rattle.bpaf_core.specs.Spared.{IsSpared, WithoutMemory, NoneTakesNothing};
-    ghost use Rattle.bpaf_core.specs.DefaultLaws.{optional_lawful};
+    ghost use Rattle.bpaf_laws.specs.Default.{OptionalReads, OptionalDescribes};
+    ghost use Rattle.bpaf_laws.specs.Spared.{IsNotMemory, WithoutMemory, NoneTakesNothing};
+    ghost use Rattle.bpaf_laws.proofs.DefaultLaws.{optional_lawful};
 
     ghost can_eval = { λ p. P.can_eval p.inner };
 
@@ -104,7 +106,7 @@ impl<T: Drop, P: Parser<T>> Parser<Option<T>> for ParseOptional<P> {
         requires { P.can_eval self.now.inner }
         ensures outcome { StepOutcome (P.outcome self.now.inner) self.now.catch true state.old result state.new }
         ensures default_takes_nothing { NoneTakesNothing state.old result state.new }
-        ensures memory_is_never_caught { IsSpared result → StepOutcome (WithoutMemory (P.outcome self.now.inner)) self.now.catch true state.old result state.new }
+        ensures memory_is_never_caught { IsNotMemory result → StepOutcome (WithoutMemory (P.outcome self.now.inner)) self.now.catch true state.old result state.new }
     {
         parse_option(&self.inner, state, self.catch, true)
     }

@@ -1,13 +1,14 @@
-ghost use Rattle.std.specs.Prelude.{IfOk};
-ghost use Rattle.std.specs.Prelude.{◌≡◌};
-ghost use Rattle.bpaf_core.specs.Known.{known_names};
-ghost use Rattle.bpaf_core.specs.Run.{Runs, RunsWords, IsRefusal, Tells, ShowsNames, given_of};
+//! A run of a parser over words.
+ghost use Rattle.std.specs.Prelude.{◌≡◌, IfOk};
+ghost use Rattle.bpaf_words.specs.Arguments.{given_of};
+ghost use Rattle.bpaf_core.specs.Run.{Runs, RunsWords, IsRefusal, Tells, ShowsNames};
 ghost use Rattle.bpaf_core.specs.Dealt.{IsDealtOut};
 
 use crate::info::Info;
 use crate::parser::Parser;
 use bpaf_doc::Doc;
-use bpaf_line::{Args, Message, ParseFailure, State};
+use bpaf_line::{Message, ParseFailure, State};
+use bpaf_words::Args;
 use std::alloc::{AllocError, Global};
 use std::marker::PhantomData;
 
@@ -30,6 +31,7 @@ fn refusal(alloc: Global) -> ParseFailure
     }
 }
 
+/// That text as a document; refused only for want of memory.
 fn refused(alloc: Global) -> Result<Doc, AllocError>
     ensures { IfOk result (λ doc. IsRefusal (ParseFailure.Stderr doc)) }
 {
@@ -39,7 +41,7 @@ fn refused(alloc: Global) -> Result<Doc, AllocError>
 }
 
 /// What a run ends with where a parser, or the line, refuses: want of memory stays that.
-fn told(alloc: Global, message: Message) -> ParseFailure
+fn failure_of(alloc: Global, message: Message) -> ParseFailure
     ensures { Tells message result }
 {
     if message.is_memory() {
@@ -56,18 +58,17 @@ impl<T: Drop, P: Parser<T>> OptionParser<T, P> {
     /// unchanged, and may run again.
     pub fn run_inner(&self, args: Args<'_>) -> Result<T, ParseFailure>
         requires { P.can_eval self.now.inner }
-        ensures outcome { RunsWords T (P.outcome self.now.inner) (P.describes self.now.inner) self.now.info (given_of args.entry) result }
-        ensures dealt { IfOk result (λ v. IsDealtOut T (P.reads self.now.inner) (P.describes self.now.inner) self.now.info (given_of args.entry) v) }
+        ensures outcome { RunsWords T (P.outcome self.now.inner) (P.describes self.now.inner)
+            self.now.info (given_of args.entry) result }
+        ensures dealt { IfOk result (λ v. IsDealtOut T (P.reads self.now.inner)
+            (P.describes self.now.inner) self.now.info (given_of args.entry) v) }
     {
         let Ok((flags, arguments)) = self.known_shorts() else {
             return Err(ParseFailure::Memory);
         };
         match State::construct(self.alloc, args, &flags, &arguments) {
-            Ok(state) => {
-                let mut state = state;
-                self.run_from(&mut state)
-            }
-            Err(message) => Err(told(self.alloc, message)),
+            Ok(mut state) => self.run_from(&mut state),
+            Err(message) => Err(failure_of(self.alloc, message)),
         }
     }
 
@@ -75,7 +76,8 @@ impl<T: Drop, P: Parser<T>> OptionParser<T, P> {
     /// version as flags, and those of the shown arguments.
     fn known_shorts(&self) -> Result<(Vec<char>, Vec<char>), AllocError>
         requires { P.can_eval self.now.inner }
-        ensures { IfOk result (λ r. ShowsNames (P.describes self.now.inner) self.now.info r.0.items r.1.items) }
+        ensures { IfOk result (λ r. ShowsNames (P.describes self.now.inner) self.now.info
+            r.0.items r.1.items) }
     {
         let meta = self.inner.meta(self.alloc)?;
         let mut flags = Vec::new(self.alloc);
@@ -89,7 +91,7 @@ impl<T: Drop, P: Parser<T>> OptionParser<T, P> {
     /// A run from a state on.
     fn run_from(&self, state: &mut State) -> Result<T, ParseFailure>
         requires { P.can_eval self.now.inner }
-        ensures { Runs T (P.outcome self.now.inner) state.old result }
+        ensures { Runs T (P.outcome self.now.inner) state.old result state.new }
     {
         match self.inner.eval(state) {
             Ok(value) => {
@@ -99,7 +101,7 @@ impl<T: Drop, P: Parser<T>> OptionParser<T, P> {
                 drop(value);
                 Err(refusal(self.alloc))
             }
-            Err(error) => Err(told(self.alloc, error.0)),
+            Err(error) => Err(failure_of(self.alloc, error.0)),
         }
     }
 }

@@ -21,8 +21,8 @@ use std::marker::PhantomData;
 /// What reads a value off a line (bpaf's `Parser`).
 pub trait Parser<T>: Sized {
     ghost use Rattle.bpaf_doc.specs.Shape.{Shape};
-    ghost use Rattle.bpaf_core.specs.Reading.{Outcome, Readings};
-    ghost use Rattle.bpaf_core.specs.Laws.{Lawful};
+    ghost use Rattle.bpaf_laws.specs.Reading.{Outcome, Readings};
+    ghost use Rattle.bpaf_laws.specs.Laws.{Lawful};
 
     /// Whether it may be evaluated: its closures may be called on every value.
     ghost can_eval: { Self → Type 0 };

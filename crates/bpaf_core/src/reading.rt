@@ -1,4 +1,4 @@
-ghost use Rattle.bpaf_core.specs.Value.{ReadsValue};
+ghost use Rattle.bpaf_laws.specs.Value.{ReadsValue};
 
 use bpaf_doc::Text;
 use bpaf_line::{Error, Message, State};

@@ -1,6 +1,6 @@
 ghost use Rattle.std.specs.Prelude.{◌≡◌, ◌++◌, ◌∷◌, [], IfOk, OnOk, true};
 ghost use Rattle.bpaf_doc.specs.Shape.{shape_of};
-ghost use Rattle.bpaf_core.specs.Repeat.{ManyOutcome, SomeOutcome, ManyDescribes, SomeDescribes};
+ghost use Rattle.bpaf_laws.specs.Repeat.{ManyOutcome, SomeOutcome, ManyDescribes, SomeDescribes};
 
 use crate::optional::parse_option;
 use crate::parser::Parser;
@@ -76,9 +76,9 @@ impl<P> ParseMany<P> {
 /// other error is refused, with the state that it left; so is want of memory.
 impl<T: Drop, P: Parser<T>> Parser<Vec<T>> for ParseMany<P> {
     ghost use Rattle.std.specs.Prelude.{IfOk};
-    ghost use Rattle.bpaf_core.specs.Repeat.{ManyOutcome, ManyReads, ManyDescribes, IsBounded};
-    ghost use Rattle.bpaf_core.specs.RepeatLaws.{many_lawful};
-    ghost use Rattle.bpaf_core.specs.Spared.{IsSpared, WithoutMemory};
+    ghost use Rattle.bpaf_laws.specs.Repeat.{ManyOutcome, ManyReads, ManyDescribes, IsBounded};
+    ghost use Rattle.bpaf_laws.proofs.RepeatLaws.{many_lawful};
+    ghost use Rattle.bpaf_laws.specs.Spared.{IsNotMemory, WithoutMemory};
 
     ghost can_eval = { λ p. P.can_eval p.inner };
 
@@ -92,7 +92,7 @@ impl<T: Drop, P: Parser<T>> Parser<Vec<T>> for ParseMany<P> {
         requires { P.can_eval self.now.inner }
         ensures outcome { ManyOutcome (P.outcome self.now.inner) self.now.catch state.old result state.new }
         ensures repeat_is_bounded { IfOk result (λ values. IsBounded (P.outcome self.now.inner) state.old values.items) }
-        ensures memory_is_never_caught { IsSpared result → ManyOutcome (WithoutMemory (P.outcome self.now.inner)) self.now.catch state.old result state.new }
+        ensures memory_is_never_caught { IsNotMemory result → ManyOutcome (WithoutMemory (P.outcome self.now.inner)) self.now.catch state.old result state.new }
     {
         values_until_stop(&self.inner, state, self.catch)
     }
@@ -149,9 +149,9 @@ impl<'m, P> ParseSome<'m, P> {
 /// As `many`; without a value it refuses with ParseSome and the message.
 impl<'m, T: Drop, P: Parser<T>> Parser<Vec<T>> for ParseSome<'m, P> {
     ghost use Rattle.std.specs.Prelude.{IfOk};
-    ghost use Rattle.bpaf_core.specs.Repeat.{SomeOutcome, SomeReads, SomeDescribes, IsBounded};
-    ghost use Rattle.bpaf_core.specs.RepeatLaws.{some_lawful};
-    ghost use Rattle.bpaf_core.specs.Spared.{IsSpared, WithoutMemory};
+    ghost use Rattle.bpaf_laws.specs.Repeat.{SomeOutcome, SomeReads, SomeDescribes, IsBounded};
+    ghost use Rattle.bpaf_laws.proofs.RepeatLaws.{some_lawful};
+    ghost use Rattle.bpaf_laws.specs.Spared.{IsNotMemory, WithoutMemory};
 
     ghost can_eval = { λ p. P.can_eval p.inner };
 
@@ -165,7 +165,7 @@ impl<'m, T: Drop, P: Parser<T>> Parser<Vec<T>> for ParseSome<'m, P> {
         requires { P.can_eval self.now.inner }
         ensures outcome { SomeOutcome (P.outcome self.now.inner) self.now.catch self.now.message.now state.old result state.new }
         ensures repeat_is_bounded { IfOk result (λ values. IsBounded (P.outcome self.now.inner) state.old values.items) }
-        ensures memory_is_never_caught { IsSpared result → SomeOutcome (WithoutMemory (P.outcome self.now.inner)) self.now.catch self.now.message.now state.old result state.new }
+        ensures memory_is_never_caught { IsNotMemory result → SomeOutcome (WithoutMemory (P.outcome self.now.inner)) self.now.catch self.now.message.now state.old result state.new }
     {
         some_values(&self.inner, state, self.catch, self.message)
     }

@@ -18,9 +18,9 @@ pub struct ParseMap<T, P, F, R> {
 
 /// The state stays as the inner parser left it, and what that refuses is refused.
 impl<T: Drop, R: Drop, P: Parser<T>, F: Fn(T) -> R> Parser<R> for ParseMap<T, P, F, R> {
-    ghost use Rattle.bpaf_core.specs.Spared.{IsSpared, WithoutMemory};
-    ghost use Rattle.bpaf_core.specs.Transform.{MapOutcome, MapReads};
-    ghost use Rattle.bpaf_core.specs.TransformLaws.{map_lawful};
+    ghost use Rattle.bpaf_laws.specs.Spared.{IsNotMemory, WithoutMemory};
+    ghost use Rattle.bpaf_laws.specs.Transform.{MapOutcome, MapReads};
+    ghost use Rattle.bpaf_laws.proofs.TransformLaws.{map_lawful};
 
     ghost can_eval = { λ p. P.can_eval p.inner × F.IsAlwaysCallable p.map_fn };
 
@@ -34,7 +34,7 @@ impl<T: Drop, R: Drop, P: Parser<T>, F: Fn(T) -> R> Parser<R> for ParseMap<T, P,
         requires inner { P.can_eval self.now.inner }
         requires callable { F.IsAlwaysCallable self.now.map_fn }
         ensures outcome { MapOutcome (P.outcome self.now.inner) (λ x y. F.post self.now.map_fn x y) state.old result state.new }
-        ensures memory_is_never_caught { IsSpared result → MapOutcome (WithoutMemory (P.outcome self.now.inner)) (λ x y. F.post self.now.map_fn x y) state.old result state.new }
+        ensures memory_is_never_caught { IsNotMemory result → MapOutcome (WithoutMemory (P.outcome self.now.inner)) (λ x y. F.post self.now.map_fn x y) state.old result state.new }
     {
         let value = self.inner.eval(state)?;
         Ok((self.map_fn)(value))
@@ -62,9 +62,9 @@ pub struct ParseWith<T, P, F, E, R> {
 impl<T: Drop, R: Drop, E: Display + Drop, P: Parser<T>, F: Fn(T) -> Result<R, E>> Parser<R>
     for ParseWith<T, P, F, E, R> {
     ghost use Rattle.std.specs.Prelude.{Ok};
-    ghost use Rattle.bpaf_core.specs.Spared.{IsSpared, WithoutMemory};
-    ghost use Rattle.bpaf_core.specs.Transform.{ParseOutcome, MapReads};
-    ghost use Rattle.bpaf_core.specs.TransformLaws.{parse_lawful};
+    ghost use Rattle.bpaf_laws.specs.Spared.{IsNotMemory, WithoutMemory};
+    ghost use Rattle.bpaf_laws.specs.Transform.{ParseOutcome, MapReads};
+    ghost use Rattle.bpaf_laws.proofs.TransformLaws.{parse_lawful};
 
     ghost can_eval = { λ p. P.can_eval p.inner × F.IsAlwaysCallable p.parse_fn };
 
@@ -78,7 +78,7 @@ impl<T: Drop, R: Drop, E: Display + Drop, P: Parser<T>, F: Fn(T) -> Result<R, E>
         requires inner { P.can_eval self.now.inner }
         requires callable { F.IsAlwaysCallable self.now.parse_fn }
         ensures outcome { ParseOutcome (P.outcome self.now.inner) (λ x y. F.post self.now.parse_fn x y) E.output state.old result state.new }
-        ensures memory_is_never_caught { IsSpared result → ParseOutcome (WithoutMemory (P.outcome self.now.inner)) (λ x y. F.post self.now.parse_fn x y) E.output state.old result state.new }
+        ensures memory_is_never_caught { IsNotMemory result → ParseOutcome (WithoutMemory (P.outcome self.now.inner)) (λ x y. F.post self.now.parse_fn x y) E.output state.old result state.new }
     {
         let value = self.inner.eval(state)?;
         match (self.parse_fn)(value) {
@@ -119,9 +119,9 @@ pub struct ParseGuard<'m, P, F> {
 /// the check is false, with GuardFailed, which names the current place; or for want of memory.
 impl<'m, T: Drop, P: Parser<T>, F: Fn(&T) -> bool> Parser<T> for ParseGuard<'m, P, F> {
     ghost use Rattle.std.specs.Fn.{FnReturnsAt};
-    ghost use Rattle.bpaf_core.specs.Spared.{IsSpared, WithoutMemory};
-    ghost use Rattle.bpaf_core.specs.Transform.{GuardOutcome, GuardReads};
-    ghost use Rattle.bpaf_core.specs.TransformLaws.{guard_lawful};
+    ghost use Rattle.bpaf_laws.specs.Spared.{IsNotMemory, WithoutMemory};
+    ghost use Rattle.bpaf_laws.specs.Transform.{GuardOutcome, GuardReads};
+    ghost use Rattle.bpaf_laws.proofs.TransformLaws.{guard_lawful};
 
     ghost can_eval = { λ p. P.can_eval p.inner × F.IsAlwaysCallable p.check };
 
@@ -135,7 +135,7 @@ impl<'m, T: Drop, P: Parser<T>, F: Fn(&T) -> bool> Parser<T> for ParseGuard<'m, 
         requires inner { P.can_eval self.now.inner }
         requires callable { F.IsAlwaysCallable self.now.check }
         ensures outcome { GuardOutcome (P.outcome self.now.inner) (FnReturnsAt F.Fn self.now.check) self.now.message.now state.old result state.new }
-        ensures memory_is_never_caught { IsSpared result → GuardOutcome (WithoutMemory (P.outcome self.now.inner)) (FnReturnsAt F.Fn self.now.check) self.now.message.now state.old result state.new }
+        ensures memory_is_never_caught { IsNotMemory result → GuardOutcome (WithoutMemory (P.outcome self.now.inner)) (FnReturnsAt F.Fn self.now.check) self.now.message.now state.old result state.new }
     {
         let value = self.inner.eval(state)?;
         if (self.check)(&value) {

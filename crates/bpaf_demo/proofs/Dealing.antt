@@ -9,21 +9,21 @@ use Rattle.bpaf_text.specs.Named.{Named, key_named}
 use Rattle.bpaf_text.specs.Meaning.{SpellsUnsigned}
 use Rattle.bpaf_line.specs.declared.failure.ParseFailure.{ParseFailure}
 use Rattle.bpaf_line.specs.Situation.{Context}
-use Rattle.bpaf_core.specs.Reading.{Share, item_in}
+use Rattle.bpaf_laws.specs.Reading.{Share, item_in}
 use Rattle.bpaf_doc.specs.Shape.{Shape, And, Many, Optional, members}
-use Rattle.bpaf_line.specs.Items.{word_text}
-use Rattle.bpaf_line.specs.Line.{IsLine}
+use Rattle.bpaf_words.specs.Items.{word_text}
+use Rattle.bpaf_words.specs.Line.{IsLine}
 use Rattle.bpaf_core.specs.declared.info.Info.{Info}
 use Rattle.bpaf_core.specs.Known.{known_names, plain_info}
-use Rattle.bpaf_core.specs.Flag.{FlagReads, at_key, in_environment, nowhere, flag_shape}
-use Rattle.bpaf_core.specs.Argument.{ArgumentReads, behind_key, in_variable, argument_shape}
-use Rattle.bpaf_core.specs.Repeat.{EachReads, ListReads, ManyReads, ManyDescribes}
+use Rattle.bpaf_laws.specs.Flag.{FlagReads, at_key, in_environment, nowhere, flag_shape}
+use Rattle.bpaf_laws.specs.Argument.{ArgumentReads, behind_key, in_variable, argument_shape}
+use Rattle.bpaf_laws.specs.Repeat.{EachReads, ListReads, ManyReads, ManyDescribes}
 use Rattle.bpaf_core.specs.Run.{Given}
 use Rattle.bpaf_core.specs.Dealt.{IsDealtOut}
 use Rattle.bpaf.specs.declared.position.Position.{Position}
 use Rattle.bpaf.specs.declared.position.Position.TheVariants.{Unrestricted}
 use Rattle.bpaf.specs.Positional.{PositionalReads, positional_shape}
-use Rattle.bpaf.specs.Product.{BothReads, ProductReads, BothDescribes, LastDescribes, ProductDescribes}
+use Rattle.bpaf_laws.specs.Product.{BothReads, ProductReads, BothDescribes, LastDescribes, ProductDescribes}
 use Rattle.bpaf_demo.specs.declared.options.Options.{Options}
 use Rattle.bpaf_demo.specs.Lines.{file_texts}
 use Rattle.bpaf_demo.specs.Record.{IsDealtOptions, SwitchReads, NumberReads, FileReads, FilesRead, verbose_names, num_names, program_known, program_context}

@@ -4,13 +4,13 @@ use Rattle.std.specs.Io.KnownBytes.{Keeps, Appends}
 use Rattle.bpaf_doc.specs.Names.{Names}
 use Rattle.bpaf_text.specs.Meaning.{SpellsUnsigned}
 use Rattle.bpaf_text.specs.Named.{key_named}
-use Rattle.bpaf_line.specs.declared.arg.Arg.{Arg}
-use Rattle.bpaf_line.specs.Items.{is_key_of, word_text}
-use Rattle.bpaf_line.specs.Spelling.{Known}
-use Rattle.bpaf_line.specs.Line.{IsLine}
+use Rattle.bpaf_words.specs.declared.arg.Arg.{Arg}
+use Rattle.bpaf_words.specs.Items.{is_key_of, word_text}
+use Rattle.bpaf_words.specs.Spelling.{Known}
+use Rattle.bpaf_words.specs.Line.{IsLine}
 use Rattle.bpaf_line.specs.Situation.{Context, is_dealt_place}
-use Rattle.bpaf_core.specs.Reading.{Share, Joins, IsPlace, IsEmptyShare, HasItem, item_in}
-use Rattle.bpaf_core.specs.Argument.{IsKeyWithText}
+use Rattle.bpaf_laws.specs.Reading.{Share, Joins, IsPlace, IsEmptyShare, HasItem, item_in}
+use Rattle.bpaf_laws.specs.Argument.{IsKeyWithText}
 use Rattle.bpaf_demo.specs.declared.options.Options.{Options}
 use Rattle.bpaf_demo.specs.Lines.{lines, file_texts}
 

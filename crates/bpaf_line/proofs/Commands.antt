@@ -2,9 +2,10 @@
 use Rattle.std.proofs.Common.{◌≡◌, ◌≢◌, ℕ, ◌<◌, ◌≤◌, Bool, true, false, List, Option, Some, None, refl, sym, ◌∙◌, subst, arith, ⊎_elim, true≢false, if◌then◌else◌}
 use Rattle.std.specs.Option.{option_map_or}
 use Rattle.std.proofs.lemmas.Bool.{cases_lt, cases_eq}
-use Rattle.bpaf_line.specs.declared.arg.Arg.{Arg}
-use Rattle.bpaf_line.specs.Items.{any_item, is_command_word}
+use Rattle.bpaf_words.specs.declared.arg.Arg.{Arg}
+use Rattle.bpaf_words.specs.Items.{any_item, is_command_word}
 use Rattle.bpaf_line.specs.Situation.{Situation, is_open, item_at}
+use Rattle.bpaf_line.proofs.Matches.{open_item_there}
 use Rattle.bpaf_line.specs.Taking.{IsFirst, HasNoCommand, open_item}
 
 -- there is one first match at most
@@ -17,16 +18,8 @@ first_is_one test s p q a b = ⊎_elim
     (cases_eq q p))
     (cases_lt p q)
 
--- an open item is the item of its place
-item_there : (s : Situation) (p : ℕ) (item : Arg) → open_item s p ≡ Some item → item_at s p ≡ Some item
-item_there s p item there = of_test (is_open s p) (item_at s p) there
-  where
-    of_test : (b : Bool) (at : Option Arg) → (if b then at else None) ≡ Some item → at ≡ Some item
-    of_test true at e = e
-    of_test false at e = cc
-
 -- where the first present item isn't the word, there is no command of it
 pub no_command : (word : List ℕ) (s : Situation) (p : ℕ) (item : Arg) → IsFirst any_item s p → open_item s p ≡ Some item → is_command_word word item ≡ false → HasNoCommand word s
 no_command word s p item first there other q first_too =
     subst (λ place. option_map_or (is_command_word word) (item_at s place) false ≡ false) (first_is_one any_item s p q first first_too)
-    (rw (item_there s p item there) other)
+    (rw (open_item_there s p item there).1 other)

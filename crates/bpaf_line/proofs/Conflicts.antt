@@ -4,8 +4,8 @@ use Rattle.std.proofs.lemmas.Bool.{cases_lt, cases_eq}
 use Rattle.std.proofs.lemmas.Bool.Decides.{nat_tests}
 use Rattle.std.proofs.lemmas.List.{get_or_past}
 use Rattle.std.proofs.Math.Bool.{beq}
-use Rattle.bpaf_line.specs.declared.state.Mark.{Mark}
-use Rattle.bpaf_line.specs.declared.state.Mark.TheVariants.{Conflict, Taken}
+use Rattle.bpaf_line.specs.declared.state.PlaceMark.{PlaceMark}
+use Rattle.bpaf_line.specs.declared.state.PlaceMark.TheVariants.{Conflict, Taken}
 use Rattle.bpaf_line.specs.Situation.{Situation, is_open, is_taken, in_scope, is_taken_mark, mark_at, named_by, conflict_at, with_conflict, count_below, open_count}
 use Rattle.bpaf_line.specs.Conflicts.{ConflictsSaved, IsLeftmost, TakeTheSame}
 use Rattle.bpaf_line.proofs.Places.{count_below-same}
@@ -42,7 +42,7 @@ taken_after_conflict s p winner free q = ⊎_elim
     (λ (other : q ≢ p). ap (λ mark. not (nat_lt q (length s.context.line)) || is_taken_mark mark) (mark_other s p q winner other))
     (cases_eq q p)
   where
-    in_line : (b : Bool) (m : Mark) → (not b || is_taken_mark m) ≡ false → (not b || false) ≡ false
+    in_line : (b : Bool) (m : PlaceMark) → (not b || is_taken_mark m) ≡ false → (not b || false) ≡ false
     in_line true m h = refl
     in_line false m h = h
 

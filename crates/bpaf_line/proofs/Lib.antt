@@ -1,11 +1,5 @@
-pub mod Lists
-pub mod SplitLemmas
-pub mod JoinedLemmas
-pub mod OneSpelling
-pub mod LineLemmas
-pub mod OneLine
 pub mod Places
-pub mod Items
+pub mod Matches
 pub mod Sound
 pub mod OpenItems
 pub mod Conflicts

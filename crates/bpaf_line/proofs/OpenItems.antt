@@ -2,7 +2,7 @@
 use Rattle.std.proofs.Common.{◌≡◌, ℕ, zero, suc, ◌+◌, ◌-◌, ◌<◌, ◌≤◌, false, [], ◌∷◌, length, refl, arith, None, Some}
 use Rattle.std.specs.List.{range_with_len, filter_map}
 use Rattle.std.proofs.lemmas.Bool.Decides.{nat_tests}
-use Rattle.bpaf_line.specs.declared.arg.Arg.{Arg}
+use Rattle.bpaf_words.specs.declared.arg.Arg.{Arg}
 use Rattle.bpaf_line.specs.Situation.{Situation, is_open}
 use Rattle.bpaf_line.specs.Taking.{open_item}
 use Rattle.bpaf_line.specs.OpenItems.{placed_item, open_items_from}

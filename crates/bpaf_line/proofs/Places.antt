@@ -1,10 +1,10 @@
 -- Places: what a place that is taken changes. The layers above cite these lemmas in place of the marks.
 use Rattle.std.proofs.Common.{◌≡◌, ◌≢◌, ℕ, zero, suc, ◌+◌, ◌<◌, ◌≤◌, Bool, true, false, not, ◌&&◌, ◌||◌, List, Option, length, refl, ap, sym, ◌∙◌, arith, if◌then◌else◌, get_or-set_same, get_or-set_other, length-set, ⊎_elim, nat_lt, nat_le, slice_index_or, slice_set}
-use Rattle.std.proofs.lemmas.Bool.{cases_lt}
+use Rattle.std.proofs.lemmas.Bool.{cases_lt, cases_eq}
 use Rattle.std.proofs.lemmas.Bool.Decides.{nat_tests}
 use Rattle.std.proofs.lemmas.List.{get_or_past}
-use Rattle.bpaf_line.specs.declared.state.Mark.{Mark}
-use Rattle.bpaf_line.specs.declared.state.Mark.TheVariants.{Taken}
+use Rattle.bpaf_line.specs.declared.state.PlaceMark.{PlaceMark}
+use Rattle.bpaf_line.specs.declared.state.PlaceMark.TheVariants.{Taken}
 use Rattle.bpaf_line.specs.Situation.{Situation, is_open, is_taken, in_scope, is_taken_mark, take_place, with_scope, with_path, with_current, item_at, count_below, open_count}
 
 -- two sets that agree below n have as many numbers there
@@ -87,7 +87,7 @@ and_false true = refl
 and_false false = refl
 
 -- the mark of a place that was set as taken is Taken, also past the marks
-set_there : (marks : List Mark) (p : ℕ) → slice_index_or (slice_set marks p Taken) p Taken ≡ Taken
+set_there : (marks : List PlaceMark) (p : ℕ) → slice_index_or (slice_set marks p Taken) p Taken ≡ Taken
 set_there marks p =
     ⊎_elim
     (λ (within : p < length marks). get_or-set_same marks p Taken Taken within)
@@ -101,6 +101,13 @@ taken_here s p = ap (λ mark. not (nat_lt p (length s.context.line)) || is_taken
 -- the other places are as they were
 pub taken_other : (s : Situation) (p q : ℕ) → q ≢ p → is_taken (take_place s p) q ≡ is_taken s q
 taken_other s p q other = ap (λ mark. not (nat_lt q (length s.context.line)) || is_taken_mark mark) (get_or-set_other s.marks p q Taken Taken other)
+
+-- what was taken stays taken
+pub taken_stays : (s : Situation) (p q : ℕ) → is_taken s q ≡ true → is_taken (take_place s p) q ≡ true
+taken_stays s p q taken = ⊎_elim
+    (λ (same : q ≡ p). ap (is_taken (take_place s p)) same ∙ taken_here s p)
+    (λ (other : q ≢ p). taken_other s p q other ∙ taken)
+    (cases_eq q p)
 
 -- the scope is as it was
 pub scope_after_take : (s : Situation) (p q : ℕ) → in_scope (take_place s p) q ≡ in_scope s q

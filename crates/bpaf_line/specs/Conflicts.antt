@@ -1,6 +1,6 @@
 -- What two parses of one line differ in, and what excludes what.
 use Rattle.std.specs.Prelude.{◌≡◌, ◌<◌, ℕ, Bool, true, not, ◌&&◌, List, [], ◌∷◌, Option, Some, None, option_map, if◌then◌else◌}
-use Rattle.bpaf_line.specs.declared.arg.Arg.{Arg}
+use Rattle.bpaf_words.specs.declared.arg.Arg.{Arg}
 use Rattle.bpaf_line.specs.Situation.{Situation, is_taken, conflict_at}
 use Rattle.bpaf_line.specs.OpenItems.{open_items}
 

@@ -1,25 +1,24 @@
 -- What making a state answers.
-use Rattle.std.specs.Prelude.{◌≡◌, ℕ, ◌<◌, ◌≤◌, List, length, codes, take, slice_get, Option, Some, Result, Ok, Err, ⊤, Vec, IsUtf8}
-use Rattle.std.specs.List.{AllWithin}
-use Rattle.std.specs.declared.alloc.Global.{Global}
-use Rattle.bpaf_line.specs.declared.arg.Arg.{Arg}
+use Rattle.std.specs.Prelude.{◌≡◌, ℕ, List, Result, Ok, Err, ⊤}
+use Rattle.bpaf_words.specs.declared.line.LineFault.{LineFault}
+use Rattle.bpaf_words.specs.declared.line.LineFault.TheVariants as fault
+use Rattle.bpaf_words.specs.Arguments.{Given}
+use Rattle.bpaf_words.specs.Spelling.{Known}
+use Rattle.bpaf_words.specs.Line.{IsLine, HasNoLine}
 use Rattle.bpaf_line.specs.declared.error.Message.{Message}
 use Rattle.bpaf_line.specs.declared.error.Message.TheVariants.{Memory, Ambiguity}
-use Rattle.bpaf_line.specs.Spelling.{Known}
-use Rattle.bpaf_line.specs.Line.{SpellAll, HasNoMarker, IsLine, HasNoLine}
-use Rattle.bpaf_line.specs.Situation.{Situation, beginning}
+use Rattle.bpaf_line.specs.Situation.{Situation, Context, beginning}
 
--- the words from low up to high are texts
-abbrev pub AreTexts : List (List ℕ) → ℕ → ℕ → Type 0
-AreTexts words low high = AllWithin IsUtf8 words low high
+-- what is told of words without a line
+abbrev pub message_of : LineFault → Message
+message_of (fault.Ambiguous word number) = Ambiguity word number
+message_of fault.Memory = Memory
 
--- the first n words spell the items; they are all words, or `--` stands behind them
-pub record SpellsFront (known : Known) (words : List (List ℕ)) (items : List Arg) (n : ℕ) : Type 0 where
-  pub bound : n ≤ length words
-  pub unmarked : HasNoMarker (take n words)
-  pub spelled : SpellAll known (take n words) items
-  pub marker : n < length words → slice_get words n ≡ Some (codes "--")
-  pub texts : AreTexts words 0 n
+-- the context of the words' line
+pub record IsContext (known : Known) (given : Given) (context : Context) : Type 0 where
+  pub is_line : IsLine known given.words context.line context.marker
+  pub env : context.env ≡ given.env
+  pub name : context.name ≡ given.name
 
 -- a refusal: the words have no line, or memory is wanted
 abbrev pub RefusesLine : Known → List (List ℕ) → Message → Type 0
@@ -27,13 +26,7 @@ RefusesLine known words (Ambiguity word number) = HasNoLine known words word num
 RefusesLine known words Memory = ⊤
 RefusesLine known words m = ⊥
 
--- `split_words`: the items of the first words, up to a `--`, and their count; or a refusal
-abbrev pub SplitsWords : Known → List (List ℕ) → Result (Vec Arg Global × ℕ) Message → Type 0
-SplitsWords known words (Ok r) = SpellsFront known words r.0.items r.1
-SplitsWords known words (Err m) = RefusesLine known words m
-
 -- `construct`: the state at the beginning of the words' line; or they have none; or memory is wanted
-abbrev pub Constructs : Known → List (List ℕ) → List (List ℕ × List ℕ) → Option (List ℕ) → Result Situation Message → Type 0
-Constructs known words env name (Ok s) =
-    (line : List Arg) × (marker : Option ℕ) × IsLine known words line marker × (s ≡ beginning (record { line = line; env = env; name = name }) marker)
-Constructs known words env name (Err m) = RefusesLine known words m
+abbrev pub Constructs : Known → Given → Result Situation Message → Type 0
+Constructs known given (Ok s) = (context : Context) × IsContext known given context × (s ≡ beginning context)
+Constructs known given (Err m) = RefusesLine known given.words m

@@ -1,12 +1,7 @@
-pub mod Items
 pub mod Missing
 pub mod Messages
 pub mod Combining
 pub mod Failure
-pub mod Spelling
-pub mod Splitting
-pub mod Line
-pub mod Arguments
 pub mod Situation
 pub mod Inside
 pub mod MissingIn

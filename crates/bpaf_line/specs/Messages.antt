@@ -1,11 +1,13 @@
 -- The classes of refusals.
 use Rattle.std.specs.Prelude.{Bool, true, false}
 use Rattle.bpaf_line.specs.declared.error.Message.{Message}
-use Rattle.bpaf_line.specs.declared.error.Message.TheVariants.{Memory, NoEnv, ParseSome, ParseFail, PureFailed, Missing, StrictPos, NonStrictPos, NoArgument, Unconsumed, Ambiguity}
+use Rattle.bpaf_line.specs.declared.error.Message.TheVariants.{Memory, NoEnv, ParseSome, ParseFail, PureFailed, Missing, ParseFailure, StrictPos, NonStrictPos, NoArgument, Unconsumed, Ambiguity}
+use Rattle.bpaf_line.specs.declared.failure.ParseFailure.TheVariants as failure
 
--- want of memory
+-- want of memory, also that of an inner run
 abbrev pub is_memory : Message → Bool
 is_memory Memory = true
+is_memory (ParseFailure failure.Memory) = true
 is_memory _ = false
 
 -- a refusal past which a parser goes on that may do without a value

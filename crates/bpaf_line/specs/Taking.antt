@@ -1,20 +1,24 @@
 -- What the calls of a state answer, and which situation they leave.
-use Rattle.std.specs.Prelude.{◌≡◌, ℕ, ◌+◌, ◌<◌, Bool, true, false, ◌&&◌, List, Option, Some, None, Result, Ok, Err, bytes_eq, string_bytes, String, if◌then◌else◌, option_and_then, option_map, find, ⊤}
+use Rattle.std.specs.Prelude.{◌≡◌, ℕ, ◌+◌, ◌<◌, Bool, true, false, List, Option, Some, None, Result, Ok, Err, bytes_eq, string_bytes, String, if◌then◌else◌, option_and_then, option_map, find, ⊤}
 use Rattle.std.specs.Option.{option_map_or}
 use Rattle.std.specs.declared.alloc.Global.{Global}
 use Rattle.bpaf_doc.specs.Names.{Names}
 use Rattle.bpaf_doc.specs.Shape.{Positional}
-use Rattle.bpaf_line.specs.declared.arg.Arg.{Arg}
+use Rattle.bpaf_words.specs.declared.arg.Arg.{Arg}
 use Rattle.bpaf_line.specs.declared.error.Error.{Error}
 use Rattle.bpaf_line.specs.declared.error.Message.{Message}
 use Rattle.bpaf_line.specs.declared.error.Message.TheVariants.{Memory, Missing, NoArgument}
-use Rattle.bpaf_line.specs.Items.{is_key_of, is_argument_key, value_text, is_positional, word_text, any_item, is_command_word}
+use Rattle.bpaf_words.specs.Items.{is_key_of, is_argument_key, value_text, is_positional, word_text, any_item, is_command_word}
 use Rattle.bpaf_line.specs.Situation.{Situation, item_at, is_open, take_place, with_current}
 use Rattle.bpaf_line.specs.MissingIn.{IsMissingIn}
 
+-- the item at p, where it is present and in scope
+abbrev pub open_item : Situation → ℕ → Option Arg
+open_item s p = if is_open s p then item_at s p else None
+
 -- the item at p is present, in scope, and passes the test
 abbrev pub is_match : (Arg → Bool) → Situation → ℕ → Bool
-is_match test s p = is_open s p && option_map_or test (item_at s p) false
+is_match test s p = option_map_or test (open_item s p) false
 
 -- p is the first place with a match
 pub record IsFirst (test : Arg → Bool) (s : Situation) (p : ℕ) : Type 0 where
@@ -32,7 +36,7 @@ TakesFlag names s false t = HasNone (is_key_of names) s × (t ≡ s)
 
 -- the value of a key at p: the text of the next place, where that is present and in scope
 abbrev pub value_after : Situation → ℕ → Option (List ℕ)
-value_after s p = if is_open s (p + 1) then option_and_then value_text (item_at s (p + 1)) else None
+value_after s p = option_and_then value_text (open_item s (p + 1))
 
 -- the first key and its value, which is this text, are taken
 pub record TakesValue (names : Names) (adjacent : Bool) (s : Situation) (text : List ℕ) (t : Situation) : Type 0 where
@@ -83,10 +87,6 @@ HasNoCommand word s = (p : ℕ) → IsFirst any_item s p → option_map_or (is_c
 abbrev pub TakesCommand : List ℕ → Situation → Bool → Situation → Type 0
 TakesCommand word s true t = (p : ℕ) × IsCommandAt word s p × (t ≡ take_place s p)
 TakesCommand word s false t = HasNoCommand word s × (t ≡ with_current s None)
-
--- the item at p, where it is present and in scope
-abbrev pub open_item : Situation → ℕ → Option Arg
-open_item s p = if is_open s p then item_at s p else None
 
 -- the value of the first entry of that name
 abbrev pub entry_of : List (List ℕ × List ℕ) → List ℕ → Option (List ℕ)

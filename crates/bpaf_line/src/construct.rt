@@ -1,62 +1,114 @@
-ghost use Rattle.std.specs.Prelude.{◌≡◌, ◌≤◌, ◌++◌, IfOk, OnOk, drop, map, length};
-ghost use Rattle.bpaf_line.specs.Arguments.{words_in, words_of, name_of, env_of, entries_of, env_entries};
-ghost use Rattle.bpaf_line.specs.Constructing.{SplitsWords, Constructs, AreTexts};
+//! How a state begins, and how it is copied.
+ghost use Rattle.std.specs.Prelude.{◌≡◌, ◌<◌, IfOk, OnOk, IfSome, All, IsUtf8, map, option_map, option_to_list, string_bytes};
+ghost use Rattle.bpaf_words.specs.Arguments.{words_of, given_of, entries_of, env_entries};
+ghost use Rattle.bpaf_words.specs.Spelling.{knowing};
+ghost use Rattle.bpaf_line.specs.Constructing.{Constructs};
+ghost use Rattle.bpaf_line.specs.Situation.{first_marks};
 
-use crate::arg::Arg;
-use crate::args::{Args, Words};
 use crate::error::Message;
-use crate::split::{SplitFault, split_word};
-use crate::state::{Mark, State};
+use crate::state::{PlaceMark, State};
 use bpaf_doc::Text;
+use bpaf_words::{Args, line_of};
 use std::alloc::{AllocError, Global};
 use std::collections::BTreeMap;
 use std::rc::RcSlice;
 
-/// The items of the words before the first `--`, and how many these words are.
-pub(crate) fn split_words(
-    alloc: Global,
-    words: Words<'_>,
-    flags: &[char],
-    arguments: &[char],
-) -> Result<(Vec<Arg>, usize), Message>
-    ensures { SplitsWords (record { flags = flags.now; arguments = arguments.now }) (words_in words.entry) result }
-{
-    let mut items = Vec::new(alloc);
-    for index in 0..words.len() {
-        let word = words.at(index);
-        if word == "--" {
-            return Ok((items, index));
-        }
-        match split_word(alloc, word, flags, arguments, &mut items) {
-            Ok(()) => {}
-            Err(SplitFault::Memory) => return Err(Message::Memory),
-            Err(SplitFault::Ambiguous(number)) => return Err(Message::Ambiguity(
-                Text::new(alloc, word)?,
-                number,
-            )),
-        }
+impl State {
+    /// The state at the beginning of the words' line: all of it is present but the first `--`, the
+    /// scope is the whole line, and the path is the set name.
+    ///
+    /// `short_flags` and `short_args` are the known short names, by which joined words such as `-vn3`
+    /// are read. Refused with Ambiguity exactly where the words have no line, naming the first
+    /// ambiguous word and its character; or for want of memory.
+    pub fn construct(
+        alloc: Global,
+        args: Args<'_>,
+        short_flags: &[char],
+        short_args: &[char],
+    ) -> Result<State, Message>
+        ensures texts { OnOk result (All IsUtf8 (words_of args.entry)) }
+        ensures answer { Constructs
+            (knowing (record { flags = short_flags.now; arguments = short_args.now }))
+            (given_of args.entry) result }
+    {
+        let line = line_of(alloc, args.words(), short_flags, short_args)?;
+        let entries = copy_env(alloc, args.env())?;
+        let end = line.items.len();
+        let marks = first_marks(alloc, line.marker, end)?;
+        let (path, name) = first_path(alloc, args.name())?;
+        let left = end - usize::from(line.marker.is_some());
+        Ok(State {
+            items: RcSlice::from_vec(line.items)?,
+            marker: line.marker,
+            env: RcSlice::from_vec(entries)?,
+            marks,
+            start: 0,
+            end,
+            left,
+            path,
+            name,
+            current: None,
+        })
     }
-    Ok((items, words.len()))
+
+    /// An equal state, which shares the line and the environment (bpaf's `Clone`); refused only for
+    /// want of memory.
+    pub fn copy(&self) -> Result<State, AllocError>
+        ensures { IfOk result (λ state. state ≡ self.now) }
+    {
+        let items = self.items.clone()?;
+        let env = self.env.clone()?;
+        let marks = Vec::from_slice(self.alloc(), self.marks.as_slice())?;
+        let path = copy_path(self.alloc(), self.path.as_slice())?;
+        let name = Text::copy_of(&self.name)?;
+        Ok(State {
+            items,
+            marker: self.marker,
+            env,
+            marks,
+            start: self.start,
+            end: self.end,
+            left: self.left,
+            path,
+            name,
+            current: self.current,
+        })
+    }
 }
 
-/// A PosWord for each word from a place on.
-pub(crate) fn push_rest(
+/// Marks that are all present but that of the marker.
+fn first_marks(
     alloc: Global,
-    words: Words<'_>,
-    from: usize,
-    items: &mut Vec<Arg>,
-) -> Result<(), AllocError>
-    ensures items { OnOk result (items.new.items ≡ items.old.items ++ map Arg.PosWord (drop from (words_in words.entry))) }
-    ensures texts { OnOk result (AreTexts (words_in words.entry) from (length (words_in words.entry))) }
+    marker: Option<usize>,
+    count: usize,
+) -> Result<Vec<PlaceMark>, AllocError>
+    requires { IfSome marker (λ p. p < count) }
+    ensures { IfOk result (λ marks. marks.items ≡ first_marks marker count) }
 {
-    for index in from..words.len() {
-        items.push(Arg::PosWord(Text::new(alloc, words.at(index))?))?;
+    let mut marks = vec![in alloc; PlaceMark::Present; count]?;
+    if let Some(place) = marker {
+        marks[place] = PlaceMark::Taken;
     }
-    Ok(())
+    Ok(marks)
+}
+
+/// A path of the set name alone, and that name.
+fn first_path(alloc: Global, name: Option<&str>) -> Result<(Vec<String>, Option<Text>), AllocError>
+    ensures path { IfOk result (λ r. map string_bytes r.0.items ≡ option_to_list (option_map (λ n. n.now) name.entry)) }
+    ensures name { IfOk result (λ r. r.1 ≡ option_map (λ n. n.now) name.entry) }
+{
+    let mut path = Vec::new(alloc);
+    match name {
+        None => Ok((path, None)),
+        Some(name) => {
+            path.push(String::from_str(alloc, name)?)?;
+            Ok((path, Some(Text::new(alloc, name)?)))
+        }
+    }
 }
 
 /// The entries of an environment; none is the empty one.
-pub(crate) fn copy_env(
+fn copy_env(
     alloc: Global,
     env: Option<&BTreeMap<String, String>>,
 ) -> Result<Vec<(Text, Text)>, AllocError>
@@ -83,4 +135,15 @@ fn copy_entries(
         ))?;
     }
     Ok(entries)
+}
+
+/// An equal path.
+fn copy_path(alloc: Global, path: &[String]) -> Result<Vec<String>, AllocError>
+    ensures { IfOk result (λ copy. map string_bytes copy.items ≡ map string_bytes path.now) }
+{
+    let mut copy = Vec::new(alloc);
+    for entry in path {
+        copy.push(String::from_str(alloc, entry.as_str())?)?;
+    }
+    Ok(copy)
 }

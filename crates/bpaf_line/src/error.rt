@@ -1,11 +1,12 @@
 ghost use Rattle.std.specs.Prelude.{◌≡◌, if◌then◌else◌};
-ghost use Rattle.bpaf_line.specs.Combining.{Combines};
+ghost use Rattle.bpaf_line.specs.Combining.{Combines, CombinesSpared};
 ghost use Rattle.bpaf_line.specs.Messages.{is_memory, can_catch, is_wrong_input};
 
 use crate::failure::ParseFailure;
 use crate::missing::MissingItems;
 use bpaf_doc::{Item, Text};
-use std::alloc::AllocError;
+use bpaf_words::LineFault;
+use std::alloc::{AllocError, AllocFailed};
 
 /// Why a parser gives no value, or words have no line (bpaf's `Message`).
 ///
@@ -61,11 +62,14 @@ pub enum Message {
 pub struct Error(pub Message);
 
 impl Message {
-    /// Whether it is want of memory. It takes none.
+    /// Whether it is want of memory, also that of an inner run. It takes none.
     pub fn is_memory(&self) -> bool
         ensures { result ≡ is_memory self.now }
     {
-        matches!(self, Message::Memory)
+        matches!(
+            self,
+            Message::Memory | Message::ParseFailure(ParseFailure::Memory)
+        )
     }
 
     /// Whether a parser that may do without a value goes on past it: something wasn't there, or a
@@ -114,21 +118,25 @@ impl Message {
 
     /// The one refusal of two parsers of which either would have served.
     ///
-    /// It is Memory where one of the two is; else the ParseFailure, the first before the second; else
-    /// of two Missing all that is missing; else the first where it can't be caught, else the second.
-    /// Joining two Missing may want memory, and then it is Memory too.
+    /// It is Memory where one of the two is want of memory; else the ParseFailure, the first before the
+    /// second; else of two Missing all that is missing; else the first where it can't be caught, else
+    /// the second. Joining two Missing may want memory, and then it is Memory too.
     pub fn combine_with(self, other: Message) -> Message
         ensures { Combines self other result }
     {
+        if self.is_memory() || other.is_memory() {
+            drop(self);
+            drop(other);
+            return Message::Memory;
+        }
+        self.combine_spared(other)
+    }
+
+    /// The one refusal of two that aren't want of memory.
+    fn combine_spared(self, other: Message) -> Message
+        ensures { CombinesSpared self other result }
+    {
         match (self, other) {
-            (Message::Memory, second) => {
-                drop(second);
-                Message::Memory
-            }
-            (first, Message::Memory) => {
-                drop(first);
-                Message::Memory
-            }
             (Message::ParseFailure(failure), second) => {
                 drop(second);
                 Message::ParseFailure(failure)
@@ -195,5 +203,33 @@ impl From<AllocError> for Message {
 
     fn from(_error: AllocError) -> Message {
         Message::Memory
+    }
+}
+
+/// So that a parser of a caller's own may write `vec.push(x)?` and `Box::new(alloc, x)?`; what was to be
+/// kept is dropped.
+impl<T: Drop> From<AllocFailed<T>> for Error {
+    ghost use Rattle.std.specs.Prelude.{◌≡◌};
+    ghost use Rattle.bpaf_line.specs.declared.error.Message.TheVariants.{Memory};
+
+    ghost from_gives = { λ _ error. error.0 ≡ Memory };
+
+    fn from(refused: AllocFailed<T>) -> Error {
+        drop(refused);
+        Error(Message::Memory)
+    }
+}
+
+impl From<LineFault> for Message {
+    ghost use Rattle.std.specs.Prelude.{◌≡◌};
+    ghost use Rattle.bpaf_line.specs.Constructing.{message_of};
+
+    ghost from_gives = { λ fault message. message ≡ message_of fault };
+
+    fn from(fault: LineFault) -> Message {
+        match fault {
+            LineFault::Ambiguous(word, number) => Message::Ambiguity(word, number),
+            LineFault::Memory => Message::Memory,
+        }
     }
 }

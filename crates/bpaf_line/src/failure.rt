@@ -52,8 +52,9 @@ impl ParseFailure {
     }
 
     /// The status with which a program ends: 0 after a Stdout, else 1. It takes no memory.
-    pub fn exit_code(self) -> i32
-        ensures { result ≡ exit_code self }
+    /// bpaf's call takes the failure by value.
+    pub fn exit_code(&self) -> i32
+        ensures { result ≡ exit_code self.now }
     {
         match self {
             ParseFailure::Stdout(..) => 0,

@@ -1,5 +1,5 @@
-use crate::arg::Arg;
 use crate::state::State;
+use bpaf_words::Arg;
 
 /// The present items in scope, in order, with their places (bpaf's `ArgsIter`); of
 /// [`State::items_iter`].

@@ -1,16 +1,14 @@
-//! The line: words, the items that they spell, and which of them are taken.
+//! The state of a parse: which items of a line are taken, and why a parser gives no value.
 //!
-//! It stands on `bpaf_doc`, whose texts and items it holds. For the layers above:
+//! It stands on `bpaf_doc` and `bpaf_words`, whose lines it holds. For the layers above:
 //!
-//! - [`Args`] lends the words, the name and the environment of a run.
-//! - [`State::construct`] reads the words into a line of items ([`Arg`]); contracts say which by
-//!   `Spells` and `IsLine` (specs/Spelling.antt, specs/Line.antt), by the ways in which a word falls
-//!   into parts and not by a walk over it. A line is refused only where a word is ambiguous.
+//! - [`State::construct`] begins a parse at the line of the words (specs/Constructing.antt).
 //! - [`State`] is a parse in progress. Contracts see it as a `Situation` (specs/Situation.antt), and
 //!   the layers above speak of one only through its accessors (`item_at`, `is_taken`, `conflict_at`,
-//!   `in_scope`, `is_open`, `open_count`, and the steps `take_place`, `with_scope`, `with_path`, `with_current`,
-//!   `beginning`): how the marks are kept is this crate's own affair. What the steps change of them
-//!   is in proofs/Places.antt.
+//!   `in_scope`, `is_open`, `open_count`, and the steps `take_place`, `with_scope`, `with_path`,
+//!   `with_current`, `beginning`): how the marks are kept is this crate's own affair. What the steps
+//!   change of them is in proofs/Places.antt. The marker, which is the first `--`, is taken from the
+//!   start and is the item of no place.
 //! - The take calls meet their relation of specs/Taking.antt for every answer, over the whole state.
 //!   [`State::items_iter`] walks the `open_items` (specs/OpenItems.antt).
 //! - Of two states of a line [`State::pick_winner`] tells which took the leftmost place that only one
@@ -21,28 +19,20 @@
 //!   (`can_catch`), one for which the words are at fault (`is_wrong_input`; specs/Messages.antt), or
 //!   none of these. Of two there is one by `Combines` (specs/Combining.antt).
 //!
-//! The source of the design is bpaf's `arg.rs`, `args.rs` and `error.rs`.
+//! The source of the design is bpaf's `args.rs` and `error.rs`.
 #![tactic(auto)]
 
-mod arg;
-mod args;
 mod conflict;
 mod construct;
 mod error;
 mod failure;
 mod iter;
-mod laws;
 mod missing;
-mod split;
 mod state;
 mod take;
 
-pub use arg::Arg;
-pub use args::{Args, LentWord, Words};
 pub use error::{Error, Message};
 pub use failure::ParseFailure;
 pub use iter::ArgsIter;
-pub use laws::{lines_are_unique, spellings_are_unique};
 pub use missing::{MissingItem, MissingItems};
-pub use split::{SplitFault, split_word};
-pub use state::{Mark, State};
+pub use state::State;

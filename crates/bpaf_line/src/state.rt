@@ -1,23 +1,20 @@
-ghost use Rattle.std.specs.Prelude.{◌≡◌, ◌+◌, ◌<◌, ◌≤◌, ◌^◌, ◌==◌, [], ◌∷◌, if◌then◌else◌, not, length, true, false, Bool, MatchOption, option_copied, option_to_list, option_map, option_and_then, Some, All, IsUtf8, IfOk, OnOk, OnErr, IfSome, string_bytes, map, List};
+//! A parse in progress, and what its calls read and set.
+ghost use Rattle.std.specs.Prelude.{◌≡◌, ◌+◌, ◌<◌, ◌≤◌, ◌^◌, ◌==◌, [], ◌∷◌, if◌then◌else◌, not, nat_lt, length, true, false, Bool, MatchOption, option_copied, option_map, option_and_then, Some, None, IfOk, OnOk, OnErr, IfSome, string_bytes, map, List};
 ghost use Rattle.std.specs.Borrow.{Bor};
-ghost use Rattle.bpaf_line.specs.declared.arg.Arg.{Arg};
-ghost use Rattle.bpaf_line.specs.Arguments.{words_of, name_of, env_of};
-ghost use Rattle.bpaf_line.specs.Constructing.{Constructs};
-ghost use Rattle.bpaf_line.specs.Inside.{is_present_from};
-ghost use Rattle.bpaf_line.specs.Items.{is_positional, word_text};
-ghost use Rattle.bpaf_line.specs.OpenItems.{open_items, open_items_from, items_left};
-ghost use Rattle.bpaf_line.specs.Situation.{item_at, count_below, open_count, first_marks, is_taken, is_open, take_place, with_scope, with_path, with_current, conflict_at, with_conflict};
-ghost use Rattle.bpaf_line.specs.Taking.{HasNone, IsFirst, value_after, open_item, entry_of};
 ghost use Rattle.bpaf_doc.specs.Shape.{part_of};
+ghost use Rattle.bpaf_words.specs.declared.arg.Arg.{Arg};
+ghost use Rattle.bpaf_words.specs.Items.{is_positional, word_text};
+ghost use Rattle.bpaf_line.specs.Inside.{is_present_from};
 ghost use Rattle.bpaf_line.specs.MissingIn.{IsMissingIn};
+ghost use Rattle.bpaf_line.specs.OpenItems.{open_items, open_items_from, items_left};
+ghost use Rattle.bpaf_line.specs.Situation.{item_at, count_below, open_count, is_taken, is_open, take_place, with_scope, with_path, with_current, conflict_at, with_conflict};
+ghost use Rattle.bpaf_line.specs.Taking.{HasNone, IsFirst, value_after, open_item, entry_of};
 
-use crate::arg::{Arg, is_positional, value_text};
-use crate::args::Args;
-use crate::construct::{copy_env, push_rest, split_words};
 use crate::error::{Error, Message};
 use crate::iter::ArgsIter;
 use crate::missing::{MissingItem, MissingItems};
 use bpaf_doc::{Item, Text};
+use bpaf_words::{Arg, is_positional, value_text};
 use std::alloc::{AllocError, Global};
 use std::marker::Model;
 use std::ops::Range;
@@ -25,7 +22,7 @@ use std::rc::RcSlice;
 
 /// Whether a place of the line is still there to be taken.
 #[derive(Clone, Copy, Debug)]
-pub enum Mark {
+pub enum PlaceMark {
     Present,
     /// It is present, and what took the named place excludes it.
     Conflict(usize),
@@ -38,15 +35,16 @@ pub enum Mark {
 /// It keeps its allocator, so its calls take none. Contracts see it as a `Situation`.
 #[derive(Drop)]
 pub struct State {
-    items: RcSlice<Arg>,
-    env: RcSlice<(Text, Text)>,
-    marks: Vec<Mark>,
-    start: usize,
-    end: usize,
-    left: usize,
-    path: Vec<String>,
-    name: Option<Text>,
-    current: Option<usize>,
+    pub(crate) items: RcSlice<Arg>,
+    pub(crate) marker: Option<usize>,
+    pub(crate) env: RcSlice<(Text, Text)>,
+    pub(crate) marks: Vec<PlaceMark>,
+    pub(crate) start: usize,
+    pub(crate) end: usize,
+    pub(crate) left: usize,
+    pub(crate) path: Vec<String>,
+    pub(crate) name: Option<Text>,
+    pub(crate) current: Option<usize>,
 }
 
 impl Model for State {
@@ -62,65 +60,6 @@ impl Model for State {
 }
 
 impl State {
-    /// The state at the beginning of the words' line: all of it is present but the first `--`, the
-    /// scope is the whole line, and the path is the set name.
-    ///
-    /// `short_flags` and `short_args` are the known short names, by which joined words such as `-vn3`
-    /// are read. Refused with Ambiguity exactly where the words have no line, naming the first
-    /// ambiguous word and its character; or for want of memory.
-    pub fn construct(
-        alloc: Global,
-        args: Args<'_>,
-        short_flags: &[char],
-        short_args: &[char],
-    ) -> Result<State, Message>
-        ensures texts { OnOk result (All IsUtf8 (words_of args.entry)) }
-        ensures answer { Constructs (record { flags = short_flags.now; arguments = short_args.now }) (words_of args.entry) (env_of args.entry) (name_of args.entry) result }
-    {
-        let (mut items, before) = split_words(alloc, args.words, short_flags, short_args)?;
-        let marker = (before < args.words.len()).then_some(items.len());
-        push_rest(alloc, args.words, before, &mut items)?;
-        let entries = copy_env(alloc, args.env)?;
-        let marks = first_marks(alloc, marker, items.len())?;
-        let (path, name) = first_path(alloc, args.name)?;
-        let end = items.len();
-        let left = end - usize::from(marker.is_some());
-        Ok(State {
-            items: RcSlice::from_vec(items)?,
-            env: RcSlice::from_vec(entries)?,
-            marks,
-            start: 0,
-            end,
-            left,
-            path,
-            name,
-            current: None,
-        })
-    }
-
-    /// An equal state, which shares the line and the environment (bpaf's `Clone`); refused only for
-    /// want of memory.
-    pub fn copy(&self) -> Result<State, AllocError>
-        ensures { IfOk result (λ state. state ≡ self.now) }
-    {
-        let items = self.items.clone()?;
-        let env = self.env.clone()?;
-        let marks = Vec::from_slice(self.alloc(), self.marks.as_slice())?;
-        let path = copy_path(self.alloc(), self.path.as_slice())?;
-        let name = Text::copy_of(&self.name)?;
-        Ok(State {
-            items,
-            env,
-            marks,
-            start: self.start,
-            end: self.end,
-            left: self.left,
-            path,
-            name,
-            current: self.current,
-        })
-    }
-
     /// The allocator that it keeps.
     pub fn alloc(&self) -> Global {
         *self.path.allocator()
@@ -212,10 +151,11 @@ impl State {
 
     /// Whether the item at a place is present, in scope or not; None past the line.
     pub fn present(&self, place: usize) -> Option<bool>
-        ensures { result ≡ option_map (λ _. not (is_taken self.now place)) (item_at self.now place) }
+        ensures { result ≡ (if nat_lt place (length self.now.context.line)
+            then Some (not (is_taken self.now place)) else None) }
     {
         let mark = self.marks.get(place)?;
-        Some(!matches!(mark, Mark::Taken))
+        Some(!matches!(mark, PlaceMark::Taken))
     }
 
     /// Takes a place that is present and in scope; at another place nothing changes. It takes no memory.
@@ -239,7 +179,8 @@ impl State {
 
     /// The first present item in scope from a place on, with its place.
     pub(crate) fn next_open(&self, from: usize) -> Option<(usize, &Arg)>
-        ensures items { MatchOption result (open_items_from self.now from ≡ []) (λ r. open_items_from self.now from ≡ (r.0, r.1.now) ∷ open_items_from self.now (r.0 + 1)) }
+        ensures items { MatchOption result (open_items_from self.now from ≡ []) (λ r.
+            open_items_from self.now from ≡ (r.0, r.1.now) ∷ open_items_from self.now (r.0 + 1)) }
         ensures fits { IfSome result (λ r. r.0 + 1 < 2 ^ 64) }
     {
         for place in from..self.end {
@@ -261,7 +202,9 @@ impl State {
     ///
     /// Refused only for want of memory.
     pub fn missing(&self, item: Option<Item>) -> Result<Error, AllocError>
-        ensures { IfOk result (λ error. (items : List MissingItem) × (error.0 ≡ Message.Missing items) × IsMissingIn self.now (option_map part_of item) items) }
+        ensures { IfOk result (λ error. (items : List MissingItem)
+            × (error.0 ≡ Message.Missing items)
+            × IsMissingIn self.now (option_map part_of item) items) }
     {
         let Some(item) = item else {
             return Ok(Error(Message::Missing(MissingItems::none(self.alloc()))));
@@ -285,7 +228,7 @@ impl State {
     pub(crate) fn is_taken(&self, place: usize) -> bool
         ensures { result ≡ is_taken self.now place }
     {
-        place >= self.marks.len() || matches!(self.marks[place], Mark::Taken)
+        place >= self.marks.len() || matches!(self.marks[place], PlaceMark::Taken)
     }
 
     /// What the conflict mark of a place names, where it has one.
@@ -293,8 +236,8 @@ impl State {
         ensures { result ≡ conflict_at self.now place }
     {
         match self.marks.get(place)? {
-            Mark::Conflict(winner) => Some(*winner),
-            Mark::Present | Mark::Taken => None,
+            PlaceMark::Conflict(winner) => Some(*winner),
+            PlaceMark::Present | PlaceMark::Taken => None,
         }
     }
 
@@ -303,27 +246,29 @@ impl State {
         requires { is_taken self.old place ≡ false }
         ensures { self.new ≡ with_conflict self.old place winner }
     {
-        self.marks[place] = Mark::Conflict(winner);
+        self.marks[place] = PlaceMark::Conflict(winner);
     }
 
     /// Whether a place is present, and in scope.
     fn is_open(&self, place: usize) -> bool
         ensures { result ≡ is_open self.now place }
     {
-        self.start <= place && place < self.end && !matches!(self.marks[place], Mark::Taken)
+        self.start <= place && place < self.end && !matches!(self.marks[place], PlaceMark::Taken)
     }
 
-    /// The first place with an item that is present, in scope, and passes the test.
-    pub(crate) fn first_open<F: Fn(&Arg) -> bool>(&self, test: F) -> Option<usize>
+    /// The first item that is present, in scope, and passes the test, with its place.
+    pub(crate) fn first_open<F: Fn(&Arg) -> bool>(&self, test: F) -> Option<(usize, &Arg)>
         ghost passes: { Arg → Bool }
         requires callable { F.IsAlwaysCallable test }
         requires means { (item : Bor Arg) (answer : Bool) → F.post test item answer → answer ≡ passes item.now }
-        ensures { MatchOption result (HasNone passes self.now) (IsFirst passes self.now) }
+        ensures { MatchOption result (HasNone passes self.now) (λ r.
+            IsFirst passes self.now r.0 × (open_item self.now r.0 ≡ Some r.1.now)) }
     {
-        let items = self.items.as_slice();
         for place in self.start..self.end {
-            if self.is_open(place) && test(&items[place]) {
-                return Some(place);
+            if let Some(item) = self.get(place) {
+                if test(item) {
+                    return Some((place, item));
+                }
             }
         }
         None
@@ -331,11 +276,12 @@ impl State {
 
     /// The first present Word or PosWord in scope: its place, whether it is a PosWord, its text.
     pub(crate) fn first_word(&self) -> Option<(usize, bool, &Text)>
-        ensures { MatchOption result (HasNone is_positional self.now) (λ r. IsFirst is_positional self.now r.0 × (option_and_then word_text (item_at self.now r.0) ≡ Some (r.1, r.2.now))) }
+        ensures { MatchOption result (HasNone is_positional self.now) (λ r.
+            IsFirst is_positional self.now r.0
+            × (option_and_then word_text (item_at self.now r.0) ≡ Some (r.1, r.2.now))) }
     {
-        let place = self.first_open(|item| is_positional(item))?;
-        let items = self.items.as_slice();
-        match &items[place] {
+        let (place, item) = self.first_open(|item| is_positional(item))?;
+        match item {
             Arg::PosWord(text) => Some((place, true, text)),
             Arg::Word(text) => Some((place, false, text)),
             Arg::Short(..) | Arg::Long(..) | Arg::ArgWord(_) => unreachable!(),
@@ -347,7 +293,7 @@ impl State {
         requires { is_open self.old place ≡ true }
         ensures { self.new ≡ take_place self.old place }
     {
-        self.marks[place] = Mark::Taken;
+        self.marks[place] = PlaceMark::Taken;
         self.left -= 1;
         self.current = Some(place);
     }
@@ -358,39 +304,9 @@ impl State {
         ensures text { option_copied result ≡ value_after self.now key }
         ensures fits { key + 1 < 2 ^ 64 }
     {
-        let items = self.items.as_slice();
-        let place = key + 1;
-        if !self.is_open(place) {
-            return None;
-        }
-        value_text(&items[place])
-    }
-}
-
-/// Marks that are all present but that of the marker.
-fn first_marks(alloc: Global, marker: Option<usize>, count: usize) -> Result<Vec<Mark>, AllocError>
-    requires { IfSome marker (λ p. p < count) }
-    ensures { IfOk result (λ marks. marks.items ≡ first_marks marker count) }
-{
-    let mut marks = vec![in alloc; Mark::Present; count]?;
-    if let Some(place) = marker {
-        marks[place] = Mark::Taken;
-    }
-    Ok(marks)
-}
-
-/// A path of the set name alone, and that name.
-fn first_path(alloc: Global, name: Option<&str>) -> Result<(Vec<String>, Option<Text>), AllocError>
-    ensures path { IfOk result (λ r. map string_bytes r.0.items ≡ option_to_list (option_map (λ n. n.now) name.entry)) }
-    ensures name { IfOk result (λ r. r.1 ≡ option_map (λ n. n.now) name.entry) }
-{
-    let mut path = Vec::new(alloc);
-    match name {
-        None => Ok((path, None)),
-        Some(name) => {
-            path.push(String::from_str(alloc, name)?)?;
-            Ok((path, Some(Text::new(alloc, name)?)))
-        }
+        // A place of the scope lies in the line, so the next one has a number.
+        let _line = &self.items;
+        value_text(self.get(key + 1)?)
     }
 }
 
@@ -407,27 +323,16 @@ fn value_of<'a>(entries: &'a [(Text, Text)], name: &str) -> Option<&'a str>
 }
 
 /// How many places from `start` up to `end` are present.
-fn count_present(marks: &[Mark], start: usize, end: usize) -> usize
+fn count_present(marks: &[PlaceMark], start: usize, end: usize) -> usize
     requires ordered { start ≤ end }
     requires inside { end ≤ length marks.now }
     ensures { result ≡ count_below (is_present_from marks.now start) end }
 {
     let mut count = 0;
     for place in start..end {
-        if !matches!(marks[place], Mark::Taken) {
+        if !matches!(marks[place], PlaceMark::Taken) {
             count += 1;
         }
     }
     count
-}
-
-/// An equal path.
-fn copy_path(alloc: Global, path: &[String]) -> Result<Vec<String>, AllocError>
-    ensures { IfOk result (λ copy. map string_bytes copy.items ≡ map string_bytes path.now) }
-{
-    let mut copy = Vec::new(alloc);
-    for entry in path {
-        copy.push(String::from_str(alloc, entry.as_str())?)?;
-    }
-    Ok(copy)
 }

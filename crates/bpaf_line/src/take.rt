@@ -1,21 +1,22 @@
 //! The calls of a state that look for an item and take it.
-ghost use Rattle.bpaf_line.specs.Items.{any_item, is_command_word};
+ghost use Rattle.bpaf_words.specs.Items.{any_item, is_command_word};
 ghost use Rattle.bpaf_line.specs.Taking.{TakesFlag, TakesArgument, TakesWord, TakesCommand, HasNoCommand, IsCommandAt};
 ghost use Rattle.std.specs.Prelude.{◌≡◌, MatchOption};
 
-use crate::arg::{is_argument_key, is_command_word, is_key_of};
 use crate::error::{Error, Message};
 use crate::state::State;
 use bpaf_doc::{Item, Metavar, Text};
+use bpaf_words::{is_argument_key, is_command_word, is_key_of};
 
 impl State {
     /// Takes the first present key in scope with one of the names, attached or not; false, and
     /// nothing changes, where there is none. It takes no memory.
     pub fn take_flag(&mut self, shorts: &[char], longs: &[Text]) -> bool
-        ensures { TakesFlag (record { shorts = shorts.now; longs = longs.now }) self.old result self.new }
+        ensures { TakesFlag (record { shorts = shorts.now; longs = longs.now })
+            self.old result self.new }
     {
         match self.first_open(|item| is_key_of(item, shorts, longs)) {
-            Some(place) => {
+            Some((place, _)) => {
                 self.take(place);
                 true
             }
@@ -35,10 +36,12 @@ impl State {
         adjacent: bool,
         metavar: Metavar,
     ) -> Result<Option<String>, Error>
-        ensures { TakesArgument (record { shorts = shorts.now; longs = longs.now }) adjacent metavar.0.now self.old result self.new }
+        ensures { TakesArgument (record { shorts = shorts.now; longs = longs.now }) adjacent
+            metavar.0.now self.old result self.new }
     {
-        let Some(key) = self.first_open(move |item| is_argument_key(item, shorts, longs, adjacent))
-        else {
+        let Some((key, _)) = self.first_open(move |item| is_argument_key(
+            item, shorts, longs, adjacent,
+        )) else {
             return Ok(None);
         };
         let Some(value) = self.value_after(key) else {
@@ -94,8 +97,7 @@ impl State {
     fn first_command(&self, word: &str) -> Option<usize>
         ensures { MatchOption result (HasNoCommand word.now self.now) (IsCommandAt word.now self.now) }
     {
-        let place = self.first_open(|_| true)?;
-        let item = self.get(place)?;
+        let (place, item) = self.first_open(|_| true)?;
         if is_command_word(item, word) {
             Some(place)
         } else {

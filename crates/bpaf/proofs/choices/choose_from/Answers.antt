@@ -1,8 +1,8 @@
 use Rattle.std.proofs.Common.{◌≡◌, ◌+◌, ◌++◌, ◌∷◌, [], take, sym, ◌∙◌, subst, refl}
 use Rattle.std.proofs.lemmas.List.{take_more}
-use Rattle.bpaf_core.specs.Choice.{Chosen, ChoiceOutcome}
-use Rattle.bpaf.specs.Choice.{Nested}
-use Rattle.bpaf.proofs.Choosing.{one_more, wants, want_of}
+use Rattle.bpaf_laws.specs.Choice.{Chosen, ChoiceOutcome}
+use Rattle.bpaf_laws.specs.Choices.{Nested}
+use Rattle.bpaf_laws.proofs.ChoosingAll.{one_more, wants, want_of}
 use Rattle.bpaf.proofs.choices.choose_from.Goals as goal
 
 pub returns-in_err-best : goal.returns-in_err-best

@@ -1,6 +1,6 @@
 use Rattle.std.proofs.Common.{take}
-use Rattle.bpaf_core.specs.Choice.{ChoiceOutcome}
-use Rattle.bpaf.specs.Choice.{Nested}
+use Rattle.bpaf_laws.specs.Choice.{ChoiceOutcome}
+use Rattle.bpaf_laws.specs.Choices.{Nested}
 use Rattle.bpaf.proofs.choices.choose_from.Given as goal
 
 abbrev pub invariant-loop-parser : goal.invariant-loop-parser

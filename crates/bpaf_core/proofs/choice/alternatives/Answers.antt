@@ -1,4 +1,4 @@
-use Rattle.bpaf_core.proofs.Members.{or_adds}
+use Rattle.bpaf_laws.proofs.Members.{or_adds}
 use Rattle.bpaf_core.proofs.choice.alternatives.Goals as goal
 
 pub returns-in-Or : goal.returns-in-Or

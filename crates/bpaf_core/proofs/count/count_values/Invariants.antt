@@ -1,7 +1,7 @@
 -- Each step so far answered a value and took an item, and the count is that of those.
 use Rattle.std.proofs.Common.{◌≡◌, List, length, false}
 use Rattle.bpaf_line.specs.Situation.{open_count}
-use Rattle.bpaf_core.specs.Repeat.{Steps}
+use Rattle.bpaf_laws.specs.Repeat.{Steps}
 use Rattle.bpaf_core.proofs.count.count_values.Given as goal
 
 abbrev pub invariant-loop-count : goal.invariant-loop-count

@@ -1,6 +1,6 @@
 use Rattle.std.proofs.Common.{arith, sym, subst, true, ◌∙◌}
-use Rattle.bpaf_core.specs.Repeat.{Steps}
-use Rattle.bpaf_core.proofs.Repeating.{vec_nil, steps_on, steps_end, steps_refused, not_nil}
+use Rattle.bpaf_laws.specs.Repeat.{Steps}
+use Rattle.bpaf_laws.proofs.Repeating.{vec_nil, steps_on, steps_end, steps_refused, not_nil}
 use Rattle.bpaf_core.proofs.repeat.values_until_stop.Goals as goal
 
 pub loop-values-preserved : goal.loop-values-preserved

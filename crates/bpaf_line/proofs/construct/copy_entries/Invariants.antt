@@ -1,5 +1,5 @@
 use Rattle.std.proofs.Common.{◌≡◌, ◌++◌, map, string_bytes}
-use Rattle.bpaf_line.specs.Arguments.{entries_of}
+use Rattle.bpaf_words.specs.Arguments.{entries_of}
 use Rattle.bpaf_line.proofs.construct.copy_entries.Given as goal
 
 abbrev pub invariant-loop-name : goal.invariant-loop-name

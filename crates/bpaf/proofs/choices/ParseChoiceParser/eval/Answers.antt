@@ -1,5 +1,5 @@
-use Rattle.bpaf.proofs.Choosing.{choices_spared}
-use Rattle.bpaf.proofs.Leftmost.{choices_leftmost}
+use Rattle.bpaf_laws.proofs.ChoosingAll.{choices_spared}
+use Rattle.bpaf_laws.proofs.LeftmostOfAll.{choices_leftmost}
 use Rattle.bpaf.proofs.choices.ParseChoiceParser.eval.Goals as goal
 
 pub returns-clause-leftmost_wins : goal.returns-clause-leftmost_wins

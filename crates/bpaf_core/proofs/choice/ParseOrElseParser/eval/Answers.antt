@@ -1,7 +1,7 @@
 use Rattle.std.proofs.Common.{sym, ◌∙◌, subst}
-use Rattle.bpaf_core.specs.Choice.{ChoiceOutcome}
-use Rattle.bpaf_core.proofs.Choosing.{ran_outcome, choice_spared}
-use Rattle.bpaf_core.proofs.Leftmost.{leftmost_is_chosen}
+use Rattle.bpaf_laws.specs.Choice.{ChoiceOutcome}
+use Rattle.bpaf_laws.proofs.Choosing.{ran_outcome, choice_spared}
+use Rattle.bpaf_laws.proofs.Leftmost.{leftmost_is_chosen}
 use Rattle.bpaf_core.proofs.choice.ParseOrElseParser.eval.Goals as goal
 
 -- both branches ran, and the table's answer is the answer

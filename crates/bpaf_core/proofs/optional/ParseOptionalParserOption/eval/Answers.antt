@@ -1,5 +1,5 @@
 use Rattle.std.proofs.Common.{true}
-use Rattle.bpaf_core.proofs.Sparing.{none_takes_nothing, spared_step}
+use Rattle.bpaf_laws.proofs.Sparing.{none_takes_nothing, spared_step}
 use Rattle.bpaf_core.proofs.optional.ParseOptionalParserOption.eval.Goals as goal
 
 pub returns-clause-default_takes_nothing : goal.returns-clause-default_takes_nothing

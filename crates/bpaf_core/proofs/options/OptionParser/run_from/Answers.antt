@@ -9,4 +9,4 @@ pub returns-else-is_empty : goal.returns-else-is_empty
 returns-else-is_empty g c = leftover _ _ _ c.in-Ok.ensures (something_left _ _ c.is_empty.ensures c.if-is_empty.false) c.refusal.ensures
 
 pub returns-in-Err : goal.returns-in-Err
-returns-in-Err g c = refused _ _ _ c.in-Err.ensures c.told.ensures
+returns-in-Err g c = refused _ _ _ c.in-Err.ensures c.failure_of.ensures

@@ -1,4 +1,5 @@
-use Rattle.bpaf_core.specs.Run.{given_of, no_memory}
+use Rattle.bpaf_words.specs.Arguments.{given_of}
+use Rattle.bpaf_core.specs.Run.{no_memory}
 use Rattle.bpaf_core.proofs.Running.{started, line_refused}
 use Rattle.bpaf_core.proofs.Dealing.{if_dealt}
 use Rattle.bpaf_core.proofs.options.OptionParser.run_inner.Goals as goal
@@ -8,13 +9,13 @@ returns-in_default-clause-outcome g c = no_memory
 
 pub returns-in-Ok-construct-clause-outcome : goal.returns-in-Ok-construct-clause-outcome
 returns-in-Ok-construct-clause-outcome g c =
-    started (given_of c.args.args) _ _ _ _ c.in-Ok.ensures (rw (c.deref.ensures.value, c.deref-2.ensures.value) at c.in-Ok-construct.ensures.answer) c.run_from.ensures
+    started (given_of c.args.args) _ _ _ _ _ c.in-Ok.ensures (rw (c.deref.ensures.value, c.deref-2.ensures.value) at c.in-Ok-construct.ensures.answer) c.run_from.ensures
 
 pub returns-in-Ok-construct-clause-dealt : goal.returns-in-Ok-construct-clause-dealt
 returns-in-Ok-construct-clause-dealt g c =
     if_dealt (given_of c.args.args) (g.met.P.Parser.lawful c.args.self.now.inner) _
-    (started (given_of c.args.args) _ _ _ _ c.in-Ok.ensures (rw (c.deref.ensures.value, c.deref-2.ensures.value) at c.in-Ok-construct.ensures.answer) c.run_from.ensures)
+    (started (given_of c.args.args) _ _ _ _ _ c.in-Ok.ensures (rw (c.deref.ensures.value, c.deref-2.ensures.value) at c.in-Ok-construct.ensures.answer) c.run_from.ensures)
 
 pub returns-clause-outcome : goal.returns-clause-outcome
 returns-clause-outcome g c =
-    line_refused (given_of c.args.args) _ _ _ _ c.in-Ok.ensures (rw (c.deref.ensures.value, c.deref-2.ensures.value) at c.in-Err.ensures.answer) c.told.ensures
+    line_refused (given_of c.args.args) _ _ _ _ c.in-Ok.ensures (rw (c.deref.ensures.value, c.deref-2.ensures.value) at c.in-Err.ensures.answer) c.failure_of.ensures

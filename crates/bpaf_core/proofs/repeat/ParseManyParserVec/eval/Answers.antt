@@ -1,5 +1,5 @@
-use Rattle.bpaf_core.proofs.Bounded.{many_bounded}
-use Rattle.bpaf_core.proofs.RepeatSparing.{spared_many}
+use Rattle.bpaf_laws.proofs.Bounded.{many_bounded}
+use Rattle.bpaf_laws.proofs.RepeatSparing.{spared_many}
 use Rattle.bpaf_core.proofs.repeat.ParseManyParserVec.eval.Goals as goal
 
 pub returns-clause-repeat_is_bounded : goal.returns-clause-repeat_is_bounded

@@ -1,40 +1,30 @@
-use Rattle.std.proofs.Common.{◌≡◌, ℕ, ◌++◌, List, length, drop, map, ap, ◌∙◌, refl, nat_lt, Option, None, ◌-◌, vec_len}
-use Rattle.std.specs.Bool.{then_some}
+use Rattle.std.proofs.Common.{◌≡◌, length, ap, ◌∙◌, refl, None, ◌-◌, option_to_list, subst, All, IsUtf8}
 use Rattle.std.specs.Int.{from_bool}
-use Rattle.bpaf_line.specs.declared.arg.Arg.{Arg}
-use Rattle.bpaf_line.specs.declared.arg.Arg.TheVariants.{PosWord}
-use Rattle.bpaf_line.specs.Arguments.{words_of, env_of, name_of}
+use Rattle.bpaf_words.specs.Arguments.{env_of, name_of}
+use Rattle.bpaf_words.specs.Spelling.{knowing}
+use Rattle.bpaf_words.specs.Line.{IsLine}
+use Rattle.bpaf_words.proofs.Fronts.{marker_of_line}
 use Rattle.bpaf_line.specs.Situation.{Context, beginning, first_marks}
 use Rattle.bpaf_line.specs.declared.state.State.TheInside.{Inside}
 use Rattle.bpaf_line.specs.Inside.{situation_of}
-use Rattle.bpaf_line.proofs.Beginning.{line_of_front, sound_beginning, begins, marker_in_line, left_is, left_of}
-use Rattle.bpaf_line.proofs.LineLemmas.{texts_all}
+use Rattle.bpaf_line.proofs.Beginning.{sound_beginning, begins, left_is, left_of}
 use Rattle.bpaf_line.proofs.state.State.construct.Goals as goal
 use Rattle.bpaf_line.proofs.state.State.construct.Goals.{In_ok-from_vec-2}
 
-line_is : In_ok-from_vec-2 → List Arg
-line_is c = c.in_ok-items.items.items ++ map PosWord (drop c.in_ok-items.before (words_of c.args.args))
-
-marker_is : In_ok-from_vec-2 → Option ℕ
-marker_is c = then_some (nat_lt c.in_ok-items.before (length (words_of c.args.args))) (length c.in_ok-items.items.items)
-
+-- the context of the line that was read
 context_is : In_ok-from_vec-2 → Context
-unfolding line_is
-context_is c = record { line = line_is c; env = env_of c.args.args; name = name_of c.args.args }
+context_is c = record {
+  line = c.in_ok-line.line.items.items;
+  marker = c.in_ok-line.line.marker;
+  env = env_of c.args.args;
+  name = name_of c.args.args;
+}
 
-whole : (c : In_ok-from_vec-2) → c.push_rest.new.items.items ≡ line_is c
-unfolding line_is
-whole c = c.in_ok-push_rest.ensures.items
-
-marker-eq : (c : In_ok-from_vec-2) → c.then_some-marker.result ≡ marker_is c
-unfolding marker_is
-marker-eq c =
-    c.then_some-marker.ensures ∙ (ap (λ n. then_some (nat_lt c.in_ok-items.before n) c.len-2.result) c.len.ensures
-    ∙ ap (then_some (nat_lt c.in_ok-items.before (length (words_of c.args.args)))) (c.len-2.ensures ∙ c.in_ok-items.items.ok.0))
-
+-- what the state is made of
 inside : In_ok-from_vec-2 → Inside
 inside c = record {
   items = c.in_ok-from_vec.field-0;
+  marker = c.in_ok-line.line.marker;
   env = c.in_ok-from_vec-2.field-0;
   marks = c.in_ok-marks.marks;
   start = 0;
@@ -45,24 +35,26 @@ inside c = record {
   current = None;
 }
 
-size : (c : In_ok-from_vec-2) → vec_len c.push_rest.new.items ≡ length (line_is c)
-size c = c.push_rest.new.items.ok.0 ∙ ap length (whole c)
+-- the end of the scope is the end of the line
+size : (c : In_ok-from_vec-2) → c.len-end.result ≡ length c.in_ok-line.line.items.items
+size c = c.len-end.ensures ∙ c.in_ok-line.line.items.ok.0
 
-start : (c : In_ok-from_vec-2) → situation_of (inside c) ≡ beginning (context_is c) (marker_is c)
+-- it is at the beginning of that line
+start : (c : In_ok-from_vec-2) → situation_of (inside c) ≡ beginning (context_is c)
 unfolding inside context_is
-start c = begins (inside c) (context_is c) (marker_is c) (c.in_ok-from_vec.ensures ∙ whole c) (c.in_ok-from_vec-2.ensures ∙ c.in_ok-entries.ensures) c.in_ok-path.ensures.name
-    (c.in_ok-marks.ensures ∙ (ap (λ m. first_marks m c.len-3.result) (marker-eq c) ∙ ap (first_marks (marker_is c)) (c.len-3.ensures ∙ size c)))
-    refl (c.len-end.ensures ∙ size c) c.in_ok-path.ensures.path refl
+start c = begins (inside c) (context_is c) c.in_ok-from_vec.ensures refl (c.in_ok-from_vec-2.ensures ∙ (c.in_ok-entries.ensures ∙ c.env.ensures)) (c.in_ok-path.ensures.name ∙ c.name.ensures)
+    (c.in_ok-marks.ensures ∙ ap (first_marks c.in_ok-line.line.marker) (size c))
+    refl (size c) (c.in_ok-path.ensures.path ∙ ap option_to_list c.name.ensures) refl
 
 pub invariant_of-result : goal.invariant_of-result
-unfolding line_is marker_is context_is inside
+unfolding context_is inside
 invariant_of-result c =
-    sound_beginning (inside c) (context_is c) (marker_is c) (start c) (marker_in_line (words_of c.args.args) c.in_ok-items.items.items c.in_ok-items.before)
-    (left_is c.then_some-marker.result c.len-end.result c.from.result (c.from.ensures ∙ ap from_bool c.is_some.ensures) ∙ (ap (λ m. left_of m c.len-end.result) (marker-eq c) ∙ ap (left_of (marker_is c)) (c.len-end.ensures ∙ size c)))
-
-pub returns-clause-answer : goal.returns-clause-answer
-unfolding line_is marker_is context_is inside
-returns-clause-answer c = (line_is c, marker_is c, line_of_front _ (words_of c.args.args) c.in_ok-items.items.items c.in_ok-items.before c.in_ok-items.ensures, start c)
+    sound_beginning (inside c) (context_is c) (start c) (marker_of_line _ _ _ _ c.in_ok-line.ensures.answer)
+    (left_is c.in_ok-line.line.marker c.len-end.result c.from.result (c.from.ensures ∙ ap from_bool c.is_some.ensures) ∙ ap (left_of c.in_ok-line.line.marker) (size c))
 
 pub returns-clause-texts : goal.returns-clause-texts
-returns-clause-texts c = texts_all (words_of c.args.args) c.in_ok-items.before c.in_ok-items.ensures.texts c.in_ok-push_rest.ensures.texts
+returns-clause-texts c = subst (All IsUtf8) c.words.ensures c.in_ok-line.ensures.texts
+
+pub returns-clause-answer : goal.returns-clause-answer
+unfolding context_is inside
+returns-clause-answer c = (context_is c, record { is_line = subst (λ words. IsLine (knowing (record { flags = c.args.short_flags.now; arguments = c.args.short_args.now })) words (context_is c).line (context_is c).marker) c.words.ensures c.in_ok-line.ensures.answer; env = refl; name = refl }, start c)

@@ -1,4 +1,4 @@
-use Rattle.bpaf_line.specs.Items.{is_argument_key}
+use Rattle.bpaf_words.specs.Items.{is_argument_key}
 use Rattle.bpaf_line.proofs.state.State.take_arg.Given as goal
 
 -- the closure's captures: the short and the long names, and `adjacent`

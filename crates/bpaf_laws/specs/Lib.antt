@@ -1,0 +1,17 @@
+pub mod Reading
+pub mod Laws
+pub mod Counting
+pub mod Value
+pub mod Environment
+pub mod Flag
+pub mod Argument
+pub mod KeyFirst
+pub mod Transform
+pub mod Step
+pub mod Default
+pub mod Repeat
+pub mod Spared
+pub mod Choice
+pub mod Pure
+pub mod Product
+pub mod Choices

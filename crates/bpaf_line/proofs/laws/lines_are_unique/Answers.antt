@@ -1,5 +1,0 @@
-use Rattle.bpaf_line.proofs.OneLine.{one_lines}
-use Rattle.bpaf_line.proofs.laws.lines_are_unique.Goals as goal
-
-pub returns : goal.returns
-returns c = one_lines

@@ -1,5 +1,0 @@
-use Rattle.bpaf_line.proofs.OneSpelling.{one_spelling}
-use Rattle.bpaf_line.proofs.laws.spellings_are_unique.Goals as goal
-
-pub returns : goal.returns
-returns c = one_spelling

@@ -1,0 +1,7 @@
+pub mod Lists
+pub mod SplitLemmas
+pub mod JoinedLemmas
+pub mod OneSpelling
+pub mod LineLemmas
+pub mod OneLine
+pub mod Fronts

@@ -1,0 +1,135 @@
+-- How a word spells items: the ways in which its bytes fall into parts.
+use Rattle.std.specs.Prelude.{◌≡◌, ◌≢◌, ℕ, ◌+◌, Bool, true, false, List, [], ◌∷◌, ◌++◌, length, codes, encode_utf8, encode_utf8_all, EachIndex, slice_index, All, IsUtf8}
+use Rattle.bpaf_words.specs.Items.{is_among}
+use Rattle.bpaf_words.specs.declared.arg.Arg.{Arg}
+use Rattle.bpaf_words.specs.declared.arg.Arg.TheVariants.{Short, Long, ArgWord, Word}
+
+-- the short names that a parser knows, as characters
+pub record ShortNames : Type 0 where
+  pub flags : List ℕ
+  pub arguments : List ℕ
+
+-- what the spelling of a word depends on: the known short names, and whether a negative number is a word
+pub record Known : Type 0 where
+  pub names : ShortNames
+  pub numbers : Bool
+
+-- these short names are known, and no number is a word
+abbrev pub knowing : ShortNames → Known
+knowing names = record { names = names; numbers = false }
+
+-- a known flag, and no known argument
+pub record IsFlag (names : ShortNames) (c : ℕ) : Type 0 where
+  pub flag : is_among names.flags c ≡ true
+  pub no_argument : is_among names.arguments c ≡ false
+
+-- a known argument, and no known flag
+pub record IsArgument (names : ShortNames) (c : ℕ) : Type 0 where
+  pub no_flag : is_among names.flags c ≡ false
+  pub argument : is_among names.arguments c ≡ true
+
+-- neither of them
+pub record IsNeither (names : ShortNames) (c : ℕ) : Type 0 where
+  pub no_flag : is_among names.flags c ≡ false
+  pub no_argument : is_among names.arguments c ≡ false
+
+-- both of them
+pub record IsBoth (names : ShortNames) (c : ℕ) : Type 0 where
+  pub flag : is_among names.flags c ≡ true
+  pub argument : is_among names.arguments c ≡ true
+
+-- what a word spells: items, or nothing, because the character of this number, the dash being 0, is both
+pub data Spelling : Type 0 where
+  Items : List Arg → Spelling
+  Ambiguous : ℕ → Spelling
+
+-- a flag for each character; the first has this text, the others have the empty text
+abbrev pub flags_of : List ℕ → List ℕ → List Arg
+flags_of text [] = []
+flags_of text (c ∷ cs) = Short c false text ∷ flags_of [] cs
+
+-- an argument with what follows it in its word
+abbrev pub argument_of : List ℕ → ℕ → List ℕ → List Arg
+argument_of word c [] = Short c false word ∷ []
+argument_of word c (b ∷ rest) = Short c true word ∷ Word (b ∷ rest) ∷ []
+
+-- joined characters cs of a word: flags, then perhaps one that is none
+pub data SpellsJoined (names : ShortNames) (word : List ℕ) (cs : List ℕ) : Spelling → Type 0 where
+  flags : All (IsFlag names) cs → SpellsJoined names word cs (Items (flags_of word cs))
+  argument : (fs : List ℕ) (c : ℕ) (rest : List ℕ) → cs ≡ fs ++ c ∷ rest → All (IsFlag names) fs → IsArgument names c
+      → SpellsJoined names word cs (Items (flags_of word fs ++ argument_of word c (encode_utf8_all rest)))
+  neither : (fs : List ℕ) (c : ℕ) (rest : List ℕ) → cs ≡ fs ++ c ∷ rest → All (IsFlag names) fs → IsNeither names c
+      → SpellsJoined names word cs (Items (Word word ∷ []))
+  both : (fs : List ℕ) (c : ℕ) (rest : List ℕ) → cs ≡ fs ++ c ∷ rest → All (IsFlag names) fs → IsBoth names c
+      → SpellsJoined names word cs (Ambiguous (length fs + 1))
+
+-- no byte of it is `=`
+abbrev pub HasNoEquals : List ℕ → Type 0
+HasNoEquals n = EachIndex n (λ i. slice_index n i ≢ 61)
+
+-- what a word other than `--` spells
+pub data Spells (known : Known) (word : List ℕ) : Spelling → Type 0 where
+  -- empty, or not beginning with `-`
+  plain : ((rest : List ℕ) → word ≢ codes "-" ++ rest) → Spells known word (Items (Word word ∷ []))
+  -- `-`
+  dash : word ≡ codes "-" → Spells known word (Items (Word word ∷ []))
+  -- `--n`
+  long : (n : List ℕ) → word ≡ codes "--" ++ n → n ≢ [] → HasNoEquals n
+      → Spells known word (Items (Long n false word ∷ []))
+  -- `--n=v`
+  long_value : (n v : List ℕ) → word ≡ codes "--" ++ (n ++ (codes "=" ++ v)) → HasNoEquals n
+      → Spells known word (Items (Long n true word ∷ ArgWord v ∷ []))
+  -- `-c`
+  short : (c : ℕ) → word ≡ codes "-" ++ encode_utf8 c → c ≢ 45
+      → Spells known word (Items (Short c false word ∷ []))
+  -- `-c=v`
+  short_value : (c : ℕ) (v : List ℕ) → word ≡ codes "-" ++ (encode_utf8 c ++ (codes "=" ++ v)) → c ≢ 45
+      → Spells known word (Items (Short c true word ∷ ArgWord v ∷ []))
+  -- `-cr=v`
+  short_long_value : (c : ℕ) (r v : List ℕ) → word ≡ codes "-" ++ (encode_utf8 c ++ (r ++ (codes "=" ++ v))) → c ≢ 45 → r ≢ [] → HasNoEquals r
+      → Spells known word (Items (Short c true word ∷ ArgWord (r ++ (codes "=" ++ v)) ∷ []))
+  -- `-s`, s of two or more characters, no `=` after its first
+  joined : (c d : ℕ) (cs : List ℕ) (spelling : Spelling) → word ≡ codes "-" ++ encode_utf8_all (c ∷ d ∷ cs) → c ≢ 45 → HasNoEquals (encode_utf8_all (d ∷ cs))
+      → SpellsJoined known.names word (c ∷ d ∷ cs) spelling → Spells known word spelling
+
+-- the cases of a spelling
+pub data Case : Type 0 where
+  PlainWord : Case
+  DashAlone : Case
+  LongAlone : Case
+  LongWithValue : Case
+  ShortAlone : Case
+  ShortWithValue : Case
+  ShortWithLongValue : Case
+  JoinedFlags : Case
+  JoinedWithArgument : Case
+  JoinedWithNeither : Case
+  JoinedWithBoth : Case
+
+-- the case of joined characters that holds
+abbrev pub joined_case_of : {names : ShortNames} {word cs : List ℕ} {s : Spelling} → SpellsJoined names word cs s → Case
+joined_case_of (flags a) = JoinedFlags
+joined_case_of (argument fs c rest a b d) = JoinedWithArgument
+joined_case_of (neither fs c rest a b d) = JoinedWithNeither
+joined_case_of (both fs c rest a b d) = JoinedWithBoth
+
+-- the case that holds
+abbrev pub case_of : {known : Known} {word : List ℕ} {s : Spelling} → Spells known word s → Case
+case_of (plain a) = PlainWord
+case_of (dash a) = DashAlone
+case_of (long n a b d) = LongAlone
+case_of (long_value n v a b) = LongWithValue
+case_of (short c a b) = ShortAlone
+case_of (short_value c v a b) = ShortWithValue
+case_of (short_long_value c r v a b d e) = ShortWithLongValue
+case_of (joined c d cs s a b e j) = joined_case_of j
+
+-- exactly one case holds, with one answer
+pub record HasOneSpelling (known : Known) (word : List ℕ) : Type 0 where
+  pub spelling : Spelling
+  pub spells : Spells known word spelling
+  pub only : (s : Spelling) (a : Spells known word s) → (case_of a ≡ case_of spells) × (s ≡ spelling)
+
+-- each word but `--` has exactly one spelling
+abbrev pub SpellingsAreUnique : Type 0
+SpellingsAreUnique = (known : Known) (word : List ℕ) → IsUtf8 word → word ≢ codes "--" → HasOneSpelling known word

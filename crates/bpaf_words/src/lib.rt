@@ -1,0 +1,29 @@
+//! Words and the items that they spell.
+//!
+//! It stands on `bpaf_doc`, whose texts it holds, and knows nothing of parsers or of what is taken.
+//! For the layers above:
+//!
+//! - [`Args`] lends the words, the name and the environment of a run (specs/Arguments.antt).
+//! - [`Arg`] is one item of a line: a key, the value in a key's own word, or a word. What a test on
+//!   an item computes stands in specs/Items.antt.
+//! - [`split_word`] answers the items of one word. Contracts say which by `Spells`
+//!   (specs/Spelling.antt), by the ways in which a word falls into parts and not by a walk over it;
+//!   what a spelling depends on is one record, `Known`. Each word but `--` has exactly one spelling.
+//! - [`line_of`] answers the [`Line`] of all words and the place of their first `--`. A line is
+//!   refused exactly where a word is ambiguous (`IsLine` and `HasNoLine`, specs/Line.antt), and for
+//!   want of memory. Words have one line or a first ambiguous word, never both.
+//!
+//! The source of the design is bpaf's `arg.rs` and `args.rs`.
+#![tactic(auto)]
+
+mod arg;
+mod args;
+mod laws;
+mod line;
+mod split;
+
+pub use arg::{Arg, is_argument_key, is_command_word, is_key_of, is_positional, value_text};
+pub use args::{Args, LentWord, Words};
+pub use laws::{lines_are_unique, spellings_are_unique};
+pub use line::{Line, LineFault, line_of};
+pub use split::{SplitFault, split_word};

@@ -1,0 +1,165 @@
+ghost use Rattle.std.specs.Prelude.{◌≡◌, ◌≢◌, [], ◌∷◌, ◌++◌, false, codes, encode_utf8, encode_utf8_all, OnOk};
+ghost use Rattle.bpaf_words.specs.Spelling.{argument_of, knowing};
+ghost use Rattle.bpaf_words.specs.Splitting.{Splits, SplitsJoined, SpellsAs};
+
+use crate::arg::Arg;
+use bpaf_doc::Text;
+use std::alloc::{AllocError, Global};
+
+/// Why a word gives no items.
+#[derive(Drop)]
+pub enum SplitFault {
+    /// The character of this number, the dash being 0, is a known flag and a known argument.
+    Ambiguous(usize),
+    Memory,
+}
+
+impl From<AllocError> for SplitFault {
+    ghost use Rattle.std.specs.Prelude.{◌≡◌};
+    ghost use Rattle.bpaf_words.specs.declared.split.SplitFault.TheVariants.{Memory};
+
+    ghost from_gives = { λ _ fault. fault ≡ Memory };
+
+    fn from(_error: AllocError) -> SplitFault {
+        SplitFault::Memory
+    }
+}
+
+/// The items of a word that isn't `--`, at the end of the items before it.
+pub fn split_word(
+    alloc: Global,
+    word: &str,
+    flags: &[char],
+    arguments: &[char],
+    items: &mut Vec<Arg>,
+) -> Result<(), SplitFault>
+    requires { word.now ≢ codes "--" }
+    ensures { Splits (knowing (record { flags = flags.now; arguments = arguments.now }))
+        word.now items.old.items result items.new.items }
+{
+    let Some(rest) = word.strip_prefix('-') else {
+        return Ok(push_word(alloc, word, items)?);
+    };
+    if let Some(name) = rest.strip_prefix('-') {
+        return Ok(split_long(alloc, word, name, items)?);
+    }
+    let mut letters = rest.chars();
+    let Some(c) = letters.next() else {
+        return Ok(push_word(alloc, word, items)?);
+    };
+    let tail = letters.as_str();
+    match tail.split_once('=') {
+        Some((name, value)) => {
+            let value = if name.is_empty() { value } else { tail };
+            Ok(push_attached(
+                alloc,
+                Arg::Short(c, true, Text::new(alloc, word)?),
+                value,
+                items,
+            )?)
+        }
+        None if tail.is_empty() => Ok(
+            items
+                .push(Arg::Short(c, false, Text::new(alloc, word)?))
+                .map_err(AllocError::from)?,
+        ),
+        None => split_joined(alloc, word, rest, flags, arguments, items),
+    }
+}
+
+fn push_word(alloc: Global, word: &str, items: &mut Vec<Arg>) -> Result<(), AllocError>
+    ensures { OnOk result (items.new.items ≡ items.old.items ++ Arg.Word word.now ∷ []) }
+{
+    items.push(Arg::Word(Text::new(alloc, word)?))?;
+    Ok(())
+}
+
+fn push_attached(
+    alloc: Global,
+    key: Arg,
+    value: &str,
+    items: &mut Vec<Arg>,
+) -> Result<(), AllocError>
+    ensures { OnOk result (items.new.items ≡ items.old.items ++ key ∷ Arg.ArgWord value.now ∷ []) }
+{
+    items.push(key)?;
+    items.push(Arg::ArgWord(Text::new(alloc, value)?))?;
+    Ok(())
+}
+
+/// The items of `--name` or `--name=value`.
+fn split_long(alloc: Global, word: &str, name: &str, items: &mut Vec<Arg>) -> Result<(), AllocError>
+    requires word { word.now ≡ codes "--" ++ name.now }
+    requires name { name.now ≢ [] }
+    ensures { OnOk result (SpellsAs word.now items.old.items items.new.items) }
+{
+    match name.split_once('=') {
+        None => {
+            items.push(Arg::Long(Text::new(alloc, name)?, false, Text::new(alloc, word)?))?;
+            Ok(())
+        }
+        Some((front, value)) => {
+            let key = Arg::Long(Text::new(alloc, front)?, true, Text::new(alloc, word)?);
+            push_attached(alloc, key, value, items)
+        }
+    }
+}
+
+/// The items of joined letters, the part of a word after its dash.
+fn split_joined(
+    alloc: Global,
+    word: &str,
+    letters: &str,
+    flags: &[char],
+    arguments: &[char],
+    items: &mut Vec<Arg>,
+) -> Result<(), SplitFault>
+    ensures { SplitsJoined (record { flags = flags.now; arguments = arguments.now })
+        word.now letters.now items.old.items result items.new.items }
+{
+    let before = items.len();
+    let mut count = 0usize;
+    let mut rest = letters.chars();
+    while let Some(c) = rest.next() {
+        let is_flag = flags.contains(&c);
+        let is_argument = arguments.contains(&c);
+        match (is_flag, is_argument) {
+            (true, false) => {
+                let text = if count == 0 { word } else { "" };
+                push_flag(alloc, c, text, items)?;
+            }
+            (false, true) => return Ok(push_argument(alloc, c, word, rest.as_str(), items)?),
+            (false, false) => {
+                items.truncate(before);
+                return Ok(push_word(alloc, word, items)?);
+            }
+            (true, true) => return Err(SplitFault::Ambiguous(count + 1)),
+        }
+        count += 1;
+    }
+    Ok(())
+}
+
+fn push_flag(alloc: Global, c: char, text: &str, items: &mut Vec<Arg>) -> Result<(), AllocError>
+    ensures { OnOk result (items.new.items ≡ items.old.items ++ Arg.Short c false text.now ∷ []) }
+{
+    items.push(Arg::Short(c, false, Text::new(alloc, text)?))?;
+    Ok(())
+}
+
+fn push_argument(
+    alloc: Global,
+    c: char,
+    word: &str,
+    value: &str,
+    items: &mut Vec<Arg>,
+) -> Result<(), AllocError>
+    ensures { OnOk result (items.new.items ≡ items.old.items ++ argument_of word.now c value.now) }
+{
+    let attached = !value.is_empty();
+    items.push(Arg::Short(c, attached, Text::new(alloc, word)?))?;
+    if attached {
+        push_word(alloc, value, items)?;
+    }
+    Ok(())
+}
