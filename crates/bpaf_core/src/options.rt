@@ -105,3 +105,23 @@ impl<T: Drop, P: Parser<T>> OptionParser<T, P> {
         }
     }
 }
+
+impl<T: Drop, P: Parser<T> + Drop> OptionParser<T, P> {
+    /// The value that the words give, and the end of the parser: [`OptionParser::run_inner`] for a
+    /// parser that runs once. bpaf has no such call.
+    ///
+    /// The parser is handed over, so a function may end in this call also where the parser borrows.
+    ///
+    /// ```text
+    /// construct!(Options { verbose, num }).to_options(alloc)?.run_once(Args::from(words))
+    /// ```
+    pub fn run_once(self, args: Args<'_>) -> Result<T, ParseFailure>
+        requires { P.can_eval self.inner }
+        ensures outcome { RunsWords T (P.outcome self.inner) (P.describes self.inner)
+            self.info (given_of args.entry) result }
+        ensures dealt { IfOk result (λ v. IsDealtOut T (P.reads self.inner)
+            (P.describes self.inner) self.info (given_of args.entry) v) }
+    {
+        self.run_inner(args)
+    }
+}
