@@ -1,6 +1,7 @@
 //! Two states of one line: which took the leftmost place, and what the other one took.
 use crate::calls::{Call, gives, play};
-use bpaf_line::{Args, State};
+use bpaf_line::State;
+use bpaf_words::Args;
 use std::alloc::Global;
 use std::test::Fail;
 

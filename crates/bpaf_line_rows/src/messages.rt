@@ -419,3 +419,16 @@ fn copies_of_failures_say_the_same(rt: HostRuntime) -> Result<(), Fail> {
     copies_tell(&rt, Failure::Stderr("no"), "none no 1")?;
     copies_tell(&rt, Failure::Memory, "none none 1")
 }
+
+/// How many values a list holds: a parser of a caller's own may push with `?`.
+fn pushed(alloc: Global) -> Result<usize, Error> {
+    let mut values = Vec::new(alloc);
+    values.push(7u8)?;
+    Ok(values.len())
+}
+
+#[test]
+fn a_caller_may_push_with_a_question_mark(rt: HostRuntime) -> Result<(), Fail> {
+    assert_eq!(rt; pushed(rt.alloc())?, 1);
+    Ok(())
+}

@@ -1,6 +1,7 @@
 //! The calls of a state beside those of the worked rows: commands, scope, path, copies.
 use crate::calls::{Call, gives, play, played};
-use bpaf_line::{Args, State};
+use bpaf_line::State;
+use bpaf_words::Args;
 use std::alloc::Global;
 use std::process::Abort;
 use std::test::Fail;
