@@ -1,15 +1,11 @@
 //! Rows on `optional`, both fallbacks, and the leaves that look at no item.
 use crate::answers::{reads, same};
-use crate::forms::value;
+use crate::shared::{num, value};
 use bpaf::params::ParseArgument;
 use bpaf::{Meta, Parser, construct, fail, positional, pure, pure_with, short};
 use std::alloc::{AllocError, Global};
 use std::process::Abort;
 use std::test::Fail;
-
-fn num(alloc: Global) -> Result<ParseArgument<u64>, AllocError> {
-    Ok(short(alloc, 'n')?.argument("NUM"))
-}
 
 /// A number that may be left out.
 fn optional(alloc: Global, words: &[&str]) -> Result<Option<Option<u64>>, AllocError> {

@@ -2,6 +2,7 @@
 ghost use Rattle.std.specs.Prelude.{Ok};
 
 use crate::answers::same;
+use crate::shared::{num, value, verbose};
 use bpaf::params::{ParseArgument, ParseFlag};
 use bpaf::{Args, Parser, construct, short};
 use std::alloc::{AllocError, Global};
@@ -48,26 +49,6 @@ struct Unnamed();
 enum Nothing {
     Named {},
     Unnamed(),
-}
-
-/// The value of a parser on words; none where they are refused.
-pub(crate) fn value<T: Drop, P: Parser<T> + Drop>(
-    alloc: Global,
-    parser: P,
-    words: &[&str],
-) -> Result<Option<T>, AllocError>
-    requires { P.can_eval parser }
-{
-    let options = parser.to_options(alloc)?;
-    Ok(options.run_inner(Args::from(words)).ok())
-}
-
-fn verbose(alloc: Global) -> Result<ParseFlag<bool>, AllocError> {
-    Ok(short(alloc, 'v')?.switch())
-}
-
-fn num(alloc: Global) -> Result<ParseArgument<u64>, AllocError> {
-    Ok(short(alloc, 'n')?.argument("NUM"))
 }
 
 /// Two switches, named in their places.

@@ -1,6 +1,6 @@
 //! Rows on lists of words: `many` and `some`.
-use crate::forms::{file, value};
 use bpaf::Parser;
+use bpaf_rows::{file, value};
 use std::alloc::{AllocError, Global};
 use std::test::Fail;
 
