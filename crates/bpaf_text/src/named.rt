@@ -189,8 +189,7 @@ impl NamedArg {
     /// long(alloc, "size")?.argument::<u32>("NUM")
     /// ```
     pub fn argument<T>(self, metavar: &'static str) -> ParseArgument<T>
-        ensures named { result.named ≡ self }
-        ensures metavar { result.metavar.0 ≡ metavar.entry }
+        ensures { result ≡ record { named = self; metavar = metavar.now; adjacent = false } }
     {
         build_argument(self, metavar)
     }
@@ -215,7 +214,11 @@ impl NamedArg {
     /// `params.rs`): `None` where it has no name; refused only for want of memory.
     pub fn argument_item(&self, alloc: Global, metavar: Metavar) -> Result<Option<Item>, AllocError>
         ensures { IfOk result (λ item.
-            option_map part_of item ≡ argument_part self.now metavar.0.now) }
+            option_map part_of item ≡ argument_part (record {
+              named = self.now;
+              metavar = metavar.0.now;
+              adjacent = false;
+            })) }
     {
         match self.shown_name(alloc)? {
             Some(name) => Ok(Some(Item::Argument {
