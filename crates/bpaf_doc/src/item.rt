@@ -11,8 +11,11 @@ pub struct Metavar(pub &'static str);
 /// Unlike in bpaf it holds its long name, so it is not `Copy`.
 #[derive(Debug, Drop)]
 pub enum ShortLong {
+    /// A short name alone.
     Short(char),
+    /// A long name alone.
     Long(Text),
+    /// A short name and a long one.
     Both(char, Text),
 }
 
