@@ -153,12 +153,12 @@ impl Doc {
         Ok(())
     }
 
-    /// Appends a text: its part before the first empty line, folded, and where there is one a second
-    /// piece, detail, of a line break and what follows the empty line, folded; refused only for want
-    /// of memory.
+    /// Appends a text: its part before the first empty line, folded, and where there is one a
+    /// second piece, detail, of a line break and what follows the empty line, folded; refused only
+    /// for want of memory.
     ///
-    /// Folded, a line break stays where a space or a line break follows it, where a line break stands
-    /// before it, or at the end; every other line break becomes one space.
+    /// Folded, a line break stays where a space or a line break follows it, where a line break
+    /// stands before it, or at the end; every other line break becomes one space.
     ///
     /// ```text
     /// doc.text("Reads each\nfile.\n\nFiles are read\nin order.")?
@@ -222,8 +222,8 @@ impl Doc {
         Ok(Some(doc))
     }
 
-    /// The texts of all pieces in order, of the detail pieces only where `full` is true; refused only
-    /// for want of memory.
+    /// The texts of all pieces in order, of the detail pieces only where `full` is true; refused
+    /// only for want of memory.
     pub fn monochrome(&self, full: bool) -> Result<String, AllocError>
         ensures { IfOk result (λ text. string_bytes text ≡ printed full self.now) }
     {

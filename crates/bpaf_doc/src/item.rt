@@ -26,7 +26,8 @@ pub enum ShortLong {
 #[cycle(meta)]
 #[derive(Debug, Drop)]
 pub enum Item {
-    /// A word that a test of the program's own accepts; `anywhere` where it may stand behind others.
+    /// A word that a test of the program's own accepts; `anywhere` where it may stand behind
+    /// others.
     Any {
         metavar: Doc,
         help: Option<Doc>,

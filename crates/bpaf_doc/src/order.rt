@@ -6,8 +6,8 @@ ghost use Rattle.bpaf_doc.specs.Order.{has_word, any_has_word, takes_word};
 use crate::item::Item;
 use crate::meta::Meta;
 
-/// Whether all members of an And are in order; `seen` tells whether a word was asked for before them,
-/// and then whether one was in them too.
+/// Whether all members of an And are in order; `seen` tells whether a word was asked for before
+/// them, and then whether one was in them too.
 #[cycle(order)]
 fn all_in_order(all: &[Meta], seen: &mut bool) -> bool
     ensures order { result ≡ all_in_order (members_of all.now) seen.old }
@@ -21,7 +21,8 @@ fn all_in_order(all: &[Meta], seen: &mut bool) -> bool
     good
 }
 
-/// Whether each member of an Or is in order, and whether a word was asked for before them or in one.
+/// Whether each member of an Or is in order, and whether a word was asked for before them or in
+/// one.
 #[cycle(order)]
 fn each_in_order(all: &[Meta], seen: bool) -> (bool, bool)
     ensures order { result.0 ≡ each_in_order (members_of all.now) seen }

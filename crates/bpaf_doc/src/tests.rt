@@ -60,9 +60,10 @@ fn documents_are_printed(rt: HostRuntime) -> Result<(), Fail> {
 // Trees and what they answer: the short names of the flags and of the arguments, whether no key
 // stands behind a word, and the kind of the first item.
 //
-// A row makes its tree from left to right. W is a word, A a word of any shape, N an argument with the
-// names n and m, any other letter a flag of this name. Behind a tree ? makes it optional, ! strict, #
-// a section and > a command; & and | join the two trees before them to all of both and one of both.
+// A row makes its tree from left to right. W is a word, A a word of any shape, N an argument with
+// the names n and m, any other letter a flag of this name. Behind a tree ? makes it optional,
+// ! strict, # a section and > a command; & and | join the two trees before them to all of both and
+// one of both.
 const TREES: &[(&str, &str)] = &[
     ("W!N?v&&", "['v'] ['n', 'm'] false word"),
     ("AN?#&>q|", "['q'] ['n', 'm'] false none"),
@@ -167,14 +168,20 @@ fn answers(alloc: Global, tree: &Meta) -> Result<String, AllocError> {
 }
 
 // What the copy of a tree answers; nothing where it doesn't tell the same as the tree.
-fn copy_answers(alloc: Global, tree: &Meta) -> Result<String, AllocError> {
-    let copy = tree.copy()?;
+fn answers_of_copy(alloc: Global, tree: &Meta, copy: &Meta) -> Result<String, AllocError> {
     let wanted = format!(in alloc; "{tree:?}")?;
     let told = format!(in alloc; "{copy:?}")?;
-    if told.as_str() != wanted.as_str() {
-        return Ok(String::new(alloc));
+    if told.as_str() == wanted.as_str() {
+        answers(alloc, copy)
+    } else {
+        Ok(String::new(alloc))
     }
-    answers(alloc, &copy)
+}
+
+// What a copy of a tree answers.
+fn copy_answers(alloc: Global, tree: &Meta) -> Result<String, AllocError> {
+    let copy = tree.copy()?;
+    answers_of_copy(alloc, tree, &copy)
 }
 
 // What the copy of a row's tree answers.

@@ -45,10 +45,12 @@ first_text (text ∷ texts) = Some text
 -- the part that a key without a value shows; none where it has no short and no long name
 abbrev pub flag_part : Named → Option Part
 flag_part named =
-    option_map (λ name. Flag name named.names.shorts (first_text named.envs) named.help) (shown_name named.names)
+    option_map
+    (λ name. Flag name named.names.shorts (first_text named.envs) named.help)
+    (shown_name named.names)
 
--- a key with a value, as contracts see it: what the key holds, what stands for the value where the key
--- is shown, and whether only a key with its value in its own word counts
+-- a key with a value, as contracts see it: what the key holds, what stands for the value where the
+-- key is shown, and whether only a key with its value in its own word counts
 pub record KeyWithValue : Type 0 where
   pub named : Named
   pub metavar : List ℕ
@@ -57,6 +59,7 @@ pub record KeyWithValue : Type 0 where
 -- the part that a key with a value shows; none where it has no short and no long name
 abbrev pub argument_part : KeyWithValue → Option Part
 argument_part key =
+    let named = key.named in
     option_map
-    (λ name. Argument name key.named.names.shorts key.metavar (first_text key.named.envs) key.named.help)
-    (shown_name key.named.names)
+    (λ name. Argument name named.names.shorts key.metavar (first_text named.envs) named.help)
+    (shown_name named.names)

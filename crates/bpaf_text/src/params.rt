@@ -49,8 +49,8 @@ impl<T> Model for ParseArgument<T> {
 }
 
 impl<T> ParseFlag<T> {
-    /// The flag with this help, in place of the one that it has (bpaf's `ParseFlag::help`). It takes
-    /// no memory.
+    /// The flag with this help, in place of the one that it has (bpaf's `ParseFlag::help`). It
+    /// takes no memory.
     pub fn help(mut self, help: Doc) -> ParseFlag<T>
         ensures { result ≡ record self { named = with_help self.named help } }
     {
@@ -60,13 +60,14 @@ impl<T> ParseFlag<T> {
 }
 
 impl<T: Clone + Drop> ParseFlag<T> {
-    /// The same flag, with clones of its values; where clones equal their source it is an equal one.
-    ///
-    /// Refused only for want of memory.
+    /// The same flag, with clones of its values; where clones equal their source it is an equal
+    /// one. Refused only for want of memory.
     pub fn copy(&self) -> Result<ParseFlag<T>, AllocError>
         ensures named { IfOk result (λ flag. flag.named ≡ self.now.named) }
         ensures present { IfOk result (λ flag. T.is_clone self.now.present flag.present) }
-        ensures absent { IfOk result (λ flag. MatchOption self.now.absent (flag.absent ≡ None) (λ kept. IsSomeAnd flag.absent (T.is_clone kept))) }
+        ensures absent { IfOk result (λ flag. MatchOption self.now.absent
+            (flag.absent ≡ None)
+            (λ kept. IsSomeAnd flag.absent (T.is_clone kept))) }
     {
         let absent = match &self.absent {
             Some(absent) => Some(absent.clone()?),
