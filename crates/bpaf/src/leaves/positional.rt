@@ -35,9 +35,13 @@ impl Position {
 /// What the first word that is no option means (bpaf's `ParsePositional`, in `params.rs`).
 #[derive(Debug, Drop)]
 pub struct ParsePositional<T> {
+    /// What stands for the word where it is shown.
     pub metavar: Metavar,
+    /// On which side of `--` it may stand.
     pub position: Position,
+    /// What is shown of it beside its metavar.
     pub help: Option<Doc>,
+    /// The type of the value.
     pub of: PhantomData<T>,
 }
 
@@ -66,24 +70,16 @@ impl<T> ParsePositional<T> {
     /// ```text
     /// positional::<String>("FILE").help(Doc::from_text(alloc, "File to process")?)
     /// ```
-    pub fn help(self, help: Doc) -> ParsePositional<T>
-        ensures metavar { result.metavar ≡ self.metavar }
-        ensures position { result.position ≡ self.position }
-        ensures help { result.help ≡ Some help }
+    pub fn help(mut self, help: Doc) -> ParsePositional<T>
+        ensures { result ≡ record self { help = Some help } }
     {
-        ParsePositional {
-            metavar: self.metavar,
-            position: self.position,
-            help: Some(help),
-            of: PhantomData,
-        }
+        self.help = Some(help);
+        self
     }
 
     /// An equal word; refused only for want of memory.
     pub fn copy(&self) -> Result<ParsePositional<T>, AllocError>
-        ensures metavar { IfOk result (λ word. word.metavar ≡ self.now.metavar) }
-        ensures position { IfOk result (λ word. word.position ≡ self.now.position) }
-        ensures help { IfOk result (λ word. word.help ≡ self.now.help) }
+        ensures { IfOk result (λ word. word ≡ self.now) }
     {
         Ok(ParsePositional {
             metavar: self.metavar,
@@ -93,32 +89,22 @@ impl<T> ParsePositional<T> {
         })
     }
 
-    /// The word must stand on the right side of `--`; one that does not is taken and refused.
-    pub fn strict(self) -> ParsePositional<T>
-        ensures metavar { result.metavar ≡ self.metavar }
-        ensures position { result.position ≡ Position.Strict }
-        ensures help { result.help ≡ self.help }
+    /// The word must stand on the right side of `--` (bpaf's `ParsePositional::strict`); one that does
+    /// not is taken and refused.
+    pub fn strict(mut self) -> ParsePositional<T>
+        ensures { result ≡ record self { position = Position.Strict } }
     {
-        ParsePositional {
-            metavar: self.metavar,
-            position: Position::Strict,
-            help: self.help,
-            of: PhantomData,
-        }
+        self.position = Position::Strict;
+        self
     }
 
-    /// The word must stand on the left side of `--`; one that does not is taken and refused.
-    pub fn non_strict(self) -> ParsePositional<T>
-        ensures metavar { result.metavar ≡ self.metavar }
-        ensures position { result.position ≡ Position.NonStrict }
-        ensures help { result.help ≡ self.help }
+    /// The word must stand on the left side of `--` (bpaf's `ParsePositional::non_strict`); one that
+    /// does not is taken and refused.
+    pub fn non_strict(mut self) -> ParsePositional<T>
+        ensures { result ≡ record self { position = Position.NonStrict } }
     {
-        ParsePositional {
-            metavar: self.metavar,
-            position: Position::NonStrict,
-            help: self.help,
-            of: PhantomData,
-        }
+        self.position = Position::NonStrict;
+        self
     }
 }
 

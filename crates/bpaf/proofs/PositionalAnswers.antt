@@ -6,7 +6,7 @@ use Rattle.bpaf_line.specs.declared.error.Message.TheVariants.{Memory, ParseFail
 use Rattle.bpaf_line.specs.Situation.{Situation}
 use Rattle.bpaf_line.specs.Taking.{TakesText}
 use Rattle.bpaf_laws.specs.Value.{ReadsValue, FaultsText}
-use Rattle.bpaf.specs.declared.position.Position.{Position}
+use Rattle.bpaf.specs.declared.leaves.positional.Position.{Position}
 use Rattle.bpaf.specs.Positional.{PositionalOutcome, PositionalFails, accepts}
 
 module _ {T : Type 0} (means : List ℕ → T → Type 0) (position : Position) (metavar : List ℕ) (s t : Situation) (place : ℕ) (strict : Bool) (text : List ℕ) (takes : TakesText s place strict text t) where

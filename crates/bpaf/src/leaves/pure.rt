@@ -10,6 +10,7 @@ use std::marker::PhantomData;
 /// A kept value (bpaf's `ParsePure`, in `structs.rs`).
 #[derive(Drop)]
 pub struct ParsePure<T> {
+    /// The value that is cloned when it is given out.
     pub value: T,
 }
 
@@ -57,8 +58,11 @@ impl<T: Clone + Drop> Parser<T> for ParsePure<T> {
 /// A closure's answer (bpaf's `ParsePureWith`, in `structs.rs`).
 #[derive(Drop)]
 pub struct ParsePureWith<T, F, E> {
+    /// The closure.
     pub f: F,
+    /// The type of its value.
     pub of: PhantomData<T>,
+    /// The type of its fault.
     pub err: PhantomData<E>,
 }
 
@@ -68,7 +72,7 @@ pub struct ParsePureWith<T, F, E> {
 /// let started = pure_with(|| read_clock());
 /// construct!(Options { verbose, started })
 /// ```
-pub fn pure_with<T, E: Display, F: Fn() -> Result<T, E>>(f: F) -> ParsePureWith<T, F, E>
+pub fn pure_with<T, F: Fn() -> Result<T, E>, E: Display>(f: F) -> ParsePureWith<T, F, E>
     requires { F.IsAlwaysCallable f }
     ensures { result.f ≡ f }
 {
@@ -81,7 +85,7 @@ pub fn pure_with<T, E: Display, F: Fn() -> Result<T, E>>(f: F) -> ParsePureWith<
 
 /// The closure's value; its fault is refused with PureFailed, and so is want of memory for the text of
 /// that. No place is current then.
-impl<T: Drop, E: Display + Drop, F: Fn() -> Result<T, E>> Parser<T> for ParsePureWith<T, F, E> {
+impl<T: Drop, F: Fn() -> Result<T, E>, E: Display + Drop> Parser<T> for ParsePureWith<T, F, E> {
     ghost use Rattle.std.specs.Prelude.{◌≡◌};
     ghost use Rattle.bpaf_doc.specs.Shape.{Skip};
     ghost use Rattle.bpaf_laws.specs.Default.{GivesAnswer};
@@ -117,7 +121,9 @@ impl<T: Drop, E: Display + Drop, F: Fn() -> Result<T, E>> Parser<T> for ParsePur
 /// A refusal (bpaf's `ParseFail`, in `structs.rs`).
 #[derive(Drop)]
 pub struct ParseFail<T> {
+    /// Why every line is refused.
     pub message: &'static str,
+    /// The type of the value that never comes.
     pub of: PhantomData<T>,
 }
 

@@ -1,6 +1,6 @@
 use Rattle.std.proofs.Common.{sym, ◌∙◌}
-use Rattle.bpaf.proofs.Words.{word_read}
-use Rattle.bpaf.proofs.position.ParsePositionalParser.eval.Goals as goal
+use Rattle.bpaf.proofs.PositionalAnswers.{word_read}
+use Rattle.bpaf.proofs.leaves.positional.ParsePositionalParser.eval.Goals as goal
 
 pub returns : goal.returns
 returns g c =
