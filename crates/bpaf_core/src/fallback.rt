@@ -55,9 +55,15 @@ impl<T: Clone + Drop, P: Parser<T>> Parser<T> for ParseFallback<P, T> {
 
     fn eval(&self, state: &mut State) -> Result<T, Error>
         requires { P.can_eval self.now.inner }
-        ensures outcome { FallbackOutcome (P.outcome self.now.inner) (GivesClone T.is_clone self.now.value) state.old result state.new }
-        ensures default_takes_nothing { DefaultTakesNothing (P.outcome self.now.inner) state.old result state.new }
-        ensures memory_is_never_caught { IsNotMemory result → FallbackOutcome (WithoutMemory (P.outcome self.now.inner)) (GivesClone T.is_clone self.now.value) state.old result state.new }
+        ensures outcome { FallbackOutcome (P.outcome self.now.inner)
+            (GivesClone T.is_clone self.now.value)
+            state.old result state.new }
+        ensures default_takes_nothing { DefaultTakesNothing (P.outcome self.now.inner)
+            state.old result state.new }
+        ensures memory_is_never_caught { IsNotMemory result →
+            FallbackOutcome (WithoutMemory (P.outcome self.now.inner))
+            (GivesClone T.is_clone self.now.value)
+            state.old result state.new }
     {
         match attempt(&self.inner, state)? {
             Some(value) => Ok(value),
@@ -94,16 +100,24 @@ impl<T: Drop, E: Display + Drop, P: Parser<T>, F: Fn() -> Result<T, E>> Parser<T
 
     ghost describes = { λ p. OptionalDescribes (P.describes p.inner) };
 
-    ghost reads = { λ p. FallbackReads (P.reads p.inner) (GivesAnswer (λ r. F.post p.fallback r) E.output) };
+    ghost reads = { λ p.
+        FallbackReads (P.reads p.inner) (GivesAnswer (λ r. F.post p.fallback r) E.output) };
 
-    ghost outcome = { λ p. FallbackOutcome (P.outcome p.inner) (GivesAnswer (λ r. F.post p.fallback r) E.output) };
+    ghost outcome = { λ p.
+        FallbackOutcome (P.outcome p.inner) (GivesAnswer (λ r. F.post p.fallback r) E.output) };
 
     fn eval(&self, state: &mut State) -> Result<T, Error>
         requires inner { P.can_eval self.now.inner }
         requires callable { F.IsAlwaysCallable self.now.fallback }
-        ensures outcome { FallbackOutcome (P.outcome self.now.inner) (GivesAnswer (λ r. F.post self.now.fallback r) E.output) state.old result state.new }
-        ensures default_takes_nothing { DefaultTakesNothing (P.outcome self.now.inner) state.old result state.new }
-        ensures memory_is_never_caught { IsNotMemory result → FallbackOutcome (WithoutMemory (P.outcome self.now.inner)) (GivesAnswer (λ r. F.post self.now.fallback r) E.output) state.old result state.new }
+        ensures outcome { FallbackOutcome (P.outcome self.now.inner)
+            (GivesAnswer (λ r. F.post self.now.fallback r) E.output)
+            state.old result state.new }
+        ensures default_takes_nothing { DefaultTakesNothing (P.outcome self.now.inner)
+            state.old result state.new }
+        ensures memory_is_never_caught { IsNotMemory result →
+            FallbackOutcome (WithoutMemory (P.outcome self.now.inner))
+            (GivesAnswer (λ r. F.post self.now.fallback r) E.output)
+            state.old result state.new }
     {
         if let Some(value) = attempt(&self.inner, state)? {
             return Ok(value);
@@ -121,5 +135,6 @@ impl<T: Drop, E: Display + Drop, P: Parser<T>, F: Fn() -> Result<T, E>> Parser<T
         optional_meta(&self.inner, alloc)
     }
 
-    ghost lawful = { λ p. fallback_lawful (P.lawful p.inner) (GivesAnswer (λ r. F.post p.fallback r) E.output) };
+    ghost lawful = { λ p.
+        fallback_lawful (P.lawful p.inner) (GivesAnswer (λ r. F.post p.fallback r) E.output) };
 }

@@ -12,7 +12,7 @@ use Rattle.bpaf_line.specs.declared.error.Message.TheVariants.{Memory}
 use Rattle.bpaf_laws.specs.Reading.{Readings}
 use Rattle.bpaf_laws.specs.Laws.{Keeps, Reads, Lawful}
 use Rattle.bpaf_laws.proofs.Keeping.{keeps_same, reads_same, closes_take, newly_none, keeps_take, newly_take}
-use Rattle.bpaf_laws.specs.Flag.{FlagReads, at_key, in_environment, nowhere, FlagOutcome, FlagFails, IsAbsentValue, IsFlagPresent, IsFlagAbsent}
+use Rattle.bpaf_laws.specs.Flag.{FlagReads, at_key, in_environment, nowhere, FlagOutcome, FlagFails, IsAbsentValue, IsFlagPresent, IsFlagAbsent, IsPresent}
 
 -- what looking for a flag keeps
 pub flag_keeps : (names : Names) (s : Situation) (found : Bool) (t : Situation) → TakesFlag names s found t → Keeps s t
@@ -45,9 +45,17 @@ module _ (T : Type 0) (clones : T → T → Type 0) (named : Named) (present : T
   flag_absent : (s t : Situation) (v : T) → IsFlagAbsent named s t → IsAbsentValue clones absent v → Reads T reads_flag s v t
   flag_absent s t v is value = reads_same reads_flag s t v is.0.1 (nowhere (newly_none s) is.1 value)
 
+  -- what the test of a flag's key keeps
+  present_keeps : (s t : Situation) (is : Bool) → IsPresent named s is t → Keeps s t
+  present_keeps s t true found = ⊎_elim
+      (λ takes. flag_keeps named.names s true t takes)
+      (λ set. flag_keeps named.names s false t set.0)
+      found
+  present_keeps s t false none = flag_keeps named.names s false t none.0
+
   -- what a refusal of a flag keeps
   flag_refused : (s t : Situation) (m : Message) → FlagFails named absent s m t → Keeps s t
-  flag_refused s t Memory fails = flag_keeps named.names s fails.0 t fails.1
+  flag_refused s t Memory fails = present_keeps s t fails.0 fails.1
   flag_refused s t other fails = flag_keeps named.names s false t fails.0.0
 
   -- flags keep to the laws

@@ -16,9 +16,9 @@ both_ok : (A B : Type 0) (first : Outcome A) (rest : Outcome B) (rf : Readings A
 both_ok A B first rest rf rr fa fb (Ok x) (Ok y) s m t v f r e =
     let ra = fa.ok s m x f in
     let rb = fb.ok m t y r in
-    let h : (x, y) ≡ v = cc in
+    let joined_is : (x, y) ≡ v = cc in
     let rest_read : rr s.context (newly m t) y = subst (λ c. rr c (newly m t) y) ra.keeps.context rb.reading in
-    subst (λ w. Reads (A × B) (BothReads A B rf rr) s w t) h (record {
+    subst (λ w. Reads (A × B) (BothReads A B rf rr) s w t) joined_is (record {
       keeps = keeps_trans s m t ra.keeps rb.keeps;
       closed = closes_trans s m t rb.keeps ra.closed rb.closed;
       reading = record {
@@ -31,7 +31,7 @@ both_ok A B first rest rf rr fa fb (Ok x) (Ok y) s m t v f r e =
     })
 both_ok A B first rest rf rr fa fb (Ok x) (Err f) s m t v g r e = cc
 both_ok A B first rest rf rr fa fb (Err x) (Ok y) s m t v f r e = cc
-both_ok A B first rest rf rr fa fb (Err x) (Err y) s m t v f r e = elim (is_memory y.0) as (λ z. Ok v ≡ (if z then Err y else Err x) → Reads (A × B) (BothReads A B rf rr) s v t) [ true ↦ λ h. cc | false ↦ λ h. cc ] e
+both_ok A B first rest rf rr fa fb (Err x) (Err y) s m t v f r e = elim (is_memory y.0) as (λ z. Ok v ≡ (if z then Err y else Err x) → Reads (A × B) (BothReads A B rf rr) s v t) [ true ↦ λ joined_is. cc | false ↦ λ joined_is. cc ] e
 
 -- fields that keep to the laws keep to them together
 pub both_lawful : {A B : Type 0} {first : Outcome A} {rest : Outcome B} {rf : Readings A} {rr : Readings B}

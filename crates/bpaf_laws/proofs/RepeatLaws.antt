@@ -22,12 +22,6 @@ record TakesNothing (s t : Situation) : Type 0 where
 nothing_taken : (s : Situation) → TakesNothing s s
 nothing_taken s = record { keeps = keeps_refl s; closed = closes_refl s; none = newly_none s }
 
--- a list of inner readings was read in a situation
-record ReadsList {T : Type 0} (reads : Readings (List T)) (s t : Situation) (values : List T) : Type 0 where
-  keeps : Keeps s t
-  closed : Closes s t
-  reading : reads s.context (newly s t) values
-
 -- a value after the first took an item
 pub took_item : {T : Type 0} (inner : Outcome T) (catches : Bool) (s m : Situation) (v : T) → StepOutcome inner catches false s (Ok (Some v)) m → open_count m < open_count s
 took_item inner catches s m v o = ⊎_elim (λ is_first. absurd (true≢false (sym is_first))) (λ fewer. fewer) o.1
@@ -68,13 +62,13 @@ module _ {T : Type 0} {inner : Outcome T} {reads : Readings T} (law : Lawful T i
   steps_keep first s (v ∷ vs) t o = keeps_trans s o.0 t (law.ok s o.0 v o.1.0).keeps (steps_keep false o.0 vs t o.2)
 
   -- steps that each took an item, and then nothing, read each their own share
-  each_read : (s : Situation) (vs : List T) (m t : Situation) → Steps inner catches false s vs m → TakesNothing m t → ReadsList (EachReads reads) s t vs
+  each_read : (s : Situation) (vs : List T) (m t : Situation) → Steps inner catches false s vs m → TakesNothing m t → Reads (List T) (EachReads reads) s vs t
   each_read s [] m t o nothing =
-      subst (λ w. ReadsList (EachReads reads) w t []) (sym o) (record { keeps = nothing.keeps; closed = nothing.closed; reading = nothing.none })
+      subst (λ w. Reads (List T) (EachReads reads) w [] t) (sym o) (record { keeps = nothing.keeps; closed = nothing.closed; reading = nothing.none })
   each_read s (v ∷ vs) m t o nothing =
       let n = o.0 in
       let here = law.ok s n v o.1.0 in
-      let later : ReadsList (EachReads reads) n t vs = each_read n vs m t o.2 nothing in
+      let later : Reads (List T) (EachReads reads) n vs t = each_read n vs m t o.2 nothing in
       record {
         keeps = keeps_trans s n t here.keeps later.keeps;
         closed = closes_trans s n t later.keeps here.closed later.closed;
@@ -89,10 +83,10 @@ module _ {T : Type 0} {inner : Outcome T} {reads : Readings T} (law : Lawful T i
       }
 
   -- a value, and then steps that each took an item, and then nothing
-  first_read : (s n m t : Situation) (v : T) (vs : List T) → inner s (Ok v) n → Steps inner catches false n vs m → TakesNothing m t → ReadsList (ListReads reads) s t (v ∷ vs)
+  first_read : (s n m t : Situation) (v : T) (vs : List T) → inner s (Ok v) n → Steps inner catches false n vs m → TakesNothing m t → Reads (List T) (ListReads reads) s (v ∷ vs) t
   first_read s n m t v vs o steps nothing =
       let here = law.ok s n v o in
-      let later : ReadsList (EachReads reads) n t vs = each_read n vs m t steps nothing in
+      let later : Reads (List T) (EachReads reads) n vs t = each_read n vs m t steps nothing in
       record {
         keeps = keeps_trans s n t here.keeps later.keeps;
         closed = closes_trans s n t later.keeps here.closed later.closed;
@@ -106,10 +100,10 @@ module _ {T : Type 0} {inner : Outcome T} {reads : Readings T} (law : Lawful T i
       }
 
   -- steps until one stops read a list
-  until_stop_reads : (s : Situation) (vs : List T) (t : Situation) → UntilStop inner catches s vs t → ReadsList (ListReads reads) s t vs
+  until_stop_reads : (s : Situation) (vs : List T) (t : Situation) → UntilStop inner catches s vs t → Reads (List T) (ListReads reads) s vs t
   until_stop_reads s [] t run =
       let nothing = stop_takes_nothing true run.last t run.stop in
-      subst (λ w. ReadsList (ListReads reads) w t []) (sym run.steps) (record { keeps = nothing.keeps; closed = nothing.closed; reading = nothing.none })
+      subst (λ w. Reads (List T) (ListReads reads) w [] t) (sym run.steps) (record { keeps = nothing.keeps; closed = nothing.closed; reading = nothing.none })
   until_stop_reads s (v ∷ vs) t run =
       first_read s run.steps.0 run.last t v vs run.steps.1.0 run.steps.2 (stop_takes_nothing false run.last t run.stop)
 
@@ -182,13 +176,13 @@ module _ {T : Type 0} {inner : Outcome T} {reads : Readings T} (law : Lawful T i
 
 module _ {T : Type 0} {inner : Outcome T} {reads : Readings T} (law : Lawful T inner reads) where
   -- one value, and then nothing
-  one_read : (s t : Situation) (v : T) → inner s (Ok v) t → ReadsList (ListReads reads) s t (v ∷ [])
+  one_read : (s t : Situation) (v : T) → inner s (Ok v) t → Reads (List T) (ListReads reads) s (v ∷ []) t
   one_read s t v o = first_read law false s t t t v [] o refl (nothing_taken t)
 
   -- steps until one stops, or one value that took nothing, read a list
-  until_rest_reads : (s : Situation) (vs : List T) (t : Situation) → UntilRest inner s vs t → ReadsList (ListReads reads) s t vs
+  until_rest_reads : (s : Situation) (vs : List T) (t : Situation) → UntilRest inner s vs t → Reads (List T) (ListReads reads) s vs t
   until_rest_reads s vs t (stops m steps stop) = until_stop_reads law false s vs t (record { last = m; steps = any_first inner false s vs m steps; stop = stop })
-  until_rest_reads s vs t (rests v is o same) = subst (ReadsList (ListReads reads) s t) (sym is) (one_read s t v o)
+  until_rest_reads s vs t (rests v is o same) = subst (λ values. Reads (List T) (ListReads reads) s values t) (sym is) (one_read s t v o)
 
   -- what steps until one fails keep
   until_fault_keeps : (s : Situation) (e : Error) (t : Situation) → UntilFault inner s e t → Keeps s t
@@ -205,7 +199,7 @@ module _ {T : Type 0} {inner : Outcome T} {reads : Readings T} (law : Lawful T i
   }
 
   -- evaluated once more, after nothing
-  again_reads : (s m t : Situation) (v : T) → UntilRest inner s [] m → inner m (Ok v) t → ReadsList (ListReads reads) s t (v ∷ [])
+  again_reads : (s m t : Situation) (v : T) → UntilRest inner s [] m → inner m (Ok v) t → Reads (List T) (ListReads reads) s (v ∷ []) t
   again_reads s m t v run o = one_read s t v (subst (λ w. inner w (Ok v) t) (no_values inner s [] m refl run) o)
 
   -- what last answers is a reading

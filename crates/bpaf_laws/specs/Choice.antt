@@ -20,21 +20,23 @@ abbrev pub is_want : {T : Type 0} → Result T Error → Bool
 is_want (Ok v) = false
 is_want (Err e) = is_memory e.0
 
--- the answer of the branch that won by a place, if by one: what only the loser took has then a conflict mark that names it
+-- the value of the branch that wins, by a place if by one: what only the other one took has then a
+-- conflict mark that names it
 abbrev pub Winner : {T : Type 0} → T → Situation → T → Situation → Bool → Option ℕ → Result T Error → Situation → Type 0
 Winner x sa y sb first None r t = (r ≡ Ok x) × (t ≡ sa)
 Winner x sa y sb true (Some place) r t = (r ≡ Ok x) × ConflictsSaved sa sb place t
 Winner x sa y sb false (Some place) r t = (r ≡ Ok y) × ConflictsSaved sb sa place t
 
--- that branch took the leftmost place taken by only one of them; without such a place it is the first
-abbrev pub Won : {T : Type 0} → T → Situation → T → Situation → Result T Error → Situation → Type 0
-Won x sa y sb r t = (first : Bool) × (place : Option ℕ) × IsWinner sa sb (first, place) × Winner x sa y sb first place r t
+-- the value of the branch that took the leftmost place taken by only one of them; without such a place
+-- it is the first
+abbrev pub ValueOfWinner : {T : Type 0} → T → Situation → T → Situation → Result T Error → Situation → Type 0
+ValueOfWinner x sa y sb r t = (first : Bool) × (place : Option ℕ) × IsWinner sa sb (first, place) × Winner x sa y sb first place r t
 
--- both answered a value: the first where neither took an item, else the one that won
+-- both answered a value: that of the first where neither took an item, else that of the winner
 abbrev pub BothOk : {T : Type 0} → Situation → T → Situation → T → Situation → Result T Error → Situation → Type 0
 BothOk s x sa y sb r t =
     (((is_untouched s sa && is_untouched s sb) ≡ true) × (r ≡ Ok x) × (t ≡ sa))
-    ⊎ (((is_untouched s sa && is_untouched s sb) ≡ false) × Won x sa y sb r t)
+    ⊎ (((is_untouched s sa && is_untouched s sb) ≡ false) × ValueOfWinner x sa y sb r t)
 
 -- one answered a value: it is the answer, unless it took nothing and the other's error is wrong input
 abbrev pub OneOk : {T : Type 0} → Situation → T → Situation → Error → Result T Error → Situation → Type 0

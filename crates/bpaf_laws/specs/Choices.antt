@@ -14,7 +14,7 @@ Nested choice meaning before (p ∷ ps) = Nested choice meaning (choice before (
 abbrev pub no_choice : List ℕ
 no_choice = codes "Invalid choice usage"
 
--- the choice of all parsers; without parsers a refusal
+-- the choice of all parsers: of one, whatever that answers, also its refusals; without parsers a refusal
 abbrev pub ChoicesOutcome : {T P : Type 0} → (P → Outcome T) → List P → Outcome T
 ChoicesOutcome outcome [] = PureOutcome (GivesRefusal no_choice)
 ChoicesOutcome outcome (p ∷ ps) = Nested ChoiceOutcome outcome (outcome p) ps

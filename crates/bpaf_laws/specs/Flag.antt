@@ -16,24 +16,37 @@ abbrev pub IsAbsentValue : {T : Type 0} → (T → T → Type 0) → Option T �
 IsAbsentValue clones None v = ⊥
 IsAbsentValue clones (Some kept) v = clones kept v
 
--- one key with one of the names, attached or not, and a clone of the present value; or no place, and one of the present value where an environment name is set, else one of the absent value
-pub data FlagReads (T : Type 0) (clones : T → T → Type 0) (named : Named) (present : T) (absent : Option T) (context : Context) (share : Share) (v : T) : Type 0 where
-  at_key : (key : ℕ) → HasItem (is_key_of named.names) context key → IsPlace key share → clones present v → FlagReads T clones named present absent context share v
-  in_environment : IsEmptyShare share → is_set context.env named.envs ≡ true → clones present v → FlagReads T clones named present absent context share v
-  nowhere : IsEmptyShare share → is_set context.env named.envs ≡ false → IsAbsentValue clones absent v → FlagReads T clones named present absent context share v
+-- one key with one of the names, attached or not, and a clone of the present value; or no place, and one
+-- of the present value where an environment name is set, else one of the absent value
+pub data FlagReads (T : Type 0) (clones : T → T → Type 0) (named : Named) (present : T) (absent : Option T)
+    (context : Context) (share : Share) (v : T) : Type 0 where
+  at_key : (key : ℕ) → HasItem (is_key_of named.names) context key → IsPlace key share → clones present v
+      → FlagReads T clones named present absent context share v
+  in_environment : IsEmptyShare share → is_set context.env named.envs ≡ true → clones present v
+      → FlagReads T clones named present absent context share v
+  nowhere : IsEmptyShare share → is_set context.env named.envs ≡ false → IsAbsentValue clones absent v
+      → FlagReads T clones named present absent context share v
 
 -- a flag is present: its key is taken; or it is not on the line, and an environment name is set
 abbrev pub IsFlagPresent : Named → Situation → Situation → Type 0
-IsFlagPresent named s t = TakesFlag named.names s true t ⊎ (TakesFlag named.names s false t × (is_set s.context.env named.envs ≡ true))
+IsFlagPresent named s t =
+    TakesFlag named.names s true t
+    ⊎ (TakesFlag named.names s false t × (is_set s.context.env named.envs ≡ true))
 
 -- it is neither on the line nor in the environment
 abbrev pub IsFlagAbsent : Named → Situation → Situation → Type 0
 IsFlagAbsent named s t = TakesFlag named.names s false t × (is_set s.context.env named.envs ≡ false)
 
+-- whether a key without a value is present: one test for flags and for the keys of help and version
+abbrev pub IsPresent : Named → Situation → Bool → Situation → Type 0
+IsPresent named s true t = IsFlagPresent named s t
+IsPresent named s false t = IsFlagAbsent named s t
+
 -- a refusal: a flag without absent value is absent; or a clone, or the refusal, wanted memory
 abbrev pub FlagFails : {T : Type 0} → Named → Option T → Situation → Message → Situation → Type 0
-FlagFails named absent s Memory t = (found : Bool) × TakesFlag named.names s found t
-FlagFails named absent s m t = IsFlagAbsent named s t × (absent ≡ None) × IsAbsence s (flag_part named) named.envs m
+FlagFails named absent s Memory t = (present : Bool) × IsPresent named s present t
+FlagFails named absent s m t =
+    IsFlagAbsent named s t × (absent ≡ None) × IsAbsence s (flag_part named) named.envs m
 
 -- present with the present value, or absent with the absent one
 abbrev pub FlagOutcome : {T : Type 0} → (T → T → Type 0) → Named → T → Option T → Outcome T

@@ -1,5 +1,5 @@
 -- Repeats: steps of one inner parser, one after another.
-use Rattle.std.specs.Prelude.{◌≡◌, ◌⊎◌, ℕ, ◌+◌, ◌<◌, ◌≤◌, Bool, true, false, List, [], ◌∷◌, ◌++◌, length, Ok, Err, Some, None}
+use Rattle.std.specs.Prelude.{◌≡◌, ◌⊎◌, ℕ, ◌+◌, ◌<◌, ◌≤◌, Bool, true, false, List, [], ◌∷◌, ◌++◌, length, Ok, Err, Some, None, ⊤}
 use Rattle.std.specs.Global.{Vec}
 use Rattle.bpaf_doc.specs.Shape.{Shape, Many, Optional, Required}
 use Rattle.bpaf_line.specs.Messages.{is_memory}
@@ -126,6 +126,12 @@ LaterTake inner s (v ∷ vs) t = (m : Situation) × inner s (Ok v) m × EachTake
 -- at most one value more than the items present at the start, and each value but the first took an item
 abbrev pub IsBounded : {T : Type 0} → Outcome T → Situation → List T → Type 0
 IsBounded inner s values = (length values ≤ open_count s + 1) × ((m : Situation) × LaterTake inner s values m)
+
+-- a value is filled from the list that ran, and that is bounded
+abbrev pub CollectIsBounded : {T C : Type 0} → Outcome T → Bool → (List T → C → Type 0) → Outcome C
+CollectIsBounded {T} inner catches fills s (Ok v) t =
+    (values : List T) × ListOutcome inner catches s (Ok values) t × fills values v × IsBounded inner s values
+CollectIsBounded inner catches fills s (Err e) t = ⊤
 
 -- what may stand more than once, or not at all, is shown so
 abbrev pub ManyDescribes : (Shape → Type 0) → Shape → Type 0
