@@ -2,7 +2,8 @@ ghost use Rattle.std.specs.Prelude.{◌≡◌, ◌&&◌, IfOk, map};
 ghost use Rattle.bpaf_doc.specs.Shape.{shape_of};
 ghost use Rattle.bpaf_line.specs.Messages.{is_wrong_input};
 ghost use Rattle.bpaf_laws.specs.Step.{is_untouched};
-ghost use Rattle.bpaf_laws.specs.Choice.{Chosen, ValueOfWinner, OneOk, is_want, alternatives, either};
+ghost use Rattle.bpaf_laws.specs.Choice.{Chosen, ValueOfWinner, OneOk, is_want};
+ghost use Rattle.bpaf_laws.specs.Choice.{alternatives, either};
 
 use crate::parser::Parser;
 use bpaf_doc::Meta;
@@ -155,7 +156,8 @@ pub struct ParseOrElse<A, B> {
 /// Both are evaluated, each on a copy of the state, the first one first; [`this_or_that`] tells which
 /// answer stands. Want of memory in either is refused at once, with the state as before.
 impl<T: Drop, A: Parser<T>, B: Parser<T>> Parser<T> for ParseOrElse<A, B> {
-    ghost use Rattle.bpaf_laws.specs.Choice.{ChoiceOutcome, ChoiceReads, ChoiceDescribes, LeftmostWins};
+    ghost use Rattle.bpaf_laws.specs.Choice.{ChoiceOutcome, ChoiceReads, ChoiceDescribes};
+    ghost use Rattle.bpaf_laws.specs.Choice.{LeftmostWins};
     ghost use Rattle.bpaf_laws.proofs.ChoiceLaws.{choice_lawful};
     ghost use Rattle.bpaf_laws.specs.Spared.{IsNotMemory, WithoutMemory};
 

@@ -45,7 +45,8 @@ impl<P, C, T> ParseCollect<P, C, T> {
 /// As `many`, with what is filled from the list in its place; refused also where the collection wants
 /// memory.
 impl<T: Drop, C: FromList<T> + Drop, P: Parser<T>> Parser<C> for ParseCollect<P, C, T> {
-    ghost use Rattle.bpaf_laws.specs.Repeat.{CollectOutcome, CollectReads, ManyDescribes, CollectIsBounded};
+    ghost use Rattle.bpaf_laws.specs.Repeat.{CollectOutcome, CollectReads, CollectIsBounded};
+    ghost use Rattle.bpaf_laws.specs.Repeat.{ManyDescribes};
     ghost use Rattle.bpaf_laws.proofs.RepeatLaws.{collect_lawful};
     ghost use Rattle.bpaf_laws.specs.Spared.{IsNotMemory, WithoutMemory};
 

@@ -41,7 +41,8 @@ pub struct ParseFallback<P, T> {
 /// caught. Every other error is refused; so is want of memory. After all but an inner value the state
 /// is as before.
 impl<T: Clone + Drop, P: Parser<T>> Parser<T> for ParseFallback<P, T> {
-    ghost use Rattle.bpaf_laws.specs.Default.{FallbackOutcome, FallbackReads, GivesClone, OptionalDescribes};
+    ghost use Rattle.bpaf_laws.specs.Default.{FallbackOutcome, FallbackReads, GivesClone};
+    ghost use Rattle.bpaf_laws.specs.Default.{OptionalDescribes};
     ghost use Rattle.bpaf_laws.proofs.DefaultLaws.{fallback_lawful};
     ghost use Rattle.bpaf_laws.specs.Spared.{IsNotMemory, WithoutMemory, DefaultTakesNothing};
 
@@ -92,7 +93,8 @@ pub struct ParseFallbackWith<T, P, F, E> {
 /// all but an inner value the state is as before.
 impl<T: Drop, E: Display + Drop, P: Parser<T>, F: Fn() -> Result<T, E>> Parser<T>
     for ParseFallbackWith<T, P, F, E> {
-    ghost use Rattle.bpaf_laws.specs.Default.{FallbackOutcome, FallbackReads, GivesAnswer, OptionalDescribes};
+    ghost use Rattle.bpaf_laws.specs.Default.{FallbackOutcome, FallbackReads, GivesAnswer};
+    ghost use Rattle.bpaf_laws.specs.Default.{OptionalDescribes};
     ghost use Rattle.bpaf_laws.proofs.DefaultLaws.{fallback_lawful};
     ghost use Rattle.bpaf_laws.specs.Spared.{IsNotMemory, WithoutMemory, DefaultTakesNothing};
 

@@ -24,7 +24,8 @@ pub trait Parser<T>: Sized {
     ghost use Rattle.bpaf_laws.specs.Reading.{Outcome, Readings};
     ghost use Rattle.bpaf_laws.specs.Laws.{Lawful};
 
-    /// Whether it may be evaluated: its closures may be called on every value.
+    /// Whether it may be evaluated: its closures may be called on every value. `eval`, `meta` and a
+    /// run ask for it; the combinators below don't, so a function that only joins parsers needs not.
     ghost can_eval: { Self → Type 0 };
 
     /// What it may show of itself.

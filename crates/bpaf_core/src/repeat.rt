@@ -135,7 +135,7 @@ impl<'m, P> ParseSome<'m, P> {
     /// This repeat, but each error other than wrong input and want of memory ends the list (bpaf's
     /// `ParseSome::catch`).
     pub fn catch(mut self) -> ParseSome<'m, P>
-        ensures { result ≡ record self { catch = true } }
+        ensures { result ≡ record self.entry { catch = true } }
     {
         self.catch = true;
         self

@@ -107,8 +107,8 @@ impl<T: Drop, R: Drop, E: Display + Drop, P: Parser<T>, F: Fn(T) -> Result<R, E>
     ghost lawful = { λ p. parse_lawful (P.lawful p.inner) (λ x y. F.post p.parse_fn x y) E.output };
 }
 
-/// The refusal of a value of which a check is false: GuardFailed with the message, at the current place;
-/// or want of memory, for the message.
+/// The refusal of a value of which a check is false: GuardFailed with the message, which names the
+/// current place; or want of memory, for the message.
 fn guard_failed(state: &State, message: &str) -> Error
     ensures { (result.0 ≡ Message.GuardFailed state.now.current message.now) ⊎
         (result.0 ≡ Message.Memory) }

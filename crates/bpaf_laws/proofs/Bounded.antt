@@ -9,14 +9,17 @@ use Rattle.bpaf_laws.specs.Laws.{Lawful}
 use Rattle.bpaf_laws.specs.Repeat.{ManyOutcome, SomeOutcome, CollectOutcome, CollectIsBounded, IsBounded}
 use Rattle.bpaf_laws.proofs.RepeatLaws.{list_bounded}
 
-module _ {T : Type 0} {inner : Outcome T} {reads : Readings T} (law : Lawful T inner reads) (catches : Bool) (s t : Situation) where
+module _ {T : Type 0} {inner : Outcome T} {reads : Readings T} (law : Lawful T inner reads)
+    (catches : Bool) (s t : Situation) where
   -- so it is for many
-  pub many_bounded : (r : Result (Vec T) Error) → ManyOutcome inner catches s r t → IfOk r (λ values. IsBounded inner s values.items)
+  pub many_bounded : (r : Result (Vec T) Error) → ManyOutcome inner catches s r t
+      → IfOk r (λ values. IsBounded inner s values.items)
   many_bounded (Ok values) o = list_bounded law catches s t values.items o
   many_bounded (Err e) o = tt
 
   -- for some
-  pub some_bounded : (message : List ℕ) (r : Result (Vec T) Error) → SomeOutcome inner catches message s r t → IfOk r (λ values. IsBounded inner s values.items)
+  pub some_bounded : (message : List ℕ) (r : Result (Vec T) Error)
+      → SomeOutcome inner catches message s r t → IfOk r (λ values. IsBounded inner s values.items)
   some_bounded message (Ok values) o = list_bounded law catches s t values.items o.0
   some_bounded message (Err e) o = tt
 

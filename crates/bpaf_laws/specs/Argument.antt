@@ -20,7 +20,8 @@ abbrev pub is_key_with_value : KeyWithValue → Arg → Bool
 is_key_with_value argument = is_argument_key argument.named.names argument.adjacent
 
 -- a key of the argument and the next place, a Word or an ArgWord with this text
-pub record IsKeyWithText (argument : KeyWithValue) (context : Context) (share : Share) (text : List ℕ)
+pub record IsKeyWithText (argument : KeyWithValue) (context : Context) (share : Share)
+    (text : List ℕ)
     : Type 0 where
   pub key : ℕ
   pub is_key : HasItem (is_key_with_value argument) context key
@@ -37,7 +38,8 @@ pub data ArgumentReads (T : Type 0) (means : List ℕ → T → Type 0) (argumen
     (context : Context) (share : Share) (v : T) : Type 0 where
   behind_key : (text : List ℕ) → IsKeyWithText argument context share text → means text v
       → ArgumentReads T means argument context share v
-  in_variable : (text : List ℕ) → IsEmptyShare share → IsVariable argument context text → means text v
+  in_variable : (text : List ℕ) → IsEmptyShare share → IsVariable argument context text
+      → means text v
       → ArgumentReads T means argument context share v
 
 -- the first key of the argument and the text behind it are taken
@@ -48,7 +50,8 @@ TakesKeyWithText argument = TakesValue argument.named.names argument.adjacent
 abbrev pub HasNoKey : KeyWithValue → Situation → Type 0
 HasNoKey argument = HasNone (is_key_with_value argument)
 
--- no key is there, and this is the text of the first environment name that is set; no place is current
+-- no key is there, and this is the text of the first environment name that is set; no place is
+-- current
 -- then
 pub record ReadsVariable (argument : KeyWithValue) (s : Situation) (text : List ℕ) (t : Situation)
     : Type 0 where
@@ -56,7 +59,8 @@ pub record ReadsVariable (argument : KeyWithValue) (s : Situation) (text : List 
   pub set : IsVariable argument s.context text
   pub left : t ≡ with_current s None
 
--- the text of an argument: that behind its key, which are taken; or where no key is there, that of the
+-- the text of an argument: that behind its key, which are taken; or where no key is there, that of
+-- the
 -- environment
 abbrev pub GetsText : KeyWithValue → Situation → List ℕ → Situation → Type 0
 GetsText argument s text t = TakesKeyWithText argument s text t ⊎ ReadsVariable argument s text t
@@ -71,7 +75,8 @@ IsNowhere argument s m =
     (first_set s.context.env argument.named.envs ≡ None)
     × IsAbsence s (argument_part argument) argument.named.envs m
 
--- no text: the key has none behind it; or there is neither a key nor a variable; or memory is wanted;
+-- no text: the key has none behind it; or there is neither a key nor a variable; or memory is
+-- wanted;
 -- nothing changes
 abbrev pub RefusesText : KeyWithValue → Situation → Message → Situation → Type 0
 RefusesText argument s (NoArgument key m) t = LacksText argument s (NoArgument key m) × (t ≡ s)
@@ -83,17 +88,20 @@ abbrev pub TakesText : KeyWithValue → Situation → Result (String Global) Err
 TakesText argument s (Ok text) t = GetsText argument s (string_bytes text) t
 TakesText argument s (Err e) t = RefusesText argument s e.0 t
 
--- a refusal: no text; or a text that means no value, its places taken; or want of memory for its value
+-- a refusal: no text; or a text that means no value, its places taken; or want of memory for its
+-- value
 abbrev pub ArgumentFails : {T : Type 0} → (List ℕ → T → Type 0) → KeyWithValue → Situation → Message
     → Situation → Type 0
 ArgumentFails means argument s (ParseFailed place fault) t =
-    (text : List ℕ) × GetsText argument s text t × FaultsText means text t.current (ParseFailed place fault)
+    (text : List ℕ) × GetsText argument s text t
+    × FaultsText means text t.current (ParseFailed place fault)
 ArgumentFails means argument s Memory t = (t ≡ s) ⊎ ((text : List ℕ) × GetsText argument s text t)
 ArgumentFails means argument s m t = RefusesText argument s m t
 
 -- the text of the argument means the answer
 abbrev pub ArgumentOutcome : {T : Type 0} → (List ℕ → T → Type 0) → KeyWithValue → Outcome T
-ArgumentOutcome means argument s (Ok v) t = (text : List ℕ) × GetsText argument s text t × means text v
+ArgumentOutcome means argument s (Ok v) t =
+    (text : List ℕ) × GetsText argument s text t × means text v
 ArgumentOutcome means argument s (Err e) t = ArgumentFails means argument s e.0 t
 
 -- what an argument shows: its item; without a name nothing

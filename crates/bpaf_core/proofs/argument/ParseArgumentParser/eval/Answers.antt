@@ -1,5 +1,5 @@
-use Rattle.bpaf_laws.proofs.KeyFirst.{key_first, no_text_first}
-use Rattle.bpaf_laws.proofs.ArgumentAnswers.{value_read, no_text}
+use Rattle.bpaf_laws.proofs.KeyFirst.{key_first}
+use Rattle.bpaf_laws.proofs.ArgumentAnswers.{value_read}
 use Rattle.bpaf_core.proofs.argument.ParseArgumentParser.eval.Goals as goal
 
 pub returns-clause-outcome : goal.returns-clause-outcome
