@@ -10,8 +10,8 @@ use Rattle.bpaf_line.specs.declared.error.Message.{Message}
 use Rattle.bpaf_line.specs.declared.error.Message.TheVariants.{Memory, Missing, ParseFailed, StrictPos, NonStrictPos}
 use Rattle.bpaf_laws.specs.Reading.{Share, Outcome, IsPlace}
 use Rattle.bpaf_laws.specs.Value.{FaultsText}
-use Rattle.bpaf.specs.declared.position.Position.{Position}
-use Rattle.bpaf.specs.declared.position.Position.TheVariants.{Unrestricted, Strict, NonStrict}
+use Rattle.bpaf.specs.declared.leaves.positional.Position.{Position}
+use Rattle.bpaf.specs.declared.leaves.positional.Position.TheVariants.{Unrestricted, Strict, NonStrict}
 
 -- a word may stand on this side of `--`; strict tells that it stands on the right
 abbrev pub accepts : Position → Bool → Bool

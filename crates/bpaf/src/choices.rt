@@ -11,13 +11,15 @@ use std::alloc::{AllocError, Global};
 /// One of any number of parsers of one type; bpaf answers them boxed.
 #[derive(Drop)]
 pub struct ParseChoice<P> {
+    /// The parsers, the first one before the others where the table leaves it open.
     pub parsers: Vec<P>,
 }
 
 /// What one of several parsers of one type reads (bpaf's `choice`): `a`, `b` and `c` are
 /// `a.or_else(b).or_else(c)`.
 ///
-/// Without parsers it refuses every line.
+/// Without parsers it refuses every line. A choice of one parser answers as that parser does, also
+/// where it refuses.
 ///
 /// ```text
 /// let colors = vec![in alloc; long(alloc, "red")?.req_flag(0), long(alloc, "blue")?.req_flag(1)]?;
@@ -33,7 +35,8 @@ pub fn choice<P>(parsers: Vec<P>) -> ParseChoice<P>
 fn choose_from<T: Drop, P: Parser<T>>(first: &P, rest: &[P], state: &mut State) -> Result<T, Error>
     requires first { P.can_eval first.now }
     requires rest { All P.can_eval rest.now }
-    ensures { Nested ChoiceOutcome P.outcome (P.outcome first.now) rest.now state.old result state.new }
+    ensures { Nested ChoiceOutcome P.outcome (P.outcome first.now) rest.now
+        state.old result state.new }
 {
     if rest.is_empty() {
         return first.eval(state);
@@ -76,7 +79,8 @@ fn choose<T: Drop, P: Parser<T>>(parsers: &[P], state: &mut State) -> Result<T, 
 fn meta_from<T, P: Parser<T>>(first: &P, rest: &[P], alloc: Global) -> Result<Meta, AllocError>
     requires first { P.can_eval first.now }
     requires rest { All P.can_eval rest.now }
-    ensures { IfOk result (λ meta. Nested ChoiceDescribes P.describes (P.describes first.now) rest.now (shape_of meta)) }
+    ensures { IfOk result (λ meta.
+        Nested ChoiceDescribes P.describes (P.describes first.now) rest.now (shape_of meta)) }
 {
     let mut shown = first.meta(alloc)?;
     for parser in rest {
@@ -92,7 +96,8 @@ fn meta_from<T, P: Parser<T>>(first: &P, rest: &[P], alloc: Global) -> Result<Me
 impl<T: Drop, P: Parser<T> + Drop> Parser<T> for ParseChoice<P> {
     ghost use Rattle.std.specs.Prelude.{All};
     ghost use Rattle.bpaf_laws.specs.Spared.{IsNotMemory, WithoutMemory};
-    ghost use Rattle.bpaf_laws.specs.Choices.{ChoicesOutcome, ChoicesReads, ChoicesDescribes, LeftmostOfAll};
+    ghost use Rattle.bpaf_laws.specs.Choices.{ChoicesOutcome, ChoicesReads};
+    ghost use Rattle.bpaf_laws.specs.Choices.{ChoicesDescribes, LeftmostOfAll};
     ghost use Rattle.bpaf_laws.proofs.ChoicesLaws.{choices_lawful};
 
     ghost can_eval = { λ p. All P.can_eval p.parsers.items };
@@ -105,9 +110,13 @@ impl<T: Drop, P: Parser<T> + Drop> Parser<T> for ParseChoice<P> {
 
     fn eval(&self, state: &mut State) -> Result<T, Error>
         requires { All P.can_eval self.now.parsers.items }
-        ensures outcome { ChoicesOutcome P.outcome self.now.parsers.items state.old result state.new }
-        ensures leftmost_wins { LeftmostOfAll P.outcome self.now.parsers.items state.old result state.new }
-        ensures memory_is_never_caught { IsNotMemory result → ChoicesOutcome (λ p. WithoutMemory (P.outcome p)) self.now.parsers.items state.old result state.new }
+        ensures outcome { ChoicesOutcome P.outcome self.now.parsers.items
+            state.old result state.new }
+        ensures leftmost_wins { LeftmostOfAll P.outcome self.now.parsers.items
+            state.old result state.new }
+        ensures memory_is_never_caught { IsNotMemory result →
+            ChoicesOutcome (λ p. WithoutMemory (P.outcome p)) self.now.parsers.items
+            state.old result state.new }
     {
         choose(self.parsers.as_slice(), state)
     }

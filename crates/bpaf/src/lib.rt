@@ -1,14 +1,16 @@
 //! Command line parsers from small ones: the crate that a program uses.
 //!
-//! It stands on `bpaf_doc`, `bpaf_line`, `bpaf_text` and `bpaf_core`, and hands on all of them: a
-//! program lists `bpaf` alone. Of its own it has positional words ([`positional`]), leaves that look at
-//! no item ([`pure`], [`pure_with`], [`fail`]) and products: [`ParseCon`] over [`Both`] and [`Last`]
-//! evaluates fields in order and gives their values to a constructor; the macro [`construct!`] writes
-//! one down, or a choice. [`choice`] is one of any number of parsers of one type.
+//! It stands on the crates below it and hands on what a program needs of them: a program lists `bpaf`
+//! alone. Of its own it has positional words ([`positional`]), leaves that look at no item ([`pure`],
+//! [`pure_with`], [`fail`]) and products: [`ParseCon`] over [`Both`] and [`Last`] evaluates fields in
+//! order and gives their values to a constructor; the macro [`construct!`] writes one down, or a
+//! choice. [`choice`] is one of any number of parsers of one type.
 //!
 //! For the layers above: each type here proves the laws of `Parser` from the laws of its inner
 //! parsers alone, and its `outcome`, `reads` and `describes` are definitions over theirs
-//! (specs/Product.antt, specs/Pure.antt, specs/Choice.antt).
+//! (specs/Positional.antt here; specs/Product.antt, specs/Pure.antt and specs/Choices.antt of
+//! `bpaf_laws`). [`spellings_are_unique`] and [`lines_are_unique`] state that words are read in one
+//! way alone, and [`count_falls`] that what is newly taken was there.
 //!
 //! The modules [`parsers`], [`params`] and [`doc`] hand on the parser types, the leaves, and what
 //! texts are made of, as bpaf's modules of these names do.
@@ -19,19 +21,17 @@
 mod choices;
 mod construct;
 pub mod doc;
-mod leaf;
+mod leaves;
 pub mod params;
 pub mod parsers;
-mod position;
 mod product;
 
 pub use bpaf_core::{Info, OptionParser, Parser, count_falls, read_text};
 pub use bpaf_doc::{Doc, Item, Meta, MetaInfo, Metavar, Piece, ShortLong, Style, Text};
-pub use bpaf_line::{
-    Arg, Args, ArgsIter, Error, LentWord, Message, MissingItem, MissingItems, ParseFailure, State,
-};
+pub use bpaf_line::{ArgsIter, Error, Message, MissingItem, MissingItems, ParseFailure, State};
 pub use bpaf_text::{FromList, FromText, NamedArg, TextFault, env, long, short};
+pub use bpaf_words::{Arg, Args, LentWord, Words, lines_are_unique, spellings_are_unique};
 pub use choices::{ParseChoice, choice};
-pub use leaf::{fail, pure, pure_with};
-pub use position::{ParsePositional, Position, positional};
+pub use leaves::positional::{ParsePositional, Position, positional};
+pub use leaves::pure::{fail, pure, pure_with};
 pub use product::{Both, Fields, Last, ParseCon};

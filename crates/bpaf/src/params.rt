@@ -1,3 +1,3 @@
 //! The parsers of one option (bpaf's module `params`).
-pub use crate::position::ParsePositional;
+pub use crate::leaves::positional::ParsePositional;
 pub use bpaf_text::{NamedArg, ParseArgument, ParseFlag};

@@ -36,7 +36,8 @@ pub trait Fields<V>: Sized {
     /// Appends what each field shows; refused only for want of memory.
     fn push_metas(&self, alloc: Global, metas: &mut Vec<Meta>) -> Result<(), AllocError>
         requires { can_eval self.now }
-        ensures { OnOk result (AppendsShapes (describes self.now) (map shape_of metas.old.items) (map shape_of metas.new.items)) };
+        ensures { OnOk result (AppendsShapes (describes self.now)
+            (map shape_of metas.old.items) (map shape_of metas.new.items)) };
 
     /// What each implementation keeps to.
     ghost lawful: { (p : Self) → Lawful V (outcome p) (reads p) };
@@ -45,6 +46,7 @@ pub trait Fields<V>: Sized {
 /// The last field of a product.
 #[derive(Drop)]
 pub struct Last<A> {
+    /// Its parser.
     pub last: A,
 }
 
@@ -74,7 +76,9 @@ impl<T: Drop, A: Parser<T>> Fields<T> for Last<A> {
 /// A field of a product, and the fields after it.
 #[derive(Drop)]
 pub struct Both<A, R> {
+    /// The field's parser.
     pub first: A,
+    /// The fields after it.
     pub rest: R,
 }
 
@@ -94,8 +98,11 @@ impl<T: Drop, V: Drop, A: Parser<T>, R: Fields<V>> Fields<(T, V)> for Both<A, R>
     fn eval_fields(&self, state: &mut State) -> Result<(T, V), Error>
         requires first { A.can_eval self.now.first }
         requires rest { R.can_eval self.now.rest }
-        ensures outcome { BothOutcome (A.outcome self.now.first) (R.outcome self.now.rest) state.old result state.new }
-        ensures memory_is_never_caught { IsNotMemory result → BothOutcome (WithoutMemory (A.outcome self.now.first)) (WithoutMemory (R.outcome self.now.rest)) state.old result state.new }
+        ensures outcome { BothOutcome (A.outcome self.now.first) (R.outcome self.now.rest)
+            state.old result state.new }
+        ensures memory_is_never_caught { IsNotMemory result →
+            BothOutcome (WithoutMemory (A.outcome self.now.first))
+            (WithoutMemory (R.outcome self.now.rest)) state.old result state.new }
     {
         match self.first.eval(state) {
             Ok(first) => match self.rest.eval_fields(state) {
@@ -133,8 +140,11 @@ impl<T: Drop, V: Drop, A: Parser<T>, R: Fields<V>> Fields<(T, V)> for Both<A, R>
 /// `V` is the type of the fields' values, nested pairs.
 #[derive(Drop)]
 pub struct ParseCon<V, P, F> {
+    /// The fields, in order.
     pub fields: P,
+    /// The constructor.
     pub make: F,
+    /// The type of the fields' values.
     pub values: PhantomData<V>,
 }
 
@@ -172,8 +182,11 @@ impl<V: Drop, T: Drop, P: Fields<V>, F: Fn(V) -> T> Parser<T> for ParseCon<V, P,
     fn eval(&self, state: &mut State) -> Result<T, Error>
         requires fields { P.can_eval self.now.fields }
         requires callable { F.IsAlwaysCallable self.now.make }
-        ensures outcome { ProductOutcome (P.outcome self.now.fields) (λ x y. F.post self.now.make x y) state.old result state.new }
-        ensures memory_is_never_caught { IsNotMemory result → ProductOutcome (WithoutMemory (P.outcome self.now.fields)) (λ x y. F.post self.now.make x y) state.old result state.new }
+        ensures outcome { ProductOutcome (P.outcome self.now.fields) (λ x y. F.post self.now.make x y)
+            state.old result state.new }
+        ensures memory_is_never_caught { IsNotMemory result →
+            ProductOutcome (WithoutMemory (P.outcome self.now.fields))
+            (λ x y. F.post self.now.make x y) state.old result state.new }
     {
         let values = self.fields.eval_fields(state);
         state.set_current(None);

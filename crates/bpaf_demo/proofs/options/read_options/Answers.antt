@@ -1,13 +1,12 @@
 use Rattle.std.proofs.Common.{rules}
-use Rattle.bpaf_core.specs.Run.{given_of}
+use Rattle.bpaf_words.specs.Arguments.{given_of}
 use Rattle.bpaf_demo.proofs.Dealing.{answer_dealt}
 use Rattle.bpaf_demo.proofs.options.read_options.Goals as goal
 
 pub returns : goal.returns
 returns c =
-    answer_dealt _ _ _ _ _ _ _ _ _ _ _ _ (given_of c.set_name.result)
+    answer_dealt _ _ _ _ _ _ _ _ _ _ _ (given_of c.set_name.result)
     (record {
-      same = λ x y e. e;
       made = λ x v e. search rules;
       verbose_is = search rules;
       num_is = search rules;
@@ -17,4 +16,4 @@ returns c =
       info_is = search rules;
     })
     (search rules)
-    _ c.run_inner.ensures.dealt
+    _ c.run_once.ensures.dealt

@@ -1,8 +1,0 @@
-use Rattle.std.proofs.Common.{sym, ◌∙◌}
-use Rattle.bpaf.proofs.Words.{word_read}
-use Rattle.bpaf.proofs.position.ParsePositionalParser.eval.Goals as goal
-
-pub returns : goal.returns
-returns g c =
-    word_read _ _ _ _ _ _ _ _ c.in_ok-place.ensures _ (sym c.accepts.ensures ∙ c.if-not-accepts.false)
-    (rw c.as_str.ensures.value at c.read_text.ensures)

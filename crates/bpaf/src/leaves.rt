@@ -1,0 +1,3 @@
+//! Parsers with no parser inside: those that look at no item, and words by themselves.
+pub mod positional;
+pub mod pure;

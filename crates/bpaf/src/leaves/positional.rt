@@ -1,0 +1,165 @@
+ghost use Rattle.std.specs.Prelude.{◌≡◌, IfOk, Some, None};
+ghost use Rattle.bpaf.specs.Positional.{accepts, misplaced};
+
+use bpaf_core::{Parser, read_text};
+use bpaf_doc::{Doc, Item, Meta, Metavar, Text};
+use bpaf_line::{Error, Message, State};
+use bpaf_text::FromText;
+use std::alloc::{AllocError, Global};
+use std::marker::PhantomData;
+
+/// On which side of `--` a positional word may stand (bpaf's `Position`, in `params.rs`).
+#[derive(Clone, Copy, Debug)]
+pub enum Position {
+    /// On either side.
+    Unrestricted,
+    /// On the right side.
+    Strict,
+    /// On the left side.
+    NonStrict,
+}
+
+impl Position {
+    /// Whether a word may stand there; `strict` tells that it stands on the right side of `--`.
+    fn accepts(self, strict: bool) -> bool
+        ensures { result ≡ accepts self strict }
+    {
+        match self {
+            Position::Unrestricted => true,
+            Position::Strict => strict,
+            Position::NonStrict => !strict,
+        }
+    }
+}
+
+/// What the first word that is no option means (bpaf's `ParsePositional`, in `params.rs`).
+#[derive(Debug, Drop)]
+pub struct ParsePositional<T> {
+    /// What stands for the word where it is shown.
+    pub metavar: Metavar,
+    /// On which side of `--` it may stand.
+    pub position: Position,
+    /// What is shown of it beside its metavar.
+    pub help: Option<Doc>,
+    /// The type of the value.
+    pub of: PhantomData<T>,
+}
+
+/// A word by itself, such as the name of a file (bpaf's `positional`).
+///
+/// ```text
+/// positional::<String>("FILE")
+/// ```
+pub fn positional<T>(metavar: &'static str) -> ParsePositional<T>
+    ensures metavar { result.metavar.0 ≡ metavar.entry }
+    ensures position { result.position ≡ Position.Unrestricted }
+    ensures help { result.help ≡ None }
+{
+    ParsePositional {
+        metavar: Metavar(metavar),
+        position: Position::Unrestricted,
+        help: None,
+        of: PhantomData,
+    }
+}
+
+impl<T> ParsePositional<T> {
+    /// The word with this help, in place of the one that it has (bpaf's `ParsePositional::help`). It
+    /// takes no memory.
+    ///
+    /// ```text
+    /// positional::<String>("FILE").help(Doc::from_text(alloc, "File to process")?)
+    /// ```
+    pub fn help(mut self, help: Doc) -> ParsePositional<T>
+        ensures { result ≡ record self { help = Some help } }
+    {
+        self.help = Some(help);
+        self
+    }
+
+    /// An equal word; refused only for want of memory.
+    pub fn copy(&self) -> Result<ParsePositional<T>, AllocError>
+        ensures { IfOk result (λ word. word ≡ self.now) }
+    {
+        Ok(ParsePositional {
+            metavar: self.metavar,
+            position: self.position,
+            help: Doc::copy_of(&self.help)?,
+            of: PhantomData,
+        })
+    }
+
+    /// The word must stand on the right side of `--` (bpaf's `ParsePositional::strict`); one that does
+    /// not is taken and refused.
+    pub fn strict(mut self) -> ParsePositional<T>
+        ensures { result ≡ record self { position = Position.Strict } }
+    {
+        self.position = Position::Strict;
+        self
+    }
+
+    /// The word must stand on the left side of `--` (bpaf's `ParsePositional::non_strict`); one that
+    /// does not is taken and refused.
+    pub fn non_strict(mut self) -> ParsePositional<T>
+        ensures { result ≡ record self { position = Position.NonStrict } }
+    {
+        self.position = Position::NonStrict;
+        self
+    }
+}
+
+/// That a word stands on the wrong side of `--`; refused only for want of memory.
+fn misplaced(
+    alloc: Global,
+    strict: bool,
+    place: usize,
+    metavar: Metavar,
+) -> Result<Error, AllocError>
+    ensures { IfOk result (λ error. error.0 ≡ misplaced strict place metavar.0.now) }
+{
+    let metavar = Text::new(alloc, metavar.0)?;
+    if strict {
+        Ok(Error(Message::NonStrictPos(place, metavar)))
+    } else {
+        Ok(Error(Message::StrictPos(place, metavar)))
+    }
+}
+
+/// What the first present word in scope means.
+///
+/// Refused with Missing where there is none, with StrictPos or NonStrictPos where it stands on the
+/// wrong side of `--`, with ParseFailed where its text means no value (in these three the word is
+/// taken); or for want of memory.
+impl<T: FromText + Drop> Parser<T> for ParsePositional<T> {
+    ghost use Rattle.std.specs.Prelude.{◌≡◌};
+    ghost use Rattle.bpaf.specs.Positional.{PositionalOutcome, PositionalReads, positional_shape};
+    ghost use Rattle.bpaf.specs.PositionalLaws.{positional_lawful};
+
+    ghost can_eval = { λ p. Unit {0} };
+
+    ghost describes = { λ p shape. shape ≡ positional_shape p.position p.metavar.0.now p.help };
+
+    ghost reads = { λ p. PositionalReads T T.means p.position };
+
+    ghost outcome = { λ p. PositionalOutcome T.means p.position p.metavar.0.now };
+
+    fn eval(&self, state: &mut State) -> Result<T, Error> {
+        let (place, strict, text) = state.take_positional_word(self.metavar)?;
+        if !self.position.accepts(strict) {
+            return Err(misplaced(state.alloc(), strict, place, self.metavar)?);
+        }
+        read_text(state, text.as_str())
+    }
+
+    fn meta(&self, alloc: Global) -> Result<Meta, AllocError> {
+        let metavar = Text::new(alloc, self.metavar.0)?;
+        let help = Doc::copy_of(&self.help)?;
+        let item = Meta::Item(Item::Positional { metavar, help });
+        match self.position {
+            Position::Strict => Ok(Meta::Strict(Box::new(alloc, item)?)),
+            Position::Unrestricted | Position::NonStrict => Ok(item),
+        }
+    }
+
+    ghost lawful = { λ p. positional_lawful T T.means p.position p.metavar.0.now };
+}
