@@ -108,7 +108,7 @@ fn choices_show_their_members(rt: HostRuntime) -> Result<(), Fail> {
     let a = rt.alloc();
     assert_eq!(rt; members(&flags(a)?.meta(a)?), 3);
     assert!(rt; matches!(nothing(a).meta(a)?, Meta::Skip));
-    let right = num(a, 'c')?.or_else(one_of_two(a)?);
+    let right = num_of(a, 'c')?.or_else(one_of_two(a)?);
     assert_eq!(rt; members(&right.meta(a)?), 3);
     Ok(())
 }
