@@ -37,8 +37,7 @@ pub record IsFaultAtKey {T : Type 0} (means : List ℕ → T → Type 0) (argume
   pub is : place ≡ Some (key + 1)
 
 -- a refusal where a key is there: the first one has no text behind it, or that means no value; or
--- want
--- of memory
+-- want of memory
 abbrev pub FailsAtKey : {T : Type 0} → (List ℕ → T → Type 0) → KeyWithValue → Situation → Message
     → Type 0
 FailsAtKey means argument s (NoArgument key m) = LacksText argument s (NoArgument key m)
@@ -47,8 +46,7 @@ FailsAtKey means argument s Memory = ⊤
 FailsAtKey means argument s m = ⊥
 
 -- a refusal where no key is there: the text of the first name that is set means no value, and no
--- place
--- is named; or none is set; or want of memory
+-- place is named; or none is set; or want of memory
 abbrev pub FailsInVariable : {T : Type 0} → (List ℕ → T → Type 0) → KeyWithValue → Situation
     → Message
     → Type 0
