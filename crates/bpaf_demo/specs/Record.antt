@@ -1,10 +1,11 @@
 -- Options that are dealt out of the words, and what a run of the program does.
-use Rattle.std.specs.Prelude.{◌≡◌, ◌⊎◌, ℕ, Bool, true, false, List, [], ◌∷◌, Option, Some, codes, string_bytes, String as StringIn}
+use Rattle.std.specs.Prelude.{◌≡◌, ◌⊎◌, ℕ, Bool, true, false, List, [], ◌∷◌, Option, Some, codes}
+use Rattle.std.specs.Prelude.{string_bytes, String as StringIn}
 use Rattle.std.specs.declared.alloc.Global.{Global}
 use Rattle.std.specs.Io.KnownBytes.{Keeps, Appends}
 use Rattle.bpaf_doc.specs.Names.{Names}
 use Rattle.bpaf_text.specs.Meaning.{SpellsUnsigned}
-use Rattle.bpaf_text.specs.Named.{key_named}
+use Rattle.bpaf_text.specs.Named.{KeyWithValue, key_named}
 use Rattle.bpaf_words.specs.Arguments.{Given}
 use Rattle.bpaf_words.specs.Spelling.{Known, knowing}
 use Rattle.bpaf_line.specs.Constructing.{IsContext}
@@ -26,7 +27,12 @@ verbose_names = record { shorts = 118 ∷ []; longs = codes "verbose" ∷ [] }
 abbrev pub num_names : Names
 num_names = record { shorts = 110 ∷ []; longs = codes "num" ∷ [] }
 
--- the known short names: those of the switch, of help and of version as flags, and that of the number
+-- the number: its key, and what stands for its value where it is shown
+abbrev pub number_key : KeyWithValue
+number_key = record { named = key_named num_names; metavar = codes "NUM"; adjacent = false }
+
+-- the known short names: those of the switch, of help and of version as flags, and that of the
+-- number
 abbrev pub program_known : Known
 program_known = knowing (record { flags = 118 ∷ 104 ∷ 86 ∷ []; arguments = 110 ∷ [] })
 
@@ -46,8 +52,8 @@ MeansText text file = string_bytes file ≡ text
 abbrev pub IsKept : Bool → Bool → Type 0
 IsKept kept v = v ≡ kept
 
--- all places of the words' line but the first `--` are dealt out to the switch, the number and the files,
--- each used once
+-- all places of the words' line but the first `--` are dealt out to the switch, the number and the
+-- files, each used once
 pub record IsDealtOptions (words : List (List ℕ)) (v : Options) : Type 0 where
   pub context : Context
   pub is_context : IsContext program_known (program_given words) context
@@ -57,11 +63,14 @@ pub record IsDealtOptions (words : List (List ℕ)) (v : Options) : Type 0 where
   pub other_share : Share
   pub joins : Joins verbose_share other_share (is_dealt_place context)
   pub others_join : Joins num_share files_share other_share
-  pub verbose : FlagReads Bool IsKept (key_named verbose_names) true (Some false) context verbose_share v.verbose
-  pub num : ArgumentReads ℕ (SpellsUnsigned 64) (key_named num_names) context num_share v.num
-  pub files : ManyReads (PositionalReads String MeansText Unrestricted) context files_share v.files
+  pub verbose : FlagReads Bool IsKept (key_named verbose_names) true (Some false)
+      context verbose_share v.verbose
+  pub num : ArgumentReads ℕ (SpellsUnsigned 64) number_key context num_share v.num
+  pub files : ManyReads (PositionalReads String MeansText Unrestricted)
+      context files_share v.files
 
--- status 0: nothing on the error writer, and on the other exactly the lines of options that are dealt out of the words
+-- status 0: nothing on the error writer, and on the other exactly the lines of options that are dealt
+-- out of the words
 pub record Succeeds (words : List (List ℕ)) (out out_after err err_after : Option (List ℕ)) : Type 0 where
   pub quiet : Keeps err err_after
   pub options : Options

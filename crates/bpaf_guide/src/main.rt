@@ -7,6 +7,8 @@
 //! ```
 #![tactic(auto)]
 
+mod closures;
+mod keys;
 mod options;
 mod toggle;
 mod types;

@@ -5,13 +5,13 @@ use Rattle.bpaf_demo.proofs.options.read_options.Goals as goal
 
 pub returns : goal.returns
 returns c =
-    answer_dealt _ _ _ _ _ _ _ _ _ _ _ (given_of c.set_name.result)
+    answer_dealt _ _ _ _ _ _ _ _ _ _ (given_of c.set_name.result)
+    (λ x v e. search rules)
     (record {
-      made = λ x v e. search rules;
       verbose_is = search rules;
-      num_is = search rules;
       present_is = search rules;
       absent_is = search rules;
+      num_is = search rules;
       position_is = search rules;
       info_is = search rules;
     })
