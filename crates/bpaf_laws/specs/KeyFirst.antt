@@ -61,8 +61,8 @@ FailsKeyFirst means argument s m =
     ((p : ℕ) → is_match (is_key_with_value argument) s p ≡ true → FailsAtKey means argument s m)
     × (HasNoKey argument s → FailsInVariable means argument s m)
 
--- where a key of the argument is present in scope, the answer is that of the first one, whatever the
--- environment has; where none is, it is that of the environment
+-- where a key of the argument is present in scope, the answer is that of the first one, whatever
+-- the environment has; where none is, it is that of the environment
 abbrev pub KeyBeforeEnvironment : {T : Type 0} → (List ℕ → T → Type 0) → KeyWithValue → Outcome T
 KeyBeforeEnvironment means argument s (Ok v) t =
     ((p : ℕ) → is_match (is_key_with_value argument) s p ≡ true → IsBehindKey means argument s v t)
