@@ -144,10 +144,10 @@ fn combined(alloc: Global, first: Refusal<'_>, second: Refusal<'_>) -> Result<St
 }
 
 fn both(alloc: Global, first: Error, second: Message) -> Result<String, AllocError> {
-    told(alloc, &first.combine_with(Error(second)).0)
+    described(alloc, &first.combine_with(Error(second)).0)
 }
 
-fn told(alloc: Global, message: &Message) -> Result<String, AllocError> {
+fn described(alloc: Global, message: &Message) -> Result<String, AllocError> {
     match message {
         Message::Memory => String::from_str(alloc, "memory"),
         Message::ParseFailure(failure) => failure_text(alloc, failure.copy()?),
@@ -333,12 +333,12 @@ fn copy_lists(
     items: &MissingItems,
     wanted: &str,
 ) -> Result<(), Fail> {
-    same(rt, copied_metavars(rt.alloc(), items)?, wanted);
-    same(rt, metavars(rt.alloc(), items.as_slice())?, wanted);
+    expect_text(rt, copied_metavars(rt.alloc(), items)?, wanted);
+    expect_text(rt, metavars(rt.alloc(), items.as_slice())?, wanted);
     Ok(())
 }
 
-fn same(rt: &impl Abort, text: String, wanted: &str) {
+fn expect_text(rt: &impl Abort, text: String, wanted: &str) {
     assert_eq!(rt; text.as_str(), wanted);
 }
 

@@ -7,12 +7,12 @@ use std::test::Fail;
 /// Whether these are the words.
 fn are(answer: Option<Vec<String>>, wanted: &[&str]) -> bool {
     match answer {
-        Some(texts) => same(texts.as_slice(), wanted),
+        Some(texts) => are_equal(texts.as_slice(), wanted),
         None => false,
     }
 }
 
-fn same(texts: &[String], wanted: &[&str]) -> bool {
+fn are_equal(texts: &[String], wanted: &[&str]) -> bool {
     texts.len() == wanted.len()
         && texts
             .iter()
