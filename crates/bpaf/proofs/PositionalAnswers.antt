@@ -18,18 +18,18 @@ module _ {T : Type 0} (means : List ℕ → T → Type 0) (position : Position) 
   fault_refused Memory accepted fault =
       inr (record { place = place; strict = strict; text = text; takes = takes })
   fault_refused (ParseFailed at words) accepted fault = (
-      record { place = place; strict = strict; text = text; takes = takes },
-      accepted,
-      fault,
-    )
+    record { place = place; strict = strict; text = text; takes = takes },
+    accepted,
+    fault,
+  )
   fault_refused other accepted fault = absurd fault
 
   -- what reading the text of a taken word answers
   pub word_read : (r : Result T Error) → accepts position strict ≡ true
       → ReadsValue means text t.current r → PositionalOutcome means position metavar s r t
   word_read (Ok v) accepted meant = (
-      record { place = place; strict = strict; text = text; takes = takes },
-      accepted,
-      meant,
-    )
+    record { place = place; strict = strict; text = text; takes = takes },
+    accepted,
+    meant,
+  )
   word_read (Err e) accepted fault = fault_refused e.0 accepted fault
