@@ -1,21 +1,73 @@
 use crate::as_value::AsValue;
+use crate::closures::give;
 use crate::value::Value;
 use bpaf::params::{ParseArgument, ParseFlag, ParsePositional};
-use bpaf::parsers::{ParseFail, ParsePure};
+use bpaf::parsers::{ParseFail, ParsePure, ParsePureWith};
 use bpaf::{Error, Meta, Parser, State};
 use std::alloc::{AllocError, Global};
+use std::marker::PhantomData;
+
+/// A closure's answer, which looks at no word: a number, or without one a fault.
+#[derive(Drop)]
+pub struct Answer {
+    /// The number.
+    pub number: Option<u64>,
+}
+
+impl Parser<Value> for Answer {
+    ghost use Rattle.std.specs.Prelude.{◌≡◌};
+    ghost use Rattle.bpaf_doc.specs.Shape.{Skip};
+    ghost use Rattle.bpaf_laws.specs.Pure.{PureOutcome, PureReads};
+    ghost use Rattle.bpaf_laws.proofs.PureLaws.{pure_lawful};
+    ghost use Rattle.bpaf_bench.specs.Levels.{GivesNumber};
+
+    ghost can_eval = { λ p. Unit {0} };
+
+    ghost describes = { λ p shape. shape ≡ Skip };
+
+    ghost reads = { λ p. PureReads (GivesNumber p.number) };
+
+    ghost outcome = { λ p. PureOutcome (GivesNumber p.number) };
+
+    fn eval(&self, state: &mut State) -> Result<Value, Error> {
+        let number = self.number;
+        let parser = ParsePureWith {
+            f: || give(number, "no"),
+            of: PhantomData,
+            err: PhantomData,
+        };
+        parser.eval(state)
+    }
+
+    fn meta(&self, _alloc: Global) -> Result<Meta, AllocError> {
+        Ok(Meta::Skip)
+    }
+
+    ghost lawful = { λ p. pure_lawful (GivesNumber p.number) };
+}
 
 /// A parser without inner parsers.
 #[derive(Drop)]
 pub enum Leaf {
+    /// A switch.
     Switch(AsValue<bool, ParseFlag<bool>>),
+    /// A flag of two numbers, or a required one.
     Flag(AsValue<u64, ParseFlag<u64>>),
+    /// An argument that is a number.
     Number(AsValue<u64, ParseArgument<u64>>),
+    /// An argument that is a number with a sign.
     Integer(AsValue<i64, ParseArgument<i64>>),
+    /// An argument that is a text.
     Text(AsValue<String, ParseArgument<String>>),
+    /// A word that is a number.
     NumberWord(AsValue<u64, ParsePositional<u64>>),
+    /// A word that is a text.
     Word(AsValue<String, ParsePositional<String>>),
+    /// A kept value.
     Pure(ParsePure<Value>),
+    /// A closure's answer.
+    PureWith(Answer),
+    /// A refusal.
     Fail(ParseFail<Value>),
 }
 
@@ -24,7 +76,9 @@ impl Parser<Value> for Leaf {
     ghost use Rattle.bpaf_laws.proofs.ArgumentLaws.{argument_lawful};
     ghost use Rattle.bpaf.specs.PositionalLaws.{positional_lawful};
     ghost use Rattle.bpaf_laws.proofs.PureLaws.{pure_lawful};
-    ghost use Rattle.bpaf_bench.specs.declared.leaf.Leaf.TheVariants.{Switch, Flag, Number, Integer, Text, NumberWord, Word, Pure, Fail};
+    ghost use Rattle.bpaf_bench.specs.declared.leaf.Leaf.TheVariants.{Switch, Flag, Number, Integer};
+    ghost use Rattle.bpaf_bench.specs.declared.leaf.Leaf.TheVariants.{Text, NumberWord, Word, Pure};
+    ghost use Rattle.bpaf_bench.specs.declared.leaf.Leaf.TheVariants.{PureWith, Fail};
     ghost use Rattle.bpaf_bench.specs.Told.{told_lawful};
 
     ghost can_eval = { elim [
@@ -36,6 +90,7 @@ impl Parser<Value> for Leaf {
       | NumberWord p ↦ ⟦<AsValue<u64, ParsePositional<u64>> as Parser<Value>>⟧.can_eval p
       | Word p ↦ ⟦<AsValue<String, ParsePositional<String>> as Parser<Value>>⟧.can_eval p
       | Pure p ↦ ⟦<ParsePure<Value> as Parser<Value>>⟧.can_eval p
+      | PureWith p ↦ ⟦<Answer as Parser<Value>>⟧.can_eval p
       | Fail p ↦ ⟦<ParseFail<Value> as Parser<Value>>⟧.can_eval p
     ] };
 
@@ -48,6 +103,7 @@ impl Parser<Value> for Leaf {
       | NumberWord p ↦ ⟦<AsValue<u64, ParsePositional<u64>> as Parser<Value>>⟧.describes p
       | Word p ↦ ⟦<AsValue<String, ParsePositional<String>> as Parser<Value>>⟧.describes p
       | Pure p ↦ ⟦<ParsePure<Value> as Parser<Value>>⟧.describes p
+      | PureWith p ↦ ⟦<Answer as Parser<Value>>⟧.describes p
       | Fail p ↦ ⟦<ParseFail<Value> as Parser<Value>>⟧.describes p
     ] };
 
@@ -60,6 +116,7 @@ impl Parser<Value> for Leaf {
       | NumberWord p ↦ ⟦<AsValue<u64, ParsePositional<u64>> as Parser<Value>>⟧.reads p
       | Word p ↦ ⟦<AsValue<String, ParsePositional<String>> as Parser<Value>>⟧.reads p
       | Pure p ↦ ⟦<ParsePure<Value> as Parser<Value>>⟧.reads p
+      | PureWith p ↦ ⟦<Answer as Parser<Value>>⟧.reads p
       | Fail p ↦ ⟦<ParseFail<Value> as Parser<Value>>⟧.reads p
     ] };
 
@@ -72,6 +129,7 @@ impl Parser<Value> for Leaf {
       | NumberWord p ↦ ⟦<AsValue<u64, ParsePositional<u64>> as Parser<Value>>⟧.outcome p
       | Word p ↦ ⟦<AsValue<String, ParsePositional<String>> as Parser<Value>>⟧.outcome p
       | Pure p ↦ ⟦<ParsePure<Value> as Parser<Value>>⟧.outcome p
+      | PureWith p ↦ ⟦<Answer as Parser<Value>>⟧.outcome p
       | Fail p ↦ ⟦<ParseFail<Value> as Parser<Value>>⟧.outcome p
     ] };
 
@@ -85,6 +143,7 @@ impl Parser<Value> for Leaf {
             Leaf::NumberWord(p) => p.eval(state),
             Leaf::Word(p) => p.eval(state),
             Leaf::Pure(p) => p.eval(state),
+            Leaf::PureWith(p) => p.eval(state),
             Leaf::Fail(p) => p.eval(state),
         }
     }
@@ -99,6 +158,7 @@ impl Parser<Value> for Leaf {
             Leaf::NumberWord(p) => p.meta(alloc),
             Leaf::Word(p) => p.meta(alloc),
             Leaf::Pure(p) => p.meta(alloc),
+            Leaf::PureWith(p) => p.meta(alloc),
             Leaf::Fail(p) => p.meta(alloc),
         }
     }
@@ -112,6 +172,7 @@ impl Parser<Value> for Leaf {
       | NumberWord p ↦ told_lawful _ (positional_lawful _ _ _ _)
       | Word p ↦ told_lawful _ (positional_lawful _ _ _ _)
       | Pure p ↦ pure_lawful _
+      | PureWith p ↦ pure_lawful _
       | Fail p ↦ pure_lawful _
     ] };
 }
