@@ -9,14 +9,27 @@ use Rattle.bpaf_laws.specs.Value.{ReadsValue, FaultsText}
 use Rattle.bpaf.specs.declared.leaves.positional.Position.{Position}
 use Rattle.bpaf.specs.Positional.{PositionalOutcome, PositionalFails, accepts}
 
-module _ {T : Type 0} (means : List ℕ → T → Type 0) (position : Position) (metavar : List ℕ) (s t : Situation) (place : ℕ) (strict : Bool) (text : List ℕ) (takes : TakesText s place strict text t) where
+module _ {T : Type 0} (means : List ℕ → T → Type 0) (position : Position) (metavar : List ℕ)
+    (s t : Situation) (place : ℕ) (strict : Bool) (text : List ℕ)
+    (takes : TakesText s place strict text t) where
   -- a fault in the text of an accepted word is a refusal of the positional
-  fault_told : (m : Message) → accepts position strict ≡ true → FaultsText means text t.current m → PositionalFails means position metavar s m t
-  fault_told Memory accepted fault = inr (record { place = place; strict = strict; text = text; takes = takes })
-  fault_told (ParseFailed at words) accepted fault = (record { place = place; strict = strict; text = text; takes = takes }, accepted, fault)
-  fault_told other accepted fault = absurd fault
+  fault_refused : (m : Message) → accepts position strict ≡ true
+      → FaultsText means text t.current m → PositionalFails means position metavar s m t
+  fault_refused Memory accepted fault =
+      inr (record { place = place; strict = strict; text = text; takes = takes })
+  fault_refused (ParseFailed at words) accepted fault = (
+      record { place = place; strict = strict; text = text; takes = takes },
+      accepted,
+      fault,
+    )
+  fault_refused other accepted fault = absurd fault
 
   -- what reading the text of a taken word answers
-  pub word_read : (r : Result T Error) → accepts position strict ≡ true → ReadsValue means text t.current r → PositionalOutcome means position metavar s r t
-  word_read (Ok v) accepted meant = (record { place = place; strict = strict; text = text; takes = takes }, accepted, meant)
-  word_read (Err e) accepted fault = fault_told e.0 accepted fault
+  pub word_read : (r : Result T Error) → accepts position strict ≡ true
+      → ReadsValue means text t.current r → PositionalOutcome means position metavar s r t
+  word_read (Ok v) accepted meant = (
+      record { place = place; strict = strict; text = text; takes = takes },
+      accepted,
+      meant,
+    )
+  word_read (Err e) accepted fault = fault_refused e.0 accepted fault

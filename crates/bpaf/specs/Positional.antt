@@ -1,5 +1,6 @@
 -- Positional words.
-use Rattle.std.specs.Prelude.{◌≡◌, ◌⊎◌, ℕ, Bool, true, false, not, List, Ok, Err, Option, Some, None, option_and_then}
+use Rattle.std.specs.Prelude.{◌≡◌, ◌⊎◌, ℕ, Bool, true, false, not, List, Ok, Err}
+use Rattle.std.specs.Prelude.{Option, Some, None, option_and_then}
 use Rattle.bpaf_doc.specs.declared.doc.Piece.{Piece}
 use Rattle.bpaf_doc.specs.Shape.{Shape, Shown, Positional, Strict as StrictShape}
 use Rattle.bpaf_words.specs.Items.{is_positional, word_text}
@@ -20,7 +21,8 @@ accepts Strict strict = strict
 accepts NonStrict strict = not strict
 
 -- one Word or PosWord on an accepted side, whose text means the value
-pub record PositionalReads (T : Type 0) (means : List ℕ → T → Type 0) (position : Position) (context : Context) (share : Share) (v : T) : Type 0 where
+pub record PositionalReads (T : Type 0) (means : List ℕ → T → Type 0) (position : Position)
+    (context : Context) (share : Share) (v : T) : Type 0 where
   pub place : ℕ
   pub strict : Bool
   pub text : List ℕ
@@ -41,20 +43,30 @@ pub record TakesSome (s t : Situation) : Type 0 where
   pub text : List ℕ
   pub takes : TakesText s place strict text t
 
--- a refusal: no word; a word on the wrong side, or one whose text means no value, which is taken; or want of memory, with nothing taken or the word
-abbrev pub PositionalFails : {T : Type 0} → (List ℕ → T → Type 0) → Position → List ℕ → Situation → Message → Situation → Type 0
-PositionalFails means position metavar s (Missing items) t = HasNone is_positional s × (t ≡ s) × IsMissingIn s (Some (Positional metavar None)) items
-PositionalFails means position metavar s (StrictPos place m) t = (accepts position false ≡ false) × (m ≡ metavar) × ((text : List ℕ) × TakesText s place false text t)
-PositionalFails means position metavar s (NonStrictPos place m) t = (accepts position true ≡ false) × (m ≡ metavar) × ((text : List ℕ) × TakesText s place true text t)
+-- a refusal: no word; a word on the wrong side, or one whose text means no value, which is taken; or
+-- want of memory, with nothing taken or the word
+abbrev pub PositionalFails : {T : Type 0} → (List ℕ → T → Type 0) → Position → List ℕ
+    → Situation → Message → Situation → Type 0
+PositionalFails means position metavar s (Missing items) t =
+    HasNone is_positional s × (t ≡ s) × IsMissingIn s (Some (Positional metavar None)) items
+PositionalFails means position metavar s (StrictPos place m) t =
+    (accepts position false ≡ false) × (m ≡ metavar)
+    × ((text : List ℕ) × TakesText s place false text t)
+PositionalFails means position metavar s (NonStrictPos place m) t =
+    (accepts position true ≡ false) × (m ≡ metavar)
+    × ((text : List ℕ) × TakesText s place true text t)
 PositionalFails means position metavar s (ParseFailed place fault) t =
-    (taken : TakesSome s t) × (accepts position taken.strict ≡ true) × FaultsText means taken.text t.current (ParseFailed place fault)
+    (taken : TakesSome s t) × (accepts position taken.strict ≡ true)
+    × FaultsText means taken.text t.current (ParseFailed place fault)
 PositionalFails means position metavar s Memory t = (t ≡ s) ⊎ TakesSome s t
 PositionalFails means position metavar s m t = ⊥
 
 -- the first word is taken, stands on an accepted side, and its text means the answer
 abbrev pub PositionalOutcome : {T : Type 0} → (List ℕ → T → Type 0) → Position → List ℕ → Outcome T
-PositionalOutcome means position metavar s (Ok v) t = (taken : TakesSome s t) × (accepts position taken.strict ≡ true) × means taken.text v
-PositionalOutcome means position metavar s (Err e) t = PositionalFails means position metavar s e.0 t
+PositionalOutcome means position metavar s (Ok v) t =
+    (taken : TakesSome s t) × (accepts position taken.strict ≡ true) × means taken.text v
+PositionalOutcome means position metavar s (Err e) t =
+    PositionalFails means position metavar s e.0 t
 
 -- what a positional shows: its item, behind `--` where it must stand there
 abbrev pub positional_shape : Position → List ℕ → Option (List Piece) → Shape

@@ -13,7 +13,8 @@ use Rattle.bpaf_line.proofs.Matches.{match_is_open}
 use Rattle.bpaf.specs.declared.leaves.positional.Position.{Position}
 use Rattle.bpaf.specs.Positional.{PositionalReads, PositionalOutcome, PositionalFails, TakesSome, accepts}
 
-module _ (s : Situation) (place : ℕ) (strict : Bool) (text : List ℕ) (t : Situation) (takes : TakesText s place strict text t) where
+module _ (s : Situation) (place : ℕ) (strict : Bool) (text : List ℕ) (t : Situation)
+    (takes : TakesText s place strict text t) where
   -- the word that is taken lay present in scope
   word_open : is_open s place ≡ true
   word_open = match_is_open is_positional s place takes.first.matches
@@ -22,13 +23,15 @@ module _ (s : Situation) (place : ℕ) (strict : Bool) (text : List ℕ) (t : Si
   pub word_keeps : Keeps s t
   word_keeps = subst (Keeps s) (sym takes.taken) (keeps_take s place word_open)
 
-module _ (T : Type 0) (means : List ℕ → T → Type 0) (position : Position) (metavar : List ℕ) where
+module _ (T : Type 0) (means : List ℕ → T → Type 0) (position : Position)
+    (metavar : List ℕ) where
   -- what a positional reads
   abbrev reads_positional : Readings T
   reads_positional = PositionalReads T means position
 
   -- a taken word on an accepted side, whose text means the value, is a reading of it
-  positional_read : (s t : Situation) (v : T) (taken : TakesSome s t) → accepts position taken.strict ≡ true → means taken.text v → Reads T reads_positional s v t
+  positional_read : (s t : Situation) (v : T) (taken : TakesSome s t)
+      → accepts position taken.strict ≡ true → means taken.text v → Reads T reads_positional s v t
   positional_read s t v taken accepted meant =
       let takes = taken.takes in
       let there : is_open s taken.place ≡ true = word_open s taken.place taken.strict taken.text t takes in
@@ -51,12 +54,15 @@ module _ (T : Type 0) (means : List ℕ → T → Type 0) (position : Position) 
   some_keeps s t taken = word_keeps s taken.place taken.strict taken.text t taken.takes
 
   -- what a refusal of a positional keeps
-  positional_refused : (s t : Situation) (m : Message) → PositionalFails means position metavar s m t → Keeps s t
+  positional_refused : (s t : Situation) (m : Message)
+      → PositionalFails means position metavar s m t → Keeps s t
   positional_refused s t (Missing items) fails = keeps_same s t fails.1
   positional_refused s t (StrictPos place m) fails = word_keeps s place _ fails.2.0 t fails.2.1
-  positional_refused s t (NonStrictPos place m) fails = word_keeps s place _ fails.2.0 t fails.2.1
+  positional_refused s t (NonStrictPos place m) fails =
+      word_keeps s place _ fails.2.0 t fails.2.1
   positional_refused s t (ParseFailed place fault) fails = some_keeps s t fails.0
-  positional_refused s t Memory fails = ⊎_elim (λ same. keeps_same s t same) (λ taken. some_keeps s t taken) fails
+  positional_refused s t Memory fails =
+      ⊎_elim (λ same. keeps_same s t same) (λ taken. some_keeps s t taken) fails
   positional_refused s t other fails = absurd fails
 
   -- positional words keep to the laws

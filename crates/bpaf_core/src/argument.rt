@@ -2,18 +2,20 @@ ghost use Rattle.bpaf_laws.specs.Argument.{TakesText};
 
 use crate::environment::{absence, first_set};
 use crate::parser::Parser;
-use crate::reading::read_text;
-use bpaf_doc::{Meta, Metavar};
+use crate::value::read_text;
+use bpaf_doc::Meta;
 use bpaf_line::{Error, State};
-use bpaf_text::{FromText, NamedArg, ParseArgument};
+use bpaf_text::{FromText, ParseArgument};
 use std::alloc::{AllocError, Global};
 
 /// The text of an argument: that behind its key, or, where there is no key, that of the first name in
 /// the environment that is set (bpaf's `take_argument`).
-fn take_argument(named: &NamedArg, metavar: Metavar, state: &mut State) -> Result<String, Error>
-    ensures { TakesText named.now metavar.0.now state.old result state.new }
+fn take_argument<T>(argument: &ParseArgument<T>, state: &mut State) -> Result<String, Error>
+    ensures { TakesText argument.now state.old result state.new }
 {
-    let taken = state.take_arg(named.shorts(), named.longs(), false, metavar)?;
+    let named = &argument.named;
+    let metavar = argument.metavar;
+    let taken = state.take_arg(named.shorts(), named.longs(), argument.adjacent, metavar)?;
     if let Some(text) = taken {
         return Ok(text);
     }
@@ -41,17 +43,18 @@ impl<T: FromText + Drop> Parser<T> for ParseArgument<T> {
 
     ghost can_eval = { λ p. Unit {0} };
 
-    ghost describes = { λ p shape. shape ≡ argument_shape p.named p.metavar.0.now };
+    ghost describes = { λ p shape. shape ≡ argument_shape p };
 
-    ghost reads = { λ p. ArgumentReads T T.means p.named };
+    ghost reads = { λ p. ArgumentReads T T.means p };
 
-    ghost outcome = { λ p. ArgumentOutcome T.means p.named p.metavar.0.now };
+    ghost outcome = { λ p. ArgumentOutcome T.means p };
 
     fn eval(&self, state: &mut State) -> Result<T, Error>
-        ensures outcome { ArgumentOutcome T.means self.now.named self.now.metavar.0.now state.old result state.new }
-        ensures key_before_environment { KeyBeforeEnvironment T.means self.now.named state.old result state.new }
+        ensures outcome { ArgumentOutcome T.means self.now state.old result state.new }
+        ensures key_before_environment { KeyBeforeEnvironment T.means self.now
+            state.old result state.new }
     {
-        let text = take_argument(&self.named, self.metavar, state)?;
+        let text = take_argument(self, state)?;
         read_text(state, text.as_str())
     }
 
@@ -62,5 +65,5 @@ impl<T: FromText + Drop> Parser<T> for ParseArgument<T> {
         }
     }
 
-    ghost lawful = { λ p. argument_lawful T T.means p.named p.metavar.0.now };
+    ghost lawful = { λ p. argument_lawful T T.means p };
 }

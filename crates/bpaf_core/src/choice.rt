@@ -2,7 +2,8 @@ ghost use Rattle.std.specs.Prelude.{◌≡◌, ◌&&◌, IfOk, map};
 ghost use Rattle.bpaf_doc.specs.Shape.{shape_of};
 ghost use Rattle.bpaf_line.specs.Messages.{is_wrong_input};
 ghost use Rattle.bpaf_laws.specs.Step.{is_untouched};
-ghost use Rattle.bpaf_laws.specs.Choice.{Chosen, Won, OneOk, is_want, alternatives, either};
+ghost use Rattle.bpaf_laws.specs.Choice.{Chosen, ValueOfWinner, OneOk, is_want};
+ghost use Rattle.bpaf_laws.specs.Choice.{alternatives, either};
 
 use crate::parser::Parser;
 use bpaf_doc::Meta;
@@ -10,6 +11,8 @@ use bpaf_line::{Error, State};
 use std::alloc::{AllocError, Global};
 
 /// Whether an answer is want of memory. It takes none.
+///
+/// It is public for choices in the crates of this repository, not for callers.
 pub fn is_want<T>(answer: &Result<T, Error>) -> bool
     ensures { result ≡ is_want answer.now }
 {
@@ -27,6 +30,8 @@ pub fn is_want<T>(answer: &Result<T, Error>) -> bool
 /// then the answer; of two values the first where neither branch took an item, else that of the branch
 /// which took the leftmost place taken by only one of them, else the first. Two errors are combined.
 /// Where an error of equal depths is the answer, the state is as before.
+///
+/// It is public for choices in the crates of this repository, not for callers.
 pub fn this_or_that<T: Drop>(
     state: &mut State,
     first: Result<T, Error>,
@@ -50,10 +55,10 @@ pub fn this_or_that<T: Drop>(
                 *state = this;
                 return Ok(x);
             }
-            won(state, x, this, y, that)
+            value_of_winner(state, x, this, y, that)
         }
-        (Ok(x), Err(error)) => only_value(state, x, this, error),
-        (Err(error), Ok(y)) => only_value(state, y, that, error),
+        (Ok(x), Err(error)) => value_unless_blamed(state, x, this, error),
+        (Err(error), Ok(y)) => value_unless_blamed(state, y, that, error),
         (Err(error), Err(other)) => Err(error.combine_with(other)),
     }
 }
@@ -67,21 +72,32 @@ fn is_blamed(before: &State, after: &State, error: &Error) -> bool
 
 /// The one value of two branches; the other's error, where that is wrong input and the branch with the
 /// value took nothing.
-fn only_value<T: Drop>(state: &mut State, value: T, left: State, error: Error) -> Result<T, Error>
-    ensures { OneOk state.old value left error result state.new }
+fn value_unless_blamed<T: Drop>(
+    state: &mut State,
+    value: T,
+    after: State,
+    error: Error,
+) -> Result<T, Error>
+    ensures { OneOk state.old value after error result state.new }
 {
-    if is_blamed(state, &left, &error) {
+    if is_blamed(state, &after, &error) {
         Err(error)
     } else {
-        *state = left;
+        *state = after;
         Ok(value)
     }
 }
 
 /// The value of the branch that took the leftmost place taken by only one of them, else of the first;
 /// what only the other one took gets a conflict mark.
-fn won<T: Drop>(state: &mut State, x: T, this: State, y: T, that: State) -> Result<T, Error>
-    ensures { Won x this y that result state.new }
+fn value_of_winner<T: Drop>(
+    state: &mut State,
+    x: T,
+    this: State,
+    y: T,
+    that: State,
+) -> Result<T, Error>
+    ensures { ValueOfWinner x this y that result state.new }
 {
     let mut this = this;
     let mut that = that;
@@ -119,6 +135,8 @@ fn alternatives(alloc: Global, meta: Meta) -> Result<Vec<Meta>, AllocError>
 
 /// What a choice of two shows: a member that is an Or itself is opened into it (bpaf's `Meta::or`, in
 /// `meta.rs`). Refused only for want of memory.
+///
+/// It is public for choices in the crates of this repository, not for callers.
 pub fn or_meta(alloc: Global, first: Meta, second: Meta) -> Result<Meta, AllocError>
     ensures { IfOk result (λ meta. shape_of meta ≡ either (shape_of first) (shape_of second)) }
 {
@@ -138,7 +156,8 @@ pub struct ParseOrElse<A, B> {
 /// Both are evaluated, each on a copy of the state, the first one first; [`this_or_that`] tells which
 /// answer stands. Want of memory in either is refused at once, with the state as before.
 impl<T: Drop, A: Parser<T>, B: Parser<T>> Parser<T> for ParseOrElse<A, B> {
-    ghost use Rattle.bpaf_laws.specs.Choice.{ChoiceOutcome, ChoiceReads, ChoiceDescribes, LeftmostWins};
+    ghost use Rattle.bpaf_laws.specs.Choice.{ChoiceOutcome, ChoiceReads, ChoiceDescribes};
+    ghost use Rattle.bpaf_laws.specs.Choice.{LeftmostWins};
     ghost use Rattle.bpaf_laws.proofs.ChoiceLaws.{choice_lawful};
     ghost use Rattle.bpaf_laws.specs.Spared.{IsNotMemory, WithoutMemory};
 
@@ -153,9 +172,14 @@ impl<T: Drop, A: Parser<T>, B: Parser<T>> Parser<T> for ParseOrElse<A, B> {
     fn eval(&self, state: &mut State) -> Result<T, Error>
         requires this { A.can_eval self.now.this }
         requires that { B.can_eval self.now.that }
-        ensures outcome { ChoiceOutcome (A.outcome self.now.this) (B.outcome self.now.that) state.old result state.new }
-        ensures leftmost_wins { LeftmostWins (A.outcome self.now.this) (B.outcome self.now.that) state.old result state.new }
-        ensures memory_is_never_caught { IsNotMemory result → ChoiceOutcome (WithoutMemory (A.outcome self.now.this)) (WithoutMemory (B.outcome self.now.that)) state.old result state.new }
+        ensures outcome { ChoiceOutcome (A.outcome self.now.this) (B.outcome self.now.that)
+            state.old result state.new }
+        ensures leftmost_wins { LeftmostWins (A.outcome self.now.this) (B.outcome self.now.that)
+            state.old result state.new }
+        ensures memory_is_never_caught { IsNotMemory result →
+            ChoiceOutcome (WithoutMemory (A.outcome self.now.this))
+            (WithoutMemory (B.outcome self.now.that))
+            state.old result state.new }
     {
         let mut this = state.copy()?;
         let mut that = state.copy()?;

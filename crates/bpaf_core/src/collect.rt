@@ -32,26 +32,21 @@ pub struct ParseCollect<P, C, T> {
 }
 
 impl<P, C, T> ParseCollect<P, C, T> {
-    /// The same, where each error but those of wrong input and want of memory ends the list (bpaf's
+    /// This repeat, but each error other than wrong input and want of memory ends the list (bpaf's
     /// `ParseCollect::catch`).
-    pub fn catch(self) -> ParseCollect<P, C, T>
-        ensures inner { result.inner ≡ self.inner }
-        ensures catch { result.catch ≡ true }
+    pub fn catch(mut self) -> ParseCollect<P, C, T>
+        ensures { result ≡ record self { catch = true } }
     {
-        ParseCollect {
-            inner: self.inner,
-            catch: true,
-            collection: PhantomData,
-            inner_res: PhantomData,
-        }
+        self.catch = true;
+        self
     }
 }
 
 /// As `many`, with what is filled from the list in its place; refused also where the collection wants
 /// memory.
 impl<T: Drop, C: FromList<T> + Drop, P: Parser<T>> Parser<C> for ParseCollect<P, C, T> {
-    ghost use Rattle.std.specs.Prelude.{List, IfOk};
-    ghost use Rattle.bpaf_laws.specs.Repeat.{CollectOutcome, CollectReads, ManyDescribes, IsBounded};
+    ghost use Rattle.bpaf_laws.specs.Repeat.{CollectOutcome, CollectReads, CollectIsBounded};
+    ghost use Rattle.bpaf_laws.specs.Repeat.{ManyDescribes};
     ghost use Rattle.bpaf_laws.proofs.RepeatLaws.{collect_lawful};
     ghost use Rattle.bpaf_laws.specs.Spared.{IsNotMemory, WithoutMemory};
 
@@ -65,9 +60,14 @@ impl<T: Drop, C: FromList<T> + Drop, P: Parser<T>> Parser<C> for ParseCollect<P,
 
     fn eval(&self, state: &mut State) -> Result<C, Error>
         requires { P.can_eval self.now.inner }
-        ensures outcome { CollectOutcome (P.outcome self.now.inner) self.now.catch C.fills state.old result state.new }
-        ensures repeat_is_bounded { IfOk result (λ filled. (values : List T) × C.fills values filled × IsBounded (P.outcome self.now.inner) state.old values) }
-        ensures memory_is_never_caught { IsNotMemory result → CollectOutcome (WithoutMemory (P.outcome self.now.inner)) self.now.catch C.fills state.old result state.new }
+        ensures outcome { CollectOutcome (P.outcome self.now.inner) self.now.catch C.fills
+            state.old result state.new }
+        ensures repeat_is_bounded { CollectIsBounded (P.outcome self.now.inner) self.now.catch
+            C.fills
+            state.old result state.new }
+        ensures memory_is_never_caught { IsNotMemory result →
+            CollectOutcome (WithoutMemory (P.outcome self.now.inner)) self.now.catch C.fills
+            state.old result state.new }
     {
         collect_values(&self.inner, state, self.catch)
     }

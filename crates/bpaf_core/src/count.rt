@@ -13,8 +13,8 @@ fn count_values<T: Drop, P: Parser<T>>(parser: &P, state: &mut State) -> Result<
     requires { P.can_eval parser.now }
     ensures { CountOutcome (P.outcome parser.now) state.old result state.new }
 {
-    let most = state.len();
-    let mut left = most;
+    let present_at_start = state.len();
+    let mut left = present_at_start;
     let mut count = 0;
     while let Some(_) = parse_option(parser, state, false, count == 0)? {
         count += 1;
@@ -72,7 +72,8 @@ impl<T: Drop, P: Parser<T>> Parser<usize> for ParseCount<P, T> {
     fn eval(&self, state: &mut State) -> Result<usize, Error>
         requires { P.can_eval self.now.inner }
         ensures outcome { CountOutcome (P.outcome self.now.inner) state.old result state.new }
-        ensures memory_is_never_caught { IsNotMemory result → CountOutcome (WithoutMemory (P.outcome self.now.inner)) state.old result state.new }
+        ensures memory_is_never_caught { IsNotMemory result →
+            CountOutcome (WithoutMemory (P.outcome self.now.inner)) state.old result state.new }
     {
         count_values(&self.inner, state)
     }
@@ -109,7 +110,8 @@ impl<T: Drop, P: Parser<T>> Parser<T> for ParseLast<P> {
     fn eval(&self, state: &mut State) -> Result<T, Error>
         requires { P.can_eval self.now.inner }
         ensures outcome { LastOutcome (P.outcome self.now.inner) state.old result state.new }
-        ensures memory_is_never_caught { IsNotMemory result → LastOutcome (WithoutMemory (P.outcome self.now.inner)) state.old result state.new }
+        ensures memory_is_never_caught { IsNotMemory result →
+            LastOutcome (WithoutMemory (P.outcome self.now.inner)) state.old result state.new }
     {
         last_value(&self.inner, state)
     }

@@ -23,7 +23,8 @@ pub(crate) fn first_set<'a>(state: &'a State, names: &[Text]) -> Option<&'a str>
 ///
 /// Refused only for want of memory.
 pub(crate) fn absence(state: &State, item: Option<Item>, envs: &[Text]) -> Result<Error, AllocError>
-    ensures { IfOk result (λ error. IsAbsence state.now (option_map part_of item) envs.now error.0) }
+    ensures { IfOk result (λ error.
+        IsAbsence state.now (option_map part_of item) envs.now error.0) }
 {
     if item.is_some() {
         return state.missing(item);

@@ -41,7 +41,8 @@ pub struct ParseFallback<P, T> {
 /// caught. Every other error is refused; so is want of memory. After all but an inner value the state
 /// is as before.
 impl<T: Clone + Drop, P: Parser<T>> Parser<T> for ParseFallback<P, T> {
-    ghost use Rattle.bpaf_laws.specs.Default.{FallbackOutcome, FallbackReads, GivesClone, OptionalDescribes};
+    ghost use Rattle.bpaf_laws.specs.Default.{FallbackOutcome, FallbackReads, GivesClone};
+    ghost use Rattle.bpaf_laws.specs.Default.{OptionalDescribes};
     ghost use Rattle.bpaf_laws.proofs.DefaultLaws.{fallback_lawful};
     ghost use Rattle.bpaf_laws.specs.Spared.{IsNotMemory, WithoutMemory, DefaultTakesNothing};
 
@@ -55,9 +56,15 @@ impl<T: Clone + Drop, P: Parser<T>> Parser<T> for ParseFallback<P, T> {
 
     fn eval(&self, state: &mut State) -> Result<T, Error>
         requires { P.can_eval self.now.inner }
-        ensures outcome { FallbackOutcome (P.outcome self.now.inner) (GivesClone T.is_clone self.now.value) state.old result state.new }
-        ensures default_takes_nothing { DefaultTakesNothing (P.outcome self.now.inner) state.old result state.new }
-        ensures memory_is_never_caught { IsNotMemory result → FallbackOutcome (WithoutMemory (P.outcome self.now.inner)) (GivesClone T.is_clone self.now.value) state.old result state.new }
+        ensures outcome { FallbackOutcome (P.outcome self.now.inner)
+            (GivesClone T.is_clone self.now.value)
+            state.old result state.new }
+        ensures default_takes_nothing { DefaultTakesNothing (P.outcome self.now.inner)
+            state.old result state.new }
+        ensures memory_is_never_caught { IsNotMemory result →
+            FallbackOutcome (WithoutMemory (P.outcome self.now.inner))
+            (GivesClone T.is_clone self.now.value)
+            state.old result state.new }
     {
         match attempt(&self.inner, state)? {
             Some(value) => Ok(value),
@@ -86,7 +93,8 @@ pub struct ParseFallbackWith<T, P, F, E> {
 /// all but an inner value the state is as before.
 impl<T: Drop, E: Display + Drop, P: Parser<T>, F: Fn() -> Result<T, E>> Parser<T>
     for ParseFallbackWith<T, P, F, E> {
-    ghost use Rattle.bpaf_laws.specs.Default.{FallbackOutcome, FallbackReads, GivesAnswer, OptionalDescribes};
+    ghost use Rattle.bpaf_laws.specs.Default.{FallbackOutcome, FallbackReads, GivesAnswer};
+    ghost use Rattle.bpaf_laws.specs.Default.{OptionalDescribes};
     ghost use Rattle.bpaf_laws.proofs.DefaultLaws.{fallback_lawful};
     ghost use Rattle.bpaf_laws.specs.Spared.{IsNotMemory, WithoutMemory, DefaultTakesNothing};
 
@@ -94,16 +102,24 @@ impl<T: Drop, E: Display + Drop, P: Parser<T>, F: Fn() -> Result<T, E>> Parser<T
 
     ghost describes = { λ p. OptionalDescribes (P.describes p.inner) };
 
-    ghost reads = { λ p. FallbackReads (P.reads p.inner) (GivesAnswer (λ r. F.post p.fallback r) E.output) };
+    ghost reads = { λ p.
+        FallbackReads (P.reads p.inner) (GivesAnswer (λ r. F.post p.fallback r) E.output) };
 
-    ghost outcome = { λ p. FallbackOutcome (P.outcome p.inner) (GivesAnswer (λ r. F.post p.fallback r) E.output) };
+    ghost outcome = { λ p.
+        FallbackOutcome (P.outcome p.inner) (GivesAnswer (λ r. F.post p.fallback r) E.output) };
 
     fn eval(&self, state: &mut State) -> Result<T, Error>
         requires inner { P.can_eval self.now.inner }
         requires callable { F.IsAlwaysCallable self.now.fallback }
-        ensures outcome { FallbackOutcome (P.outcome self.now.inner) (GivesAnswer (λ r. F.post self.now.fallback r) E.output) state.old result state.new }
-        ensures default_takes_nothing { DefaultTakesNothing (P.outcome self.now.inner) state.old result state.new }
-        ensures memory_is_never_caught { IsNotMemory result → FallbackOutcome (WithoutMemory (P.outcome self.now.inner)) (GivesAnswer (λ r. F.post self.now.fallback r) E.output) state.old result state.new }
+        ensures outcome { FallbackOutcome (P.outcome self.now.inner)
+            (GivesAnswer (λ r. F.post self.now.fallback r) E.output)
+            state.old result state.new }
+        ensures default_takes_nothing { DefaultTakesNothing (P.outcome self.now.inner)
+            state.old result state.new }
+        ensures memory_is_never_caught { IsNotMemory result →
+            FallbackOutcome (WithoutMemory (P.outcome self.now.inner))
+            (GivesAnswer (λ r. F.post self.now.fallback r) E.output)
+            state.old result state.new }
     {
         if let Some(value) = attempt(&self.inner, state)? {
             return Ok(value);
@@ -121,5 +137,6 @@ impl<T: Drop, E: Display + Drop, P: Parser<T>, F: Fn() -> Result<T, E>> Parser<T
         optional_meta(&self.inner, alloc)
     }
 
-    ghost lawful = { λ p. fallback_lawful (P.lawful p.inner) (GivesAnswer (λ r. F.post p.fallback r) E.output) };
+    ghost lawful = { λ p.
+        fallback_lawful (P.lawful p.inner) (GivesAnswer (λ r. F.post p.fallback r) E.output) };
 }

@@ -15,12 +15,14 @@
 //!   [`ParseOptional`], [`ParseFallback`] and [`ParseFallbackWith`] stand in for one that isn't there
 //!   (specs/Step.antt, specs/Default.antt). By clauses of their `eval` none of these catches want of
 //!   memory, and what stands in takes nothing (specs/Spared.antt).
-//! - [`ParseMany`], [`ParseSome`], [`ParseCollect`], [`ParseCount`] and [`ParseLast`] step one parser
-//!   until a step stops (specs/Repeat.antt); [`bpaf_text::FromList`] is what a list of values fills. Each step but
-//!   the first takes an item, so there are no more values than items present at the start and one
-//!   (clause `repeat_is_bounded`), and none catches want of memory (clause `memory_is_never_caught`).
+//! - [`ParseMany`], [`ParseSome`], [`ParseCollect`], [`ParseCount`] and [`ParseLast`] step one
+//!   parser until a step stops (specs/Repeat.antt); [`bpaf_text::FromList`] is what a list of values
+//!   fills. Each step but the first takes an item, so there are no more values than items present at
+//!   the start and one (clause `repeat_is_bounded`), and none catches want of memory (clause
+//!   `memory_is_never_caught`).
 //! - [`ParseOrElse`] is one of two parsers, both evaluated from the same state: the table of
-//!   [`this_or_that`] tells which answer stands (specs/Choice.antt), for choices of other types too.
+//!   [`this_or_that`] tells which answer stands (specs/Choice.antt). That function, [`or_meta`] and
+//!   [`is_want`] are for the crates of this repository, not for callers.
 //!   The branch that took the leftmost place taken by only one of them wins (clause `leftmost_wins`).
 //! - [`OptionParser::run_inner`] runs a parser over words. It answers a value only where that is
 //!   dealt out of the words: read off all items of their line but the first `--`, each used once
@@ -43,9 +45,9 @@ mod laws;
 mod optional;
 mod options;
 mod parser;
-mod reading;
 mod repeat;
 mod transform;
+mod value;
 
 pub use choice::{ParseOrElse, is_want, or_meta, this_or_that};
 pub use collect::ParseCollect;
@@ -56,6 +58,6 @@ pub use laws::count_falls;
 pub use optional::ParseOptional;
 pub use options::OptionParser;
 pub use parser::Parser;
-pub use reading::read_text;
 pub use repeat::{ParseMany, ParseSome};
 pub use transform::{ParseGuard, ParseMap, ParseWith};
+pub use value::read_text;

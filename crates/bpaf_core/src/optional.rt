@@ -72,16 +72,13 @@ pub struct ParseOptional<P> {
 }
 
 impl<P> ParseOptional<P> {
-    /// The same, where each error but those of wrong input and want of memory gives None (bpaf's
+    /// This parser, but each error other than wrong input and want of memory gives None (bpaf's
     /// `ParseOptional::catch`).
-    pub fn catch(self) -> ParseOptional<P>
-        ensures inner { result.inner ≡ self.inner }
-        ensures catch { result.catch ≡ true }
+    pub fn catch(mut self) -> ParseOptional<P>
+        ensures { result ≡ record self { catch = true } }
     {
-        ParseOptional {
-            inner: self.inner,
-            catch: true,
-        }
+        self.catch = true;
+        self
     }
 }
 
@@ -104,9 +101,12 @@ impl<T: Drop, P: Parser<T>> Parser<Option<T>> for ParseOptional<P> {
 
     fn eval(&self, state: &mut State) -> Result<Option<T>, Error>
         requires { P.can_eval self.now.inner }
-        ensures outcome { StepOutcome (P.outcome self.now.inner) self.now.catch true state.old result state.new }
+        ensures outcome { StepOutcome (P.outcome self.now.inner) self.now.catch true
+            state.old result state.new }
         ensures default_takes_nothing { NoneTakesNothing state.old result state.new }
-        ensures memory_is_never_caught { IsNotMemory result → StepOutcome (WithoutMemory (P.outcome self.now.inner)) self.now.catch true state.old result state.new }
+        ensures memory_is_never_caught { IsNotMemory result →
+            StepOutcome (WithoutMemory (P.outcome self.now.inner)) self.now.catch true
+            state.old result state.new }
     {
         parse_option(&self.inner, state, self.catch, true)
     }

@@ -24,7 +24,8 @@ pub trait Parser<T>: Sized {
     ghost use Rattle.bpaf_laws.specs.Reading.{Outcome, Readings};
     ghost use Rattle.bpaf_laws.specs.Laws.{Lawful};
 
-    /// Whether it may be evaluated: its closures may be called on every value.
+    /// Whether it may be evaluated: its closures may be called on every value. `eval`, `meta` and a
+    /// run ask for it; the combinators below don't, so a function that only joins parsers needs not.
     ghost can_eval: { Self → Type 0 };
 
     /// What it may show of itself.
@@ -38,7 +39,7 @@ pub trait Parser<T>: Sized {
 
     /// Reads a value off the present items in scope, and takes these.
     ///
-    /// What it refuses is the outcome's own; memory may be wanted and refused.
+    /// Which values it answers and what it refuses, want of memory too, is what its `outcome` allows.
     fn eval(&self, state: &mut State) -> Result<T, Error>
         requires { can_eval self.now }
         ensures { outcome self.now state.old result state.new };
@@ -53,8 +54,7 @@ pub trait Parser<T>: Sized {
     /// ```text
     /// long(alloc, "size")?.argument::<u64>("KB").map(|kilobytes| Size(kilobytes))
     /// ```
-    final fn map<R, F: Fn(T) -> R>(self, map: F) -> ParseMap<T, Self, F, R>
-        requires inner { can_eval self }
+    final fn map<F: Fn(T) -> R, R>(self, map: F) -> ParseMap<T, Self, F, R>
         requires callable { F.IsAlwaysCallable map }
         ensures inner { result.inner ≡ self }
         ensures map_fn { result.map_fn ≡ map }
@@ -75,11 +75,10 @@ pub trait Parser<T>: Sized {
     ///     if size < 10 { Ok(size) } else { Err("too big") }
     /// })
     /// ```
-    final fn parse<R, E: Display, F: Fn(T) -> Result<R, E>>(
+    final fn parse<F: Fn(T) -> Result<R, E>, R, E: Display>(
         self,
         f: F,
     ) -> ParseWith<T, Self, F, E, R>
-        requires inner { can_eval self }
         requires callable { F.IsAlwaysCallable f }
         ensures inner { result.inner ≡ self }
         ensures parse_fn { result.parse_fn ≡ f }
@@ -104,7 +103,6 @@ pub trait Parser<T>: Sized {
         check: F,
         message: &'m str,
     ) -> ParseGuard<'m, Self, F>
-        requires inner { can_eval self }
         requires callable { F.IsAlwaysCallable check }
         ensures inner { result.inner ≡ self }
         ensures check { result.check ≡ check }
@@ -125,7 +123,6 @@ pub trait Parser<T>: Sized {
     /// long(alloc, "size")?.argument::<u64>("KB").optional()
     /// ```
     final fn optional(self) -> ParseOptional<Self>
-        requires { can_eval self }
         ensures inner { result.inner ≡ self }
         ensures catch { result.catch ≡ false }
     {
@@ -144,7 +141,6 @@ pub trait Parser<T>: Sized {
     /// long(alloc, "jobs")?.argument::<u64>("N").fallback(1)
     /// ```
     final fn fallback(self, value: T) -> ParseFallback<Self, T>
-        requires { can_eval self }
         ensures inner { result.inner ≡ self }
         ensures value { result.value ≡ value }
     {
@@ -159,11 +155,10 @@ pub trait Parser<T>: Sized {
     /// ```text
     /// long(alloc, "version")?.argument::<u64>("N").fallback_with(|| newest_version())
     /// ```
-    final fn fallback_with<E: Display, F: Fn() -> Result<T, E>>(
+    final fn fallback_with<F: Fn() -> Result<T, E>, E: Display>(
         self,
         fallback: F,
     ) -> ParseFallbackWith<T, Self, F, E>
-        requires inner { can_eval self }
         requires callable { F.IsAlwaysCallable fallback }
         ensures inner { result.inner ≡ self }
         ensures fallback { result.fallback ≡ fallback }
@@ -185,7 +180,6 @@ pub trait Parser<T>: Sized {
     /// positional::<String>("FILE").many()
     /// ```
     final fn many(self) -> ParseMany<Self>
-        requires { can_eval self }
         ensures inner { result.inner ≡ self }
         ensures catch { result.catch ≡ false }
     {
@@ -202,7 +196,6 @@ pub trait Parser<T>: Sized {
     /// positional::<String>("FILE").some("name a file")
     /// ```
     final fn some<'m>(self, message: &'m str) -> ParseSome<'m, Self>
-        requires { can_eval self }
         ensures inner { result.inner ≡ self }
         ensures message { result.message ≡ message.entry }
         ensures catch { result.catch ≡ false }
@@ -220,7 +213,6 @@ pub trait Parser<T>: Sized {
     /// short(alloc, 'n')?.argument::<u64>("NUM").collect::<BTreeSet<u64>>()
     /// ```
     final fn collect<C: FromList<T>>(self) -> ParseCollect<Self, C, T>
-        requires { can_eval self }
         ensures inner { result.inner ≡ self }
         ensures catch { result.catch ≡ false }
     {
@@ -239,7 +231,6 @@ pub trait Parser<T>: Sized {
     /// short(alloc, 'v')?.req_flag(()).count()
     /// ```
     final fn count(self) -> ParseCount<Self, T>
-        requires { can_eval self }
         ensures { result.inner ≡ self }
     {
         ParseCount {
@@ -254,7 +245,6 @@ pub trait Parser<T>: Sized {
     /// short(alloc, 'n')?.argument::<u64>("NUM").last()
     /// ```
     final fn last(self) -> ParseLast<Self>
-        requires { can_eval self }
         ensures { result.inner ≡ self }
     {
         ParseLast { inner: self }
@@ -269,8 +259,6 @@ pub trait Parser<T>: Sized {
     /// long(alloc, "meters")?.argument::<u64>("M").or_else(long(alloc, "miles")?.argument("MI"))
     /// ```
     final fn or_else<P: Parser<T>>(self, that: P) -> ParseOrElse<Self, P>
-        requires this { can_eval self }
-        requires that { P.can_eval that }
         ensures this { result.this ≡ self }
         ensures that { result.that ≡ that }
     {
@@ -281,7 +269,6 @@ pub trait Parser<T>: Sized {
     final fn to_options(self, alloc: Global) -> Result<OptionParser<T, Self>, AllocError>
     where
         Self: Drop,
-        requires { can_eval self }
         ensures inner { IfOk result (λ options. options.inner ≡ self) }
         ensures info { IfOk result (λ options. options.info ≡ plain_info) }
     {

@@ -8,7 +8,7 @@ use bpaf_doc::{Meta, Text};
 use bpaf_line::{Error, Message, State};
 use std::alloc::{AllocError, Global};
 
-/// Puts a value behind the others; refused only for want of memory, which drops it.
+/// Appends a value to a list; refused only for want of memory, and then the value is dropped.
 fn push_value<T: Drop>(values: &mut Vec<T>, value: T) -> Result<(), AllocError>
     ensures { OnOk result (values.new.items ≡ values.old.items ++ value ∷ []) }
 {
@@ -58,16 +58,13 @@ pub struct ParseMany<P> {
 }
 
 impl<P> ParseMany<P> {
-    /// The same, where each error but those of wrong input and want of memory ends the list (bpaf's
+    /// This repeat, but each error other than wrong input and want of memory ends the list (bpaf's
     /// `ParseMany::catch`).
-    pub fn catch(self) -> ParseMany<P>
-        ensures inner { result.inner ≡ self.inner }
-        ensures catch { result.catch ≡ true }
+    pub fn catch(mut self) -> ParseMany<P>
+        ensures { result ≡ record self { catch = true } }
     {
-        ParseMany {
-            inner: self.inner,
-            catch: true,
-        }
+        self.catch = true;
+        self
     }
 }
 
@@ -90,9 +87,13 @@ impl<T: Drop, P: Parser<T>> Parser<Vec<T>> for ParseMany<P> {
 
     fn eval(&self, state: &mut State) -> Result<Vec<T>, Error>
         requires { P.can_eval self.now.inner }
-        ensures outcome { ManyOutcome (P.outcome self.now.inner) self.now.catch state.old result state.new }
-        ensures repeat_is_bounded { IfOk result (λ values. IsBounded (P.outcome self.now.inner) state.old values.items) }
-        ensures memory_is_never_caught { IsNotMemory result → ManyOutcome (WithoutMemory (P.outcome self.now.inner)) self.now.catch state.old result state.new }
+        ensures outcome { ManyOutcome (P.outcome self.now.inner) self.now.catch
+            state.old result state.new }
+        ensures repeat_is_bounded { IfOk result (λ values.
+            IsBounded (P.outcome self.now.inner) state.old values.items) }
+        ensures memory_is_never_caught { IsNotMemory result →
+            ManyOutcome (WithoutMemory (P.outcome self.now.inner)) self.now.catch
+            state.old result state.new }
     {
         values_until_stop(&self.inner, state, self.catch)
     }
@@ -131,18 +132,13 @@ pub struct ParseSome<'m, P> {
 }
 
 impl<'m, P> ParseSome<'m, P> {
-    /// The same, where each error but those of wrong input and want of memory ends the list (bpaf's
+    /// This repeat, but each error other than wrong input and want of memory ends the list (bpaf's
     /// `ParseSome::catch`).
-    pub fn catch(self) -> ParseSome<'m, P>
-        ensures inner { result.inner ≡ self.entry.inner }
-        ensures message { result.message ≡ self.entry.message }
-        ensures catch { result.catch ≡ true }
+    pub fn catch(mut self) -> ParseSome<'m, P>
+        ensures { result ≡ record self.entry { catch = true } }
     {
-        ParseSome {
-            inner: self.inner,
-            message: self.message,
-            catch: true,
-        }
+        self.catch = true;
+        self
     }
 }
 
@@ -163,9 +159,14 @@ impl<'m, T: Drop, P: Parser<T>> Parser<Vec<T>> for ParseSome<'m, P> {
 
     fn eval(&self, state: &mut State) -> Result<Vec<T>, Error>
         requires { P.can_eval self.now.inner }
-        ensures outcome { SomeOutcome (P.outcome self.now.inner) self.now.catch self.now.message.now state.old result state.new }
-        ensures repeat_is_bounded { IfOk result (λ values. IsBounded (P.outcome self.now.inner) state.old values.items) }
-        ensures memory_is_never_caught { IsNotMemory result → SomeOutcome (WithoutMemory (P.outcome self.now.inner)) self.now.catch self.now.message.now state.old result state.new }
+        ensures outcome { SomeOutcome (P.outcome self.now.inner) self.now.catch self.now.message.now
+            state.old result state.new }
+        ensures repeat_is_bounded { IfOk result (λ values.
+            IsBounded (P.outcome self.now.inner) state.old values.items) }
+        ensures memory_is_never_caught { IsNotMemory result →
+            SomeOutcome (WithoutMemory (P.outcome self.now.inner)) self.now.catch
+            self.now.message.now
+            state.old result state.new }
     {
         some_values(&self.inner, state, self.catch, self.message)
     }

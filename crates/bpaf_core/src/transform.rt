@@ -33,8 +33,12 @@ impl<T: Drop, R: Drop, P: Parser<T>, F: Fn(T) -> R> Parser<R> for ParseMap<T, P,
     fn eval(&self, state: &mut State) -> Result<R, Error>
         requires inner { P.can_eval self.now.inner }
         requires callable { F.IsAlwaysCallable self.now.map_fn }
-        ensures outcome { MapOutcome (P.outcome self.now.inner) (λ x y. F.post self.now.map_fn x y) state.old result state.new }
-        ensures memory_is_never_caught { IsNotMemory result → MapOutcome (WithoutMemory (P.outcome self.now.inner)) (λ x y. F.post self.now.map_fn x y) state.old result state.new }
+        ensures outcome { MapOutcome (P.outcome self.now.inner) (λ x y. F.post self.now.map_fn x y)
+            state.old result state.new }
+        ensures memory_is_never_caught { IsNotMemory result →
+            MapOutcome (WithoutMemory (P.outcome self.now.inner))
+            (λ x y. F.post self.now.map_fn x y)
+            state.old result state.new }
     {
         let value = self.inner.eval(state)?;
         Ok((self.map_fn)(value))
@@ -72,13 +76,19 @@ impl<T: Drop, R: Drop, E: Display + Drop, P: Parser<T>, F: Fn(T) -> Result<R, E>
 
     ghost reads = { λ p. MapReads T R (P.reads p.inner) (λ x y. F.post p.parse_fn x (Ok y)) };
 
-    ghost outcome = { λ p. ParseOutcome (P.outcome p.inner) (λ x y. F.post p.parse_fn x y) E.output };
+    ghost outcome = { λ p.
+        ParseOutcome (P.outcome p.inner) (λ x y. F.post p.parse_fn x y) E.output };
 
     fn eval(&self, state: &mut State) -> Result<R, Error>
         requires inner { P.can_eval self.now.inner }
         requires callable { F.IsAlwaysCallable self.now.parse_fn }
-        ensures outcome { ParseOutcome (P.outcome self.now.inner) (λ x y. F.post self.now.parse_fn x y) E.output state.old result state.new }
-        ensures memory_is_never_caught { IsNotMemory result → ParseOutcome (WithoutMemory (P.outcome self.now.inner)) (λ x y. F.post self.now.parse_fn x y) E.output state.old result state.new }
+        ensures outcome { ParseOutcome (P.outcome self.now.inner)
+            (λ x y. F.post self.now.parse_fn x y) E.output
+            state.old result state.new }
+        ensures memory_is_never_caught { IsNotMemory result →
+            ParseOutcome (WithoutMemory (P.outcome self.now.inner))
+            (λ x y. F.post self.now.parse_fn x y) E.output
+            state.old result state.new }
     {
         let value = self.inner.eval(state)?;
         match (self.parse_fn)(value) {
@@ -97,9 +107,11 @@ impl<T: Drop, R: Drop, E: Display + Drop, P: Parser<T>, F: Fn(T) -> Result<R, E>
     ghost lawful = { λ p. parse_lawful (P.lawful p.inner) (λ x y. F.post p.parse_fn x y) E.output };
 }
 
-/// That a check was false of a value; or want of memory, for the message.
+/// The refusal of a value of which a check is false: GuardFailed with the message, which names the
+/// current place; or want of memory, for the message.
 fn guard_failed(state: &State, message: &str) -> Error
-    ensures { (result.0 ≡ Message.GuardFailed state.now.current message.now) ⊎ (result.0 ≡ Message.Memory) }
+    ensures { (result.0 ≡ Message.GuardFailed state.now.current message.now) ⊎
+        (result.0 ≡ Message.Memory) }
 {
     match Text::new(state.alloc(), message) {
         Ok(message) => Error(Message::GuardFailed(state.current(), message)),
@@ -129,13 +141,19 @@ impl<'m, T: Drop, P: Parser<T>, F: Fn(&T) -> bool> Parser<T> for ParseGuard<'m, 
 
     ghost reads = { λ p. GuardReads (P.reads p.inner) (FnReturnsAt F.Fn p.check) };
 
-    ghost outcome = { λ p. GuardOutcome (P.outcome p.inner) (FnReturnsAt F.Fn p.check) p.message.now };
+    ghost outcome = { λ p.
+        GuardOutcome (P.outcome p.inner) (FnReturnsAt F.Fn p.check) p.message.now };
 
     fn eval(&self, state: &mut State) -> Result<T, Error>
         requires inner { P.can_eval self.now.inner }
         requires callable { F.IsAlwaysCallable self.now.check }
-        ensures outcome { GuardOutcome (P.outcome self.now.inner) (FnReturnsAt F.Fn self.now.check) self.now.message.now state.old result state.new }
-        ensures memory_is_never_caught { IsNotMemory result → GuardOutcome (WithoutMemory (P.outcome self.now.inner)) (FnReturnsAt F.Fn self.now.check) self.now.message.now state.old result state.new }
+        ensures outcome { GuardOutcome (P.outcome self.now.inner) (FnReturnsAt F.Fn self.now.check)
+            self.now.message.now
+            state.old result state.new }
+        ensures memory_is_never_caught { IsNotMemory result →
+            GuardOutcome (WithoutMemory (P.outcome self.now.inner))
+            (FnReturnsAt F.Fn self.now.check) self.now.message.now
+            state.old result state.new }
     {
         let value = self.inner.eval(state)?;
         if (self.check)(&value) {
@@ -149,5 +167,6 @@ impl<'m, T: Drop, P: Parser<T>, F: Fn(&T) -> bool> Parser<T> for ParseGuard<'m, 
         self.inner.meta(alloc)
     }
 
-    ghost lawful = { λ p. guard_lawful (P.lawful p.inner) (FnReturnsAt F.Fn p.check) p.message.now };
+    ghost lawful = { λ p.
+        guard_lawful (P.lawful p.inner) (FnReturnsAt F.Fn p.check) p.message.now };
 }

@@ -1,18 +1,23 @@
 -- Options that are dealt out of the words, and what a run of the program does.
-use Rattle.std.specs.Prelude.{◌≡◌, ◌⊎◌, ℕ, Bool, true, false, List, [], ◌∷◌, Option, Some, codes, option_and_then}
+use Rattle.std.specs.Prelude.{◌≡◌, ◌⊎◌, ℕ, Bool, true, false, List, [], ◌∷◌, Option, Some, codes}
+use Rattle.std.specs.Prelude.{string_bytes, String as StringIn}
+use Rattle.std.specs.declared.alloc.Global.{Global}
 use Rattle.std.specs.Io.KnownBytes.{Keeps, Appends}
 use Rattle.bpaf_doc.specs.Names.{Names}
 use Rattle.bpaf_text.specs.Meaning.{SpellsUnsigned}
-use Rattle.bpaf_text.specs.Named.{key_named}
-use Rattle.bpaf_words.specs.declared.arg.Arg.{Arg}
-use Rattle.bpaf_words.specs.Items.{is_key_of, word_text}
-use Rattle.bpaf_words.specs.Spelling.{Known}
-use Rattle.bpaf_words.specs.Line.{IsLine}
+use Rattle.bpaf_text.specs.Named.{KeyWithValue, key_named}
+use Rattle.bpaf_words.specs.Arguments.{Given}
+use Rattle.bpaf_words.specs.Spelling.{Known, knowing}
+use Rattle.bpaf_line.specs.Constructing.{IsContext}
 use Rattle.bpaf_line.specs.Situation.{Context, is_dealt_place}
-use Rattle.bpaf_laws.specs.Reading.{Share, Joins, IsPlace, IsEmptyShare, HasItem, item_in}
-use Rattle.bpaf_laws.specs.Argument.{IsKeyWithText}
+use Rattle.bpaf_laws.specs.Reading.{Share, Joins}
+use Rattle.bpaf_laws.specs.Argument.{ArgumentReads}
+use Rattle.bpaf_laws.specs.Flag.{FlagReads}
+use Rattle.bpaf_laws.specs.Repeat.{ManyReads}
+use Rattle.bpaf.specs.declared.leaves.positional.Position.TheVariants.{Unrestricted}
+use Rattle.bpaf.specs.Positional.{PositionalReads}
 use Rattle.bpaf_demo.specs.declared.options.Options.{Options}
-use Rattle.bpaf_demo.specs.Lines.{lines, file_texts}
+use Rattle.bpaf_demo.specs.Lines.{lines}
 
 -- the names of the switch
 abbrev pub verbose_names : Names
@@ -22,49 +27,50 @@ verbose_names = record { shorts = 118 ∷ []; longs = codes "verbose" ∷ [] }
 abbrev pub num_names : Names
 num_names = record { shorts = 110 ∷ []; longs = codes "num" ∷ [] }
 
--- the known short names: those of the switch, of help and of version as flags, and that of the number
+-- the number: its key, and what stands for its value where it is shown
+abbrev pub number_key : KeyWithValue
+number_key = record { named = key_named num_names; metavar = codes "NUM"; adjacent = false }
+
+-- the known short names: those of the switch, of help and of version as flags, and that of the
+-- number
 abbrev pub program_known : Known
-program_known = record { flags = 118 ∷ 104 ∷ 86 ∷ []; arguments = 110 ∷ [] }
+program_known = knowing (record { flags = 118 ∷ 104 ∷ 86 ∷ []; arguments = 110 ∷ [] })
 
--- the context of a line of the program
-abbrev pub program_context : List Arg → Context
-program_context line = record { line = line; env = []; name = Some (codes "bpaf_demo") }
+-- what the program is given
+abbrev pub program_given : List (List ℕ) → Given
+program_given words = record { words = words; env = []; name = Some (codes "bpaf_demo") }
 
--- the switch is on by one of its keys, attached or not, and off by no place
-abbrev pub SwitchReads : Names → Context → Share → Bool → Type 0
-SwitchReads names context share true = (key : ℕ) × HasItem (is_key_of names) context key × IsPlace key share
-SwitchReads names context share false = IsEmptyShare share
+-- a text of the program
+abbrev pub String : Type 0
+String = StringIn Global
 
--- the number is what the text behind one of the keys spells
-abbrev pub NumberReads : Names → Context → Share → ℕ → Type 0
-NumberReads names context share number = (text : List ℕ) × IsKeyWithText (key_named names) context share text × SpellsUnsigned 64 text number
+-- a text means itself
+abbrev pub MeansText : List ℕ → String → Type 0
+MeansText text file = string_bytes file ≡ text
 
--- a file is the text of one word, on either side of `--`
-abbrev pub FileReads : Context → Share → List ℕ → Type 0
-FileReads context share text =
-    (place : ℕ) × (strict : Bool) × (option_and_then word_text (item_in context place) ≡ Some (strict, text)) × IsPlace place share
+-- a truth value that a switch keeps is given as it is
+abbrev pub IsKept : Bool → Bool → Type 0
+IsKept kept v = v ≡ kept
 
--- the files are read off shares that are joined, each off its own
-abbrev pub FilesRead : Context → Share → List (List ℕ) → Type 0
-FilesRead context share [] = IsEmptyShare share
-FilesRead context share (text ∷ texts) = (own : Share) × (rest : Share) × Joins own rest share × FileReads context own text × FilesRead context rest texts
-
--- all places of the words' line but the first `--` are dealt out to the switch, the number and the files, each used once
+-- all places of the words' line but the first `--` are dealt out to the switch, the number and the
+-- files, each used once
 pub record IsDealtOptions (words : List (List ℕ)) (v : Options) : Type 0 where
-  pub line : List Arg
-  pub marker : Option ℕ
-  pub is_line : IsLine program_known words line marker
+  pub context : Context
+  pub is_context : IsContext program_known (program_given words) context
   pub verbose_share : Share
   pub num_share : Share
   pub files_share : Share
   pub other_share : Share
-  pub joins : Joins verbose_share other_share (is_dealt_place line marker)
+  pub joins : Joins verbose_share other_share (is_dealt_place context)
   pub others_join : Joins num_share files_share other_share
-  pub verbose : SwitchReads verbose_names (program_context line) verbose_share v.verbose
-  pub num : NumberReads num_names (program_context line) num_share v.num
-  pub files : FilesRead (program_context line) files_share (file_texts v)
+  pub verbose : FlagReads Bool IsKept (key_named verbose_names) true (Some false)
+      context verbose_share v.verbose
+  pub num : ArgumentReads ℕ (SpellsUnsigned 64) number_key context num_share v.num
+  pub files : ManyReads (PositionalReads String MeansText Unrestricted)
+      context files_share v.files
 
--- status 0: nothing on the error writer, and on the other exactly the lines of options that are dealt out of the words
+-- status 0: nothing on the error writer, and on the other exactly the lines of options that are dealt
+-- out of the words
 pub record Succeeds (words : List (List ℕ)) (out out_after err err_after : Option (List ℕ)) : Type 0 where
   pub quiet : Keeps err err_after
   pub options : Options

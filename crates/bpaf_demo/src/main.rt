@@ -19,7 +19,8 @@ mod options;
 mod print;
 mod run;
 
-use run::run;
+use bpaf::ParseFailure;
+use run::{refuse, run};
 use std::process::ExitCode;
 use std::{env, io};
 
@@ -27,11 +28,26 @@ use std::{env, io};
 mod tests;
 
 fn main(rt: HostRuntime) -> io::Result<ExitCode> {
-    let mut words = Vec::new(rt.alloc());
-    for word in env::args(&rt)?.skip(1) {
-        words.push(word)?;
-    }
     let mut out = rt.stdout();
     let mut err = rt.stderr();
-    Ok(ExitCode::from(run(rt.alloc(), words.as_slice(), &mut out, &mut err)))
+    let status = match words_of(&rt) {
+        Ok(words) => run(rt.alloc(), words.as_slice(), &mut out, &mut err),
+        Err(error) => {
+            if error.kind() != io::ErrorKind::OutOfMemory {
+                return Err(error);
+            }
+            refuse(ParseFailure::Memory, &mut err)
+        }
+    };
+    Ok(ExitCode::from(status))
+}
+
+/// The words that the program is called with, without its own name; refused for want of memory, and
+/// where one is no text.
+fn words_of(rt: &HostRuntime) -> io::Result<Vec<String>> {
+    let mut words = Vec::new(rt.alloc());
+    for word in env::args(rt)?.skip(1) {
+        words.push(word)?;
+    }
+    Ok(words)
 }

@@ -25,7 +25,8 @@ pub fn read_options(alloc: Global, words: &[String]) -> Result<Options, ParseFai
         verbose,
         num,
         files
-    })
-    .to_options(alloc)?;
-    options.run_inner(Args::from(words).set_name("bpaf_demo"))
+    });
+    options
+        .to_options(alloc)?
+        .run_once(Args::from(words).set_name("bpaf_demo"))
 }

@@ -19,7 +19,8 @@ pub fn print_options<W: Write>(options: &Options, out: &mut W) -> io::Result<()>
 
 /// Prints a line for each file; refused where a write fails.
 fn print_files<W: Write>(files: &[String], out: &mut W) -> io::Result<()>
-    ensures { OnOk result (Appends (W.contents out.old) (W.contents out.new) (file_lines (map string_bytes files.now))) }
+    ensures { OnOk result (Appends (W.contents out.old) (W.contents out.new)
+        (file_lines (map string_bytes files.now))) }
 {
     for file in files {
         writeln!(out, "file: {file}")?;

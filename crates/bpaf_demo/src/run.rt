@@ -13,8 +13,11 @@ use std::io::Write;
 /// nothing is written on `err`. A refusal is told on `err`, as `Error: ` and the message, and nothing
 /// is written on `out`; its status is 1, as is that of a write that fails.
 pub fn run<W: Write, E: Write>(alloc: Global, words: &[String], out: &mut W, err: &mut E) -> u8
-    ensures succeeds { result ≡ 0 → Succeeds (map string_bytes words.now) (W.contents out.old) (W.contents out.new) (E.contents err.old) (E.contents err.new) }
-    ensures fails { result ≡ 1 → Fails (map string_bytes words.now) (W.contents out.old) (W.contents out.new) }
+    ensures succeeds { result ≡ 0 →
+        Succeeds (map string_bytes words.now) (W.contents out.old) (W.contents out.new)
+        (E.contents err.old) (E.contents err.new) }
+    ensures fails { result ≡ 1 →
+        Fails (map string_bytes words.now) (W.contents out.old) (W.contents out.new) }
     ensures status { (result ≡ 0) ⊎ (result ≡ 1) }
 {
     match read_options(alloc, words) {
@@ -22,15 +25,14 @@ pub fn run<W: Write, E: Write>(alloc: Global, words: &[String], out: &mut W, err
             Ok(()) => 0,
             Err(_) => 1,
         },
-        Err(failure) => {
-            tell(failure, err);
-            1
-        }
+        Err(failure) => refuse(failure, err),
     }
 }
 
-/// Tells why there are no options: the message, or else that memory was wanted.
-fn tell<E: Write>(failure: ParseFailure, err: &mut E) {
+/// Tells why there are no options: the message, or else that memory was wanted. The status is 1.
+pub fn refuse<E: Write>(failure: ParseFailure, err: &mut E) -> u8
+    ensures { result ≡ 1 }
+{
     match failure.unwrap_stderr() {
         Ok(Some(text)) => {
             let _ = writeln!(err, "Error: {text}");
@@ -39,4 +41,5 @@ fn tell<E: Write>(failure: ParseFailure, err: &mut E) {
             let _ = writeln!(err, "Error: out of memory");
         }
     }
+    1
 }

@@ -5,12 +5,16 @@ use Rattle.std.specs.Str.Pattern.{LacksTextAt}
 use Rattle.bpaf_doc.specs.declared.doc.Piece.{Piece}
 use Rattle.bpaf_doc.specs.declared.doc.Style.TheVariants as style
 use Rattle.bpaf_doc.specs.Print.{shown_as}
-use Rattle.bpaf_doc.specs.Fold.{folded_after, keeps_break, HasNoBreak, empty_line, detail, TextPieces, whole, cut}
+use Rattle.bpaf_doc.specs.Fold.{folded, folded_after, keeps_break, break_or_space, break_between, HasNoBreak, empty_line, detail, whole_pieces, cut_pieces, TextPieces, whole, cut}
 
 -- one character, where it is known whether it is a line break
-step : (after : Bool) (c : ℕ) (rest : List ℕ) (is_break : Bool) → (c == 10) ≡ is_break
-    → folded_after after (c ∷ rest) ≡ (if is_break && not (after || keeps_break rest) then 32 else c) ∷ folded_after is_break rest
-step after c rest is_break e = ap (λ x. (if x && not (after || keeps_break rest) then 32 else c) ∷ folded_after x rest) e
+folded_character :
+    (after : Bool) (c : ℕ) (rest : List ℕ) (is_break : Bool)
+    → (c == 10) ≡ is_break
+    → folded_after after (c ∷ rest)
+    ≡ (if is_break && not (after || keeps_break rest) then 32 else c) ∷ folded_after is_break rest
+folded_character after c rest is_break known =
+    ap (λ x. (if x && not (after || keeps_break rest) then 32 else c) ∷ folded_after x rest) known
 
 -- what follows the first character has no line break either
 no_break_tail : (c : ℕ) (rest : List ℕ) → HasNoBreak (c ∷ rest) → HasNoBreak rest
@@ -21,70 +25,127 @@ no_break_head : (c : ℕ) (rest : List ℕ) → HasNoBreak (c ∷ rest) → (c =
 no_break_head c rest free = let differs : c ≢ 10 = free 0 (omega arith) in grind (arith, nat_tests)
 
 -- a text without line breaks stays as it is
-pub folded_plain : (after : Bool) (text : List ℕ) → HasNoBreak text → folded_after after text ≡ text
+pub folded_plain :
+    (after : Bool) (text : List ℕ) → HasNoBreak text → folded_after after text ≡ text
 folded_plain after [] free = refl
 folded_plain after (c ∷ rest) free =
-    step after c rest false (no_break_head c rest free) ∙ ap (λ x. c ∷ x) (folded_plain false rest (no_break_tail c rest free))
+    folded_character after c rest false (no_break_head c rest free)
+    ∙ ap (λ x. c ∷ x) (folded_plain false rest (no_break_tail c rest free))
 
 -- a line that no line break stands before, and the line break behind it
-later_line : (line more : List ℕ) → HasNoBreak line
-    → folded_after false (line ++ 10 ∷ more) ≡ line ++ (if keeps_break more then 10 else 32) ∷ folded_after true more
-later_line [] more free = chosen (keeps_break more)
+later_line :
+    (line more : List ℕ)
+    → HasNoBreak line
+    → folded_after false (line ++ 10 ∷ more)
+    ≡ line ++ break_or_space (keeps_break more) ∷ folded_after true more
+later_line [] more free = by_what_follows (keeps_break more)
   where
-    chosen : (keeps : Bool) → (if not keeps then 32 else 10) ∷ folded_after true more ≡ (if keeps then 10 else 32) ∷ folded_after true more
-    chosen true = refl
-    chosen false = refl
+    by_what_follows :
+        (keeps : Bool)
+        → (if not keeps then 32 else 10) ∷ folded_after true more
+        ≡ break_or_space keeps ∷ folded_after true more
+    by_what_follows true = refl
+    by_what_follows false = refl
 later_line (c ∷ line) more free =
-    step false c (line ++ 10 ∷ more) false (no_break_head c line free) ∙ ap (λ x. c ∷ x) (later_line line more (no_break_tail c line free))
+    folded_character false c (line ++ 10 ∷ more) false (no_break_head c line free)
+    ∙ ap (λ x. c ∷ x) (later_line line more (no_break_tail c line free))
+
+-- behind a line that isn't empty a line break stays by what follows it alone
+break_behind_line :
+    (after : Bool) (c : ℕ) (line more : List ℕ)
+    → break_between after (c ∷ line) more ≡ break_or_space (keeps_break more)
+break_behind_line after c line more =
+    let some : (length (c ∷ line) == 0) ≡ false = grind (arith, nat_tests) in
+    ap (λ x. break_or_space ((after && x) || keeps_break more)) some
+    ∙ by_what_follows after (keeps_break more)
+  where
+    by_what_follows :
+        (after keeps : Bool)
+        → break_or_space ((after && false) || keeps) ≡ break_or_space keeps
+    by_what_follows true keeps = refl
+    by_what_follows false keeps = refl
 
 -- a line and the line break behind it
-pub folded_line : (after stays : Bool) (line more : List ℕ) → HasNoBreak line → stays ≡ ((after && (length line == 0)) || keeps_break more)
-    → folded_after after (line ++ 10 ∷ more) ≡ line ++ (if stays then 10 else 32) ∷ folded_after true more
-folded_line after stays [] more free e = first after stays (keeps_break more) e
+pub folded_line :
+    (after : Bool) (line more : List ℕ)
+    → HasNoBreak line
+    → folded_after after (line ++ 10 ∷ more)
+    ≡ line ++ break_between after line more ∷ folded_after true more
+folded_line after [] more free = by_its_neighbours after (keeps_break more)
   where
-    first : (a s k : Bool) → s ≡ ((a && true) || k) → (if not (a || k) then 32 else 10) ∷ folded_after true more ≡ (if s then 10 else 32) ∷ folded_after true more
-    first true s k e = ap (λ x. (if x then 10 else 32) ∷ folded_after true more) (sym e)
-    first false s true e = ap (λ x. (if x then 10 else 32) ∷ folded_after true more) (sym e)
-    first false s false e = ap (λ x. (if x then 10 else 32) ∷ folded_after true more) (sym e)
-folded_line after stays (c ∷ line) more free e =
-    let some : (length (c ∷ line) == 0) ≡ false = grind (arith, nat_tests) in
-    let same : stays ≡ keeps_break more = e ∙ ap (λ x. (after && x) || keeps_break more) some ∙ dropped after (keeps_break more) in
-    step after c (line ++ 10 ∷ more) false (no_break_head c line free)
+    by_its_neighbours :
+        (after keeps : Bool)
+        → (if not (after || keeps) then 32 else 10) ∷ folded_after true more
+        ≡ break_or_space ((after && true) || keeps) ∷ folded_after true more
+    by_its_neighbours true keeps = refl
+    by_its_neighbours false true = refl
+    by_its_neighbours false false = refl
+folded_line after (c ∷ line) more free =
+    folded_character after c (line ++ 10 ∷ more) false (no_break_head c line free)
     ∙ ap (λ x. c ∷ x) (later_line line more (no_break_tail c line free))
-    ∙ ap (λ x. c ∷ (line ++ (if x then 10 else 32) ∷ folded_after true more)) (sym same)
-  where
-    dropped : (a k : Bool) → ((a && false) || k) ≡ k
-    dropped true k = refl
-    dropped false k = refl
+    ∙ ap (λ x. c ∷ (line ++ x ∷ folded_after true more)) (sym (break_behind_line after c line more))
 
 -- one line more is printed
-pub folded_more : (out mid new full : List ℕ) (after stays : Bool) (rest line more : List ℕ) → out ++ folded_after after rest ≡ full → rest ≡ line ++ 10 ∷ more → HasNoBreak line
-    → stays ≡ ((after && (length line == 0)) || keeps_break more) → mid ≡ out ++ line → new ≡ mid ++ (if stays then 10 else 32) ∷ [] → new ++ folded_after true more ≡ full
-folded_more out mid new full after stays rest line more kept cut_is free e first made =
-    ap (λ x. x ++ folded_after true more) (made ∙ ap (λ x. x ++ (if stays then 10 else 32) ∷ []) first)
+pub folded_more :
+    (out mid new full : List ℕ) (after : Bool) (rest line more : List ℕ)
+    → out ++ folded_after after rest ≡ full
+    → rest ≡ line ++ 10 ∷ more
+    → HasNoBreak line
+    → mid ≡ out ++ line
+    → new ≡ mid ++ break_between after line more ∷ []
+    → new ++ folded_after true more ≡ full
+folded_more out mid new full after rest line more kept is_cut free put put_break =
+    let between = break_between after line more in
+    ap (λ x. x ++ folded_after true more) (put_break ∙ ap (λ x. x ++ between ∷ []) put)
     ∙ append_assoc (out ++ line) _ _
     ∙ append_assoc out line _
-    ∙ ap (λ x. out ++ x) (sym (folded_line after stays line more free e))
-    ∙ ap (λ x. out ++ folded_after after x) (sym cut_is)
+    ∙ ap (λ x. out ++ x) (sym (folded_line after line more free))
+    ∙ ap (λ x. out ++ folded_after after x) (sym is_cut)
     ∙ kept
 
 -- the last line is printed
-pub folded_end : (out new full : List ℕ) (after : Bool) (rest : List ℕ) → out ++ folded_after after rest ≡ full → HasNoBreak rest → new ≡ out ++ rest → new ≡ full
-folded_end out new full after rest kept free made = made ∙ ap (λ x. out ++ x) (sym (folded_plain after rest free)) ∙ kept
+pub folded_end :
+    (out new full : List ℕ) (after : Bool) (rest : List ℕ)
+    → out ++ folded_after after rest ≡ full
+    → HasNoBreak rest
+    → new ≡ out ++ rest
+    → new ≡ full
+folded_end out new full after rest kept free put =
+    put ∙ ap (λ x. out ++ x) (sym (folded_plain after rest free)) ∙ kept
 
--- the one piece of a text without an empty line
-pub text_whole : (s t : List ℕ) (before items : List Piece) → ((i : ℕ) → i ≤ length s → LacksTextAt empty_line s i) → t ≡ folded_after false s
-    → before ≡ [] → items ≡ before ++ shown_as style.Text t ∷ [] → TextPieces s items
-text_whole s t before items lacks t_is empty made =
-    let is : items ≡ shown_as style.Text (folded_after false s) ∷ [] =
-    made ∙ ap (λ x. x ++ shown_as style.Text t ∷ []) empty ∙ ap (λ x. shown_as style.Text x ∷ []) t_is in
-    subst (TextPieces s) (sym is) (whole lacks)
+-- the one piece of a text without an empty line, put into an empty list
+pub text_whole :
+    (text shown : List ℕ) (none pieces : List Piece)
+    → ((i : ℕ) → i ≤ length text → LacksTextAt empty_line text i)
+    → shown ≡ folded text
+    → none ≡ []
+    → pieces ≡ none ++ shown_as style.Text shown ∷ []
+    → TextPieces text pieces
+text_whole text shown none pieces lacks is_folded is_empty put =
+    let are : pieces ≡ whole_pieces text =
+    put
+    ∙ ap (λ x. x ++ shown_as style.Text shown ∷ []) is_empty
+    ∙ ap (λ x. shown_as style.Text x ∷ []) is_folded in
+    subst (TextPieces text) (sym are) (whole lacks)
 
--- the two pieces of a text with an empty line
-pub text_cut : (s a b ta tb : List ℕ) (i : ℕ) (before one items : List Piece) → s ≡ a ++ (empty_line ++ b) → ((k : ℕ) → k < i → LacksTextAt empty_line s k) → length a ≡ i
-    → ta ≡ folded_after false a → tb ≡ 10 ∷ folded_after false b → before ≡ [] → one ≡ before ++ shown_as style.Text ta ∷ [] → items ≡ one ++ detail tb ∷ [] → TextPieces s items
-text_cut s a b ta tb i before one items s_is lacks len ta_is tb_is empty first second =
-    let is : items ≡ shown_as style.Text (folded_after false a) ∷ detail (10 ∷ folded_after false b) ∷ [] =
-    second ∙ ap (λ x. x ++ detail tb ∷ []) (first ∙ ap (λ x. x ++ shown_as style.Text ta ∷ []) empty)
-    ∙ ap (λ x. shown_as style.Text x ∷ detail tb ∷ []) ta_is ∙ ap (λ x. shown_as style.Text (folded_after false a) ∷ detail x ∷ []) tb_is in
-    subst (TextPieces s) (sym is) (cut a b s_is (λ k within. lacks k (omega arith)))
+-- the two pieces of a text with an empty line, put into an empty list
+pub text_cut :
+    (text before after shown shown_as_detail : List ℕ) (i : ℕ) (none one pieces : List Piece)
+    → text ≡ before ++ (empty_line ++ after)
+    → ((k : ℕ) → k < i → LacksTextAt empty_line text k)
+    → length before ≡ i
+    → shown ≡ folded before
+    → shown_as_detail ≡ 10 ∷ folded after
+    → none ≡ []
+    → one ≡ none ++ shown_as style.Text shown ∷ []
+    → pieces ≡ one ++ detail shown_as_detail ∷ []
+    → TextPieces text pieces
+text_cut text before after shown shown_as_detail i none one pieces
+    is_cut lacks ends is_folded is_folded_too is_empty put put_detail =
+    let are : pieces ≡ cut_pieces before after =
+    put_detail
+    ∙ ap (λ x. x ++ detail shown_as_detail ∷ [])
+    (put ∙ ap (λ x. x ++ shown_as style.Text shown ∷ []) is_empty)
+    ∙ ap (λ x. shown_as style.Text x ∷ detail shown_as_detail ∷ []) is_folded
+    ∙ ap (λ x. shown_as style.Text (folded before) ∷ detail x ∷ []) is_folded_too in
+    subst (TextPieces text) (sym are) (cut before after is_cut (λ k within. lacks k (omega arith)))

@@ -10,14 +10,27 @@ abbrev pub keeps_break : List ℕ → Bool
 keeps_break [] = true
 keeps_break (c ∷ rest) = c == 32 || c == 10
 
--- every line break is a space, but one that stays before what follows it and one after a line break; the flag tells that a line break stands before the text
+-- every line break is a space, but one that stays before what follows it and one after a line break;
+-- the flag tells that a line break stands before the text
 abbrev pub folded_after : Bool → List ℕ → List ℕ
 folded_after after_break [] = []
-folded_after after_break (c ∷ rest) = (if c == 10 && not (after_break || keeps_break rest) then 32 else c) ∷ folded_after (c == 10) rest
+folded_after after_break (c ∷ rest) =
+    (if c == 10 && not (after_break || keeps_break rest) then 32 else c)
+    ∷ folded_after (c == 10) rest
 
 -- a whole text, folded
 abbrev pub folded : List ℕ → List ℕ
 folded text = folded_after false text
+
+-- a line break that stays, or the space in its place
+abbrev pub break_or_space : Bool → ℕ
+break_or_space stays = if stays then 10 else 32
+
+-- what stands between a line and what follows it: a line break, where one stays there, or a space; the
+-- flag tells that a line break stands before the line
+abbrev pub break_between : Bool → List ℕ → List ℕ → ℕ
+break_between after_break line more =
+    break_or_space ((after_break && (length line == 0)) || keeps_break more)
 
 -- a text without line breaks
 abbrev pub HasNoBreak : List ℕ → Type 0
@@ -31,8 +44,22 @@ empty_line = 10 ∷ 10 ∷ []
 abbrev pub detail : List ℕ → Piece
 detail text = record { text = text; style = style.Text; detail = true }
 
--- the pieces that a text gives: all of it folded, or the part before its first empty line and as detail a line break and the rest
+-- the piece of a text without an empty line: all of it, folded
+abbrev pub whole_pieces : List ℕ → List Piece
+whole_pieces text = shown_as style.Text (folded text) ∷ []
+
+-- the pieces of a text around an empty line: what stands before it, folded, and as detail a line break
+-- and what follows it, folded
+abbrev pub cut_pieces : List ℕ → List ℕ → List Piece
+cut_pieces before after = shown_as style.Text (folded before) ∷ detail (10 ∷ folded after) ∷ []
+
+-- the pieces that a text gives, by whether it has an empty line; the first one counts
 pub data TextPieces (text : List ℕ) : List Piece → Type 0 where
-  whole : ((i : ℕ) → i ≤ length text → LacksTextAt empty_line text i) → TextPieces text (shown_as style.Text (folded text) ∷ [])
-  cut : (before after : List ℕ) → text ≡ before ++ (empty_line ++ after) → ((i : ℕ) → i < length before → LacksTextAt empty_line text i)
-      → TextPieces text (shown_as style.Text (folded before) ∷ detail (10 ∷ folded after) ∷ [])
+  whole :
+      ((i : ℕ) → i ≤ length text → LacksTextAt empty_line text i)
+      → TextPieces text (whole_pieces text)
+  cut :
+      (before after : List ℕ)
+      → text ≡ before ++ (empty_line ++ after)
+      → ((i : ℕ) → i < length before → LacksTextAt empty_line text i)
+      → TextPieces text (cut_pieces before after)

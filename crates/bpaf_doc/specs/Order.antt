@@ -12,7 +12,7 @@ takes_word (Argument name shorts metavar env help) = false
 
 -- whether a shape has a part that takes a word, apart from those inside a command or an Adjacent
 abbrev mutual
-  -- in a shape
+  -- whether a shape has one
   pub has_word : Shape → Bool
   has_word (And all) = any_has_word all
   has_word (Or all) = any_has_word all
@@ -27,12 +27,13 @@ abbrev mutual
   has_word (Shown part) = takes_word part
   has_word Skip = false
 
-  -- in a member of an And or an Or
+  -- whether a member of an And or an Or has one
   pub any_has_word : Shapes → Bool
   any_has_word none = false
   any_has_word (first then rest) = has_word first || any_has_word rest
 
--- no part that takes no word stands behind one that does; the flag tells that one stands before the shape
+-- no part that takes no word stands behind one that does; the flag tells that one stands before the
+-- shape
 abbrev mutual
   -- in a shape; the insides of a command and of an Adjacent are apart from what stands before them
   pub in_order : Shape → Bool → Bool
@@ -52,7 +53,8 @@ abbrev mutual
   -- in the members of an And: each stands behind those before it
   pub all_in_order : Shapes → Bool → Bool
   all_in_order none seen = true
-  all_in_order (first then rest) seen = in_order first seen && all_in_order rest (seen || has_word first)
+  all_in_order (first then rest) seen =
+      in_order first seen && all_in_order rest (seen || has_word first)
 
   -- in each member of an Or by itself
   pub each_in_order : Shapes → Bool → Bool

@@ -7,7 +7,8 @@ use Rattle.bpaf_doc.specs.declared.doc.Style.TheVariants as style
 
 -- the texts of the pieces in order, with the detail only in a full print
 abbrev pub printed : Bool → List Piece → List ℕ
-printed full pieces = flat_map (λ piece. piece.text) (filter (λ piece. full || not piece.detail) pieces)
+printed full pieces =
+    flat_map (λ piece. piece.text) (filter (λ piece. full || not piece.detail) pieces)
 
 -- a piece that each print shows
 abbrev pub shown_as : Style → List ℕ → Piece

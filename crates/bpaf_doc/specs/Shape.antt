@@ -1,5 +1,5 @@
 -- What a parser shows of itself, as contracts see it: a tree without addresses and room.
-use Rattle.std.specs.Prelude.{ℕ, Bool, List, [], ◌∷◌, Option, Some, None}
+use Rattle.std.specs.Prelude.{ℕ, Bool, List, [], ◌∷◌, Option, Some, None, map}
 use Rattle.bpaf_doc.specs.declared.doc.Piece.{Piece}
 use Rattle.bpaf_doc.specs.declared.item.ShortLong.{ShortLong}
 use Rattle.bpaf_doc.specs.declared.item.ShortLong.TheVariants as short_long
@@ -45,7 +45,7 @@ mutual
     Argument : Name → List ℕ → List ℕ → Option (List ℕ) → Option (List Piece) → Part
 
 infixr 5 ◌then◌
--- a list of shapes as members
+-- the members that shapes are in an And or an Or
 abbrev pub members : List Shape → Shapes
 members [] = none
 members (shape ∷ rest) = shape then members rest
@@ -62,7 +62,8 @@ part_layer (Item-F.Any metavar help anywhere) = Any metavar help anywhere
 part_layer (Item-F.Positional metavar help) = Positional metavar help
 part_layer (Item-F.Command name short help inner) = Command name short help inner.value
 part_layer (Item-F.Flag name shorts env help) = Flag (name_of name) shorts.items env help
-part_layer (Item-F.Argument name shorts metavar env help) = Argument (name_of name) shorts.items metavar env help
+part_layer (Item-F.Argument name shorts metavar env help) =
+    Argument (name_of name) shorts.items metavar env help
 
 -- one layer of a meta, with what its children show in their places
 abbrev pub shape_layer : Meta-F Part Shape → Shape
@@ -86,6 +87,10 @@ part_of = fold-Item Part Shape part_layer shape_layer
 -- the shape that a meta of the program is
 abbrev pub shape_of : Meta → Shape
 shape_of = fold-Meta Part Shape part_layer shape_layer
+
+-- the members that metas of the program are in an And or an Or
+abbrev pub members_of : List Meta → Shapes
+members_of all = members (map shape_of all)
 
 -- the first short and the first long name; none where there is neither
 abbrev pub first_names : List ℕ → List (List ℕ) → Option Name

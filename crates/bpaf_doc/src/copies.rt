@@ -7,6 +7,7 @@ use crate::meta::Meta;
 use crate::text::Text;
 use std::alloc::AllocError;
 
+/// An equal Any of these parts; refused only for want of memory.
 fn copy_any(metavar: &Doc, help: &Option<Doc>, anywhere: bool) -> Result<Item, AllocError>
     ensures { IfOk result (λ new. part_of new ≡ Any metavar.now help.now anywhere) }
 {
@@ -17,13 +18,15 @@ fn copy_any(metavar: &Doc, help: &Option<Doc>, anywhere: bool) -> Result<Item, A
     })
 }
 
+/// An equal Flag of these parts; refused only for want of memory.
 fn copy_flag(
     name: &ShortLong,
     shorts: &Vec<char>,
     env: &Option<Text>,
     help: &Option<Doc>,
 ) -> Result<Item, AllocError>
-    ensures { IfOk result (λ new. part_of new ≡ Flag (name_of name.now) shorts.now.items env.now help.now) }
+    ensures { IfOk result (λ new.
+        part_of new ≡ Flag (name_of name.now) shorts.now.items env.now help.now) }
 {
     Ok(Item::Flag {
         name: name.copy()?,
@@ -33,6 +36,7 @@ fn copy_flag(
     })
 }
 
+/// An equal Argument of these parts; refused only for want of memory.
 fn copy_argument(
     name: &ShortLong,
     shorts: &Vec<char>,
@@ -40,7 +44,9 @@ fn copy_argument(
     env: &Option<Text>,
     help: &Option<Doc>,
 ) -> Result<Item, AllocError>
-    ensures { IfOk result (λ new. part_of new ≡ Argument (name_of name.now) shorts.now.items metavar.now env.now help.now) }
+    ensures { IfOk result (λ new.
+        part_of new
+        ≡ Argument (name_of name.now) shorts.now.items metavar.now env.now help.now) }
 {
     Ok(Item::Argument {
         name: name.copy()?,
@@ -51,12 +57,14 @@ fn copy_argument(
     })
 }
 
+/// Equal names; refused only for want of memory.
 fn copy_shorts(shorts: &Vec<char>) -> Result<Vec<char>, AllocError>
     ensures { IfOk result (λ new. new.items ≡ shorts.now.items) }
 {
     Vec::from_slice(*shorts.allocator(), shorts)
 }
 
+/// A tree that shows the same, in a box of its own; refused only for want of memory.
 #[cycle(copy)]
 fn copy_boxed(meta: &Box<Meta>) -> Result<Box<Meta>, AllocError>
     ensures { IfOk result (λ new. shape_of new.value ≡ shape_of meta.now.value) }
@@ -65,6 +73,7 @@ fn copy_boxed(meta: &Box<Meta>) -> Result<Box<Meta>, AllocError>
     Ok(Box::new(*Box::allocator(meta), inner)?)
 }
 
+/// Trees that show the same, in order; refused only for want of memory.
 #[cycle(copy)]
 fn copy_all(all: &Vec<Meta>) -> Result<Vec<Meta>, AllocError>
     ensures { IfOk result (λ new. map shape_of new.items ≡ map shape_of all.now.items) }

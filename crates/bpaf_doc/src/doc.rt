@@ -25,8 +25,11 @@ pub enum Style {
 /// print shows.
 #[derive(Debug, Drop)]
 pub struct Piece {
+    /// The text, as it is printed.
     pub text: Text,
+    /// What the text stands for.
     pub style: Style,
+    /// Whether only a full print shows it.
     pub detail: bool,
 }
 
@@ -60,6 +63,7 @@ impl Model for Doc {
     ghost view = { λ d. d.pieces.items };
 }
 
+/// Equal pieces, in order; refused only for want of memory.
 fn copy_pieces(alloc: Global, pieces: &[Piece]) -> Result<Vec<Piece>, AllocError>
     ensures { IfOk result (λ all. all.items ≡ pieces.now) }
 {
@@ -70,7 +74,7 @@ fn copy_pieces(alloc: Global, pieces: &[Piece]) -> Result<Vec<Piece>, AllocError
     Ok(all)
 }
 
-/// The part before the first line break, or the whole text.
+/// What stands before the first line break, or the whole text.
 fn line_of(text: &str) -> &str
     ensures { result.now ≡ before_first (λ c. c == 10) text.now }
 {
@@ -107,7 +111,8 @@ impl Doc {
     /// Doc::from_pieces(alloc, &[("Use ", Style::Text), ("--all", Style::Literal)])?
     /// ```
     pub fn from_pieces(alloc: Global, pieces: &[(&str, Style)]) -> Result<Doc, AllocError>
-        ensures { IfOk result (λ doc. doc ≡ map (λ piece. shown_as piece.1 piece.0.now) pieces.now) }
+        ensures { IfOk result (λ doc.
+            doc ≡ map (λ piece. shown_as piece.1 piece.0.now) pieces.now) }
     {
         let mut doc = Doc::new(alloc);
         for (text, style) in pieces {
@@ -135,6 +140,7 @@ impl Doc {
         }
     }
 
+    /// Appends one piece that is no detail; refused only for want of memory.
     fn push(&mut self, style: Style, text: Text) -> Result<(), AllocError>
         ensures ok { OnOk result (self.new ≡ self.old ++ shown_as style text ∷ []) }
         ensures err { OnErr result (self.new ≡ self.old) }
@@ -147,12 +153,12 @@ impl Doc {
         Ok(())
     }
 
-    /// Appends a text: its part before the first empty line, folded, and where there is one a second
-    /// piece, detail, of a line break and what follows the empty line, folded; refused only for want
-    /// of memory.
+    /// Appends a text: its part before the first empty line, folded, and where there is one a
+    /// second piece, detail, of a line break and what follows the empty line, folded; refused only
+    /// for want of memory.
     ///
-    /// Folded, a line break stays where a space or a line break follows it, where a line break stands
-    /// before it, or at the end; every other line break becomes one space.
+    /// Folded, a line break stays where a space or a line break follows it, where a line break
+    /// stands before it, or at the end; every other line break becomes one space.
     ///
     /// ```text
     /// doc.text("Reads each\nfile.\n\nFiles are read\nin order.")?
@@ -160,7 +166,9 @@ impl Doc {
     ///
     /// appends `Reads each file.`, and as detail a line break and `Files are read in order.`
     pub fn text(&mut self, text: &str) -> Result<(), AllocError>
-        ensures ok { OnOk result ((more : List Piece) × TextPieces text.now more × (self.new ≡ self.old ++ more)) }
+        ensures ok { OnOk result ((more : List Piece)
+            × TextPieces text.now more
+            × (self.new ≡ self.old ++ more)) }
         ensures err { OnErr result (self.new ≡ self.old) }
     {
         let mut more = text_pieces(*self.pieces.allocator(), text)?;
@@ -178,7 +186,8 @@ impl Doc {
 
     /// Appends one piece: the text between two backticks; refused only for want of memory.
     pub fn term(&mut self, style: Style, text: &str) -> Result<(), AllocError>
-        ensures ok { OnOk result (self.new ≡ self.old ++ shown_as style (in_backticks text.now) ∷ []) }
+        ensures ok { OnOk result (
+            self.new ≡ self.old ++ shown_as style (in_backticks text.now) ∷ []) }
         ensures err { OnErr result (self.new ≡ self.old) }
     {
         let mut quoted = String::new(*self.pieces.allocator());
@@ -213,8 +222,8 @@ impl Doc {
         Ok(Some(doc))
     }
 
-    /// The texts of all pieces in order, of the detail pieces only where `full` is true; refused only
-    /// for want of memory.
+    /// The texts of all pieces in order, of the detail pieces only where `full` is true; refused
+    /// only for want of memory.
     pub fn monochrome(&self, full: bool) -> Result<String, AllocError>
         ensures { IfOk result (λ text. string_bytes text ≡ printed full self.now) }
     {

@@ -1,5 +1,5 @@
-ghost use Rattle.std.specs.Prelude.{◌≡◌, ◌++◌, ◌∷◌, ◌==◌, ◌&&◌, ◌||◌, [], if◌then◌else◌, IfOk, OnOk, MatchOption, length, string_bytes};
-ghost use Rattle.bpaf_doc.specs.Fold.{folded, keeps_break, HasNoBreak, TextPieces};
+ghost use Rattle.std.specs.Prelude.{◌≡◌, ◌++◌, ◌∷◌, [], IfOk, OnOk, MatchOption, string_bytes};
+ghost use Rattle.bpaf_doc.specs.Fold.{folded, keeps_break, break_between, HasNoBreak, TextPieces};
 
 use crate::doc::{Piece, Style};
 use crate::text::Text;
@@ -7,7 +7,8 @@ use std::alloc::{AllocError, Global};
 
 /// What stands before the first line break, and what after it.
 fn cut_line(text: &str) -> Option<(&str, &str)>
-    ensures { MatchOption result (HasNoBreak text.now) (λ x. (text.now ≡ x.0.now ++ 10 ∷ x.1.now) × HasNoBreak x.0.now) }
+    ensures { MatchOption result (HasNoBreak text.now) (λ cut.
+        (text.now ≡ cut.0.now ++ 10 ∷ cut.1.now) × HasNoBreak cut.0.now) }
 {
     text.split_once('\n')
 }
@@ -22,9 +23,10 @@ fn keeps_break(text: &str) -> bool
     }
 }
 
-/// Appends the line break between a line and what follows, as it is or as a space.
+/// Appends what stands between a line and what follows it: its line break, or a space for that.
 fn push_break(out: &mut String, after_break: bool, line: &str, more: &str) -> Result<(), AllocError>
-    ensures { OnOk result (string_bytes out.new ≡ string_bytes out.old ++ (if (after_break && (length line.now == 0)) || keeps_break more.now then 10 else 32) ∷ []) }
+    ensures { OnOk result (string_bytes out.new
+        ≡ string_bytes out.old ++ break_between after_break line.now more.now ∷ []) }
 {
     if (after_break && line.is_empty()) || keeps_break(more) {
         out.push('\n')
@@ -33,7 +35,7 @@ fn push_break(out: &mut String, after_break: bool, line: &str, more: &str) -> Re
     }
 }
 
-/// The text with its line breaks folded.
+/// The text with its line breaks folded; refused only for want of memory.
 fn folded(alloc: Global, text: &str) -> Result<Text, AllocError>
     ensures { IfOk result (λ t. t ≡ folded text.now) }
 {
@@ -50,7 +52,7 @@ fn folded(alloc: Global, text: &str) -> Result<Text, AllocError>
     Ok(Text::from(out))
 }
 
-/// A line break and the folded text.
+/// A line break and the folded text; refused only for want of memory.
 fn folded_below(alloc: Global, text: &str) -> Result<Text, AllocError>
     ensures { IfOk result (λ t. t ≡ 10 ∷ folded text.now) }
 {
@@ -61,7 +63,7 @@ fn folded_below(alloc: Global, text: &str) -> Result<Text, AllocError>
     Ok(Text::from(whole))
 }
 
-/// The pieces that a text gives.
+/// The pieces that a text gives; refused only for want of memory.
 pub(crate) fn text_pieces(alloc: Global, text: &str) -> Result<Vec<Piece>, AllocError>
     ensures { IfOk result (λ all. TextPieces text.now all.items) }
 {

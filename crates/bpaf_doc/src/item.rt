@@ -11,8 +11,11 @@ pub struct Metavar(pub &'static str);
 /// Unlike in bpaf it holds its long name, so it is not `Copy`.
 #[derive(Debug, Drop)]
 pub enum ShortLong {
+    /// A short name alone.
     Short(char),
+    /// A long name alone.
     Long(Text),
+    /// A short name and a long one.
     Both(char, Text),
 }
 
@@ -23,7 +26,8 @@ pub enum ShortLong {
 #[cycle(meta)]
 #[derive(Debug, Drop)]
 pub enum Item {
-    /// A word that a test of the program's own accepts; `anywhere` where it may stand behind others.
+    /// A word that a test of the program's own accepts; `anywhere` where it may stand behind
+    /// others.
     Any {
         metavar: Doc,
         help: Option<Doc>,

@@ -4,14 +4,14 @@
 //!
 //! - [`Text`] is a text that contracts see as its bytes, so that values that hold texts compare by
 //!   what they say and not by the room that they take.
-//! - [`Doc`] is a list of pieces, each a text with a [`Style`]. Its contract for the layers above: a
-//!   `Doc` is the list of the pieces that its calls appended, and `monochrome` is their text
+//! - [`Doc`] is a list of pieces, each a text with a [`Style`]. Its contract for the layers above:
+//!   a `Doc` is the list of the pieces that its calls appended, and `monochrome` is their text
 //!   (specs/Print.antt); what a text gives, with its line breaks folded, stands in specs/Fold.antt.
 //! - [`Item`] is one flag, argument, word or command as it is shown, and [`Meta`] the tree of them
-//!   that a parser shows; [`MetaInfo`] lends one. Contracts see both through `part_of` and `shape_of`
-//!   (specs/Shape.antt), data in which neither addresses nor capacities stand. The walks over a tree
-//!   gather short names and find the first item (specs/Walks.antt), and tell whether words stand
-//!   behind keys (specs/Order.antt).
+//!   that a parser shows; [`MetaInfo`] lends one. Contracts see both through `part_of` and
+//!   `shape_of` (specs/Shape.antt), data in which neither addresses nor capacities stand. The walks
+//!   over a tree gather short names and find the first item (specs/Walks.antt), and tell whether
+//!   words stand behind keys (specs/Order.antt).
 //!
 //! The source of the design is bpaf's `buffer.rs`, `item.rs` and `meta.rs`.
 #![tactic(auto)]

@@ -1,16 +1,17 @@
-ghost use Rattle.std.specs.Prelude.{◌≡◌, ◌||◌, map, false};
-ghost use Rattle.bpaf_doc.specs.Shape.{shape_of, part_of, members, Shown};
-ghost use Rattle.bpaf_doc.specs.Order.{in_order, all_in_order, each_in_order, has_word, any_has_word, takes_word};
+ghost use Rattle.std.specs.Prelude.{◌≡◌, ◌||◌, false};
+ghost use Rattle.bpaf_doc.specs.Shape.{shape_of, part_of, members_of, Shown};
+ghost use Rattle.bpaf_doc.specs.Order.{in_order, all_in_order, each_in_order};
+ghost use Rattle.bpaf_doc.specs.Order.{has_word, any_has_word, takes_word};
 
 use crate::item::Item;
 use crate::meta::Meta;
 
-/// Whether all members of an And are in order; `seen` tells whether a word was asked for before them,
-/// and then whether one was in them too.
+/// Whether all members of an And are in order; `seen` tells whether a word was asked for before
+/// them, and then whether one was in them too.
 #[cycle(order)]
 fn all_in_order(all: &[Meta], seen: &mut bool) -> bool
-    ensures order { result ≡ all_in_order (members (map shape_of all.now)) seen.old }
-    ensures seen { seen.new ≡ (seen.old || any_has_word (members (map shape_of all.now))) }
+    ensures order { result ≡ all_in_order (members_of all.now) seen.old }
+    ensures seen { seen.new ≡ (seen.old || any_has_word (members_of all.now)) }
 {
     let mut good = true;
     for member in all {
@@ -20,11 +21,12 @@ fn all_in_order(all: &[Meta], seen: &mut bool) -> bool
     good
 }
 
-/// Whether each member of an Or is in order, and whether a word was asked for before them or in one.
+/// Whether each member of an Or is in order, and whether a word was asked for before them or in
+/// one.
 #[cycle(order)]
 fn each_in_order(all: &[Meta], seen: bool) -> (bool, bool)
-    ensures order { result.0 ≡ each_in_order (members (map shape_of all.now)) seen }
-    ensures seen { result.1 ≡ (seen || any_has_word (members (map shape_of all.now))) }
+    ensures order { result.0 ≡ each_in_order (members_of all.now) seen }
+    ensures seen { result.1 ≡ (seen || any_has_word (members_of all.now)) }
 {
     let mut good = true;
     let mut seen_in_any = seen;

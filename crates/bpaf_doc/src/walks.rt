@@ -1,19 +1,22 @@
-ghost use Rattle.std.specs.Prelude.{◌≡◌, ◌++◌, ◌∷◌, OnOk, MatchOption, Some, None, map};
-ghost use Rattle.bpaf_doc.specs.Shape.{shape_of, part_of, members};
-ghost use Rattle.bpaf_doc.specs.Walks.{flag_shorts, argument_shorts, shorts_of_flags, shorts_of_arguments, parts_of_all, parts_inside, first_part};
+ghost use Rattle.std.specs.Prelude.{◌≡◌, ◌++◌, OnOk, MatchOption, Some, None};
+ghost use Rattle.bpaf_doc.specs.Shape.{shape_of, part_of, members_of, And, Shown};
+ghost use Rattle.bpaf_doc.specs.Walks.{flag_shorts, argument_shorts, first_part};
 
 use crate::item::Item;
 use crate::meta::Meta;
 use std::alloc::AllocError;
 
+/// Appends the names of all members, as `Meta::collect_shorts` those of one.
 #[cycle(collect)]
 fn collect_all(
     all: &[Meta],
     flags: &mut Vec<char>,
     arguments: &mut Vec<char>,
 ) -> Result<(), AllocError>
-    ensures flags { OnOk result (flags.new.items ≡ flags.old.items ++ shorts_of_flags (parts_of_all (members (map shape_of all.now)))) }
-    ensures arguments { OnOk result (arguments.new.items ≡ arguments.old.items ++ shorts_of_arguments (parts_of_all (members (map shape_of all.now)))) }
+    ensures flags { OnOk result (flags.new.items
+        ≡ flags.old.items ++ flag_shorts (And (members_of all.now))) }
+    ensures arguments { OnOk result (arguments.new.items
+        ≡ arguments.old.items ++ argument_shorts (And (members_of all.now))) }
 {
     for member in all {
         member.collect_shorts(flags, arguments)?;
@@ -30,8 +33,10 @@ impl Item {
         flags: &mut Vec<char>,
         arguments: &mut Vec<char>,
     ) -> Result<(), AllocError>
-        ensures flags { OnOk result (flags.new.items ≡ flags.old.items ++ shorts_of_flags (part_of self.now ∷ parts_inside (part_of self.now))) }
-        ensures arguments { OnOk result (arguments.new.items ≡ arguments.old.items ++ shorts_of_arguments (part_of self.now ∷ parts_inside (part_of self.now))) }
+        ensures flags { OnOk result (flags.new.items
+            ≡ flags.old.items ++ flag_shorts (Shown (part_of self.now))) }
+        ensures arguments { OnOk result (arguments.new.items
+            ≡ arguments.old.items ++ argument_shorts (Shown (part_of self.now))) }
     {
         match self {
             Item::Flag { shorts, .. } => flags.extend_from_slice(shorts),
@@ -54,8 +59,10 @@ impl Meta {
         flags: &mut Vec<char>,
         arguments: &mut Vec<char>,
     ) -> Result<(), AllocError>
-        ensures flags { OnOk result (flags.new.items ≡ flags.old.items ++ flag_shorts (shape_of self.now)) }
-        ensures arguments { OnOk result (arguments.new.items ≡ arguments.old.items ++ argument_shorts (shape_of self.now)) }
+        ensures flags { OnOk result (flags.new.items
+            ≡ flags.old.items ++ flag_shorts (shape_of self.now)) }
+        ensures arguments { OnOk result (arguments.new.items
+            ≡ arguments.old.items ++ argument_shorts (shape_of self.now)) }
     {
         match self {
             Meta::And(all) => collect_all(all, flags, arguments),
@@ -76,7 +83,9 @@ impl Meta {
     /// The item that stands first: of members that are all wanted that of the first one, of members
     /// to choose from none (bpaf's `first_item`).
     pub fn first_item(&self) -> Option<&Item>
-        ensures { MatchOption result (first_part (shape_of self.now) ≡ None) (λ item. first_part (shape_of self.now) ≡ Some (part_of item.now)) }
+        ensures { MatchOption result
+            (first_part (shape_of self.now) ≡ None)
+            (λ item. first_part (shape_of self.now) ≡ Some (part_of item.now)) }
     {
         match self {
             Meta::And(all) => match all.first() {

@@ -6,22 +6,25 @@ use Rattle.bpaf_line.specs.Situation.{Situation}
 use Rattle.bpaf_line.specs.declared.error.Error.{Error}
 use Rattle.bpaf_laws.specs.Reading.{Readings, Outcome}
 use Rattle.bpaf_laws.specs.Laws.{Lawful}
-use Rattle.bpaf_laws.specs.Repeat.{ManyOutcome, SomeOutcome, CollectOutcome, IsBounded}
+use Rattle.bpaf_laws.specs.Repeat.{ManyOutcome, SomeOutcome, CollectOutcome, CollectIsBounded, IsBounded}
 use Rattle.bpaf_laws.proofs.RepeatLaws.{list_bounded}
 
-module _ {T : Type 0} {inner : Outcome T} {reads : Readings T} (law : Lawful T inner reads) (catches : Bool) (s t : Situation) where
+module _ {T : Type 0} {inner : Outcome T} {reads : Readings T} (law : Lawful T inner reads)
+    (catches : Bool) (s t : Situation) where
   -- so it is for many
-  pub many_bounded : (r : Result (Vec T) Error) → ManyOutcome inner catches s r t → IfOk r (λ values. IsBounded inner s values.items)
+  pub many_bounded : (r : Result (Vec T) Error) → ManyOutcome inner catches s r t
+      → IfOk r (λ values. IsBounded inner s values.items)
   many_bounded (Ok values) o = list_bounded law catches s t values.items o
   many_bounded (Err e) o = tt
 
   -- for some
-  pub some_bounded : (message : List ℕ) (r : Result (Vec T) Error) → SomeOutcome inner catches message s r t → IfOk r (λ values. IsBounded inner s values.items)
+  pub some_bounded : (message : List ℕ) (r : Result (Vec T) Error)
+      → SomeOutcome inner catches message s r t → IfOk r (λ values. IsBounded inner s values.items)
   some_bounded message (Ok values) o = list_bounded law catches s t values.items o.0
   some_bounded message (Err e) o = tt
 
   -- for collect
-  pub collect_bounded : {C : Type 0} (fills : List T → C → Type 0) (r : Result C Error) → CollectOutcome inner catches fills s r t
-      → IfOk r (λ filled. (values : List T) × fills values filled × IsBounded inner s values)
-  collect_bounded fills (Ok v) o = (o.0, o.2, list_bounded law catches s t o.0 o.1)
+  pub collect_bounded : {C : Type 0} (fills : List T → C → Type 0) (r : Result C Error)
+      → CollectOutcome inner catches fills s r t → CollectIsBounded inner catches fills s r t
+  collect_bounded fills (Ok v) o = (o.0, o.1, o.2, list_bounded law catches s t o.0 o.1)
   collect_bounded fills (Err e) o = tt

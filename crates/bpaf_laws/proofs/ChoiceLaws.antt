@@ -14,14 +14,18 @@ no_value : {T : Type 0} (v : T) (e : Error) → ◌≡◌ {A = Result T Error} (
 no_value v e same = cc
 
 -- a reading stays one under conflict marks
-reads_conflicts : {T : Type 0} (reads : Readings T) (s m loser : Situation) (winner : ℕ) (v : T) (t : Situation) → ConflictsSaved m loser winner t → Reads T reads s v m → Reads T reads s v t
+reads_conflicts : {T : Type 0} (reads : Readings T) (s m loser : Situation) (winner : ℕ) (v : T)
+    (t : Situation) → ConflictsSaved m loser winner t → Reads T reads s v m → Reads T reads s v t
 reads_conflicts reads s m loser winner v t saved read = record {
   keeps = keeps_conflicts s m loser winner t saved read.keeps;
   closed = closes_conflicts s m loser winner t saved read.closed;
-  reading = subst (λ share. reads s.context share v) (sym (newly_conflicts s m loser winner t saved)) read.reading;
+  reading =
+      subst (λ share. reads s.context share v) (sym (newly_conflicts s m loser winner t saved))
+      read.reading;
 }
 
-module _ {T : Type 0} {first second : Outcome T} {rf rs : Readings T} (lf : Lawful T first rf) (ls : Lawful T second rs) (s : Situation) where
+module _ {T : Type 0} {first second : Outcome T} {rf rs : Readings T} (lf : Lawful T first rf)
+    (ls : Lawful T second rs) (s : Situation) where
   -- a reading of the first branch
   of_first : (v : T) (t : Situation) → Reads T rf s v t → Reads T (ChoiceReads rf rs) s v t
   of_first v t r = record { keeps = r.keeps; closed = r.closed; reading = inl r.reading }
@@ -31,37 +35,59 @@ module _ {T : Type 0} {first second : Outcome T} {rf rs : Readings T} (lf : Lawf
   of_second v t r = record { keeps = r.keeps; closed = r.closed; reading = inr r.reading }
 
   -- the first branch's answer is a reading
-  from_first : (a : Result T Error) (sa : Situation) (v : T) (t : Situation) → first s a sa → Ok v ≡ a → t ≡ sa → Reads T (ChoiceReads rf rs) s v t
-  from_first a sa v t ran answer left = of_first v t (lf.ok s t v (subst (λ w. first s w t) (sym answer) (subst (λ w. first s a w) (sym left) ran)))
+  from_first : (a : Result T Error) (sa : Situation) (v : T) (t : Situation) → first s a sa
+      → Ok v ≡ a → t ≡ sa → Reads T (ChoiceReads rf rs) s v t
+  from_first a sa v t ran answer left =
+      of_first v t
+      (lf.ok s t v (subst (λ w. first s w t) (sym answer)
+      (subst (λ w. first s a w) (sym left) ran)))
 
   -- so is the second's
-  from_second : (b : Result T Error) (sb : Situation) (v : T) (t : Situation) → second s b sb → Ok v ≡ b → t ≡ sb → Reads T (ChoiceReads rf rs) s v t
-  from_second b sb v t ran answer left = of_second v t (ls.ok s t v (subst (λ w. second s w t) (sym answer) (subst (λ w. second s b w) (sym left) ran)))
+  from_second : (b : Result T Error) (sb : Situation) (v : T) (t : Situation) → second s b sb
+      → Ok v ≡ b → t ≡ sb → Reads T (ChoiceReads rf rs) s v t
+  from_second b sb v t ran answer left =
+      of_second v t
+      (ls.ok s t v (subst (λ w. second s w t) (sym answer)
+      (subst (λ w. second s b w) (sym left) ran)))
 
   -- and that of the one which won
-  winner_ok : (x : T) (sa : Situation) (y : T) (sb : Situation) (one : Bool) (place : Option ℕ) (v : T) (t : Situation)
-      → first s (Ok x) sa → second s (Ok y) sb → Winner x sa y sb one place (Ok v) t → Reads T (ChoiceReads rf rs) s v t
+  winner_ok : (x : T) (sa : Situation) (y : T) (sb : Situation) (one : Bool) (place : Option ℕ)
+      (v : T) (t : Situation)
+      → first s (Ok x) sa → second s (Ok y) sb → Winner x sa y sb one place (Ok v) t
+      → Reads T (ChoiceReads rf rs) s v t
   winner_ok x sa y sb one None v t f g won = from_first (Ok x) sa v t f won.0 won.1
   winner_ok x sa y sb true (Some place) v t f g won =
-      of_first v t (reads_conflicts rf s sa sb place v t won.1 (lf.ok s sa v (subst (λ r. first s r sa) (sym won.0) f)))
+      of_first v t (reads_conflicts rf s sa sb place v t won.1
+      (lf.ok s sa v (subst (λ r. first s r sa) (sym won.0) f)))
   winner_ok x sa y sb false (Some place) v t f g won =
-      of_second v t (reads_conflicts rs s sb sa place v t won.1 (ls.ok s sb v (subst (λ r. second s r sb) (sym won.0) g)))
+      of_second v t (reads_conflicts rs s sb sa place v t won.1
+      (ls.ok s sb v (subst (λ r. second s r sb) (sym won.0) g)))
 
   -- a value at equal depths
-  equal_ok : (a : Result T Error) (sa : Situation) (b : Result T Error) (sb : Situation) (v : T) (t : Situation)
-      → first s a sa → second s b sb → EqualDepths s a sa b sb (Ok v) t → Reads T (ChoiceReads rf rs) s v t
+  equal_ok : (a : Result T Error) (sa : Situation) (b : Result T Error) (sb : Situation) (v : T)
+      (t : Situation)
+      → first s a sa → second s b sb → EqualDepths s a sa b sb (Ok v) t
+      → Reads T (ChoiceReads rf rs) s v t
   equal_ok (Ok x) sa (Ok y) sb v t f g o =
-      ⊎_elim (λ neither. from_first (Ok x) sa v t f neither.1 neither.2) (λ won. winner_ok x sa y sb won.1.0 won.1.1 v t f g won.1.3) o
-  equal_ok (Ok x) sa (Err e) sb v t f g o = ⊎_elim (λ wrong. absurd (no_value v e wrong.1)) (λ right. from_first (Ok x) sa v t f right.1 right.2) o
-  equal_ok (Err e) sa (Ok y) sb v t f g o = ⊎_elim (λ wrong. absurd (no_value v e wrong.1)) (λ right. from_second (Ok y) sb v t g right.1 right.2) o
+      ⊎_elim (λ neither. from_first (Ok x) sa v t f neither.1 neither.2)
+      (λ won. winner_ok x sa y sb won.1.0 won.1.1 v t f g won.1.3) o
+  equal_ok (Ok x) sa (Err e) sb v t f g o =
+      ⊎_elim (λ wrong. absurd (no_value v e wrong.1))
+      (λ right. from_first (Ok x) sa v t f right.1 right.2) o
+  equal_ok (Err e) sa (Ok y) sb v t f g o =
+      ⊎_elim (λ wrong. absurd (no_value v e wrong.1))
+      (λ right. from_second (Ok y) sb v t g right.1 right.2) o
   equal_ok (Err e) sa (Err d) sb v t f g o = absurd (no_value v o.0.0 o.0.2)
 
   -- a value of the table
-  chosen_ok : (a : Result T Error) (sa : Situation) (b : Result T Error) (sb : Situation) (v : T) (t : Situation)
-      → first s a sa → second s b sb → Chosen s a sa b sb (Ok v) t → Reads T (ChoiceReads rf rs) s v t
+  chosen_ok : (a : Result T Error) (sa : Situation) (b : Result T Error) (sb : Situation) (v : T)
+      (t : Situation)
+      → first s a sa → second s b sb → Chosen s a sa b sb (Ok v) t
+      → Reads T (ChoiceReads rf rs) s v t
   chosen_ok a sa b sb v t f g o = ⊎_elim
       (λ deeper. from_first a sa v t f deeper.1 deeper.2)
-      (λ rest. ⊎_elim (λ deeper. from_second b sb v t g deeper.1 deeper.2) (λ equal. equal_ok a sa b sb v t f g equal.1) rest)
+      (λ rest. ⊎_elim (λ deeper. from_second b sb v t g deeper.1 deeper.2)
+      (λ equal. equal_ok a sa b sb v t f g equal.1) rest)
       o
 
   -- what the first branch keeps
@@ -73,34 +99,43 @@ module _ {T : Type 0} {first second : Outcome T} {rf rs : Readings T} (lf : Lawf
   keeps_second b sb t ran left = subst (Keeps s) (sym left) (keeps_of ls s b sb ran)
 
   -- the branch that won has a value
-  not_winner : (x : T) (sa : Situation) (y : T) (sb : Situation) (one : Bool) (place : Option ℕ) (e : Error) (t : Situation) → Winner x sa y sb one place (Err e) t → ⊥
+  not_winner : (x : T) (sa : Situation) (y : T) (sb : Situation) (one : Bool) (place : Option ℕ)
+      (e : Error) (t : Situation) → Winner x sa y sb one place (Err e) t → ⊥
   not_winner x sa y sb one None e t won = no_value x e (sym won.0)
   not_winner x sa y sb true (Some place) e t won = no_value x e (sym won.0)
   not_winner x sa y sb false (Some place) e t won = no_value y e (sym won.0)
 
   -- a refusal at equal depths leaves all as before
-  equal_err : (a : Result T Error) (sa : Situation) (b : Result T Error) (sb : Situation) (e : Error) (t : Situation) → EqualDepths s a sa b sb (Err e) t → t ≡ s
+  equal_err : (a : Result T Error) (sa : Situation) (b : Result T Error) (sb : Situation)
+      (e : Error) (t : Situation) → EqualDepths s a sa b sb (Err e) t → t ≡ s
   equal_err (Ok x) sa (Ok y) sb e t o =
-      ⊎_elim (λ neither. absurd (no_value x e (sym neither.1))) (λ won. absurd (not_winner x sa y sb won.1.0 won.1.1 e t won.1.3)) o
-  equal_err (Ok x) sa (Err f) sb e t o = ⊎_elim (λ wrong. wrong.2) (λ right. absurd (no_value x e (sym right.1))) o
-  equal_err (Err f) sa (Ok y) sb e t o = ⊎_elim (λ wrong. wrong.2) (λ right. absurd (no_value y e (sym right.1))) o
+      ⊎_elim (λ neither. absurd (no_value x e (sym neither.1)))
+      (λ won. absurd (not_winner x sa y sb won.1.0 won.1.1 e t won.1.3)) o
+  equal_err (Ok x) sa (Err f) sb e t o =
+      ⊎_elim (λ wrong. wrong.2) (λ right. absurd (no_value x e (sym right.1))) o
+  equal_err (Err f) sa (Ok y) sb e t o =
+      ⊎_elim (λ wrong. wrong.2) (λ right. absurd (no_value y e (sym right.1))) o
   equal_err (Err f) sa (Err d) sb e t o = o.1
 
   -- a refusal of the table
-  chosen_err : (a : Result T Error) (sa : Situation) (b : Result T Error) (sb : Situation) (e : Error) (t : Situation)
+  chosen_err : (a : Result T Error) (sa : Situation) (b : Result T Error) (sb : Situation)
+      (e : Error) (t : Situation)
       → first s a sa → second s b sb → Chosen s a sa b sb (Err e) t → Keeps s t
   chosen_err a sa b sb e t f g o = ⊎_elim
       (λ deeper. keeps_first a sa t f deeper.2)
-      (λ rest. ⊎_elim (λ deeper. keeps_second b sb t g deeper.2) (λ equal. keeps_same s t (equal_err a sa b sb e t equal.1)) rest)
+      (λ rest. ⊎_elim (λ deeper. keeps_second b sb t g deeper.2)
+      (λ equal. keeps_same s t (equal_err a sa b sb e t equal.1)) rest)
       o
 
 -- choices keep to the laws
-pub choice_lawful : {T : Type 0} {first second : Outcome T} {rf rs : Readings T} → Lawful T first rf → Lawful T second rs
+pub choice_lawful : {T : Type 0} {first second : Outcome T} {rf rs : Readings T} → Lawful T first rf
+    → Lawful T second rs
     → Lawful T (ChoiceOutcome first second) (ChoiceReads rf rs)
 choice_lawful lf ls = record {
   ok = λ s t v o. chosen_ok lf ls s o.a o.sa o.b o.sb v t o.first_ran o.second_ran o.chosen;
   err = λ s t e o. ⊎_elim
-      (λ ran. chosen_err lf ls s ran.a ran.sa ran.b ran.sb e t ran.first_ran ran.second_ran ran.chosen)
+      (λ ran. chosen_err lf ls s ran.a ran.sa ran.b ran.sb e t ran.first_ran ran.second_ran
+      ran.chosen)
       (λ want. keeps_same s t want.1)
       o;
 }

@@ -9,14 +9,19 @@ use Rattle.bpaf_laws.proofs.PureLaws.{pure_lawful}
 use Rattle.bpaf_laws.specs.Choices.{Nested, ChoicesOutcome, ChoicesReads, no_choice}
 
 -- a choice of a lawful outcome and of lawful parsers is lawful
-from_lawful : {T P : Type 0} (outcome : P → Outcome T) (reads : P → Readings T) (before : Outcome T) (read : Readings T) (ps : List P)
-    → ((p : P) → Lawful T (outcome p) (reads p)) → Lawful T before read → Lawful T (Nested ChoiceOutcome outcome before ps) (Nested ChoiceReads reads read ps)
+from_lawful : {T P : Type 0} (outcome : P → Outcome T) (reads : P → Readings T) (before : Outcome T)
+    (read : Readings T) (ps : List P)
+    → ((p : P) → Lawful T (outcome p) (reads p)) → Lawful T before read
+    → Lawful T (Nested ChoiceOutcome outcome before ps) (Nested ChoiceReads reads read ps)
 from_lawful outcome reads before read [] each law = law
 from_lawful outcome reads before read (p ∷ ps) each law =
-    from_lawful outcome reads (ChoiceOutcome before (outcome p)) (ChoiceReads read (reads p)) ps each (choice_lawful law (each p))
+    from_lawful outcome reads (ChoiceOutcome before (outcome p)) (ChoiceReads read (reads p)) ps
+    each (choice_lawful law (each p))
 
 -- so is a choice of lawful parsers alone
-pub choices_lawful : {T P : Type 0} (outcome : P → Outcome T) (reads : P → Readings T) (ps : List P) → ((p : P) → Lawful T (outcome p) (reads p))
+pub choices_lawful : {T P : Type 0} (outcome : P → Outcome T) (reads : P → Readings T) (ps : List P)
+    → ((p : P) → Lawful T (outcome p) (reads p))
     → Lawful T (ChoicesOutcome outcome ps) (ChoicesReads reads ps)
 choices_lawful outcome reads [] each = pure_lawful (GivesRefusal no_choice)
-choices_lawful outcome reads (p ∷ ps) each = from_lawful outcome reads (outcome p) (reads p) ps each (each p)
+choices_lawful outcome reads (p ∷ ps) each =
+    from_lawful outcome reads (outcome p) (reads p) ps each (each p)

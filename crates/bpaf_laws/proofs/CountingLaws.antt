@@ -20,13 +20,16 @@ join_at false false true a b c p q e = absurd (true≢false (sym p))
 join_at false false false a b c p q e = e
 
 -- two sets that have no number in common have together as many as the set that they make
-pub count_below-joined : (whole f g : ℕ → Bool) (n : ℕ) → ((p : ℕ) → whole p ≡ (f p || g p)) → ((p : ℕ) → (f p && g p) ≡ false)
+pub count_below-joined : (whole f g : ℕ → Bool) (n : ℕ) → ((p : ℕ) → whole p ≡ (f p || g p))
+    → ((p : ℕ) → (f p && g p) ≡ false)
     → count_below whole n ≡ count_below f n + count_below g n
 count_below-joined whole f g zero all apart = refl
-count_below-joined whole f g (suc n) all apart = join_at (whole n) (f n) (g n) _ _ _ (all n) (apart n) (count_below-joined whole f g n all apart)
+count_below-joined whole f g (suc n) all apart =
+    join_at (whole n) (f n) (g n) _ _ _ (all n) (apart n) (count_below-joined whole f g n all apart)
 
 -- at one place: what is present at first is present still, or newly taken
-open_at : (ts tt is it : Bool) → (ts ≡ true → tt ≡ true) → ((tt && not ts) ≡ true → (is && not ts) ≡ true) → (it ≡ true → is ≡ true)
+open_at : (ts tt is it : Bool) → (ts ≡ true → tt ≡ true)
+    → ((tt && not ts) ≡ true → (is && not ts) ≡ true) → (it ≡ true → is ≡ true)
     → (is ≡ true → it ≡ false → tt ≡ true) → (is && not ts) ≡ ((it && not tt) || (tt && not ts))
 open_at true true true true a b c d = refl
 open_at true true true false a b c d = refl
@@ -51,21 +54,28 @@ open_apart_at ts false false = refl
 -- what is present at first is present still, or newly taken
 open_joins : (s t : Situation) → Keeps s t → Closes s t → Joins (is_open t) (newly s t) (is_open s)
 open_joins s t k c = record {
-  all = λ p. open_at (is_taken s p) (is_taken t p) (in_scope s p) (in_scope t p) (k.stays p) (k.fresh p) (k.narrows p) (c p);
+  all =
+      λ p. open_at (is_taken s p) (is_taken t p) (in_scope s p) (in_scope t p) (k.stays p)
+      (k.fresh p) (k.narrows p) (c p);
   apart = λ p. open_apart_at (is_taken s p) (is_taken t p) (in_scope t p);
 }
 
 -- the count of present places falls by the number of newly taken ones
-pub open_count-falls : (s t : Situation) → Keeps s t → Closes s t → open_count s ≡ open_count t + taken_count s t
+pub open_count-falls : (s t : Situation) → Keeps s t → Closes s t
+    → open_count s ≡ open_count t + taken_count s t
 open_count-falls s t k c =
     let joins = open_joins s t k c in
-    let same : length t.context.line ≡ length s.context.line = ap (λ context. length context.line) k.context in
-    count_below-joined (is_open s) (is_open t) (newly s t) (length s.context.line) joins.all joins.apart
+    let same : length t.context.line ≡ length s.context.line = ap (λ context. length context.line)
+    k.context in
+    count_below-joined (is_open s) (is_open t) (newly s t) (length s.context.line) joins.all
+    joins.apart
     ∙ ap (λ n. count_below (is_open t) n + taken_count s t) (sym same)
 
 -- so it does for every parser that keeps to the laws
-pub lawful_falls : {T : Type 0} {outcome : Outcome T} {reads : Readings T} → Lawful T outcome reads → CountFalls outcome
-lawful_falls law s t v answered = let read = law.ok s t v answered in open_count-falls s t read.keeps read.closed
+pub lawful_falls : {T : Type 0} {outcome : Outcome T} {reads : Readings T} → Lawful T outcome reads
+    → CountFalls outcome
+lawful_falls law s t v answered =
+    let read = law.ok s t v answered in open_count-falls s t read.keeps read.closed
 
 -- a count of nothing counts neither this number nor any before it
 none_at : (b : Bool) (n : ℕ) → (if b then (n + 1) else n) ≡ 0 → (b ≡ false) × (n ≡ 0)
@@ -87,23 +97,27 @@ some_below : (set : ℕ → Bool) (n : ℕ) → 0 < count_below set n → HasPla
 some_below set zero some = absurd (omega arith)
 some_below set (suc n) some = at (set n) refl some (λ fewer. some_below set n fewer)
   where
-    at : (b : Bool) → set n ≡ b → 0 < (if b then (count_below set n + 1) else (count_below set n)) → (0 < count_below set n → HasPlace set) → HasPlace set
+    at : (b : Bool) → set n ≡ b → 0 < (if b then (count_below set n + 1) else (count_below set n))
+        → (0 < count_below set n → HasPlace set) → HasPlace set
     at true here more below = (n, here)
     at false lacking more below = below more
 
 -- an evaluation that left fewer present places took one
-pub fewer_took : (s t : Situation) → Keeps s t → Closes s t → open_count t < open_count s → HasPlace (newly s t)
+pub fewer_took : (s t : Situation) → Keeps s t → Closes s t → open_count t < open_count s
+    → HasPlace (newly s t)
 fewer_took s t k c fewer =
     let falls = open_count-falls s t k c in
     some_below (newly s t) (length s.context.line) (omega arith)
 
 -- an evaluation that left as many present places took none
-pub same_took_none : (s t : Situation) → Keeps s t → Closes s t → open_count s ≤ open_count t → IsEmptyShare (newly s t)
+pub same_took_none : (s t : Situation) → Keeps s t → Closes s t → open_count s ≤ open_count t
+    → IsEmptyShare (newly s t)
 same_took_none s t k c same p =
     let falls = open_count-falls s t k c in
     let none : taken_count s t ≡ 0 = omega arith in
     ⊎_elim
     (λ within. none_below (newly s t) (length s.context.line) none p within)
     (λ (beyond : length s.context.line ≤ p).
-    false_from_ne_true (newly s t p) (λ new. let within = open_in_line s p (k.fresh p new) in absurd (omega arith)))
+    false_from_ne_true (newly s t p)
+    (λ new. let within = open_in_line s p (k.fresh p new) in absurd (omega arith)))
     (cases_lt p (length s.context.line))

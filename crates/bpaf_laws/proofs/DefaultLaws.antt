@@ -1,4 +1,5 @@
--- Parsers that have something in place of a value that isn't there keep to the laws where the inner one does.
+-- Parsers that have something in place of a value that isn't there keep to the laws where the inner
+-- one does.
 use Rattle.std.specs.Prelude.{Bool, true, Ok, Err, Option, Some, None}
 use Rattle.std.proofs.Common.{⊎_elim, inl, inr, true≢false}
 use Rattle.bpaf_line.specs.Situation.{Situation}
@@ -11,7 +12,8 @@ use Rattle.bpaf_laws.specs.Default.{Gives, OptionalReads, FallbackReads, Fallbac
 
 module _ {T : Type 0} {inner : Outcome T} {reads : Readings T} (law : Lawful T inner reads) where
   -- what an optional value answers is a reading
-  optional_read : (catches : Bool) (s t : Situation) (v : Option T) → StepOutcome inner catches true s (Ok v) t → Reads (Option T) (OptionalReads reads) s v t
+  optional_read : (catches : Bool) (s t : Situation) (v : Option T)
+      → StepOutcome inner catches true s (Ok v) t → Reads (Option T) (OptionalReads reads) s v t
   optional_read catches s t (Some v) o =
       let read = law.ok s t v o.0 in
       record { keeps = read.keeps; closed = read.closed; reading = read.reading }
@@ -22,27 +24,34 @@ module _ {T : Type 0} {inner : Outcome T} {reads : Readings T} (law : Lawful T i
       o
 
   -- what a step's error keeps
-  pub step_refused : (catches first : Bool) (s t : Situation) (e : Error) → StepOutcome inner catches first s (Err e) t → Keeps s t
-  step_refused catches first s t e o = ⊎_elim (λ failed. law.err s t e failed.0) (λ memory. keeps_same s t memory.1) o
+  pub step_refused : (catches first : Bool) (s t : Situation) (e : Error)
+      → StepOutcome inner catches first s (Err e) t → Keeps s t
+  step_refused catches first s t e o =
+      ⊎_elim (λ failed. law.err s t e failed.0) (λ memory. keeps_same s t memory.1) o
 
   -- optional values keep to the laws
-  pub optional_lawful : (catches : Bool) → Lawful (Option T) (StepOutcome inner catches true) (OptionalReads reads)
+  pub optional_lawful : (catches : Bool)
+      → Lawful (Option T) (StepOutcome inner catches true) (OptionalReads reads)
   optional_lawful catches = record {
     ok = λ s t v o. optional_read catches s t v o;
     err = λ s t e o. step_refused catches true s t e o;
   }
 
   -- what a fallback answers is a reading
-  fallback_read : (gives : Gives T) (s t : Situation) (v : T) → FallbackOutcome inner gives s (Ok v) t → Reads T (FallbackReads reads gives) s v t
+  fallback_read : (gives : Gives T) (s t : Situation) (v : T)
+      → FallbackOutcome inner gives s (Ok v) t → Reads T (FallbackReads reads gives) s v t
   fallback_read gives s t v o =
       ⊎_elim
-      (λ ran. let read = law.ok s t v ran in record { keeps = read.keeps; closed = read.closed; reading = inl read.reading })
+      (λ ran. let read = law.ok s t v ran
+      in record { keeps = read.keeps; closed = read.closed; reading = inl read.reading })
       (λ fell. reads_same (FallbackReads reads gives) s t v fell.0.1 (inr (newly_none s, fell.1)))
       o
 
   -- fallbacks keep to the laws
-  pub fallback_lawful : (gives : Gives T) → Lawful T (FallbackOutcome inner gives) (FallbackReads reads gives)
+  pub fallback_lawful : (gives : Gives T)
+      → Lawful T (FallbackOutcome inner gives) (FallbackReads reads gives)
   fallback_lawful gives = record {
     ok = λ s t v o. fallback_read gives s t v o;
-    err = λ s t e o. ⊎_elim (λ refused. keeps_same s t refused.1) (λ fell. keeps_same s t fell.0.1) o;
+    err =
+        λ s t e o. ⊎_elim (λ refused. keeps_same s t refused.1) (λ fell. keeps_same s t fell.0.1) o;
   }

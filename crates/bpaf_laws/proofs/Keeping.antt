@@ -1,4 +1,5 @@
--- How what evaluations keep is put together. No combinator builds a `Keeps` of its own: it goes through
+-- How what evaluations keep is put together. No combinator builds a `Keeps` of its own: it goes
+-- through
 -- these lemmas and one for each call of a state, so that a clause can be added to the laws here.
 use Rattle.std.specs.Prelude.{◌≡◌, ◌≢◌, ℕ, ◌+◌, ◌==◌, Bool, true, false, not, ◌&&◌, ◌||◌, [], ◌++◌, Result, Ok, Err, Option, None, refl}
 use Rattle.std.proofs.Common.{sym, ◌∙◌, ap, subst, append_assoc, append-nil, arith, ⊎_elim, true≢false}
@@ -12,7 +13,8 @@ use Rattle.bpaf_laws.specs.Reading.{Readings, Outcome, Joins, IsEmptyShare, IsPl
 use Rattle.bpaf_laws.specs.Laws.{Keeps, Closes, Reads, Lawful, newly}
 
 -- what an evaluation keeps, whatever it answers
-pub keeps_of : {T : Type 0} {outcome : Outcome T} {reads : Readings T} → Lawful T outcome reads → (s : Situation) (r : Result T Error) (t : Situation) → outcome s r t → Keeps s t
+pub keeps_of : {T : Type 0} {outcome : Outcome T} {reads : Readings T} → Lawful T outcome reads
+    → (s : Situation) (r : Result T Error) (t : Situation) → outcome s r t → Keeps s t
 keeps_of law s (Ok v) t o = (law.ok s t v o).keeps
 keeps_of law s (Err e) t o = law.err s t e o
 
@@ -47,7 +49,8 @@ pub closes_take_both : (s : Situation) (p q : ℕ) → Closes s (take_place (tak
 closes_take_both s p q r within outside = absurd (true≢false (sym within ∙ outside))
 
 -- at one place: what is newly taken in two steps was open at first
-fresh_at : (ts tm tt ss sm : Bool) → ((tm && not ts) ≡ true → (ss && not ts) ≡ true) → ((tt && not tm) ≡ true → (sm && not tm) ≡ true)
+fresh_at : (ts tm tt ss sm : Bool) → ((tm && not ts) ≡ true → (ss && not ts) ≡ true)
+    → ((tt && not tm) ≡ true → (sm && not tm) ≡ true)
     → (sm ≡ true → ss ≡ true) → (tt && not ts) ≡ true → (ss && not ts) ≡ true
 fresh_at true tm true ss sm first second narrows new = cc
 fresh_at true tm false ss sm first second narrows new = cc
@@ -62,9 +65,17 @@ pub keeps_trans : (s m t : Situation) → Keeps s m → Keeps m t → Keeps s t
 keeps_trans s m t a b = record {
   context = b.context ∙ a.context;
   stays = λ p taken. b.stays p (a.stays p taken);
-  fresh = λ p. fresh_at (is_taken s p) (is_taken m p) (is_taken t p) (in_scope s p) (in_scope m p) (a.fresh p) (b.fresh p) (a.narrows p);
+  fresh =
+      λ p. fresh_at (is_taken s p) (is_taken m p) (is_taken t p) (in_scope s p) (in_scope m p)
+      (a.fresh p) (b.fresh p) (a.narrows p);
   narrows = λ p within. a.narrows p (b.narrows p within);
-  path = record { more = a.path.more ++ b.path.more; is = b.path.is ∙ (ap (λ path. path ++ b.path.more) a.path.is ∙ append_assoc s.path a.path.more b.path.more) };
+  path =
+      record {
+        more = a.path.more ++ b.path.more;
+        is =
+            b.path.is
+            ∙ (ap (λ path. path ++ b.path.more) a.path.is ∙ append_assoc s.path a.path.more b.path.more);
+      };
 }
 
 -- a place left outside by either is taken after both
@@ -76,7 +87,8 @@ closes_trans s m t k a b p inside outside = closes_at (in_scope m p) refl
     closes_at false e = k.stays p (a p inside e)
 
 -- at one place: what is newly taken in two steps is newly taken in one of them
-joined_at : (x y z : Bool) → (x ≡ true → y ≡ true) → (y ≡ true → z ≡ true) → (z && not x) ≡ ((y && not x) || (z && not y))
+joined_at : (x y z : Bool) → (x ≡ true → y ≡ true) → (y ≡ true → z ≡ true)
+    → (z && not x) ≡ ((y && not x) || (z && not y))
 joined_at true true true f g = refl
 joined_at true true false f g = refl
 joined_at true false z f g = absurd (true≢false (sym (f refl)))
@@ -97,33 +109,50 @@ apart_at false false true = refl
 apart_at false false false = refl
 
 -- what two evaluations take, one after the other, is what both take together
-pub newly_joins : (s m t : Situation) → Keeps s m → Keeps m t → Joins (newly s m) (newly m t) (newly s t)
+pub newly_joins : (s m t : Situation) → Keeps s m → Keeps m t
+    → Joins (newly s m) (newly m t) (newly s t)
 newly_joins s m t a b = record {
   all = λ p. joined_at (is_taken s p) (is_taken m p) (is_taken t p) (a.stays p) (b.stays p);
   apart = λ p. apart_at (is_taken s p) (is_taken m p) (is_taken t p);
 }
 
 -- what the current place is doesn't matter
-pub keeps_current : (s t : Situation) (place : Option ℕ) → Keeps s t → Keeps s (with_current t place)
-keeps_current s t place k = record { context = k.context; stays = k.stays; fresh = k.fresh; narrows = k.narrows; path = k.path }
+pub keeps_current : (s t : Situation) (place : Option ℕ) → Keeps s t
+    → Keeps s (with_current t place)
+keeps_current s t place k =
+    record {
+      context = k.context;
+      stays = k.stays;
+      fresh = k.fresh;
+      narrows = k.narrows;
+      path = k.path;
+    }
 
 -- where the situation is as before, all is kept
 pub keeps_same : (s t : Situation) → t ≡ s → Keeps s t
 keeps_same s t same = subst (Keeps s) (sym same) (keeps_refl s)
 
 -- and a value that may be read off no place is read
-pub reads_same : {T : Type 0} (reads : Readings T) (s t : Situation) (v : T) → t ≡ s → reads s.context (newly s s) v → Reads T reads s v t
+pub reads_same : {T : Type 0} (reads : Readings T) (s t : Situation) (v : T) → t ≡ s
+    → reads s.context (newly s s) v → Reads T reads s v t
 reads_same {T} reads s t v same read =
-    subst (Reads T reads s v) (sym same) (record { keeps = keeps_refl s; closed = closes_refl s; reading = read })
+    subst (Reads T reads s v) (sym same)
+    (record { keeps = keeps_refl s; closed = closes_refl s; reading = read })
 
 -- where no place is current any more, all is kept
 pub keeps_unset : (s t : Situation) → t ≡ with_current s None → Keeps s t
 keeps_unset s t unset = subst (Keeps s) (sym unset) (keeps_current s s None (keeps_refl s))
 
 -- and a value that may be read off no place is read
-pub reads_unset : {T : Type 0} (reads : Readings T) (s t : Situation) (v : T) → t ≡ with_current s None → reads s.context (newly s s) v → Reads T reads s v t
+pub reads_unset : {T : Type 0} (reads : Readings T) (s t : Situation) (v : T)
+    → t ≡ with_current s None → reads s.context (newly s s) v → Reads T reads s v t
 reads_unset {T} reads s t v unset read =
-    subst (Reads T reads s v) (sym unset) (record { keeps = keeps_current s s None (keeps_refl s); closed = closes_refl s; reading = read })
+    subst (Reads T reads s v) (sym unset)
+    (record {
+      keeps = keeps_current s s None (keeps_refl s);
+      closed = closes_refl s;
+      reading = read;
+    })
 
 -- at one place: what is as it was isn't newly taken
 same_new : (x y : Bool) → x ≡ y → (x && not y) ≡ false
@@ -144,7 +173,8 @@ newly_take s p there q =
     (λ (same : q ≡ p).
     let here : (p == p) ≡ true = grind (arith, nat_tests) in
     subst (λ x. newly s (take_place s p) x ≡ (x == p)) (sym same)
-    (first_new (is_taken (take_place s p) p) (is_taken s p) (taken_here s p) (open_not_taken s p there) ∙ sym here))
+    (first_new (is_taken (take_place s p) p) (is_taken s p) (taken_here s p)
+    (open_not_taken s p there) ∙ sym here))
     (λ (other : q ≢ p).
     let elsewhere : (q == p) ≡ false = grind (arith, nat_tests) in
     same_new (is_taken (take_place s p) q) (is_taken s q) (taken_other s p q other) ∙ sym elsewhere)
@@ -155,29 +185,36 @@ pub keeps_take : (s : Situation) (p : ℕ) → is_open s p ≡ true → Keeps s 
 keeps_take s p there = record {
   context = refl;
   stays = λ q taken. ⊎_elim
-      (λ (same : q ≡ p). subst (λ x. is_taken (take_place s p) x ≡ true) (sym same) (taken_here s p))
+      (λ (same : q ≡ p). subst (λ x. is_taken (take_place s p) x ≡ true) (sym same)
+      (taken_here s p))
       (λ (other : q ≢ p). taken_other s p q other ∙ taken)
       (cases_eq q p);
   fresh = λ q new. ⊎_elim
       (λ (same : q ≡ p). subst (λ x. is_open s x ≡ true) (sym same) there)
-      (λ (other : q ≢ p). absurd (true≢false (sym new ∙ same_new (is_taken (take_place s p) q) (is_taken s q) (taken_other s p q other))))
+      (λ (other : q ≢ p). absurd (true≢false
+      (sym new ∙ same_new (is_taken (take_place s p) q) (is_taken s q)
+      (taken_other s p q other))))
       (cases_eq q p);
   narrows = λ q within. within;
   path = record { more = []; is = sym (append-nil s.path) };
 }
 
 -- a place is taken, and then the next one: both are newly taken, and no other
-pub newly_take_both : (s : Situation) (p : ℕ) → is_open s p ≡ true → is_open (take_place s p) (p + 1) ≡ true
+pub newly_take_both : (s : Situation) (p : ℕ) → is_open s p ≡ true
+    → is_open (take_place s p) (p + 1) ≡ true
     → IsPair p (newly s (take_place (take_place s p) (p + 1)))
 newly_take_both s p first second q =
     let m = take_place s p in
-    let joins = newly_joins s m (take_place m (p + 1)) (keeps_take s p first) (keeps_take m (p + 1) second) in
-    joins.all q ∙ both_are (newly s m q) (q == p) (newly m (take_place m (p + 1)) q) (q == p + 1) (newly_take s p first q) (newly_take m (p + 1) second q)
+    let joins = newly_joins s m (take_place m (p + 1)) (keeps_take s p first)
+    (keeps_take m (p + 1) second) in
+    joins.all q ∙ both_are (newly s m q) (q == p) (newly m (take_place m (p + 1)) q) (q == p + 1)
+    (newly_take s p first q) (newly_take m (p + 1) second q)
   where
     both_are : (a b c d : Bool) → a ≡ b → c ≡ d → (a || c) ≡ (b || d)
     both_are a b c d e f = rw (e, f) refl
 
-module _ (s m loser : Situation) (winner : ℕ) (t : Situation) (saved : ConflictsSaved m loser winner t) where
+module _ (s m loser : Situation) (winner : ℕ) (t : Situation)
+    (saved : ConflictsSaved m loser winner t) where
   -- conflict marks leave the scope
   scope_conflicts : (p : ℕ) → in_scope t p ≡ in_scope m p
   scope_conflicts p = rw (saved.start, saved.end) refl
@@ -198,4 +235,5 @@ module _ (s m loser : Situation) (winner : ℕ) (t : Situation) (saved : Conflic
 
   -- and open nothing
   pub closes_conflicts : Closes s m → Closes s t
-  closes_conflicts closed p inside outside = saved.taken p ∙ closed p inside (sym (scope_conflicts p) ∙ outside)
+  closes_conflicts closed p inside outside =
+      saved.taken p ∙ closed p inside (sym (scope_conflicts p) ∙ outside)

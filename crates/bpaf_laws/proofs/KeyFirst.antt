@@ -1,17 +1,62 @@
 -- A key comes before the environment.
-use Rattle.std.proofs.Common.{ℕ, List, Option, Result, Ok, Err, ⊎_elim, sym, ◌∙◌, true≢false}
-use Rattle.bpaf_text.specs.Named.{Named}
+use Rattle.std.proofs.Common.{ℕ, List, Result, Ok, Err, ⊎_elim, sym, ◌∙◌, ap, true≢false}
+use Rattle.bpaf_text.specs.Named.{KeyWithValue, argument_part}
 use Rattle.bpaf_line.specs.Situation.{Situation}
 use Rattle.bpaf_line.specs.declared.error.Error.{Error}
-use Rattle.bpaf_laws.specs.Argument.{GetsText}
-use Rattle.bpaf_laws.specs.Value.{ReadsValue}
-use Rattle.bpaf_laws.specs.KeyFirst.{KeyBeforeEnvironment}
+use Rattle.bpaf_line.specs.declared.error.Message.{Message}
+use Rattle.bpaf_line.specs.declared.error.Message.TheVariants.{Memory, ParseFailed, NoArgument}
+use Rattle.bpaf_laws.specs.Argument.{GetsText, RefusesText}
+use Rattle.bpaf_laws.specs.Value.{ReadsValue, FaultsText}
+use Rattle.bpaf_laws.specs.KeyFirst.{FailsKeyFirst, KeyBeforeEnvironment}
+use Rattle.bpaf_laws.proofs.ArgumentAnswers.{absence_names_no_text}
 
--- what is read of the text of an argument comes from its key where that is there, and else from the environment
-pub key_first : {T : Type 0} (means : List ℕ → T → Type 0) (named : Named) (s t : Situation) (text : List ℕ) (current : Option ℕ) (r : Result T Error)
-    → GetsText named s text t → ReadsValue means text current r → KeyBeforeEnvironment means named s r t
-key_first means named s t text current (Err e) gets reads = tt
-key_first means named s t text current (Ok v) gets reads = (
-  (λ p here. ⊎_elim (λ takes. (text, takes, reads)) (λ variable. absurd (true≢false (sym here ∙ variable.no_key p))) gets),
-  (λ none. ⊎_elim (λ takes. absurd (true≢false (sym takes.first.matches ∙ none takes.key))) (λ variable. (text, variable.set, reads)) gets),
-)
+module _ {T : Type 0} (means : List ℕ → T → Type 0) (argument : KeyWithValue) (s t : Situation) where
+  -- a text at fault is that behind the key where one is there, and else that of the environment
+  fault_first : (text : List ℕ) (m : Message) → GetsText argument s text t
+      → FaultsText means text t.current m → FailsKeyFirst means argument s m
+  fault_first text Memory gets fault = ((λ p here. tt), (λ none. tt))
+  fault_first text (ParseFailed place words) gets fault = (
+    (λ p here. ⊎_elim
+        (λ takes. record {
+          key = takes.key;
+          first = takes.first;
+          text = text;
+          behind = takes.value;
+          nothing = fault.0;
+          is = fault.1 ∙ ap (λ (after : Situation). after.current) takes.taken;
+        })
+        (λ variable. absurd (true≢false (sym here ∙ variable.no_key p)))
+        gets),
+    (λ none. ⊎_elim
+        (λ takes. absurd (true≢false (sym takes.first.matches ∙ none takes.key)))
+        (λ variable.
+        (text, variable.set, fault.0, fault.1 ∙ ap (λ (after : Situation). after.current) variable.left))
+        gets),
+  )
+  fault_first text other gets fault = absurd fault
+
+  -- so is a text that means a value
+  pub key_first : (text : List ℕ) (r : Result T Error) → GetsText argument s text t
+      → ReadsValue means text t.current r → KeyBeforeEnvironment means argument s r t
+  key_first text (Err e) gets fault = fault_first text e.0 gets fault
+  key_first text (Ok v) gets meant = (
+    (λ p here. ⊎_elim
+        (λ takes. (text, takes, meant))
+        (λ variable. absurd (true≢false (sym here ∙ variable.no_key p)))
+        gets),
+    (λ none. ⊎_elim
+        (λ takes. absurd (true≢false (sym takes.first.matches ∙ none takes.key)))
+        (λ variable. (text, variable.set, meant))
+        gets),
+  )
+
+  -- where there is no text, the first key has none behind it, or the argument is nowhere
+  pub no_text_first : (m : Message) → RefusesText argument s m t → FailsKeyFirst means argument s m
+  no_text_first Memory refuses = ((λ p here. tt), (λ none. tt))
+  no_text_first (NoArgument key name) refuses =
+      ((λ p here. refuses.0), (λ none. absurd (true≢false (sym refuses.0.0.matches ∙ none key))))
+  no_text_first (ParseFailed place fault) refuses =
+      absurd
+      (absence_names_no_text s (argument_part argument) argument.named.envs place fault refuses.1.1)
+  no_text_first other refuses =
+      ((λ p here. absurd (true≢false (sym here ∙ refuses.0 p))), (λ none. refuses.1))

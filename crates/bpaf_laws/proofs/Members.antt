@@ -19,5 +19,8 @@ unfolding meta.roll-Meta denote.Hole.Carrier.roll
 or_shape all = fold-roll-Meta Part Shape part_layer shape_layer (Meta-F.Or all)
 
 -- an Or adds its members to a choice
-pub or_adds : (all : Vec Meta Global) (of : Meta) → of ≡ meta.Or all → map shape_of all.items ≡ alternatives (shape_of of)
-or_adds all of is = sym (ap (λ m. alternatives (shape_of m)) is ∙ (ap alternatives (or_shape all) ∙ shapes_of_members (map shape_of all.items)))
+pub or_adds : (all : Vec Meta Global) (of : Meta) → of ≡ meta.Or all
+    → map shape_of all.items ≡ alternatives (shape_of of)
+or_adds all of is =
+    sym (ap (λ m. alternatives (shape_of m))
+    is ∙ (ap alternatives (or_shape all) ∙ shapes_of_members (map shape_of all.items)))

@@ -10,15 +10,18 @@ use Rattle.bpaf_laws.proofs.Keeping.{keeps_of, keeps_trans, keeps_current, close
 use Rattle.bpaf_laws.specs.Product.{BothReads, BothOutcome, joined, ProductOutcome, ProductReads}
 
 -- the values of fields that were evaluated one after the other are a reading of both
-both_ok : (A B : Type 0) (first : Outcome A) (rest : Outcome B) (rf : Readings A) (rr : Readings B) → Lawful A first rf → Lawful B rest rr
-    → (a : Result A Error) (b : Result B Error) (s m t : Situation) (v : A × B) → first s a m → rest m b t → Ok v ≡ joined a b
+both_ok : (A B : Type 0) (first : Outcome A) (rest : Outcome B) (rf : Readings A) (rr : Readings B)
+    → Lawful A first rf → Lawful B rest rr
+    → (a : Result A Error) (b : Result B Error) (s m t : Situation) (v : A × B) → first s a m
+    → rest m b t → Ok v ≡ joined a b
     → Reads (A × B) (BothReads A B rf rr) s v t
 both_ok A B first rest rf rr fa fb (Ok x) (Ok y) s m t v f r e =
     let ra = fa.ok s m x f in
     let rb = fb.ok m t y r in
-    let h : (x, y) ≡ v = cc in
-    let rest_read : rr s.context (newly m t) y = subst (λ c. rr c (newly m t) y) ra.keeps.context rb.reading in
-    subst (λ w. Reads (A × B) (BothReads A B rf rr) s w t) h (record {
+    let joined_is : (x, y) ≡ v = cc in
+    let rest_read : rr s.context (newly m t) y = subst (λ c. rr c (newly m t) y) ra.keeps.context
+    rb.reading in
+    subst (λ w. Reads (A × B) (BothReads A B rf rr) s w t) joined_is (record {
       keeps = keeps_trans s m t ra.keeps rb.keeps;
       closed = closes_trans s m t rb.keeps ra.closed rb.closed;
       reading = record {
@@ -31,21 +34,30 @@ both_ok A B first rest rf rr fa fb (Ok x) (Ok y) s m t v f r e =
     })
 both_ok A B first rest rf rr fa fb (Ok x) (Err f) s m t v g r e = cc
 both_ok A B first rest rf rr fa fb (Err x) (Ok y) s m t v f r e = cc
-both_ok A B first rest rf rr fa fb (Err x) (Err y) s m t v f r e = elim (is_memory y.0) as (λ z. Ok v ≡ (if z then Err y else Err x) → Reads (A × B) (BothReads A B rf rr) s v t) [ true ↦ λ h. cc | false ↦ λ h. cc ] e
+both_ok A B first rest rf rr fa fb (Err x) (Err y) s m t v f r e =
+    elim (is_memory y.0) as (λ z. Ok v ≡ (if z then Err y else Err x)
+    → Reads (A × B) (BothReads A B rf rr) s v t)
+    [ true ↦ λ joined_is. cc | false ↦ λ joined_is. cc ] e
 
 -- fields that keep to the laws keep to them together
-pub both_lawful : {A B : Type 0} {first : Outcome A} {rest : Outcome B} {rf : Readings A} {rr : Readings B}
-    → Lawful A first rf → Lawful B rest rr → Lawful (A × B) (BothOutcome first rest) (BothReads A B rf rr)
+pub both_lawful : {A B : Type 0} {first : Outcome A} {rest : Outcome B} {rf : Readings A}
+    {rr : Readings B}
+    → Lawful A first rf → Lawful B rest rr
+    → Lawful (A × B) (BothOutcome first rest) (BothReads A B rf rr)
 both_lawful {A = A} {B = B} {first = first} {rest = rest} {rf = rf} {rr = rr} la lb = record {
-  ok = λ s t v o. both_ok A B first rest rf rr la lb o.a o.b s o.middle t v o.first_ran o.rest_ran o.answer;
+  ok =
+      λ s t v o. both_ok A B first rest rf rr la lb o.a o.b s o.middle t v o.first_ran o.rest_ran
+      o.answer;
   err = λ s t e o. elim o [
-    | inl ran ↦ keeps_trans s ran.middle t (keeps_of la s ran.a ran.middle ran.first_ran) (keeps_of lb ran.middle ran.b t ran.rest_ran)
+    | inl ran ↦ keeps_trans s ran.middle t (keeps_of la s ran.a ran.middle ran.first_ran)
+        (keeps_of lb ran.middle ran.b t ran.rest_ran)
     | inr stopped ↦ la.err s t e stopped.0
   ];
 }
 
 -- a product keeps to the laws where its fields do
-pub product_lawful : {V T : Type 0} {fields : Outcome V} {reads : Readings V} (makes : V → T → Type 0) → Lawful V fields reads
+pub product_lawful : {V T : Type 0} {fields : Outcome V} {reads : Readings V}
+    (makes : V → T → Type 0) → Lawful V fields reads
     → Lawful T (ProductOutcome fields makes) (ProductReads V T reads makes)
 product_lawful {V} {T} {fields} {reads} makes l = record {
   ok = λ s t v o.

@@ -22,59 +22,75 @@ record TakesNothing (s t : Situation) : Type 0 where
 nothing_taken : (s : Situation) → TakesNothing s s
 nothing_taken s = record { keeps = keeps_refl s; closed = closes_refl s; none = newly_none s }
 
--- a list of inner readings was read in a situation
-record ReadsList {T : Type 0} (reads : Readings (List T)) (s t : Situation) (values : List T) : Type 0 where
-  keeps : Keeps s t
-  closed : Closes s t
-  reading : reads s.context (newly s t) values
-
 -- a value after the first took an item
-pub took_item : {T : Type 0} (inner : Outcome T) (catches : Bool) (s m : Situation) (v : T) → StepOutcome inner catches false s (Ok (Some v)) m → open_count m < open_count s
-took_item inner catches s m v o = ⊎_elim (λ is_first. absurd (true≢false (sym is_first))) (λ fewer. fewer) o.1
+pub took_item : {T : Type 0} (inner : Outcome T) (catches : Bool) (s m : Situation) (v : T)
+    → StepOutcome inner catches false s (Ok (Some v)) m → open_count m < open_count s
+took_item inner catches s m v o =
+    ⊎_elim (λ is_first. absurd (true≢false (sym is_first))) (λ fewer. fewer) o.1
 
 -- steps of which each took an item are steps of a repeat
-pub any_first : {T : Type 0} (inner : Outcome T) (catches : Bool) (s : Situation) (vs : List T) (t : Situation) → Steps inner catches false s vs t → Steps inner catches true s vs t
+pub any_first : {T : Type 0} (inner : Outcome T) (catches : Bool) (s : Situation) (vs : List T)
+    (t : Situation) → Steps inner catches false s vs t → Steps inner catches true s vs t
 any_first inner catches s [] t o = o
 any_first inner catches s (v ∷ vs) t o = (o.0, (o.1.0, inl refl), o.2)
 
 -- one more step at the end
-pub steps_more : {T : Type 0} (inner : Outcome T) (catches first : Bool) (s m : Situation) (vs : List T) (v : T) (t : Situation)
-    → Steps inner catches first s vs m → StepOutcome inner catches (first && is_nil vs) m (Ok (Some v)) t → Steps inner catches first s (vs ++ v ∷ []) t
-steps_more inner catches true s m [] v t o step = (t, subst (λ w. StepOutcome inner catches true w (Ok (Some v)) t) (sym o) step, refl)
-steps_more inner catches false s m [] v t o step = (t, subst (λ w. StepOutcome inner catches false w (Ok (Some v)) t) (sym o) step, refl)
-steps_more inner catches true s m (x ∷ vs) v t o step = (o.0, o.1, steps_more inner catches false o.0 m vs v t o.2 step)
-steps_more inner catches false s m (x ∷ vs) v t o step = (o.0, o.1, steps_more inner catches false o.0 m vs v t o.2 step)
+pub steps_more : {T : Type 0} (inner : Outcome T) (catches first : Bool) (s m : Situation)
+    (vs : List T) (v : T) (t : Situation)
+    → Steps inner catches first s vs m
+    → StepOutcome inner catches (first && is_nil vs) m (Ok (Some v)) t
+    → Steps inner catches first s (vs ++ v ∷ []) t
+steps_more inner catches true s m [] v t o step =
+    (t, subst (λ w. StepOutcome inner catches true w (Ok (Some v)) t) (sym o) step, refl)
+steps_more inner catches false s m [] v t o step =
+    (t, subst (λ w. StepOutcome inner catches false w (Ok (Some v)) t) (sym o) step, refl)
+steps_more inner catches true s m (x ∷ vs) v t o step =
+    (o.0, o.1, steps_more inner catches false o.0 m vs v t o.2 step)
+steps_more inner catches false s m (x ∷ vs) v t o step =
+    (o.0, o.1, steps_more inner catches false o.0 m vs v t o.2 step)
 
 -- a run without a value leaves all as it was
-pub no_values : {T : Type 0} (inner : Outcome T) (s : Situation) (vs : List T) (t : Situation) → vs ≡ [] → UntilRest inner s vs t → t ≡ s
-no_values inner s [] t e (stops m steps stop) = ⊎_elim (λ dropped. absurd (true≢false dropped.2)) (λ stopped. stopped.1 ∙ sym steps) stop
+pub no_values : {T : Type 0} (inner : Outcome T) (s : Situation) (vs : List T) (t : Situation)
+    → vs ≡ [] → UntilRest inner s vs t → t ≡ s
+no_values inner s [] t e (stops m steps stop) =
+    ⊎_elim (λ dropped. absurd (true≢false dropped.2)) (λ stopped. stopped.1 ∙ sym steps) stop
 no_values inner s (v ∷ vs) t e run = cc
 no_values inner s [] t e (rests v is o same) = cc
 
-module _ {T : Type 0} {inner : Outcome T} {reads : Readings T} (law : Lawful T inner reads) (catches : Bool) where
+module _ {T : Type 0} {inner : Outcome T} {reads : Readings T} (law : Lawful T inner reads)
+    (catches : Bool) where
   -- a stop takes nothing
-  stop_takes_nothing : (first : Bool) (s t : Situation) → StepOutcome inner catches first s (Ok None) t → TakesNothing s t
+  stop_takes_nothing : (first : Bool) (s t : Situation)
+      → StepOutcome inner catches first s (Ok None) t → TakesNothing s t
   stop_takes_nothing first s t o =
       ⊎_elim
       (λ dropped.
       let read = law.ok s t dropped.0 dropped.1 in
-      record { keeps = read.keeps; closed = read.closed; none = same_took_none s t read.keeps read.closed dropped.3 })
+      record {
+        keeps = read.keeps;
+        closed = read.closed;
+        none = same_took_none s t read.keeps read.closed dropped.3;
+      })
       (λ stopped. subst (TakesNothing s) (sym stopped.1) (nothing_taken s))
       o
 
   -- what steps keep
-  steps_keep : (first : Bool) (s : Situation) (vs : List T) (t : Situation) → Steps inner catches first s vs t → Keeps s t
+  steps_keep : (first : Bool) (s : Situation) (vs : List T) (t : Situation)
+      → Steps inner catches first s vs t → Keeps s t
   steps_keep first s [] t o = subst (Keeps s) o (keeps_refl s)
-  steps_keep first s (v ∷ vs) t o = keeps_trans s o.0 t (law.ok s o.0 v o.1.0).keeps (steps_keep false o.0 vs t o.2)
+  steps_keep first s (v ∷ vs) t o =
+      keeps_trans s o.0 t (law.ok s o.0 v o.1.0).keeps (steps_keep false o.0 vs t o.2)
 
   -- steps that each took an item, and then nothing, read each their own share
-  each_read : (s : Situation) (vs : List T) (m t : Situation) → Steps inner catches false s vs m → TakesNothing m t → ReadsList (EachReads reads) s t vs
+  each_read : (s : Situation) (vs : List T) (m t : Situation) → Steps inner catches false s vs m
+      → TakesNothing m t → Reads (List T) (EachReads reads) s vs t
   each_read s [] m t o nothing =
-      subst (λ w. ReadsList (EachReads reads) w t []) (sym o) (record { keeps = nothing.keeps; closed = nothing.closed; reading = nothing.none })
+      subst (λ w. Reads (List T) (EachReads reads) w [] t) (sym o)
+      (record { keeps = nothing.keeps; closed = nothing.closed; reading = nothing.none })
   each_read s (v ∷ vs) m t o nothing =
       let n = o.0 in
       let here = law.ok s n v o.1.0 in
-      let later : ReadsList (EachReads reads) n t vs = each_read n vs m t o.2 nothing in
+      let later : Reads (List T) (EachReads reads) n vs t = each_read n vs m t o.2 nothing in
       record {
         keeps = keeps_trans s n t here.keeps later.keeps;
         closed = closes_trans s n t later.keeps here.closed later.closed;
@@ -84,15 +100,18 @@ module _ {T : Type 0} {inner : Outcome T} {reads : Readings T} (law : Lawful T i
           newly_joins s n t here.keeps later.keeps,
           fewer_took s n here.keeps here.closed (took_item inner catches s n v o.1),
           here.reading,
-          subst (λ context. EachReads reads context (newly n t) vs) here.keeps.context later.reading,
+          subst (λ context. EachReads reads context (newly n t) vs) here.keeps.context
+              later.reading,
         );
       }
 
   -- a value, and then steps that each took an item, and then nothing
-  first_read : (s n m t : Situation) (v : T) (vs : List T) → inner s (Ok v) n → Steps inner catches false n vs m → TakesNothing m t → ReadsList (ListReads reads) s t (v ∷ vs)
+  first_read : (s n m t : Situation) (v : T) (vs : List T) → inner s (Ok v) n
+      → Steps inner catches false n vs m → TakesNothing m t
+      → Reads (List T) (ListReads reads) s (v ∷ vs) t
   first_read s n m t v vs o steps nothing =
       let here = law.ok s n v o in
-      let later : ReadsList (EachReads reads) n t vs = each_read n vs m t steps nothing in
+      let later : Reads (List T) (EachReads reads) n vs t = each_read n vs m t steps nothing in
       record {
         keeps = keeps_trans s n t here.keeps later.keeps;
         closed = closes_trans s n t later.keeps here.closed later.closed;
@@ -101,48 +120,69 @@ module _ {T : Type 0} {inner : Outcome T} {reads : Readings T} (law : Lawful T i
           newly n t,
           newly_joins s n t here.keeps later.keeps,
           here.reading,
-          subst (λ context. EachReads reads context (newly n t) vs) here.keeps.context later.reading,
+          subst (λ context. EachReads reads context (newly n t) vs) here.keeps.context
+              later.reading,
         );
       }
 
   -- steps until one stops read a list
-  until_stop_reads : (s : Situation) (vs : List T) (t : Situation) → UntilStop inner catches s vs t → ReadsList (ListReads reads) s t vs
+  until_stop_reads : (s : Situation) (vs : List T) (t : Situation) → UntilStop inner catches s vs t
+      → Reads (List T) (ListReads reads) s vs t
   until_stop_reads s [] t run =
       let nothing = stop_takes_nothing true run.last t run.stop in
-      subst (λ w. ReadsList (ListReads reads) w t []) (sym run.steps) (record { keeps = nothing.keeps; closed = nothing.closed; reading = nothing.none })
+      subst (λ w. Reads (List T) (ListReads reads) w [] t) (sym run.steps)
+      (record { keeps = nothing.keeps; closed = nothing.closed; reading = nothing.none })
   until_stop_reads s (v ∷ vs) t run =
-      first_read s run.steps.0 run.last t v vs run.steps.1.0 run.steps.2 (stop_takes_nothing false run.last t run.stop)
+      first_read s run.steps.0 run.last t v vs run.steps.1.0 run.steps.2
+      (stop_takes_nothing false run.last t run.stop)
 
   -- what steps until one fails keep
-  until_error_keeps : (s : Situation) (e : Error) (t : Situation) → UntilError inner catches s e t → Keeps s t
+  until_error_keeps : (s : Situation) (e : Error) (t : Situation) → UntilError inner catches s e t
+      → Keeps s t
   until_error_keeps s e t run =
-      keeps_trans s run.last t (steps_keep true s run.values run.last run.steps) (step_refused law catches (is_nil run.values) run.last t e run.fails)
+      keeps_trans s run.last t (steps_keep true s run.values run.last run.steps)
+      (step_refused law catches (is_nil run.values) run.last t e run.fails)
 
   -- many keeps to the laws
   pub many_lawful : Lawful (Vec T) (ManyOutcome inner catches) (ManyReads reads)
   many_lawful = record {
-    ok = λ s t values o. let read = until_stop_reads s values.items t o in record { keeps = read.keeps; closed = read.closed; reading = read.reading };
+    ok =
+        λ s t values o. let read = until_stop_reads s values.items t o
+        in record { keeps = read.keeps; closed = read.closed; reading = read.reading };
     err = λ s t e o. until_error_keeps s e t o;
   }
 
   -- some keeps to the laws
-  pub some_lawful : (message : List ℕ) → Lawful (Vec T) (SomeOutcome inner catches message) (SomeReads reads)
+  pub some_lawful : (message : List ℕ)
+      → Lawful (Vec T) (SomeOutcome inner catches message) (SomeReads reads)
   some_lawful message = record {
-    ok = λ s t values o. let read = until_stop_reads s values.items t o.0 in record { keeps = read.keeps; closed = read.closed; reading = (read.reading, o.1) };
-    err = λ s t e o. ⊎_elim (λ failed. until_error_keeps s e t failed) (λ none. (until_stop_reads s [] t none.0).keeps) o;
+    ok =
+        λ s t values o. let read = until_stop_reads s values.items t o.0
+        in record { keeps = read.keeps; closed = read.closed; reading = (read.reading, o.1) };
+    err =
+        λ s t e o. ⊎_elim (λ failed. until_error_keeps s e t failed)
+        (λ none. (until_stop_reads s [] t none.0).keeps) o;
   }
 
   -- collect keeps to the laws
-  pub collect_lawful : {C : Type 0} (fills : List T → C → Type 0) → Lawful C (CollectOutcome inner catches fills) (CollectReads reads fills)
+  pub collect_lawful : {C : Type 0} (fills : List T → C → Type 0)
+      → Lawful C (CollectOutcome inner catches fills) (CollectReads reads fills)
   collect_lawful fills = record {
     ok = λ s t v o.
         let read = until_stop_reads s o.0 t o.1 in
-        record { keeps = read.keeps; closed = read.closed; reading = record { values = o.0; read = read.reading; filled = o.2 } };
-    err = λ s t e o. ⊎_elim (λ failed. until_error_keeps s e t failed) (λ refused. (until_stop_reads s refused.0 t refused.1).keeps) o;
+        record {
+          keeps = read.keeps;
+          closed = read.closed;
+          reading = record { values = o.0; read = read.reading; filled = o.2 };
+        };
+    err =
+        λ s t e o. ⊎_elim (λ failed. until_error_keeps s e t failed)
+        (λ refused. (until_stop_reads s refused.0 t refused.1).keeps) o;
   }
 
   -- each value took an item, so there are no more values than items
-  pub values_bounded : (s : Situation) (vs : List T) (t : Situation) → Steps inner catches false s vs t → length vs + open_count t ≤ open_count s
+  pub values_bounded : (s : Situation) (vs : List T) (t : Situation)
+      → Steps inner catches false s vs t → length vs + open_count t ≤ open_count s
   values_bounded s [] t o = let same = ap open_count o in omega arith
   values_bounded s (v ∷ vs) t o =
       let fewer = took_item inner catches s o.0 v o.1 in
@@ -150,7 +190,8 @@ module _ {T : Type 0} {inner : Outcome T} {reads : Readings T} (law : Lawful T i
       omega arith
 
   -- the first value may have taken none
-  steps_bounded : (s : Situation) (vs : List T) (t : Situation) → Steps inner catches true s vs t → length vs ≤ open_count s + 1
+  steps_bounded : (s : Situation) (vs : List T) (t : Situation) → Steps inner catches true s vs t
+      → length vs ≤ open_count s + 1
   steps_bounded s [] t o = omega arith
   steps_bounded s (v ∷ vs) t o =
       let here = law.ok s o.0 v o.1.0 in
@@ -159,21 +200,30 @@ module _ {T : Type 0} {inner : Outcome T} {reads : Readings T} (law : Lawful T i
       omega arith
 
   -- steps that each took an item
-  each_takes : (s : Situation) (vs : List T) (t : Situation) → Steps inner catches false s vs t → EachTakes inner s vs t
+  each_takes : (s : Situation) (vs : List T) (t : Situation) → Steps inner catches false s vs t
+      → EachTakes inner s vs t
   each_takes s [] t o = o
-  each_takes s (v ∷ vs) t o = (o.0, o.1.0, took_item inner catches s o.0 v o.1, each_takes o.0 vs t o.2)
+  each_takes s (v ∷ vs) t o =
+      (o.0, o.1.0, took_item inner catches s o.0 v o.1, each_takes o.0 vs t o.2)
 
   -- all but the first took an item
-  later_take : (s : Situation) (vs : List T) (t : Situation) → Steps inner catches true s vs t → LaterTake inner s vs t
+  later_take : (s : Situation) (vs : List T) (t : Situation) → Steps inner catches true s vs t
+      → LaterTake inner s vs t
   later_take s [] t o = o
   later_take s (v ∷ vs) t o = (o.0, o.1.0, each_takes o.0 vs t o.2)
 
   -- a repeat is bounded
-  pub list_bounded : (s t : Situation) (values : List T) → ListOutcome inner catches s (Ok values) t → IsBounded inner s values
-  list_bounded s t values run = (steps_bounded s values run.last run.steps, (run.last, later_take s values run.last run.steps))
+  pub list_bounded : (s t : Situation) (values : List T) → ListOutcome inner catches s (Ok values) t
+      → IsBounded inner s values
+  list_bounded s t values run = (
+    steps_bounded s values run.last run.steps,
+    (run.last, later_take s values run.last run.steps),
+  )
 
   -- a step that answers a value leaves fewer items present, or is the first
-  pub step_falls : (first : Bool) (s : Situation) (v : T) (t : Situation) → StepOutcome inner catches first s (Ok (Some v)) t → open_count t < open_count s + (if first then 1 else 0)
+  pub step_falls : (first : Bool) (s : Situation) (v : T) (t : Situation)
+      → StepOutcome inner catches first s (Ok (Some v)) t
+      → open_count t < open_count s + (if first then 1 else 0)
   step_falls true s v t o =
       let here = law.ok s t v o.0 in
       let falls = open_count-falls s t here.keeps here.closed in
@@ -182,42 +232,64 @@ module _ {T : Type 0} {inner : Outcome T} {reads : Readings T} (law : Lawful T i
 
 module _ {T : Type 0} {inner : Outcome T} {reads : Readings T} (law : Lawful T inner reads) where
   -- one value, and then nothing
-  one_read : (s t : Situation) (v : T) → inner s (Ok v) t → ReadsList (ListReads reads) s t (v ∷ [])
+  one_read : (s t : Situation) (v : T) → inner s (Ok v) t
+      → Reads (List T) (ListReads reads) s (v ∷ []) t
   one_read s t v o = first_read law false s t t t v [] o refl (nothing_taken t)
 
   -- steps until one stops, or one value that took nothing, read a list
-  until_rest_reads : (s : Situation) (vs : List T) (t : Situation) → UntilRest inner s vs t → ReadsList (ListReads reads) s t vs
-  until_rest_reads s vs t (stops m steps stop) = until_stop_reads law false s vs t (record { last = m; steps = any_first inner false s vs m steps; stop = stop })
-  until_rest_reads s vs t (rests v is o same) = subst (ReadsList (ListReads reads) s t) (sym is) (one_read s t v o)
+  until_rest_reads : (s : Situation) (vs : List T) (t : Situation) → UntilRest inner s vs t
+      → Reads (List T) (ListReads reads) s vs t
+  until_rest_reads s vs t (stops m steps stop) =
+      until_stop_reads law false s vs t
+      (record { last = m; steps = any_first inner false s vs m steps; stop = stop })
+  until_rest_reads s vs t (rests v is o same) =
+      subst (λ values. Reads (List T) (ListReads reads) s values t) (sym is) (one_read s t v o)
 
   -- what steps until one fails keep
-  until_fault_keeps : (s : Situation) (e : Error) (t : Situation) → UntilFault inner s e t → Keeps s t
+  until_fault_keeps : (s : Situation) (e : Error) (t : Situation) → UntilFault inner s e t
+      → Keeps s t
   until_fault_keeps s e t run =
-      keeps_trans s run.last t (steps_keep law false false s run.values run.last run.steps) (step_refused law false (is_nil run.values) run.last t e run.fails)
+      keeps_trans s run.last t (steps_keep law false false s run.values run.last run.steps)
+      (step_refused law false (is_nil run.values) run.last t e run.fails)
 
   -- count keeps to the laws
   pub count_lawful : Lawful ℕ (CountOutcome inner) (CountReads reads)
   count_lawful = record {
     ok = λ s t n o.
         let read = until_rest_reads s o.0 t o.1 in
-        record { keeps = read.keeps; closed = read.closed; reading = record { values = o.0; read = read.reading; number = o.2 } };
+        record {
+          keeps = read.keeps;
+          closed = read.closed;
+          reading = record { values = o.0; read = read.reading; number = o.2 };
+        };
     err = λ s t e o. until_fault_keeps s e t o;
   }
 
   -- evaluated once more, after nothing
-  again_reads : (s m t : Situation) (v : T) → UntilRest inner s [] m → inner m (Ok v) t → ReadsList (ListReads reads) s t (v ∷ [])
-  again_reads s m t v run o = one_read s t v (subst (λ w. inner w (Ok v) t) (no_values inner s [] m refl run) o)
+  again_reads : (s m t : Situation) (v : T) → UntilRest inner s [] m → inner m (Ok v) t
+      → Reads (List T) (ListReads reads) s (v ∷ []) t
+  again_reads s m t v run o =
+      one_read s t v (subst (λ w. inner w (Ok v) t) (no_values inner s [] m refl run) o)
 
   -- what last answers is a reading
-  last_read : (s t : Situation) (v : T) → LastOutcome inner s (Ok v) t → Reads T (LastReads reads) s v t
+  last_read : (s t : Situation) (v : T) → LastOutcome inner s (Ok v) t
+      → Reads T (LastReads reads) s v t
   last_read s t v o =
       ⊎_elim
       (λ run.
       let read = until_rest_reads s (run.0 ++ v ∷ []) t run.1 in
-      record { keeps = read.keeps; closed = read.closed; reading = record { before = run.0; read = read.reading } })
+      record {
+        keeps = read.keeps;
+        closed = read.closed;
+        reading = record { before = run.0; read = read.reading };
+      })
       (λ again.
       let read = again_reads s again.0 t v again.1 again.2 in
-      record { keeps = read.keeps; closed = read.closed; reading = record { before = []; read = read.reading } })
+      record {
+        keeps = read.keeps;
+        closed = read.closed;
+        reading = record { before = []; read = read.reading };
+      })
       o
 
   -- last keeps to the laws
@@ -227,6 +299,7 @@ module _ {T : Type 0} {inner : Outcome T} {reads : Readings T} (law : Lawful T i
     err = λ s t e o.
         ⊎_elim
         (λ fault. until_fault_keeps s e t fault)
-        (λ again. keeps_trans s again.0 t (until_rest_reads s [] again.0 again.1).keeps (law.err again.0 t e again.2))
+        (λ again. keeps_trans s again.0 t (until_rest_reads s [] again.0 again.1).keeps
+        (law.err again.0 t e again.2))
         o;
   }

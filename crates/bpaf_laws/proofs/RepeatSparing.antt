@@ -11,9 +11,11 @@ use Rattle.bpaf_laws.proofs.Sparing.{CatchesNoMemory, spared_step, not_both}
 
 module _ {T : Type 0} (inner : Outcome T) where
   -- steps that answered values are those of inner answers that aren't want of memory
-  steps_spared : (catches first : Bool) (s : Situation) (vs : List T) (t : Situation) → Steps inner catches first s vs t → Steps (WithoutMemory inner) catches first s vs t
+  steps_spared : (catches first : Bool) (s : Situation) (vs : List T) (t : Situation)
+      → Steps inner catches first s vs t → Steps (WithoutMemory inner) catches first s vs t
   steps_spared catches first s [] t o = o
-  steps_spared catches first s (v ∷ vs) t o = (o.0, ((o.1.0, tt), o.1.1), steps_spared catches false o.0 vs t o.2)
+  steps_spared catches first s (v ∷ vs) t o =
+      (o.0, ((o.1.0, tt), o.1.1), steps_spared catches false o.0 vs t o.2)
 
   -- a list catches no want of memory
   spared_list : (catches : Bool) → CatchesNoMemory (λ outcome. ListOutcome outcome catches) inner
@@ -30,13 +32,16 @@ module _ {T : Type 0} (inner : Outcome T) where
   }
 
   -- nor does many
-  pub spared_many : (catches : Bool) → CatchesNoMemory (λ outcome. ManyOutcome outcome catches) inner
+  pub spared_many : (catches : Bool)
+      → CatchesNoMemory (λ outcome. ManyOutcome outcome catches) inner
   spared_many catches s t (Ok values) o spared = spared_list catches s t (Ok values.items) o tt
   spared_many catches s t (Err e) o spared = spared_list catches s t (Err e) o spared
 
   -- nor does some
-  pub spared_some : (catches : Bool) (message : List ℕ) → CatchesNoMemory (λ outcome. SomeOutcome outcome catches message) inner
-  spared_some catches message s t (Ok values) o spared = (spared_list catches s t (Ok values.items) o.0 tt, o.1)
+  pub spared_some : (catches : Bool) (message : List ℕ)
+      → CatchesNoMemory (λ outcome. SomeOutcome outcome catches message) inner
+  spared_some catches message s t (Ok values) o spared =
+      (spared_list catches s t (Ok values.items) o.0 tt, o.1)
   spared_some catches message s t (Err e) o spared =
       ⊎_elim
       (λ failed. inl (spared_list catches s t (Err e) failed spared))
@@ -44,18 +49,25 @@ module _ {T : Type 0} (inner : Outcome T) where
       o
 
   -- nor does collect
-  pub spared_collect : {C : Type 0} (catches : Bool) (fills : List T → C → Type 0) → CatchesNoMemory (λ outcome. CollectOutcome outcome catches fills) inner
-  spared_collect catches fills s t (Ok v) o spared = (o.0, spared_list catches s t (Ok o.0) o.1 tt, o.2)
+  pub spared_collect : {C : Type 0} (catches : Bool) (fills : List T → C → Type 0)
+      → CatchesNoMemory (λ outcome. CollectOutcome outcome catches fills) inner
+  spared_collect catches fills s t (Ok v) o spared =
+      (o.0, spared_list catches s t (Ok o.0) o.1 tt, o.2)
   spared_collect catches fills s t (Err e) o spared =
-      ⊎_elim (λ failed. inl (spared_list catches s t (Err e) failed spared)) (λ refused. absurd (not_both e.0 spared refused.2)) o
+      ⊎_elim (λ failed. inl (spared_list catches s t (Err e) failed spared))
+      (λ refused. absurd (not_both e.0 spared refused.2)) o
 
   -- a run that stopped or rested comes of no want of memory
-  rest_spared : (s : Situation) (vs : List T) (t : Situation) → UntilRest inner s vs t → UntilRest (WithoutMemory inner) s vs t
-  rest_spared s vs t (stops m steps stop) = stops m (steps_spared false false s vs m steps) (spared_step inner false (is_nil vs) m t (Ok None) stop tt)
+  rest_spared : (s : Situation) (vs : List T) (t : Situation) → UntilRest inner s vs t
+      → UntilRest (WithoutMemory inner) s vs t
+  rest_spared s vs t (stops m steps stop) =
+      stops m (steps_spared false false s vs m steps)
+      (spared_step inner false (is_nil vs) m t (Ok None) stop tt)
   rest_spared s vs t (rests v is o same) = rests v is (o, tt) same
 
   -- nor does a run that failed of another error
-  fault_spared : (s : Situation) (e : Error) (t : Situation) → UntilFault inner s e t → is_memory e.0 ≡ false → UntilFault (WithoutMemory inner) s e t
+  fault_spared : (s : Situation) (e : Error) (t : Situation) → UntilFault inner s e t
+      → is_memory e.0 ≡ false → UntilFault (WithoutMemory inner) s e t
   fault_spared s e t run spared = record {
     values = run.values;
     last = run.last;

@@ -25,40 +25,53 @@ length_nil (x ∷ xs) = not_zero (length (x ∷ xs)) (omega arith)
 
 -- what `is_empty` answers of a list
 pub vec_nil : {T : Type 0} (values : Vec T) → (vec_len values == 0) ≡ is_nil values.items
-vec_nil values = subst (λ n. (n == 0) ≡ is_nil values.items) (sym values.ok.0) (length_nil values.items)
+vec_nil values =
+    subst (λ n. (n == 0) ≡ is_nil values.items) (sym values.ok.0) (length_nil values.items)
 
 -- a count of values is nothing where there is no value
 pub count_nil : {T : Type 0} (n : ℕ) (xs : List T) → n ≡ length xs → (n == 0) ≡ is_nil xs
 count_nil n xs counted = ap (λ k. k == 0) counted ∙ length_nil xs
 
 -- a step that answered a value, at the test for the first one
-step_at : {T : Type 0} (inner : Outcome T) (catches : Bool) (m : Situation) (vs : List T) (b : Bool) (o : Option T) (v : T) (t : Situation)
-    → b ≡ is_nil vs → StepOutcome inner catches b m (Ok o) t → o ≡ Some v → StepOutcome inner catches (is_nil vs) m (Ok (Some v)) t
+step_at : {T : Type 0} (inner : Outcome T) (catches : Bool) (m : Situation) (vs : List T) (b : Bool)
+    (o : Option T) (v : T) (t : Situation)
+    → b ≡ is_nil vs → StepOutcome inner catches b m (Ok o) t → o ≡ Some v
+    → StepOutcome inner catches (is_nil vs) m (Ok (Some v)) t
 step_at inner catches m vs b o v t nil step is =
-    subst (λ w. StepOutcome inner catches w m (Ok (Some v)) t) nil (subst (λ w. StepOutcome inner catches b m (Ok w) t) is step)
+    subst (λ w. StepOutcome inner catches w m (Ok (Some v)) t) nil
+    (subst (λ w. StepOutcome inner catches b m (Ok w) t) is step)
 
 -- the steps of an iteration that answered a value, and of those before it
-pub steps_on : {T : Type 0} (inner : Outcome T) (catches : Bool) (s m : Situation) (vs : List T) (b : Bool) (o : Option T) (v : T) (t : Situation)
-    → Steps inner catches true s vs m → b ≡ is_nil vs → StepOutcome inner catches b m (Ok o) t → o ≡ Some v → Steps inner catches true s (vs ++ v ∷ []) t
+pub steps_on : {T : Type 0} (inner : Outcome T) (catches : Bool) (s m : Situation) (vs : List T)
+    (b : Bool) (o : Option T) (v : T) (t : Situation)
+    → Steps inner catches true s vs m → b ≡ is_nil vs → StepOutcome inner catches b m (Ok o) t
+    → o ≡ Some v → Steps inner catches true s (vs ++ v ∷ []) t
 steps_on inner catches s m vs b o v t steps nil step is =
     steps_more inner catches true s m vs v t steps (step_at inner catches m vs b o v t nil step is)
 
 -- that the run of steps ends
-pub steps_end : {T : Type 0} {inner : Outcome T} {reads : Readings T} → Lawful T inner reads → (catches : Bool) (m : Situation) (vs : List T) (b : Bool) (o : Option T) (v : T) (t : Situation)
-    → b ≡ is_nil vs → StepOutcome inner catches b m (Ok o) t → o ≡ Some v → open_count t < open_count m + (if is_nil vs then 1 else 0)
+pub steps_end : {T : Type 0} {inner : Outcome T} {reads : Readings T} → Lawful T inner reads
+    → (catches : Bool) (m : Situation) (vs : List T) (b : Bool) (o : Option T) (v : T)
+    (t : Situation)
+    → b ≡ is_nil vs → StepOutcome inner catches b m (Ok o) t → o ≡ Some v
+    → open_count t < open_count m + (if is_nil vs then 1 else 0)
 steps_end {inner = inner} law catches m vs b o v t nil step is =
     subst (λ w. open_count t < open_count m + (if w then 1 else 0)) nil
     (step_falls law catches b m v t (subst (λ w. StepOutcome inner catches b m (Ok w) t) is step))
 
 -- a list with one value more at its end isn't empty
-pub not_nil : {T : Type 0} (us vs : List T) (v : T) → us ≡ vs ++ v ∷ [] → ◌≡◌ {A = ℕ} (if is_nil us then 1 else 0) 0
+pub not_nil : {T : Type 0} (us vs : List T) (v : T) → us ≡ vs ++ v ∷ []
+    → ◌≡◌ {A = ℕ} (if is_nil us then 1 else 0) 0
 not_nil us [] v e = rw e refl
 not_nil us (x ∷ vs) v e = rw e refl
 
 -- a value that couldn't be kept, for want of memory
-pub steps_refused : {T : Type 0} (inner : Outcome T) (r : Result (Vec T) Error) (catches : Bool) (s t : Situation) (vs : List T)
-    → Steps inner catches true s vs t → IsErrAnd r (λ e. e.0 ≡ Memory) → ManyOutcome inner catches s r t
-steps_refused inner (Err e) catches s t vs steps is = record { values = vs; last = t; steps = steps; fails = inr (ap is_memory is, refl) }
+pub steps_refused : {T : Type 0} (inner : Outcome T) (r : Result (Vec T) Error) (catches : Bool)
+    (s t : Situation) (vs : List T)
+    → Steps inner catches true s vs t → IsErrAnd r (λ e. e.0 ≡ Memory)
+    → ManyOutcome inner catches s r t
+steps_refused inner (Err e) catches s t vs steps is =
+    record { values = vs; last = t; steps = steps; fails = inr (ap is_memory is, refl) }
 steps_refused inner (Ok v) catches s t vs steps is = absurd is
 
 -- the last value of a list, where it has one
@@ -74,26 +87,37 @@ none_if (Some v) true e = cc
 none_if (Some v) false e = refl
 
 -- there is no last value where there is no value
-pub none_nil : {T : Type 0} (values : List T) (o : Option T) (b : Bool) → is_some o ≡ not b → EndsIn values o → b ≡ is_nil values
+pub none_nil : {T : Type 0} (values : List T) (o : Option T) (b : Bool) → is_some o ≡ not b
+    → EndsIn values o → b ≡ is_nil values
 none_nil {T} values None b answered ends = none_if {T = T} None b answered ∙ sym (ap is_nil ends)
-none_nil values (Some v) b answered ends = none_if (Some v) b answered ∙ sym (more ends.0 values ends.1)
+none_nil values (Some v) b answered ends =
+    none_if (Some v) b answered ∙ sym (more ends.0 values ends.1)
   where
     more : (xs us : List _) → us ≡ xs ++ v ∷ [] → is_nil us ≡ false
     more [] us e = rw e refl
     more (x ∷ xs) us e = rw e refl
 
-module _ {T : Type 0} {inner : Outcome T} {reads : Readings T} (law : Lawful T inner reads) (s m : Situation) (vs : List T) (b : Bool) (o : Option T) (t : Situation)
-    (steps : Steps inner false false s vs m) (nil : b ≡ is_nil vs) (step : StepOutcome inner false b m (Ok o) t) where
+module _ {T : Type 0} {inner : Outcome T} {reads : Readings T} (law : Lawful T inner reads)
+    (s m : Situation) (vs : List T) (b : Bool) (o : Option T) (t : Situation)
+    (steps : Steps inner false false s vs m) (nil : b ≡ is_nil vs)
+    (step : StepOutcome inner false b m (Ok o) t) where
   -- the value took nothing: it is the first, and the run rests
-  pub rests_here : (v : T) → o ≡ Some v → open_count t ≡ open_count m → UntilRest inner s (vs ++ v ∷ []) t
+  pub rests_here : (v : T) → o ≡ Some v → open_count t ≡ open_count m
+      → UntilRest inner s (vs ++ v ∷ []) t
   rests_here v is same = by_values vs steps (step_at inner false m vs b o v t nil step is)
     where
-      by_values : (vs : List T) → Steps inner false false s vs m → StepOutcome inner false (is_nil vs) m (Ok (Some v)) t → UntilRest inner s (vs ++ v ∷ []) t
-      by_values [] steps at = rests v refl (subst (λ w. inner w (Ok v) t) (sym steps) at.0) (let equal = ap open_count steps in omega arith)
-      by_values (x ∷ xs) steps at = let fewer = took_item inner false m t v at in absurd (omega arith)
+      by_values : (vs : List T) → Steps inner false false s vs m
+          → StepOutcome inner false (is_nil vs) m (Ok (Some v)) t
+          → UntilRest inner s (vs ++ v ∷ []) t
+      by_values [] steps at =
+          rests v refl (subst (λ w. inner w (Ok v) t) (sym steps) at.0)
+          (let equal = ap open_count steps in omega arith)
+      by_values (x ∷ xs) steps at =
+          let fewer = took_item inner false m t v at in absurd (omega arith)
 
   -- the value took an item
-  pub goes_on : (v : T) → o ≡ Some v → open_count t ≢ open_count m → Steps inner false false s (vs ++ v ∷ []) t × (open_count t < open_count m)
+  pub goes_on : (v : T) → o ≡ Some v → open_count t ≢ open_count m
+      → Steps inner false false s (vs ++ v ∷ []) t × (open_count t < open_count m)
   goes_on v is other =
       let at = step_at inner false m vs b o v t nil step is in
       let here = law.ok m t v at.0 in
@@ -103,13 +127,17 @@ module _ {T : Type 0} {inner : Outcome T} {reads : Readings T} (law : Lawful T i
 
   -- a step stopped
   pub stops_here : o ≡ None → UntilRest inner s vs t
-  stops_here is = stops m steps (subst (λ w. StepOutcome inner false w m (Ok None) t) nil (subst (λ w. StepOutcome inner false b m (Ok w) t) is step))
+  stops_here is =
+      stops m steps (subst (λ w. StepOutcome inner false w m (Ok None) t) nil
+      (subst (λ w. StepOutcome inner false b m (Ok w) t) is step))
 
   -- there are no more values than items present at the start, or there was none before this one
   pub fits_more : (v : T) → o ≡ Some v → (length vs ≡ 0) ⊎ (length vs + 1 ≤ open_count s)
   fits_more v is = by_values vs steps (step_at inner false m vs b o v t nil step is)
     where
-      by_values : (vs : List T) → Steps inner false false s vs m → StepOutcome inner false (is_nil vs) m (Ok (Some v)) t → (length vs ≡ 0) ⊎ (length vs + 1 ≤ open_count s)
+      by_values : (vs : List T) → Steps inner false false s vs m
+          → StepOutcome inner false (is_nil vs) m (Ok (Some v)) t → (length vs ≡ 0)
+          ⊎ (length vs + 1 ≤ open_count s)
       by_values [] steps at = inl refl
       by_values (x ∷ xs) steps at =
           let fewer = took_item inner false m t v at in
@@ -117,6 +145,7 @@ module _ {T : Type 0} {inner : Outcome T} {reads : Readings T} (law : Lawful T i
           inr (omega arith)
 
 -- without a value, what the inner parser answers when it is evaluated once more
-pub last_answers : {T : Type 0} (inner : Outcome T) (s m : Situation) → UntilRest inner s [] m → (r : Result T Error) (t : Situation) → inner m r t → LastOutcome inner s r t
+pub last_answers : {T : Type 0} (inner : Outcome T) (s m : Situation) → UntilRest inner s [] m
+    → (r : Result T Error) (t : Situation) → inner m r t → LastOutcome inner s r t
 last_answers inner s m run (Ok v) t o = inr (m, run, o)
 last_answers inner s m run (Err e) t o = inr (m, run, o)

@@ -11,11 +11,14 @@ use Rattle.bpaf_laws.specs.Spared.{IsNotMemory, WithoutMemory, NoneTakesNothing}
 -- what isn't want of memory comes of an inner answer that isn't want of memory either
 abbrev pub CatchesNoMemory : {T R : Type 0} → (Outcome T → Outcome R) → Outcome T → Type 0
 CatchesNoMemory {T} {R} combined inner =
-    (s t : Situation) (r : Result R Error) → combined inner s r t → IsNotMemory r → combined (WithoutMemory inner) s r t
+    (s t : Situation) (r : Result R Error) → combined inner s r t → IsNotMemory r
+    → combined (WithoutMemory inner) s r t
 
 -- an error at which a step stops isn't want of memory
-stop_spared : (catches : Bool) (m : Message) (untouched : Bool) → stops_step catches m untouched ≡ true → is_memory m ≡ false
-stop_spared catches m untouched stops = of_both (is_memory m) (stops_spared catches m untouched) stops
+stop_spared : (catches : Bool) (m : Message) (untouched : Bool)
+    → stops_step catches m untouched ≡ true → is_memory m ≡ false
+stop_spared catches m untouched stops =
+    of_both (is_memory m) (stops_spared catches m untouched) stops
   where
     of_both : (x y : Bool) → (not x && y) ≡ true → x ≡ false
     of_both false y both = refl
@@ -27,7 +30,8 @@ not_both m spared memory = true≢false (sym memory ∙ spared)
 
 module _ {T : Type 0} (inner : Outcome T) where
   -- a step catches no want of memory
-  pub spared_step : (catches first : Bool) → CatchesNoMemory (λ outcome. StepOutcome outcome catches first) inner
+  pub spared_step : (catches first : Bool)
+      → CatchesNoMemory (λ outcome. StepOutcome outcome catches first) inner
   spared_step catches first s t (Ok (Some v)) o spared = ((o.0, tt), o.1)
   spared_step catches first s t (Ok None) o spared =
       ⊎_elim
@@ -38,10 +42,13 @@ module _ {T : Type 0} (inner : Outcome T) where
       inr ((e, m, (stopped.0.2, stop_spared catches e.0 _ stopped.0.3), stopped.0.3), stopped.1))
       o
   spared_step catches first s t (Err e) o spared =
-      ⊎_elim (λ failed. inl ((failed.0, spared), failed.1)) (λ memory. absurd (not_both e.0 spared memory.0)) o
+      ⊎_elim (λ failed. inl ((failed.0, spared), failed.1))
+      (λ memory. absurd (not_both e.0 spared memory.0)) o
 
   -- None takes nothing
-  pub none_takes_nothing : (catches : Bool) (s t : Situation) (r : Result (Option T) Error) → StepOutcome inner catches true s r t → NoneTakesNothing s r t
-  none_takes_nothing catches s t (Ok None) o = ⊎_elim (λ dropped. absurd (true≢false dropped.2)) (λ stopped. stopped.1) o
+  pub none_takes_nothing : (catches : Bool) (s t : Situation) (r : Result (Option T) Error)
+      → StepOutcome inner catches true s r t → NoneTakesNothing s r t
+  none_takes_nothing catches s t (Ok None) o =
+      ⊎_elim (λ dropped. absurd (true≢false dropped.2)) (λ stopped. stopped.1) o
   none_takes_nothing catches s t (Ok (Some v)) o = tt
   none_takes_nothing catches s t (Err e) o = tt

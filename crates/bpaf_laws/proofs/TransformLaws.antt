@@ -7,29 +7,43 @@ use Rattle.bpaf_laws.specs.Transform.{MapReads, MapOutcome, ParseOutcome, GuardR
 
 module _ {T : Type 0} {inner : Outcome T} {reads : Readings T} (law : Lawful T inner reads) where
   -- an inner value that was read, with what a closure made of it, is a reading
-  map_read : {R : Type 0} (answers : T → R → Type 0) (s t : _) (x : T) (v : R) → inner s (Ok x) t → answers x v → Reads R (MapReads T R reads answers) s v t
+  map_read : {R : Type 0} (answers : T → R → Type 0) (s t : _) (x : T) (v : R) → inner s (Ok x) t
+      → answers x v → Reads R (MapReads T R reads answers) s v t
   map_read answers s t x v ran made =
       let read = law.ok s t x ran in
-      record { keeps = read.keeps; closed = read.closed; reading = record { from = x; read = read.reading; made = made } }
+      record {
+        keeps = read.keeps;
+        closed = read.closed;
+        reading = record { from = x; read = read.reading; made = made };
+      }
 
   -- mapped parsers keep to the laws
-  pub map_lawful : {R : Type 0} (answers : T → R → Type 0) → Lawful R (MapOutcome inner answers) (MapReads T R reads answers)
+  pub map_lawful : {R : Type 0} (answers : T → R → Type 0)
+      → Lawful R (MapOutcome inner answers) (MapReads T R reads answers)
   map_lawful answers = record {
     ok = λ s t v o. map_read answers s t o.0 v o.1 o.2;
     err = λ s t e o. law.err s t e o;
   }
 
   -- so do parsers whose value a closure reads on
-  pub parse_lawful : {R E : Type 0} (answers : T → Result R E → Type 0) (shown : E → Option (List ℕ))
+  pub parse_lawful : {R E : Type 0} (answers : T → Result R E → Type 0)
+      (shown : E → Option (List ℕ))
       → Lawful R (ParseOutcome inner answers shown) (MapReads T R reads (λ x v. answers x (Ok v)))
   parse_lawful answers shown = record {
     ok = λ s t v o. map_read (λ x w. answers x (Ok w)) s t o.0 v o.1 o.2;
-    err = λ s t e o. ⊎_elim (λ refused. law.err s t e refused) (λ fault. (law.ok s t fault.0 fault.1).keeps) o;
+    err =
+        λ s t e o. ⊎_elim (λ refused. law.err s t e refused)
+        (λ fault. (law.ok s t fault.0 fault.1).keeps) o;
   }
 
   -- and guarded ones
-  pub guard_lawful : (checks : T → Bool → Type 0) (message : List ℕ) → Lawful T (GuardOutcome inner checks message) (GuardReads reads checks)
+  pub guard_lawful : (checks : T → Bool → Type 0) (message : List ℕ)
+      → Lawful T (GuardOutcome inner checks message) (GuardReads reads checks)
   guard_lawful checks message = record {
-    ok = λ s t v o. let read = law.ok s t v o.0 in record { keeps = read.keeps; closed = read.closed; reading = (read.reading, o.1) };
-    err = λ s t e o. ⊎_elim (λ refused. law.err s t e refused) (λ failed. (law.ok s t failed.0 failed.1).keeps) o;
+    ok =
+        λ s t v o. let read = law.ok s t v o.0
+        in record { keeps = read.keeps; closed = read.closed; reading = (read.reading, o.1) };
+    err =
+        λ s t e o. ⊎_elim (λ refused. law.err s t e refused)
+        (λ failed. (law.ok s t failed.0 failed.1).keeps) o;
   }

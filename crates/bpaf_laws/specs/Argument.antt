@@ -1,9 +1,10 @@
 -- Arguments: a key and the text behind it.
-use Rattle.std.specs.Prelude.{◌≡◌, ◌⊎◌, ℕ, ◌+◌, false, List, Result, Ok, Err, Some, None, String, string_bytes, option_and_then}
+use Rattle.std.specs.Prelude.{◌≡◌, ◌⊎◌, ℕ, ◌+◌, Bool, List, Result, Ok, Err, Some, None, String, string_bytes, option_and_then}
 use Rattle.std.specs.Option.{option_map_or}
 use Rattle.std.specs.declared.alloc.Global.{Global}
 use Rattle.bpaf_doc.specs.Shape.{Shape, Shown, Skip}
-use Rattle.bpaf_text.specs.Named.{Named, argument_part}
+use Rattle.bpaf_text.specs.Named.{KeyWithValue, argument_part}
+use Rattle.bpaf_words.specs.declared.arg.Arg.{Arg}
 use Rattle.bpaf_words.specs.Items.{is_argument_key, value_text}
 use Rattle.bpaf_line.specs.Situation.{Situation, Context, item_in, with_current}
 use Rattle.bpaf_line.specs.Taking.{TakesValue, RefusesArgument, HasNone}
@@ -14,55 +15,95 @@ use Rattle.bpaf_laws.specs.Reading.{Share, Outcome, IsEmptyShare, IsPair, HasIte
 use Rattle.bpaf_laws.specs.Environment.{first_set, IsAbsence}
 use Rattle.bpaf_laws.specs.Value.{FaultsText}
 
--- a key with one of the names and the next place, a Word or an ArgWord with this text
-pub record IsKeyWithText (named : Named) (context : Context) (share : Share) (text : List ℕ) : Type 0 where
+-- a key of the argument
+abbrev pub is_key_with_value : KeyWithValue → Arg → Bool
+is_key_with_value argument = is_argument_key argument.named.names argument.adjacent
+
+-- a key of the argument and the next place, a Word or an ArgWord with this text
+pub record IsKeyWithText (argument : KeyWithValue) (context : Context) (share : Share)
+    (text : List ℕ)
+    : Type 0 where
   pub key : ℕ
-  pub is_key : HasItem (is_argument_key named.names false) context key
+  pub is_key : HasItem (is_key_with_value argument) context key
   pub behind : option_and_then value_text (item_in context (key + 1)) ≡ Some text
   pub places : IsPair key share
 
--- a key and the text behind it, or no place and the text of the first environment name that is set; and what that text means
-pub data ArgumentReads (T : Type 0) (means : List ℕ → T → Type 0) (named : Named) (context : Context) (share : Share) (v : T) : Type 0 where
-  behind_key : (text : List ℕ) → IsKeyWithText named context share text → means text v → ArgumentReads T means named context share v
-  in_variable : (text : List ℕ) → IsEmptyShare share → first_set context.env named.envs ≡ Some text → means text v → ArgumentReads T means named context share v
+-- this is the text of the first of the argument's names in the environment that is set
+abbrev pub IsVariable : KeyWithValue → Context → List ℕ → Type 0
+IsVariable argument context text = first_set context.env argument.named.envs ≡ Some text
 
--- no key is there, and this is the text of the first environment name that is set; no place is current then
-pub record ReadsVariable (named : Named) (s : Situation) (text : List ℕ) (t : Situation) : Type 0 where
-  pub no_key : HasNone (is_argument_key named.names false) s
-  pub set : first_set s.context.env named.envs ≡ Some text
+-- a key and the text behind it, or no place and the text of the first environment name that is set;
+-- and what that text means
+pub data ArgumentReads (T : Type 0) (means : List ℕ → T → Type 0) (argument : KeyWithValue)
+    (context : Context) (share : Share) (v : T) : Type 0 where
+  behind_key : (text : List ℕ) → IsKeyWithText argument context share text → means text v
+      → ArgumentReads T means argument context share v
+  in_variable : (text : List ℕ) → IsEmptyShare share → IsVariable argument context text
+      → means text v
+      → ArgumentReads T means argument context share v
+
+-- the first key of the argument and the text behind it are taken
+abbrev pub TakesKeyWithText : KeyWithValue → Situation → List ℕ → Situation → Type 0
+TakesKeyWithText argument = TakesValue argument.named.names argument.adjacent
+
+-- no key of the argument is present in scope
+abbrev pub HasNoKey : KeyWithValue → Situation → Type 0
+HasNoKey argument = HasNone (is_key_with_value argument)
+
+-- no key is there, and this is the text of the first environment name that is set; no place is
+-- current
+-- then
+pub record ReadsVariable (argument : KeyWithValue) (s : Situation) (text : List ℕ) (t : Situation)
+    : Type 0 where
+  pub no_key : HasNoKey argument s
+  pub set : IsVariable argument s.context text
   pub left : t ≡ with_current s None
 
--- the text of an argument: that behind its key, which are taken; or where no key is there, that of the environment
-abbrev pub GetsText : Named → Situation → List ℕ → Situation → Type 0
-GetsText named s text t = TakesValue named.names false s text t ⊎ ReadsVariable named s text t
+-- the text of an argument: that behind its key, which are taken; or where no key is there, that of
+-- the
+-- environment
+abbrev pub GetsText : KeyWithValue → Situation → List ℕ → Situation → Type 0
+GetsText argument s text t = TakesKeyWithText argument s text t ⊎ ReadsVariable argument s text t
 
--- neither a key is there nor an environment name set, and nothing changes
-abbrev pub IsArgumentAbsent : Named → Situation → Situation → Type 0
-IsArgumentAbsent named s t = HasNone (is_argument_key named.names false) s × (first_set s.context.env named.envs ≡ None) × (t ≡ s)
+-- the first key has no text behind it
+abbrev pub LacksText : KeyWithValue → Situation → Message → Type 0
+LacksText argument = RefusesArgument argument.named.names argument.adjacent argument.metavar
 
--- no text: the key has none behind it; or there is neither a key nor a variable; or memory is wanted; nothing changes
-abbrev pub RefusesText : Named → List ℕ → Situation → Message → Situation → Type 0
-RefusesText named metavar s (NoArgument key m) t = RefusesArgument named.names false metavar s (NoArgument key m) × (t ≡ s)
-RefusesText named metavar s Memory t = t ≡ s
-RefusesText named metavar s m t = IsArgumentAbsent named s t × IsAbsence s (argument_part named metavar) named.envs m
+-- no environment name is set, and the refusal says that the argument is nowhere
+abbrev pub IsNowhere : KeyWithValue → Situation → Message → Type 0
+IsNowhere argument s m =
+    (first_set s.context.env argument.named.envs ≡ None)
+    × IsAbsence s (argument_part argument) argument.named.envs m
+
+-- no text: the key has none behind it; or there is neither a key nor a variable; or memory is
+-- wanted;
+-- nothing changes
+abbrev pub RefusesText : KeyWithValue → Situation → Message → Situation → Type 0
+RefusesText argument s (NoArgument key m) t = LacksText argument s (NoArgument key m) × (t ≡ s)
+RefusesText argument s Memory t = t ≡ s
+RefusesText argument s m t = HasNoKey argument s × IsNowhere argument s m × (t ≡ s)
 
 -- the text of an argument, or a refusal
-abbrev pub TakesText : Named → List ℕ → Situation → Result (String Global) Error → Situation → Type 0
-TakesText named metavar s (Ok text) t = GetsText named s (string_bytes text) t
-TakesText named metavar s (Err e) t = RefusesText named metavar s e.0 t
+abbrev pub TakesText : KeyWithValue → Situation → Result (String Global) Error → Situation → Type 0
+TakesText argument s (Ok text) t = GetsText argument s (string_bytes text) t
+TakesText argument s (Err e) t = RefusesText argument s e.0 t
 
--- a refusal: no text; or a text that means no value, its places taken; or want of memory for its value
-abbrev pub ArgumentFails : {T : Type 0} → (List ℕ → T → Type 0) → Named → List ℕ → Situation → Message → Situation → Type 0
-ArgumentFails means named metavar s (ParseFailed place fault) t =
-    (text : List ℕ) × GetsText named s text t × FaultsText means text t.current (ParseFailed place fault)
-ArgumentFails means named metavar s Memory t = (t ≡ s) ⊎ ((text : List ℕ) × GetsText named s text t)
-ArgumentFails means named metavar s m t = RefusesText named metavar s m t
+-- a refusal: no text; or a text that means no value, its places taken; or want of memory for its
+-- value
+abbrev pub ArgumentFails : {T : Type 0} → (List ℕ → T → Type 0) → KeyWithValue → Situation → Message
+    → Situation → Type 0
+ArgumentFails means argument s (ParseFailed place fault) t =
+    (text : List ℕ) × GetsText argument s text t
+    × FaultsText means text t.current (ParseFailed place fault)
+ArgumentFails means argument s Memory t = (t ≡ s) ⊎ ((text : List ℕ) × GetsText argument s text t)
+ArgumentFails means argument s m t = RefusesText argument s m t
 
 -- the text of the argument means the answer
-abbrev pub ArgumentOutcome : {T : Type 0} → (List ℕ → T → Type 0) → Named → List ℕ → Outcome T
-ArgumentOutcome means named metavar s (Ok v) t = (text : List ℕ) × GetsText named s text t × means text v
-ArgumentOutcome means named metavar s (Err e) t = ArgumentFails means named metavar s e.0 t
+abbrev pub ArgumentOutcome : {T : Type 0} → (List ℕ → T → Type 0) → KeyWithValue → Outcome T
+ArgumentOutcome means argument s (Ok v) t =
+    (text : List ℕ) × GetsText argument s text t × means text v
+ArgumentOutcome means argument s (Err e) t = ArgumentFails means argument s e.0 t
 
 -- what an argument shows: its item; without a name nothing
-abbrev pub argument_shape : Named → List ℕ → Shape
-argument_shape named metavar = option_map_or Shown (argument_part named metavar) Skip
+abbrev pub argument_shape : KeyWithValue → Shape
+argument_shape argument = option_map_or Shown (argument_part argument) Skip

@@ -20,24 +20,34 @@ abbrev pub is_want : {T : Type 0} → Result T Error → Bool
 is_want (Ok v) = false
 is_want (Err e) = is_memory e.0
 
--- the answer of the branch that won by a place, if by one: what only the loser took has then a conflict mark that names it
-abbrev pub Winner : {T : Type 0} → T → Situation → T → Situation → Bool → Option ℕ → Result T Error → Situation → Type 0
+-- the value of the branch that wins, by a place if by one: what only the other one took has then a
+-- conflict mark that names it
+abbrev pub Winner : {T : Type 0} → T → Situation → T → Situation → Bool → Option ℕ → Result T Error
+    → Situation → Type 0
 Winner x sa y sb first None r t = (r ≡ Ok x) × (t ≡ sa)
 Winner x sa y sb true (Some place) r t = (r ≡ Ok x) × ConflictsSaved sa sb place t
 Winner x sa y sb false (Some place) r t = (r ≡ Ok y) × ConflictsSaved sb sa place t
 
--- that branch took the leftmost place taken by only one of them; without such a place it is the first
-abbrev pub Won : {T : Type 0} → T → Situation → T → Situation → Result T Error → Situation → Type 0
-Won x sa y sb r t = (first : Bool) × (place : Option ℕ) × IsWinner sa sb (first, place) × Winner x sa y sb first place r t
+-- the value of the branch that took the leftmost place taken by only one of them; without such a
+-- place
+-- it is the first
+abbrev pub ValueOfWinner : {T : Type 0} → T → Situation → T → Situation → Result T Error → Situation
+    → Type 0
+ValueOfWinner x sa y sb r t =
+    (first : Bool) × (place : Option ℕ) × IsWinner sa sb (first, place)
+    × Winner x sa y sb first place r t
 
--- both answered a value: the first where neither took an item, else the one that won
-abbrev pub BothOk : {T : Type 0} → Situation → T → Situation → T → Situation → Result T Error → Situation → Type 0
+-- both answered a value: that of the first where neither took an item, else that of the winner
+abbrev pub BothOk : {T : Type 0} → Situation → T → Situation → T → Situation → Result T Error
+    → Situation → Type 0
 BothOk s x sa y sb r t =
     (((is_untouched s sa && is_untouched s sb) ≡ true) × (r ≡ Ok x) × (t ≡ sa))
-    ⊎ (((is_untouched s sa && is_untouched s sb) ≡ false) × Won x sa y sb r t)
+    ⊎ (((is_untouched s sa && is_untouched s sb) ≡ false) × ValueOfWinner x sa y sb r t)
 
--- one answered a value: it is the answer, unless it took nothing and the other's error is wrong input
-abbrev pub OneOk : {T : Type 0} → Situation → T → Situation → Error → Result T Error → Situation → Type 0
+-- one answered a value: it is the answer, unless it took nothing and the other's error is wrong
+-- input
+abbrev pub OneOk : {T : Type 0} → Situation → T → Situation → Error → Result T Error → Situation
+    → Type 0
 OneOk s x sx e r t =
     (((is_untouched s sx && is_wrong_input e.0) ≡ true) × (r ≡ Err e) × (t ≡ s))
     ⊎ (((is_untouched s sx && is_wrong_input e.0) ≡ false) × (r ≡ Ok x) × (t ≡ sx))
@@ -47,20 +57,24 @@ abbrev pub BothErr : {T : Type 0} → Situation → Error → Error → Result T
 BothErr s e f r t = ((both : Error) × Combines e.0 f.0 both.0 × (r ≡ Err both)) × (t ≡ s)
 
 -- the answer where both paths are equally deep
-abbrev pub EqualDepths : {T : Type 0} → Situation → Result T Error → Situation → Result T Error → Situation → Result T Error → Situation → Type 0
+abbrev pub EqualDepths : {T : Type 0} → Situation → Result T Error → Situation → Result T Error
+    → Situation → Result T Error → Situation → Type 0
 EqualDepths s (Ok x) sa (Ok y) sb r t = BothOk s x sa y sb r t
 EqualDepths s (Ok x) sa (Err f) sb r t = OneOk s x sa f r t
 EqualDepths s (Err e) sa (Ok y) sb r t = OneOk s y sb e r t
 EqualDepths s (Err e) sa (Err f) sb r t = BothErr s e f r t
 
 -- the answer by what the two branches answered: that of the deeper path, else as above
-abbrev pub Chosen : {T : Type 0} → Situation → Result T Error → Situation → Result T Error → Situation → Result T Error → Situation → Type 0
+abbrev pub Chosen : {T : Type 0} → Situation → Result T Error → Situation → Result T Error
+    → Situation → Result T Error → Situation → Type 0
 Chosen s a sa b sb r t =
     ((depth sb < depth sa) × (r ≡ a) × (t ≡ sa))
-    ⊎ (((depth sa < depth sb) × (r ≡ b) × (t ≡ sb)) ⊎ ((depth sa ≡ depth sb) × EqualDepths s a sa b sb r t))
+    ⊎ (((depth sa < depth sb) × (r ≡ b) × (t ≡ sb))
+    ⊎ ((depth sa ≡ depth sb) × EqualDepths s a sa b sb r t))
 
 -- both branches, evaluated from the same situation, answered something else than want of memory
-pub record BranchesRan {T : Type 0} (first second : Outcome T) (s : Situation) (r : Result T Error) (t : Situation) : Type 0 where
+pub record BranchesRan {T : Type 0} (first second : Outcome T) (s : Situation) (r : Result T Error)
+    (t : Situation) : Type 0 where
   pub a : Result T Error
   pub sa : Situation
   pub b : Result T Error
@@ -74,7 +88,8 @@ pub record BranchesRan {T : Type 0} (first second : Outcome T) (s : Situation) (
 -- the table; want of memory is the answer at once, and leaves all as before
 abbrev pub ChoiceOutcome : {T : Type 0} → Outcome T → Outcome T → Outcome T
 ChoiceOutcome first second s (Ok v) t = BranchesRan first second s (Ok v) t
-ChoiceOutcome first second s (Err e) t = BranchesRan first second s (Err e) t ⊎ ((is_memory e.0 ≡ true) × (t ≡ s))
+ChoiceOutcome first second s (Err e) t =
+    BranchesRan first second s (Err e) t ⊎ ((is_memory e.0 ≡ true) × (t ≡ s))
 
 -- a reading of one branch
 abbrev pub ChoiceReads : {T : Type 0} → Readings T → Readings T → Readings T
@@ -96,25 +111,32 @@ either first second = Or (members (alternatives first ++ alternatives second))
 
 -- a choice shows what both branches show
 abbrev pub ChoiceDescribes : (Shape → Type 0) → (Shape → Type 0) → Shape → Type 0
-ChoiceDescribes first second shape = (a : Shape) × (b : Shape) × first a × second b × (shape ≡ either a b)
+ChoiceDescribes first second shape =
+    (a : Shape) × (b : Shape) × first a × second b × (shape ≡ either a b)
 
 -- a branch is the chosen one: its value is the answer, and what it took is taken
-pub record IsChosen {T : Type 0} (a : Result T Error) (sa : Situation) (v : T) (t : Situation) : Type 0 where
+pub record IsChosen {T : Type 0} (a : Result T Error) (sa : Situation) (v : T)
+    (t : Situation) : Type 0 where
   pub answer : a ≡ Ok v
   pub takes : TakeTheSame t sa
 
 -- a branch took a place, and is the chosen one
-pub record TookAndIsChosen {T : Type 0} (p : ℕ) (a : Result T Error) (sa : Situation) (v : T) (t : Situation) : Type 0 where
+pub record TookAndIsChosen {T : Type 0} (p : ℕ) (a : Result T Error) (sa : Situation) (v : T)
+    (t : Situation) : Type 0 where
   pub chosen : IsChosen a sa v t
   pub took : is_taken sa p ≡ true
 
--- the answer comes of two branches that ran; where these are equally deep and both answer a value the chosen one took the
+-- the answer comes of two branches that ran; where these are equally deep and both answer a value
+-- the chosen one took the
 -- leftmost place taken by only one of them, and without such a place the first is chosen
-pub record LeftmostIsChosen {T : Type 0} (first second : Outcome T) (s : Situation) (v : T) (t : Situation) : Type 0 where
+pub record LeftmostIsChosen {T : Type 0} (first second : Outcome T) (s : Situation) (v : T)
+    (t : Situation) : Type 0 where
   pub ran : BranchesRan first second s (Ok v) t
   pub leftmost : IsOk ran.a → IsOk ran.b → depth ran.sa ≡ depth ran.sb
-      → (p : ℕ) → IsLeftmost ran.sa ran.sb p → TookAndIsChosen p ran.a ran.sa v t ⊎ TookAndIsChosen p ran.b ran.sb v t
-  pub else_first : IsOk ran.a → IsOk ran.b → depth ran.sa ≡ depth ran.sb → TakeTheSame ran.sa ran.sb → IsChosen ran.a ran.sa v t
+      → (p : ℕ) → IsLeftmost ran.sa ran.sb p → TookAndIsChosen p ran.a ran.sa v t
+      ⊎ TookAndIsChosen p ran.b ran.sb v t
+  pub else_first : IsOk ran.a → IsOk ran.b → depth ran.sa ≡ depth ran.sb → TakeTheSame ran.sa ran.sb
+      → IsChosen ran.a ran.sa v t
 
 -- the table, in which the leftmost wins
 abbrev pub LeftmostWins : {T : Type 0} → Outcome T → Outcome T → Outcome T

@@ -5,7 +5,8 @@ use Rattle.bpaf_laws.specs.Reading.{Readings, Outcome}
 use Rattle.bpaf_laws.specs.Choice.{ChoiceOutcome, ChoiceReads, ChoiceDescribes, LeftmostWins}
 use Rattle.bpaf_laws.specs.Pure.{GivesRefusal, PureOutcome, PureReads}
 
--- choices of two, nested to the left: what stands before, chosen against the meaning of each parser in turn
+-- choices of two, nested to the left: what stands before, chosen against the meaning of each parser
+-- in turn
 abbrev pub Nested : {A : Type 1} {P : Type 0} → (A → A → A) → (P → A) → A → List P → A
 Nested choice meaning before [] = before
 Nested choice meaning before (p ∷ ps) = Nested choice meaning (choice before (meaning p)) ps
@@ -14,7 +15,8 @@ Nested choice meaning before (p ∷ ps) = Nested choice meaning (choice before (
 abbrev pub no_choice : List ℕ
 no_choice = codes "Invalid choice usage"
 
--- the choice of all parsers; without parsers a refusal
+-- the choice of all parsers: of one, whatever that answers, also its refusals; without parsers a
+-- refusal
 abbrev pub ChoicesOutcome : {T P : Type 0} → (P → Outcome T) → List P → Outcome T
 ChoicesOutcome outcome [] = PureOutcome (GivesRefusal no_choice)
 ChoicesOutcome outcome (p ∷ ps) = Nested ChoiceOutcome outcome (outcome p) ps

@@ -10,4 +10,5 @@ taken_count s t = count_below (newly s t) (length s.context.line)
 
 -- after an Ok as many places fewer are present as were newly taken
 abbrev pub CountFalls : {T : Type 0} → Outcome T → Type 0
-CountFalls {T} outcome = (s t : Situation) (v : T) → outcome s (Ok v) t → open_count s ≡ open_count t + taken_count s t
+CountFalls {T} outcome =
+    (s t : Situation) (v : T) → outcome s (Ok v) t → open_count s ≡ open_count t + taken_count s t

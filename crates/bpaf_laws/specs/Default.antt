@@ -20,7 +20,8 @@ GivesClone clones kept (Err e) = is_memory e.0 ≡ true
 -- a closure gives its value; its fault is a refusal
 abbrev pub GivesAnswer : {T E : Type 0} → (Result T E → Type 0) → (E → Option (List ℕ)) → Gives T
 GivesAnswer answers shown (Ok v) = answers (Ok v)
-GivesAnswer {T} {E} answers shown (Err e) = (fault : E) × answers (Err fault) × TellsFault shown fault PureFailed e.0
+GivesAnswer {T} {E} answers shown (Err e) =
+    (fault : E) × answers (Err fault) × TellsFault shown fault PureFailed e.0
 
 -- no place and None, or an inner reading and Some of its value
 abbrev pub OptionalReads : {T : Type 0} → Readings T → Readings (Option T)
@@ -29,23 +30,29 @@ OptionalReads inner context share (Some v) = inner context share v
 
 -- an inner reading; or no place and a value that is given
 abbrev pub FallbackReads : {T : Type 0} → Readings T → Gives T → Readings T
-FallbackReads inner gives context share v = inner context share v ⊎ (IsEmptyShare share × gives (Ok v))
+FallbackReads inner gives context share v =
+    inner context share v ⊎ (IsEmptyShare share × gives (Ok v))
 
 -- the inner parser answers an error that can be caught
 abbrev pub FallsBack : {T : Type 0} → Outcome T → Situation → Type 0
 FallsBack inner s = (e : Error) × (m : Situation) × inner s (Err e) m × (can_catch e.0 ≡ true)
 
--- Some of an inner value; None where the inner parser falls back; or another error, or want of memory. After all but a
+-- Some of an inner value; None where the inner parser falls back; or another error, or want of
+-- memory. After all but a
 -- value the situation is as before
 abbrev pub AttemptOutcome : {T : Type 0} → Outcome T → Outcome (Option T)
 AttemptOutcome inner s (Ok (Some v)) t = inner s (Ok v) t
 AttemptOutcome inner s (Ok None) t = FallsBack inner s × (t ≡ s)
-AttemptOutcome inner s (Err e) t = (((m : Situation) × inner s (Err e) m × (can_catch e.0 ≡ false)) ⊎ (is_memory e.0 ≡ true)) × (t ≡ s)
+AttemptOutcome inner s (Err e) t =
+    (((m : Situation) × inner s (Err e) m × (can_catch e.0 ≡ false)) ⊎ (is_memory e.0 ≡ true))
+    × (t ≡ s)
 
 -- the inner answer; where the inner parser falls back, what is given
 abbrev pub FallbackOutcome : {T : Type 0} → Outcome T → Gives T → Outcome T
-FallbackOutcome inner gives s (Ok v) t = AttemptOutcome inner s (Ok (Some v)) t ⊎ (AttemptOutcome inner s (Ok None) t × gives (Ok v))
-FallbackOutcome inner gives s (Err e) t = AttemptOutcome inner s (Err e) t ⊎ (AttemptOutcome inner s (Ok None) t × gives (Err e))
+FallbackOutcome inner gives s (Ok v) t =
+    AttemptOutcome inner s (Ok (Some v)) t ⊎ (AttemptOutcome inner s (Ok None) t × gives (Ok v))
+FallbackOutcome inner gives s (Err e) t =
+    AttemptOutcome inner s (Err e) t ⊎ (AttemptOutcome inner s (Ok None) t × gives (Err e))
 
 -- what may be left out is shown so
 abbrev pub OptionalDescribes : (Shape → Type 0) → Shape → Type 0

@@ -11,34 +11,53 @@ use Rattle.bpaf_line.specs.declared.error.Message.TheVariants.{Memory}
 use Rattle.bpaf_laws.specs.Reading.{Share, Outcome, IsEmptyShare, IsPlace, HasItem}
 use Rattle.bpaf_laws.specs.Environment.{is_set, IsAbsence}
 
--- a value that a flag gives where its key is absent: a clone of the absent value, where there is one
+-- a value that a flag gives where its key is absent: a clone of the absent value, where there is
+-- one
 abbrev pub IsAbsentValue : {T : Type 0} → (T → T → Type 0) → Option T → T → Type 0
 IsAbsentValue clones None v = ⊥
 IsAbsentValue clones (Some kept) v = clones kept v
 
--- one key with one of the names, attached or not, and a clone of the present value; or no place, and one of the present value where an environment name is set, else one of the absent value
-pub data FlagReads (T : Type 0) (clones : T → T → Type 0) (named : Named) (present : T) (absent : Option T) (context : Context) (share : Share) (v : T) : Type 0 where
-  at_key : (key : ℕ) → HasItem (is_key_of named.names) context key → IsPlace key share → clones present v → FlagReads T clones named present absent context share v
-  in_environment : IsEmptyShare share → is_set context.env named.envs ≡ true → clones present v → FlagReads T clones named present absent context share v
-  nowhere : IsEmptyShare share → is_set context.env named.envs ≡ false → IsAbsentValue clones absent v → FlagReads T clones named present absent context share v
+-- one key with one of the names, attached or not, and a clone of the present value; or no place,
+-- and one
+-- of the present value where an environment name is set, else one of the absent value
+pub data FlagReads (T : Type 0) (clones : T → T → Type 0) (named : Named) (present : T)
+    (absent : Option T)
+    (context : Context) (share : Share) (v : T) : Type 0 where
+  at_key : (key : ℕ) → HasItem (is_key_of named.names) context key → IsPlace key share
+      → clones present v
+      → FlagReads T clones named present absent context share v
+  in_environment : IsEmptyShare share → is_set context.env named.envs ≡ true → clones present v
+      → FlagReads T clones named present absent context share v
+  nowhere : IsEmptyShare share → is_set context.env named.envs ≡ false
+      → IsAbsentValue clones absent v
+      → FlagReads T clones named present absent context share v
 
 -- a flag is present: its key is taken; or it is not on the line, and an environment name is set
 abbrev pub IsFlagPresent : Named → Situation → Situation → Type 0
-IsFlagPresent named s t = TakesFlag named.names s true t ⊎ (TakesFlag named.names s false t × (is_set s.context.env named.envs ≡ true))
+IsFlagPresent named s t =
+    TakesFlag named.names s true t
+    ⊎ (TakesFlag named.names s false t × (is_set s.context.env named.envs ≡ true))
 
 -- it is neither on the line nor in the environment
 abbrev pub IsFlagAbsent : Named → Situation → Situation → Type 0
 IsFlagAbsent named s t = TakesFlag named.names s false t × (is_set s.context.env named.envs ≡ false)
 
+-- whether a key without a value is present: one test for flags and for the keys of help and version
+abbrev pub IsPresent : Named → Situation → Bool → Situation → Type 0
+IsPresent named s true t = IsFlagPresent named s t
+IsPresent named s false t = IsFlagAbsent named s t
+
 -- a refusal: a flag without absent value is absent; or a clone, or the refusal, wanted memory
 abbrev pub FlagFails : {T : Type 0} → Named → Option T → Situation → Message → Situation → Type 0
-FlagFails named absent s Memory t = (found : Bool) × TakesFlag named.names s found t
-FlagFails named absent s m t = IsFlagAbsent named s t × (absent ≡ None) × IsAbsence s (flag_part named) named.envs m
+FlagFails named absent s Memory t = (present : Bool) × IsPresent named s present t
+FlagFails named absent s m t =
+    IsFlagAbsent named s t × (absent ≡ None) × IsAbsence s (flag_part named) named.envs m
 
 -- present with the present value, or absent with the absent one
 abbrev pub FlagOutcome : {T : Type 0} → (T → T → Type 0) → Named → T → Option T → Outcome T
 FlagOutcome clones named present absent s (Ok v) t =
-    (IsFlagPresent named s t × clones present v) ⊎ (IsFlagAbsent named s t × IsAbsentValue clones absent v)
+    (IsFlagPresent named s t × clones present v)
+    ⊎ (IsFlagAbsent named s t × IsAbsentValue clones absent v)
 FlagOutcome clones named present absent s (Err e) t = FlagFails named absent s e.0 t
 
 -- what may be left out is shown so
@@ -46,6 +65,8 @@ abbrev pub optional_if : {T : Type 0} → Option T → Shape → Shape
 optional_if None shape = shape
 optional_if (Some kept) shape = Optional shape
 
--- what a flag shows: its item, which may be left out where it has an absent value; without a name nothing
+-- what a flag shows: its item, which may be left out where it has an absent value; without a name
+-- nothing
 abbrev pub flag_shape : {T : Type 0} → Named → Option T → Shape
-flag_shape named absent = option_map_or (λ part. optional_if absent (Shown part)) (flag_part named) Skip
+flag_shape named absent =
+    option_map_or (λ part. optional_if absent (Shown part)) (flag_part named) Skip

@@ -8,14 +8,16 @@ use Rattle.bpaf_laws.specs.Reading.{Share, Readings, Outcome, Joins}
 use Rattle.bpaf_laws.specs.Spared.{IsNotMemory}
 
 -- the join of the fields' shares, and the fields' values
-pub record BothReads (A B : Type 0) (first : Readings A) (rest : Readings B) (context : Context) (share : Share) (v : A × B) : Type 0 where
+pub record BothReads (A B : Type 0) (first : Readings A) (rest : Readings B) (context : Context)
+    (share : Share) (v : A × B) : Type 0 where
   pub first_share : Share
   pub rest_share : Share
   pub joins : Joins first_share rest_share share
   pub first_read : first context first_share v.0
   pub rest_read : rest context rest_share v.1
 
--- the answer of fields that were all evaluated: want of memory, else the first failing field's error, else the values
+-- the answer of fields that were all evaluated: want of memory, else the first failing field's
+-- error, else the values
 abbrev pub joined : {A B : Type 0} → Result A Error → Result B Error → Result (A × B) Error
 joined (Ok a) (Ok b) = Ok (a, b)
 joined (Ok a) (Err f) = Err f
@@ -23,7 +25,8 @@ joined (Err e) (Ok b) = Err e
 joined (Err e) (Err f) = if is_memory f.0 then Err f else Err e
 
 -- each field is evaluated, also after an error
-pub record BothRan (A B : Type 0) (first : Outcome A) (rest : Outcome B) (s : Situation) (r : Result (A × B) Error) (t : Situation) : Type 0 where
+pub record BothRan (A B : Type 0) (first : Outcome A) (rest : Outcome B) (s : Situation)
+    (r : Result (A × B) Error) (t : Situation) : Type 0 where
   pub a : Result A Error
   pub middle : Situation
   pub b : Result B Error
@@ -35,15 +38,19 @@ pub record BothRan (A B : Type 0) (first : Outcome A) (rest : Outcome B) (s : Si
 -- but want of memory is the answer at once
 abbrev pub BothOutcome : {A B : Type 0} → Outcome A → Outcome B → Outcome (A × B)
 BothOutcome {A} {B} first rest s (Ok v) t = BothRan A B first rest s (Ok v) t
-BothOutcome {A} {B} first rest s (Err e) t = BothRan A B first rest s (Err e) t ⊎ (first s (Err e) t × (is_memory e.0 ≡ true))
+BothOutcome {A} {B} first rest s (Err e) t =
+    BothRan A B first rest s (Err e) t ⊎ (first s (Err e) t × (is_memory e.0 ≡ true))
 
 -- a product: its fields, after which no word is current, then the constructor
 abbrev pub ProductOutcome : {V T : Type 0} → Outcome V → (V → T → Type 0) → Outcome T
-ProductOutcome {V} fields makes s (Ok v) t = (m : Situation) × (x : V) × fields s (Ok x) m × makes x v × (t ≡ with_current m None)
-ProductOutcome fields makes s (Err e) t = (m : Situation) × fields s (Err e) m × (t ≡ with_current m None)
+ProductOutcome {V} fields makes s (Ok v) t =
+    (m : Situation) × (x : V) × fields s (Ok x) m × makes x v × (t ≡ with_current m None)
+ProductOutcome fields makes s (Err e) t =
+    (m : Situation) × fields s (Err e) m × (t ≡ with_current m None)
 
 -- the share of the fields, and what the constructor may make of their values
-pub record ProductReads (V T : Type 0) (fields : Readings V) (makes : V → T → Type 0) (context : Context) (share : Share) (v : T) : Type 0 where
+pub record ProductReads (V T : Type 0) (fields : Readings V) (makes : V → T → Type 0)
+    (context : Context) (share : Share) (v : T) : Type 0 where
   pub values : V
   pub read : fields context share values
   pub made : makes values v
@@ -58,8 +65,10 @@ LastDescribes last shapes = (shape : Shape) × last shape × (shapes ≡ shape �
 
 -- what a field and those after it show
 abbrev pub BothDescribes : (Shape → Type 0) → (List Shape → Type 0) → List Shape → Type 0
-BothDescribes first rest shapes = (shape : Shape) × (others : List Shape) × first shape × rest others × (shapes ≡ shape ∷ others)
+BothDescribes first rest shapes =
+    (shape : Shape) × (others : List Shape) × first shape × rest others × (shapes ≡ shape ∷ others)
 
 -- what a product shows: all that its fields show
 abbrev pub ProductDescribes : (List Shape → Type 0) → Shape → Type 0
-ProductDescribes fields shape = (shapes : List Shape) × fields shapes × (shape ≡ And (members shapes))
+ProductDescribes fields shape =
+    (shapes : List Shape) × fields shapes × (shape ≡ And (members shapes))

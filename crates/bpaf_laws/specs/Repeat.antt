@@ -1,5 +1,5 @@
 -- Repeats: steps of one inner parser, one after another.
-use Rattle.std.specs.Prelude.{◌≡◌, ◌⊎◌, ℕ, ◌+◌, ◌<◌, ◌≤◌, Bool, true, false, List, [], ◌∷◌, ◌++◌, length, Ok, Err, Some, None}
+use Rattle.std.specs.Prelude.{◌≡◌, ◌⊎◌, ℕ, ◌+◌, ◌<◌, ◌≤◌, Bool, true, false, List, [], ◌∷◌, ◌++◌, length, Ok, Err, Some, None, ⊤}
 use Rattle.std.specs.Global.{Vec}
 use Rattle.bpaf_doc.specs.Shape.{Shape, Many, Optional, Required}
 use Rattle.bpaf_line.specs.Messages.{is_memory}
@@ -17,16 +17,20 @@ is_nil (v ∷ vs) = false
 -- steps one after another that answered these values; `first` where no value came before them
 abbrev pub Steps : {T : Type 0} → Outcome T → Bool → Bool → Situation → List T → Situation → Type 0
 Steps inner catches first s [] t = s ≡ t
-Steps inner catches first s (v ∷ vs) t = (m : Situation) × StepOutcome inner catches first s (Ok (Some v)) m × Steps inner catches false m vs t
+Steps inner catches first s (v ∷ vs) t =
+    (m : Situation) × StepOutcome inner catches first s (Ok (Some v)) m
+    × Steps inner catches false m vs t
 
 -- steps until one stops
-pub record UntilStop {T : Type 0} (inner : Outcome T) (catches : Bool) (s : Situation) (values : List T) (t : Situation) : Type 0 where
+pub record UntilStop {T : Type 0} (inner : Outcome T) (catches : Bool) (s : Situation)
+    (values : List T) (t : Situation) : Type 0 where
   pub last : Situation
   pub steps : Steps inner catches true s values last
   pub stop : StepOutcome inner catches (is_nil values) last (Ok None) t
 
 -- steps until one fails
-pub record UntilError {T : Type 0} (inner : Outcome T) (catches : Bool) (s : Situation) (e : Error) (t : Situation) : Type 0 where
+pub record UntilError {T : Type 0} (inner : Outcome T) (catches : Bool) (s : Situation) (e : Error)
+    (t : Situation) : Type 0 where
   pub values : List T
   pub last : Situation
   pub steps : Steps inner catches true s values last
@@ -41,12 +45,15 @@ ListOutcome inner catches s (Err e) t = UntilError inner catches s e t
 abbrev pub EachReads : {T : Type 0} → Readings T → Readings (List T)
 EachReads inner context share [] = IsEmptyShare share
 EachReads inner context share (v ∷ vs) =
-    (own : Share) × (rest : Share) × Joins own rest share × HasPlace own × inner context own v × EachReads inner context rest vs
+    (own : Share) × (rest : Share) × Joins own rest share × HasPlace own × inner context own v
+    × EachReads inner context rest vs
 
 -- inner readings with shares joined, each share but the first not empty
 abbrev pub ListReads : {T : Type 0} → Readings T → Readings (List T)
 ListReads inner context share [] = IsEmptyShare share
-ListReads inner context share (v ∷ vs) = (own : Share) × (rest : Share) × Joins own rest share × inner context own v × EachReads inner context rest vs
+ListReads inner context share (v ∷ vs) =
+    (own : Share) × (rest : Share) × Joins own rest share × inner context own v
+    × EachReads inner context rest vs
 
 -- many: the list
 abbrev pub ManyOutcome : {T : Type 0} → Outcome T → Bool → Outcome (Vec T)
@@ -59,33 +66,43 @@ ManyReads inner context share values = ListReads inner context share values.item
 
 -- some: the list, not empty; without a value the message is the answer, or want of memory for it
 abbrev pub SomeOutcome : {T : Type 0} → Outcome T → Bool → List ℕ → Outcome (Vec T)
-SomeOutcome inner catches message s (Ok values) t = ManyOutcome inner catches s (Ok values) t × (is_nil values.items ≡ false)
+SomeOutcome inner catches message s (Ok values) t =
+    ManyOutcome inner catches s (Ok values) t × (is_nil values.items ≡ false)
 SomeOutcome inner catches message s (Err e) t =
-    ListOutcome inner catches s (Err e) t ⊎ (ListOutcome inner catches s (Ok []) t × ((e.0 ≡ ParseSome message) ⊎ (e.0 ≡ Memory)))
+    ListOutcome inner catches s (Err e) t
+    ⊎ (ListOutcome inner catches s (Ok []) t × ((e.0 ≡ ParseSome message) ⊎ (e.0 ≡ Memory)))
 
 -- the list is read, and is not empty
 abbrev pub SomeReads : {T : Type 0} → Readings T → Readings (Vec T)
-SomeReads inner context share values = ManyReads inner context share values × (is_nil values.items ≡ false)
+SomeReads inner context share values =
+    ManyReads inner context share values × (is_nil values.items ≡ false)
 
 -- collect: what is filled from the list; or want of memory for it
 abbrev pub CollectOutcome : {T C : Type 0} → Outcome T → Bool → (List T → C → Type 0) → Outcome C
-CollectOutcome {T} inner catches fills s (Ok v) t = (values : List T) × ListOutcome inner catches s (Ok values) t × fills values v
+CollectOutcome {T} inner catches fills s (Ok v) t =
+    (values : List T) × ListOutcome inner catches s (Ok values) t × fills values v
 CollectOutcome {T} inner catches fills s (Err e) t =
-    ListOutcome inner catches s (Err e) t ⊎ ((values : List T) × ListOutcome inner catches s (Ok values) t × (is_memory e.0 ≡ true))
+    ListOutcome inner catches s (Err e) t
+    ⊎ ((values : List T) × ListOutcome inner catches s (Ok values) t × (is_memory e.0 ≡ true))
 
 -- the list is read that the collection is filled from
-pub record CollectReads {T C : Type 0} (inner : Readings T) (fills : List T → C → Type 0) (context : Context) (share : Share) (v : C) : Type 0 where
+pub record CollectReads {T C : Type 0} (inner : Readings T) (fills : List T → C → Type 0)
+    (context : Context) (share : Share) (v : C) : Type 0 where
   pub values : List T
   pub read : ListReads inner context share values
   pub filled : fills values v
 
 -- steps that each took an item, until one stops; or one value alone, that took nothing
-pub data UntilRest {T : Type 0} (inner : Outcome T) (s : Situation) (values : List T) (t : Situation) : Type 0 where
-  stops : (m : Situation) → Steps inner false false s values m → StepOutcome inner false (is_nil values) m (Ok None) t → UntilRest inner s values t
-  rests : (v : T) → values ≡ v ∷ [] → inner s (Ok v) t → open_count s ≤ open_count t → UntilRest inner s values t
+pub data UntilRest {T : Type 0} (inner : Outcome T) (s : Situation) (values : List T)
+    (t : Situation) : Type 0 where
+  stops : (m : Situation) → Steps inner false false s values m
+      → StepOutcome inner false (is_nil values) m (Ok None) t → UntilRest inner s values t
+  rests : (v : T) → values ≡ v ∷ [] → inner s (Ok v) t → open_count s ≤ open_count t
+      → UntilRest inner s values t
 
 -- steps that each took an item, until one fails
-pub record UntilFault {T : Type 0} (inner : Outcome T) (s : Situation) (e : Error) (t : Situation) : Type 0 where
+pub record UntilFault {T : Type 0} (inner : Outcome T) (s : Situation) (e : Error)
+    (t : Situation) : Type 0 where
   pub values : List T
   pub last : Situation
   pub steps : Steps inner false false s values last
@@ -93,11 +110,13 @@ pub record UntilFault {T : Type 0} (inner : Outcome T) (s : Situation) (e : Erro
 
 -- count: how many values there are, until one takes nothing or a step stops
 abbrev pub CountOutcome : {T : Type 0} → Outcome T → Outcome ℕ
-CountOutcome {T} inner s (Ok n) t = (values : List T) × UntilRest inner s values t × (n ≡ length values)
+CountOutcome {T} inner s (Ok n) t =
+    (values : List T) × UntilRest inner s values t × (n ≡ length values)
 CountOutcome inner s (Err e) t = UntilFault inner s e t
 
 -- the list is read that has so many values
-pub record CountReads {T : Type 0} (inner : Readings T) (context : Context) (share : Share) (n : ℕ) : Type 0 where
+pub record CountReads {T : Type 0} (inner : Readings T) (context : Context) (share : Share)
+    (n : ℕ) : Type 0 where
   pub values : List T
   pub read : ListReads inner context share values
   pub number : n ≡ length values
@@ -105,27 +124,40 @@ pub record CountReads {T : Type 0} (inner : Readings T) (context : Context) (sha
 -- last: the last value; without one, what the inner parser answers when it is evaluated once more
 abbrev pub LastOutcome : {T : Type 0} → Outcome T → Outcome T
 LastOutcome {T} inner s (Ok v) t =
-    ((before : List T) × UntilRest inner s (before ++ v ∷ []) t) ⊎ ((m : Situation) × UntilRest inner s [] m × inner m (Ok v) t)
-LastOutcome inner s (Err e) t = UntilFault inner s e t ⊎ ((m : Situation) × UntilRest inner s [] m × inner m (Err e) t)
+    ((before : List T) × UntilRest inner s (before ++ v ∷ []) t)
+    ⊎ ((m : Situation) × UntilRest inner s [] m × inner m (Ok v) t)
+LastOutcome inner s (Err e) t =
+    UntilFault inner s e t ⊎ ((m : Situation) × UntilRest inner s [] m × inner m (Err e) t)
 
 -- the list is read that ends in the value
-pub record LastReads {T : Type 0} (inner : Readings T) (context : Context) (share : Share) (v : T) : Type 0 where
+pub record LastReads {T : Type 0} (inner : Readings T) (context : Context) (share : Share)
+    (v : T) : Type 0 where
   pub before : List T
   pub read : ListReads inner context share (before ++ v ∷ [])
 
 -- evaluations one after another that answered these values and each took an item
 abbrev pub EachTakes : {T : Type 0} → Outcome T → Situation → List T → Situation → Type 0
 EachTakes inner s [] t = s ≡ t
-EachTakes inner s (v ∷ vs) t = (m : Situation) × inner s (Ok v) m × (open_count m < open_count s) × EachTakes inner m vs t
+EachTakes inner s (v ∷ vs) t =
+    (m : Situation) × inner s (Ok v) m × (open_count m < open_count s) × EachTakes inner m vs t
 
 -- the same, but that the first one need not take an item
 abbrev pub LaterTake : {T : Type 0} → Outcome T → Situation → List T → Situation → Type 0
 LaterTake inner s [] t = s ≡ t
 LaterTake inner s (v ∷ vs) t = (m : Situation) × inner s (Ok v) m × EachTakes inner m vs t
 
--- at most one value more than the items present at the start, and each value but the first took an item
+-- at most one value more than the items present at the start, and each value but the first took an
+-- item
 abbrev pub IsBounded : {T : Type 0} → Outcome T → Situation → List T → Type 0
-IsBounded inner s values = (length values ≤ open_count s + 1) × ((m : Situation) × LaterTake inner s values m)
+IsBounded inner s values =
+    (length values ≤ open_count s + 1) × ((m : Situation) × LaterTake inner s values m)
+
+-- a value is filled from the list that ran, and that is bounded
+abbrev pub CollectIsBounded : {T C : Type 0} → Outcome T → Bool → (List T → C → Type 0) → Outcome C
+CollectIsBounded {T} inner catches fills s (Ok v) t =
+    (values : List T) × ListOutcome inner catches s (Ok values) t × fills values v
+    × IsBounded inner s values
+CollectIsBounded inner catches fills s (Err e) t = ⊤
 
 -- what may stand more than once, or not at all, is shown so
 abbrev pub ManyDescribes : (Shape → Type 0) → Shape → Type 0

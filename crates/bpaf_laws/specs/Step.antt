@@ -7,7 +7,8 @@ use Rattle.bpaf_line.specs.declared.error.Message.{Message}
 use Rattle.bpaf_line.specs.declared.error.Message.TheVariants.{Missing}
 use Rattle.bpaf_laws.specs.Reading.{Outcome}
 
--- an error other than want of memory at which a step stops: with `catches` each that isn't wrong input; Missing where as
+-- an error other than want of memory at which a step stops: with `catches` each that isn't wrong
+-- input; Missing where as
 -- many items are present as before; each other that can be caught
 abbrev pub stops_spared : Bool → Message → Bool → Bool
 stops_spared catches (Missing items) untouched = catches || untouched
@@ -23,13 +24,20 @@ is_untouched s t = open_count t == open_count s
 
 -- the step stops at an error of the inner parser
 abbrev pub StopsAtError : {T : Type 0} → Outcome T → Bool → Situation → Type 0
-StopsAtError inner catches s = (e : Error) × (m : Situation) × inner s (Err e) m × (stops_step catches e.0 (is_untouched s m) ≡ true)
+StopsAtError inner catches s =
+    (e : Error) × (m : Situation) × inner s (Err e) m
+    × (stops_step catches e.0 (is_untouched s m) ≡ true)
 
--- Some of a value: of the first step, or of one that took an item. None, where the step stops: a later value that took
--- nothing is dropped, or at an error all is as before the step. Or the error, or want of memory before the step
+-- Some of a value: of the first step, or of one that took an item. None, where the step stops: a
+-- later value that took
+-- nothing is dropped, or at an error all is as before the step. Or the error, or want of memory
+-- before the step
 abbrev pub StepOutcome : {T : Type 0} → Outcome T → Bool → Bool → Outcome (Option T)
-StepOutcome inner catches first s (Ok (Some v)) t = inner s (Ok v) t × ((first ≡ true) ⊎ (open_count t < open_count s))
+StepOutcome inner catches first s (Ok (Some v)) t =
+    inner s (Ok v) t × ((first ≡ true) ⊎ (open_count t < open_count s))
 StepOutcome {T} inner catches first s (Ok None) t =
-    ((v : T) × inner s (Ok v) t × (first ≡ false) × (open_count s ≤ open_count t)) ⊎ (StopsAtError inner catches s × (t ≡ s))
+    ((v : T) × inner s (Ok v) t × (first ≡ false) × (open_count s ≤ open_count t))
+    ⊎ (StopsAtError inner catches s × (t ≡ s))
 StepOutcome inner catches first s (Err e) t =
-    (inner s (Err e) t × (stops_step catches e.0 (is_untouched s t) ≡ false)) ⊎ ((is_memory e.0 ≡ true) × (t ≡ s))
+    (inner s (Err e) t × (stops_step catches e.0 (is_untouched s t) ≡ false))
+    ⊎ ((is_memory e.0 ≡ true) × (t ≡ s))

@@ -6,11 +6,13 @@ use Rattle.bpaf_line.specs.declared.error.Message.TheVariants.{Memory, ParseFail
 
 -- a fault where the text means no value, at the current place; or want of memory
 abbrev pub FaultsText : {T : Type 0} → (List ℕ → T → Type 0) → List ℕ → Option ℕ → Message → Type 0
-FaultsText {T} means text current (ParseFailed place fault) = ((v : T) → ¬ (means text v)) × (place ≡ current)
+FaultsText {T} means text current (ParseFailed place fault) =
+    ((v : T) → ¬ (means text v)) × (place ≡ current)
 FaultsText means text current Memory = ⊤
 FaultsText means text current m = ⊥
 
 -- a value that the text means, or a fault
-abbrev pub ReadsValue : {T : Type 0} → (List ℕ → T → Type 0) → List ℕ → Option ℕ → Result T Error → Type 0
+abbrev pub ReadsValue : {T : Type 0} → (List ℕ → T → Type 0) → List ℕ → Option ℕ → Result T Error
+    → Type 0
 ReadsValue means text current (Ok v) = means text v
 ReadsValue means text current (Err e) = FaultsText means text current e.0

@@ -1,5 +1,5 @@
 -- A key before it becomes a parser, as contracts see it, and the part that it shows.
-use Rattle.std.specs.Prelude.{ℕ, List, [], ◌∷◌, ◌++◌, Option, Some, None}
+use Rattle.std.specs.Prelude.{ℕ, Bool, List, [], ◌∷◌, ◌++◌, Option, Some, None}
 use Rattle.std.specs.Option.{option_map}
 use Rattle.bpaf_doc.specs.declared.doc.Piece.{Piece}
 use Rattle.bpaf_doc.specs.Names.{Names}
@@ -45,9 +45,21 @@ first_text (text ∷ texts) = Some text
 -- the part that a key without a value shows; none where it has no short and no long name
 abbrev pub flag_part : Named → Option Part
 flag_part named =
-    option_map (λ name. Flag name named.names.shorts (first_text named.envs) named.help) (shown_name named.names)
+    option_map
+    (λ name. Flag name named.names.shorts (first_text named.envs) named.help)
+    (shown_name named.names)
 
--- the part that a key with a value shows, with its metavar; none where it has no short and no long name
-abbrev pub argument_part : Named → List ℕ → Option Part
-argument_part named metavar =
-    option_map (λ name. Argument name named.names.shorts metavar (first_text named.envs) named.help) (shown_name named.names)
+-- a key with a value, as contracts see it: what the key holds, what stands for the value where the
+-- key is shown, and whether only a key with its value in its own word counts
+pub record KeyWithValue : Type 0 where
+  pub named : Named
+  pub metavar : List ℕ
+  pub adjacent : Bool
+
+-- the part that a key with a value shows; none where it has no short and no long name
+abbrev pub argument_part : KeyWithValue → Option Part
+argument_part key =
+    let named = key.named in
+    option_map
+    (λ name. Argument name named.names.shorts key.metavar (first_text named.envs) named.help)
+    (shown_name named.names)

@@ -11,12 +11,13 @@
 //! - [`FromList`] is the trait of what a list of values fills, from front to back: by its ghost
 //!   relation `fills` an implementation says what it holds then. Implementations stand for `Vec`,
 //!   `VecDeque` and `BTreeSet` (specs/Filled.antt), and a caller writes more.
-//! - [`NamedArg`] is a key with its names, built by [`short()`], [`long()`] and [`env()`]. Contracts
-//!   see it as the lists of its names in the order in which they were given, those in the
+//! - [`NamedArg`] is a key with its names, built by [`short()`], [`long()`] and [`env()`].
+//!   Contracts see it as the lists of its names in the order in which they were given, those in the
 //!   environment among them, and its help (specs/Named.antt), so each builder is one equation: it
 //!   appends one name, or sets the help, and keeps the rest.
 //! - [`ParseFlag`] and [`ParseArgument`] are what a key becomes: the key as it was, and what it
 //!   gives. Their fields are public, since the layers above look for the key on a line by them.
+//!   Contracts see an argument as one record (`KeyWithValue`, specs/Named.antt).
 //! - `flag_item` and `argument_item` say what a key shows, as a part of specs/Shape.antt in
 //!   `bpaf_doc`: the first short and the first long name, all short names, and no item where the
 //!   key has no name.

@@ -1,8 +1,8 @@
 ghost use Rattle.std.specs.Prelude.{◌≡◌, Some, None, true, false, IfOk};
 ghost use Rattle.std.specs.Option.{option_map};
 ghost use Rattle.bpaf_doc.specs.Shape.{name_of, part_of, shown_name};
-ghost use Rattle.bpaf_text.specs.Named.{flag_part, argument_part};
-ghost use Rattle.bpaf_text.specs.Named.{nothing_named, with_short, with_long, with_env, with_help, first_text};
+ghost use Rattle.bpaf_text.specs.Named.{flag_part, argument_part, first_text};
+ghost use Rattle.bpaf_text.specs.Named.{nothing_named, with_short, with_long, with_env, with_help};
 
 use crate::params::{ParseArgument, ParseFlag, build_argument, build_flag_parser};
 use bpaf_doc::{Doc, Item, Metavar, ShortLong, Text};
@@ -43,19 +43,24 @@ impl Model for NamedArg {
         } };
 }
 
+/// A key that holds nothing, which no public call makes. It takes no memory.
+fn unnamed(alloc: Global) -> NamedArg
+    ensures { result ≡ nothing_named }
+{
+    NamedArg {
+        shorts: Vec::new(alloc),
+        longs: Vec::new(alloc),
+        envs: Vec::new(alloc),
+        help: None,
+    }
+}
+
 /// A key with one short name, such as `v` for `-v` (bpaf's `short`, in `lib.rs`); refused only
 /// for want of memory.
 pub fn short(alloc: Global, name: char) -> Result<NamedArg, AllocError>
     ensures { IfOk result (λ named. named ≡ with_short nothing_named name) }
 {
-    let mut shorts = Vec::new(alloc);
-    shorts.push(name)?;
-    Ok(NamedArg {
-        shorts,
-        longs: Vec::new(alloc),
-        envs: Vec::new(alloc),
-        help: None,
-    })
+    unnamed(alloc).short(name)
 }
 
 /// A key with one long name, such as `size` for `--size` (bpaf's `long`, in `lib.rs`); refused
@@ -63,14 +68,7 @@ pub fn short(alloc: Global, name: char) -> Result<NamedArg, AllocError>
 pub fn long(alloc: Global, name: &str) -> Result<NamedArg, AllocError>
     ensures { IfOk result (λ named. named ≡ with_long nothing_named name.now) }
 {
-    let mut longs = Vec::new(alloc);
-    longs.push(Text::new(alloc, name)?)?;
-    Ok(NamedArg {
-        shorts: Vec::new(alloc),
-        longs,
-        envs: Vec::new(alloc),
-        help: None,
-    })
+    unnamed(alloc).long(name)
 }
 
 /// A key with one name in the environment and none on the line (bpaf's `env`, in `lib.rs`); refused
@@ -82,14 +80,7 @@ pub fn long(alloc: Global, name: &str) -> Result<NamedArg, AllocError>
 pub fn env(alloc: Global, name: &str) -> Result<NamedArg, AllocError>
     ensures { IfOk result (λ named. named ≡ with_env nothing_named name.now) }
 {
-    let mut envs = Vec::new(alloc);
-    envs.push(Text::new(alloc, name)?)?;
-    Ok(NamedArg {
-        shorts: Vec::new(alloc),
-        longs: Vec::new(alloc),
-        envs,
-        help: None,
-    })
+    unnamed(alloc).env(name)
 }
 
 impl NamedArg {
@@ -112,8 +103,8 @@ impl NamedArg {
         Ok(self)
     }
 
-    /// The key with one more name in the environment, behind those that it has; refused only for want
-    /// of memory, and then the key is gone.
+    /// The key with one more name in the environment, behind those that it has; refused only for
+    /// want of memory, and then the key is gone.
     ///
     /// Where no key stands on the line, the first of these names that is set counts in its place.
     pub fn env(mut self, name: &str) -> Result<NamedArg, AllocError>
@@ -189,8 +180,7 @@ impl NamedArg {
     /// long(alloc, "size")?.argument::<u32>("NUM")
     /// ```
     pub fn argument<T>(self, metavar: &'static str) -> ParseArgument<T>
-        ensures named { result.named ≡ self }
-        ensures metavar { result.metavar.0 ≡ metavar.entry }
+        ensures { result ≡ record { named = self; metavar = metavar.now; adjacent = false } }
     {
         build_argument(self, metavar)
     }
@@ -215,7 +205,11 @@ impl NamedArg {
     /// `params.rs`): `None` where it has no name; refused only for want of memory.
     pub fn argument_item(&self, alloc: Global, metavar: Metavar) -> Result<Option<Item>, AllocError>
         ensures { IfOk result (λ item.
-            option_map part_of item ≡ argument_part self.now metavar.0.now) }
+            option_map part_of item ≡ argument_part (record {
+              named = self.now;
+              metavar = metavar.0.now;
+              adjacent = false;
+            })) }
     {
         match self.shown_name(alloc)? {
             Some(name) => Ok(Some(Item::Argument {
@@ -229,7 +223,8 @@ impl NamedArg {
         }
     }
 
-    /// The first short and the first long name, where there are such (bpaf's `ShortLong::try_from`).
+    /// The first short and the first long name, where there are such (bpaf's
+    /// `ShortLong::try_from`); refused only for want of memory.
     fn shown_name(&self, alloc: Global) -> Result<Option<ShortLong>, AllocError>
         ensures { IfOk result (λ name. option_map name_of name ≡ shown_name self.now.names) }
     {

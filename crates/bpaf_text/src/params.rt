@@ -1,10 +1,10 @@
-ghost use Rattle.std.specs.Prelude.{◌≡◌, IfOk, IsSomeAnd, MatchOption, None};
+ghost use Rattle.std.specs.Prelude.{◌≡◌, IfOk, IsSomeAnd, MatchOption, None, false};
 ghost use Rattle.bpaf_text.specs.Named.{with_help};
 
 use crate::named::NamedArg;
 use bpaf_doc::{Doc, Metavar};
 use std::alloc::AllocError;
-use std::marker::PhantomData;
+use std::marker::{Model, PhantomData};
 
 /// A key without a value: `present` where it stands on the line, and `absent` where it does not
 /// (bpaf's `ParseFlag`, in `params.rs`).
@@ -29,32 +29,45 @@ pub struct ParseArgument<T> {
     pub named: NamedArg,
     /// What stands for the value where the key is shown.
     pub metavar: Metavar,
+    /// Whether only a key with its value in its own word counts.
+    pub adjacent: bool,
     /// The type of the value.
     pub of: PhantomData<T>,
 }
 
+impl<T> Model for ParseArgument<T> {
+    ghost use Rattle.bpaf_text.specs.Named.{KeyWithValue};
+
+    ghost Value = { KeyWithValue };
+
+    ghost view = { λ argument.
+        record {
+          named = argument.named;
+          metavar = argument.metavar.0.now;
+          adjacent = argument.adjacent;
+        } };
+}
+
 impl<T> ParseFlag<T> {
-    /// The flag with this help, in place of the one that it has (bpaf's `ParseFlag::help`). It takes
-    /// no memory.
-    pub fn help(self, help: Doc) -> ParseFlag<T>
+    /// The flag with this help, in place of the one that it has (bpaf's `ParseFlag::help`). It
+    /// takes no memory.
+    pub fn help(mut self, help: Doc) -> ParseFlag<T>
         ensures { result ≡ record self { named = with_help self.named help } }
     {
-        ParseFlag {
-            named: self.named.help(help),
-            present: self.present,
-            absent: self.absent,
-        }
+        self.named = self.named.help(help);
+        self
     }
 }
 
 impl<T: Clone + Drop> ParseFlag<T> {
-    /// The same flag, with clones of its values; where clones equal their source it is an equal one.
-    ///
-    /// Refused only for want of memory.
+    /// The same flag, with clones of its values; where clones equal their source it is an equal
+    /// one. Refused only for want of memory.
     pub fn copy(&self) -> Result<ParseFlag<T>, AllocError>
         ensures named { IfOk result (λ flag. flag.named ≡ self.now.named) }
         ensures present { IfOk result (λ flag. T.is_clone self.now.present flag.present) }
-        ensures absent { IfOk result (λ flag. MatchOption self.now.absent (flag.absent ≡ None) (λ kept. IsSomeAnd flag.absent (T.is_clone kept))) }
+        ensures absent { IfOk result (λ flag. MatchOption self.now.absent
+            (flag.absent ≡ None)
+            (λ kept. IsSomeAnd flag.absent (T.is_clone kept))) }
     {
         let absent = match &self.absent {
             Some(absent) => Some(absent.clone()?),
@@ -71,25 +84,21 @@ impl<T: Clone + Drop> ParseFlag<T> {
 impl<T> ParseArgument<T> {
     /// The argument with this help, in place of the one that it has (bpaf's `ParseArgument::help`).
     /// It takes no memory.
-    pub fn help(self, help: Doc) -> ParseArgument<T>
-        ensures named { result.named ≡ with_help self.named help }
-        ensures metavar { result.metavar ≡ self.metavar }
+    pub fn help(mut self, help: Doc) -> ParseArgument<T>
+        ensures { result ≡ record self { named = with_help self.named help } }
     {
-        ParseArgument {
-            named: self.named.help(help),
-            metavar: self.metavar,
-            of: PhantomData,
-        }
+        self.named = self.named.help(help);
+        self
     }
 
     /// An equal argument; refused only for want of memory.
     pub fn copy(&self) -> Result<ParseArgument<T>, AllocError>
-        ensures named { IfOk result (λ argument. argument.named ≡ self.now.named) }
-        ensures metavar { IfOk result (λ argument. argument.metavar ≡ self.now.metavar) }
+        ensures { IfOk result (λ argument. argument ≡ self.now) }
     {
         Ok(ParseArgument {
             named: self.named.copy()?,
             metavar: self.metavar,
+            adjacent: self.adjacent,
             of: PhantomData,
         })
     }
@@ -108,12 +117,12 @@ pub(crate) fn build_flag_parser<T>(present: T, absent: Option<T>, named: NamedAr
 
 /// An argument of these parts.
 pub(crate) fn build_argument<T>(named: NamedArg, metavar: &'static str) -> ParseArgument<T>
-    ensures named { result.named ≡ named }
-    ensures metavar { result.metavar.0 ≡ metavar.entry }
+    ensures { result ≡ record { named = named; metavar = metavar.now; adjacent = false } }
 {
     ParseArgument {
         named,
         metavar: Metavar(metavar),
+        adjacent: false,
         of: PhantomData,
     }
 }

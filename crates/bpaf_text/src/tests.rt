@@ -1,9 +1,10 @@
 ghost use Rattle.std.specs.Prelude.{◌≡◌, codes};
 ghost use Rattle.bpaf_text.specs.Meaning.{ReadsText};
 
-use crate::{FromText, NamedArg, TextFault, env, long, short};
-use bpaf_doc::{Doc, Item, Metavar, ShortLong};
+use crate::{FromList, FromText, NamedArg, ParseArgument, ParseFlag, TextFault, env, long, short};
+use bpaf_doc::{Doc, Item, Metavar};
 use std::alloc::{AllocError, Global};
+use std::collections::{BTreeSet, VecDeque};
 use std::fmt::Debug;
 use std::process::Abort;
 use std::test::Fail;
@@ -109,158 +110,132 @@ fn a_type_of_the_callers_own_is_read(rt: HostRuntime) {
     expect_fault::<Level>(&rt, alloc, "lower", "neither low nor high");
 }
 
-// Asserts that the key has these names.
-fn expect_names(rt: &impl Abort, key: &NamedArg, shorts: &[char], longs: &[&str]) {
-    assert_eq!(rt; key.shorts(), shorts);
-    assert_eq!(rt; key.longs().len(), longs.len());
-    for (long, text) in key.longs().iter().zip(longs) {
-        assert_eq!(rt; long.as_str(), *text);
-    }
-}
+// A key with two names of each kind and a help, as it is printed.
+const SIZE: &str = "NamedArg { shorts: ['s', 'n'], \
+    longs: [Text { inner: \"size\" }, Text { inner: \"number\" }], \
+    envs: [Text { inner: \"SIZE\" }, Text { inner: \"WIDTH\" }], \
+    help: Some(Doc { pieces: [Piece { text: Text { inner: \"how wide\" }, \
+    style: Text, detail: false }] }) }";
 
-// A key with two names of each kind.
+// The key that `SIZE` prints.
 fn size(alloc: Global) -> Result<NamedArg, AllocError> {
-    short(alloc, 's')?.long("size")?.short('n')?.long("number")
+    let named = env(alloc, "SIZE")?
+        .short('s')?
+        .long("size")?
+        .short('n')?
+        .long("number")?;
+    with_help(alloc, named.env("WIDTH")?)
 }
 
-#[test]
-fn names_are_kept_in_order(rt: HostRuntime) -> Result<(), Fail> {
-    let alloc = rt.alloc();
-    expect_names(&rt, &short(alloc, 'v')?, &['v'], &[]);
-    expect_names(&rt, &long(alloc, "verbose")?, &[], &["verbose"]);
-    expect_names(&rt, &size(alloc)?, &['s', 'n'], &["size", "number"]);
-    expect_names(&rt, &size(alloc)?.copy()?, &['s', 'n'], &["size", "number"]);
-    Ok(())
+// The key with a help.
+fn with_help(alloc: Global, named: NamedArg) -> Result<NamedArg, AllocError> {
+    let help = Doc::from_text(alloc, "how wide")?;
+    Ok(named.help(help))
 }
 
-#[test]
-fn keys_become_flags_and_arguments(rt: HostRuntime) -> Result<(), Fail> {
-    let alloc = rt.alloc();
-    let switch = size(alloc)?.switch();
-    assert_eq!(rt; (switch.present, switch.absent), (true, Some(false)));
-    expect_names(&rt, &switch.named, &['s', 'n'], &["size", "number"]);
-    let flag = size(alloc)?.flag(3, 4);
-    assert_eq!(rt; (flag.present, flag.absent), (3, Some(4)));
-    let required = size(alloc)?.req_flag(5);
-    assert_eq!(rt; (required.present, required.absent), (5, None));
-    let argument = size(alloc)?.argument::<u32>("NUM");
-    assert_eq!(rt; argument.metavar.0, "NUM");
-    expect_names(&rt, &argument.named, &['s', 'n'], &["size", "number"]);
-    Ok(())
+// How a key is printed.
+fn printed(alloc: Global, named: NamedArg) -> Result<String, AllocError> {
+    format!(in alloc; "{named:?}")
 }
 
-#[test]
-fn keys_show_their_first_names(rt: HostRuntime) -> Result<(), Fail> {
-    let alloc = rt.alloc();
-    match size(alloc)?.flag_item(alloc)? {
-        Some(Item::Flag { name, shorts, .. }) => {
-            assert!(rt; matches!(&name, ShortLong::Both('s', long) if long.as_str() == "size"));
-            assert_eq!(rt; shorts.as_slice(), ['s', 'n'].as_slice());
-        }
-        other => panic!(rt; "{other:?}"),
-    }
-    match long(alloc, "size")?.argument_item(alloc, Metavar("NUM"))? {
-        Some(
-            Item::Argument {
-                name,
-                shorts,
-                metavar,
-                ..
-            },
-        ) => {
-            assert!(rt; matches!(&name, ShortLong::Long(long) if long.as_str() == "size"));
-            assert_eq!(rt; shorts.len(), 0);
-            assert_eq!(rt; metavar.as_str(), "NUM");
-        }
-        other => panic!(rt; "{other:?}"),
-    }
-    Ok(())
+// How the copy of a key is printed.
+fn copy_printed(alloc: Global, named: &NamedArg) -> Result<String, AllocError> {
+    printed(alloc, named.copy()?)
 }
 
-// What a help prints, where there is one.
-fn printed(help: &Option<Doc>) -> Result<Option<String>, AllocError> {
-    match help {
-        Some(help) => Ok(Some(help.monochrome(true)?)),
-        None => Ok(None),
-    }
+// How an item is printed.
+fn item_printed(alloc: Global, item: Option<Item>) -> Result<String, AllocError> {
+    format!(in alloc; "{item:?}")
 }
 
-// The help of a shown key, where it has one.
-fn help_of(item: &Option<Item>) -> Result<Option<String>, AllocError> {
-    match item {
-        Some(Item::Flag { help, .. }) => printed(help),
-        Some(Item::Argument { help, .. }) => printed(help),
-        _ => Ok(None),
-    }
+// What a key shows as a flag.
+fn flag_item_printed(alloc: Global, named: &NamedArg) -> Result<String, AllocError> {
+    item_printed(alloc, named.flag_item(alloc)?)
 }
 
-// Asserts that the key shows this help.
-fn expect_help(
-    rt: &impl Abort,
+// What a key shows as an argument.
+fn argument_item_printed(alloc: Global, named: &NamedArg) -> Result<String, AllocError> {
+    item_printed(alloc, named.argument_item(alloc, Metavar("NUM"))?)
+}
+
+// What the copy of a flag holds.
+fn flag_copy_printed(alloc: Global, flag: &ParseFlag<u32>) -> Result<String, AllocError> {
+    let copy = flag.copy()?;
+    format!(in alloc; "{:?} {:?} {:?}", copy.present, copy.absent, copy.named)
+}
+
+// What the copy of an argument holds.
+fn argument_copy_printed(
     alloc: Global,
-    key: &NamedArg,
-    text: &str,
-) -> Result<(), AllocError> {
-    let flag = help_of(&key.flag_item(alloc)?)?;
-    assert!(rt; flag.is_some_and(|help| help.as_str() == text));
-    let argument = help_of(&key.argument_item(alloc, Metavar("NUM"))?)?;
-    assert!(rt; argument.is_some_and(|help| help.as_str() == text));
-    Ok(())
+    argument: &ParseArgument<u32>,
+) -> Result<String, AllocError> {
+    let copy = argument.copy()?;
+    format!(in alloc; "{:?} {:?} {:?}", copy.metavar, copy.adjacent, copy.named)
 }
 
-#[test]
-fn keys_show_their_help(rt: HostRuntime) -> Result<(), Fail> {
-    let alloc = rt.alloc();
-    assert!(rt; help_of(&size(alloc)?.flag_item(alloc)?)?.is_none());
-    let key = size(alloc)?.help(Doc::from_text(alloc, "one")?);
-    expect_help(&rt, alloc, &key, "one")?;
-    expect_help(&rt, alloc, &key.copy()?, "one")?;
-    expect_help(&rt, alloc, &key.help(Doc::from_text(alloc, "two")?), "two")?;
-    Ok(())
-}
-
-#[test]
-fn flags_and_arguments_take_help(rt: HostRuntime) -> Result<(), Fail> {
-    let alloc = rt.alloc();
-    let flag = size(alloc)?.flag(3, 4).help(Doc::from_text(alloc, "one")?);
-    assert_eq!(rt; (flag.present, flag.absent), (3, Some(4)));
-    expect_help(&rt, alloc, &flag.named, "one")?;
-    let argument = size(alloc)?.argument::<u32>("NUM");
-    let argument = argument.help(Doc::from_text(alloc, "two")?);
-    assert_eq!(rt; argument.metavar.0, "NUM");
-    expect_help(&rt, alloc, &argument.named, "two")?;
-    Ok(())
-}
-
-#[test]
-fn flags_and_arguments_are_copied(rt: HostRuntime) -> Result<(), Fail> {
-    let alloc = rt.alloc();
-    let flag = size(alloc)?.flag(3, 4).copy()?;
-    assert_eq!(rt; (flag.present, flag.absent), (3, Some(4)));
-    expect_names(&rt, &flag.named, &['s', 'n'], &["size", "number"]);
-    let required = size(alloc)?.req_flag(5).copy()?;
-    assert_eq!(rt; (required.present, required.absent), (5, None));
-    let argument = size(alloc)?.argument::<u32>("NUM").copy()?;
-    assert_eq!(rt; argument.metavar.0, "NUM");
-    expect_names(&rt, &argument.named, &['s', 'n'], &["size", "number"]);
-    Ok(())
-}
-
-// Asserts that the key has these names in the environment.
-fn expect_envs(rt: &impl Abort, key: &NamedArg, names: &[&str]) {
-    assert_eq!(rt; key.envs().len(), names.len());
-    for (env, name) in key.envs().iter().zip(names) {
-        assert_eq!(rt; env.as_str(), *name);
+// What the key of `SIZE` tells: its copy, or that of the flag or the argument that it becomes, or
+// what it shows as either.
+fn size_tells(alloc: Global, what: &str) -> Result<String, AllocError> {
+    let named = size(alloc)?;
+    match what {
+        "flag" => flag_copy_printed(alloc, &named.flag(3, 4)),
+        "argument" => argument_copy_printed(alloc, &named.argument("NUM")),
+        "flag item" => flag_item_printed(alloc, &named),
+        "argument item" => argument_item_printed(alloc, &named),
+        _ => copy_printed(alloc, &named),
     }
 }
 
+// What it tells, by its beginning and its end.
+const TOLD: &[(&str, &str, &str)] = &[
+    ("key", "", SIZE),
+    ("flag", "3 Some(4) ", SIZE),
+    ("argument", "Metavar(\"NUM\") false ", SIZE),
+    (
+        "flag item",
+        "Some(Flag { name: Both('s', Text { inner: \"size\" }), shorts: ['s', 'n'], \
+        env: Some(Text { inner: \"SIZE\" }), help: Some(",
+        "style: Text, detail: false }] }) })",
+    ),
+    (
+        "argument item",
+        "Some(Argument { name: Both('s', Text { inner: \"size\" }), shorts: ['s', 'n'], \
+        metavar: Text { inner: \"NUM\" }, env: Some(Text { inner: \"SIZE\" }), help: Some(",
+        "style: Text, detail: false }] }) })",
+    ),
+];
+
+// What a list holds that is filled from three values.
+fn filled<C: FromList<u32> + Debug + Drop>(alloc: Global) -> Result<String, AllocError> {
+    let list = C::from_list(vec![in alloc; 3, 1, 3]?)?;
+    format!(in alloc; "{list:?}")
+}
+
 #[test]
-fn names_in_the_environment_are_kept_in_order(rt: HostRuntime) -> Result<(), Fail> {
+fn keys_are_built_and_copied(rt: HostRuntime) -> Result<(), Fail> {
     let alloc = rt.alloc();
-    expect_envs(&rt, &size(alloc)?, &[]);
-    let key = env(alloc, "SIZE")?.env("WIDTH")?;
-    expect_names(&rt, &key, &[], &[]);
-    expect_envs(&rt, &key, &["SIZE", "WIDTH"]);
-    expect_envs(&rt, &key.copy()?, &["SIZE", "WIDTH"]);
+    let verbose = printed(alloc, short(alloc, 'v')?)?;
+    let wanted = "NamedArg { shorts: ['v'], longs: [], envs: [], help: None }";
+    assert_eq!(rt; verbose.as_str(), wanted);
+    let all = printed(alloc, long(alloc, "all")?)?;
+    let wanted = "NamedArg { shorts: [], longs: [Text { inner: \"all\" }], envs: [], help: None }";
+    assert_eq!(rt; all.as_str(), wanted);
+    for (what, begins, ends) in TOLD {
+        let told = size_tells(alloc, *what)?;
+        assert!(rt; told.starts_with(*begins), "{what}: {told}");
+        assert!(rt; told.ends_with(*ends), "{what}: {told}");
+    }
+    Ok(())
+}
+
+#[test]
+fn lists_are_filled(rt: HostRuntime) -> Result<(), Fail> {
+    let alloc = rt.alloc();
+    let list = filled::<Vec<u32>>(alloc)?;
+    assert_eq!(rt; list.as_str(), "[3, 1, 3]");
+    let queue = filled::<VecDeque<u32>>(alloc)?;
+    assert_eq!(rt; queue.as_str(), "[3, 1, 3]");
+    let set = filled::<BTreeSet<u32>>(alloc)?;
+    assert_eq!(rt; set.as_str(), "{1, 3}");
     Ok(())
 }

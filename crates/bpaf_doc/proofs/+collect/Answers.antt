@@ -3,7 +3,13 @@ use Rattle.bpaf_doc.proofs.Gathering.{gathered_step}
 use Rattle.bpaf_doc.proofs.+collect.Goals as goal
 
 pub walks::collect_all-loop-member-preserved : goal.walks::collect_all-loop-member-preserved
-walks::collect_all-loop-member-preserved t c = (
-  gathered_step shorts_of_flag c.args.all.now c.loop-member.member-index c.member-item.result _ _ _ c.loop-member-test.true c.member-item.is c.loop-member.invariant.0 c.in_ok-collect_shorts.ensures.flags,
-  gathered_step shorts_of_argument c.args.all.now c.loop-member.member-index c.member-item.result _ _ _ c.loop-member-test.true c.member-item.is c.loop-member.invariant.1 c.in_ok-collect_shorts.ensures.arguments,
-)
+walks::collect_all-loop-member-preserved t c =
+    let all = c.args.all.now in
+    let i = c.loop-member.member-index in
+    let member = c.member-item.result in
+    let within = c.loop-member-test.true in
+    let gathered = c.in_ok-collect_shorts.ensures in
+    let kept = c.loop-member.invariant in (
+      gathered_step shorts_of_flag all i member _ _ _ within c.member-item.is kept.0 gathered.flags,
+      gathered_step shorts_of_argument all i member _ _ _ within c.member-item.is kept.1 gathered.arguments,
+    )

@@ -4,7 +4,8 @@ use Rattle.bpaf_laws.proofs.Repeating.{count_nil, rests_here, goes_on, stops_her
 use Rattle.bpaf_core.proofs.count.count_values.Goals as goal
 
 -- one value more is counted
-counted_more : {T : Type 0} (n : ℕ) (xs : List T) (v : T) → n ≡ length xs → n + 1 ≡ length (xs ++ v ∷ [])
+counted_more : {T : Type 0} (n : ℕ) (xs : List T) (v : T) → n ≡ length xs
+    → n + 1 ≡ length (xs ++ v ∷ [])
 counted_more n xs v counted = omega (arith, length-append xs (v ∷ []))
 
 pub overflow_add-count : goal.overflow_add-count
@@ -12,7 +13,8 @@ overflow_add-count g c =
     let run = c.loop-count.invariant in
     let law = g.met.P.Parser.lawful c.args.parser.now in
     let fits : (length run.0.0 ≡ 0) ⊎ (length run.0.0 + 1 ≤ open_count c.args.state.now) =
-    fits_more law c.args.state.now c.loop-count.state run.0.0 _ _ _ run.0.1 (count_nil _ _ run.0.2) c.in_ok-parse_option.ensures c.in-Some.field-0 c.in-Some.is in
+    fits_more law c.args.state.now c.loop-count.state run.0.0 _ _ _ run.0.1 (count_nil _ _ run.0.2)
+    c.in_ok-parse_option.ensures c.in-Some.field-0 c.in-Some.is in
     ⊎_elim (λ none. omega arith) (λ room. omega arith) fits
 
 pub returns-then-len-left : goal.returns-then-len-left
@@ -20,7 +22,8 @@ returns-then-len-left g c =
     let run = c.loop-count.invariant in
     let law = g.met.P.Parser.lawful c.args.parser.now in (
       run.0.0 ++ c.in-Some.field-0 ∷ [],
-      rests_here law c.args.state.now c.loop-count.state run.0.0 _ _ _ run.0.1 (count_nil _ _ run.0.2) c.in_ok-parse_option.ensures c.in-Some.field-0 c.in-Some.is (cc),
+      rests_here law c.args.state.now c.loop-count.state run.0.0 _ _ _ run.0.1
+          (count_nil _ _ run.0.2) c.in_ok-parse_option.ensures c.in-Some.field-0 c.in-Some.is (cc),
       counted_more _ _ _ run.0.2,
     )
 
@@ -28,17 +31,28 @@ pub loop-count-smaller-else-len-left : goal.loop-count-smaller-else-len-left
 loop-count-smaller-else-len-left g c =
     let run = c.loop-count.invariant in
     let law = g.met.P.Parser.lawful c.args.parser.now in
-    (goes_on law c.args.state.now c.loop-count.state run.0.0 _ _ _ run.0.1 (count_nil _ _ run.0.2) c.in_ok-parse_option.ensures c.in-Some.field-0 c.in-Some.is (λ same. c.if-len-left.false (cc))).1
+    (goes_on law c.args.state.now c.loop-count.state run.0.0 _ _ _ run.0.1 (count_nil _ _ run.0.2)
+    c.in_ok-parse_option.ensures c.in-Some.field-0 c.in-Some.is
+    (λ same. c.if-len-left.false (cc))).1
 
 pub loop-count-preserved-else-len-left : goal.loop-count-preserved-else-len-left
 loop-count-preserved-else-len-left g c =
     let run = c.loop-count.invariant in
     let law = g.met.P.Parser.lawful c.args.parser.now in
-    let on = goes_on law c.args.state.now c.loop-count.state run.0.0 _ _ _ run.0.1 (count_nil _ _ run.0.2) c.in_ok-parse_option.ensures c.in-Some.field-0 c.in-Some.is (λ same. c.if-len-left.false (cc)) in
-    ((run.0.0 ++ c.in-Some.field-0 ∷ [], on.0, counted_more _ _ _ run.0.2), c.len-left.ensures, run.2)
+    let on = goes_on law c.args.state.now c.loop-count.state run.0.0 _ _ _ run.0.1
+    (count_nil _ _ run.0.2) c.in_ok-parse_option.ensures c.in-Some.field-0 c.in-Some.is
+    (λ same. c.if-len-left.false (cc)) in (
+      (run.0.0 ++ c.in-Some.field-0 ∷ [], on.0, counted_more _ _ _ run.0.2),
+      c.len-left.ensures,
+      run.2,
+    )
 
 pub returns : goal.returns
 returns g c =
     let run = c.loop-count.invariant in
-    let law = g.met.P.Parser.lawful c.args.parser.now in
-    (run.0.0, stops_here law c.args.state.now c.loop-count.state run.0.0 _ _ _ run.0.1 (count_nil _ _ run.0.2) c.in_ok-parse_option.ensures c.in_default.is, run.0.2)
+    let law = g.met.P.Parser.lawful c.args.parser.now in (
+      run.0.0,
+      stops_here law c.args.state.now c.loop-count.state run.0.0 _ _ _ run.0.1
+          (count_nil _ _ run.0.2) c.in_ok-parse_option.ensures c.in_default.is,
+      run.0.2,
+    )

@@ -7,7 +7,8 @@ use Rattle.bpaf_core.proofs.count.last_value.Given as goal
 
 abbrev pub invariant-loop-last : goal.invariant-loop-last
 invariant-loop-last g l =
-    ((values : List g.row.T.Denot) × Steps (g.P.Parser.outcome l.parser) false false l.fn.state values l.state × EndsIn values l.last)
+    ((values : List g.row.T.Denot) × Steps (g.P.Parser.outcome l.parser) false false l.fn.state
+    values l.state × EndsIn values l.last)
     × (l.left ≡ open_count l.state)
 
 abbrev pub decreases-loop-last : goal.decreases-loop-last

@@ -4,4 +4,6 @@ use Rattle.bpaf_laws.specs.Environment.{first_set}
 use Rattle.bpaf_core.proofs.environment.first_set.Given as goal
 
 abbrev pub invariant-loop-name : goal.invariant-loop-name
-invariant-loop-name l = first_set l.state.context.env (drop l.name-index l.names) ≡ first_set l.state.context.env l.names
+invariant-loop-name l =
+    first_set l.state.context.env (drop l.name-index l.names) ≡ first_set l.state.context.env
+    l.names

@@ -5,16 +5,27 @@ use Rattle.bpaf_core.proofs.repeat.values_until_stop.Goals as goal
 
 pub loop-values-preserved : goal.loop-values-preserved
 loop-values-preserved g c =
-    let more = steps_on (g.P.Parser.outcome c.args.parser.now) c.args.catches c.args.state.now c.loop-values.state c.loop-values.values.items c.is_empty.result c.in_ok-value.field-0 c.in-Some.value c.parse_option.new.state c.loop-values.invariant (c.is_empty.ensures ∙ vec_nil c.loop-values.values) c.in_ok-value.ensures c.in-Some.is in
-    subst (λ vs. Steps (g.P.Parser.outcome c.args.parser.now) c.args.catches true c.args.state.now vs c.parse_option.new.state) (sym c.in_ok-push_value.ensures) more
+    let more = steps_on (g.P.Parser.outcome c.args.parser.now) c.args.catches c.args.state.now
+    c.loop-values.state c.loop-values.values.items c.is_empty.result c.in_ok-value.field-0
+    c.in-Some.value c.parse_option.new.state c.loop-values.invariant
+    (c.is_empty.ensures ∙ vec_nil c.loop-values.values) c.in_ok-value.ensures c.in-Some.is in
+    subst (λ vs. Steps (g.P.Parser.outcome c.args.parser.now) c.args.catches true c.args.state.now
+    vs c.parse_option.new.state) (sym c.in_ok-push_value.ensures) more
 
 pub returns-in_err-push_value : goal.returns-in_err-push_value
 returns-in_err-push_value g c =
-    let more = steps_on (g.P.Parser.outcome c.args.parser.now) c.args.catches c.args.state.now c.loop-values.state c.loop-values.values.items c.is_empty.result c.in_ok-value.field-0 c.in-Some.value c.parse_option.new.state c.loop-values.invariant (c.is_empty.ensures ∙ vec_nil c.loop-values.values) c.in_ok-value.ensures c.in-Some.is in
+    let more = steps_on (g.P.Parser.outcome c.args.parser.now) c.args.catches c.args.state.now
+    c.loop-values.state c.loop-values.values.items c.is_empty.result c.in_ok-value.field-0
+    c.in-Some.value c.parse_option.new.state c.loop-values.invariant
+    (c.is_empty.ensures ∙ vec_nil c.loop-values.values) c.in_ok-value.ensures c.in-Some.is in
     steps_refused _ _ _ _ _ _ more c.from_residual-in_err-push_value.ensures.1
 
 pub loop-values-smaller : goal.loop-values-smaller
 loop-values-smaller g c =
-    let falls = steps_end (g.met.P.Parser.lawful c.args.parser.now) c.args.catches c.loop-values.state c.loop-values.values.items c.is_empty.result c.in_ok-value.field-0 c.in-Some.value c.parse_option.new.state (c.is_empty.ensures ∙ vec_nil c.loop-values.values) c.in_ok-value.ensures c.in-Some.is in
-    let nil = not_nil c.push_value.new.values.items c.loop-values.values.items c.in-Some.value c.in_ok-push_value.ensures in
+    let falls = steps_end (g.met.P.Parser.lawful c.args.parser.now) c.args.catches
+    c.loop-values.state c.loop-values.values.items c.is_empty.result c.in_ok-value.field-0
+    c.in-Some.value c.parse_option.new.state (c.is_empty.ensures ∙ vec_nil c.loop-values.values)
+    c.in_ok-value.ensures c.in-Some.is in
+    let nil = not_nil c.push_value.new.values.items c.loop-values.values.items c.in-Some.value
+    c.in_ok-push_value.ensures in
     omega arith

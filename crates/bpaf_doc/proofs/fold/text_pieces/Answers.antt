@@ -6,11 +6,19 @@ use Rattle.bpaf_doc.proofs.fold.text_pieces.Goals as goal
 
 pub returns-in_ok-push-in-None : goal.returns-in_ok-push-in-None
 returns-in_ok-push-in-None c =
-    text_whole _ _ _ _ c.in-None.ensures.cases c.in_ok-folded-in-None.ensures c.in_ok-all.ensures.items c.in_ok-push-in-None.ensures.items
+    let lacks = c.in-None.ensures.cases in
+    let shown = c.in_ok-folded-in-None.ensures in
+    let put = c.in_ok-push-in-None.ensures.items in
+    text_whole _ _ _ _ lacks shown c.in_ok-all.ensures.items put
 
 pub returns-in_ok-push-in-Some-2 : goal.returns-in_ok-push-in-Some-2
 returns-in_ok-push-in-Some-2 c =
     let found = c.in-Some.ensures.cases in
-    let parts = split_text_parts empty_line c.args.text.now (Some (c.in-Some.first, c.in-Some.rest)) c.in-Some.ensures.cases in
-    text_cut _ _ _ _ _ found.0 _ _ _ parts found.2.0 found.6 c.in_ok-folded-in-Some.ensures c.in_ok-folded_below-in-Some.ensures
-    c.in_ok-all.ensures.items c.in_ok-push-in-Some.ensures.items c.in_ok-push-in-Some-2.ensures.items
+    let cut = Some (c.in-Some.first, c.in-Some.rest) in
+    let is_cut = split_text_parts empty_line c.args.text.now cut found in
+    let shown = c.in_ok-folded-in-Some.ensures in
+    let shown_as_detail = c.in_ok-folded_below-in-Some.ensures in
+    let none = c.in_ok-all.ensures.items in
+    let put = c.in_ok-push-in-Some.ensures.items in
+    let put_detail = c.in_ok-push-in-Some-2.ensures.items in
+    text_cut _ _ _ _ _ found.0 _ _ _ is_cut found.2.0 found.6 shown shown_as_detail none put put_detail

@@ -4,8 +4,12 @@ use Rattle.bpaf_core.proofs.collect.ParseCollectParser.eval.Goals as goal
 
 pub returns-clause-repeat_is_bounded : goal.returns-clause-repeat_is_bounded
 returns-clause-repeat_is_bounded g c =
-    collect_bounded (g.met.P.Parser.lawful c.args.self.now.inner) c.args.self.now.catch c.args.state.now c.collect_values.new.state g.C.FromList.fills c.collect_values.result c.collect_values.ensures
+    collect_bounded (g.met.P.Parser.lawful c.args.self.now.inner) c.args.self.now.catch
+    c.args.state.now c.collect_values.new.state g.C.FromList.fills c.collect_values.result
+    c.collect_values.ensures
 
 pub returns-clause-memory_is_never_caught : goal.returns-clause-memory_is_never_caught
 returns-clause-memory_is_never_caught g c =
-    spared_collect (g.P.Parser.outcome c.args.self.now.inner) c.args.self.now.catch g.C.FromList.fills c.args.state.now c.collect_values.new.state c.collect_values.result c.collect_values.ensures
+    spared_collect (g.P.Parser.outcome c.args.self.now.inner) c.args.self.now.catch
+    g.C.FromList.fills c.args.state.now c.collect_values.new.state c.collect_values.result
+    c.collect_values.ensures

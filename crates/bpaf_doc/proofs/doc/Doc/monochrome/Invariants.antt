@@ -4,4 +4,5 @@ use Rattle.bpaf_doc.proofs.doc.Doc.monochrome.Given as goal
 
 -- what was printed so far, and what the other pieces print
 abbrev pub invariant-loop-piece : goal.invariant-loop-piece
-invariant-loop-piece l = string_bytes l.all ++ printed l.full (drop l.piece-index l.piece-items) ≡ printed l.full l.self
+invariant-loop-piece l =
+    string_bytes l.all ++ printed l.full (drop l.piece-index l.piece-items) ≡ printed l.full l.self

@@ -1,0 +1,103 @@
+//! One parser of each kind. None holds a closure, so each has a type that a function may answer.
+use crate::types::Level;
+use bpaf::params::{ParseArgument, ParseFlag, ParsePositional};
+use bpaf::parsers::{
+    ParseChoice, ParseCollect, ParseCount, ParseFallback, ParseLast, ParseMany, ParseOptional,
+    ParseOrElse, ParseSome,
+};
+use bpaf::{Doc, Parser, choice, construct, env, long, positional, short};
+use std::alloc::{AllocError, Global};
+use std::collections::BTreeSet;
+
+/// `-v`, `--verbose`: true or false.
+pub fn verbose(alloc: Global) -> Result<ParseFlag<bool>, AllocError> {
+    Ok(short(alloc, 'v')?.long("verbose")?.switch())
+}
+
+/// `-q`: one value or the other.
+pub fn quiet(alloc: Global) -> Result<ParseFlag<Level>, AllocError> {
+    Ok(short(alloc, 'q')?.flag(Level::Low, Level::High))
+}
+
+/// `--accept`, which must stand there.
+pub fn accept(alloc: Global) -> Result<ParseFlag<()>, AllocError> {
+    Ok(long(alloc, "accept")?.req_flag(()))
+}
+
+/// `-n 3`, `-n3`, `--num=3`.
+pub fn num(alloc: Global) -> Result<ParseArgument<u64>, AllocError> {
+    Ok(short(alloc, 'n')?.long("num")?.argument::<u64>("NUM"))
+}
+
+/// `-s 3`, else the variable `SIZE` of the environment.
+pub fn size(alloc: Global) -> Result<ParseArgument<u32>, AllocError> {
+    Ok(short(alloc, 's')?.env("SIZE")?.argument::<u32>("NUM"))
+}
+
+/// The variable `HOME` of the environment.
+pub fn home(alloc: Global) -> Result<ParseArgument<String>, AllocError> {
+    Ok(env(alloc, "HOME")?.argument::<String>("DIR"))
+}
+
+/// A switch with a help.
+pub fn tall(alloc: Global) -> Result<ParseFlag<bool>, AllocError> {
+    let help = Doc::from_text(alloc, "Print a tall page")?;
+    Ok(short(alloc, 't')?.help(help).switch())
+}
+
+/// A word by itself.
+pub fn file() -> ParsePositional<String> {
+    positional::<String>("FILE")
+}
+
+/// Some(3), or None where there is no `-n`.
+pub fn maybe(alloc: Global) -> Result<ParseOptional<ParseArgument<u64>>, AllocError> {
+    Ok(num(alloc)?.optional())
+}
+
+/// The number, or 7 where there is no `-n`.
+pub fn seven(alloc: Global) -> Result<ParseFallback<ParseArgument<u64>, u64>, AllocError> {
+    Ok(num(alloc)?.fallback(7))
+}
+
+/// All numbers; none where there is no `-n`.
+pub fn nums(alloc: Global) -> Result<ParseMany<ParseArgument<u64>>, AllocError> {
+    Ok(num(alloc)?.many())
+}
+
+/// The files, one at least.
+pub fn files() -> ParseSome<'static, ParsePositional<String>> {
+    file().some("name a file")
+}
+
+/// The numbers in order, each once.
+pub fn ordered(
+    alloc: Global,
+) -> Result<ParseCollect<ParseArgument<u64>, BTreeSet<u64>, u64>, AllocError> {
+    Ok(num(alloc)?.collect::<BTreeSet<u64>>())
+}
+
+/// 3 for `-vvv`, 0 where there is none.
+pub fn volume(alloc: Global) -> Result<ParseCount<ParseFlag<()>, ()>, AllocError> {
+    Ok(short(alloc, 'v')?.req_flag(()).count())
+}
+
+/// The last number.
+pub fn latest(alloc: Global) -> Result<ParseLast<ParseArgument<u64>>, AllocError> {
+    Ok(num(alloc)?.last())
+}
+
+/// One of two lengths.
+pub fn distance(
+    alloc: Global,
+) -> Result<ParseOrElse<ParseArgument<u64>, ParseArgument<u64>>, AllocError> {
+    let meters = long(alloc, "meters")?.argument::<u64>("NUM");
+    Ok(construct!([meters, miles(long(alloc, "miles")?.argument::<u64>("NUM"))]))
+}
+
+/// One of any number of parsers of one type.
+pub fn color(alloc: Global) -> Result<ParseChoice<ParseFlag<u8>>, AllocError> {
+    let red = long(alloc, "red")?.req_flag(0);
+    let blue = long(alloc, "blue")?.req_flag(1);
+    Ok(choice(vec![in alloc; red, blue]?))
+}
