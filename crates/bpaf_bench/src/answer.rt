@@ -45,7 +45,8 @@ pub fn is_answer(text: &str) -> bool {
     text.starts_with("ok ") || text == "err" || text.starts_with("err ")
 }
 
-/// Whether an answer is the wanted one. Until messages have texts all refusals are the same.
+/// Whether an answer is the wanted one; `err` alone wants any refusal. Until messages have texts
+/// all refusals are the same.
 pub fn is_wanted(wanted: &str, answer: &str) -> bool {
     if wanted.starts_with("err") {
         answer.starts_with("err")

@@ -123,7 +123,7 @@ impl<P: Described> Bench<P> {
         if self.description.is_open() {
             return self.describe(1, line, line, out);
         }
-        if line.starts_with('#') && !is_separated(line) {
+        if line.starts_with('#') && !line.contains('\t') && !is_separated(line) {
             return self.heading(line, out);
         }
         if line.is_empty() {
@@ -140,7 +140,7 @@ impl<P: Described> Bench<P> {
         Ok(())
     }
 
-    /// Reads a line that begins with `#`: a comment, a variable or a description.
+    /// Reads a line that begins with `#` and is no row: a comment, a variable or a description.
     fn heading<W: Write>(&mut self, line: &str, out: &mut W) -> io::Result<()> {
         if line.starts_with("##") {
             return self.copy(line, out);
@@ -164,8 +164,8 @@ impl<P: Described> Bench<P> {
         Ok(())
     }
 
-    /// Reads a line of a description, whose text begins at this column, and makes the parser where it is
-    /// whole.
+    /// Reads a line of a description, whose text begins at this column, and makes the parser where
+    /// it is whole.
     fn describe<W: Write>(
         &mut self,
         column: u64,
@@ -182,6 +182,9 @@ impl<P: Described> Bench<P> {
         self.description.push_line(place, text)?;
         if self.description.is_open() {
             return Ok(());
+        }
+        if self.description.tokens().is_empty() {
+            return self.fault("no parser is described", out);
         }
         match described(self.alloc, &self.description) {
             Ok(parser) => {

@@ -76,9 +76,9 @@ impl Parser<Value> for Leaf {
     ghost use Rattle.bpaf_laws.proofs.ArgumentLaws.{argument_lawful};
     ghost use Rattle.bpaf.specs.PositionalLaws.{positional_lawful};
     ghost use Rattle.bpaf_laws.proofs.PureLaws.{pure_lawful};
-    ghost use Rattle.bpaf_bench.specs.declared.leaf.Leaf.TheVariants.{Switch, Flag, Number, Integer};
-    ghost use Rattle.bpaf_bench.specs.declared.leaf.Leaf.TheVariants.{Text, NumberWord, Word, Pure};
-    ghost use Rattle.bpaf_bench.specs.declared.leaf.Leaf.TheVariants.{PureWith, Fail};
+    ghost use Rattle.bpaf_bench.specs.declared.leaf.Leaf.TheVariants.{Switch, Flag, Number};
+    ghost use Rattle.bpaf_bench.specs.declared.leaf.Leaf.TheVariants.{Integer, Text, NumberWord};
+    ghost use Rattle.bpaf_bench.specs.declared.leaf.Leaf.TheVariants.{Word, Pure, PureWith, Fail};
     ghost use Rattle.bpaf_bench.specs.Told.{told_lawful};
 
     ghost can_eval = { elim [

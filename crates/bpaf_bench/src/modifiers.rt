@@ -9,7 +9,7 @@ ghost use Rattle.bpaf_bench.specs.Closures.{Checks, IsHalf};
 ghost use Rattle.bpaf_bench.specs.Told.{ToldOutcome};
 ghost use Rattle.bpaf_bench.specs.Values.{ToldOption, ToldQueue};
 ghost use Rattle.bpaf_bench.specs.Levels.{AcceptOutcome, FillsQueue, GivesNumber};
-ghost use Rattle.bpaf_bench.specs.Levels.{ModifierDescribes, ModifierOutcome};
+ghost use Rattle.bpaf_bench.specs.Levels.{OverDescribes, OverOutcome};
 ghost use Rattle.bpaf_bench.specs.Levels.{ToldCount, ToldList, need_one, number_of, too_much};
 
 use crate::as_value::AsValue;
@@ -199,7 +199,7 @@ pub fn modified<P: Parser<Value>>(
     state: &mut State,
 ) -> Result<Value, Error>
     requires { P.can_eval inner.now }
-    ensures { ModifierOutcome ⟦<Value as Clone>⟧.is_clone modifier (P.outcome inner.now)
+    ensures { OverOutcome ⟦<Value as Clone>⟧.is_clone modifier (P.outcome inner.now)
         state.old result state.new }
 {
     match modifier {
@@ -262,7 +262,7 @@ pub fn modified_meta<P: Parser<Value>>(
 ) -> Result<Meta, AllocError>
     requires { P.can_eval inner.now }
     ensures { IfOk result (λ meta.
-        ModifierDescribes modifier (P.describes inner.now) (shape_of meta)) }
+        OverDescribes modifier (P.describes inner.now) (shape_of meta)) }
 {
     match modifier {
         Modifier::Same | Modifier::Map | Modifier::Guard(_) | Modifier::Parse(_) => {

@@ -113,7 +113,7 @@ pub fn numbered_modifier(token: &str, number: u64) -> Option<Modifier> {
 }
 
 /// What stands before several parsers, and how many.
-pub fn row(token: &str) -> Option<(Kind, u64)> {
+pub fn several_kind(token: &str) -> Option<(Kind, u64)> {
     match token {
         "prod2" | "product2" => Some((Kind::Product, 2)),
         "prod3" | "product3" => Some((Kind::Product, 3)),
@@ -133,6 +133,6 @@ pub fn is_choice(token: &str) -> bool {
 pub fn is_combination(token: &str) -> bool {
     modifier(token).is_some()
         || numbered_modifier(token, 0).is_some()
-        || row(token).is_some()
+        || several_kind(token).is_some()
         || is_choice(token)
 }

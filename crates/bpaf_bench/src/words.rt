@@ -96,8 +96,8 @@ impl QuotedWords {
     }
 }
 
-/// The words of a text, parted by spaces and quoted as a shell quotes them; nothing where a quote isn't
-/// closed. Neither variables nor patterns are replaced.
+/// The words of a text, parted by spaces and quoted as a shell quotes them; nothing where a quote
+/// isn't closed. Neither variables nor patterns are replaced.
 pub fn quoted_words(alloc: Global, text: &str) -> Result<Option<Vec<String>>, AllocError> {
     let mut quoted = QuotedWords {
         alloc,

@@ -1,9 +1,9 @@
 ghost use Rattle.std.specs.Prelude.{All, IfOk};
 ghost use Rattle.bpaf_doc.specs.Shape.{shape_of};
-ghost use Rattle.bpaf_laws.specs.Product.{BothOutcome, ProductDescribes};
-ghost use Rattle.bpaf_bench.specs.Products.{NestedOutcome, OrElseDescribes, OrElseOutcome};
-ghost use Rattle.bpaf_bench.specs.Products.{RowDescribes, RowOutcome};
-ghost use Rattle.bpaf_bench.specs.Values.{ToldPair, ToldQuadruple, ToldTriple};
+ghost use Rattle.bpaf_laws.specs.Product.{ProductDescribes};
+ghost use Rattle.bpaf_bench.specs.Several.{FourOutcome, NestedOutcome, ThreeOutcome, TwoOutcome};
+ghost use Rattle.bpaf_bench.specs.Several.{OrElseDescribes, OrElseOutcome};
+ghost use Rattle.bpaf_bench.specs.Several.{TupleDescribes, TupleOutcome};
 
 use crate::as_value::AsValue;
 use crate::lent::Lent;
@@ -63,8 +63,7 @@ fn nested_meta<V: Drop, F: Fields<V> + Drop>(fields: F, alloc: Global) -> Result
 fn two_values<P: Parser<Value>>(a: &P, b: &P, state: &mut State) -> Result<Value, Error>
     requires a { P.can_eval a.now }
     requires b { P.can_eval b.now }
-    ensures { NestedOutcome (BothOutcome (P.outcome a.now) (P.outcome b.now)) ToldPair
-        state.old result state.new }
+    ensures { TwoOutcome (P.outcome a.now) (P.outcome b.now) state.old result state.new }
 {
     let fields = Last {
         last: Lent { inner: b },
@@ -81,7 +80,7 @@ fn three_values<P: Parser<Value>>(a: &P, b: &P, c: &P, state: &mut State) -> Res
     requires a { P.can_eval a.now }
     requires b { P.can_eval b.now }
     requires c { P.can_eval c.now }
-    ensures { NestedOutcome (BothOutcome (P.outcome a.now) (BothOutcome (P.outcome b.now) (P.outcome c.now))) ToldTriple
+    ensures { ThreeOutcome (P.outcome a.now) (P.outcome b.now) (P.outcome c.now)
         state.old result state.new }
 {
     let fields = Last {
@@ -110,8 +109,8 @@ fn four_values<P: Parser<Value>>(
     requires b { P.can_eval b.now }
     requires c { P.can_eval c.now }
     requires d { P.can_eval d.now }
-    ensures { NestedOutcome (BothOutcome (P.outcome a.now) (BothOutcome (P.outcome b.now) (BothOutcome (P.outcome c.now) (P.outcome d.now)))) ToldQuadruple
-        state.old result state.new }
+    ensures { FourOutcome (P.outcome a.now) (P.outcome b.now) (P.outcome c.now)
+        (P.outcome d.now) state.old result state.new }
 {
     let fields = Last {
         last: Lent { inner: d },
@@ -134,7 +133,7 @@ fn four_values<P: Parser<Value>>(
 /// The values of two, three or four parsers, the one after the other.
 pub fn product<P: Parser<Value>>(parsers: &[P], state: &mut State) -> Result<Value, Error>
     requires { All P.can_eval parsers.now }
-    ensures { RowOutcome P.outcome parsers.now state.old result state.new }
+    ensures { TupleOutcome P.outcome parsers.now state.old result state.new }
 {
     match parsers {
         [a, b] => two_values(a, b, state),
@@ -147,7 +146,7 @@ pub fn product<P: Parser<Value>>(parsers: &[P], state: &mut State) -> Result<Val
 /// What a product shows.
 pub fn product_meta<P: Parser<Value>>(parsers: &[P], alloc: Global) -> Result<Meta, AllocError>
     requires { All P.can_eval parsers.now }
-    ensures { IfOk result (λ meta. RowDescribes P.describes parsers.now (shape_of meta)) }
+    ensures { IfOk result (λ meta. TupleDescribes P.describes parsers.now (shape_of meta)) }
 {
     match parsers {
         [a, b] => {
