@@ -166,9 +166,9 @@ impl Parser<Value> for Leaf {
     ghost lawful = { elim [
       | Switch p ↦ told_lawful _ (flag_lawful _ _ _ _ _)
       | Flag p ↦ told_lawful _ (flag_lawful _ _ _ _ _)
-      | Number p ↦ told_lawful _ (argument_lawful _ _ _ _)
-      | Integer p ↦ told_lawful _ (argument_lawful _ _ _ _)
-      | Text p ↦ told_lawful _ (argument_lawful _ _ _ _)
+      | Number p ↦ told_lawful _ (argument_lawful _ _ _)
+      | Integer p ↦ told_lawful _ (argument_lawful _ _ _)
+      | Text p ↦ told_lawful _ (argument_lawful _ _ _)
       | NumberWord p ↦ told_lawful _ (positional_lawful _ _ _ _)
       | Word p ↦ told_lawful _ (positional_lawful _ _ _ _)
       | Pure p ↦ pure_lawful _
