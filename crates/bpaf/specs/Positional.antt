@@ -43,8 +43,8 @@ pub record TakesSome (s t : Situation) : Type 0 where
   pub text : List ℕ
   pub takes : TakesText s place strict text t
 
--- a refusal: no word; a word on the wrong side, or one whose text means no value, which is taken; or
--- want of memory, with nothing taken or the word
+-- a refusal: no word; a word on the wrong side, or one whose text means no value, which is taken;
+-- or want of memory, with nothing taken or the word
 abbrev pub PositionalFails : {T : Type 0} → (List ℕ → T → Type 0) → Position → List ℕ
     → Situation → Message → Situation → Type 0
 PositionalFails means position metavar s (Missing items) t =

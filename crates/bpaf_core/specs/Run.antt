@@ -32,8 +32,8 @@ IsRefusal failure.Memory = ⊤
 abbrev pub Tells : Message → ParseFailure → Type 0
 Tells m f = ((is_memory m ≡ true) × (f ≡ failure.Memory)) ⊎ ((is_memory m ≡ false) × IsRefusal f)
 
--- a run from a situation on, and the situation that it leaves: a value, and no item is left; a value that left some; a
--- refusal
+-- a run from a situation on, and the situation that it leaves: a value, and no item is left; a
+-- value that left some; a refusal
 pub data Runs (T : Type 0) (inner : Outcome T) (s : Situation) : Result T ParseFailure → Situation → Type 0 where
   value : (v : T) (t : Situation) → inner s (Ok v) t → open_count t ≡ 0 → Runs T inner s (Ok v) t
   leftover : (v : T) (t : Situation) (f : ParseFailure) → inner s (Ok v) t → 0 < open_count t → IsRefusal f → Runs T inner s (Err f) t

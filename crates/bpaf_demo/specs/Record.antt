@@ -69,8 +69,8 @@ pub record IsDealtOptions (words : List (List ℕ)) (v : Options) : Type 0 where
   pub files : ManyReads (PositionalReads String MeansText Unrestricted)
       context files_share v.files
 
--- status 0: nothing on the error writer, and on the other exactly the lines of options that are dealt
--- out of the words
+-- status 0: nothing on the error writer, and on the other exactly the lines of options that are
+-- dealt out of the words
 pub record Succeeds (words : List (List ℕ)) (out out_after err err_after : Option (List ℕ)) : Type 0 where
   pub quiet : Keeps err err_after
   pub options : Options

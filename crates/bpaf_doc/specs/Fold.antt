@@ -10,8 +10,8 @@ abbrev pub keeps_break : List ℕ → Bool
 keeps_break [] = true
 keeps_break (c ∷ rest) = c == 32 || c == 10
 
--- every line break is a space, but one that stays before what follows it and one after a line break;
--- the flag tells that a line break stands before the text
+-- every line break is a space, but one that stays before what follows it and one after a line
+-- break; the flag tells that a line break stands before the text
 abbrev pub folded_after : Bool → List ℕ → List ℕ
 folded_after after_break [] = []
 folded_after after_break (c ∷ rest) =
@@ -26,8 +26,8 @@ folded text = folded_after false text
 abbrev pub break_or_space : Bool → ℕ
 break_or_space stays = if stays then 10 else 32
 
--- what stands between a line and what follows it: a line break, where one stays there, or a space; the
--- flag tells that a line break stands before the line
+-- what stands between a line and what follows it: a line break, where one stays there, or a space;
+-- the flag tells that a line break stands before the line
 abbrev pub break_between : Bool → List ℕ → List ℕ → ℕ
 break_between after_break line more =
     break_or_space ((after_break && (length line == 0)) || keeps_break more)
@@ -48,8 +48,8 @@ detail text = record { text = text; style = style.Text; detail = true }
 abbrev pub whole_pieces : List ℕ → List Piece
 whole_pieces text = shown_as style.Text (folded text) ∷ []
 
--- the pieces of a text around an empty line: what stands before it, folded, and as detail a line break
--- and what follows it, folded
+-- the pieces of a text around an empty line: what stands before it, folded, and as detail a line
+-- break and what follows it, folded
 abbrev pub cut_pieces : List ℕ → List ℕ → List Piece
 cut_pieces before after = shown_as style.Text (folded before) ∷ detail (10 ∷ folded after) ∷ []
 

@@ -22,58 +22,58 @@ flag_keeps names s true t takes =
     (match_is_open (is_key_of names) s takes.0 takes.1.matches))
 flag_keeps names s false t takes = keeps_same s t takes.1
 
-module _ (T : Type 0) (clones : T → T → Type 0) (named : Named) (present : T) (absent : Option T)
-  where
-    -- what a flag reads
-    abbrev reads_flag : Readings T
-    reads_flag = FlagReads T clones named present absent
+module _ (T : Type 0) (clones : T → T → Type 0) (named : Named) (present : T)
+    (absent : Option T) where
+  -- what a flag reads
+  abbrev reads_flag : Readings T
+  reads_flag = FlagReads T clones named present absent
 
-    -- a taken key, with a clone of the present value, is a reading of the flag
-    flag_found : (s t : Situation) (v : T) → TakesFlag named.names s true t → clones present v
-        → Reads T reads_flag s v t
-    flag_found s t v takes value =
-        let there : is_open s takes.0 ≡ true = match_is_open (is_key_of named.names) s takes.0
-        takes.1.matches in
-        subst (λ w. Reads T reads_flag s v w) (sym takes.2) (record {
-          keeps = keeps_take s takes.0 there;
-          closed = closes_take s takes.0;
-          reading =
-              at_key takes.0 (match_has_item (is_key_of named.names) s takes.0 takes.1.matches)
-              (newly_take s takes.0 there) value;
-        })
+  -- a taken key, with a clone of the present value, is a reading of the flag
+  flag_found : (s t : Situation) (v : T) → TakesFlag named.names s true t → clones present v
+      → Reads T reads_flag s v t
+  flag_found s t v takes value =
+      let there : is_open s takes.0 ≡ true = match_is_open (is_key_of named.names) s takes.0
+      takes.1.matches in
+      subst (λ w. Reads T reads_flag s v w) (sym takes.2) (record {
+        keeps = keeps_take s takes.0 there;
+        closed = closes_take s takes.0;
+        reading =
+            at_key takes.0 (match_has_item (is_key_of named.names) s takes.0 takes.1.matches)
+            (newly_take s takes.0 there) value;
+      })
 
-    -- a flag that is present, with a clone of the present value, is a reading
-    flag_present : (s t : Situation) (v : T) → IsFlagPresent named s t → clones present v
-        → Reads T reads_flag s v t
-    flag_present s t v is value = ⊎_elim
-        (λ takes. flag_found s t v takes value)
-        (λ set. reads_same reads_flag s t v set.0.1 (in_environment (newly_none s) set.1 value))
-        is
+  -- a flag that is present, with a clone of the present value, is a reading
+  flag_present : (s t : Situation) (v : T) → IsFlagPresent named s t → clones present v
+      → Reads T reads_flag s v t
+  flag_present s t v is value = ⊎_elim
+      (λ takes. flag_found s t v takes value)
+      (λ set. reads_same reads_flag s t v set.0.1 (in_environment (newly_none s) set.1 value))
+      is
 
-    -- a flag that is absent, with a clone of the absent value, is a reading
-    flag_absent : (s t : Situation) (v : T) → IsFlagAbsent named s t → IsAbsentValue clones absent v
-        → Reads T reads_flag s v t
-    flag_absent s t v is value =
-        reads_same reads_flag s t v is.0.1 (nowhere (newly_none s) is.1 value)
+  -- a flag that is absent, with a clone of the absent value, is a reading
+  flag_absent : (s t : Situation) (v : T) → IsFlagAbsent named s t → IsAbsentValue clones absent v
+      → Reads T reads_flag s v t
+  flag_absent s t v is value =
+      reads_same reads_flag s t v is.0.1 (nowhere (newly_none s) is.1 value)
 
-    -- what the test of a flag's key keeps
-    present_keeps : (s t : Situation) (is : Bool) → IsPresent named s is t → Keeps s t
-    present_keeps s t true found = ⊎_elim
-        (λ takes. flag_keeps named.names s true t takes)
-        (λ set. flag_keeps named.names s false t set.0)
-        found
-    present_keeps s t false none = flag_keeps named.names s false t none.0
+  -- what the test of a flag's key keeps
+  present_keeps : (s t : Situation) (is : Bool) → IsPresent named s is t → Keeps s t
+  present_keeps s t true found = ⊎_elim
+      (λ takes. flag_keeps named.names s true t takes)
+      (λ set. flag_keeps named.names s false t set.0)
+      found
+  present_keeps s t false none = flag_keeps named.names s false t none.0
 
-    -- what a refusal of a flag keeps
-    flag_refused : (s t : Situation) (m : Message) → FlagFails named absent s m t → Keeps s t
-    flag_refused s t Memory fails = present_keeps s t fails.0 fails.1
-    flag_refused s t other fails = flag_keeps named.names s false t fails.0.0
+  -- what a refusal of a flag keeps
+  flag_refused : (s t : Situation) (m : Message) → FlagFails named absent s m t → Keeps s t
+  flag_refused s t Memory fails = present_keeps s t fails.0 fails.1
+  flag_refused s t other fails = flag_keeps named.names s false t fails.0.0
 
-    -- flags keep to the laws
-    pub flag_lawful : Lawful T (FlagOutcome clones named present absent) reads_flag
-    flag_lawful = record {
-      ok =
-          λ s t v o. ⊎_elim (λ here. flag_present s t v here.0 here.1)
-          (λ none. flag_absent s t v none.0 none.1) o;
-      err = λ s t e o. flag_refused s t e.0 o;
-    }
+  -- flags keep to the laws
+  pub flag_lawful : Lawful T (FlagOutcome clones named present absent) reads_flag
+  flag_lawful = record {
+    ok =
+        λ s t v o. ⊎_elim (λ here. flag_present s t v here.0 here.1)
+        (λ none. flag_absent s t v none.0 none.1) o;
+    err = λ s t e o. flag_refused s t e.0 o;
+  }

@@ -1,6 +1,6 @@
 -- How what evaluations keep is put together. No combinator builds a `Keeps` of its own: it goes
--- through
--- these lemmas and one for each call of a state, so that a clause can be added to the laws here.
+-- through these lemmas and one for each call of a state, so that a clause can be added to the laws
+-- here.
 use Rattle.std.specs.Prelude.{◌≡◌, ◌≢◌, ℕ, ◌+◌, ◌==◌, Bool, true, false, not, ◌&&◌, ◌||◌, [], ◌++◌, Result, Ok, Err, Option, None, refl}
 use Rattle.std.proofs.Common.{sym, ◌∙◌, ap, subst, append_assoc, append-nil, arith, ⊎_elim, true≢false}
 use Rattle.std.proofs.lemmas.Bool.{cases_eq}

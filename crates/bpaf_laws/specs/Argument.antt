@@ -51,8 +51,7 @@ abbrev pub HasNoKey : KeyWithValue → Situation → Type 0
 HasNoKey argument = HasNone (is_key_with_value argument)
 
 -- no key is there, and this is the text of the first environment name that is set; no place is
--- current
--- then
+-- current then
 pub record ReadsVariable (argument : KeyWithValue) (s : Situation) (text : List ℕ) (t : Situation)
     : Type 0 where
   pub no_key : HasNoKey argument s
@@ -60,8 +59,7 @@ pub record ReadsVariable (argument : KeyWithValue) (s : Situation) (text : List 
   pub left : t ≡ with_current s None
 
 -- the text of an argument: that behind its key, which are taken; or where no key is there, that of
--- the
--- environment
+-- the environment
 abbrev pub GetsText : KeyWithValue → Situation → List ℕ → Situation → Type 0
 GetsText argument s text t = TakesKeyWithText argument s text t ⊎ ReadsVariable argument s text t
 
@@ -76,8 +74,7 @@ IsNowhere argument s m =
     × IsAbsence s (argument_part argument) argument.named.envs m
 
 -- no text: the key has none behind it; or there is neither a key nor a variable; or memory is
--- wanted;
--- nothing changes
+-- wanted; nothing changes
 abbrev pub RefusesText : KeyWithValue → Situation → Message → Situation → Type 0
 RefusesText argument s (NoArgument key m) t = LacksText argument s (NoArgument key m) × (t ≡ s)
 RefusesText argument s Memory t = t ≡ s

@@ -29,8 +29,7 @@ Winner x sa y sb true (Some place) r t = (r ≡ Ok x) × ConflictsSaved sa sb pl
 Winner x sa y sb false (Some place) r t = (r ≡ Ok y) × ConflictsSaved sb sa place t
 
 -- the value of the branch that took the leftmost place taken by only one of them; without such a
--- place
--- it is the first
+-- place it is the first
 abbrev pub ValueOfWinner : {T : Type 0} → T → Situation → T → Situation → Result T Error → Situation
     → Type 0
 ValueOfWinner x sa y sb r t =
@@ -127,8 +126,8 @@ pub record TookAndIsChosen {T : Type 0} (p : ℕ) (a : Result T Error) (sa : Sit
   pub took : is_taken sa p ≡ true
 
 -- the answer comes of two branches that ran; where these are equally deep and both answer a value
--- the chosen one took the
--- leftmost place taken by only one of them, and without such a place the first is chosen
+-- the chosen one took the leftmost place taken by only one of them, and without such a place the
+-- first is chosen
 pub record LeftmostIsChosen {T : Type 0} (first second : Outcome T) (s : Situation) (v : T)
     (t : Situation) : Type 0 where
   pub ran : BranchesRan first second s (Ok v) t

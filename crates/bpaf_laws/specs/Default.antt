@@ -38,8 +38,7 @@ abbrev pub FallsBack : {T : Type 0} → Outcome T → Situation → Type 0
 FallsBack inner s = (e : Error) × (m : Situation) × inner s (Err e) m × (can_catch e.0 ≡ true)
 
 -- Some of an inner value; None where the inner parser falls back; or another error, or want of
--- memory. After all but a
--- value the situation is as before
+-- memory. After all but a value the situation is as before
 abbrev pub AttemptOutcome : {T : Type 0} → Outcome T → Outcome (Option T)
 AttemptOutcome inner s (Ok (Some v)) t = inner s (Ok v) t
 AttemptOutcome inner s (Ok None) t = FallsBack inner s × (t ≡ s)

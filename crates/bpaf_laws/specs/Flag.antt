@@ -18,8 +18,7 @@ IsAbsentValue clones None v = ⊥
 IsAbsentValue clones (Some kept) v = clones kept v
 
 -- one key with one of the names, attached or not, and a clone of the present value; or no place,
--- and one
--- of the present value where an environment name is set, else one of the absent value
+-- and one of the present value where an environment name is set, else one of the absent value
 pub data FlagReads (T : Type 0) (clones : T → T → Type 0) (named : Named) (present : T)
     (absent : Option T)
     (context : Context) (share : Share) (v : T) : Type 0 where

@@ -37,8 +37,7 @@ pub record IsFaultAtKey {T : Type 0} (means : List ℕ → T → Type 0) (argume
   pub is : place ≡ Some (key + 1)
 
 -- a refusal where a key is there: the first one has no text behind it, or that means no value; or
--- want
--- of memory
+-- want of memory
 abbrev pub FailsAtKey : {T : Type 0} → (List ℕ → T → Type 0) → KeyWithValue → Situation → Message
     → Type 0
 FailsAtKey means argument s (NoArgument key m) = LacksText argument s (NoArgument key m)
@@ -47,8 +46,7 @@ FailsAtKey means argument s Memory = ⊤
 FailsAtKey means argument s m = ⊥
 
 -- a refusal where no key is there: the text of the first name that is set means no value, and no
--- place
--- is named; or none is set; or want of memory
+-- place is named; or none is set; or want of memory
 abbrev pub FailsInVariable : {T : Type 0} → (List ℕ → T → Type 0) → KeyWithValue → Situation
     → Message
     → Type 0
@@ -63,8 +61,8 @@ FailsKeyFirst means argument s m =
     ((p : ℕ) → is_match (is_key_with_value argument) s p ≡ true → FailsAtKey means argument s m)
     × (HasNoKey argument s → FailsInVariable means argument s m)
 
--- where a key of the argument is present in scope, the answer is that of the first one, whatever the
--- environment has; where none is, it is that of the environment
+-- where a key of the argument is present in scope, the answer is that of the first one, whatever
+-- the environment has; where none is, it is that of the environment
 abbrev pub KeyBeforeEnvironment : {T : Type 0} → (List ℕ → T → Type 0) → KeyWithValue → Outcome T
 KeyBeforeEnvironment means argument s (Ok v) t =
     ((p : ℕ) → is_match (is_key_with_value argument) s p ≡ true → IsBehindKey means argument s v t)

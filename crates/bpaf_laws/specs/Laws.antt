@@ -31,12 +31,12 @@ abbrev pub Closes : Situation → Situation → Type 0
 Closes s t = (p : ℕ) → in_scope s p ≡ true → in_scope t p ≡ false → is_taken t p ≡ true
 
 -- an evaluation that answered a value
-pub record Reads (T : Type 0) (reads : Readings T) (s : Situation) (v : T) (t : Situation) : Type 0
-  where
-    pub keeps : Keeps s t
-    pub closed : Closes s t
-    -- the newly taken places with the value are a reading
-    pub reading : reads s.context (newly s t) v
+pub record Reads (T : Type 0) (reads : Readings T) (s : Situation) (v : T)
+    (t : Situation) : Type 0 where
+  pub keeps : Keeps s t
+  pub closed : Closes s t
+  -- the newly taken places with the value are a reading
+  pub reading : reads s.context (newly s t) v
 
 -- the laws of a parser
 pub record Lawful (T : Type 0) (outcome : Outcome T) (reads : Readings T) : Type 0 where

@@ -8,8 +8,7 @@ use Rattle.bpaf_line.specs.declared.error.Message.TheVariants.{Missing}
 use Rattle.bpaf_laws.specs.Reading.{Outcome}
 
 -- an error other than want of memory at which a step stops: with `catches` each that isn't wrong
--- input; Missing where as
--- many items are present as before; each other that can be caught
+-- input; Missing where as many items are present as before; each other that can be caught
 abbrev pub stops_spared : Bool → Message → Bool → Bool
 stops_spared catches (Missing items) untouched = catches || untouched
 stops_spared catches e untouched = (catches && not (is_wrong_input e)) || can_catch e
@@ -29,9 +28,8 @@ StopsAtError inner catches s =
     × (stops_step catches e.0 (is_untouched s m) ≡ true)
 
 -- Some of a value: of the first step, or of one that took an item. None, where the step stops: a
--- later value that took
--- nothing is dropped, or at an error all is as before the step. Or the error, or want of memory
--- before the step
+-- later value that took nothing is dropped, or at an error all is as before the step. Or the error,
+-- or want of memory before the step
 abbrev pub StepOutcome : {T : Type 0} → Outcome T → Bool → Bool → Outcome (Option T)
 StepOutcome inner catches first s (Ok (Some v)) t =
     inner s (Ok v) t × ((first ≡ true) ⊎ (open_count t < open_count s))

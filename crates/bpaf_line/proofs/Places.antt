@@ -1,4 +1,5 @@
--- Places: what a place that is taken changes. The layers above cite these lemmas in place of the marks.
+-- Places: what a place that is taken changes. The layers above cite these lemmas in place of the
+-- marks.
 use Rattle.std.proofs.Common.{◌≡◌, ◌≢◌, ℕ, zero, suc, ◌+◌, ◌<◌, ◌≤◌, Bool, true, false, not, ◌&&◌, ◌||◌, List, Option, length, refl, ap, sym, ◌∙◌, arith, if◌then◌else◌, get_or-set_same, get_or-set_other, length-set, ⊎_elim, nat_lt, nat_le, slice_index_or, slice_set}
 use Rattle.std.proofs.lemmas.Bool.{cases_lt, cases_eq}
 use Rattle.std.proofs.lemmas.Bool.Decides.{nat_tests}

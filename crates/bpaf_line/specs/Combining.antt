@@ -4,8 +4,8 @@ use Rattle.bpaf_line.specs.declared.error.Message.{Message}
 use Rattle.bpaf_line.specs.declared.error.Message.TheVariants.{Memory, Missing, ParseFailure}
 use Rattle.bpaf_line.specs.Messages.{is_memory, can_catch}
 
--- of two refusals that aren't want of memory: what a whole inner run answered; else all that is missing, for which
--- memory may be wanted; else the first where it can't be caught, else the second
+-- of two refusals that aren't want of memory: what a whole inner run answered; else all that is
+-- missing, for which memory may be wanted; else the first where it can't be caught, else the second
 abbrev pub CombinesSpared : Message → Message → Message → Type 0
 CombinesSpared (ParseFailure failure) second both = both ≡ ParseFailure failure
 CombinesSpared first (ParseFailure failure) both = both ≡ ParseFailure failure

@@ -18,7 +18,8 @@ abbrev pub IsWinner : Situation → Situation → Bool × Option ℕ → Type 0
 IsWinner s other (here, None) = TakeTheSame s other × (here ≡ true)
 IsWinner s other (here, Some p) = IsLeftmost s other p × (is_taken s p ≡ here)
 
--- each place present in the one and taken in the loser has a conflict mark that names a place; all else is as it was
+-- each place present in the one and taken in the loser has a conflict mark that names a place; all
+-- else is as it was
 pub record ConflictsSaved (s loser : Situation) (winner : ℕ) (t : Situation) : Type 0 where
   pub context : t.context ≡ s.context
   pub start : t.start ≡ s.start

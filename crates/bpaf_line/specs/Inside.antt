@@ -17,8 +17,8 @@ situation_of s = record {
   current = s.current;
 }
 
--- each place has its mark, the marker is taken, the scope lies in the line, the count is right, and the path begins
--- with the set name
+-- each place has its mark, the marker is taken, the scope lies in the line, the count is right, and
+-- the path begins with the set name
 pub record IsSound (s : Inside) : Type 0 where
   pub marked : length s.marks.items ≡ length (rc_slice_items s.items)
   pub closed : (p : ℕ) → is_marker s.marker p ≡ true → is_taken (situation_of s) p ≡ true

@@ -1,14 +1,14 @@
 -- A parse in progress, as contracts see it: the line, which of its places are taken, and the scope.
--- The layers above speak by `item_at`, `is_taken`, `conflict_at`, `in_scope`, `is_open`, `open_count` and
--- the steps `take_place`, `with_scope`, `with_path`, `with_current`, `beginning` alone, so that the marks
--- may be kept otherwise.
+-- The layers above speak by `item_at`, `is_taken`, `conflict_at`, `in_scope`, `is_open`,
+-- `open_count` and the steps `take_place`, `with_scope`, `with_path`, `with_current`, `beginning`
+-- alone, so that the marks may be kept otherwise.
 use Rattle.std.specs.Prelude.{ℕ, ◌+◌, ◌==◌, Bool, true, false, not, ◌&&◌, ◌||◌, List, [], ◌∷◌, ◌++◌, length, Option, Some, None, zero, suc, nat_lt, nat_le, if◌then◌else◌, slice_get, slice_index_or, slice_set, replicate, option_to_list}
 use Rattle.bpaf_words.specs.declared.arg.Arg.{Arg}
 use Rattle.bpaf_line.specs.declared.state.PlaceMark.{PlaceMark}
 use Rattle.bpaf_line.specs.declared.state.PlaceMark.TheVariants.{Present, Conflict, Taken}
 
--- what no evaluation changes: the line, the place of its first `--`, where one stands there, the environment and
--- the set name
+-- what no evaluation changes: the line, the place of its first `--`, where one stands there, the
+-- environment and the set name
 pub record Context : Type 0 where
   pub line : List Arg
   pub marker : Option ℕ

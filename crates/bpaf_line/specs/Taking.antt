@@ -51,7 +51,8 @@ RefusesArgument names adjacent metavar s (NoArgument p m) = IsFirst (is_argument
 RefusesArgument names adjacent metavar s Memory = ⊤
 RefusesArgument names adjacent metavar s m = ⊥
 
--- `take_arg`: the first key and its value are taken; or there is no key; or a refusal; then nothing changes
+-- `take_arg`: the first key and its value are taken; or there is no key; or a refusal; then nothing
+-- changes
 abbrev pub TakesArgument : Names → Bool → List ℕ → Situation → Result (Option (String Global)) Error → Situation → Type 0
 TakesArgument names adjacent metavar s (Ok (Some text)) t = TakesValue names adjacent s (string_bytes text) t
 TakesArgument names adjacent metavar s (Ok None) t = HasNone (is_argument_key names adjacent) s × (t ≡ s)
@@ -69,7 +70,8 @@ RefusesWord metavar s (Missing items) = HasNone is_positional s × IsMissingIn s
 RefusesWord metavar s Memory = ⊤
 RefusesWord metavar s m = ⊥
 
--- `take_positional_word`: the first word is taken: its place, whether it is a PosWord, its text; or a refusal; then nothing changes
+-- `take_positional_word`: the first word is taken: its place, whether it is a PosWord, its text; or
+-- a refusal; then nothing changes
 abbrev pub TakesWord : List ℕ → Situation → Result (ℕ × Bool × String Global) Error → Situation → Type 0
 TakesWord metavar s (Ok r) t = TakesText s r.0 r.1 (string_bytes r.2) t
 TakesWord metavar s (Err e) t = RefusesWord metavar s e.0 × (t ≡ s)
@@ -83,7 +85,8 @@ pub record IsCommandAt (word : List ℕ) (s : Situation) (p : ℕ) : Type 0 wher
 abbrev pub HasNoCommand : List ℕ → Situation → Type 0
 HasNoCommand word s = (p : ℕ) → IsFirst any_item s p → option_map_or (is_command_word word) (item_at s p) false ≡ false
 
--- `take_cmd`: the first item is the word of the command, and is taken; or it isn't, and then no place is the current one
+-- `take_cmd`: the first item is the word of the command, and is taken; or it isn't, and then no
+-- place is the current one
 abbrev pub TakesCommand : List ℕ → Situation → Bool → Situation → Type 0
 TakesCommand word s true t = (p : ℕ) × IsCommandAt word s p × (t ≡ take_place s p)
 TakesCommand word s false t = HasNoCommand word s × (t ≡ with_current s None)

@@ -33,7 +33,8 @@ impl State {
 
     /// Gives one place a conflict mark, where it is present here and taken in the other state.
     fn save_conflict(&mut self, loser: &State, place: usize, winner: usize)
-        ensures { self.new ≡ (if not (is_taken self.old place) && is_taken loser.now place then with_conflict self.old place winner else self.old) }
+        ensures { self.new ≡ (if not (is_taken self.old place) && is_taken loser.now place
+            then with_conflict self.old place winner else self.old) }
     {
         if !self.is_taken(place) && loser.is_taken(place) {
             self.mark_conflict(place, winner);

@@ -94,7 +94,8 @@ fn first_marks(
 
 /// A path of the set name alone, and that name.
 fn first_path(alloc: Global, name: Option<&str>) -> Result<(Vec<String>, Option<Text>), AllocError>
-    ensures path { IfOk result (λ r. map string_bytes r.0.items ≡ option_to_list (option_map (λ n. n.now) name.entry)) }
+    ensures path { IfOk result (λ r.
+        map string_bytes r.0.items ≡ option_to_list (option_map (λ n. n.now) name.entry)) }
     ensures name { IfOk result (λ r. r.1 ≡ option_map (λ n. n.now) name.entry) }
 {
     let mut path = Vec::new(alloc);

@@ -260,7 +260,8 @@ impl State {
     pub(crate) fn first_open<F: Fn(&Arg) -> bool>(&self, test: F) -> Option<(usize, &Arg)>
         ghost passes: { Arg → Bool }
         requires callable { F.IsAlwaysCallable test }
-        requires means { (item : Bor Arg) (answer : Bool) → F.post test item answer → answer ≡ passes item.now }
+        requires means { (item : Bor Arg) (answer : Bool) →
+            F.post test item answer → answer ≡ passes item.now }
         ensures { MatchOption result (HasNone passes self.now) (λ r.
             IsFirst passes self.now r.0 × (open_item self.now r.0 ≡ Some r.1.now)) }
     {

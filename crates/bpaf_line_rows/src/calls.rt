@@ -5,7 +5,8 @@
 ghost use Rattle.std.specs.Prelude.{◌≡◌, ◌≤◌, true, length};
 
 use bpaf_doc::{Metavar, Text};
-use bpaf_line::{Arg, Args, Error, Message, State};
+use bpaf_line::{Error, Message, State};
+use bpaf_words::{Arg, Args};
 use std::alloc::{AllocError, Global};
 use std::ops::Range;
 use std::process::Abort;

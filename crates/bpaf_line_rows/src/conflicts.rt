@@ -1,6 +1,7 @@
 //! Two states of one line: which took the leftmost place, and what the other one took.
 use crate::calls::{Call, gives, play};
-use bpaf_line::{Args, State};
+use bpaf_line::State;
+use bpaf_words::Args;
 use std::alloc::Global;
 use std::test::Fail;
 
@@ -34,7 +35,7 @@ fn leftmost_place_wins(rt: HostRuntime) -> Result<(), Fail> {
 
 /// Once the first state knows what the second one took: its conflict, and the answers of calls on its
 /// copy.
-fn told(alloc: Global, calls: &[Call<'_>]) -> Result<String, Fail> {
+fn answers_once_saved(alloc: Global, calls: &[Call<'_>]) -> Result<String, Fail> {
     let (mut this, that) = branches(alloc)?;
     this.save_conflicts(&that, 0);
     let mut copy = this.copy()?;
@@ -54,7 +55,7 @@ fn conflicts_are_saved_and_told(rt: HostRuntime) -> Result<(), Fail> {
         Call::TakeWord,
         Call::Conflict,
     ];
-    let all = told(rt.alloc(), &calls)?;
+    let all = answers_once_saved(rt.alloc(), &calls)?;
     assert_eq!(rt; all.as_str(), "1 0|1 0|true|2|true|none|2 false x|none|");
     Ok(())
 }

@@ -144,10 +144,10 @@ fn combined(alloc: Global, first: Refusal<'_>, second: Refusal<'_>) -> Result<St
 }
 
 fn both(alloc: Global, first: Error, second: Message) -> Result<String, AllocError> {
-    told(alloc, &first.combine_with(Error(second)).0)
+    described(alloc, &first.combine_with(Error(second)).0)
 }
 
-fn told(alloc: Global, message: &Message) -> Result<String, AllocError> {
+fn described(alloc: Global, message: &Message) -> Result<String, AllocError> {
     match message {
         Message::Memory => String::from_str(alloc, "memory"),
         Message::ParseFailure(failure) => failure_text(alloc, failure.copy()?),
@@ -333,12 +333,12 @@ fn copy_lists(
     items: &MissingItems,
     wanted: &str,
 ) -> Result<(), Fail> {
-    same(rt, copied_metavars(rt.alloc(), items)?, wanted);
-    same(rt, metavars(rt.alloc(), items.as_slice())?, wanted);
+    expect_text(rt, copied_metavars(rt.alloc(), items)?, wanted);
+    expect_text(rt, metavars(rt.alloc(), items.as_slice())?, wanted);
     Ok(())
 }
 
-fn same(rt: &impl Abort, text: String, wanted: &str) {
+fn expect_text(rt: &impl Abort, text: String, wanted: &str) {
     assert_eq!(rt; text.as_str(), wanted);
 }
 
@@ -418,4 +418,17 @@ fn copies_of_failures_say_the_same(rt: HostRuntime) -> Result<(), Fail> {
     copies_tell(&rt, Failure::Stdout("help", true), "help none 0")?;
     copies_tell(&rt, Failure::Stderr("no"), "none no 1")?;
     copies_tell(&rt, Failure::Memory, "none none 1")
+}
+
+/// How many values a list holds: a parser of a caller's own may push with `?`.
+fn pushed(alloc: Global) -> Result<usize, Error> {
+    let mut values = Vec::new(alloc);
+    values.push(7u8)?;
+    Ok(values.len())
+}
+
+#[test]
+fn a_caller_may_push_with_a_question_mark(rt: HostRuntime) -> Result<(), Fail> {
+    assert_eq!(rt; pushed(rt.alloc())?, 1);
+    Ok(())
 }

@@ -1,6 +1,7 @@
 //! The calls of a state beside those of the worked rows: commands, scope, path, copies.
 use crate::calls::{Call, gives, play, played};
-use bpaf_line::{Args, State};
+use bpaf_line::State;
+use bpaf_words::Args;
 use std::alloc::Global;
 use std::process::Abort;
 use std::test::Fail;
@@ -133,7 +134,7 @@ fn names_are_put_on_the_path(rt: HostRuntime) -> Result<(), Fail> {
         Call::Path,
         Call::Len,
     ];
-    same(&rt, named(rt.alloc(), &calls)?, "1|done|2|app/build/|1|");
+    expect_text(&rt, named(rt.alloc(), &calls)?, "1|done|2|app/build/|1|");
     gives(&rt, &["x"], &[Call::Depth], "0|")
 }
 
@@ -151,13 +152,13 @@ fn copies(
     on_copy: (&[Call<'_>], &str),
     after: (&[Call<'_>], &str),
 ) -> Result<(), Fail> {
-    same(rt, play_on_copy(rt.alloc(), state, on_copy.0)?, on_copy.1);
-    same(rt, play(rt.alloc(), state, after.0)?, after.1);
-    same(rt, play_on_copy(rt.alloc(), state, after.0)?, after.1);
+    expect_text(rt, play_on_copy(rt.alloc(), state, on_copy.0)?, on_copy.1);
+    expect_text(rt, play(rt.alloc(), state, after.0)?, after.1);
+    expect_text(rt, play_on_copy(rt.alloc(), state, after.0)?, after.1);
     Ok(())
 }
 
-fn same(rt: &impl Abort, answers: String, wanted: &str) {
+fn expect_text(rt: &impl Abort, answers: String, wanted: &str) {
     assert_eq!(rt; answers.as_str(), wanted);
 }
 
@@ -168,7 +169,7 @@ fn copies_of(
     on_copy: (&[Call<'_>], &str),
     after: (&[Call<'_>], &str),
 ) -> Result<(), Fail> {
-    same(
+    expect_text(
         rt,
         play(rt.alloc(), &mut state, &[Call::TakeWord])?,
         "1 false x|",

@@ -1,6 +1,7 @@
 //! The worked rows on items and on the take calls, and the calls that stand outside a state.
 use crate::calls::{Call, gives, gives_knowing, played, shown};
-use bpaf_line::{Arg, Args, Message, SplitFault, State};
+use bpaf_line::{Message, State};
+use bpaf_words::{Arg, Args, SplitFault};
 use std::alloc::{AllocError, Global};
 use std::collections::BTreeMap;
 use std::process::Abort;
@@ -382,15 +383,15 @@ fn fault(answer: Result<(), SplitFault>) -> Option<usize> {
 fn a_word_is_split_alone(rt: HostRuntime) -> Result<(), Fail> {
     let a = rt.alloc();
     let mut all = Vec::new(a);
-    assert!(rt; bpaf_line::split_word(a, "-n=3", &[], &[], &mut all).is_ok());
+    assert!(rt; bpaf_words::split_word(a, "-n=3", &[], &[], &mut all).is_ok());
     assert_eq!(rt; all.len(), 2);
-    let ambiguous = bpaf_line::split_word(a, "-ab", &['a', 'b'], &['b'], &mut all);
+    let ambiguous = bpaf_words::split_word(a, "-ab", &['a', 'b'], &['b'], &mut all);
     assert_eq!(rt; fault(ambiguous), Some(2));
     Ok(())
 }
 
 #[test]
 fn laws_of_lines_are_called() {
-    bpaf_line::spellings_are_unique();
-    bpaf_line::lines_are_unique();
+    bpaf_words::spellings_are_unique();
+    bpaf_words::lines_are_unique();
 }

@@ -6,7 +6,7 @@ use std::process::Abort;
 use std::test::Fail;
 
 /// Compares an answer with the wanted one.
-pub(crate) fn same<T: Debug + Drop + PartialEq>(
+pub(crate) fn expect<T: Debug + Drop + PartialEq>(
     rt: &impl Abort,
     found: Result<T, AllocError>,
     wanted: T,
@@ -17,19 +17,19 @@ pub(crate) fn same<T: Debug + Drop + PartialEq>(
 }
 
 /// Compares a text with the wanted one, where there is one.
-pub(crate) fn reads(
+pub(crate) fn expect_some_text(
     rt: &impl Abort,
     found: Result<Option<String>, AllocError>,
     wanted: &str,
 ) -> Result<(), Fail> {
     match found? {
-        Some(text) => told(rt, Ok(text), wanted),
+        Some(text) => expect_text(rt, Ok(text), wanted),
         None => Err(Fail::from("no text")),
     }
 }
 
 /// Compares a text with the wanted one.
-pub(crate) fn told(
+pub(crate) fn expect_text(
     rt: &impl Abort,
     found: Result<String, AllocError>,
     wanted: &str,

@@ -1,15 +1,11 @@
 //! Rows on `optional`, both fallbacks, and the leaves that look at no item.
-use crate::answers::{reads, same};
-use crate::forms::value;
+use crate::answers::{expect, expect_some_text};
+use crate::shared::{num, value};
 use bpaf::params::ParseArgument;
 use bpaf::{Meta, Parser, construct, fail, positional, pure, pure_with, short};
 use std::alloc::{AllocError, Global};
 use std::process::Abort;
 use std::test::Fail;
-
-fn num(alloc: Global) -> Result<ParseArgument<u64>, AllocError> {
-    Ok(short(alloc, 'n')?.argument("NUM"))
-}
 
 /// A number that may be left out.
 fn optional(alloc: Global, words: &[&str]) -> Result<Option<Option<u64>>, AllocError> {
@@ -41,41 +37,41 @@ fn or_none(alloc: Global, words: &[&str]) -> Result<Option<String>, AllocError> 
 
 #[test]
 fn missing_number_is_none(rt: HostRuntime) -> Result<(), Fail> {
-    same(&rt, optional(rt.alloc(), &[]), Some(None))?;
-    same(&rt, optional(rt.alloc(), &["-n", "3"]), Some(Some(3)))?;
-    same(&rt, optional(rt.alloc(), &["-n"]), None)?;
-    same(&rt, optional(rt.alloc(), &["-n", "x"]), None)
+    expect(&rt, optional(rt.alloc(), &[]), Some(None))?;
+    expect(&rt, optional(rt.alloc(), &["-n", "3"]), Some(Some(3)))?;
+    expect(&rt, optional(rt.alloc(), &["-n"]), None)?;
+    expect(&rt, optional(rt.alloc(), &["-n", "x"]), None)
 }
 
 /// Compares a number and a file with the wanted ones.
-fn leaves(
+fn expect_beside_a_file(
     rt: &(impl Abort + AllocGlobal),
     words: &[&str],
     num: Option<u64>,
     file: &str,
 ) -> Result<(), Fail> {
     let file = String::from_str(rt.alloc(), file)?;
-    same(rt, beside_a_file(rt.alloc(), words), Some((num, file)))
+    expect(rt, beside_a_file(rt.alloc(), words), Some((num, file)))
 }
 
 #[test]
 fn missing_number_leaves_the_word(rt: HostRuntime) -> Result<(), Fail> {
-    leaves(&rt, &["x"], None, "x")?;
-    leaves(&rt, &["x", "-n", "3"], Some(3), "x")
+    expect_beside_a_file(&rt, &["x"], None, "x")?;
+    expect_beside_a_file(&rt, &["x", "-n", "3"], Some(3), "x")
 }
 
 #[test]
 fn fallback_for_a_missing_number(rt: HostRuntime) -> Result<(), Fail> {
-    same(&rt, or_seven(rt.alloc(), &[]), Some(7))?;
-    same(&rt, or_seven(rt.alloc(), &["-n", "x"]), None)?;
-    same(&rt, or_seven(rt.alloc(), &["-n"]), None)?;
-    same(&rt, or_seven(rt.alloc(), &["-n", "3"]), Some(3))
+    expect(&rt, or_seven(rt.alloc(), &[]), Some(7))?;
+    expect(&rt, or_seven(rt.alloc(), &["-n", "x"]), None)?;
+    expect(&rt, or_seven(rt.alloc(), &["-n"]), None)?;
+    expect(&rt, or_seven(rt.alloc(), &["-n", "3"]), Some(3))
 }
 
 #[test]
 fn fallback_may_be_a_string(rt: HostRuntime) -> Result<(), Fail> {
-    reads(&rt, or_none(rt.alloc(), &[]), "none")?;
-    reads(&rt, or_none(rt.alloc(), &["x"]), "x")
+    expect_some_text(&rt, or_none(rt.alloc(), &[]), "none")?;
+    expect_some_text(&rt, or_none(rt.alloc(), &["x"]), "x")
 }
 
 /// A number, or what a closure answers: 5.
@@ -98,16 +94,16 @@ fn or_fault(alloc: Global, words: &[&str]) -> Result<Option<u64>, AllocError> {
 
 #[test]
 fn closure_for_a_missing_number(rt: HostRuntime) -> Result<(), Fail> {
-    same(&rt, or_five(rt.alloc(), &[]), Some(5))?;
-    same(&rt, or_five(rt.alloc(), &["-n", "3"]), Some(3))?;
-    same(&rt, or_five(rt.alloc(), &["-n", "x"]), None)
+    expect(&rt, or_five(rt.alloc(), &[]), Some(5))?;
+    expect(&rt, or_five(rt.alloc(), &["-n", "3"]), Some(3))?;
+    expect(&rt, or_five(rt.alloc(), &["-n", "x"]), None)
 }
 
 #[test]
 fn fault_for_a_missing_number(rt: HostRuntime) -> Result<(), Fail> {
-    same(&rt, or_fault(rt.alloc(), &[]), None)?;
-    same(&rt, or_fault(rt.alloc(), &["-n", "3"]), Some(3))?;
-    same(&rt, or_fault(rt.alloc(), &["-n", "x"]), None)
+    expect(&rt, or_fault(rt.alloc(), &[]), None)?;
+    expect(&rt, or_fault(rt.alloc(), &["-n", "3"]), Some(3))?;
+    expect(&rt, or_fault(rt.alloc(), &["-n", "x"]), None)
 }
 
 /// A closure that fails with `no`.
@@ -127,9 +123,9 @@ fn failing_or_left_out(alloc: Global) -> Result<Option<Option<u64>>, AllocError>
 
 #[test]
 fn fault_of_pure_with_is_caught(rt: HostRuntime) -> Result<(), Fail> {
-    same(&rt, failing(rt.alloc()), None)?;
-    same(&rt, failing_or_four(rt.alloc()), Some(4))?;
-    same(&rt, failing_or_left_out(rt.alloc()), Some(None))
+    expect(&rt, failing(rt.alloc()), None)?;
+    expect(&rt, failing_or_four(rt.alloc()), Some(4))?;
+    expect(&rt, failing_or_left_out(rt.alloc()), Some(None))
 }
 
 /// A closure that answers 6.
@@ -159,16 +155,16 @@ fn never_or_left_out(alloc: Global) -> Result<Option<Option<u64>>, AllocError> {
 
 #[test]
 fn values_without_items(rt: HostRuntime) -> Result<(), Fail> {
-    same(&rt, eight(rt.alloc(), &[]), Some(8))?;
-    same(&rt, eight(rt.alloc(), &["x"]), None)?;
-    same(&rt, asked(rt.alloc(), &[]), Some(6))
+    expect(&rt, eight(rt.alloc(), &[]), Some(8))?;
+    expect(&rt, eight(rt.alloc(), &["x"]), None)?;
+    expect(&rt, asked(rt.alloc(), &[]), Some(6))
 }
 
 #[test]
 fn fail_is_caught(rt: HostRuntime) -> Result<(), Fail> {
-    same(&rt, never(rt.alloc()), None)?;
-    same(&rt, never_or_four(rt.alloc()), Some(4))?;
-    same(&rt, never_or_left_out(rt.alloc()), Some(None))
+    expect(&rt, never(rt.alloc()), None)?;
+    expect(&rt, never_or_four(rt.alloc()), Some(4))?;
+    expect(&rt, never_or_left_out(rt.alloc()), Some(None))
 }
 
 /// Whether a parser shows an item that may be left out.
@@ -201,9 +197,9 @@ fn shows_fallback_with(alloc: Global) -> Result<bool, AllocError> {
 
 #[test]
 fn defaults_show_what_may_be_left_out(rt: HostRuntime) -> Result<(), Fail> {
-    same(&rt, shows_optional_number(rt.alloc()), true)?;
-    same(&rt, shows_fallback(rt.alloc()), true)?;
-    same(&rt, shows_fallback_with(rt.alloc()), true)
+    expect(&rt, shows_optional_number(rt.alloc()), true)?;
+    expect(&rt, shows_fallback(rt.alloc()), true)?;
+    expect(&rt, shows_fallback_with(rt.alloc()), true)
 }
 
 fn is_skip(meta: &Meta) -> bool {
@@ -227,7 +223,7 @@ fn fail_shows_nothing(alloc: Global) -> Result<bool, AllocError> {
 
 #[test]
 fn values_without_items_show_nothing(rt: HostRuntime) -> Result<(), Fail> {
-    same(&rt, pure_shows_nothing(rt.alloc()), true)?;
-    same(&rt, pure_with_shows_nothing(rt.alloc()), true)?;
-    same(&rt, fail_shows_nothing(rt.alloc()), true)
+    expect(&rt, pure_shows_nothing(rt.alloc()), true)?;
+    expect(&rt, pure_with_shows_nothing(rt.alloc()), true)?;
+    expect(&rt, fail_shows_nothing(rt.alloc()), true)
 }

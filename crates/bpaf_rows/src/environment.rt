@@ -1,5 +1,5 @@
 //! Rows on names in the environment.
-use crate::answers::same;
+use crate::answers::expect;
 use bpaf::{Args, Item, Meta, Parser, Text, env, short};
 use std::alloc::{AllocError, Global};
 use std::collections::BTreeMap;
@@ -50,23 +50,23 @@ fn number(
 #[test]
 fn set_variable_makes_a_flag_present(rt: HostRuntime) -> Result<(), Fail> {
     let a = rt.alloc();
-    same(&rt, colored(a, "", &[]), Some(true))?;
-    same(&rt, colored(a, "", &["-v"]), Some(true))
+    expect(&rt, colored(a, "", &[]), Some(true))?;
+    expect(&rt, colored(a, "", &["-v"]), Some(true))
 }
 
 #[test]
 fn key_before_variable(rt: HostRuntime) -> Result<(), Fail> {
     let a = rt.alloc();
-    same(&rt, number(a, "NUM", "5", &[]), Some(5))?;
-    same(&rt, number(a, "NUM", "5", &["-n", "3"]), Some(3))?;
-    same(&rt, number(a, "COUNT", "7", &[]), Some(7))
+    expect(&rt, number(a, "NUM", "5", &[]), Some(5))?;
+    expect(&rt, number(a, "NUM", "5", &["-n", "3"]), Some(3))?;
+    expect(&rt, number(a, "COUNT", "7", &[]), Some(7))
 }
 
 #[test]
 fn unreadable_variable_refused(rt: HostRuntime) -> Result<(), Fail> {
     let a = rt.alloc();
-    same(&rt, number(a, "NUM", "z", &[]), None)?;
-    same(&rt, number(a, "OTHER", "5", &[]), None)
+    expect(&rt, number(a, "NUM", "z", &[]), None)?;
+    expect(&rt, number(a, "OTHER", "5", &[]), None)
 }
 
 /// The number `K` of the environment alone.
@@ -84,8 +84,8 @@ fn variable_alone(alloc: Global, name: &str) -> Result<Option<u64>, AllocError> 
 #[test]
 fn variable_alone_gives_the_value(rt: HostRuntime) -> Result<(), Fail> {
     let a = rt.alloc();
-    same(&rt, variable_alone(a, "K"), Some(4))?;
-    same(&rt, variable_alone(a, "L"), None)
+    expect(&rt, variable_alone(a, "K"), Some(4))?;
+    expect(&rt, variable_alone(a, "L"), None)
 }
 
 /// Whether an argument is shown with this name in the environment.
@@ -122,6 +122,6 @@ fn is_skip(meta: &Meta) -> bool {
 
 #[test]
 fn first_variable_is_shown(rt: HostRuntime) -> Result<(), Fail> {
-    same(&rt, shows_first(rt.alloc()), true)?;
-    same(&rt, shows_nothing(rt.alloc()), true)
+    expect(&rt, shows_first(rt.alloc()), true)?;
+    expect(&rt, shows_nothing(rt.alloc()), true)
 }

@@ -1,5 +1,5 @@
 //! Rows on flags and arguments by themselves.
-use crate::answers::{same, told};
+use crate::answers::{expect, expect_text};
 use bpaf::{Args, Item, Meta, ParseFailure, Parser, ShortLong, long, short};
 use std::alloc::{AllocError, Global};
 use std::test::Fail;
@@ -45,25 +45,25 @@ fn quiet(alloc: Global, words: &[&str]) -> Result<Option<u8>, AllocError> {
 
 #[test]
 fn second_value_refused(rt: HostRuntime) -> Result<(), Fail> {
-    told(&rt, num(rt.alloc(), &["-n", "3"]), "3")?;
-    told(&rt, num(rt.alloc(), &["-n=3"]), "3")?;
-    told(&rt, num(rt.alloc(), &["-n", "3", "-n", "4"]), "refused")?;
-    told(&rt, num(rt.alloc(), &["-n"]), "refused")?;
-    told(&rt, num(rt.alloc(), &[]), "refused")?;
-    told(&rt, num(rt.alloc(), &["-n", "x"]), "refused")
+    expect_text(&rt, num(rt.alloc(), &["-n", "3"]), "3")?;
+    expect_text(&rt, num(rt.alloc(), &["-n=3"]), "3")?;
+    expect_text(&rt, num(rt.alloc(), &["-n", "3", "-n", "4"]), "refused")?;
+    expect_text(&rt, num(rt.alloc(), &["-n"]), "refused")?;
+    expect_text(&rt, num(rt.alloc(), &[]), "refused")?;
+    expect_text(&rt, num(rt.alloc(), &["-n", "x"]), "refused")
 }
 
 #[test]
 fn marker_ends_options(rt: HostRuntime) -> Result<(), Fail> {
-    told(&rt, num(rt.alloc(), &["-n", "--", "3"]), "refused")?;
-    told(&rt, num(rt.alloc(), &["-n", "3", "--"]), "3")
+    expect_text(&rt, num(rt.alloc(), &["-n", "--", "3"]), "refused")?;
+    expect_text(&rt, num(rt.alloc(), &["-n", "3", "--"]), "3")
 }
 
 #[test]
 fn greatest_number_read(rt: HostRuntime) -> Result<(), Fail> {
     let greatest = "18446744073709551615";
-    told(&rt, num(rt.alloc(), &["-n", greatest]), greatest)?;
-    told(
+    expect_text(&rt, num(rt.alloc(), &["-n", greatest]), greatest)?;
+    expect_text(
         &rt,
         num(rt.alloc(), &["-n", "18446744073709551616"]),
         "refused",
@@ -72,19 +72,19 @@ fn greatest_number_read(rt: HostRuntime) -> Result<(), Fail> {
 
 #[test]
 fn value_of_switch_refused(rt: HostRuntime) -> Result<(), Fail> {
-    same(&rt, verbose(rt.alloc(), &["--verbose"]), (Some(true), true))?;
-    same(&rt, verbose(rt.alloc(), &["-v"]), (Some(true), true))?;
-    same(&rt, verbose(rt.alloc(), &[]), (Some(false), true))?;
-    same(&rt, verbose(rt.alloc(), &["--verbose=yes"]), (None, true))?;
-    same(&rt, verbose(rt.alloc(), &["-v", "-v"]), (None, true))
+    expect(&rt, verbose(rt.alloc(), &["--verbose"]), (Some(true), true))?;
+    expect(&rt, verbose(rt.alloc(), &["-v"]), (Some(true), true))?;
+    expect(&rt, verbose(rt.alloc(), &[]), (Some(false), true))?;
+    expect(&rt, verbose(rt.alloc(), &["--verbose=yes"]), (None, true))?;
+    expect(&rt, verbose(rt.alloc(), &["-v", "-v"]), (None, true))
 }
 
 #[test]
 fn flags_give_their_values(rt: HostRuntime) -> Result<(), Fail> {
-    same(&rt, accepted(rt.alloc(), &["--accept"]), Some(7))?;
-    same(&rt, accepted(rt.alloc(), &[]), None)?;
-    same(&rt, quiet(rt.alloc(), &["-q"]), Some(1))?;
-    same(&rt, quiet(rt.alloc(), &[]), Some(2))
+    expect(&rt, accepted(rt.alloc(), &["--accept"]), Some(7))?;
+    expect(&rt, accepted(rt.alloc(), &[]), None)?;
+    expect(&rt, quiet(rt.alloc(), &["-q"]), Some(1))?;
+    expect(&rt, quiet(rt.alloc(), &[]), Some(2))
 }
 
 /// The names and the metavar of a shown key, in words.
@@ -145,15 +145,15 @@ fn shown_argument(alloc: Global) -> Result<String, AllocError> {
 
 #[test]
 fn switch_shows_its_item(rt: HostRuntime) -> Result<(), Fail> {
-    told(&rt, shown_switch(rt.alloc()), "[-v --verbose]")
+    expect_text(&rt, shown_switch(rt.alloc()), "[-v --verbose]")
 }
 
 #[test]
 fn required_flag_shows_its_item(rt: HostRuntime) -> Result<(), Fail> {
-    told(&rt, shown_required_flag(rt.alloc()), "--accept")
+    expect_text(&rt, shown_required_flag(rt.alloc()), "--accept")
 }
 
 #[test]
 fn argument_shows_its_item(rt: HostRuntime) -> Result<(), Fail> {
-    told(&rt, shown_argument(rt.alloc()), "-n NUM")
+    expect_text(&rt, shown_argument(rt.alloc()), "-n NUM")
 }

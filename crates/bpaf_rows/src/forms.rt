@@ -1,7 +1,8 @@
 //! Every form of `construct!`, as a program writes it.
 ghost use Rattle.std.specs.Prelude.{Ok};
 
-use crate::answers::same;
+use crate::answers::expect;
+use crate::shared::{num, value, verbose};
 use bpaf::params::{ParseArgument, ParseFlag};
 use bpaf::{Args, Parser, construct, short};
 use std::alloc::{AllocError, Global};
@@ -48,26 +49,6 @@ struct Unnamed();
 enum Nothing {
     Named {},
     Unnamed(),
-}
-
-/// The value of a parser on words; none where they are refused.
-pub(crate) fn value<T: Drop, P: Parser<T> + Drop>(
-    alloc: Global,
-    parser: P,
-    words: &[&str],
-) -> Result<Option<T>, AllocError>
-    requires { P.can_eval parser }
-{
-    let options = parser.to_options(alloc)?;
-    Ok(options.run_inner(Args::from(words)).ok())
-}
-
-fn verbose(alloc: Global) -> Result<ParseFlag<bool>, AllocError> {
-    Ok(short(alloc, 'v')?.switch())
-}
-
-fn num(alloc: Global) -> Result<ParseArgument<u64>, AllocError> {
-    Ok(short(alloc, 'n')?.argument("NUM"))
 }
 
 /// Two switches, named in their places.
@@ -167,25 +148,25 @@ fn given<F: FnOnce(Global) -> Result<P, AllocError>, P: Parser<u64> + Drop>(
 
 #[test]
 fn fields_named_in_place_absent(rt: HostRuntime) -> Result<(), Fail> {
-    same(&rt, in_place(rt.alloc(), &[]), Some((false, false)))
+    expect(&rt, in_place(rt.alloc(), &[]), Some((false, false)))
 }
 
 #[test]
 fn fields_named_in_place_present(rt: HostRuntime) -> Result<(), Fail> {
-    same(&rt, in_place(rt.alloc(), &["-a", "-b"]), Some((true, true)))
+    expect(&rt, in_place(rt.alloc(), &["-a", "-b"]), Some((true, true)))
 }
 
 #[test]
 fn tuples_are_made(rt: HostRuntime) -> Result<(), Fail> {
-    same(&rt, tuple(rt.alloc(), &["-v", "-n", "3"]), Some((true, 3)))?;
-    same(&rt, alone(rt.alloc(), &["-n", "3"]), Some(3))?;
-    same(
+    expect(&rt, tuple(rt.alloc(), &["-v", "-n", "3"]), Some((true, 3)))?;
+    expect(&rt, alone(rt.alloc(), &["-n", "3"]), Some(3))?;
+    expect(
         &rt,
         nested(rt.alloc(), &["-q", "-n", "3"]),
         Some(((false, 3), Level::Quiet)),
     )?;
-    same(&rt, answered(rt.alloc(), &["-n", "3"]), Some((false, 3)))?;
-    same(&rt, given(rt.alloc(), num, &["-n", "3"]), Some((false, 3)))
+    expect(&rt, answered(rt.alloc(), &["-n", "3"]), Some((false, 3)))?;
+    expect(&rt, given(rt.alloc(), num, &["-n", "3"]), Some((false, 3)))
 }
 
 #[test]
@@ -195,7 +176,7 @@ fn values_are_made_by_name(rt: HostRuntime) -> Result<(), Fail> {
         num: 3,
         level: Level::Normal,
     };
-    same(
+    expect(
         &rt,
         named_fields(rt.alloc(), &["-n", "3", "-v"]),
         Some(settings),
@@ -204,38 +185,38 @@ fn values_are_made_by_name(rt: HostRuntime) -> Result<(), Fail> {
         verbose: false,
         num: 3,
     };
-    same(&rt, named_variant(rt.alloc(), &["-n", "3"]), Some(build))
+    expect(&rt, named_variant(rt.alloc(), &["-n", "3"]), Some(build))
 }
 
 #[test]
 fn values_are_made_by_number(rt: HostRuntime) -> Result<(), Fail> {
-    same(
+    expect(
         &rt,
         numbered_fields(rt.alloc(), &["-v", "-n", "3"]),
         Some(Numbered(true, 3)),
     )?;
-    same(
+    expect(
         &rt,
         numbered_variant(rt.alloc(), &["-v", "-n", "3"]),
         Some(Command::Run(true, 3)),
     )?;
-    same(&rt, by_path(rt.alloc(), &["-n", "3"]), Some(Single(3)))
+    expect(&rt, by_path(rt.alloc(), &["-n", "3"]), Some(Single(3)))
 }
 
 #[test]
 fn values_without_fields_are_made(rt: HostRuntime) -> Result<(), Fail> {
     let a = rt.alloc();
-    same(&rt, value(a, construct!(Named {}), &[]), Some(Named {}))?;
-    same(&rt, value(a, construct!(Unnamed()), &[]), Some(Unnamed()))?;
-    same(
+    expect(&rt, value(a, construct!(Named {}), &[]), Some(Named {}))?;
+    expect(&rt, value(a, construct!(Unnamed()), &[]), Some(Unnamed()))?;
+    expect(
         &rt,
         value(a, construct!(Nothing::Named {}), &[]),
         Some(Nothing::Named {}),
     )?;
-    same(
+    expect(
         &rt,
         value(a, construct!(::Nothing::Unnamed()), &[]),
         Some(Nothing::Unnamed()),
     )?;
-    same(&rt, value(a, construct!(Unnamed()), &["x"]), None)
+    expect(&rt, value(a, construct!(Unnamed()), &["x"]), None)
 }

@@ -4,12 +4,12 @@ use bpaf::{count_falls, short};
 use std::alloc::{AllocError, Global};
 use std::test::Fail;
 
-fn num(alloc: Global) -> Result<ParseArgument<u64>, AllocError> {
+fn num_or_variable(alloc: Global) -> Result<ParseArgument<u64>, AllocError> {
     Ok(short(alloc, 'n')?.env("NUM")?.argument("NUM"))
 }
 
 #[test]
 fn count_falls_of_an_argument(rt: HostRuntime) -> Result<(), Fail> {
-    count_falls(&num(rt.alloc())?);
+    count_falls(&num_or_variable(rt.alloc())?);
     Ok(())
 }

@@ -1,8 +1,13 @@
 //! The worked rows that cross crates, as tests of `bpaf` as its users write it.
 //!
-//! It stands on `bpaf` alone and has nothing for a layer above: a crate with tests is proved twice, so
-//! the tests that many crates share stand here. docs/ROWS.md names each row and its test.
+//! It stands on `bpaf` alone. For the other crates of rows it has the parsers that rows are about, and
+//! the value of a parser on words ([`value`]). A crate with tests is proved twice, so the tests that many
+//! crates share stand here. docs/ROWS.md names each row and its test.
 #![tactic(auto)]
+
+mod shared;
+
+pub use shared::{file, num, num_of, value, verbose};
 
 #[cfg(test)]
 mod answers;

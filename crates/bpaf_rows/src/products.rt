@@ -1,5 +1,5 @@
 //! Rows on products.
-use crate::answers::same;
+use crate::answers::expect;
 use bpaf::{Args, Both, Last, Meta, ParseCon, Parser, short};
 use std::alloc::{AllocError, Global};
 use std::test::Fail;
@@ -18,11 +18,11 @@ fn both(alloc: Global, words: &[&str]) -> Result<Option<(bool, u64)>, AllocError
 
 #[test]
 fn fields_are_read_in_any_order(rt: HostRuntime) -> Result<(), Fail> {
-    same(&rt, both(rt.alloc(), &["-v", "-n", "3"]), Some((true, 3)))?;
-    same(&rt, both(rt.alloc(), &["-n=3", "-v"]), Some((true, 3)))?;
-    same(&rt, both(rt.alloc(), &["-n", "3"]), Some((false, 3)))?;
-    same(&rt, both(rt.alloc(), &["-v"]), None)?;
-    same(&rt, both(rt.alloc(), &["-v", "-n", "3", "x"]), None)
+    expect(&rt, both(rt.alloc(), &["-v", "-n", "3"]), Some((true, 3)))?;
+    expect(&rt, both(rt.alloc(), &["-n=3", "-v"]), Some((true, 3)))?;
+    expect(&rt, both(rt.alloc(), &["-n", "3"]), Some((false, 3)))?;
+    expect(&rt, both(rt.alloc(), &["-v"]), None)?;
+    expect(&rt, both(rt.alloc(), &["-v", "-n", "3", "x"]), None)
 }
 
 /// Whether a product shows two items, of which the first may be left out.
@@ -53,5 +53,5 @@ fn product_shows_both(alloc: Global) -> Result<bool, AllocError> {
 
 #[test]
 fn products_show_all_fields(rt: HostRuntime) -> Result<(), Fail> {
-    same(&rt, product_shows_both(rt.alloc()), true)
+    expect(&rt, product_shows_both(rt.alloc()), true)
 }

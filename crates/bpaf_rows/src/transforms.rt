@@ -1,5 +1,5 @@
 //! Rows on `map`, `parse` and `guard`.
-use crate::answers::same;
+use crate::answers::expect;
 use bpaf::{Args, Meta, Parser, construct, positional, short};
 use std::alloc::{AllocError, Global};
 use std::process::Abort;
@@ -45,21 +45,21 @@ fn guarded_pair(alloc: Global, words: &[&str]) -> Result<Option<(u64, String)>, 
 
 #[test]
 fn mapped_value_is_the_closures(rt: HostRuntime) -> Result<(), Fail> {
-    same(&rt, twice(rt.alloc(), &["-n", "3"]), Some(6))?;
-    same(&rt, twice(rt.alloc(), &["-n", "x"]), None)?;
-    same(&rt, twice(rt.alloc(), &[]), None)
+    expect(&rt, twice(rt.alloc(), &["-n", "3"]), Some(6))?;
+    expect(&rt, twice(rt.alloc(), &["-n", "x"]), None)?;
+    expect(&rt, twice(rt.alloc(), &[]), None)
 }
 
 #[test]
 fn fault_of_parse_refused(rt: HostRuntime) -> Result<(), Fail> {
-    same(&rt, parsed(rt.alloc(), &["-n", "12"]), None)?;
-    same(&rt, parsed(rt.alloc(), &["-n", "3"]), Some(3))
+    expect(&rt, parsed(rt.alloc(), &["-n", "12"]), None)?;
+    expect(&rt, parsed(rt.alloc(), &["-n", "3"]), Some(3))
 }
 
 #[test]
 fn guarded_value_refused(rt: HostRuntime) -> Result<(), Fail> {
-    same(&rt, guarded(rt.alloc(), &["-n", "12"]), None)?;
-    same(&rt, guarded(rt.alloc(), &["-n", "3"]), Some(3))
+    expect(&rt, guarded(rt.alloc(), &["-n", "12"]), None)?;
+    expect(&rt, guarded(rt.alloc(), &["-n", "3"]), Some(3))
 }
 
 /// Compares a number and a file with the wanted ones.
@@ -70,13 +70,13 @@ fn gives_pair(
     file: &str,
 ) -> Result<(), Fail> {
     let file = String::from_str(rt.alloc(), file)?;
-    same(rt, guarded_pair(rt.alloc(), words), Some((num, file)))
+    expect(rt, guarded_pair(rt.alloc(), words), Some((num, file)))
 }
 
 #[test]
 fn guard_on_a_product(rt: HostRuntime) -> Result<(), Fail> {
     gives_pair(&rt, &["-n", "3", "x"], 3, "x")?;
-    same(&rt, guarded_pair(rt.alloc(), &["-n", "12", "x"]), None)
+    expect(&rt, guarded_pair(rt.alloc(), &["-n", "12", "x"]), None)
 }
 
 fn is_item(meta: &Meta) -> bool {
@@ -107,7 +107,7 @@ fn guard_shows_item(alloc: Global) -> Result<bool, AllocError> {
 
 #[test]
 fn transforms_show_the_inner_item(rt: HostRuntime) -> Result<(), Fail> {
-    same(&rt, map_shows_item(rt.alloc()), true)?;
-    same(&rt, parse_shows_item(rt.alloc()), true)?;
-    same(&rt, guard_shows_item(rt.alloc()), true)
+    expect(&rt, map_shows_item(rt.alloc()), true)?;
+    expect(&rt, parse_shows_item(rt.alloc()), true)?;
+    expect(&rt, guard_shows_item(rt.alloc()), true)
 }

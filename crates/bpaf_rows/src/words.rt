@@ -1,5 +1,5 @@
 //! Rows on positional words and on joined words.
-use crate::answers::{reads, refused, same};
+use crate::answers::{expect, expect_some_text, refused};
 use bpaf::params::ParsePositional;
 use bpaf::{Args, Doc, Item, Meta, Parser, construct, positional, short};
 use std::alloc::{AllocError, Global};
@@ -87,55 +87,55 @@ fn two_words(alloc: Global, words: &[&str]) -> Result<Option<String>, AllocError
 #[test]
 fn joined_words_in_a_product(rt: HostRuntime) -> Result<(), Fail> {
     let a = rt.alloc();
-    reads(&rt, three(a, &["-vn3", "x"]), "true 3 x")?;
-    reads(&rt, three(a, &["x", "-n", "3", "-v"]), "true 3 x")
+    expect_some_text(&rt, three(a, &["-vn3", "x"]), "true 3 x")?;
+    expect_some_text(&rt, three(a, &["x", "-n", "3", "-v"]), "true 3 x")
 }
 
 #[test]
 fn unknown_joined_word_is_positional(rt: HostRuntime) -> Result<(), Fail> {
     let a = rt.alloc();
-    reads(&rt, switch_and_word(a, &["-vx"]), "false -vx")
+    expect_some_text(&rt, switch_and_word(a, &["-vx"]), "false -vx")
 }
 
 #[test]
 fn second_number_refused_beside_word(rt: HostRuntime) -> Result<(), Fail> {
     let a = rt.alloc();
-    same(
+    expect(
         &rt,
         number_and_word_refuses(a, &["-n", "3", "-n", "4"]),
         true,
     )?;
-    same(&rt, number_and_word_refuses(a, &["-n", "3", "4"]), false)
+    expect(&rt, number_and_word_refuses(a, &["-n", "3", "4"]), false)
 }
 
 #[test]
 fn ambiguous_words_are_refused(rt: HostRuntime) -> Result<(), Fail> {
     let a = rt.alloc();
-    same(&rt, ambiguous(a, &["-abc"]), true)?;
-    same(&rt, ambiguous(a, &["-a", "x", "-ba"]), true)
+    expect(&rt, ambiguous(a, &["-abc"]), true)?;
+    expect(&rt, ambiguous(a, &["-a", "x", "-ba"]), true)
 }
 
 #[test]
 fn values_behind_equals(rt: HostRuntime) -> Result<(), Fail> {
     let a = rt.alloc();
-    reads(&rt, text(a, 'ñ', &["-ñ=x"]), "x")?;
-    reads(&rt, text(a, 'O', &["-Obits=2048"]), "bits=2048")?;
-    reads(&rt, text(a, 'O', &["-Obits"]), "bits")
+    expect_some_text(&rt, text(a, 'ñ', &["-ñ=x"]), "x")?;
+    expect_some_text(&rt, text(a, 'O', &["-Obits=2048"]), "bits=2048")?;
+    expect_some_text(&rt, text(a, 'O', &["-Obits"]), "bits")
 }
 
 #[test]
 fn strict_word_behind_marker(rt: HostRuntime) -> Result<(), Fail> {
     let a = rt.alloc();
     refused(&rt, strict(a, &["a"]))?;
-    reads(&rt, strict(a, &["--", "a"]), "a")?;
+    expect_some_text(&rt, strict(a, &["--", "a"]), "a")?;
     refused(&rt, non_strict(a, &["--", "a"]))?;
-    reads(&rt, non_strict(a, &["a"]), "a")
+    expect_some_text(&rt, non_strict(a, &["a"]), "a")
 }
 
 #[test]
 fn words_on_both_sides_of_marker(rt: HostRuntime) -> Result<(), Fail> {
     let a = rt.alloc();
-    reads(&rt, two_words(a, &["x", "--", "-y"]), "x -y")?;
+    expect_some_text(&rt, two_words(a, &["x", "--", "-y"]), "x -y")?;
     refused(&rt, two_words(a, &["x"]))
 }
 
@@ -159,8 +159,8 @@ fn is_strict(meta: &Meta) -> bool {
 
 #[test]
 fn positionals_show_their_items(rt: HostRuntime) -> Result<(), Fail> {
-    same(&rt, shows_word(rt.alloc()), true)?;
-    same(&rt, shows_strict(rt.alloc()), true)
+    expect(&rt, shows_word(rt.alloc()), true)?;
+    expect(&rt, shows_strict(rt.alloc()), true)
 }
 
 /// The help of a shown positional word, where it has one.
@@ -197,7 +197,7 @@ fn no_help(alloc: Global) -> Result<Option<String>, AllocError> {
 
 #[test]
 fn positionals_show_their_help(rt: HostRuntime) -> Result<(), Fail> {
-    reads(&rt, shown_help(rt.alloc()), "File to process")?;
-    reads(&rt, copied_help(rt.alloc()), "File to process")?;
+    expect_some_text(&rt, shown_help(rt.alloc()), "File to process")?;
+    expect_some_text(&rt, copied_help(rt.alloc()), "File to process")?;
     refused(&rt, no_help(rt.alloc()))
 }

@@ -1,8 +1,9 @@
 //! Rows on `or_else` and `choice`: which branch answers, and what the other one leaves.
-use crate::forms::{num, one_of_two, value};
+use crate::forms::one_of_two;
 use bpaf::params::{ParseArgument, ParseFlag};
 use bpaf::parsers::ParseChoice;
 use bpaf::{Args, Meta, Parser, State, choice, long, short};
+use bpaf_rows::{num_of, value};
 use std::alloc::{AllocError, Global};
 use std::test::Fail;
 
@@ -21,7 +22,7 @@ fn switches(alloc: Global, words: &[&str]) -> Result<Option<bool>, AllocError> {
 /// A switch mapped to 0, or a number.
 fn none_or_number(alloc: Global, words: &[&str]) -> Result<Option<u64>, AllocError> {
     let zero = short(alloc, 'v')?.switch().map(|_| 0);
-    value(alloc, zero.or_else(num(alloc, 'n')?), words)
+    value(alloc, zero.or_else(num_of(alloc, 'n')?), words)
 }
 
 /// A key with a number, or without one.
@@ -107,7 +108,7 @@ fn choices_show_their_members(rt: HostRuntime) -> Result<(), Fail> {
     let a = rt.alloc();
     assert_eq!(rt; members(&flags(a)?.meta(a)?), 3);
     assert!(rt; matches!(nothing(a).meta(a)?, Meta::Skip));
-    let right = num(a, 'c')?.or_else(one_of_two(a)?);
+    let right = num_of(a, 'c')?.or_else(one_of_two(a)?);
     assert_eq!(rt; members(&right.meta(a)?), 3);
     Ok(())
 }

@@ -2,32 +2,16 @@
 use bpaf::params::ParseArgument;
 use bpaf::parsers::ParseOrElse;
 use bpaf::{Args, Parser, construct, fail, long, short};
+use bpaf_rows::{num_of, value};
 use std::alloc::{AllocError, Global};
 use std::test::Fail;
-
-/// The value of a parser on words; none where they are refused.
-pub(crate) fn value<T: Drop, P: Parser<T> + Drop>(
-    alloc: Global,
-    parser: P,
-    words: &[&str],
-) -> Result<Option<T>, AllocError>
-    requires { P.can_eval parser }
-{
-    let options = parser.to_options(alloc)?;
-    Ok(options.run_inner(Args::from(words)).ok())
-}
-
-/// A number behind a key.
-pub(crate) fn num(alloc: Global, name: char) -> Result<ParseArgument<u64>, AllocError> {
-    Ok(short(alloc, name)?.argument("NUM"))
-}
 
 /// A number behind one of two keys.
 pub(crate) fn one_of_two(
     alloc: Global,
 ) -> Result<ParseOrElse<ParseArgument<u64>, ParseArgument<u64>>, AllocError> {
-    let a = num(alloc, 'a')?;
-    let b = num(alloc, 'b')?;
+    let a = num_of(alloc, 'a')?;
+    let b = num_of(alloc, 'b')?;
     Ok(construct!([a, b]))
 }
 
@@ -42,15 +26,15 @@ fn accepted(alloc: Global, words: &[&str]) -> Result<Option<()>, AllocError> {
 
 /// Three branches: a variable, what a function answers, and an expression.
 fn three(alloc: Global, words: &[&str]) -> Result<Option<u64>, AllocError> {
-    let a = num(alloc, 'a')?;
-    let number = num(alloc, 'b')?;
+    let a = num_of(alloc, 'a')?;
+    let number = num_of(alloc, 'b')?;
     let b = move || number;
-    value(alloc, construct!([a, b(), c(num(alloc, 'c')?)]), words)
+    value(alloc, construct!([a, b(), c(num_of(alloc, 'c')?)]), words)
 }
 
 /// One branch by itself.
 fn alone(alloc: Global, words: &[&str]) -> Result<Option<u64>, AllocError> {
-    let a = num(alloc, 'a')?;
+    let a = num_of(alloc, 'a')?;
     value(alloc, construct!([a]), words)
 }
 

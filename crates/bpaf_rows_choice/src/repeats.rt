@@ -1,6 +1,7 @@
 //! Rows on choices that are repeated: the values come in the order of the line.
-use crate::forms::{one_of_two, value};
+use crate::forms::one_of_two;
 use bpaf::{Parser, construct, short};
+use bpaf_rows::value;
 use std::alloc::{AllocError, Global};
 use std::test::Fail;
 

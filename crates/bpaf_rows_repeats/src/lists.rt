@@ -1,18 +1,18 @@
 //! Rows on lists of words: `many` and `some`.
-use crate::forms::{file, value};
 use bpaf::Parser;
+use bpaf_rows::{file, value};
 use std::alloc::{AllocError, Global};
 use std::test::Fail;
 
 /// Whether these are the words.
 fn are(answer: Option<Vec<String>>, wanted: &[&str]) -> bool {
     match answer {
-        Some(texts) => same(texts.as_slice(), wanted),
+        Some(texts) => are_equal(texts.as_slice(), wanted),
         None => false,
     }
 }
 
-fn same(texts: &[String], wanted: &[&str]) -> bool {
+fn are_equal(texts: &[String], wanted: &[&str]) -> bool {
     texts.len() == wanted.len()
         && texts
             .iter()

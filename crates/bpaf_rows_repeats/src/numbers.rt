@@ -1,6 +1,6 @@
 //! Rows on repeated switches and numbers: `many`, `collect`, `count`, `last` and `catch`.
-use crate::forms::{num, value, verbose};
 use bpaf::{FromList, Parser, pure, short};
+use bpaf_rows::{num, value, verbose};
 use std::alloc::{AllocError, Global};
 use std::collections::{BTreeSet, VecDeque};
 use std::test::Fail;

@@ -1,6 +1,6 @@
 //! What repeats show of themselves.
-use crate::forms::num;
 use bpaf::{Meta, Parser};
+use bpaf_rows::num;
 use std::alloc::{AllocError, Global};
 use std::test::Fail;
 

@@ -9,7 +9,8 @@ use Rattle.bpaf_words.specs.declared.arg.Arg.TheVariants.{Short, Word}
 use Rattle.bpaf_words.specs.Spelling.{ShortNames, IsFlag, IsArgument, IsNeither, IsBoth, flags_of, argument_of, SpellsJoined, Items, Ambiguous, flags, argument, neither, both}
 use Rattle.std.proofs.lemmas.List.{nil_from_length}
 
--- the letters are those of the flags fs and the rest, and the items of fs stand at the end of the old ones
+-- the letters are those of the flags fs and the rest, and the items of fs stand at the end of the
+-- old ones
 pub record Walked (names : ShortNames) (word letters : List ℕ) (old new : List Arg) (count : ℕ) (rest : List ℕ) : Type 0 where
   pub fs : List ℕ
   pub cut : letters ≡ encode_utf8_all fs ++ rest

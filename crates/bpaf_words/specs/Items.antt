@@ -58,7 +58,8 @@ word_text (ArgWord text) = None
 word_text (Word text) = Some (false, text)
 word_text (PosWord text) = Some (true, text)
 
--- the whole word by which an item may name a command: that of a Word, of a Short, or of a Long that isn't attached
+-- the whole word by which an item may name a command: that of a Word, of a Short, or of a Long that
+-- isn't attached
 abbrev pub command_word : Arg → Option (List ℕ)
 command_word (Short c attached word) = Some word
 command_word (Long name true word) = None

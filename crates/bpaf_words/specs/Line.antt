@@ -21,7 +21,8 @@ pub data IsLine (known : Known) (words : List (List ℕ)) : List Arg → Option 
   marked : (before after : List (List ℕ)) (items : List Arg) → words ≡ before ++ codes "--" ∷ after → HasNoMarker before → SpellAll known before items
       → IsLine known words (items ++ PosWord (codes "--") ∷ map PosWord after) (Some (length items))
 
--- words without a line: the first ambiguous one before a `--`, and the number of its ambiguous character
+-- words without a line: the first ambiguous one before a `--`, and the number of its ambiguous
+-- character
 pub record HasNoLine (known : Known) (words : List (List ℕ)) (word : List ℕ) (number : ℕ) : Type 0 where
   pub before : List (List ℕ)
   pub items : List Arg

@@ -9,7 +9,8 @@ pub record ShortNames : Type 0 where
   pub flags : List ℕ
   pub arguments : List ℕ
 
--- what the spelling of a word depends on: the known short names, and whether a negative number is a word
+-- what the spelling of a word depends on: the known short names, and whether a negative number is a
+-- word
 pub record Known : Type 0 where
   pub names : ShortNames
   pub numbers : Bool
@@ -38,7 +39,8 @@ pub record IsBoth (names : ShortNames) (c : ℕ) : Type 0 where
   pub flag : is_among names.flags c ≡ true
   pub argument : is_among names.arguments c ≡ true
 
--- what a word spells: items, or nothing, because the character of this number, the dash being 0, is both
+-- what a word spells: items, or nothing, because the character of this number, the dash being 0, is
+-- both
 pub data Spelling : Type 0 where
   Items : List Arg → Spelling
   Ambiguous : ℕ → Spelling

@@ -11,7 +11,8 @@ use Rattle.bpaf_words.specs.declared.line.LineFault.TheVariants as fault
 use Rattle.bpaf_words.specs.Line.{SpellAll, HasNoMarker, IsLine, HasNoLine}
 use Rattle.bpaf_words.specs.Spelling.{ShortNames, Known, Spelling, Items, Ambiguous as NoItems, Spells, SpellsJoined}
 
--- items that are spelled stand at the end of the old ones; or the ambiguous character is named; or memory is wanted
+-- items that are spelled stand at the end of the old ones; or the ambiguous character is named; or
+-- memory is wanted
 abbrev pub Answers : (Spelling → Type 0) → List Arg → Result (Unit {0}) SplitFault → List Arg → Type 0
 Answers spells old (Ok u) new = (xs : List Arg) × spells (Items xs) × (new ≡ old ++ xs)
 Answers spells old (Err (Ambiguous n)) new = spells (NoItems n)

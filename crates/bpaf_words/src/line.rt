@@ -23,6 +23,7 @@ pub enum LineFault {
     /// The first word with a character that is both a known flag and a known argument, and the
     /// number of that character, the dash being 0.
     Ambiguous(Text, usize),
+    /// Memory was wanted and refused.
     Memory,
 }
 

@@ -11,6 +11,7 @@ use std::alloc::{AllocError, Global};
 pub enum SplitFault {
     /// The character of this number, the dash being 0, is a known flag and a known argument.
     Ambiguous(usize),
+    /// Memory was wanted and refused.
     Memory,
 }
 
@@ -58,15 +59,12 @@ pub fn split_word(
                 items,
             )?)
         }
-        None if tail.is_empty() => Ok(
-            items
-                .push(Arg::Short(c, false, Text::new(alloc, word)?))
-                .map_err(AllocError::from)?,
-        ),
+        None if tail.is_empty() => Ok(push_flag(alloc, c, word, items)?),
         None => split_joined(alloc, word, rest, flags, arguments, items),
     }
 }
 
+/// A Word behind the items; refused only for want of memory.
 fn push_word(alloc: Global, word: &str, items: &mut Vec<Arg>) -> Result<(), AllocError>
     ensures { OnOk result (items.new.items ≡ items.old.items ++ Arg.Word word.now ∷ []) }
 {
@@ -74,6 +72,8 @@ fn push_word(alloc: Global, word: &str, items: &mut Vec<Arg>) -> Result<(), Allo
     Ok(())
 }
 
+/// A key and the value in its own word behind the items; refused only for want of memory, which drops the
+/// key.
 fn push_attached(
     alloc: Global,
     key: Arg,
@@ -140,6 +140,7 @@ fn split_joined(
     Ok(())
 }
 
+/// A short key without a value behind the items; refused only for want of memory.
 fn push_flag(alloc: Global, c: char, text: &str, items: &mut Vec<Arg>) -> Result<(), AllocError>
     ensures { OnOk result (items.new.items ≡ items.old.items ++ Arg.Short c false text.now ∷ []) }
 {
@@ -147,6 +148,8 @@ fn push_flag(alloc: Global, c: char, text: &str, items: &mut Vec<Arg>) -> Result
     Ok(())
 }
 
+/// An argument of joined letters behind the items, and the letters after it as its value; refused only
+/// for want of memory.
 fn push_argument(
     alloc: Global,
     c: char,

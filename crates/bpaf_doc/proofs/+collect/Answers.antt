@@ -7,9 +7,10 @@ walks::collect_all-loop-member-preserved t c =
     let all = c.args.all.now in
     let i = c.loop-member.member-index in
     let member = c.member-item.result in
+    let here = c.member-item.is in
     let within = c.loop-member-test.true in
     let gathered = c.in_ok-collect_shorts.ensures in
     let kept = c.loop-member.invariant in (
-      gathered_step shorts_of_flag all i member _ _ _ within c.member-item.is kept.0 gathered.flags,
-      gathered_step shorts_of_argument all i member _ _ _ within c.member-item.is kept.1 gathered.arguments,
+      gathered_step shorts_of_flag all i member _ _ _ within here kept.0 gathered.flags,
+      gathered_step shorts_of_argument all i member _ _ _ within here kept.1 gathered.arguments,
     )

@@ -7,7 +7,8 @@ loop-line-preserved c =
     let kept = c.loop-line.invariant.0 in
     let is_cut = c.in-Some.ensures in
     let put = c.in_ok-push_str.ensures.bytes in
-    (folded_more _ _ _ _ _ _ _ _ kept is_cut.0 is_cut.1 put c.in_ok-push_break.ensures, search rules)
+    let put_break = c.in_ok-push_break.ensures in
+    (folded_more _ _ _ _ _ _ _ _ kept is_cut.0 is_cut.1 put put_break, search rules)
 
 pub returns : goal.returns
 returns c =

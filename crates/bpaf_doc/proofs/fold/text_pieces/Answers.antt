@@ -21,4 +21,6 @@ returns-in_ok-push-in-Some-2 c =
     let none = c.in_ok-all.ensures.items in
     let put = c.in_ok-push-in-Some.ensures.items in
     let put_detail = c.in_ok-push-in-Some-2.ensures.items in
-    text_cut _ _ _ _ _ found.0 _ _ _ is_cut found.2.0 found.6 shown shown_as_detail none put put_detail
+    let lacks = found.2.0 in
+    let ends = found.6 in
+    text_cut _ _ _ _ _ found.0 _ _ _ is_cut lacks ends shown shown_as_detail none put put_detail

@@ -31,14 +31,14 @@ returns-in_ok-push_attached-in-Some-split_once c =
       search rules,
     )
 
-pub returns-in_ok-map_err-in-None : goal.returns-in_ok-map_err-in-None
-returns-in_ok-map_err-in-None c =
+pub returns-in_ok-push_flag-in-None : goal.returns-in_ok-push_flag-in-None
+returns-in_ok-push_flag-in-None c =
     let whole = after_dash c.args.word.now c.in-Some.rest c.in-Some.ensures.cases in
     let none = no_dash c.in-Some.rest.now c.in_default-strip_prefix.ensures.cases in
     let tail : c.in-Some.rest.now ≡ encode_utf8 c.in-Some-next.c ++ c.as_str-tail.result.now = sym c.chars-letters.ensures.rest ∙ (c.in-Some-next.ensures.steps.0 ∙ ap (λ x. encode_utf8 c.in-Some-next.c ++ x) (sym c.as_str-tail.ensures)) in (
       Short c.in-Some-next.c false c.args.word.now ∷ [],
       short c.in-Some-next.c (whole ∙ ap (λ x. 45 ∷ x) (tail ∙ (ap (λ x. encode_utf8 c.in-Some-next.c ++ x) (nil_from_length _ (is_zero _ (sym c.if-is_empty-2.ensures))) ∙ append-nil _))) (other_than_dash c.in-Some.rest.now c.as_str-tail.result.now c.in-Some-next.c none tail),
-      search rules,
+      c.in_ok-push_flag-in-None.ensures,
     )
 
 pub returns-in-None-2 : goal.returns-in-None-2

@@ -11,10 +11,16 @@ inserted_more :
 inserted_more cmp keys [] v = refl
 inserted_more cmp keys (x ∷ vs) v = inserted_more cmp (insert_key cmp keys x) vs v
 
+-- the keys so far, and one value more: a list that is longer by it
+inserted_next :
+    {T : Type 0} (cmp : T → T → Ordering) (keys more vs : List T) (v : T)
+    → keys ≡ inserted cmp [] vs
+    → more ≡ insert_key cmp keys v
+    → more ≡ inserted cmp [] (vs ++ v ∷ [])
+inserted_next cmp keys more vs v kept put =
+    put ∙ (ap (λ keys. insert_key cmp keys v) kept ∙ sym (inserted_more cmp [] vs v))
+
 pub loop-item-preserved : goal.loop-item-preserved
 loop-item-preserved g c =
-    let cmp = g.T.Ord.cmp in
-    let item = c.in-Some.item in
-    c.in_ok-insert.ensures.keys
-    ∙ (ap (λ keys. insert_key cmp keys item) c.loop-item.invariant
-    ∙ sym (inserted_more cmp [] c.loop-item.yielded item))
+    let put = c.in_ok-insert.ensures.keys in
+    inserted_next g.T.Ord.cmp _ _ c.loop-item.yielded c.in-Some.item c.loop-item.invariant put
