@@ -109,17 +109,24 @@ impl<P: Described> Bench<P> {
         Ok(())
     }
 
-    /// Tells a fault of the line that was read last.
+    /// Goes to the next line of the file.
+    pub fn next_line(&mut self) {
+        self.line = self.line.saturating_add(1);
+    }
+
+    /// Tells a fault of this line, or of the file where no line was reached.
     pub fn fault<W: Write>(&mut self, fault: &str, out: &mut W) -> io::Result<()> {
         self.counts.faults = self.counts.faults.saturating_add(1);
         let file = self.file.as_str();
-        let line = self.line;
-        writeln!(out, "{file}:{line}: {fault}")
+        match self.line {
+            0 => writeln!(out, "{file}: {fault}"),
+            line => writeln!(out, "{file}:{line}: {fault}"),
+        }
     }
 
     /// Reads a line.
     pub fn line<W: Write>(&mut self, line: &str, out: &mut W) -> io::Result<()> {
-        self.line = self.line.saturating_add(1);
+        self.next_line();
         if self.description.is_open() {
             return self.describe(1, line, line, out);
         }

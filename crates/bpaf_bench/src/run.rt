@@ -18,7 +18,8 @@ fn run_lines<P: Described, R: BufRead + Drop, W: Write>(
         match line {
             Ok(line) => bench.line(line.as_str(), out)?,
             Err(error) => {
-                let fault = format!(in alloc; "the line below can't be read: {error}")?;
+                let fault = format!(in alloc; "the line can't be read: {error}")?;
+                bench.next_line();
                 return bench.fault(fault.as_str(), out);
             }
         }
