@@ -1,5 +1,5 @@
 -- The members of a short list, by what stands at each place.
-use Rattle.std.proofs.Common.{◌≡◌, ℕ, ◌<◌, ◌≤◌, List, [], ◌∷◌, length, get_or, refl, arith}
+use Rattle.std.proofs.Common.{◌≡◌, ◌<◌, ◌≤◌, List, [], ◌∷◌, length, get_or, refl, arith}
 
 -- two members
 pub two_members : {T : Type 0} (xs : List T) (a b : T) → 2 ≤ length xs → length xs < 3
