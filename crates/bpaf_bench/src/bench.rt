@@ -1,0 +1,279 @@
+use crate::answer::{answer, is_answer, is_wanted};
+use crate::described::Described;
+use crate::tokens::{Description, Fault, Place, Tokens};
+use crate::value::Value;
+use crate::words::{is_separated, quoted, quoted_words, separated_words};
+use bpaf::{OptionParser, Parser};
+use std::alloc::{AllocError, Global};
+use std::collections::BTreeMap;
+use std::io;
+use std::io::Write;
+
+/// The parser of the rows that come.
+#[derive(Drop)]
+enum Standing<P> {
+    /// No description stands above them.
+    Missing,
+    /// The description above them isn't one of a parser.
+    Refused,
+    /// This one.
+    Made(OptionParser<Value, P>),
+}
+
+/// How many rows there were.
+#[derive(Clone, Copy)]
+pub struct Counts {
+    /// Rows that were run.
+    pub rows: u64,
+    /// Of these those whose answer isn't the wanted one.
+    pub differ: u64,
+    /// Rows that weren't run, since the description above them isn't one of a parser.
+    pub skipped: u64,
+    /// Lines and files that aren't what they should be.
+    pub faults: u64,
+}
+
+/// A run over files of descriptions and rows, of which it holds a description and a line.
+#[derive(Drop)]
+pub struct Bench<P> {
+    alloc: Global,
+    all: bool,
+    file: String,
+    line: u64,
+    description: Description,
+    parser: Standing<P>,
+    variables: BTreeMap<String, String>,
+    counts: Counts,
+}
+
+/// The parser of a description.
+fn described<P: Described>(
+    alloc: Global,
+    description: &Description,
+) -> Result<OptionParser<Value, P>, Fault> {
+    let mut tokens = Tokens::new(alloc, description.tokens());
+    let parser = P::read(&mut tokens)?;
+    tokens.end()?;
+    Ok(parser.to_options(alloc)?)
+}
+
+/// The words of a row; nothing where a quote isn't closed.
+fn words_of(alloc: Global, text: &str) -> Result<Option<Vec<String>>, AllocError> {
+    if is_separated(text) {
+        Ok(Some(separated_words(alloc, text)?))
+    } else {
+        quoted_words(alloc, text)
+    }
+}
+
+impl<P: Described> Bench<P> {
+    /// A run that has read nothing; `all` is whether every answer is printed.
+    pub fn new(alloc: Global, all: bool) -> Bench<P> {
+        Bench {
+            alloc,
+            all,
+            file: String::new(alloc),
+            line: 0,
+            description: Description::new(alloc),
+            parser: Standing::Missing,
+            variables: BTreeMap::new(alloc),
+            counts: Counts {
+                rows: 0,
+                differ: 0,
+                skipped: 0,
+                faults: 0,
+            },
+        }
+    }
+
+    /// How many rows there were.
+    pub fn counts(&self) -> Counts {
+        self.counts
+    }
+
+    /// Begins a file of this name: no parser stands, and no variable is set.
+    pub fn begin(&mut self, file: &str) -> Result<(), AllocError> {
+        self.file = String::from_str(self.alloc, file)?;
+        self.line = 0;
+        self.description = Description::new(self.alloc);
+        self.parser = Standing::Missing;
+        self.variables = BTreeMap::new(self.alloc);
+        Ok(())
+    }
+
+    /// Ends the file.
+    pub fn end<W: Write>(&mut self, out: &mut W) -> io::Result<()> {
+        if self.description.is_open() {
+            self.fault("the file ends where a parenthesis is open", out)?;
+        }
+        Ok(())
+    }
+
+    /// Goes to the next line of the file.
+    pub fn next_line(&mut self) {
+        self.line = self.line.saturating_add(1);
+    }
+
+    /// Tells a fault of this line, or of the file where no line was reached.
+    pub fn fault<W: Write>(&mut self, fault: &str, out: &mut W) -> io::Result<()> {
+        self.counts.faults = self.counts.faults.saturating_add(1);
+        let file = self.file.as_str();
+        match self.line {
+            0 => writeln!(out, "{file}: {fault}"),
+            line => writeln!(out, "{file}:{line}: {fault}"),
+        }
+    }
+
+    /// Reads a line.
+    pub fn line<W: Write>(&mut self, line: &str, out: &mut W) -> io::Result<()> {
+        self.next_line();
+        if self.description.is_open() {
+            return self.describe(1, line, line, out);
+        }
+        if line.starts_with('#') && !line.contains('\t') && !is_separated(line) {
+            return self.heading(line, out);
+        }
+        if line.is_empty() {
+            return self.copy(line, out);
+        }
+        self.row(line, out)
+    }
+
+    /// Prints a line that is no row, where every answer is printed.
+    fn copy<W: Write>(&self, line: &str, out: &mut W) -> io::Result<()> {
+        if self.all {
+            writeln!(out, "{line}")?;
+        }
+        Ok(())
+    }
+
+    /// Reads a line that begins with `#` and is no row: a comment, a variable or a description.
+    fn heading<W: Write>(&mut self, line: &str, out: &mut W) -> io::Result<()> {
+        if line.starts_with("##") {
+            return self.copy(line, out);
+        }
+        if let Some(setting) = line.strip_prefix("#env ") {
+            self.copy(line, out)?;
+            return self.set(setting, out);
+        }
+        self.description = Description::new(self.alloc);
+        self.describe(2, line.strip_prefix('#').unwrap_or(""), line, out)
+    }
+
+    /// Sets a variable of the environment.
+    fn set<W: Write>(&mut self, setting: &str, out: &mut W) -> io::Result<()> {
+        let Some((name, value)) = setting.split_once('=') else {
+            return self.fault("a variable is set as `#env NAME=VALUE`", out);
+        };
+        let name = String::from_str(self.alloc, name)?;
+        let value = String::from_str(self.alloc, value)?;
+        self.variables.insert(name, value)?;
+        Ok(())
+    }
+
+    /// Reads a line of a description, whose text begins at this column, and makes the parser where
+    /// it is whole.
+    fn describe<W: Write>(
+        &mut self,
+        column: u64,
+        text: &str,
+        line: &str,
+        out: &mut W,
+    ) -> io::Result<()> {
+        self.copy(line, out)?;
+        let place = Place {
+            line: self.line,
+            column,
+        };
+        self.parser = Standing::Refused;
+        self.description.push_line(place, text)?;
+        if self.description.is_open() {
+            return Ok(());
+        }
+        if self.description.tokens().is_empty() {
+            return self.fault("no parser is described", out);
+        }
+        match described(self.alloc, &self.description) {
+            Ok(parser) => {
+                self.parser = Standing::Made(parser);
+                Ok(())
+            }
+            Err(fault) => {
+                if !fault.is_deep() {
+                    self.counts.faults = self.counts.faults.saturating_add(1);
+                }
+                fault.tell(self.file.as_str(), out)
+            }
+        }
+    }
+
+    /// Reads a row: words, and behind a tab the wanted answer.
+    fn row<W: Write>(&mut self, line: &str, out: &mut W) -> io::Result<()> {
+        let (text, wanted) = match line.split_once('\t') {
+            Some((text, wanted)) => (text, Some(wanted)),
+            None => (line, None),
+        };
+        let Some(words) = words_of(self.alloc, text)? else {
+            return self.fault("a quote isn't closed", out);
+        };
+        let wanted = wanted.filter(|wanted| !wanted.is_empty());
+        if !wanted.is_none_or(is_answer) {
+            return self.fault("an answer begins with `ok ` or `err`", out);
+        }
+        let got = match &self.parser {
+            Standing::Missing => return self.fault("no parser stands above this row", out),
+            Standing::Refused => {
+                self.counts.skipped = self.counts.skipped.saturating_add(1);
+                return Ok(());
+            }
+            Standing::Made(parser) => {
+                answer(self.alloc, parser, &self.variables, words.as_slice())?
+            }
+        };
+        self.counts.rows = self.counts.rows.saturating_add(1);
+        if self.all || wanted.is_none() {
+            writeln!(out, "{text}\t{got}")?;
+        }
+        match wanted {
+            Some(wanted) => self.compare(words.as_slice(), wanted, got.as_str(), out),
+            None => Ok(()),
+        }
+    }
+
+    /// Prints a row whose answer isn't the wanted one.
+    fn compare<W: Write>(
+        &mut self,
+        words: &[String],
+        wanted: &str,
+        got: &str,
+        out: &mut W,
+    ) -> io::Result<()> {
+        if is_wanted(wanted, got) {
+            return Ok(());
+        }
+        self.counts.differ = self.counts.differ.saturating_add(1);
+        let file = self.file.as_str();
+        let line = self.line;
+        let parser = self.description.text()?;
+        let words = quoted(self.alloc, words)?;
+        writeln!(out, "{file}:{line}: {parser}")?;
+        writeln!(out, "    words   {words}")?;
+        writeln!(out, "    wanted  {wanted}")?;
+        writeln!(out, "    got     {got}")
+    }
+
+    /// Prints how many rows there were.
+    pub fn sum<W: Write>(&self, out: &mut W) -> io::Result<()> {
+        let Counts {
+            rows,
+            differ,
+            skipped,
+            faults: _,
+        } = self.counts;
+        write!(out, "{rows} rows, {differ} differ")?;
+        if skipped > 0 {
+            write!(out, ", {skipped} skipped")?;
+        }
+        writeln!(out, "")
+    }
+}

@@ -1,0 +1,39 @@
+/// What is made of one parser.
+#[derive(Clone, Copy)]
+pub enum Modifier {
+    /// That parser itself.
+    Same,
+    /// Its value, or nothing; true is with `catch`, here and below.
+    Optional(bool),
+    /// Its values.
+    Many(bool),
+    /// Its values, one at least.
+    Some(bool),
+    /// Its values in a queue.
+    Collect(bool),
+    /// How many values there are.
+    Count,
+    /// Its last value.
+    Last,
+    /// Its value, a number halved and a bool negated.
+    Map,
+    /// Its value, refused by a check where its weight isn't below a limit.
+    Guard(u64),
+    /// The same, refused by a fault.
+    Parse(u64),
+    /// Its value, or a number.
+    Fallback(u64),
+    /// Its value, or what a closure answers: a number, or without one a fault.
+    FallbackWith(Option<u64>),
+}
+
+/// What a level makes of its inner parsers.
+#[derive(Clone, Copy)]
+pub enum Kind {
+    /// A modifier of the choice of all of them.
+    Over(Modifier),
+    /// The product of two, three or four.
+    Product,
+    /// The choice of two or three, as `or_else` writes it.
+    OrElse,
+}

@@ -1,0 +1,25 @@
+use bpaf::{Args, Doc, ParseFailure, Parser, construct, long, positional};
+use std::alloc::Global;
+
+/// What the program is asked for.
+#[derive(Drop)]
+pub struct Options {
+    /// Whether every answer is printed.
+    pub all: bool,
+    /// The files; without one standard input is read.
+    pub files: Vec<String>,
+}
+
+/// The options that the words give; refused where they give none, or for want of memory.
+pub fn read_options(alloc: Global, words: &[String]) -> Result<Options, ParseFailure> {
+    let all = long(alloc, "all")?
+        .help(Doc::from_text(alloc, "Print every answer")?)
+        .switch();
+    let files = positional::<String>("FILE")
+        .help(Doc::from_text(alloc, "Files of parsers and rows")?)
+        .many();
+    let options = construct!(Options { all, files });
+    options
+        .to_options(alloc)?
+        .run_once(Args::from(words).set_name("bpaf_bench"))
+}
