@@ -1,5 +1,5 @@
-use crate::value::Value;
 use bpaf::{Args, OptionParser, ParseFailure, Parser};
+use bpaf_described::Value;
 use std::alloc::{AllocError, Global};
 use std::collections::BTreeMap;
 

@@ -1,9 +1,7 @@
 use crate::answer::{answer, is_answer, is_wanted};
-use crate::described::Described;
-use crate::tokens::{Description, Fault, Place, Tokens};
-use crate::value::Value;
 use crate::words::{is_separated, quoted, quoted_words, separated_words};
 use bpaf::{OptionParser, Parser};
+use bpaf_described::{Described, Description, Fault, Place, Value, read_parser};
 use std::alloc::{AllocError, Global};
 use std::collections::BTreeMap;
 use std::io;
@@ -46,14 +44,12 @@ pub struct Bench<P> {
     counts: Counts,
 }
 
-/// The parser of a description.
-fn described<P: Described>(
+/// The run of a described parser.
+fn options_of<P: Described>(
     alloc: Global,
     description: &Description,
 ) -> Result<OptionParser<Value, P>, Fault> {
-    let mut tokens = Tokens::new(alloc, description.tokens());
-    let parser = P::read(&mut tokens)?;
-    tokens.end()?;
+    let parser: P = read_parser(alloc, description)?;
     Ok(parser.to_options(alloc)?)
 }
 
@@ -193,7 +189,7 @@ impl<P: Described> Bench<P> {
         if self.description.tokens().is_empty() {
             return self.fault("no parser is described", out);
         }
-        match described(self.alloc, &self.description) {
+        match options_of(self.alloc, &self.description) {
             Ok(parser) => {
                 self.parser = Standing::Made(parser);
                 Ok(())

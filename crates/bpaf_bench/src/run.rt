@@ -1,5 +1,5 @@
 use crate::bench::{Bench, Counts};
-use crate::described::Described;
+use bpaf_described::Described;
 use std::alloc::Global;
 use std::io::{BufRead, BufReader, BufWriter, Write};
 use std::{fs, io};

@@ -5,12 +5,12 @@ ghost use Rattle.bpaf_laws.specs.Repeat.{CollectOutcome, CountOutcome, LastOutco
 ghost use Rattle.bpaf_laws.specs.Repeat.{ManyDescribes, ManyOutcome, SomeDescribes, SomeOutcome};
 ghost use Rattle.bpaf_laws.specs.Step.{StepOutcome};
 ghost use Rattle.bpaf_laws.specs.Transform.{GuardOutcome, MapOutcome};
-ghost use Rattle.bpaf_bench.specs.Closures.{Checks, IsHalf};
-ghost use Rattle.bpaf_bench.specs.Told.{ToldOutcome};
-ghost use Rattle.bpaf_bench.specs.Values.{ToldOption, ToldQueue};
-ghost use Rattle.bpaf_bench.specs.Levels.{AcceptOutcome, FillsQueue, GivesNumber};
-ghost use Rattle.bpaf_bench.specs.Levels.{OverDescribes, OverOutcome};
-ghost use Rattle.bpaf_bench.specs.Levels.{ToldCount, ToldList, need_one, number_of, too_much};
+ghost use Rattle.bpaf_described.specs.Closures.{Checks, IsHalf};
+ghost use Rattle.bpaf_described.specs.Told.{ToldOutcome};
+ghost use Rattle.bpaf_described.specs.Values.{ToldOption, ToldQueue};
+ghost use Rattle.bpaf_described.specs.Levels.{AcceptOutcome, FillsQueue, GivesNumber};
+ghost use Rattle.bpaf_described.specs.Levels.{OverDescribes, OverOutcome};
+ghost use Rattle.bpaf_described.specs.Levels.{ToldCount, ToldList, need_one, number_of, too_much};
 
 use crate::as_value::AsValue;
 use crate::closures::{accept, give, half};

@@ -1,9 +1,9 @@
-ghost use Rattle.std.specs.Prelude.{All, IfOk};
+ghost use Rattle.std.specs.Prelude.{◌≡◌, All, IfOk};
 ghost use Rattle.bpaf_doc.specs.Shape.{shape_of};
 ghost use Rattle.bpaf_laws.specs.Product.{ProductDescribes};
-ghost use Rattle.bpaf_bench.specs.Several.{FourOutcome, NestedOutcome, ThreeOutcome, TwoOutcome};
-ghost use Rattle.bpaf_bench.specs.Several.{OrElseDescribes, OrElseOutcome};
-ghost use Rattle.bpaf_bench.specs.Several.{TupleDescribes, TupleOutcome};
+ghost use Rattle.bpaf_described.specs.Several.{FourOutcome, NestedOutcome, ThreeOutcome, TwoOutcome};
+ghost use Rattle.bpaf_described.specs.Several.{OrElseDescribes, OrElseOutcome};
+ghost use Rattle.bpaf_described.specs.Several.{TupleDescribes, TupleOutcome};
 
 use crate::as_value::AsValue;
 use crate::lent::Lent;
@@ -59,20 +59,47 @@ fn nested_meta<V: Drop, F: Fields<V> + Drop>(fields: F, alloc: Global) -> Result
     product.meta(alloc)
 }
 
+/// The fields of two lent parsers.
+fn two_fields<'p, P>(a: &'p P, b: &'p P) -> TwoFields<'p, P>
+    ensures a { result.first.inner.now ≡ a.now }
+    ensures b { result.rest.last.inner.now ≡ b.now }
+{
+    let last = Lent { inner: b };
+    let rest = Last { last };
+    let first = Lent { inner: a };
+    Both { first, rest }
+}
+
+/// The fields of three lent parsers.
+fn three_fields<'p, P>(a: &'p P, b: &'p P, c: &'p P) -> ThreeFields<'p, P>
+    ensures a { result.first.inner.now ≡ a.now }
+    ensures b { result.rest.first.inner.now ≡ b.now }
+    ensures c { result.rest.rest.last.inner.now ≡ c.now }
+{
+    let rest = two_fields(b, c);
+    let first = Lent { inner: a };
+    Both { first, rest }
+}
+
+/// The fields of four lent parsers.
+fn four_fields<'p, P>(a: &'p P, b: &'p P, c: &'p P, d: &'p P) -> FourFields<'p, P>
+    ensures a { result.first.inner.now ≡ a.now }
+    ensures b { result.rest.first.inner.now ≡ b.now }
+    ensures c { result.rest.rest.first.inner.now ≡ c.now }
+    ensures d { result.rest.rest.rest.last.inner.now ≡ d.now }
+{
+    let rest = three_fields(b, c, d);
+    let first = Lent { inner: a };
+    Both { first, rest }
+}
+
 /// The values of two parsers, the one after the other.
 fn two_values<P: Parser<Value>>(a: &P, b: &P, state: &mut State) -> Result<Value, Error>
     requires a { P.can_eval a.now }
     requires b { P.can_eval b.now }
     ensures { TwoOutcome (P.outcome a.now) (P.outcome b.now) state.old result state.new }
 {
-    let fields = Last {
-        last: Lent { inner: b },
-    };
-    let fields = Both {
-        first: Lent { inner: a },
-        rest: fields,
-    };
-    nested::<Two, TwoFields<'_, P>>(fields, state)
+    nested::<Two, TwoFields<'_, P>>(two_fields(a, b), state)
 }
 
 /// The values of three parsers, the one after the other.
@@ -83,18 +110,7 @@ fn three_values<P: Parser<Value>>(a: &P, b: &P, c: &P, state: &mut State) -> Res
     ensures { ThreeOutcome (P.outcome a.now) (P.outcome b.now) (P.outcome c.now)
         state.old result state.new }
 {
-    let fields = Last {
-        last: Lent { inner: c },
-    };
-    let fields = Both {
-        first: Lent { inner: b },
-        rest: fields,
-    };
-    let fields = Both {
-        first: Lent { inner: a },
-        rest: fields,
-    };
-    nested::<Three, ThreeFields<'_, P>>(fields, state)
+    nested::<Three, ThreeFields<'_, P>>(three_fields(a, b, c), state)
 }
 
 /// The values of four parsers, the one after the other.
@@ -112,22 +128,7 @@ fn four_values<P: Parser<Value>>(
     ensures { FourOutcome (P.outcome a.now) (P.outcome b.now) (P.outcome c.now)
         (P.outcome d.now) state.old result state.new }
 {
-    let fields = Last {
-        last: Lent { inner: d },
-    };
-    let fields = Both {
-        first: Lent { inner: c },
-        rest: fields,
-    };
-    let fields = Both {
-        first: Lent { inner: b },
-        rest: fields,
-    };
-    let fields = Both {
-        first: Lent { inner: a },
-        rest: fields,
-    };
-    nested::<Four, FourFields<'_, P>>(fields, state)
+    nested::<Four, FourFields<'_, P>>(four_fields(a, b, c, d), state)
 }
 
 /// The values of two, three or four parsers, the one after the other.
@@ -149,48 +150,9 @@ pub fn product_meta<P: Parser<Value>>(parsers: &[P], alloc: Global) -> Result<Me
     ensures { IfOk result (λ meta. TupleDescribes P.describes parsers.now (shape_of meta)) }
 {
     match parsers {
-        [a, b] => {
-            let fields = Last {
-                last: Lent { inner: b },
-            };
-            let fields = Both {
-                first: Lent { inner: a },
-                rest: fields,
-            };
-            nested_meta::<Two, TwoFields<'_, P>>(fields, alloc)
-        }
-        [a, b, c] => {
-            let fields = Last {
-                last: Lent { inner: c },
-            };
-            let fields = Both {
-                first: Lent { inner: b },
-                rest: fields,
-            };
-            let fields = Both {
-                first: Lent { inner: a },
-                rest: fields,
-            };
-            nested_meta::<Three, ThreeFields<'_, P>>(fields, alloc)
-        }
-        [a, b, c, d] => {
-            let fields = Last {
-                last: Lent { inner: d },
-            };
-            let fields = Both {
-                first: Lent { inner: c },
-                rest: fields,
-            };
-            let fields = Both {
-                first: Lent { inner: b },
-                rest: fields,
-            };
-            let fields = Both {
-                first: Lent { inner: a },
-                rest: fields,
-            };
-            nested_meta::<Four, FourFields<'_, P>>(fields, alloc)
-        }
+        [a, b] => nested_meta::<Two, TwoFields<'_, P>>(two_fields(a, b), alloc),
+        [a, b, c] => nested_meta::<Three, ThreeFields<'_, P>>(three_fields(a, b, c), alloc),
+        [a, b, c, d] => nested_meta::<Four, FourFields<'_, P>>(four_fields(a, b, c, d), alloc),
         _ => fail::<Value>("wrong number of parsers").meta(alloc),
     }
 }

@@ -1,5 +1,5 @@
-use Rattle.bpaf_bench.proofs.Members.{two_members, three_members, four_members}
-use Rattle.bpaf_bench.proofs.several.product.Goals as goal
+use Rattle.bpaf_described.proofs.Members.{two_members, three_members, four_members}
+use Rattle.bpaf_described.proofs.several.product.Goals as goal
 
 pub returns-in-len2 : goal.returns-in-len2
 returns-in-len2 g c =

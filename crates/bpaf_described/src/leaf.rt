@@ -19,7 +19,7 @@ impl Parser<Value> for Answer {
     ghost use Rattle.bpaf_doc.specs.Shape.{Skip};
     ghost use Rattle.bpaf_laws.specs.Pure.{PureOutcome, PureReads};
     ghost use Rattle.bpaf_laws.proofs.PureLaws.{pure_lawful};
-    ghost use Rattle.bpaf_bench.specs.Levels.{GivesNumber};
+    ghost use Rattle.bpaf_described.specs.Levels.{GivesNumber};
 
     ghost can_eval = { λ p. Unit {0} };
 
@@ -76,10 +76,10 @@ impl Parser<Value> for Leaf {
     ghost use Rattle.bpaf_laws.proofs.ArgumentLaws.{argument_lawful};
     ghost use Rattle.bpaf.specs.PositionalLaws.{positional_lawful};
     ghost use Rattle.bpaf_laws.proofs.PureLaws.{pure_lawful};
-    ghost use Rattle.bpaf_bench.specs.declared.leaf.Leaf.TheVariants.{Switch, Flag, Number};
-    ghost use Rattle.bpaf_bench.specs.declared.leaf.Leaf.TheVariants.{Integer, Text, NumberWord};
-    ghost use Rattle.bpaf_bench.specs.declared.leaf.Leaf.TheVariants.{Word, Pure, PureWith, Fail};
-    ghost use Rattle.bpaf_bench.specs.Told.{told_lawful};
+    ghost use Rattle.bpaf_described.specs.declared.leaf.Leaf.TheVariants.{Switch, Flag, Number};
+    ghost use Rattle.bpaf_described.specs.declared.leaf.Leaf.TheVariants.{Integer, Text, NumberWord};
+    ghost use Rattle.bpaf_described.specs.declared.leaf.Leaf.TheVariants.{Word, Pure, PureWith, Fail};
+    ghost use Rattle.bpaf_described.specs.Told.{told_lawful};
 
     ghost can_eval = { elim [
       | Switch p ↦ ⟦<AsValue<bool, ParseFlag<bool>> as Parser<Value>>⟧.can_eval p

@@ -1,7 +1,7 @@
 -- What the fixed closures of described parsers answer.
 use Rattle.std.specs.Prelude.{◌≡◌, ⊤, ℕ, ◌/◌, Bool, not, List, Result, Ok, Err, Option, Some, None}
-use Rattle.bpaf_bench.specs.declared.value.Value.{Value}
-use Rattle.bpaf_bench.specs.declared.value.Value.TheVariants as value
+use Rattle.bpaf_described.specs.declared.value.Value.{Value}
+use Rattle.bpaf_described.specs.declared.value.Value.TheVariants as value
 
 -- a number halved, a bool negated, all else as it is
 pub record IsHalf (x v : Value) : Type 0 where

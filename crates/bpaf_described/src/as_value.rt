@@ -12,8 +12,8 @@ pub struct AsValue<T, P> {
 
 impl<T: Told + Drop, P: Parser<T>> Parser<Value> for AsValue<T, P> {
     ghost use Rattle.bpaf_laws.specs.Transform.{MapReads};
-    ghost use Rattle.bpaf_bench.specs.declared.value.Value.{Value};
-    ghost use Rattle.bpaf_bench.specs.Told.{ToldOutcome, told_lawful};
+    ghost use Rattle.bpaf_described.specs.declared.value.Value.{Value};
+    ghost use Rattle.bpaf_described.specs.Told.{ToldOutcome, told_lawful};
 
     ghost can_eval = { λ p. P.can_eval p.inner };
 

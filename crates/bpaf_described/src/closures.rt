@@ -1,4 +1,4 @@
-ghost use Rattle.bpaf_bench.specs.Closures.{Accepts, Given, IsHalf};
+ghost use Rattle.bpaf_described.specs.Closures.{Accepts, Given, IsHalf};
 
 use crate::value::Value;
 

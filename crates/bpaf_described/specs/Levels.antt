@@ -20,17 +20,17 @@ use Rattle.bpaf_laws.proofs.RepeatLaws.{many_lawful, some_lawful}
 use Rattle.bpaf_laws.proofs.RepeatLaws.{collect_lawful, count_lawful, last_lawful}
 use Rattle.bpaf_laws.specs.Choices.{ChoicesOutcome, ChoicesReads, ChoicesDescribes}
 use Rattle.bpaf_laws.proofs.ChoicesLaws.{choices_lawful}
-use Rattle.bpaf_bench.specs.Told.{ToldOutcome, told_lawful}
-use Rattle.bpaf_bench.specs.Values.{ToldOption, ToldQueue}
-use Rattle.bpaf_bench.specs.Closures.{IsHalf, Accepts, Checks, Given, untold}
-use Rattle.bpaf_bench.specs.Several.{TupleOutcome, TupleReads, TupleDescribes, tuple_lawful}
-use Rattle.bpaf_bench.specs.Several.{OrElseOutcome, OrElseReads, OrElseDescribes, or_else_lawful}
-use Rattle.bpaf_bench.specs.declared.value.Value.{Value}
-use Rattle.bpaf_bench.specs.declared.value.Value.TheVariants as value
-use Rattle.bpaf_bench.specs.declared.kind.Modifier.{Modifier}
-use Rattle.bpaf_bench.specs.declared.kind.Modifier.TheVariants as over
-use Rattle.bpaf_bench.specs.declared.kind.Kind.{Kind}
-use Rattle.bpaf_bench.specs.declared.kind.Kind.TheVariants as kind
+use Rattle.bpaf_described.specs.Told.{ToldOutcome, told_lawful}
+use Rattle.bpaf_described.specs.Values.{ToldOption, ToldQueue}
+use Rattle.bpaf_described.specs.Closures.{IsHalf, Accepts, Checks, Given, untold}
+use Rattle.bpaf_described.specs.Several.{TupleOutcome, TupleReads, TupleDescribes, tuple_lawful}
+use Rattle.bpaf_described.specs.Several.{OrElseOutcome, OrElseReads, OrElseDescribes, or_else_lawful}
+use Rattle.bpaf_described.specs.declared.value.Value.{Value}
+use Rattle.bpaf_described.specs.declared.value.Value.TheVariants as value
+use Rattle.bpaf_described.specs.declared.kind.Modifier.{Modifier}
+use Rattle.bpaf_described.specs.declared.kind.Modifier.TheVariants as over
+use Rattle.bpaf_described.specs.declared.kind.Kind.{Kind}
+use Rattle.bpaf_described.specs.declared.kind.Kind.TheVariants as kind
 
 -- a list of values
 abbrev pub ToldList : Vec Value → Value → Type 0

@@ -1,0 +1,40 @@
+//! Parsers described as data: text is read to a parser that answers as the parsers of `bpaf` do.
+//!
+//! It stands on `bpaf`. A description is a list of tokens ([`Description`]); docs/BENCH.md says how it
+//! is written. [`read_parser`] makes a parser of it. That is a [`Level`] over levels over a [`Leaf`]:
+//! a leaf is one option or word, told as a [`Value`], and a level holds its inner parsers once, beside
+//! a [`Kind`], and makes the parser of that kind over lent ones at each evaluation. So a level more
+//! costs a proof nothing, and [`FourLevels`] is enough for the combinations of this repository's rows.
+//!
+//! For the layers above: [`Leaf`] and [`Level`] are lawful parsers, each from its inner parsers' laws
+//! alone, and so is any type that is [`Described`], which may always be evaluated. What a described
+//! parser answers is dealt out of the words as for any parser; a level's outcome is the one of the
+//! `bpaf` parser that its kind names (specs/Levels.antt, specs/Several.antt), but for what the checks
+//! of `guard` and `parse` answer and for the texts of faults, of which nothing is said. A [`Fault`]
+//! tells which token of a description stands at which place, and why it can't.
+#![tactic(auto)]
+
+mod as_value;
+mod closures;
+mod described;
+mod kind;
+mod leaf;
+mod lent;
+mod level;
+mod modifiers;
+mod names;
+mod product;
+mod several;
+mod tokens;
+mod value;
+
+pub use as_value::AsValue;
+pub use described::{Described, read_parser};
+pub use kind::{Kind, Modifier};
+pub use leaf::{Answer, Leaf};
+pub use level::Level;
+pub use tokens::{Description, Fault, Place, Problem, Token, Tokens};
+pub use value::{Told, Value};
+
+/// A described parser: four combinations may stand in one another over a leaf.
+pub type FourLevels = Level<Level<Level<Level<Leaf>>>>;
