@@ -18,7 +18,22 @@ enum Standing<P> {
     Made(OptionParser<Value, P>),
 }
 
-/// How many rows there were.
+/// How a line ends: each has one end, and each end but the first is counted.
+#[derive(Clone, Copy)]
+pub enum LineEnd {
+    /// It is no row.
+    Read,
+    /// A row that was run; no other answer is wanted.
+    Run,
+    /// A row that was run, and whose answer isn't the wanted one.
+    Differs,
+    /// A row that wasn't run, since the description above it isn't one of a parser.
+    Skipped,
+    /// It isn't what it should be, and that was told.
+    Fault,
+}
+
+/// How many lines there were.
 #[derive(Clone, Copy)]
 pub struct Counts {
     /// Rows that were run.
@@ -29,6 +44,20 @@ pub struct Counts {
     pub skipped: u64,
     /// Lines and files that aren't what they should be.
     pub faults: u64,
+}
+
+impl Counts {
+    /// Counts a line, up to the greatest number.
+    fn add(&mut self, end: LineEnd) {
+        let run = matches!(end, LineEnd::Run | LineEnd::Differs);
+        self.rows = self.rows.saturating_add(u64::from(run));
+        let differs = matches!(end, LineEnd::Differs);
+        self.differ = self.differ.saturating_add(u64::from(differs));
+        let skipped = matches!(end, LineEnd::Skipped);
+        self.skipped = self.skipped.saturating_add(u64::from(skipped));
+        let faulty = matches!(end, LineEnd::Fault);
+        self.faults = self.faults.saturating_add(u64::from(faulty));
+    }
 }
 
 /// A run over files of descriptions and rows, of which it holds a description and a line.
@@ -110,19 +139,33 @@ impl<P: Described> Bench<P> {
         self.line = self.line.saturating_add(1);
     }
 
-    /// Tells a fault of this line, or of the file where no line was reached.
+    /// Tells and counts a fault of this line, or of the file where no line was reached.
     pub fn fault<W: Write>(&mut self, fault: &str, out: &mut W) -> io::Result<()> {
-        self.counts.faults = self.counts.faults.saturating_add(1);
+        let end = self.tell(fault, out)?;
+        self.counts.add(end);
+        Ok(())
+    }
+
+    /// Reads and counts a line.
+    pub fn line<W: Write>(&mut self, line: &str, out: &mut W) -> io::Result<()> {
+        self.next_line();
+        let end = self.read(line, out)?;
+        self.counts.add(end);
+        Ok(())
+    }
+
+    /// Tells a fault of this line, or of the file where no line was reached.
+    fn tell<W: Write>(&self, fault: &str, out: &mut W) -> io::Result<LineEnd> {
         let file = self.file.as_str();
         match self.line {
-            0 => writeln!(out, "{file}: {fault}"),
-            line => writeln!(out, "{file}:{line}: {fault}"),
+            0 => writeln!(out, "{file}: {fault}")?,
+            line => writeln!(out, "{file}:{line}: {fault}")?,
         }
+        Ok(LineEnd::Fault)
     }
 
     /// Reads a line.
-    pub fn line<W: Write>(&mut self, line: &str, out: &mut W) -> io::Result<()> {
-        self.next_line();
+    fn read<W: Write>(&mut self, line: &str, out: &mut W) -> io::Result<LineEnd> {
         if self.description.is_open() {
             return self.describe(1, line, line, out);
         }
@@ -136,15 +179,15 @@ impl<P: Described> Bench<P> {
     }
 
     /// Prints a line that is no row, where every answer is printed.
-    fn copy<W: Write>(&self, line: &str, out: &mut W) -> io::Result<()> {
+    fn copy<W: Write>(&self, line: &str, out: &mut W) -> io::Result<LineEnd> {
         if self.all {
             writeln!(out, "{line}")?;
         }
-        Ok(())
+        Ok(LineEnd::Read)
     }
 
     /// Reads a line that begins with `#` and is no row: a comment, a variable or a description.
-    fn heading<W: Write>(&mut self, line: &str, out: &mut W) -> io::Result<()> {
+    fn heading<W: Write>(&mut self, line: &str, out: &mut W) -> io::Result<LineEnd> {
         if line.starts_with("##") {
             return self.copy(line, out);
         }
@@ -157,14 +200,14 @@ impl<P: Described> Bench<P> {
     }
 
     /// Sets a variable of the environment.
-    fn set<W: Write>(&mut self, setting: &str, out: &mut W) -> io::Result<()> {
+    fn set<W: Write>(&mut self, setting: &str, out: &mut W) -> io::Result<LineEnd> {
         let Some((name, value)) = setting.split_once('=') else {
-            return self.fault("a variable is set as `#env NAME=VALUE`", out);
+            return self.tell("a variable is set as `#env NAME=VALUE`", out);
         };
         let name = String::from_str(self.alloc, name)?;
         let value = String::from_str(self.alloc, value)?;
         self.variables.insert(name, value)?;
-        Ok(())
+        Ok(LineEnd::Read)
     }
 
     /// Reads a line of a description, whose text begins at this column, and makes the parser where
@@ -175,7 +218,7 @@ impl<P: Described> Bench<P> {
         text: &str,
         line: &str,
         out: &mut W,
-    ) -> io::Result<()> {
+    ) -> io::Result<LineEnd> {
         self.copy(line, out)?;
         let place = Place {
             line: self.line,
@@ -184,70 +227,67 @@ impl<P: Described> Bench<P> {
         self.parser = Standing::Refused;
         self.description.push_line(place, text)?;
         if self.description.is_open() {
-            return Ok(());
+            return Ok(LineEnd::Read);
         }
         if self.description.tokens().is_empty() {
-            return self.fault("no parser is described", out);
+            return self.tell("no parser is described", out);
         }
         match options_of(self.alloc, &self.description) {
             Ok(parser) => {
                 self.parser = Standing::Made(parser);
-                Ok(())
+                Ok(LineEnd::Read)
             }
             Err(fault) => {
-                if !fault.is_deep() {
-                    self.counts.faults = self.counts.faults.saturating_add(1);
-                }
-                fault.tell(self.file.as_str(), out)
+                fault.tell(self.file.as_str(), out)?;
+                Ok(if fault.is_deep() {
+                    LineEnd::Read
+                } else {
+                    LineEnd::Fault
+                })
             }
         }
     }
 
     /// Reads a row: words, and behind a tab the wanted answer.
-    fn row<W: Write>(&mut self, line: &str, out: &mut W) -> io::Result<()> {
+    fn row<W: Write>(&self, line: &str, out: &mut W) -> io::Result<LineEnd> {
         let (text, wanted) = match line.split_once('\t') {
             Some((text, wanted)) => (text, Some(wanted)),
             None => (line, None),
         };
         let Some(words) = words_of(self.alloc, text)? else {
-            return self.fault("a quote isn't closed", out);
+            return self.tell("a quote isn't closed", out);
         };
         let wanted = wanted.filter(|wanted| !wanted.is_empty());
         if !wanted.is_none_or(is_answer) {
-            return self.fault("an answer begins with `ok ` or `err`", out);
+            return self.tell("an answer begins with `ok ` or `err`", out);
         }
         let got = match &self.parser {
-            Standing::Missing => return self.fault("no parser stands above this row", out),
-            Standing::Refused => {
-                self.counts.skipped = self.counts.skipped.saturating_add(1);
-                return Ok(());
-            }
+            Standing::Missing => return self.tell("no parser stands above this row", out),
+            Standing::Refused => return Ok(LineEnd::Skipped),
             Standing::Made(parser) => {
                 answer(self.alloc, parser, &self.variables, words.as_slice())?
             }
         };
-        self.counts.rows = self.counts.rows.saturating_add(1);
         if self.all || wanted.is_none() {
             writeln!(out, "{text}\t{got}")?;
         }
         match wanted {
             Some(wanted) => self.compare(words.as_slice(), wanted, got.as_str(), out),
-            None => Ok(()),
+            None => Ok(LineEnd::Run),
         }
     }
 
     /// Prints a row whose answer isn't the wanted one.
     fn compare<W: Write>(
-        &mut self,
+        &self,
         words: &[String],
         wanted: &str,
         got: &str,
         out: &mut W,
-    ) -> io::Result<()> {
+    ) -> io::Result<LineEnd> {
         if is_wanted(wanted, got) {
-            return Ok(());
+            return Ok(LineEnd::Run);
         }
-        self.counts.differ = self.counts.differ.saturating_add(1);
         let file = self.file.as_str();
         let line = self.line;
         let parser = self.description.text()?;
@@ -255,7 +295,8 @@ impl<P: Described> Bench<P> {
         writeln!(out, "{file}:{line}: {parser}")?;
         writeln!(out, "    words   {words}")?;
         writeln!(out, "    wanted  {wanted}")?;
-        writeln!(out, "    got     {got}")
+        writeln!(out, "    got     {got}")?;
+        Ok(LineEnd::Differs)
     }
 
     /// Prints how many rows there were.
