@@ -8,11 +8,13 @@ use Rattle.bpaf_line.specs.MissingIn.{IsMissingIn}
 use Rattle.bpaf_line.specs.Situation.{Situation, Context, item_in}
 use Rattle.bpaf_line.specs.Taking.{TakesText, HasNone}
 use Rattle.bpaf_line.specs.declared.error.Message.{Message}
-use Rattle.bpaf_line.specs.declared.error.Message.TheVariants.{Memory, Missing, ParseFailed, StrictPos, NonStrictPos}
+use Rattle.bpaf_line.specs.declared.error.Message.TheVariants.{Memory, Missing, ParseFailed}
+use Rattle.bpaf_line.specs.declared.error.Message.TheVariants.{StrictPos, NonStrictPos}
 use Rattle.bpaf_laws.specs.Reading.{Share, Outcome, IsPlace}
 use Rattle.bpaf_laws.specs.Value.{FaultsText}
 use Rattle.bpaf.specs.declared.leaves.positional.Position.{Position}
-use Rattle.bpaf.specs.declared.leaves.positional.Position.TheVariants.{Unrestricted, Strict, NonStrict}
+use Rattle.bpaf.specs.declared.leaves.positional.Position.TheVariants.{Unrestricted, Strict}
+use Rattle.bpaf.specs.declared.leaves.positional.Position.TheVariants.{NonStrict}
 
 -- a word may stand on this side of `--`; strict tells that it stands on the right
 abbrev pub accepts : Position → Bool → Bool

@@ -3,7 +3,8 @@ use Rattle.std.specs.Prelude.{◌≡◌, ℕ, Bool, true, List}
 use Rattle.std.proofs.Common.{sym, subst, ⊎_elim}
 use Rattle.bpaf_line.specs.Situation.{Situation, is_open}
 use Rattle.bpaf_line.specs.declared.error.Message.{Message}
-use Rattle.bpaf_line.specs.declared.error.Message.TheVariants.{Memory, Missing, ParseFailed, StrictPos, NonStrictPos}
+use Rattle.bpaf_line.specs.declared.error.Message.TheVariants.{Memory, Missing, ParseFailed}
+use Rattle.bpaf_line.specs.declared.error.Message.TheVariants.{StrictPos, NonStrictPos}
 use Rattle.bpaf_line.specs.Taking.{TakesText}
 use Rattle.bpaf_laws.specs.Reading.{Readings}
 use Rattle.bpaf_laws.specs.Laws.{Keeps, Reads, Lawful}
@@ -11,7 +12,8 @@ use Rattle.bpaf_laws.proofs.Keeping.{keeps_same, closes_take, keeps_take, newly_
 use Rattle.bpaf_words.specs.Items.{is_positional}
 use Rattle.bpaf_line.proofs.Matches.{match_is_open}
 use Rattle.bpaf.specs.declared.leaves.positional.Position.{Position}
-use Rattle.bpaf.specs.Positional.{PositionalReads, PositionalOutcome, PositionalFails, TakesSome, accepts}
+use Rattle.bpaf.specs.Positional.{PositionalReads, PositionalOutcome, PositionalFails, TakesSome}
+use Rattle.bpaf.specs.Positional.{accepts}
 
 module _ (s : Situation) (place : ℕ) (strict : Bool) (text : List ℕ) (t : Situation)
     (takes : TakesText s place strict text t) where
@@ -34,7 +36,8 @@ module _ (T : Type 0) (means : List ℕ → T → Type 0) (position : Position)
       → accepts position taken.strict ≡ true → means taken.text v → Reads T reads_positional s v t
   positional_read s t v taken accepted meant =
       let takes = taken.takes in
-      let there : is_open s taken.place ≡ true = word_open s taken.place taken.strict taken.text t takes in
+      let there : is_open s taken.place ≡ true =
+      word_open s taken.place taken.strict taken.text t takes in
       subst (λ w. Reads T reads_positional s v w) (sym takes.taken) (record {
         keeps = keeps_take s taken.place there;
         closed = closes_take s taken.place;

@@ -182,8 +182,8 @@ impl<V: Drop, T: Drop, P: Fields<V>, F: Fn(V) -> T> Parser<T> for ParseCon<V, P,
     fn eval(&self, state: &mut State) -> Result<T, Error>
         requires fields { P.can_eval self.now.fields }
         requires callable { F.IsAlwaysCallable self.now.make }
-        ensures outcome { ProductOutcome (P.outcome self.now.fields) (λ x y. F.post self.now.make x y)
-            state.old result state.new }
+        ensures outcome { ProductOutcome (P.outcome self.now.fields)
+            (λ x y. F.post self.now.make x y) state.old result state.new }
         ensures memory_is_never_caught { IsNotMemory result →
             ProductOutcome (WithoutMemory (P.outcome self.now.fields))
             (λ x y. F.post self.now.make x y) state.old result state.new }

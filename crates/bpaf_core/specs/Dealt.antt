@@ -9,7 +9,8 @@ use Rattle.bpaf_core.specs.Known.{known_names}
 
 -- v is read off all places of the words' line but that of the marker, the line that the shown short
 -- names make
-pub record IsDealtOut (T : Type 0) (reads : Readings T) (describes : Shape → Type 0) (info : Info) (given : Given) (v : T) : Type 0 where
+pub record IsDealtOut (T : Type 0) (reads : Readings T) (describes : Shape → Type 0) (info : Info)
+    (given : Given) (v : T) : Type 0 where
   pub shape : Shape
   pub shown : describes shape
   pub context : Context

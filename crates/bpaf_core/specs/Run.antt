@@ -16,11 +16,12 @@ use Rattle.bpaf_core.specs.Known.{known_names}
 use Rattle.bpaf_laws.specs.Reading.{Outcome}
 
 -- short names that are the known ones of a shape that the parser may show
-pub record ShowsNames (describes : Shape → Type 0) (info : Info) (flags arguments : List ℕ) : Type 0 where
-  pub shape : Shape
-  pub shown : describes shape
-  pub flags_are : flags ≡ (known_names info shape).names.flags
-  pub arguments_are : arguments ≡ (known_names info shape).names.arguments
+pub record ShowsNames (describes : Shape → Type 0) (info : Info) (flags arguments : List ℕ) : Type 0
+  where
+    pub shape : Shape
+    pub shown : describes shape
+    pub flags_are : flags ≡ (known_names info shape).names.flags
+    pub arguments_are : arguments ≡ (known_names info shape).names.arguments
 
 -- a refusal's text; or want of memory for it
 abbrev pub IsRefusal : ParseFailure → Type 0
@@ -34,18 +35,27 @@ Tells m f = ((is_memory m ≡ true) × (f ≡ failure.Memory)) ⊎ ((is_memory m
 
 -- a run from a situation on, and the situation that it leaves: a value, and no item is left; a
 -- value that left some; a refusal
-pub data Runs (T : Type 0) (inner : Outcome T) (s : Situation) : Result T ParseFailure → Situation → Type 0 where
+pub data Runs (T : Type 0) (inner : Outcome T) (s : Situation) : Result T ParseFailure → Situation
+    → Type 0 where
   value : (v : T) (t : Situation) → inner s (Ok v) t → open_count t ≡ 0 → Runs T inner s (Ok v) t
-  leftover : (v : T) (t : Situation) (f : ParseFailure) → inner s (Ok v) t → 0 < open_count t → IsRefusal f → Runs T inner s (Err f) t
-  refused : (e : Error) (t : Situation) (f : ParseFailure) → inner s (Err e) t → Tells e.0 f → Runs T inner s (Err f) t
+  leftover : (v : T) (t : Situation) (f : ParseFailure) → inner s (Ok v) t → 0 < open_count t
+      → IsRefusal f → Runs T inner s (Err f) t
+  refused : (e : Error) (t : Situation) (f : ParseFailure) → inner s (Err e) t → Tells e.0 f
+      → Runs T inner s (Err f) t
 
 -- a run over words, where a parser may show this shape: over their line; or they have none
-pub data RunsShown (T : Type 0) (inner : Outcome T) (info : Info) (shape : Shape) (given : Given) : Result T ParseFailure → Type 0 where
-  ran : (context : Context) (r : Result T ParseFailure) (t : Situation) → IsContext (known_names info shape) given context
+pub data RunsShown (T : Type 0) (inner : Outcome T) (info : Info) (shape : Shape)
+    (given : Given) : Result T ParseFailure → Type 0 where
+  ran : (context : Context) (r : Result T ParseFailure) (t : Situation)
+      → IsContext (known_names info shape) given context
       → Runs T inner (beginning context) r t → RunsShown T inner info shape given r
-  no_line : (word : List ℕ) (number : ℕ) (f : ParseFailure) → HasNoLine (known_names info shape) given.words word number → IsRefusal f → RunsShown T inner info shape given (Err f)
+  no_line : (word : List ℕ) (number : ℕ) (f : ParseFailure)
+      → HasNoLine (known_names info shape) given.words word number → IsRefusal f
+      → RunsShown T inner info shape given (Err f)
 
 -- a run over words: with what the parser shows of itself; or there is no memory for it
-pub data RunsWords (T : Type 0) (inner : Outcome T) (describes : Shape → Type 0) (info : Info) (given : Given) : Result T ParseFailure → Type 0 where
-  shown : (shape : Shape) (r : Result T ParseFailure) → describes shape → RunsShown T inner info shape given r → RunsWords T inner describes info given r
+pub data RunsWords (T : Type 0) (inner : Outcome T) (describes : Shape → Type 0) (info : Info)
+    (given : Given) : Result T ParseFailure → Type 0 where
+  shown : (shape : Shape) (r : Result T ParseFailure) → describes shape
+      → RunsShown T inner info shape given r → RunsWords T inner describes info given r
   no_memory : RunsWords T inner describes info given (Err failure.Memory)

@@ -7,9 +7,8 @@ use Rattle.bpaf_text.specs.Named.{Named, KeyWithValue, key_named}
 use Rattle.bpaf_text.specs.Meaning.{SpellsUnsigned}
 use Rattle.bpaf_words.specs.Arguments.{Given}
 use Rattle.bpaf_line.specs.Constructing.{IsContext}
-use Rattle.bpaf_line.specs.Situation.{Context}
 use Rattle.bpaf_line.specs.declared.failure.ParseFailure.{ParseFailure}
-use Rattle.bpaf_laws.specs.Reading.{Readings, Share}
+use Rattle.bpaf_laws.specs.Reading.{Readings}
 use Rattle.bpaf_laws.specs.Argument.{ArgumentReads, argument_shape}
 use Rattle.bpaf_laws.specs.Flag.{FlagReads, flag_shape}
 use Rattle.bpaf_laws.specs.Repeat.{ManyReads, ManyDescribes}

@@ -22,4 +22,6 @@ file_lines (text ∷ texts) = line (codes "file: " ++ text) ++ file_lines texts
 
 -- the lines of the options
 abbrev pub lines : Options → List ℕ
-lines v = line (codes "verbose: " ++ truth v.verbose) ++ line (codes "num: " ++ decimal v.num) ++ file_lines (file_texts v)
+lines v =
+    line (codes "verbose: " ++ truth v.verbose) ++ line (codes "num: " ++ decimal v.num)
+    ++ file_lines (file_texts v)

@@ -71,11 +71,12 @@ pub record IsDealtOptions (words : List (List ℕ)) (v : Options) : Type 0 where
 
 -- status 0: nothing on the error writer, and on the other exactly the lines of options that are
 -- dealt out of the words
-pub record Succeeds (words : List (List ℕ)) (out out_after err err_after : Option (List ℕ)) : Type 0 where
-  pub quiet : Keeps err err_after
-  pub options : Options
-  pub dealt : IsDealtOptions words options
-  pub printed : Appends out out_after (lines options)
+pub record Succeeds (words : List (List ℕ)) (out out_after err err_after : Option (List ℕ)) : Type 0
+  where
+    pub quiet : Keeps err err_after
+    pub options : Options
+    pub dealt : IsDealtOptions words options
+    pub printed : Appends out out_after (lines options)
 
 -- status 1: nothing on the writer, or there are such options
 abbrev pub Fails : List (List ℕ) → Option (List ℕ) → Option (List ℕ) → Type 0

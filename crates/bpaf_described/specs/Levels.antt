@@ -24,7 +24,8 @@ use Rattle.bpaf_described.specs.Told.{ToldOutcome, told_lawful}
 use Rattle.bpaf_described.specs.Values.{ToldOption, ToldQueue}
 use Rattle.bpaf_described.specs.Closures.{IsHalf, Accepts, Checks, Given, untold}
 use Rattle.bpaf_described.specs.Several.{TupleOutcome, TupleReads, TupleDescribes, tuple_lawful}
-use Rattle.bpaf_described.specs.Several.{OrElseOutcome, OrElseReads, OrElseDescribes, or_else_lawful}
+use Rattle.bpaf_described.specs.Several.{OrElseOutcome, OrElseReads, OrElseDescribes}
+use Rattle.bpaf_described.specs.Several.{or_else_lawful}
 use Rattle.bpaf_described.specs.declared.value.Value.{Value}
 use Rattle.bpaf_described.specs.declared.value.Value.TheVariants as value
 use Rattle.bpaf_described.specs.declared.kind.Modifier.{Modifier}

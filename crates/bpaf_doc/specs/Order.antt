@@ -1,6 +1,8 @@
 -- The order of items: words and commands stand behind the keys.
 use Rattle.std.specs.Prelude.{Bool, true, false, not, ◌&&◌, ◌||◌}
-use Rattle.bpaf_doc.specs.Shape.{Shape, Shapes, Part, And, Or, Optional, Required, Adjacent, Many, Strict, Subsection, Suffix, CustomUsage, Shown, Skip, none, ◌then◌, Any, Positional, Command, Flag, Argument}
+use Rattle.bpaf_doc.specs.Shape.{Shape, Shapes, Part, And, Or, Optional, Required, Adjacent, Many}
+use Rattle.bpaf_doc.specs.Shape.{Strict, Subsection, Suffix, CustomUsage, Shown, Skip, none, ◌then◌}
+use Rattle.bpaf_doc.specs.Shape.{Any, Positional, Command, Flag, Argument}
 
 -- a part that takes a word from its place: it stands last
 abbrev pub takes_word : Part → Bool

@@ -1,5 +1,6 @@
 -- What a document prints.
-use Rattle.std.specs.Prelude.{ℕ, Bool, false, not, ◌||◌, ◌==◌, List, [], ◌∷◌, ◌++◌, Option, Some, None, filter}
+use Rattle.std.specs.Prelude.{ℕ, Bool, false, not, ◌||◌, ◌==◌, List, [], ◌∷◌, ◌++◌, Option, Some}
+use Rattle.std.specs.Prelude.{None, filter}
 use Rattle.std.specs.List.{flat_map, before_first}
 use Rattle.bpaf_doc.specs.declared.doc.Piece.{Piece}
 use Rattle.bpaf_doc.specs.declared.doc.Style.{Style}

@@ -1,7 +1,9 @@
 -- The walks over what a parser shows.
 use Rattle.std.specs.Prelude.{ℕ, List, [], ◌∷◌, ◌++◌, Option, Some, None}
 use Rattle.std.specs.List.{flat_map}
-use Rattle.bpaf_doc.specs.Shape.{Shape, Shapes, Part, And, Or, Optional, Required, Adjacent, Many, Strict, Subsection, Suffix, CustomUsage, Shown, Skip, none, ◌then◌, Command, Flag, Argument}
+use Rattle.bpaf_doc.specs.Shape.{Shape, Shapes, Part, And, Or, Optional, Required, Adjacent, Many}
+use Rattle.bpaf_doc.specs.Shape.{Strict, Subsection, Suffix, CustomUsage, Shown, Skip, none, ◌then◌}
+use Rattle.bpaf_doc.specs.Shape.{Command, Flag, Argument}
 
 -- all parts in order, those inside commands too
 abbrev mutual

@@ -29,21 +29,32 @@ ToggleOutcome on off s (Ok None) t = t ≡ s
 ToggleOutcome on off s (Err e) t = ⊥
 
 -- a key that is taken is the place that is newly taken
-key_read : {T : Type 0} (reads : Readings T) (names : Names) (s t : Situation) (v : T) → TakesFlag names s true t
-    → ((share : Share) → IsKey names s.context share → reads s.context share v) → Reads T reads s v t
+key_read : {T : Type 0} (reads : Readings T) (names : Names) (s t : Situation) (v : T)
+    → TakesFlag names s true t
+    → ((share : Share) → IsKey names s.context share → reads s.context share v)
+    → Reads T reads s v t
 key_read {T} reads names s t v takes read =
-    let there : is_open s takes.0 ≡ true = match_is_open (is_key_of names) s takes.0 takes.1.matches in
+    let there : is_open s takes.0 ≡ true =
+    match_is_open (is_key_of names) s takes.0 takes.1.matches in
     subst (λ w. Reads T reads s v w) (sym takes.2) (record {
       keeps = keeps_take s takes.0 there;
       closed = closes_take s takes.0;
-      reading = read _ (takes.0, match_has_item (is_key_of names) s takes.0 takes.1.matches, newly_take s takes.0 there);
+      reading =
+          read _ (
+            takes.0,
+            match_has_item (is_key_of names) s takes.0 takes.1.matches,
+            newly_take s takes.0 there,
+          );
     })
 
 module _ (on off : Names) where
   -- an answer of a toggle is read off what it took
-  toggle_read : (s t : Situation) (v : Option Bool) → ToggleOutcome on off s (Ok v) t → Reads (Option Bool) (ToggleReads on off) s v t
-  toggle_read s t (Some true) takes = key_read (ToggleReads on off) on s t (Some true) takes (λ share is. is)
-  toggle_read s t (Some false) takes = key_read (ToggleReads on off) off s t (Some false) takes (λ share is. is)
+  toggle_read : (s t : Situation) (v : Option Bool) → ToggleOutcome on off s (Ok v) t
+      → Reads (Option Bool) (ToggleReads on off) s v t
+  toggle_read s t (Some true) takes =
+      key_read (ToggleReads on off) on s t (Some true) takes (λ share is. is)
+  toggle_read s t (Some false) takes =
+      key_read (ToggleReads on off) off s t (Some false) takes (λ share is. is)
   toggle_read s t None same = reads_same (ToggleReads on off) s t None same (newly_none s)
 
   -- a toggle keeps to the laws

@@ -1,14 +1,13 @@
 -- A key comes before the environment.
 use Rattle.std.proofs.Common.{ℕ, List, Result, Ok, Err, ⊎_elim, sym, ◌∙◌, ap, true≢false}
-use Rattle.bpaf_text.specs.Named.{KeyWithValue, argument_part}
+use Rattle.bpaf_text.specs.Named.{KeyWithValue}
 use Rattle.bpaf_line.specs.Situation.{Situation}
 use Rattle.bpaf_line.specs.declared.error.Error.{Error}
 use Rattle.bpaf_line.specs.declared.error.Message.{Message}
-use Rattle.bpaf_line.specs.declared.error.Message.TheVariants.{Memory, ParseFailed, NoArgument}
-use Rattle.bpaf_laws.specs.Argument.{GetsText, RefusesText}
+use Rattle.bpaf_line.specs.declared.error.Message.TheVariants.{Memory, ParseFailed}
+use Rattle.bpaf_laws.specs.Argument.{GetsText}
 use Rattle.bpaf_laws.specs.Value.{ReadsValue, FaultsText}
 use Rattle.bpaf_laws.specs.KeyFirst.{FailsKeyFirst, KeyBeforeEnvironment}
-use Rattle.bpaf_laws.proofs.ArgumentAnswers.{absence_names_no_text}
 
 module _ {T : Type 0} (means : List ℕ → T → Type 0) (argument : KeyWithValue) (s t : Situation) where
   -- a text at fault is that behind the key where one is there, and else that of the environment
@@ -49,14 +48,3 @@ module _ {T : Type 0} (means : List ℕ → T → Type 0) (argument : KeyWithVal
         (λ variable. (text, variable.set, meant))
         gets),
   )
-
-  -- where there is no text, the first key has none behind it, or the argument is nowhere
-  pub no_text_first : (m : Message) → RefusesText argument s m t → FailsKeyFirst means argument s m
-  no_text_first Memory refuses = ((λ p here. tt), (λ none. tt))
-  no_text_first (NoArgument key name) refuses =
-      ((λ p here. refuses.0), (λ none. absurd (true≢false (sym refuses.0.0.matches ∙ none key))))
-  no_text_first (ParseFailed place fault) refuses =
-      absurd
-      (absence_names_no_text s (argument_part argument) argument.named.envs place fault refuses.1.1)
-  no_text_first other refuses =
-      ((λ p here. absurd (true≢false (sym here ∙ refuses.0 p))), (λ none. refuses.1))

@@ -1,5 +1,6 @@
 -- Arguments: a key and the text behind it.
-use Rattle.std.specs.Prelude.{◌≡◌, ◌⊎◌, ℕ, ◌+◌, Bool, List, Result, Ok, Err, Some, None, String, string_bytes, option_and_then}
+use Rattle.std.specs.Prelude.{◌≡◌, ◌⊎◌, ℕ, ◌+◌, Bool, List, Result, Ok, Err, Some, None, String}
+use Rattle.std.specs.Prelude.{string_bytes, option_and_then}
 use Rattle.std.specs.Option.{option_map_or}
 use Rattle.std.specs.declared.alloc.Global.{Global}
 use Rattle.bpaf_doc.specs.Shape.{Shape, Shown, Skip}

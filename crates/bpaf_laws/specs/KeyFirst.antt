@@ -5,7 +5,8 @@ use Rattle.bpaf_line.specs.Situation.{Situation}
 use Rattle.bpaf_line.specs.Taking.{is_match, value_after, IsFirst}
 use Rattle.bpaf_line.specs.declared.error.Message.{Message}
 use Rattle.bpaf_line.specs.declared.error.Message.TheVariants.{Memory, ParseFailed, NoArgument}
-use Rattle.bpaf_laws.specs.Argument.{is_key_with_value, TakesKeyWithText, HasNoKey, LacksText, IsVariable, IsNowhere}
+use Rattle.bpaf_laws.specs.Argument.{is_key_with_value, TakesKeyWithText, HasNoKey, LacksText}
+use Rattle.bpaf_laws.specs.Argument.{IsVariable, IsNowhere}
 use Rattle.bpaf_laws.specs.Reading.{Outcome}
 
 -- the value is what the text behind the first key means
@@ -56,7 +57,8 @@ FailsInVariable means argument s Memory = ⊤
 FailsInVariable means argument s m = IsNowhere argument s m
 
 -- a refusal, by whether a key of the argument is present in scope
-abbrev pub FailsKeyFirst : {T : Type 0} → (List ℕ → T → Type 0) → KeyWithValue → Situation → Message → Type 0
+abbrev pub FailsKeyFirst : {T : Type 0} → (List ℕ → T → Type 0) → KeyWithValue → Situation → Message
+    → Type 0
 FailsKeyFirst means argument s m =
     ((p : ℕ) → is_match (is_key_with_value argument) s p ≡ true → FailsAtKey means argument s m)
     × (HasNoKey argument s → FailsInVariable means argument s m)

@@ -1,5 +1,6 @@
 -- Products: every field is evaluated, and a constructor makes the value of theirs.
-use Rattle.std.specs.Prelude.{◌≡◌, true, ◌⊎◌, List, [], ◌∷◌, ◌++◌, Result, Ok, Err, None, if◌then◌else◌}
+use Rattle.std.specs.Prelude.{◌≡◌, true, ◌⊎◌, List, [], ◌∷◌, ◌++◌, Result, Ok, Err, None}
+use Rattle.std.specs.Prelude.{if◌then◌else◌}
 use Rattle.bpaf_doc.specs.Shape.{Shape, And, members}
 use Rattle.bpaf_line.specs.Situation.{Situation, Context, with_current}
 use Rattle.bpaf_line.specs.Messages.{is_memory}

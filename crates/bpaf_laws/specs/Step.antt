@@ -1,5 +1,6 @@
 -- One step of an optional value or of a repeat: the inner parser is evaluated once.
-use Rattle.std.specs.Prelude.{◌≡◌, ◌⊎◌, ◌==◌, ◌<◌, ◌≤◌, Bool, true, false, not, ◌&&◌, ◌||◌, Ok, Err, Option, Some, None}
+use Rattle.std.specs.Prelude.{◌≡◌, ◌⊎◌, ◌==◌, ◌<◌, ◌≤◌, Bool, true, false, not, ◌&&◌, ◌||◌, Ok, Err}
+use Rattle.std.specs.Prelude.{Option, Some, None}
 use Rattle.bpaf_line.specs.Messages.{is_memory, can_catch, is_wrong_input}
 use Rattle.bpaf_line.specs.Situation.{Situation, open_count}
 use Rattle.bpaf_line.specs.declared.error.Error.{Error}

@@ -160,7 +160,8 @@ impl State {
 
     /// Takes a place that is present and in scope; at another place nothing changes. It takes no memory.
     pub fn remove(&mut self, place: usize)
-        ensures { self.new ≡ (if is_open self.old place then take_place self.old place else self.old) }
+        ensures { self.new ≡
+            (if is_open self.old place then take_place self.old place else self.old) }
     {
         if self.is_open(place) {
             self.take(place);

@@ -95,7 +95,8 @@ impl State {
 
     /// The first place that is present and in scope, where its item is the word of the command.
     fn first_command(&self, word: &str) -> Option<usize>
-        ensures { MatchOption result (HasNoCommand word.now self.now) (IsCommandAt word.now self.now) }
+        ensures { MatchOption result
+            (HasNoCommand word.now self.now) (IsCommandAt word.now self.now) }
     {
         let (place, item) = self.first_open(|_| true)?;
         if is_command_word(item, word) {

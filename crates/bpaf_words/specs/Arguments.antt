@@ -26,7 +26,8 @@ abbrev pub entries_of : BTreeMap (String Global) (String Global) Global → List
 entries_of env = map (λ e. (string_bytes e.0, string_bytes e.1)) env.entries
 
 -- those of an environment that may be left out; none is the empty one
-abbrev pub env_entries : Option (Bor (BTreeMap (String Global) (String Global) Global)) → List (List ℕ × List ℕ)
+abbrev pub env_entries : Option (Bor (BTreeMap (String Global) (String Global) Global))
+    → List (List ℕ × List ℕ)
 env_entries env = option_map_or (λ e. entries_of e.now) env []
 
 -- the environment

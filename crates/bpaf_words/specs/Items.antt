@@ -1,5 +1,6 @@
 -- Items: what a test on one computes.
-use Rattle.std.specs.Prelude.{ℕ, Bool, true, false, not, ◌&&◌, ◌==◌, List, ◌++◌, Option, Some, None, bytes_eq, codes, encode_utf8}
+use Rattle.std.specs.Prelude.{ℕ, Bool, true, false, not, ◌&&◌, ◌==◌, List, ◌++◌, Option, Some, None}
+use Rattle.std.specs.Prelude.{bytes_eq, codes, encode_utf8}
 use Rattle.std.specs.List.{list_any}
 use Rattle.std.specs.Option.{option_map_or}
 use Rattle.bpaf_doc.specs.Names.{Names}
@@ -32,7 +33,8 @@ is_attached (PosWord text) = false
 
 -- a key with one of the names; under `adjacent` an attached one
 abbrev pub is_argument_key : Names → Bool → Arg → Bool
-is_argument_key names adjacent item = is_key_of names item && not (adjacent && not (is_attached item))
+is_argument_key names adjacent item =
+    is_key_of names item && not (adjacent && not (is_attached item))
 
 -- what a key may have for its value: the text of a Word or an ArgWord
 abbrev pub value_text : Arg → Option (List ℕ)

@@ -1,5 +1,7 @@
 -- How a word spells items: the ways in which its bytes fall into parts.
-use Rattle.std.specs.Prelude.{◌≡◌, ◌≢◌, ℕ, ◌+◌, Bool, true, false, List, [], ◌∷◌, ◌++◌, length, codes, encode_utf8, encode_utf8_all, EachIndex, slice_index, All, IsUtf8}
+use Rattle.std.specs.Prelude.{◌≡◌, ◌≢◌, ℕ, ◌+◌, Bool, true, false, List, [], ◌∷◌, ◌++◌, length}
+use Rattle.std.specs.Prelude.{codes, encode_utf8, encode_utf8_all, EachIndex, slice_index, All}
+use Rattle.std.specs.Prelude.{IsUtf8}
 use Rattle.bpaf_words.specs.Items.{is_among}
 use Rattle.bpaf_words.specs.declared.arg.Arg.{Arg}
 use Rattle.bpaf_words.specs.declared.arg.Arg.TheVariants.{Short, Long, ArgWord, Word}
@@ -58,11 +60,15 @@ argument_of word c (b ∷ rest) = Short c true word ∷ Word (b ∷ rest) ∷ []
 -- joined characters cs of a word: flags, then perhaps one that is none
 pub data SpellsJoined (names : ShortNames) (word : List ℕ) (cs : List ℕ) : Spelling → Type 0 where
   flags : All (IsFlag names) cs → SpellsJoined names word cs (Items (flags_of word cs))
-  argument : (fs : List ℕ) (c : ℕ) (rest : List ℕ) → cs ≡ fs ++ c ∷ rest → All (IsFlag names) fs → IsArgument names c
-      → SpellsJoined names word cs (Items (flags_of word fs ++ argument_of word c (encode_utf8_all rest)))
-  neither : (fs : List ℕ) (c : ℕ) (rest : List ℕ) → cs ≡ fs ++ c ∷ rest → All (IsFlag names) fs → IsNeither names c
+  argument : (fs : List ℕ) (c : ℕ) (rest : List ℕ) → cs ≡ fs ++ c ∷ rest → All (IsFlag names) fs
+      → IsArgument names c
+      → SpellsJoined names word cs
+      (Items (flags_of word fs ++ argument_of word c (encode_utf8_all rest)))
+  neither : (fs : List ℕ) (c : ℕ) (rest : List ℕ) → cs ≡ fs ++ c ∷ rest → All (IsFlag names) fs
+      → IsNeither names c
       → SpellsJoined names word cs (Items (Word word ∷ []))
-  both : (fs : List ℕ) (c : ℕ) (rest : List ℕ) → cs ≡ fs ++ c ∷ rest → All (IsFlag names) fs → IsBoth names c
+  both : (fs : List ℕ) (c : ℕ) (rest : List ℕ) → cs ≡ fs ++ c ∷ rest → All (IsFlag names) fs
+      → IsBoth names c
       → SpellsJoined names word cs (Ambiguous (length fs + 1))
 
 -- no byte of it is `=`
@@ -85,13 +91,18 @@ pub data Spells (known : Known) (word : List ℕ) : Spelling → Type 0 where
   short : (c : ℕ) → word ≡ codes "-" ++ encode_utf8 c → c ≢ 45
       → Spells known word (Items (Short c false word ∷ []))
   -- `-c=v`
-  short_value : (c : ℕ) (v : List ℕ) → word ≡ codes "-" ++ (encode_utf8 c ++ (codes "=" ++ v)) → c ≢ 45
+  short_value : (c : ℕ) (v : List ℕ) → word ≡ codes "-" ++ (encode_utf8 c ++ (codes "=" ++ v))
+      → c ≢ 45
       → Spells known word (Items (Short c true word ∷ ArgWord v ∷ []))
   -- `-cr=v`
-  short_long_value : (c : ℕ) (r v : List ℕ) → word ≡ codes "-" ++ (encode_utf8 c ++ (r ++ (codes "=" ++ v))) → c ≢ 45 → r ≢ [] → HasNoEquals r
+  short_long_value : (c : ℕ) (r v : List ℕ)
+      → word ≡ codes "-" ++ (encode_utf8 c ++ (r ++ (codes "=" ++ v))) → c ≢ 45 → r ≢ []
+      → HasNoEquals r
       → Spells known word (Items (Short c true word ∷ ArgWord (r ++ (codes "=" ++ v)) ∷ []))
   -- `-s`, s of two or more characters, no `=` after its first
-  joined : (c d : ℕ) (cs : List ℕ) (spelling : Spelling) → word ≡ codes "-" ++ encode_utf8_all (c ∷ d ∷ cs) → c ≢ 45 → HasNoEquals (encode_utf8_all (d ∷ cs))
+  joined : (c d : ℕ) (cs : List ℕ) (spelling : Spelling)
+      → word ≡ codes "-" ++ encode_utf8_all (c ∷ d ∷ cs) → c ≢ 45
+      → HasNoEquals (encode_utf8_all (d ∷ cs))
       → SpellsJoined known.names word (c ∷ d ∷ cs) spelling → Spells known word spelling
 
 -- the cases of a spelling
@@ -109,7 +120,8 @@ pub data Case : Type 0 where
   JoinedWithBoth : Case
 
 -- the case of joined characters that holds
-abbrev pub joined_case_of : {names : ShortNames} {word cs : List ℕ} {s : Spelling} → SpellsJoined names word cs s → Case
+abbrev pub joined_case_of : {names : ShortNames} {word cs : List ℕ} {s : Spelling}
+    → SpellsJoined names word cs s → Case
 joined_case_of (flags a) = JoinedFlags
 joined_case_of (argument fs c rest a b d) = JoinedWithArgument
 joined_case_of (neither fs c rest a b d) = JoinedWithNeither
@@ -130,8 +142,10 @@ case_of (joined c d cs s a b e j) = joined_case_of j
 pub record HasOneSpelling (known : Known) (word : List ℕ) : Type 0 where
   pub spelling : Spelling
   pub spells : Spells known word spelling
-  pub only : (s : Spelling) (a : Spells known word s) → (case_of a ≡ case_of spells) × (s ≡ spelling)
+  pub only : (s : Spelling) (a : Spells known word s) → (case_of a ≡ case_of spells)
+      × (s ≡ spelling)
 
 -- each word but `--` has exactly one spelling
 abbrev pub SpellingsAreUnique : Type 0
-SpellingsAreUnique = (known : Known) (word : List ℕ) → IsUtf8 word → word ≢ codes "--" → HasOneSpelling known word
+SpellingsAreUnique =
+    (known : Known) (word : List ℕ) → IsUtf8 word → word ≢ codes "--" → HasOneSpelling known word

@@ -61,7 +61,8 @@ pub fn is_key_of(item: &Arg, shorts: &[char], longs: &[Text]) -> bool
 
 /// Whether the item is such a key; under `adjacent` an attached one.
 pub fn is_argument_key(item: &Arg, shorts: &[char], longs: &[Text], adjacent: bool) -> bool
-    ensures { result ≡ is_argument_key (record { shorts = shorts.now; longs = longs.now }) adjacent item.now }
+    ensures { result ≡ is_argument_key
+        (record { shorts = shorts.now; longs = longs.now }) adjacent item.now }
 {
     is_key_of(item, shorts, longs) && !(adjacent && !is_attached(item))
 }

@@ -1,4 +1,4 @@
-use Rattle.std.proofs.Common.{◌≡◌, ◌++◌, codes, string_bytes}
+use Rattle.std.proofs.Common.{◌++◌, codes, string_bytes}
 use Rattle.std.proofs.KnownBytes.{Appends-trans}
 use Rattle.bpaf_demo.specs.Lines.{line}
 use Rattle.bpaf_demo.proofs.Printing.{line_on}

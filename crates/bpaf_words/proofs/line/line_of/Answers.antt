@@ -1,4 +1,4 @@
-use Rattle.std.proofs.Common.{◌≡◌, ◌∙◌, ℕ, Option, ap, length, nat_lt}
+use Rattle.std.proofs.Common.{◌≡◌, ◌∙◌, ap, length, nat_lt}
 use Rattle.std.specs.Bool.{then_some}
 use Rattle.bpaf_words.specs.Arguments.{words_in}
 use Rattle.bpaf_words.proofs.Fronts.{line_of_front}
