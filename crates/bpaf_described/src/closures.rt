@@ -1,3 +1,4 @@
+ghost use Rattle.std.specs.Prelude.{◌≡◌, IfErr, codes, is_ok};
 ghost use Rattle.bpaf_described.specs.Closures.{Accepts, Given, IsHalf};
 
 use crate::value::Value;
@@ -13,20 +14,19 @@ pub fn half(value: Value) -> Value
     }
 }
 
-/// The value, if its weight is below the limit; else a fault.
-pub fn accept(limit: u64, value: Value) -> Result<Value, &'static str>
-    ensures { Accepts value result }
+/// The value, if it is light; else a fault.
+pub fn accept(light: bool, value: Value) -> Result<Value, &'static str>
+    ensures value { Accepts value result }
+    ensures decided { is_ok result ≡ light }
+    ensures fault { IfErr result (λ told. told.now ≡ codes "too big") }
 {
-    if value.weight() < limit {
-        Ok(value)
-    } else {
-        Err("too big")
-    }
+    if light { Ok(value) } else { Err("too big") }
 }
 
 /// A number as a value; without one the fault.
 pub fn give(number: Option<u64>, fault: &'static str) -> Result<Value, &'static str>
-    ensures { Given number result }
+    ensures number { Given number result }
+    ensures fault { IfErr result (λ told. told.now ≡ fault.now) }
 {
     match number {
         Some(number) => Ok(Value::Number(number)),

@@ -153,7 +153,7 @@ fn parsed<P: Parser<Value>>(inner: &P, limit: u64, state: &mut State) -> Result<
 {
     let parser = ParseWith {
         inner: Lent { inner },
-        parse_fn: |value| accept(limit, value),
+        parse_fn: |value: Value| accept(value.weight() < limit, value),
         inner_res: PhantomData,
         err: PhantomData,
         res: PhantomData,
