@@ -4,6 +4,7 @@
 //! what these are to answer. So one function alone owns a state.
 ghost use Rattle.std.specs.Prelude.{◌≡◌, ◌≤◌, true, length};
 
+use crate::shared::reads;
 use bpaf::{Arg, Args, Error, Message, Metavar, State, Text};
 use std::alloc::{AllocError, Global};
 use std::fmt::Debug;
@@ -49,8 +50,7 @@ pub(crate) struct Row<'a> {
 pub(crate) fn walk(rt: &(impl Abort + AllocGlobal), rows: &[Row<'_>]) -> Result<(), Fail> {
     for row in rows {
         let args = Args::from(row.words).set_name("app");
-        let answers = played(rt.alloc(), args, *row)?;
-        assert_eq!(rt; answers.as_str(), row.wanted);
+        reads(rt, played(rt.alloc(), args, *row), row.wanted)?;
     }
     Ok(())
 }
@@ -58,11 +58,21 @@ pub(crate) fn walk(rt: &(impl Abort + AllocGlobal), rows: &[Row<'_>]) -> Result<
 /// The answers of the calls of a row on the state of these words, or why they have none.
 pub(crate) fn played(alloc: Global, args: Args<'_>, row: Row<'_>) -> Result<String, AllocError> {
     let mut answers = String::new(alloc);
-    match State::construct(alloc, args, row.flags, row.arguments) {
-        Ok(mut state) => play(alloc, &mut state, row.calls, &mut answers)?,
-        Err(message) => refuse(&message, &mut answers)?,
-    }
+    answer(alloc, args, row, &mut answers)?;
     Ok(answers)
+}
+
+/// Makes the calls of a row on the state of these words, if they have one.
+fn answer(
+    alloc: Global,
+    args: Args<'_>,
+    row: Row<'_>,
+    answers: &mut String,
+) -> Result<(), AllocError> {
+    match State::construct(alloc, args, row.flags, row.arguments) {
+        Ok(mut state) => play(alloc, &mut state, row.calls, answers),
+        Err(message) => refuse(&message, answers),
+    }
 }
 
 /// Makes calls, one after another.

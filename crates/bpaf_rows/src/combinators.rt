@@ -2,7 +2,7 @@
 //! own and what these fill.
 ghost use Rattle.std.specs.Prelude.{◌≡◌, codes};
 
-use crate::shared::{expect, file, num, prints, value};
+use crate::shared::{file, num, prints, value};
 use bpaf::params::ParsePositional;
 use bpaf::{
     Doc, FromList, FromText, Item, Meta, Parser, TextFault, construct, fail, positional, pure_with,
@@ -36,12 +36,12 @@ fn answered(alloc: Global, number: u64) -> Result<Option<u64>, AllocError> {
 #[test]
 fn closures_hold_what_they_need(rt: HostRuntime) -> Result<(), Fail> {
     let a = rt.alloc();
-    expect(&rt, doubled(a, 100, 8, &["-n3"]), Some(6))?;
-    expect(&rt, doubled(a, 100, 8, &["-n", "50"]), None)?;
-    expect(&rt, doubled(a, 100, 8, &["-n", "4"]), None)?;
-    expect(&rt, doubled(a, 100, 8, &["-n", "x"]), None)?;
-    expect(&rt, doubled(a, 100, 8, &[]), Some(100))?;
-    expect(&rt, answered(a, 6), Some(6))
+    prints(&rt, doubled(a, 100, 8, &["-n3"]), "Some(6)")?;
+    prints(&rt, doubled(a, 100, 8, &["-n", "50"]), "None")?;
+    prints(&rt, doubled(a, 100, 8, &["-n", "4"]), "None")?;
+    prints(&rt, doubled(a, 100, 8, &["-n", "x"]), "None")?;
+    prints(&rt, doubled(a, 100, 8, &[]), "Some(100)")?;
+    prints(&rt, answered(a, 6), "Some(6)")
 }
 
 /// A number and a file of which the check is true of both.
@@ -80,9 +80,19 @@ fn help_of(meta: &Meta) -> Result<Option<String>, AllocError> {
     }
 }
 
-/// The help that a copy shows.
+/// A copy of it.
+fn copied(alloc: Global) -> Result<ParsePositional<String>, AllocError> {
+    helped(alloc)?.copy()
+}
+
+/// What the copy shows.
+fn copied_meta(alloc: Global) -> Result<Meta, AllocError> {
+    copied(alloc)?.meta(alloc)
+}
+
+/// The help that the copy shows.
 fn copied_help(alloc: Global) -> Result<Option<String>, AllocError> {
-    help_of(&helped(alloc)?.copy()?.meta(alloc)?)
+    help_of(&copied_meta(alloc)?)
 }
 
 #[test]
@@ -184,8 +194,14 @@ fn caught_lists(
     value(alloc, construct!(first, more, rest), words)
 }
 
+/// How many flags there are, and the last number.
+fn counted(alloc: Global, words: &[&str]) -> Result<Option<(usize, u64)>, AllocError> {
+    let count = short(alloc, 'v')?.req_flag(()).count();
+    value(alloc, construct!(count, last(num(alloc)?.last())), words)
+}
+
 #[test]
-fn caught_words_stay_on_the_line(rt: HostRuntime) -> Result<(), Fail> {
+fn repeats_count_and_catch(rt: HostRuntime) -> Result<(), Fail> {
     let a = rt.alloc();
     prints(
         &rt,
@@ -197,20 +213,5 @@ fn caught_words_stay_on_the_line(rt: HostRuntime) -> Result<(), Fail> {
         &rt,
         caught_lists(a, &["1", "2", "x"]),
         "Some(([1, 2], [], \"x\"))",
-    )
-}
-
-/// How many flags there are, and the last number.
-fn counted(alloc: Global, words: &[&str]) -> Result<Option<(usize, u64)>, AllocError> {
-    let count = short(alloc, 'v')?.req_flag(()).count();
-    value(alloc, construct!(count, last(num(alloc)?.last())), words)
-}
-
-#[test]
-fn flags_are_counted(rt: HostRuntime) -> Result<(), Fail> {
-    expect(
-        &rt,
-        counted(rt.alloc(), &["-vvn1", "-n", "2"]),
-        Some((2, 2)),
     )
 }

@@ -1,8 +1,7 @@
 //! The texts of failures, missing items, and refusals for want of memory.
-use crate::shared::expect;
+use crate::shared::{prints, reads};
 use bpaf::{Doc, Error, Info, Item, Message, MissingItem, MissingItems, ParseFailure, Text};
 use std::alloc::{AllocError, Global};
-use std::process::Abort;
 use std::test::Fail;
 
 /// A document of one text.
@@ -23,31 +22,30 @@ fn told(alloc: Global, text: &str) -> Result<ParseFailure, AllocError> {
 }
 
 /// What copies of a failure tell on standard output and on standard error, and its status.
-fn texts(alloc: Global, failure: &ParseFailure) -> Result<String, AllocError> {
+fn texts(
+    failure: Result<ParseFailure, AllocError>,
+) -> Result<(Option<String>, Option<String>, i32), AllocError> {
+    let failure = failure?;
     let asked = failure.copy()?.unwrap_stdout()?;
     let told = failure.copy()?.unwrap_stderr()?;
-    let status = failure.exit_code();
-    format!(in alloc; "{asked:?} {told:?} {status}")
-}
-
-/// Compares what a failure tells with what is wanted.
-fn tells(
-    rt: &(impl Abort + AllocGlobal),
-    failure: Result<ParseFailure, AllocError>,
-    wanted: &str,
-) -> Result<(), Fail> {
-    let texts = texts(rt.alloc(), &failure?)?;
-    assert_eq!(rt; texts.as_str(), wanted);
-    Ok(())
+    Ok((asked, told, failure.exit_code()))
 }
 
 #[test]
 fn failures_give_their_texts(rt: HostRuntime) -> Result<(), Fail> {
     let a = rt.alloc();
-    tells(&rt, asked(a, "help", true), "Some(\"help\") None 0")?;
-    tells(&rt, asked(a, "", false), "Some(\"\") None 0")?;
-    tells(&rt, told(a, "no"), "None Some(\"no\") 1")?;
-    tells(&rt, Ok(ParseFailure::from(AllocError)), "None None 1")
+    prints(
+        &rt,
+        texts(asked(a, "help", true)),
+        "(Some(\"help\"), None, 0)",
+    )?;
+    prints(&rt, texts(asked(a, "", false)), "(Some(\"\"), None, 0)")?;
+    prints(&rt, texts(told(a, "no")), "(None, Some(\"no\"), 1)")?;
+    prints(
+        &rt,
+        texts(Ok(ParseFailure::from(AllocError))),
+        "(None, None, 1)",
+    )
 }
 
 /// That a copy of a positional item is missing.
@@ -77,15 +75,14 @@ fn push_item(text: &mut String, missed: &MissingItem) -> Result<(), AllocError> 
     }
 }
 
-/// The missing items of a refusal.
-fn listed(alloc: Global, error: &Error) -> Result<String, AllocError> {
-    let mut text = String::new(alloc);
+/// Appends the missing items of a refusal.
+fn push_items(text: &mut String, error: &Error) -> Result<(), AllocError> {
     if let Message::Missing(items) = &error.0 {
         for missed in items.as_slice() {
-            push_item(&mut text, missed)?;
+            push_item(text, missed)?;
         }
     }
-    Ok(text)
+    Ok(())
 }
 
 /// What two refusals miss together.
@@ -93,11 +90,17 @@ fn missing_both(alloc: Global) -> Result<Error, AllocError> {
     Ok(missing(alloc, "FILE")?.combine_with(missing(alloc, "DIR")?))
 }
 
+/// The same as a text.
+fn listed(alloc: Global) -> Result<String, AllocError> {
+    let both = missing_both(alloc)?;
+    let mut text = String::new(alloc);
+    push_items(&mut text, &both)?;
+    Ok(text)
+}
+
 #[test]
 fn missing_items_are_joined(rt: HostRuntime) -> Result<(), Fail> {
-    let texts = listed(rt.alloc(), &missing_both(rt.alloc())?)?;
-    assert_eq!(rt; texts.as_str(), "FILE 1 1..3;DIR 1 1..3;");
-    Ok(())
+    reads(&rt, listed(rt.alloc()), "FILE 1 1..3;DIR 1 1..3;")
 }
 
 /// How many values a list holds: a parser of a caller's own may push with `?`.
@@ -121,7 +124,7 @@ fn want_of_memory_is_known(rt: HostRuntime) -> Result<(), Fail> {
     Ok(())
 }
 
-/// The short names by which copied keys ask for help and for the version.
+/// Whether copies of the keys of a run have their short names.
 fn copied_names(alloc: Global) -> Result<(bool, bool), AllocError> {
     let info = Info::new(alloc)?.copy()?;
     let help = info.help_arg.shorts().contains(&'h');
@@ -130,5 +133,5 @@ fn copied_names(alloc: Global) -> Result<(bool, bool), AllocError> {
 
 #[test]
 fn keys_of_a_run_are_copied(rt: HostRuntime) -> Result<(), Fail> {
-    expect(&rt, copied_names(rt.alloc()), (true, true))
+    prints(&rt, copied_names(rt.alloc()), "(true, true)")
 }

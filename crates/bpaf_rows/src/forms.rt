@@ -1,5 +1,5 @@
 //! Every form of `construct!`, as a program writes it.
-use crate::shared::{expect, num, value, verbose};
+use crate::shared::{num, prints, value, verbose};
 use bpaf::params::ParseArgument;
 use bpaf::parsers::ParseOrElse;
 use bpaf::{Args, Parser, State, construct, positional, pure, short};
@@ -7,14 +7,14 @@ use std::alloc::{AllocError, Global};
 use std::test::Fail;
 
 /// How much is told.
-#[derive(Clone, Debug, Drop, PartialEq)]
+#[derive(Clone, Debug, Drop)]
 enum Level {
     Quiet,
     Normal,
 }
 
 /// A switch, a number and a level.
-#[derive(Debug, Drop, PartialEq)]
+#[derive(Debug, Drop)]
 struct Settings {
     verbose: bool,
     num: u64,
@@ -22,28 +22,28 @@ struct Settings {
 }
 
 /// A struct with numbered fields.
-#[derive(Debug, Drop, PartialEq)]
+#[derive(Debug, Drop)]
 struct Numbered(bool, u64);
 
 /// A struct with one numbered field.
-#[derive(Debug, Drop, PartialEq)]
+#[derive(Debug, Drop)]
 struct Single(u64);
 
 /// A variant with names, and one with numbers.
-#[derive(Debug, Drop, PartialEq)]
+#[derive(Debug, Drop)]
 enum Command {
     Build { verbose: bool, num: u64 },
     Run(u64, bool),
 }
 
 /// A struct without fields, by name and by number, and a variant of each kind.
-#[derive(Clone, Debug, Drop, PartialEq)]
+#[derive(Clone, Debug, Drop)]
 struct Named {}
 
-#[derive(Clone, Debug, Drop, PartialEq)]
+#[derive(Clone, Debug, Drop)]
 struct Unnamed();
 
-#[derive(Clone, Debug, Drop, PartialEq)]
+#[derive(Clone, Debug, Drop)]
 enum Nothing {
     Named {},
     Unnamed(),
@@ -60,8 +60,12 @@ fn in_place(alloc: Global, words: &[&str]) -> Result<Option<(bool, bool)>, Alloc
 
 #[test]
 fn fields_are_named_in_place(rt: HostRuntime) -> Result<(), Fail> {
-    expect(&rt, in_place(rt.alloc(), &[]), Some((false, false)))?;
-    expect(&rt, in_place(rt.alloc(), &["-a", "-b"]), Some((true, true)))
+    prints(&rt, in_place(rt.alloc(), &[]), "Some((false, false))")?;
+    prints(
+        &rt,
+        in_place(rt.alloc(), &["-a", "-b"]),
+        "Some((true, true))",
+    )
 }
 
 /// A struct by the names of its fields.
@@ -73,20 +77,6 @@ fn named_fields(alloc: Global, words: &[&str]) -> Result<Option<Settings>, Alloc
         level,
     });
     value(alloc, record, words)
-}
-
-#[test]
-fn values_are_made_by_name(rt: HostRuntime) -> Result<(), Fail> {
-    let settings = Settings {
-        verbose: true,
-        num: 3,
-        level: Level::Normal,
-    };
-    expect(
-        &rt,
-        named_fields(rt.alloc(), &["-n", "3", "-v"]),
-        Some(settings),
-    )
 }
 
 /// A variant by the names of its fields, and a struct by their numbers.
@@ -110,29 +100,14 @@ fn product_of_three(
 ) -> Result<Option<(Command, Single, u64)>, AllocError> {
     let a = positional::<u64>("A");
     let b = pure(true);
-    let run = construct!(::Command::Run(a, b,));
-    let single = move || construct!(self::Single(c(pure(7))));
+    let c = pure(7);
     let d = positional::<u64>("D");
-    let alone = move || construct!(d);
-    value(alloc, construct!(run, single(), alone()), words)
-}
-
-#[test]
-fn values_are_made_by_path_and_number(rt: HostRuntime) -> Result<(), Fail> {
-    let build = Command::Build {
-        verbose: true,
-        num: 3,
-    };
-    expect(
-        &rt,
-        product_of_two(rt.alloc(), &["3", "4"]),
-        Some((build, Numbered(false, 4))),
-    )?;
-    expect(
-        &rt,
-        product_of_three(rt.alloc(), &["5", "6"]),
-        Some((Command::Run(5, true), Single(7), 6)),
-    )
+    let parser = construct!(
+        run(construct!(::Command::Run(a, b,))),
+        single(construct!(self::Single(c))),
+        alone(construct!(d)),
+    );
+    value(alloc, parser, words)
 }
 
 /// Values without fields, each kept.
@@ -148,10 +123,17 @@ fn without_fields(
 }
 
 #[test]
-fn values_without_fields_are_made(rt: HostRuntime) -> Result<(), Fail> {
-    let made = (Named {}, Unnamed(), Nothing::Named {}, Nothing::Unnamed());
-    expect(&rt, without_fields(rt.alloc(), &[]), Some(made))?;
-    expect(&rt, without_fields(rt.alloc(), &["x"]), None)
+fn values_are_made_by_name_and_number(rt: HostRuntime) -> Result<(), Fail> {
+    let a = rt.alloc();
+    let settings = "Some(Settings { verbose: true, num: 3, level: Normal })";
+    prints(&rt, named_fields(a, &["-n", "3", "-v"]), settings)?;
+    let two = "Some((Build { verbose: true, num: 3 }, Numbered(false, 4)))";
+    prints(&rt, product_of_two(a, &["3", "4"]), two)?;
+    let three = "Some((Run(5, true), Single(7), 6))";
+    prints(&rt, product_of_three(a, &["5", "6"]), three)?;
+    let nothing = "Some((Named, Unnamed, Named, Unnamed))";
+    prints(&rt, without_fields(a, &[]), nothing)?;
+    prints(&rt, without_fields(a, &["x"]), "None")
 }
 
 /// A number behind a short name.
@@ -171,9 +153,9 @@ fn branches(alloc: Global, words: &[&str]) -> Result<Option<u64>, AllocError> {
 
 #[test]
 fn branches_of_each_form(rt: HostRuntime) -> Result<(), Fail> {
-    expect(&rt, branches(rt.alloc(), &["-a", "1"]), Some(1))?;
-    expect(&rt, branches(rt.alloc(), &["2"]), Some(2))?;
-    expect(&rt, branches(rt.alloc(), &[]), Some(4))
+    prints(&rt, branches(rt.alloc(), &["-a", "1"]), "Some(1)")?;
+    prints(&rt, branches(rt.alloc(), &["2"]), "Some(2)")?;
+    prints(&rt, branches(rt.alloc(), &[]), "Some(4)")
 }
 
 /// A number behind one of two keys.
@@ -185,7 +167,7 @@ fn one_of_two(
 }
 
 /// What the choice answers on a state, and which place is then in conflict with which.
-fn conflict_of(
+fn conflict_in(
     alloc: Global,
     state: &mut State,
 ) -> Result<(Option<u64>, Option<(usize, usize)>), AllocError> {
@@ -193,10 +175,19 @@ fn conflict_of(
     Ok((answer, state.conflict()))
 }
 
+/// The same on the state of words.
+fn conflict(
+    alloc: Global,
+    words: &[&str],
+) -> Result<(Option<u64>, Option<(usize, usize)>), AllocError> {
+    match State::construct(alloc, Args::from(words), &[], &['a', 'b']) {
+        Ok(mut state) => conflict_in(alloc, &mut state),
+        Err(_) => Ok((None, None)),
+    }
+}
+
 #[test]
 fn other_branch_is_in_conflict(rt: HostRuntime) -> Result<(), Fail> {
-    let args = Args::from(&["-a", "12", "-b", "3"]);
-    let mut state = State::construct(rt.alloc(), args, &[], &['a', 'b']).map_err(|_| "refused")?;
-    let answer = conflict_of(rt.alloc(), &mut state);
-    expect(&rt, answer, (Some(12), Some((2, 0))))
+    let answer = conflict(rt.alloc(), &["-a", "12", "-b", "3"]);
+    prints(&rt, answer, "(Some(12), Some((2, 0)))")
 }

@@ -2,7 +2,7 @@
 use crate::calls::{Call, Row, walk};
 use std::test::Fail;
 
-/// What words spell, by the short names that are known.
+/// What words spell, by the short names that are known; the last have no line, or stand near one.
 const SPELLED: &[Row<'static>] = &[
     Row {
         words: &["", "x", "-"],
@@ -91,15 +91,6 @@ const SPELLED: &[Row<'static>] = &[
         calls: &[Call::Spelled],
         wanted: "Word a;none;PosWord --;PosWord -b;",
     },
-];
-
-#[test]
-fn words_spell_items(rt: HostRuntime) -> Result<(), Fail> {
-    walk(&rt, SPELLED)
-}
-
-/// Words that have no line, and two that have one.
-const AMBIGUOUS: &[Row<'static>] = &[
     // last_character_ambiguous
     Row {
         words: &["-va"],
@@ -140,11 +131,11 @@ const AMBIGUOUS: &[Row<'static>] = &[
 ];
 
 #[test]
-fn ambiguous_words_are_named(rt: HostRuntime) -> Result<(), Fail> {
-    walk(&rt, AMBIGUOUS)
+fn words_spell_items(rt: HostRuntime) -> Result<(), Fail> {
+    walk(&rt, SPELLED)
 }
 
-/// Flags, arguments and words that are taken.
+/// Flags, arguments, words and commands that are taken.
 const TAKEN: &[Row<'static>] = &[
     // detached_long_value_taken
     Row {
@@ -334,15 +325,6 @@ const TAKEN: &[Row<'static>] = &[
         ],
         wanted: "no argument 0 NUM;2;no key;no key;2;",
     },
-];
-
-#[test]
-fn items_are_taken(rt: HostRuntime) -> Result<(), Fail> {
-    walk(&rt, TAKEN)
-}
-
-/// The names of commands.
-const COMMANDS: &[Row<'static>] = &[
     // command_then_word_taken
     Row {
         words: &["cmd", "pos"],
@@ -421,8 +403,8 @@ const COMMANDS: &[Row<'static>] = &[
 ];
 
 #[test]
-fn commands_are_taken(rt: HostRuntime) -> Result<(), Fail> {
-    walk(&rt, COMMANDS)
+fn items_are_taken(rt: HostRuntime) -> Result<(), Fail> {
+    walk(&rt, TAKEN)
 }
 
 /// Scope, places and path.

@@ -34,15 +34,24 @@ pub(crate) fn file() -> ParsePositional<String> {
     positional("FILE")
 }
 
-/// Compares an answer with the wanted one.
-pub(crate) fn expect<T: Debug + Drop + PartialEq>(
+/// Compares a text with the wanted one.
+pub(crate) fn reads(
     rt: &impl Abort,
-    found: Result<T, AllocError>,
-    wanted: T,
+    found: Result<String, AllocError>,
+    wanted: &str,
 ) -> Result<(), Fail> {
     let found = found?;
-    assert_eq!(rt; found, wanted);
+    assert_eq!(rt; found.as_str(), wanted);
     Ok(())
+}
+
+/// An answer as Rust's Debug prints it.
+fn printed<T: Debug + Drop>(
+    alloc: Global,
+    found: Result<T, AllocError>,
+) -> Result<String, AllocError> {
+    let found = found?;
+    format!(in alloc; "{found:?}")
 }
 
 /// Compares an answer, as Rust's Debug prints it, with the wanted text.
@@ -51,8 +60,5 @@ pub(crate) fn prints<T: Debug + Drop>(
     found: Result<T, AllocError>,
     wanted: &str,
 ) -> Result<(), Fail> {
-    let found = found?;
-    let text = format!(in rt.alloc(); "{found:?}")?;
-    assert_eq!(rt; text.as_str(), wanted);
-    Ok(())
+    reads(rt, printed(rt.alloc(), found), wanted)
 }

@@ -2,6 +2,7 @@
 ghost use Rattle.std.specs.Prelude.{◌≢◌, codes};
 
 use crate::calls::{Call, Row, played};
+use crate::shared::{prints, reads};
 use bpaf::Args;
 use bpaf_words::{SplitFault, split_word};
 use std::alloc::{AllocError, Global};
@@ -34,21 +35,23 @@ fn owned(alloc: Global, words: &[String]) -> Result<String, AllocError> {
     played(alloc, args, GIVEN)
 }
 
-/// The same of an array, without either.
-fn array(alloc: Global, words: &[String; 1]) -> Result<String, AllocError> {
-    played(alloc, Args::from(words), GIVEN)
+/// The same, of a slice and of an array, the latter without a name and an environment.
+fn both_owned(alloc: Global) -> Result<(String, String), AllocError> {
+    let words = [String::from_str(alloc, "x")?];
+    let slice = owned(alloc, &words)?;
+    Ok((slice, played(alloc, Args::from(&words), GIVEN)?))
+}
+
+/// The answers of a line of lent words.
+fn lent(alloc: Global) -> Result<String, AllocError> {
+    played(alloc, Args::from(&["x", "y"]), GIVEN)
 }
 
 #[test]
 fn words_name_and_environment_are_lent(rt: HostRuntime) -> Result<(), Fail> {
-    let a = rt.alloc();
-    let words = [String::from_str(a, "x")?];
-    let given = "Some(\"5\");None;1;[\"app\"];0 x,;";
-    assert_eq!(rt; owned(a, &words)?.as_str(), given);
-    assert_eq!(rt; array(a, &words)?.as_str(), "None;None;0;[];0 x,;");
-    let lent = played(a, Args::from(&["x", "y"]), GIVEN)?;
-    assert_eq!(rt; lent.as_str(), "None;None;0;[];0 x,1 y,;");
-    Ok(())
+    let wanted = r#"("Some(\"5\");None;1;[\"app\"];0 x,;", "None;None;0;[];0 x,;")"#;
+    prints(&rt, both_owned(rt.alloc()), wanted)?;
+    reads(&rt, lent(rt.alloc()), "None;None;0;[];0 x,1 y,;")
 }
 
 /// How many items a word spells that isn't `--`, or the number of its ambiguous character.
