@@ -46,15 +46,15 @@ fn closures_hold_what_they_need(rt: HostRuntime) -> Result<(), Fail> {
 
 /// A number and a file of which the check is true of both.
 fn guarded_pair(alloc: Global, words: &[&str]) -> Result<Option<(u64, String)>, AllocError> {
-    let pair = construct!(n(num(alloc)?), file(file()));
+    let pair = construct!(n(number()), file(file()));
     value(alloc, pair.guard(|(n, _file)| *n < 10, "below 10"), words)
 }
 
 #[test]
 fn guard_on_a_product(rt: HostRuntime) -> Result<(), Fail> {
     let a = rt.alloc();
-    prints(&rt, guarded_pair(a, &["-n", "3", "x"]), "Some((3, \"x\"))")?;
-    prints(&rt, guarded_pair(a, &["-n", "12", "x"]), "None")
+    prints(&rt, guarded_pair(a, &["3", "x"]), "Some((3, \"x\"))")?;
+    prints(&rt, guarded_pair(a, &["12", "x"]), "None")
 }
 
 /// A file, or one by the name `none`.
@@ -145,26 +145,21 @@ fn number_set(alloc: Global, words: &[&str]) -> Result<Option<BTreeSet<u64>>, Al
     value(alloc, num(alloc)?.collect::<BTreeSet<u64>>(), words)
 }
 
-/// A level.
-fn word_of_level() -> ParsePositional<Level> {
-    positional("LEVEL")
+/// What three levels fill.
+fn filled<C: FromList<Level> + Drop>(alloc: Global) -> Result<Option<C>, AllocError> {
+    let levels = positional::<Level>("LEVEL").collect::<C>();
+    value(alloc, levels, &["high", "low", "high"])
 }
 
 #[test]
 fn collections_are_filled(rt: HostRuntime) -> Result<(), Fail> {
     let a = rt.alloc();
-    let words = ["high", "low", "high"];
-    prints(
-        &rt,
-        number_set(a, &["-n", "3", "-n", "1", "-n", "3"]),
-        "Some({1, 3})",
-    )?;
-    let set = value(a, word_of_level().collect::<BTreeSet<Level>>(), &words);
-    prints(&rt, set, "Some({Low, High})")?;
-    let queue = value(a, word_of_level().collect::<VecDeque<Level>>(), &words);
-    prints(&rt, queue, "Some([High, Low, High])")?;
-    let loudest = value(a, word_of_level().collect::<Loudest>(), &words);
-    prints(&rt, loudest, "Some(Loudest(Some(High)))")
+    let words = ["-n", "3", "-n", "1", "-n", "3"];
+    prints(&rt, number_set(a, &words), "Some({1, 3})")?;
+    prints(&rt, filled::<BTreeSet<Level>>(a), "Some({Low, High})")?;
+    let queue = "Some([High, Low, High])";
+    prints(&rt, filled::<VecDeque<Level>>(a), queue)?;
+    prints(&rt, filled::<Loudest>(a), "Some(Loudest(Some(High)))")
 }
 
 /// A word that is a number.

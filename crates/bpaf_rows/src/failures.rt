@@ -75,14 +75,15 @@ fn push_item(text: &mut String, missed: &MissingItem) -> Result<(), AllocError> 
     }
 }
 
-/// Appends the missing items of a refusal.
-fn push_items(text: &mut String, error: &Error) -> Result<(), AllocError> {
+/// The missing items of a refusal.
+fn listed(alloc: Global, error: &Error) -> Result<String, AllocError> {
+    let mut text = String::new(alloc);
     if let Message::Missing(items) = &error.0 {
         for missed in items.as_slice() {
-            push_item(text, missed)?;
+            push_item(&mut text, missed)?;
         }
     }
-    Ok(())
+    Ok(text)
 }
 
 /// What two refusals miss together.
@@ -91,16 +92,13 @@ fn missing_both(alloc: Global) -> Result<Error, AllocError> {
 }
 
 /// The same as a text.
-fn listed(alloc: Global) -> Result<String, AllocError> {
-    let both = missing_both(alloc)?;
-    let mut text = String::new(alloc);
-    push_items(&mut text, &both)?;
-    Ok(text)
+fn both_listed(alloc: Global) -> Result<String, AllocError> {
+    listed(alloc, &missing_both(alloc)?)
 }
 
 #[test]
 fn missing_items_are_joined(rt: HostRuntime) -> Result<(), Fail> {
-    reads(&rt, listed(rt.alloc()), "FILE 1 1..3;DIR 1 1..3;")
+    reads(&rt, both_listed(rt.alloc()), "FILE 1 1..3;DIR 1 1..3;")
 }
 
 /// How many values a list holds: a parser of a caller's own may push with `?`.
@@ -124,9 +122,14 @@ fn want_of_memory_is_known(rt: HostRuntime) -> Result<(), Fail> {
     Ok(())
 }
 
-/// Whether copies of the keys of a run have their short names.
+/// A copy of the keys that ask a run for help and for the version.
+fn copied_info(alloc: Global) -> Result<Info, AllocError> {
+    Info::new(alloc)?.copy()
+}
+
+/// Whether the copy has their short names.
 fn copied_names(alloc: Global) -> Result<(bool, bool), AllocError> {
-    let info = Info::new(alloc)?.copy()?;
+    let info = copied_info(alloc)?;
     let help = info.help_arg.shorts().contains(&'h');
     Ok((help, info.version_arg.shorts().contains(&'V')))
 }
