@@ -1,22 +1,20 @@
 //! Every form of `construct!`, as a program writes it.
-ghost use Rattle.std.specs.Prelude.{Ok};
-
-use crate::answers::expect;
-use crate::shared::{num, value, verbose};
-use bpaf::params::{ParseArgument, ParseFlag};
-use bpaf::{Args, Parser, construct, short};
+use crate::shared::{num, prints, value, verbose};
+use bpaf::params::ParseArgument;
+use bpaf::parsers::ParseOrElse;
+use bpaf::{Args, Parser, State, construct, positional, pure, short};
 use std::alloc::{AllocError, Global};
 use std::test::Fail;
 
 /// How much is told.
-#[derive(Clone, Debug, Drop, PartialEq)]
+#[derive(Clone, Debug, Drop)]
 enum Level {
     Quiet,
     Normal,
 }
 
 /// A switch, a number and a level.
-#[derive(Debug, Drop, PartialEq)]
+#[derive(Debug, Drop)]
 struct Settings {
     verbose: bool,
     num: u64,
@@ -24,28 +22,28 @@ struct Settings {
 }
 
 /// A struct with numbered fields.
-#[derive(Debug, Drop, PartialEq)]
+#[derive(Debug, Drop)]
 struct Numbered(bool, u64);
 
 /// A struct with one numbered field.
-#[derive(Debug, Drop, PartialEq)]
+#[derive(Debug, Drop)]
 struct Single(u64);
 
 /// A variant with names, and one with numbers.
-#[derive(Debug, Drop, PartialEq)]
+#[derive(Debug, Drop)]
 enum Command {
     Build { verbose: bool, num: u64 },
-    Run(bool, u64),
+    Run(u64, bool),
 }
 
 /// A struct without fields, by name and by number, and a variant of each kind.
-#[derive(Clone, Debug, Drop, PartialEq)]
+#[derive(Clone, Debug, Drop)]
 struct Named {}
 
-#[derive(Clone, Debug, Drop, PartialEq)]
+#[derive(Clone, Debug, Drop)]
 struct Unnamed();
 
-#[derive(Clone, Debug, Drop, PartialEq)]
+#[derive(Clone, Debug, Drop)]
 enum Nothing {
     Named {},
     Unnamed(),
@@ -53,19 +51,21 @@ enum Nothing {
 
 /// Two switches, named in their places.
 fn in_place(alloc: Global, words: &[&str]) -> Result<Option<(bool, bool)>, AllocError> {
-    let options = construct!(
+    let parser = construct!(
         a(short(alloc, 'a')?.switch()),
         b(short(alloc, 'b')?.switch()),
-    )
-    .to_options(alloc)?;
-    Ok(options.run_inner(Args::from(words)).ok())
+    );
+    value(alloc, parser, words)
 }
 
-/// A tuple of variables.
-fn tuple(alloc: Global, words: &[&str]) -> Result<Option<(bool, u64)>, AllocError> {
-    let a = verbose(alloc)?;
-    let b = num(alloc)?;
-    value(alloc, construct!(a, b), words)
+#[test]
+fn fields_are_named_in_place(rt: HostRuntime) -> Result<(), Fail> {
+    prints(&rt, in_place(rt.alloc(), &[]), "Some((false, false))")?;
+    prints(
+        &rt,
+        in_place(rt.alloc(), &["-a", "-b"]),
+        "Some((true, true))",
+    )
 }
 
 /// A struct by the names of its fields.
@@ -79,144 +79,115 @@ fn named_fields(alloc: Global, words: &[&str]) -> Result<Option<Settings>, Alloc
     value(alloc, record, words)
 }
 
-/// A struct by the numbers of its fields.
-fn numbered_fields(alloc: Global, words: &[&str]) -> Result<Option<Numbered>, AllocError> {
-    let verbose = verbose(alloc)?;
-    value(
-        alloc,
-        construct!(Numbered(verbose, num(num(alloc)?))),
-        words,
-    )
-}
-
-/// A variant by the names of its fields.
-fn named_variant(alloc: Global, words: &[&str]) -> Result<Option<Command>, AllocError> {
-    let verbose = verbose(alloc)?;
-    let num = num(alloc)?;
-    value(alloc, construct!(Command::Build { verbose, num }), words)
-}
-
-/// A variant by the numbers of its fields, with a leading `::`.
-fn numbered_variant(alloc: Global, words: &[&str]) -> Result<Option<Command>, AllocError> {
-    let a = verbose(alloc)?;
-    let b = num(alloc)?;
-    value(alloc, construct!(::Command::Run(a, b,)), words)
-}
-
-/// A path that begins with `self`.
-fn by_path(alloc: Global, words: &[&str]) -> Result<Option<Single>, AllocError> {
-    let a = num(alloc)?;
-    value(alloc, construct!(self::Single(a)), words)
-}
-
-/// One field by itself.
-fn alone(alloc: Global, words: &[&str]) -> Result<Option<u64>, AllocError> {
-    let a = num(alloc)?;
-    value(alloc, construct!(a), words)
-}
-
-/// A product inside a product.
-fn nested(alloc: Global, words: &[&str]) -> Result<Option<((bool, u64), Level)>, AllocError> {
-    let a = verbose(alloc)?;
-    let b = num(alloc)?;
-    let pair = construct!(a, b);
-    let level = short(alloc, 'q')?.flag(Level::Quiet, Level::Normal);
-    value(alloc, construct!(pair, level), words)
-}
-
-/// A field that a function answers.
-fn answered(alloc: Global, words: &[&str]) -> Result<Option<(bool, u64)>, AllocError> {
-    let switch = verbose(alloc)?;
-    let number = num(alloc)?;
-    let verbose = move || switch;
-    let num = move || number;
-    value(alloc, construct!(verbose(), num()), words)
-}
-
-/// A field that a function which may be refused memory answers.
-fn given<F: FnOnce(Global) -> Result<P, AllocError>, P: Parser<u64> + Drop>(
+/// A variant by the names of its fields, and a struct by their numbers.
+fn product_of_two(
     alloc: Global,
-    num: F,
     words: &[&str],
-) -> Result<Option<(bool, u64)>, AllocError>
-    requires called { F.IsAlwaysCallable num }
-    requires evaluated { (made : _) → F.post num alloc (Ok made) → P.can_eval made }
-{
-    let verbose = verbose(alloc)?;
-    value(alloc, construct!(verbose, num(num(alloc)?)), words)
+) -> Result<Option<(Command, Numbered)>, AllocError> {
+    let verbose = pure(true);
+    let num = positional::<u64>("A");
+    let build = construct!(Command::Build { verbose, num });
+    let a = pure(false);
+    let numbered = construct!(Numbered(a, b(positional::<u64>("B"))));
+    value(alloc, construct!(build, numbered), words)
+}
+
+/// A variant by the numbers of its fields, with a leading `::`, a path that begins with `self`, and one
+/// field by itself.
+fn product_of_three(
+    alloc: Global,
+    words: &[&str],
+) -> Result<Option<(Command, Single, u64)>, AllocError> {
+    let a = positional::<u64>("A");
+    let b = pure(true);
+    let c = pure(7);
+    let d = positional::<u64>("D");
+    let parser = construct!(
+        run(construct!(::Command::Run(a, b,))),
+        single(construct!(self::Single(c))),
+        alone(construct!(d)),
+    );
+    value(alloc, parser, words)
+}
+
+/// Values without fields, each kept.
+fn without_fields(
+    alloc: Global,
+    words: &[&str],
+) -> Result<Option<(Named, Unnamed, Nothing, Nothing)>, AllocError> {
+    let a = construct!(Named {});
+    let b = construct!(Unnamed());
+    let c = construct!(Nothing::Named {});
+    let d = construct!(::Nothing::Unnamed());
+    value(alloc, construct!(a, b, c, d), words)
 }
 
 #[test]
-fn fields_named_in_place_absent(rt: HostRuntime) -> Result<(), Fail> {
-    expect(&rt, in_place(rt.alloc(), &[]), Some((false, false)))
-}
-
-#[test]
-fn fields_named_in_place_present(rt: HostRuntime) -> Result<(), Fail> {
-    expect(&rt, in_place(rt.alloc(), &["-a", "-b"]), Some((true, true)))
-}
-
-#[test]
-fn tuples_are_made(rt: HostRuntime) -> Result<(), Fail> {
-    expect(&rt, tuple(rt.alloc(), &["-v", "-n", "3"]), Some((true, 3)))?;
-    expect(&rt, alone(rt.alloc(), &["-n", "3"]), Some(3))?;
-    expect(
-        &rt,
-        nested(rt.alloc(), &["-q", "-n", "3"]),
-        Some(((false, 3), Level::Quiet)),
-    )?;
-    expect(&rt, answered(rt.alloc(), &["-n", "3"]), Some((false, 3)))?;
-    expect(&rt, given(rt.alloc(), num, &["-n", "3"]), Some((false, 3)))
-}
-
-#[test]
-fn values_are_made_by_name(rt: HostRuntime) -> Result<(), Fail> {
-    let settings = Settings {
-        verbose: true,
-        num: 3,
-        level: Level::Normal,
-    };
-    expect(
-        &rt,
-        named_fields(rt.alloc(), &["-n", "3", "-v"]),
-        Some(settings),
-    )?;
-    let build = Command::Build {
-        verbose: false,
-        num: 3,
-    };
-    expect(&rt, named_variant(rt.alloc(), &["-n", "3"]), Some(build))
-}
-
-#[test]
-fn values_are_made_by_number(rt: HostRuntime) -> Result<(), Fail> {
-    expect(
-        &rt,
-        numbered_fields(rt.alloc(), &["-v", "-n", "3"]),
-        Some(Numbered(true, 3)),
-    )?;
-    expect(
-        &rt,
-        numbered_variant(rt.alloc(), &["-v", "-n", "3"]),
-        Some(Command::Run(true, 3)),
-    )?;
-    expect(&rt, by_path(rt.alloc(), &["-n", "3"]), Some(Single(3)))
-}
-
-#[test]
-fn values_without_fields_are_made(rt: HostRuntime) -> Result<(), Fail> {
+fn values_are_made_by_name_and_number(rt: HostRuntime) -> Result<(), Fail> {
     let a = rt.alloc();
-    expect(&rt, value(a, construct!(Named {}), &[]), Some(Named {}))?;
-    expect(&rt, value(a, construct!(Unnamed()), &[]), Some(Unnamed()))?;
-    expect(
-        &rt,
-        value(a, construct!(Nothing::Named {}), &[]),
-        Some(Nothing::Named {}),
-    )?;
-    expect(
-        &rt,
-        value(a, construct!(::Nothing::Unnamed()), &[]),
-        Some(Nothing::Unnamed()),
-    )?;
-    expect(&rt, value(a, construct!(Unnamed()), &["x"]), None)
+    let settings = "Some(Settings { verbose: true, num: 3, level: Normal })";
+    prints(&rt, named_fields(a, &["-n", "3", "-v"]), settings)?;
+    let two = "Some((Build { verbose: true, num: 3 }, Numbered(false, 4)))";
+    prints(&rt, product_of_two(a, &["3", "4"]), two)?;
+    let three = "Some((Run(5, true), Single(7), 6))";
+    prints(&rt, product_of_three(a, &["5", "6"]), three)?;
+    let nothing = "Some((Named, Unnamed, Named, Unnamed))";
+    prints(&rt, without_fields(a, &[]), nothing)?;
+    prints(&rt, without_fields(a, &["x"]), "None")
+}
+
+/// A number behind a short name.
+fn num_of(alloc: Global, name: char) -> Result<ParseArgument<u64>, AllocError> {
+    Ok(short(alloc, name)?.argument("NUM"))
+}
+
+/// Three branches: a variable, what a function answers, and an expression, which is one branch by
+/// itself.
+fn branches(alloc: Global, words: &[&str]) -> Result<Option<u64>, AllocError> {
+    let a = num_of(alloc, 'a')?;
+    let word = positional::<u64>("B");
+    let b = move || word;
+    let d = pure(4);
+    value(alloc, construct!([a, b(), c(construct!([d]))]), words)
+}
+
+#[test]
+fn branches_of_each_form(rt: HostRuntime) -> Result<(), Fail> {
+    prints(&rt, branches(rt.alloc(), &["-a", "1"]), "Some(1)")?;
+    prints(&rt, branches(rt.alloc(), &["2"]), "Some(2)")?;
+    prints(&rt, branches(rt.alloc(), &[]), "Some(4)")
+}
+
+/// A number behind one of two keys.
+fn one_of_two(
+    alloc: Global,
+) -> Result<ParseOrElse<ParseArgument<u64>, ParseArgument<u64>>, AllocError> {
+    let a = num_of(alloc, 'a')?;
+    Ok(construct!([a, b(num_of(alloc, 'b')?)]))
+}
+
+/// What the choice answers on a state, and which place is then in conflict with which.
+fn conflict_in(
+    alloc: Global,
+    state: &mut State,
+) -> Result<(Option<u64>, Option<(usize, usize)>), AllocError> {
+    let answer = one_of_two(alloc)?.eval(state).ok();
+    Ok((answer, state.conflict()))
+}
+
+/// The same on the state of words.
+fn conflict(
+    alloc: Global,
+    words: &[&str],
+) -> Result<(Option<u64>, Option<(usize, usize)>), AllocError> {
+    match State::construct(alloc, Args::from(words), &[], &['a', 'b']) {
+        Ok(mut state) => conflict_in(alloc, &mut state),
+        Err(_) => Ok((None, None)),
+    }
+}
+
+#[test]
+fn other_branch_is_in_conflict(rt: HostRuntime) -> Result<(), Fail> {
+    let answer = conflict(rt.alloc(), &["-a", "12", "-b", "3"]);
+    prints(&rt, answer, "(Some(12), Some((2, 0)))")
 }

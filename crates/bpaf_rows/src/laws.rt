@@ -1,15 +1,12 @@
-//! The law of every parser, called once at a type of a program.
-use bpaf::params::ParseArgument;
-use bpaf::{count_falls, short};
-use std::alloc::{AllocError, Global};
+//! The laws that hold of every line and of every parser, each called once.
+use crate::shared::num;
+use bpaf::{count_falls, lines_are_unique, spellings_are_unique};
 use std::test::Fail;
 
-fn num_or_variable(alloc: Global) -> Result<ParseArgument<u64>, AllocError> {
-    Ok(short(alloc, 'n')?.env("NUM")?.argument("NUM"))
-}
-
 #[test]
-fn count_falls_of_an_argument(rt: HostRuntime) -> Result<(), Fail> {
-    count_falls(&num_or_variable(rt.alloc())?);
+fn laws_are_called(rt: HostRuntime) -> Result<(), Fail> {
+    spellings_are_unique();
+    lines_are_unique();
+    count_falls(&num(rt.alloc())?);
     Ok(())
 }

@@ -1,29 +1,24 @@
-//! The worked rows that cross crates, as tests of `bpaf` as its users write it.
+//! The worked rows that the bench can't say, as tests of `bpaf` as its users write it.
 //!
-//! It stands on `bpaf` alone. For the other crates of rows it has the parsers that rows are about, and
-//! the value of a parser on words ([`value`]). A crate with tests is proved twice, so the tests that many
-//! crates share stand here. docs/ROWS.md names each row and its test.
+//! A row of a parser that can be described stands in the data of `bpaf_bench`, where it costs no proof.
+//! Here stand each form of `construct!`, types and closures of a caller's own, the calls of a state
+//! and of what it refuses, which no described parser reaches, and the laws. Nothing stands on this
+//! crate: one with tests is proved twice. docs/ROWS.md names each row and its test.
 #![tactic(auto)]
 
-mod shared;
-
-pub use shared::{file, num, num_of, value, verbose};
-
 #[cfg(test)]
-mod answers;
+mod calls;
 #[cfg(test)]
-mod defaults;
+mod combinators;
 #[cfg(test)]
-mod environment;
-#[cfg(test)]
-mod flags;
+mod failures;
 #[cfg(test)]
 mod forms;
 #[cfg(test)]
 mod laws;
 #[cfg(test)]
-mod products;
+mod lines;
 #[cfg(test)]
-mod transforms;
+mod shared;
 #[cfg(test)]
-mod words;
+mod sources;

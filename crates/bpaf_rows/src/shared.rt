@@ -1,10 +1,14 @@
-//! What the rows share: parsers that they are about, and the value of a parser on words.
+//! What the tests share: the value of a parser on words, three parsers, and what is compared. A
+//! comparison stands here and not in the tests: the proof of a function grows faster than its steps.
 use bpaf::params::{ParseArgument, ParseFlag, ParsePositional};
 use bpaf::{Args, Parser, positional, short};
 use std::alloc::{AllocError, Global};
+use std::fmt::Debug;
+use std::process::Abort;
+use std::test::Fail;
 
 /// The value of a parser on words; none where they are refused.
-pub fn value<T: Drop, P: Parser<T> + Drop>(
+pub(crate) fn value<T: Drop, P: Parser<T> + Drop>(
     alloc: Global,
     parser: P,
     words: &[&str],
@@ -16,21 +20,45 @@ pub fn value<T: Drop, P: Parser<T> + Drop>(
 }
 
 /// The switch `-v`.
-pub fn verbose(alloc: Global) -> Result<ParseFlag<bool>, AllocError> {
+pub(crate) fn verbose(alloc: Global) -> Result<ParseFlag<bool>, AllocError> {
     Ok(short(alloc, 'v')?.switch())
 }
 
 /// The number behind `-n`.
-pub fn num(alloc: Global) -> Result<ParseArgument<u64>, AllocError> {
-    num_of(alloc, 'n')
-}
-
-/// The number behind a short name.
-pub fn num_of(alloc: Global, name: char) -> Result<ParseArgument<u64>, AllocError> {
-    Ok(short(alloc, name)?.argument("NUM"))
+pub(crate) fn num(alloc: Global) -> Result<ParseArgument<u64>, AllocError> {
+    Ok(short(alloc, 'n')?.argument("NUM"))
 }
 
 /// A word.
-pub fn file() -> ParsePositional<String> {
+pub(crate) fn file() -> ParsePositional<String> {
     positional("FILE")
+}
+
+/// Compares a text with the wanted one.
+pub(crate) fn reads(
+    rt: &impl Abort,
+    found: Result<String, AllocError>,
+    wanted: &str,
+) -> Result<(), Fail> {
+    let found = found?;
+    assert_eq!(rt; found.as_str(), wanted);
+    Ok(())
+}
+
+/// An answer as Rust's Debug prints it.
+fn printed<T: Debug + Drop>(
+    alloc: Global,
+    found: Result<T, AllocError>,
+) -> Result<String, AllocError> {
+    let found = found?;
+    format!(in alloc; "{found:?}")
+}
+
+/// Compares an answer, as Rust's Debug prints it, with the wanted text.
+pub(crate) fn prints<T: Debug + Drop>(
+    rt: &(impl Abort + AllocGlobal),
+    found: Result<T, AllocError>,
+    wanted: &str,
+) -> Result<(), Fail> {
+    reads(rt, printed(rt.alloc(), found), wanted)
 }

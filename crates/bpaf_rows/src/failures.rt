@@ -1,0 +1,140 @@
+//! The texts of failures, missing items, and refusals for want of memory.
+use crate::shared::{prints, reads};
+use bpaf::{Doc, Error, Info, Item, Message, MissingItem, MissingItems, ParseFailure, Text};
+use std::alloc::{AllocError, Global};
+use std::test::Fail;
+
+/// A document of one text.
+fn document(alloc: Global, text: &str) -> Result<Doc, AllocError> {
+    let mut doc = Doc::new(alloc);
+    doc.literal(text)?;
+    Ok(doc)
+}
+
+/// A text that was asked for, in full or not.
+fn asked(alloc: Global, text: &str, full: bool) -> Result<ParseFailure, AllocError> {
+    Ok(ParseFailure::Stdout(document(alloc, text)?, full))
+}
+
+/// A message.
+fn told(alloc: Global, text: &str) -> Result<ParseFailure, AllocError> {
+    Ok(ParseFailure::Stderr(document(alloc, text)?))
+}
+
+/// What copies of a failure tell on standard output and on standard error, and its status.
+fn texts(
+    failure: Result<ParseFailure, AllocError>,
+) -> Result<(Option<String>, Option<String>, i32), AllocError> {
+    let failure = failure?;
+    let asked = failure.copy()?.unwrap_stdout()?;
+    let told = failure.copy()?.unwrap_stderr()?;
+    Ok((asked, told, failure.exit_code()))
+}
+
+#[test]
+fn failures_give_their_texts(rt: HostRuntime) -> Result<(), Fail> {
+    let a = rt.alloc();
+    prints(
+        &rt,
+        texts(asked(a, "help", true)),
+        "(Some(\"help\"), None, 0)",
+    )?;
+    prints(&rt, texts(asked(a, "", false)), "(Some(\"\"), None, 0)")?;
+    prints(&rt, texts(told(a, "no")), "(None, Some(\"no\"), 1)")?;
+    prints(
+        &rt,
+        texts(Ok(ParseFailure::from(AllocError))),
+        "(None, None, 1)",
+    )
+}
+
+/// That a copy of a positional item is missing.
+fn missing(alloc: Global, metavar: &str) -> Result<Error, AllocError> {
+    let item = Item::Positional {
+        metavar: Text::new(alloc, metavar)?,
+        help: None,
+    };
+    let missed = MissingItem {
+        item,
+        position: 1,
+        scope: 1..3,
+    };
+    let items = MissingItems::one(alloc, missed)?;
+    Ok(Error(Message::Missing(items.copy()?)))
+}
+
+/// The metavar of a missing positional item, where it was sought, and in which scope.
+fn push_item(text: &mut String, missed: &MissingItem) -> Result<(), AllocError> {
+    let scope = missed.scope.start..missed.scope.end;
+    match &missed.item {
+        Item::Positional { metavar, .. } => {
+            let position = missed.position;
+            write!(text, "{metavar} {position} {scope:?};")
+        }
+        _ => text.push_str("another;"),
+    }
+}
+
+/// The missing items of a refusal.
+fn listed(alloc: Global, error: &Error) -> Result<String, AllocError> {
+    let mut text = String::new(alloc);
+    if let Message::Missing(items) = &error.0 {
+        for missed in items.as_slice() {
+            push_item(&mut text, missed)?;
+        }
+    }
+    Ok(text)
+}
+
+/// What two refusals miss together.
+fn missing_both(alloc: Global) -> Result<Error, AllocError> {
+    Ok(missing(alloc, "FILE")?.combine_with(missing(alloc, "DIR")?))
+}
+
+/// The same as a text.
+fn both_listed(alloc: Global) -> Result<String, AllocError> {
+    listed(alloc, &missing_both(alloc)?)
+}
+
+#[test]
+fn missing_items_are_joined(rt: HostRuntime) -> Result<(), Fail> {
+    reads(&rt, both_listed(rt.alloc()), "FILE 1 1..3;DIR 1 1..3;")
+}
+
+/// How many values a list holds: a parser of a caller's own may push with `?`.
+fn pushed(alloc: Global) -> Result<usize, Error> {
+    let mut values = Vec::new(alloc);
+    values.push(7u8)?;
+    Ok(values.len())
+}
+
+/// Whether a refusal is one for want of memory.
+fn is_memory(error: Error) -> bool {
+    error.is_memory()
+}
+
+#[test]
+fn want_of_memory_is_known(rt: HostRuntime) -> Result<(), Fail> {
+    assert!(rt; is_memory(Error::from(AllocError)));
+    assert!(rt; is_memory(Error(Message::from(AllocError))));
+    assert!(rt; !is_memory(Error(Message::Unconsumed(3))));
+    assert_eq!(rt; pushed(rt.alloc()).ok(), Some(1));
+    Ok(())
+}
+
+/// A copy of the keys that ask a run for help and for the version.
+fn copied_info(alloc: Global) -> Result<Info, AllocError> {
+    Info::new(alloc)?.copy()
+}
+
+/// Whether the copy has their short names.
+fn copied_names(alloc: Global) -> Result<(bool, bool), AllocError> {
+    let info = copied_info(alloc)?;
+    let help = info.help_arg.shorts().contains(&'h');
+    Ok((help, info.version_arg.shorts().contains(&'V')))
+}
+
+#[test]
+fn keys_of_a_run_are_copied(rt: HostRuntime) -> Result<(), Fail> {
+    prints(&rt, copied_names(rt.alloc()), "(true, true)")
+}

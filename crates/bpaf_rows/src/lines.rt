@@ -1,0 +1,474 @@
+//! The worked rows on items, and on the calls of a state that take, scope and name.
+use crate::calls::{Call, Row, walk};
+use std::test::Fail;
+
+/// What words spell, by the short names that are known; the last have no line, or stand near one.
+const SPELLED: &[Row<'static>] = &[
+    Row {
+        words: &["", "x", "-"],
+        flags: &[],
+        arguments: &[],
+        calls: &[Call::Spelled],
+        wanted: "Word ;Word x;Word -;",
+    },
+    Row {
+        words: &["--n", "--n=v", "--n=", "--=x"],
+        flags: &[],
+        arguments: &[],
+        calls: &[Call::Spelled],
+        wanted: "Long --n false --n;Long --n true --n=v;ArgWord v;Long --n true --n=;ArgWord ;Long -- true --=x;ArgWord x;",
+    },
+    Row {
+        words: &["--=", "---"],
+        flags: &[],
+        arguments: &[],
+        calls: &[Call::Spelled],
+        wanted: "Long -- true --=;ArgWord ;Long --- false ---;",
+    },
+    Row {
+        words: &["-c", "-c=v", "-cr=v"],
+        flags: &[],
+        arguments: &[],
+        calls: &[Call::Spelled],
+        wanted: "Short -c false -c;Short -c true -c=v;ArgWord v;Short -c true -cr=v;ArgWord r=v;",
+    },
+    Row {
+        words: &["-==x", "-=x", "-="],
+        flags: &[],
+        arguments: &[],
+        calls: &[Call::Spelled],
+        wanted: "Short -= true -==x;ArgWord x;Word -=x;Short -= false -=;",
+    },
+    // items_of_name_beyond_ascii
+    Row {
+        words: &["-ñ=x", "-ñ"],
+        flags: &[],
+        arguments: &[],
+        calls: &[Call::Spelled],
+        wanted: "Short -ñ true -ñ=x;ArgWord x;Short -ñ false -ñ;",
+    },
+    // items_of_attached_value_with_equals
+    Row {
+        words: &["-Obits=2048"],
+        flags: &[],
+        arguments: &[],
+        calls: &[Call::Spelled],
+        wanted: "Short -O true -Obits=2048;ArgWord bits=2048;",
+    },
+    Row {
+        words: &["-Obits=2048"],
+        flags: &['b'],
+        arguments: &['O'],
+        calls: &[Call::Spelled],
+        wanted: "Short -O true -Obits=2048;ArgWord bits=2048;",
+    },
+    // unknown_joined_word_is_one_word
+    Row {
+        words: &["-abc"],
+        flags: &[],
+        arguments: &[],
+        calls: &[Call::Spelled],
+        wanted: "Word -abc;",
+    },
+    Row {
+        words: &["-жжж"],
+        flags: &['ж'],
+        arguments: &[],
+        calls: &[Call::Spelled],
+        wanted: "Short -ж false -жжж;Short -ж false ;Short -ж false ;",
+    },
+    Row {
+        words: &["-vn3", "-vn", "-vx"],
+        flags: &['v'],
+        arguments: &['n'],
+        calls: &[Call::Spelled],
+        wanted: "Short -v false -vn3;Short -n true -vn3;Word 3;Short -v false -vn;Short -n false -vn;Word -vx;",
+    },
+    Row {
+        words: &["a", "--", "--", "-b"],
+        flags: &[],
+        arguments: &[],
+        calls: &[Call::Spelled],
+        wanted: "Word a;none;PosWord --;PosWord -b;",
+    },
+    // last_character_ambiguous
+    Row {
+        words: &["-va"],
+        flags: &['v', 'a'],
+        arguments: &['a'],
+        calls: &[Call::Len],
+        wanted: "ambiguity -va 2;",
+    },
+    // first_character_ambiguous
+    Row {
+        words: &["-abc"],
+        flags: &['a', 'b', 'c'],
+        arguments: &['a'],
+        calls: &[Call::Len],
+        wanted: "ambiguity -abc 1;",
+    },
+    Row {
+        words: &["x", "-abc"],
+        flags: &['a', 'b', 'c'],
+        arguments: &['a'],
+        calls: &[Call::Len],
+        wanted: "ambiguity -abc 1;",
+    },
+    Row {
+        words: &["-b"],
+        flags: &['a', 'b', 'c'],
+        arguments: &['a'],
+        calls: &[Call::Len],
+        wanted: "1;",
+    },
+    Row {
+        words: &["--", "-va"],
+        flags: &['v', 'a'],
+        arguments: &['a'],
+        calls: &[Call::Len],
+        wanted: "1;",
+    },
+];
+
+#[test]
+fn words_spell_items(rt: HostRuntime) -> Result<(), Fail> {
+    walk(&rt, SPELLED)
+}
+
+/// Flags, arguments, words and commands that are taken.
+const TAKEN: &[Row<'static>] = &[
+    // detached_long_value_taken
+    Row {
+        words: &["--speed", "12"],
+        flags: &[],
+        arguments: &[],
+        calls: &[Call::TakeArg(&[], &["speed"]), Call::IsEmpty, Call::Current],
+        wanted: "12;true;Some(1);",
+    },
+    // attached_long_value_with_dash_taken
+    Row {
+        words: &["--speed=-12"],
+        flags: &[],
+        arguments: &[],
+        calls: &[
+            Call::TakeAdjacentArg(&[], &["speed"]),
+            Call::IsEmpty,
+            Call::Current,
+        ],
+        wanted: "-12;true;Some(1);",
+    },
+    // attached_long_value_taken
+    Row {
+        words: &["--speed=12"],
+        flags: &[],
+        arguments: &[],
+        calls: &[Call::TakeArg(&[], &["speed"]), Call::IsEmpty, Call::Current],
+        wanted: "12;true;Some(1);",
+    },
+    // attached_short_value_with_dash_taken
+    Row {
+        words: &["-s=-12"],
+        flags: &[],
+        arguments: &[],
+        calls: &[
+            Call::TakeAdjacentArg(&['s'], &[]),
+            Call::IsEmpty,
+            Call::Current,
+        ],
+        wanted: "-12;true;Some(1);",
+    },
+    // the same, not adjacent
+    Row {
+        words: &["-s=-12"],
+        flags: &[],
+        arguments: &[],
+        calls: &[Call::TakeArg(&['s'], &[]), Call::IsEmpty, Call::Current],
+        wanted: "-12;true;Some(1);",
+    },
+    // attached_short_value_taken
+    Row {
+        words: &["-s=12"],
+        flags: &[],
+        arguments: &[],
+        calls: &[Call::TakeArg(&['s'], &[]), Call::IsEmpty, Call::Current],
+        wanted: "12;true;Some(1);",
+    },
+    // detached_short_value_taken
+    Row {
+        words: &["-s", "12"],
+        flags: &[],
+        arguments: &[],
+        calls: &[Call::TakeArg(&['s'], &[]), Call::IsEmpty, Call::Current],
+        wanted: "12;true;Some(1);",
+    },
+    // long_flag_taken_before_word
+    Row {
+        words: &["--speed", "12"],
+        flags: &[],
+        arguments: &[],
+        calls: &[
+            Call::TakeFlag(&[], &["speed"]),
+            Call::Current,
+            Call::SetCurrent(None),
+            Call::Current,
+            Call::Spelled,
+        ],
+        wanted: "true;Some(0);None;none;Word 12;",
+    },
+    // word_left_by_flag_taken
+    Row {
+        words: &["--speed", "12"],
+        flags: &[],
+        arguments: &[],
+        calls: &[
+            Call::TakeFlag(&[], &["speed"]),
+            Call::TakeWord,
+            Call::IsEmpty,
+        ],
+        wanted: "true;1 false 12;true;",
+    },
+    // word_after_marker_taken
+    Row {
+        words: &["-v", "--", "-x"],
+        flags: &[],
+        arguments: &[],
+        calls: &[Call::TakeFlag(&['v'], &[]), Call::TakeWord, Call::IsEmpty],
+        wanted: "true;2 true -x;true;",
+    },
+    // value_then_word_after_marker_taken
+    Row {
+        words: &["-v", "12", "--", "-x"],
+        flags: &[],
+        arguments: &[],
+        calls: &[
+            Call::TakeArg(&['v'], &[]),
+            Call::TakeWord,
+            Call::IsEmpty,
+            Call::TakeWord,
+        ],
+        wanted: "12;3 true -x;true;missing;",
+    },
+    // flags_taken_in_either_order
+    Row {
+        words: &["-s", "-v"],
+        flags: &[],
+        arguments: &[],
+        calls: &[
+            Call::TakeFlag(&['s'], &[]),
+            Call::TakeFlag(&['s'], &[]),
+            Call::Len,
+            Call::TakeFlag(&['v'], &[]),
+            Call::IsEmpty,
+        ],
+        wanted: "true;false;1;true;true;",
+    },
+    // the other way round
+    Row {
+        words: &["-s", "-v"],
+        flags: &[],
+        arguments: &[],
+        calls: &[
+            Call::TakeFlag(&['v'], &[]),
+            Call::TakeFlag(&['v'], &[]),
+            Call::Len,
+            Call::TakeFlag(&['s'], &[]),
+            Call::IsEmpty,
+        ],
+        wanted: "true;false;1;true;true;",
+    },
+    // joined_flag_taken_three_times
+    Row {
+        words: &["-vvv"],
+        flags: &['v'],
+        arguments: &[],
+        calls: &[
+            Call::TakeFlag(&['v'], &[]),
+            Call::TakeFlag(&['v'], &[]),
+            Call::TakeFlag(&['v'], &[]),
+            Call::TakeFlag(&['v'], &[]),
+            Call::IsEmpty,
+        ],
+        wanted: "true;true;true;false;true;",
+    },
+    // joined_value_taken
+    Row {
+        words: &["-abc"],
+        flags: &[],
+        arguments: &['a'],
+        calls: &[Call::TakeArg(&['a'], &[]), Call::IsEmpty],
+        wanted: "bc;true;",
+    },
+    // joined_flags_taken
+    Row {
+        words: &["-abc"],
+        flags: &['a', 'b', 'c'],
+        arguments: &[],
+        calls: &[
+            Call::TakeFlag(&['a'], &[]),
+            Call::TakeFlag(&['b'], &[]),
+            Call::TakeFlag(&['c'], &[]),
+            Call::IsEmpty,
+        ],
+        wanted: "true;true;true;true;",
+    },
+    // a refusal takes nothing, nor does a name that is not there
+    Row {
+        words: &["-s", "-v"],
+        flags: &[],
+        arguments: &[],
+        calls: &[
+            Call::TakeArg(&['s'], &[]),
+            Call::Len,
+            Call::TakeArg(&['x'], &["y"]),
+            Call::TakeAdjacentArg(&['s'], &[]),
+            Call::Len,
+        ],
+        wanted: "no argument 0 NUM;2;no key;no key;2;",
+    },
+    // command_then_word_taken
+    Row {
+        words: &["cmd", "pos"],
+        flags: &[],
+        arguments: &[],
+        calls: &[
+            Call::TakeCmd("cmd"),
+            Call::Current,
+            Call::TakeWord,
+            Call::IsEmpty,
+        ],
+        wanted: "true;Some(0);1 false pos;true;",
+    },
+    // command_then_value_taken
+    Row {
+        words: &["cmd", "-s", "v"],
+        flags: &[],
+        arguments: &[],
+        calls: &[
+            Call::TakeCmd("cmd"),
+            Call::TakeArg(&['s'], &[]),
+            Call::IsEmpty,
+        ],
+        wanted: "true;v;true;",
+    },
+    // a command that is not the first item
+    Row {
+        words: &["-s", "cmd"],
+        flags: &[],
+        arguments: &[],
+        calls: &[
+            Call::SetCurrent(Some(1)),
+            Call::TakeCmd("cmd"),
+            Call::Current,
+            Call::Items,
+        ],
+        wanted: "false;None;0 -s,1 cmd,;",
+    },
+    // keys are commands where no value is attached to a long one
+    Row {
+        words: &["-s"],
+        flags: &[],
+        arguments: &[],
+        calls: &[Call::TakeCmd("-s")],
+        wanted: "true;",
+    },
+    Row {
+        words: &["-s=v"],
+        flags: &[],
+        arguments: &[],
+        calls: &[Call::TakeCmd("-s=v")],
+        wanted: "true;",
+    },
+    Row {
+        words: &["--long"],
+        flags: &[],
+        arguments: &[],
+        calls: &[Call::TakeCmd("--long")],
+        wanted: "true;",
+    },
+    Row {
+        words: &["--long=v"],
+        flags: &[],
+        arguments: &[],
+        calls: &[Call::TakeCmd("--long=v")],
+        wanted: "false;",
+    },
+    // words behind the marker are none
+    Row {
+        words: &["--", "cmd"],
+        flags: &[],
+        arguments: &[],
+        calls: &[Call::TakeCmd("cmd"), Call::Len],
+        wanted: "false;1;",
+    },
+];
+
+#[test]
+fn items_are_taken(rt: HostRuntime) -> Result<(), Fail> {
+    walk(&rt, TAKEN)
+}
+
+/// Scope, places and path.
+const SCOPED: &[Row<'static>] = &[
+    // the scope is narrowed, emptied and widened
+    Row {
+        words: &["a", "b", "c", "d"],
+        flags: &[],
+        arguments: &[],
+        calls: &[
+            Call::TakeWord,
+            Call::Scope,
+            Call::SetScope(1, 3),
+            Call::Len,
+            Call::Items,
+            Call::SetScope(2, 2),
+            Call::IsEmpty,
+            Call::Items,
+            Call::SetScope(0, 4),
+            Call::Len,
+            Call::Items,
+        ],
+        wanted: "0 false a;0..4;true;2;1 b,2 c,;true;true;;true;3;1 b,2 c,3 d,;",
+    },
+    // a place is removed in scope alone, and once
+    Row {
+        words: &["a", "b", "c"],
+        flags: &[],
+        arguments: &[],
+        calls: &[
+            Call::Scope,
+            Call::SetScope(1, 3),
+            Call::Remove(1),
+            Call::Current,
+            Call::SetCurrent(None),
+            Call::Remove(0),
+            Call::Remove(1),
+            Call::Remove(7),
+            Call::Current,
+            Call::Present(0),
+            Call::Present(1),
+            Call::Present(2),
+            Call::Present(3),
+            Call::Items,
+        ],
+        wanted: "0..3;true;Some(1);None;Some(true);Some(false);Some(true);None;2 c,;",
+    },
+    // names are put on the path
+    Row {
+        words: &["x"],
+        flags: &[],
+        arguments: &[],
+        calls: &[
+            Call::Depth,
+            Call::PushPath("build"),
+            Call::Depth,
+            Call::Path,
+            Call::Len,
+        ],
+        wanted: "1;2;[\"app\", \"build\"];1;",
+    },
+];
+
+#[test]
+fn scope_and_path_are_changed(rt: HostRuntime) -> Result<(), Fail> {
+    walk(&rt, SCOPED)
+}
