@@ -137,7 +137,7 @@ fn words_spell_items(rt: HostRuntime) -> Result<(), Fail> {
     walk(&rt, SPELLED)
 }
 
-/// Flags, arguments, words and commands that are taken.
+/// Flags, arguments and words that are taken.
 const TAKEN: &[Row<'static>] = &[
     // detached_long_value_taken
     Row {
@@ -347,6 +347,15 @@ const TAKEN: &[Row<'static>] = &[
         ],
         wanted: "no argument 0 NUM;2;None;None;2;",
     },
+];
+
+#[test]
+fn items_are_taken(rt: HostRuntime) -> Result<(), Fail> {
+    walk(&rt, TAKEN)
+}
+
+/// The names of commands.
+const COMMANDS: &[Row<'static>] = &[
     // command_then_word_taken
     Row {
         words: &["cmd", "pos"],
@@ -425,8 +434,8 @@ const TAKEN: &[Row<'static>] = &[
 ];
 
 #[test]
-fn items_are_taken(rt: HostRuntime) -> Result<(), Fail> {
-    walk(&rt, TAKEN)
+fn commands_are_taken(rt: HostRuntime) -> Result<(), Fail> {
+    walk(&rt, COMMANDS)
 }
 
 /// Scope, places and path.
