@@ -1,7 +1,7 @@
 //! The calls of a state as values, and what they answer as a short text.
 //!
-//! A test makes no state of its own: it walks a table of lines with the calls that are made on them, and
-//! what these are to answer. So one function alone owns a state.
+//! A test makes no state of its own: it walks a table of lines with the calls that are made on
+//! them, and what these are to answer. So one function alone owns a state.
 ghost use Rattle.std.specs.Prelude.{◌≡◌, ◌≤◌, true, length};
 
 use crate::shared::reads;
@@ -15,8 +15,7 @@ use std::test::Fail;
 #[derive(Clone, Copy)]
 pub(crate) enum Call<'a> {
     TakeFlag(&'a [char], &'a [&'a str]),
-    TakeArg(&'a [char], &'a [&'a str]),
-    TakeAdjacentArg(&'a [char], &'a [&'a str]),
+    TakeArg(&'a [char], &'a [&'a str], bool),
     TakeWord,
     TakeCmd(&'a str),
     Remove(usize),
@@ -35,8 +34,8 @@ pub(crate) enum Call<'a> {
     Spelled,
 }
 
-/// Words, the short names of flags and of arguments that are known, calls on their state, and what these
-/// answer, each answer ended by a semicolon.
+/// Words, the short names of flags and of arguments that are known, calls on their state, and what
+/// these answer, each answer ended by a semicolon.
 #[derive(Clone, Copy)]
 pub(crate) struct Row<'a> {
     pub(crate) words: &'a [&'a str],
@@ -100,21 +99,12 @@ fn take(
             let longs = texts(alloc, longs)?;
             tell(state.take_flag(shorts, &longs), answers)
         }
-        Call::TakeArg(shorts, longs) => {
+        Call::TakeArg(shorts, longs, adjacent) => {
             let longs = texts(alloc, longs)?;
-            tell_text(
-                state.take_arg(shorts, &longs, false, Metavar("NUM")),
-                answers,
-            )
+            let taken = state.take_arg(shorts, &longs, adjacent, Metavar("NUM"));
+            tell_taken(taken, answers)
         }
-        Call::TakeAdjacentArg(shorts, longs) => {
-            let longs = texts(alloc, longs)?;
-            tell_text(
-                state.take_arg(shorts, &longs, true, Metavar("NUM")),
-                answers,
-            )
-        }
-        Call::TakeWord => tell_word(state.take_positional_word(Metavar("FILE")), answers),
+        Call::TakeWord => tell_taken(state.take_positional_word(Metavar("FILE")), answers),
         Call::TakeCmd(name) => tell(state.take_cmd(name), answers),
         _ => change(state, call, answers),
     }
@@ -161,25 +151,13 @@ fn texts(alloc: Global, names: &[&str]) -> Result<Vec<Text>, AllocError> {
     Ok(all)
 }
 
-/// The text that was taken, if any.
-fn tell_text(
-    answer: Result<Option<String>, Error>,
+/// What was taken, or why nothing was.
+fn tell_taken<T: Debug + Drop>(
+    taken: Result<T, Error>,
     answers: &mut String,
 ) -> Result<(), AllocError> {
-    match answer {
-        Ok(Some(text)) => write!(answers, "{text};"),
-        Ok(None) => answers.push_str("no key;"),
-        Err(error) => refuse(&error.0, answers),
-    }
-}
-
-/// The place of the word that was taken, whether it stands behind `--`, and its text.
-fn tell_word(
-    answer: Result<(usize, bool, String), Error>,
-    answers: &mut String,
-) -> Result<(), AllocError> {
-    match answer {
-        Ok((place, strict, text)) => write!(answers, "{place} {strict} {text};"),
+    match taken {
+        Ok(taken) => tell(taken, answers),
         Err(error) => refuse(&error.0, answers),
     }
 }

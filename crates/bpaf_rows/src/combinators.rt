@@ -1,12 +1,11 @@
-//! What a caller gives to a parser: closures over what they hold, texts to keep, values of types of its
-//! own and what these fill.
+//! What a caller gives to a parser: closures over what they hold, texts to keep, values of types of
+//! its own and what these fill.
 ghost use Rattle.std.specs.Prelude.{◌≡◌, codes};
 
 use crate::shared::{file, num, prints, value};
 use bpaf::params::ParsePositional;
 use bpaf::{
-    Doc, FromList, FromText, Item, Meta, Parser, TextFault, construct, fail, positional, pure_with,
-    short,
+    Doc, FromList, FromText, Parser, TextFault, construct, fail, positional, pure_with, short,
 };
 use std::alloc::{AllocError, Global};
 use std::collections::{BTreeSet, VecDeque};
@@ -69,37 +68,20 @@ fn helped(alloc: Global) -> Result<ParsePositional<String>, AllocError> {
     Ok(file().help(help))
 }
 
-/// The help of a shown positional word, where it has one.
-fn help_of(meta: &Meta) -> Result<Option<String>, AllocError> {
-    match meta {
-        Meta::Item(Item::Positional { help, .. }) => match help {
-            Some(help) => Ok(Some(help.monochrome(true)?)),
-            None => Ok(None),
-        },
-        _ => Ok(None),
-    }
+/// The help of a copy.
+fn copied_help(alloc: Global) -> Result<Option<Doc>, AllocError> {
+    Ok(helped(alloc)?.copy()?.help)
 }
 
-/// A copy of it.
-fn copied(alloc: Global) -> Result<ParsePositional<String>, AllocError> {
-    helped(alloc)?.copy()
-}
-
-/// What the copy shows.
-fn copied_meta(alloc: Global) -> Result<Meta, AllocError> {
-    copied(alloc)?.meta(alloc)
-}
-
-/// The help that the copy shows.
-fn copied_help(alloc: Global) -> Result<Option<String>, AllocError> {
-    help_of(&copied_meta(alloc)?)
-}
+/// How Rust's Debug prints it.
+const HELP: &str = "Some(Doc { pieces: [Piece { text: Text { inner: \"File to process\" }, \
+    style: Text, detail: false }] })";
 
 #[test]
 fn texts_are_kept(rt: HostRuntime) -> Result<(), Fail> {
     prints(&rt, or_none(rt.alloc(), &[]), "Some(\"none\")")?;
     prints(&rt, or_none(rt.alloc(), &["x"]), "Some(\"x\")")?;
-    prints(&rt, copied_help(rt.alloc()), "Some(\"File to process\")")
+    prints(&rt, copied_help(rt.alloc()), HELP)
 }
 
 /// How loud it is.
@@ -178,17 +160,6 @@ fn caught(
     value(alloc, construct!(first, more, rest), words)
 }
 
-/// What a repeat of one value at least, and one into a collection, catch.
-fn caught_lists(
-    alloc: Global,
-    words: &[&str],
-) -> Result<Option<(Vec<u64>, VecDeque<u64>, String)>, AllocError> {
-    let first = number().some("need one").catch();
-    let more = number().collect::<VecDeque<u64>>().catch();
-    let rest = file();
-    value(alloc, construct!(first, more, rest), words)
-}
-
 /// How many flags there are, and the last number.
 fn counted(alloc: Global, words: &[&str]) -> Result<Option<(usize, u64)>, AllocError> {
     let count = short(alloc, 'v')?.req_flag(()).count();
@@ -204,9 +175,9 @@ fn repeats_count_and_catch(rt: HostRuntime) -> Result<(), Fail> {
         "Some((Some(1), [2, 3], \"x\"))",
     )?;
     prints(&rt, caught(a, &["x"]), "Some((None, [], \"x\"))")?;
-    prints(
-        &rt,
-        caught_lists(a, &["1", "2", "x"]),
-        "Some(([1, 2], [], \"x\"))",
-    )
+    let some = number().some("need one").catch();
+    prints(&rt, value(a, some, &["1", "2"]), "Some([1, 2])")?;
+    let queue = number().collect::<VecDeque<u64>>().catch();
+    prints(&rt, value(a, queue, &["1", "2"]), "Some([1, 2])")?;
+    prints(&rt, counted(a, &["-vvn1", "-n", "2"]), "Some((2, 2))")
 }

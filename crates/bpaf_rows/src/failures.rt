@@ -1,5 +1,5 @@
 //! The texts of failures, missing items, and refusals for want of memory.
-use crate::shared::{prints, reads};
+use crate::shared::prints;
 use bpaf::{Doc, Error, Info, Item, Message, MissingItem, MissingItems, ParseFailure, Text};
 use std::alloc::{AllocError, Global};
 use std::test::Fail;
@@ -63,42 +63,21 @@ fn missing(alloc: Global, metavar: &str) -> Result<Error, AllocError> {
     Ok(Error(Message::Missing(items.copy()?)))
 }
 
-/// The metavar of a missing positional item, where it was sought, and in which scope.
-fn push_item(text: &mut String, missed: &MissingItem) -> Result<(), AllocError> {
-    let scope = missed.scope.start..missed.scope.end;
-    match &missed.item {
-        Item::Positional { metavar, .. } => {
-            let position = missed.position;
-            write!(text, "{metavar} {position} {scope:?};")
-        }
-        _ => text.push_str("another;"),
-    }
-}
-
-/// The missing items of a refusal.
-fn listed(alloc: Global, error: &Error) -> Result<String, AllocError> {
-    let mut text = String::new(alloc);
-    if let Message::Missing(items) = &error.0 {
-        for missed in items.as_slice() {
-            push_item(&mut text, missed)?;
-        }
-    }
-    Ok(text)
-}
-
 /// What two refusals miss together.
 fn missing_both(alloc: Global) -> Result<Error, AllocError> {
     Ok(missing(alloc, "FILE")?.combine_with(missing(alloc, "DIR")?))
 }
 
-/// The same as a text.
-fn both_listed(alloc: Global) -> Result<String, AllocError> {
-    listed(alloc, &missing_both(alloc)?)
-}
+/// How Rust's Debug prints it.
+const MISSING: &str = "Error(Missing(MissingItems { items: [\
+    MissingItem { item: Positional { metavar: Text { inner: \"FILE\" }, help: None }, \
+    position: 1, scope: 1..3 }, \
+    MissingItem { item: Positional { metavar: Text { inner: \"DIR\" }, help: None }, \
+    position: 1, scope: 1..3 }] }))";
 
 #[test]
 fn missing_items_are_joined(rt: HostRuntime) -> Result<(), Fail> {
-    reads(&rt, both_listed(rt.alloc()), "FILE 1 1..3;DIR 1 1..3;")
+    prints(&rt, missing_both(rt.alloc()), MISSING)
 }
 
 /// How many values a list holds: a parser of a caller's own may push with `?`.
@@ -127,14 +106,15 @@ fn copied_info(alloc: Global) -> Result<Info, AllocError> {
     Info::new(alloc)?.copy()
 }
 
-/// Whether the copy has their short names.
-fn copied_names(alloc: Global) -> Result<(bool, bool), AllocError> {
-    let info = copied_info(alloc)?;
-    let help = info.help_arg.shorts().contains(&'h');
-    Ok((help, info.version_arg.shorts().contains(&'V')))
-}
+/// How Rust's Debug prints it.
+const KEYS: &str = "Info { help_arg: NamedArg { shorts: ['h'], \
+    longs: [Text { inner: \"help\" }], \
+    envs: [], help: None }, \
+    version_arg: NamedArg { shorts: ['V'], \
+    longs: [Text { inner: \"version\" }], \
+    envs: [], help: None } }";
 
 #[test]
 fn keys_of_a_run_are_copied(rt: HostRuntime) -> Result<(), Fail> {
-    prints(&rt, copied_names(rt.alloc()), "(true, true)")
+    prints(&rt, copied_info(rt.alloc()), KEYS)
 }

@@ -1,4 +1,6 @@
 //! Every form of `construct!`, as a program writes it.
+ghost use Rattle.std.specs.Prelude.{Ok};
+
 use crate::shared::{num, prints, value, verbose};
 use bpaf::params::ParseArgument;
 use bpaf::parsers::ParseOrElse;
@@ -20,10 +22,6 @@ struct Settings {
     num: u64,
     level: Level,
 }
-
-/// A struct with numbered fields.
-#[derive(Debug, Drop)]
-struct Numbered(bool, u64);
 
 /// A struct with one numbered field.
 #[derive(Debug, Drop)]
@@ -58,6 +56,20 @@ fn in_place(alloc: Global, words: &[&str]) -> Result<Option<(bool, bool)>, Alloc
     value(alloc, parser, words)
 }
 
+/// A field that a function answers, and one of a function that may be refused memory.
+fn answered<F: FnOnce(Global) -> Result<P, AllocError>, P: Parser<u64> + Drop>(
+    alloc: Global,
+    num: F,
+    words: &[&str],
+) -> Result<Option<(bool, u64)>, AllocError>
+    requires called { F.IsAlwaysCallable num }
+    requires evaluated { (made : _) → F.post num alloc (Ok made) → P.can_eval made }
+{
+    let switch = verbose(alloc)?;
+    let verbose = move || switch;
+    value(alloc, construct!(verbose(), num(num(alloc)?)), words)
+}
+
 #[test]
 fn fields_are_named_in_place(rt: HostRuntime) -> Result<(), Fail> {
     prints(&rt, in_place(rt.alloc(), &[]), "Some((false, false))")?;
@@ -65,6 +77,11 @@ fn fields_are_named_in_place(rt: HostRuntime) -> Result<(), Fail> {
         &rt,
         in_place(rt.alloc(), &["-a", "-b"]),
         "Some((true, true))",
+    )?;
+    prints(
+        &rt,
+        answered(rt.alloc(), num, &["-n", "3"]),
+        "Some((false, 3))",
     )
 }
 
@@ -79,33 +96,20 @@ fn named_fields(alloc: Global, words: &[&str]) -> Result<Option<Settings>, Alloc
     value(alloc, record, words)
 }
 
-/// A variant by the names of its fields, and a struct by their numbers.
-fn product_of_two(
+/// A variant by the names of its fields, one by their numbers, with a leading `::`, a struct by a
+/// path that begins with `self`, and one field by itself.
+fn product(
     alloc: Global,
     words: &[&str],
-) -> Result<Option<(Command, Numbered)>, AllocError> {
+) -> Result<Option<(Command, Command, Single, u64)>, AllocError> {
     let verbose = pure(true);
     let num = positional::<u64>("A");
-    let build = construct!(Command::Build { verbose, num });
-    let a = pure(false);
-    let numbered = construct!(Numbered(a, b(positional::<u64>("B"))));
-    value(alloc, construct!(build, numbered), words)
-}
-
-/// A variant by the numbers of its fields, with a leading `::`, a path that begins with `self`, and one
-/// field by itself.
-fn product_of_three(
-    alloc: Global,
-    words: &[&str],
-) -> Result<Option<(Command, Single, u64)>, AllocError> {
-    let a = positional::<u64>("A");
-    let b = pure(true);
-    let c = pure(7);
-    let d = positional::<u64>("D");
+    let b = pure(false);
     let parser = construct!(
-        run(construct!(::Command::Run(a, b,))),
-        single(construct!(self::Single(c))),
-        alone(construct!(d)),
+        build(construct!(Command::Build { verbose, num })),
+        run(construct!(::Command::Run(a(positional::<u64>("B")), b,))),
+        single(construct!(self::Single(c(pure(7))))),
+        alone(construct!(d(positional::<u64>("D")),)),
     );
     value(alloc, parser, words)
 }
@@ -127,10 +131,8 @@ fn values_are_made_by_name_and_number(rt: HostRuntime) -> Result<(), Fail> {
     let a = rt.alloc();
     let settings = "Some(Settings { verbose: true, num: 3, level: Normal })";
     prints(&rt, named_fields(a, &["-n", "3", "-v"]), settings)?;
-    let two = "Some((Build { verbose: true, num: 3 }, Numbered(false, 4)))";
-    prints(&rt, product_of_two(a, &["3", "4"]), two)?;
-    let three = "Some((Run(5, true), Single(7), 6))";
-    prints(&rt, product_of_three(a, &["5", "6"]), three)?;
+    let product_of = "Some((Build { verbose: true, num: 3 }, Run(4, false), Single(7), 5))";
+    prints(&rt, product(a, &["3", "4", "5"]), product_of)?;
     let nothing = "Some((Named, Unnamed, Named, Unnamed))";
     prints(&rt, without_fields(a, &[]), nothing)?;
     prints(&rt, without_fields(a, &["x"]), "None")

@@ -16,7 +16,8 @@ const SPELLED: &[Row<'static>] = &[
         flags: &[],
         arguments: &[],
         calls: &[Call::Spelled],
-        wanted: "Long --n false --n;Long --n true --n=v;ArgWord v;Long --n true --n=;ArgWord ;Long -- true --=x;ArgWord x;",
+        wanted: "Long --n false --n;Long --n true --n=v;ArgWord v;Long --n true --n=;ArgWord ;\
+            Long -- true --=x;ArgWord x;",
     },
     Row {
         words: &["--=", "---"],
@@ -82,7 +83,8 @@ const SPELLED: &[Row<'static>] = &[
         flags: &['v'],
         arguments: &['n'],
         calls: &[Call::Spelled],
-        wanted: "Short -v false -vn3;Short -n true -vn3;Word 3;Short -v false -vn;Short -n false -vn;Word -vx;",
+        wanted: "Short -v false -vn3;Short -n true -vn3;Word 3;Short -v false -vn;\
+            Short -n false -vn;Word -vx;",
     },
     Row {
         words: &["a", "--", "--", "-b"],
@@ -135,15 +137,19 @@ fn words_spell_items(rt: HostRuntime) -> Result<(), Fail> {
     walk(&rt, SPELLED)
 }
 
-/// Flags, arguments, words and commands that are taken.
+/// Flags, arguments and words that are taken.
 const TAKEN: &[Row<'static>] = &[
     // detached_long_value_taken
     Row {
         words: &["--speed", "12"],
         flags: &[],
         arguments: &[],
-        calls: &[Call::TakeArg(&[], &["speed"]), Call::IsEmpty, Call::Current],
-        wanted: "12;true;Some(1);",
+        calls: &[
+            Call::TakeArg(&[], &["speed"], false),
+            Call::IsEmpty,
+            Call::Current,
+        ],
+        wanted: r#"Some("12");true;Some(1);"#,
     },
     // attached_long_value_with_dash_taken
     Row {
@@ -151,19 +157,23 @@ const TAKEN: &[Row<'static>] = &[
         flags: &[],
         arguments: &[],
         calls: &[
-            Call::TakeAdjacentArg(&[], &["speed"]),
+            Call::TakeArg(&[], &["speed"], true),
             Call::IsEmpty,
             Call::Current,
         ],
-        wanted: "-12;true;Some(1);",
+        wanted: r#"Some("-12");true;Some(1);"#,
     },
     // attached_long_value_taken
     Row {
         words: &["--speed=12"],
         flags: &[],
         arguments: &[],
-        calls: &[Call::TakeArg(&[], &["speed"]), Call::IsEmpty, Call::Current],
-        wanted: "12;true;Some(1);",
+        calls: &[
+            Call::TakeArg(&[], &["speed"], false),
+            Call::IsEmpty,
+            Call::Current,
+        ],
+        wanted: r#"Some("12");true;Some(1);"#,
     },
     // attached_short_value_with_dash_taken
     Row {
@@ -171,35 +181,47 @@ const TAKEN: &[Row<'static>] = &[
         flags: &[],
         arguments: &[],
         calls: &[
-            Call::TakeAdjacentArg(&['s'], &[]),
+            Call::TakeArg(&['s'], &[], true),
             Call::IsEmpty,
             Call::Current,
         ],
-        wanted: "-12;true;Some(1);",
+        wanted: r#"Some("-12");true;Some(1);"#,
     },
     // the same, not adjacent
     Row {
         words: &["-s=-12"],
         flags: &[],
         arguments: &[],
-        calls: &[Call::TakeArg(&['s'], &[]), Call::IsEmpty, Call::Current],
-        wanted: "-12;true;Some(1);",
+        calls: &[
+            Call::TakeArg(&['s'], &[], false),
+            Call::IsEmpty,
+            Call::Current,
+        ],
+        wanted: r#"Some("-12");true;Some(1);"#,
     },
     // attached_short_value_taken
     Row {
         words: &["-s=12"],
         flags: &[],
         arguments: &[],
-        calls: &[Call::TakeArg(&['s'], &[]), Call::IsEmpty, Call::Current],
-        wanted: "12;true;Some(1);",
+        calls: &[
+            Call::TakeArg(&['s'], &[], false),
+            Call::IsEmpty,
+            Call::Current,
+        ],
+        wanted: r#"Some("12");true;Some(1);"#,
     },
     // detached_short_value_taken
     Row {
         words: &["-s", "12"],
         flags: &[],
         arguments: &[],
-        calls: &[Call::TakeArg(&['s'], &[]), Call::IsEmpty, Call::Current],
-        wanted: "12;true;Some(1);",
+        calls: &[
+            Call::TakeArg(&['s'], &[], false),
+            Call::IsEmpty,
+            Call::Current,
+        ],
+        wanted: r#"Some("12");true;Some(1);"#,
     },
     // long_flag_taken_before_word
     Row {
@@ -225,7 +247,7 @@ const TAKEN: &[Row<'static>] = &[
             Call::TakeWord,
             Call::IsEmpty,
         ],
-        wanted: "true;1 false 12;true;",
+        wanted: r#"true;(1, false, "12");true;"#,
     },
     // word_after_marker_taken
     Row {
@@ -233,7 +255,7 @@ const TAKEN: &[Row<'static>] = &[
         flags: &[],
         arguments: &[],
         calls: &[Call::TakeFlag(&['v'], &[]), Call::TakeWord, Call::IsEmpty],
-        wanted: "true;2 true -x;true;",
+        wanted: r#"true;(2, true, "-x");true;"#,
     },
     // value_then_word_after_marker_taken
     Row {
@@ -241,12 +263,12 @@ const TAKEN: &[Row<'static>] = &[
         flags: &[],
         arguments: &[],
         calls: &[
-            Call::TakeArg(&['v'], &[]),
+            Call::TakeArg(&['v'], &[], false),
             Call::TakeWord,
             Call::IsEmpty,
             Call::TakeWord,
         ],
-        wanted: "12;3 true -x;true;missing;",
+        wanted: r#"Some("12");(3, true, "-x");true;missing;"#,
     },
     // flags_taken_in_either_order
     Row {
@@ -295,8 +317,8 @@ const TAKEN: &[Row<'static>] = &[
         words: &["-abc"],
         flags: &[],
         arguments: &['a'],
-        calls: &[Call::TakeArg(&['a'], &[]), Call::IsEmpty],
-        wanted: "bc;true;",
+        calls: &[Call::TakeArg(&['a'], &[], false), Call::IsEmpty],
+        wanted: r#"Some("bc");true;"#,
     },
     // joined_flags_taken
     Row {
@@ -317,14 +339,23 @@ const TAKEN: &[Row<'static>] = &[
         flags: &[],
         arguments: &[],
         calls: &[
-            Call::TakeArg(&['s'], &[]),
+            Call::TakeArg(&['s'], &[], false),
             Call::Len,
-            Call::TakeArg(&['x'], &["y"]),
-            Call::TakeAdjacentArg(&['s'], &[]),
+            Call::TakeArg(&['x'], &["y"], false),
+            Call::TakeArg(&['s'], &[], true),
             Call::Len,
         ],
-        wanted: "no argument 0 NUM;2;no key;no key;2;",
+        wanted: "no argument 0 NUM;2;None;None;2;",
     },
+];
+
+#[test]
+fn items_are_taken(rt: HostRuntime) -> Result<(), Fail> {
+    walk(&rt, TAKEN)
+}
+
+/// The names of commands.
+const COMMANDS: &[Row<'static>] = &[
     // command_then_word_taken
     Row {
         words: &["cmd", "pos"],
@@ -336,7 +367,7 @@ const TAKEN: &[Row<'static>] = &[
             Call::TakeWord,
             Call::IsEmpty,
         ],
-        wanted: "true;Some(0);1 false pos;true;",
+        wanted: r#"true;Some(0);(1, false, "pos");true;"#,
     },
     // command_then_value_taken
     Row {
@@ -345,10 +376,10 @@ const TAKEN: &[Row<'static>] = &[
         arguments: &[],
         calls: &[
             Call::TakeCmd("cmd"),
-            Call::TakeArg(&['s'], &[]),
+            Call::TakeArg(&['s'], &[], false),
             Call::IsEmpty,
         ],
-        wanted: "true;v;true;",
+        wanted: r#"true;Some("v");true;"#,
     },
     // a command that is not the first item
     Row {
@@ -403,8 +434,8 @@ const TAKEN: &[Row<'static>] = &[
 ];
 
 #[test]
-fn items_are_taken(rt: HostRuntime) -> Result<(), Fail> {
-    walk(&rt, TAKEN)
+fn commands_are_taken(rt: HostRuntime) -> Result<(), Fail> {
+    walk(&rt, COMMANDS)
 }
 
 /// Scope, places and path.
@@ -427,7 +458,7 @@ const SCOPED: &[Row<'static>] = &[
             Call::Len,
             Call::Items,
         ],
-        wanted: "0 false a;0..4;true;2;1 b,2 c,;true;true;;true;3;1 b,2 c,3 d,;",
+        wanted: r#"(0, false, "a");0..4;true;2;1 b,2 c,;true;true;;true;3;1 b,2 c,3 d,;"#,
     },
     // a place is removed in scope alone, and once
     Row {
@@ -464,7 +495,7 @@ const SCOPED: &[Row<'static>] = &[
             Call::Path,
             Call::Len,
         ],
-        wanted: "1;2;[\"app\", \"build\"];1;",
+        wanted: r#"1;2;["app", "build"];1;"#,
     },
 ];
 

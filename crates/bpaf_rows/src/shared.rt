@@ -1,5 +1,7 @@
-//! What the tests share: the value of a parser on words, three parsers, and what is compared. A
-//! comparison stands here and not in the tests: the proof of a function grows faster than its steps.
+//! What the tests share: the value of a parser on words, three parsers, and what is compared.
+//!
+//! A comparison stands here and not in the tests: the proof of a function grows faster than its
+//! steps.
 use bpaf::params::{ParseArgument, ParseFlag, ParsePositional};
 use bpaf::{Args, Parser, positional, short};
 use std::alloc::{AllocError, Global};
