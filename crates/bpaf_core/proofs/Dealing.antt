@@ -5,15 +5,14 @@ use mathlib.Core.Path.{fun_ext}
 use Rattle.bpaf_line.specs.declared.failure.ParseFailure.{ParseFailure}
 use Rattle.bpaf_doc.specs.Shape.{Shape}
 use Rattle.bpaf_core.specs.declared.info.Info.{Info}
-use Rattle.bpaf_core.specs.Known.{known_names}
+use Rattle.bpaf_core.specs.Known.{IsLineContext}
 use Rattle.bpaf_words.specs.Arguments.{Given}
-use Rattle.bpaf_line.specs.Constructing.{IsContext}
 use Rattle.bpaf_line.specs.Situation.{Situation, Context, beginning, is_taken, is_open, in_scope, is_marker, is_dealt_place, open_count}
 use Rattle.bpaf_line.proofs.Beginning.{taken_at_beginning}
 use Rattle.bpaf_laws.specs.Reading.{Readings, Outcome, Share}
 use Rattle.bpaf_laws.specs.Laws.{Lawful, Keeps, Closes, newly}
 use Rattle.bpaf_laws.proofs.CountingLaws.{none_below}
-use Rattle.bpaf_core.specs.Run.{Runs, RunsShown, RunsWords, value, ran, shown}
+use Rattle.bpaf_core.specs.Run.{Runs, RunsWords, value, ran}
 use Rattle.bpaf_core.specs.Dealt.{IsDealtOut}
 
 -- at one place: newly taken is the same as dealt, where each dealt place is taken
@@ -52,25 +51,22 @@ all_newly context t keeps closed none = fun_ext (λ p. dealt_at (is_taken t p) (
 
 module _ {T : Type 0} {inner : Outcome T} {reads : Readings T} {describes : Shape → Type 0} {info : Info} (given : Given) (law : Lawful T inner reads) where
   -- a value that a run over the words' line answers is dealt out of the words
-  dealt_from : (shape : Shape) → describes shape → (context : Context) (v : T) (t : Situation) → IsContext (known_names info shape) given context
-      → Runs T inner (beginning context) (Ok v) t → IsDealtOut T reads describes info given v
-  dealt_from shape is context v t is_context (value w left answered none) =
+  dealt_from : (context : Context) (v : T) (t : Situation)
+      → IsLineContext describes info given context → Runs T inner (beginning context) (Ok v) t
+      → IsDealtOut T reads describes info given v
+  dealt_from context v t is_context (value w left answered none) =
       let read = law.ok (beginning context) left w answered in
       record {
-        shape = shape;
-        shown = is;
         context = context;
         is_context = is_context;
-        read = subst (λ (share : Share). reads context share w) (all_newly context left read.keeps read.closed none) read.reading;
+        read = subst (λ (share : Share). reads context share w)
+            (all_newly context left read.keeps read.closed none) read.reading;
       }
 
-  -- so is a value of a run over words, for a shape that the parser may show
-  dealt_shown : (shape : Shape) → describes shape → (v : T) → RunsShown T inner info shape given (Ok v) → IsDealtOut T reads describes info given v
-  dealt_shown shape is v (ran context r t is_context run) = dealt_from shape is context v t is_context run
-
   -- a value that a run over words answers is dealt out of them
-  pub words_dealt : (v : T) → RunsWords T inner describes info given (Ok v) → IsDealtOut T reads describes info given v
-  words_dealt v (shown shape r is run) = dealt_shown shape is v run
+  pub words_dealt : (v : T) → RunsWords T inner describes info given (Ok v)
+      → IsDealtOut T reads describes info given v
+  words_dealt v (ran context r t is_context run) = dealt_from context v t is_context run
 
   -- so is each value among its answers
   pub if_dealt : (r : Result T ParseFailure) → RunsWords T inner describes info given r → IfOk r (λ v. IsDealtOut T reads describes info given v)

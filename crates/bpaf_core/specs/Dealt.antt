@@ -1,18 +1,14 @@
 -- A value that is dealt out of words.
 use Rattle.bpaf_doc.specs.Shape.{Shape}
 use Rattle.bpaf_words.specs.Arguments.{Given}
-use Rattle.bpaf_line.specs.Constructing.{IsContext}
 use Rattle.bpaf_line.specs.Situation.{Context, is_dealt_place}
 use Rattle.bpaf_laws.specs.Reading.{Readings}
 use Rattle.bpaf_core.specs.declared.info.Info.{Info}
-use Rattle.bpaf_core.specs.Known.{known_names}
+use Rattle.bpaf_core.specs.Known.{IsLineContext}
 
--- v is read off all places of the words' line but that of the marker, the line that the shown short
--- names make
+-- v is read off all places of the words' line but that of the marker
 pub record IsDealtOut (T : Type 0) (reads : Readings T) (describes : Shape → Type 0) (info : Info)
     (given : Given) (v : T) : Type 0 where
-  pub shape : Shape
-  pub shown : describes shape
   pub context : Context
-  pub is_context : IsContext (known_names info shape) given context
+  pub is_context : IsLineContext describes info given context
   pub read : reads context (is_dealt_place context) v

@@ -8,20 +8,11 @@ use Rattle.bpaf_line.specs.declared.failure.ParseFailure.TheVariants as failure
 use Rattle.bpaf_words.specs.Arguments.{Given}
 use Rattle.bpaf_line.specs.Messages.{is_memory}
 use Rattle.bpaf_words.specs.Line.{HasNoLine}
-use Rattle.bpaf_line.specs.Constructing.{IsContext}
 use Rattle.bpaf_line.specs.Situation.{Situation, Context, beginning, open_count}
 use Rattle.bpaf_doc.specs.Shape.{Shape}
 use Rattle.bpaf_core.specs.declared.info.Info.{Info}
-use Rattle.bpaf_core.specs.Known.{known_names}
+use Rattle.bpaf_core.specs.Known.{known_names, IsLineContext}
 use Rattle.bpaf_laws.specs.Reading.{Outcome}
-
--- short names that are the known ones of a shape that the parser may show
-pub record ShowsNames (describes : Shape → Type 0) (info : Info) (flags arguments : List ℕ) : Type 0
-  where
-    pub shape : Shape
-    pub shown : describes shape
-    pub flags_are : flags ≡ (known_names info shape).names.flags
-    pub arguments_are : arguments ≡ (known_names info shape).names.arguments
 
 -- a refusal's text; or want of memory for it
 abbrev pub IsRefusal : ParseFailure → Type 0
@@ -43,19 +34,14 @@ pub data Runs (T : Type 0) (inner : Outcome T) (s : Situation) : Result T ParseF
   refused : (e : Error) (t : Situation) (f : ParseFailure) → inner s (Err e) t → Tells e.0 f
       → Runs T inner s (Err f) t
 
--- a run over words, where a parser may show this shape: over their line; or they have none
-pub data RunsShown (T : Type 0) (inner : Outcome T) (info : Info) (shape : Shape)
-    (given : Given) : Result T ParseFailure → Type 0 where
-  ran : (context : Context) (r : Result T ParseFailure) (t : Situation)
-      → IsContext (known_names info shape) given context
-      → Runs T inner (beginning context) r t → RunsShown T inner info shape given r
-  no_line : (word : List ℕ) (number : ℕ) (f : ParseFailure)
-      → HasNoLine (known_names info shape) given.words word number → IsRefusal f
-      → RunsShown T inner info shape given (Err f)
-
--- a run over words: with what the parser shows of itself; or there is no memory for it
+-- a run over words: over their line; or they have none by the names that the parser shows; or there
+-- is no memory for it
 pub data RunsWords (T : Type 0) (inner : Outcome T) (describes : Shape → Type 0) (info : Info)
     (given : Given) : Result T ParseFailure → Type 0 where
-  shown : (shape : Shape) (r : Result T ParseFailure) → describes shape
-      → RunsShown T inner info shape given r → RunsWords T inner describes info given r
+  ran : (context : Context) (r : Result T ParseFailure) (t : Situation)
+      → IsLineContext describes info given context → Runs T inner (beginning context) r t
+      → RunsWords T inner describes info given r
+  no_line : (shape : Shape) (word : List ℕ) (number : ℕ) (f : ParseFailure) → describes shape
+      → HasNoLine (known_names info shape) given.words word number → IsRefusal f
+      → RunsWords T inner describes info given (Err f)
   no_memory : RunsWords T inner describes info given (Err failure.Memory)

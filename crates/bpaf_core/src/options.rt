@@ -1,14 +1,15 @@
 //! A run of a parser over words.
 ghost use Rattle.std.specs.Prelude.{◌≡◌, IfOk};
-ghost use Rattle.bpaf_words.specs.Arguments.{given_of};
-ghost use Rattle.bpaf_core.specs.Run.{Runs, RunsWords, IsRefusal, Tells, ShowsNames};
+ghost use Rattle.bpaf_words.specs.Arguments.{given_of, words_of};
+ghost use Rattle.bpaf_core.specs.Known.{ReadsNames, ShowsNames};
+ghost use Rattle.bpaf_core.specs.Run.{Runs, RunsWords, IsRefusal, Tells};
 ghost use Rattle.bpaf_core.specs.Dealt.{IsDealtOut};
 
 use crate::info::Info;
 use crate::parser::Parser;
 use bpaf_doc::Doc;
 use bpaf_line::{Message, ParseFailure, State};
-use bpaf_words::Args;
+use bpaf_words::{Args, any_joined};
 use std::alloc::{AllocError, Global};
 use std::marker::PhantomData;
 
@@ -63,13 +64,26 @@ impl<T: Drop, P: Parser<T>> OptionParser<T, P> {
         ensures dealt { IfOk result (λ v. IsDealtOut T (P.reads self.now.inner)
             (P.describes self.now.inner) self.now.info (given_of args.entry) v) }
     {
-        let Ok((flags, arguments)) = self.known_shorts() else {
+        let Ok((flags, arguments)) = self.names_for(args) else {
             return Err(ParseFailure::Memory);
         };
         match State::construct(self.alloc, args, &flags, &arguments) {
             Ok(mut state) => self.run_from(&mut state),
             Err(message) => Err(failure_of(self.alloc, message)),
         }
+    }
+
+    /// The short names by which the words are read: the known ones, where a word is joined letters;
+    /// else none, since they don't count.
+    fn names_for(&self, args: Args<'_>) -> Result<(Vec<char>, Vec<char>), AllocError>
+        requires { P.can_eval self.now.inner }
+        ensures { IfOk result (λ r. ReadsNames (P.describes self.now.inner) self.now.info
+            (words_of args.entry) r.0.items r.1.items) }
+    {
+        if any_joined(args.words()) {
+            return self.known_shorts();
+        }
+        Ok((Vec::new(self.alloc), Vec::new(self.alloc)))
     }
 
     /// The known short names, by which joined words are read: those of the shown flags, of help and of

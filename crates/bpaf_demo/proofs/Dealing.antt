@@ -1,5 +1,5 @@
 -- From what a run says of the record's parser to options that are dealt out of the words.
-use Rattle.std.proofs.Common.{◌≡◌, ℕ, Bool, true, false, List, [], ◌∷◌, Option, Some, Result, Ok, Err, IfOk, sym, subst, ap, ◌∙◌}
+use Rattle.std.proofs.Common.{◌≡◌, ℕ, Bool, true, false, List, [], ◌∷◌, Option, Some, Result, Ok, Err, IfOk, sym, subst, ap, ◌∙◌, ⊎_elim}
 use Rattle.std.specs.Global.{Vec}
 use Rattle.bpaf_doc.specs.declared.doc.Piece.{Piece}
 use Rattle.bpaf_doc.specs.Shape.{Shape, And, Many, Optional, members}
@@ -144,8 +144,11 @@ module _ (file : List ℕ) (help : Option (List Piece)) where
         let others = read.rest_read in
         subst (IsDealtOptions words) (sym (made values v dealt.read.made)) (record {
           context = dealt.context;
-          is_context = subst (λ known. IsContext known (program_given words) dealt.context)
-              (known_shown dealt.shape dealt.shown) dealt.is_context;
+          is_context = ⊎_elim
+              (λ shown. subst (λ known. IsContext known (program_given words) dealt.context)
+              (known_shown shown.0 shown.1) shown.2)
+              (λ any. any program_known)
+              dealt.is_context;
           verbose_share = read.first_share;
           num_share = others.first_share;
           files_share = others.rest_share;

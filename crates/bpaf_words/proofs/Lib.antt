@@ -5,3 +5,4 @@ pub mod OneSpelling
 pub mod LineLemmas
 pub mod OneLine
 pub mod Fronts
+pub mod NotJoined

@@ -4,7 +4,7 @@ use Rattle.std.specs.Prelude.{IsUtf8, Option, Some, None, ◌⊎◌}
 use Rattle.std.specs.List.{AllZip}
 use Rattle.bpaf_words.specs.declared.arg.Arg.{Arg}
 use Rattle.bpaf_words.specs.declared.arg.Arg.TheVariants.{PosWord}
-use Rattle.bpaf_words.specs.Spelling.{Known, Items, Ambiguous, Spells}
+use Rattle.bpaf_words.specs.Spelling.{Known, Items, Ambiguous, Spells, IsNotJoined}
 
 -- each word spells its items, and these are all of them in order
 pub record SpellAll (known : Known) (words : List (List ℕ)) (items : List Arg) : Type 0 where
@@ -15,6 +15,10 @@ pub record SpellAll (known : Known) (words : List (List ℕ)) (items : List Arg)
 -- words without `--`
 abbrev pub HasNoMarker : List (List ℕ) → Type 0
 HasNoMarker words = All (λ word. word ≢ codes "--") words
+
+-- words of which none is joined characters, so that their line doesn't depend on what is known
+abbrev pub HaveNoJoined : List (List ℕ) → Type 0
+HaveNoJoined words = All IsNotJoined words
 
 -- the line of words, and the place of the marker, where one stands there
 pub data IsLine (known : Known) (words : List (List ℕ)) : List Arg → Option ℕ → Type 0 where

@@ -105,6 +105,12 @@ pub data Spells (known : Known) (word : List ℕ) : Spelling → Type 0 where
       → HasNoEquals (encode_utf8_all (d ∷ cs))
       → SpellsJoined known.names word (c ∷ d ∷ cs) spelling → Spells known word spelling
 
+-- a word that isn't joined characters, so that its spelling doesn't depend on what is known
+abbrev pub IsNotJoined : List ℕ → Type 0
+IsNotJoined word =
+    (c d : ℕ) (cs : List ℕ) → word ≡ codes "-" ++ encode_utf8_all (c ∷ d ∷ cs) → c ≢ 45
+    → HasNoEquals (encode_utf8_all (d ∷ cs)) → ⊥
+
 -- the cases of a spelling
 pub data Case : Type 0 where
   PlainWord : Case

@@ -1,12 +1,13 @@
 //! The line of all words.
-ghost use Rattle.std.specs.Prelude.{◌≡◌, ◌++◌, OnOk, All, IsUtf8, drop, map, length};
+ghost use Rattle.std.specs.Prelude.{◌≡◌, ◌++◌, false, OnOk, All, IsUtf8, drop, map, length};
 ghost use Rattle.bpaf_words.specs.Arguments.{words_in};
+ghost use Rattle.bpaf_words.specs.Line.{HaveNoJoined};
 ghost use Rattle.bpaf_words.specs.Spelling.{knowing};
 ghost use Rattle.bpaf_words.specs.Splitting.{SplitsWords, ReadsLine, AreTexts};
 
 use crate::arg::Arg;
 use crate::args::Words;
-use crate::split::{SplitFault, split_word};
+use crate::split::{SplitFault, is_joined, split_word};
 use bpaf_doc::Text;
 use std::alloc::{AllocError, Global};
 
@@ -36,6 +37,19 @@ impl From<AllocError> for LineFault {
     fn from(_error: AllocError) -> LineFault {
         LineFault::Memory
     }
+}
+
+/// Whether one of the words is joined letters, such as `-vn3`. Where none is, the line of the words
+/// doesn't depend on the known short names. It takes no memory.
+pub fn any_joined(words: Words<'_>) -> bool
+    ensures { result ≡ false → HaveNoJoined (words_in words.entry) }
+{
+    for index in 0..words.len() {
+        if is_joined(words.at(index)) {
+            return true;
+        }
+    }
+    false
 }
 
 /// The line of words: the items of those before the first `--`, and then a PosWord for it and for

@@ -1,5 +1,5 @@
 ghost use Rattle.std.specs.Prelude.{◌≡◌, ◌≢◌, [], ◌∷◌, ◌++◌, false, codes, encode_utf8, encode_utf8_all, OnOk};
-ghost use Rattle.bpaf_words.specs.Spelling.{argument_of, knowing};
+ghost use Rattle.bpaf_words.specs.Spelling.{IsNotJoined, argument_of, knowing};
 ghost use Rattle.bpaf_words.specs.Splitting.{Splits, SplitsJoined, SpellsAs};
 
 use crate::arg::Arg;
@@ -61,6 +61,24 @@ pub fn split_word(
         }
         None if tail.is_empty() => Ok(push_flag(alloc, c, word, items)?),
         None => split_joined(alloc, word, rest, flags, arguments, items),
+    }
+}
+
+/// Whether a word is joined letters, such as `-vn3`, whose items depend on the known short names.
+pub(crate) fn is_joined(word: &str) -> bool
+    ensures { result ≡ false → IsNotJoined word.now }
+{
+    let Some(rest) = word.strip_prefix('-') else {
+        return false;
+    };
+    let mut letters = rest.chars();
+    let Some(c) = letters.next() else {
+        return false;
+    };
+    let tail = letters.as_str();
+    match tail.split_once('=') {
+        Some(_) => false,
+        None => c != '-' && !tail.is_empty(),
     }
 }
 

@@ -1,0 +1,41 @@
+use bpaf::{Args, Doc, ParseFailure, Parser, construct, positional, short};
+use std::alloc::Global;
+
+/// A record of options, as most programs have one.
+#[derive(Drop)]
+pub struct Options {
+    pub verbose: bool,
+    pub num: u64,
+    pub files: Vec<String>,
+}
+
+/// The number of a record of options and how many files it has.
+pub fn record(alloc: Global, line: &[String]) -> Result<u64, ParseFailure> {
+    let verbose = short(alloc, 'v')?.long("verbose")?.switch();
+    let num = short(alloc, 'n')?.long("num")?.argument::<u64>("NUM");
+    let files = positional::<String>("FILE")
+        .help(Doc::from_text(alloc, "Files to read")?)
+        .many();
+    let options = construct!(Options {
+        verbose,
+        num,
+        files
+    })
+    .to_options(alloc)?;
+    let made = options.run_once(Args::from(line).set_name("bpaf_demo"))?;
+    Ok(made.num.wrapping_add(made.files.len() as u64))
+}
+
+/// How many of two flags there are.
+pub fn flags(alloc: Global, line: &[String]) -> Result<u64, ParseFailure> {
+    let a = short(alloc, 'a')?.req_flag(1u8);
+    let b = short(alloc, 'b')?.req_flag(2u8);
+    let options = construct!([a, b]).many().to_options(alloc)?;
+    Ok(options.run_once(Args::from(line))?.len() as u64)
+}
+
+/// How many switches there are.
+pub fn switches(alloc: Global, line: &[String]) -> Result<u64, ParseFailure> {
+    let options = short(alloc, 'v')?.switch().many().to_options(alloc)?;
+    Ok(options.run_once(Args::from(line))?.len() as u64)
+}
