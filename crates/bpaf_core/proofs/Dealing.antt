@@ -4,7 +4,7 @@ use Rattle.std.proofs.lemmas.Bool.Decides.{nat_tests}
 use mathlib.Core.Path.{fun_ext}
 use Rattle.bpaf_line.specs.declared.failure.ParseFailure.{ParseFailure}
 use Rattle.bpaf_doc.specs.Shape.{Shape}
-use Rattle.bpaf_core.specs.declared.info.Info.{Info}
+use Rattle.bpaf_core.specs.Info.{RunInfo}
 use Rattle.bpaf_core.specs.Known.{IsLineContext}
 use Rattle.bpaf_words.specs.Arguments.{Given}
 use Rattle.bpaf_line.specs.Situation.{Situation, Context, beginning, is_taken, is_open, in_scope, is_marker, is_dealt_place, open_count}
@@ -49,7 +49,7 @@ all_newly context t keeps closed none = fun_ext (λ p. dealt_at (is_taken t p) (
     let same : length t.context.line ≡ length context.line = ap (λ c. length c.line) keeps.context in
     taken_at (in_scope t p) (is_taken t p) (closed p (in_whole_line context p within)) (none_below (is_open t) (length t.context.line) none p (omega arith))))
 
-module _ {T : Type 0} {inner : Outcome T} {reads : Readings T} {describes : Shape → Type 0} {info : Info} (given : Given) (law : Lawful T inner reads) where
+module _ {T : Type 0} {inner : Outcome T} {reads : Readings T} {describes : Shape → Type 0} {info : RunInfo} (given : Given) (law : Lawful T inner reads) where
   -- a value that a run over the words' line answers is dealt out of the words
   dealt_from : (context : Context) (v : T) (t : Situation)
       → IsLineContext describes info given context → Runs T inner (beginning context) (Ok v) t

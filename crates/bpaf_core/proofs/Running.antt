@@ -9,7 +9,7 @@ use Rattle.bpaf_line.specs.Situation.{Situation, Context}
 use Rattle.bpaf_line.specs.Constructing.{Constructs, IsContext, RefusesLine}
 use Rattle.bpaf_laws.specs.Reading.{Outcome}
 use Rattle.bpaf_doc.specs.Shape.{Shape}
-use Rattle.bpaf_core.specs.declared.info.Info.{Info}
+use Rattle.bpaf_core.specs.Info.{RunInfo}
 use Rattle.bpaf_core.specs.Known.{known_names, ShowsNames, ReadsNames, IsLineContext}
 use Rattle.bpaf_words.specs.Arguments.{Given}
 use Rattle.bpaf_words.specs.Line.{HasNoLine, HaveNoJoined}
@@ -26,7 +26,7 @@ pub something_left : (n : ℕ) (empty : Bool) → empty ≡ (n == 0) → empty �
 something_left n empty is otherwise = grind (arith, nat_tests)
 
 -- known names as a whole
-known_are : (describes : Shape → Type 0) (info : Info) (flags arguments : List ℕ)
+known_are : (describes : Shape → Type 0) (info : RunInfo) (flags arguments : List ℕ)
     (n : ShowsNames describes info flags arguments)
     → knowing (record { flags = flags; arguments = arguments }) ≡ known_names info n.shape
 known_are describes info flags arguments n = rw (n.flags_are, n.arguments_are) refl
@@ -41,7 +41,7 @@ whatever_known known given context alone is other = record {
 }
 
 -- the context that the words made, by the names that they were read by
-made_context : {describes : Shape → Type 0} {info : Info} (given : Given) (flags arguments : List ℕ)
+made_context : {describes : Shape → Type 0} {info : RunInfo} (given : Given) (flags arguments : List ℕ)
     (context : Context) → ReadsNames describes info given.words flags arguments
     → IsContext (knowing (record { flags = flags; arguments = arguments })) given context
     → IsLineContext describes info given context
@@ -54,7 +54,7 @@ made_context given flags arguments context names is = ⊎_elim
     (λ alone. inr (whatever_known _ given context alone is))
     names
 
-module _ {T : Type 0} {inner : Outcome T} {describes : Shape → Type 0} {info : Info} (given : Given)
+module _ {T : Type 0} {inner : Outcome T} {describes : Shape → Type 0} {info : RunInfo} (given : Given)
   where
     -- a run from the state that the words made
     pub started : (flags arguments : List ℕ) (s : Situation) (r : Result T ParseFailure)

@@ -7,25 +7,17 @@ use Rattle.bpaf_words.specs.Line.{HaveNoJoined}
 use Rattle.bpaf_words.specs.Spelling.{Known, knowing}
 use Rattle.bpaf_line.specs.Constructing.{IsContext}
 use Rattle.bpaf_line.specs.Situation.{Context}
-use Rattle.bpaf_text.specs.Named.{key_named}
-use Rattle.bpaf_core.specs.declared.info.Info.{Info}
-
--- what a run knows beside its parser, where nothing is set
-abbrev pub plain_info : Info
-plain_info = record {
-  help_arg = key_named (record { shorts = 104 ∷ []; longs = codes "help" ∷ [] });
-  version_arg = key_named (record { shorts = 86 ∷ []; longs = codes "version" ∷ [] });
-}
+use Rattle.bpaf_core.specs.Info.{RunInfo}
 
 -- those of the flags and arguments that a parser shows, and as flags those of help and version
-abbrev pub known_names : Info → Shape → Known
+abbrev pub known_names : RunInfo → Shape → Known
 known_names info shape = knowing (record {
   flags = flag_shorts shape ++ info.help_arg.names.shorts ++ info.version_arg.names.shorts;
   arguments = argument_shorts shape;
 })
 
 -- short names that are the known ones of a shape that the parser may show
-pub record ShowsNames (describes : Shape → Type 0) (info : Info) (flags arguments : List ℕ) : Type 0
+pub record ShowsNames (describes : Shape → Type 0) (info : RunInfo) (flags arguments : List ℕ) : Type 0
   where
     pub shape : Shape
     pub shown : describes shape
@@ -33,13 +25,13 @@ pub record ShowsNames (describes : Shape → Type 0) (info : Info) (flags argume
     pub arguments_are : arguments ≡ (known_names info shape).names.arguments
 
 -- short names by which words are read: the known ones, or any where no word is joined characters
-abbrev pub ReadsNames : (Shape → Type 0) → Info → List (List ℕ) → List ℕ → List ℕ → Type 0
+abbrev pub ReadsNames : (Shape → Type 0) → RunInfo → List (List ℕ) → List ℕ → List ℕ → Type 0
 ReadsNames describes info words flags arguments =
     ShowsNames describes info flags arguments ⊎ HaveNoJoined words
 
 -- the context of the words' line: by the known names of a shape that the parser may show, or the
 -- words have this line whatever names are known
-abbrev pub IsLineContext : (Shape → Type 0) → Info → Given → Context → Type 0
+abbrev pub IsLineContext : (Shape → Type 0) → RunInfo → Given → Context → Type 0
 IsLineContext describes info given context =
     ((shape : Shape) × describes shape × IsContext (known_names info shape) given context)
     ⊎ ((known : Known) → IsContext known given context)

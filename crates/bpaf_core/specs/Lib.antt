@@ -1,3 +1,4 @@
+pub mod Info
 pub mod Known
 pub mod Run
 pub mod Dealt

@@ -10,7 +10,7 @@ use Rattle.bpaf_line.specs.Messages.{is_memory}
 use Rattle.bpaf_words.specs.Line.{HasNoLine}
 use Rattle.bpaf_line.specs.Situation.{Situation, Context, beginning, open_count}
 use Rattle.bpaf_doc.specs.Shape.{Shape}
-use Rattle.bpaf_core.specs.declared.info.Info.{Info}
+use Rattle.bpaf_core.specs.Info.{RunInfo}
 use Rattle.bpaf_core.specs.Known.{known_names, IsLineContext}
 use Rattle.bpaf_laws.specs.Reading.{Outcome}
 
@@ -36,7 +36,7 @@ pub data Runs (T : Type 0) (inner : Outcome T) (s : Situation) : Result T ParseF
 
 -- a run over words: over their line; or they have none by the names that the parser shows; or there
 -- is no memory for it
-pub data RunsWords (T : Type 0) (inner : Outcome T) (describes : Shape → Type 0) (info : Info)
+pub data RunsWords (T : Type 0) (inner : Outcome T) (describes : Shape → Type 0) (info : RunInfo)
     (given : Given) : Result T ParseFailure → Type 0 where
   ran : (context : Context) (r : Result T ParseFailure) (t : Situation)
       → IsLineContext describes info given context → Runs T inner (beginning context) r t

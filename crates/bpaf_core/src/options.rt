@@ -97,8 +97,7 @@ impl<T: Drop, P: Parser<T>> OptionParser<T, P> {
         let mut flags = Vec::new(self.alloc);
         let mut arguments = Vec::new(self.alloc);
         meta.collect_shorts(&mut flags, &mut arguments)?;
-        flags.extend_from_slice(self.info.help_arg.shorts())?;
-        flags.extend_from_slice(self.info.version_arg.shorts())?;
+        self.info.push_shorts(&mut flags)?;
         Ok((flags, arguments))
     }
 

@@ -1,6 +1,6 @@
 ghost use Rattle.std.specs.Prelude.{◌≡◌, IfOk, false};
 ghost use Rattle.bpaf_doc.specs.Shape.{shape_of};
-ghost use Rattle.bpaf_core.specs.Known.{plain_info};
+ghost use Rattle.bpaf_core.specs.Info.{plain_info};
 
 use crate::choice::ParseOrElse;
 use crate::collect::ParseCollect;
@@ -273,7 +273,7 @@ pub trait Parser<T>: Sized {
         ensures info { IfOk result (λ options. options.info ≡ plain_info) }
     {
         Ok(OptionParser {
-            info: Info::new(alloc)?,
+            info: Info::new(),
             inner: self,
             alloc,
             of: PhantomData,

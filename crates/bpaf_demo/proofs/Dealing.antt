@@ -13,8 +13,8 @@ use Rattle.bpaf_laws.specs.Argument.{ArgumentReads, argument_shape}
 use Rattle.bpaf_laws.specs.Flag.{FlagReads, flag_shape}
 use Rattle.bpaf_laws.specs.Repeat.{ManyReads, ManyDescribes}
 use Rattle.bpaf_laws.specs.Product.{BothReads, ProductReads, BothDescribes, LastDescribes, ProductDescribes}
-use Rattle.bpaf_core.specs.declared.info.Info.{Info}
-use Rattle.bpaf_core.specs.Known.{known_names, plain_info}
+use Rattle.bpaf_core.specs.Info.{RunInfo, plain_info}
+use Rattle.bpaf_core.specs.Known.{known_names}
 use Rattle.bpaf_core.specs.Dealt.{IsDealtOut}
 use Rattle.bpaf.specs.declared.leaves.positional.Position.{Position}
 use Rattle.bpaf.specs.declared.leaves.positional.Position.TheVariants.{Unrestricted}
@@ -37,7 +37,7 @@ pub record Parts : Type 0 where
   pub absent : Option Bool
   pub num : KeyWithValue
   pub position : Position
-  pub info : Info
+  pub info : RunInfo
 
 -- those of the program, where nothing else is set
 abbrev pub program_parts : Parts
@@ -51,7 +51,7 @@ program_parts = record {
 }
 
 -- these parts together
-abbrev pub parts_of : Named → Bool → Option Bool → KeyWithValue → Position → Info → Parts
+abbrev pub parts_of : Named → Bool → Option Bool → KeyWithValue → Position → RunInfo → Parts
 parts_of verbose present absent num position info = record {
   verbose = verbose;
   present = present;
@@ -63,7 +63,7 @@ parts_of verbose present absent num position info = record {
 
 -- each is that of the program
 pub record AreProgramParts (verbose : Named) (present : Bool) (absent : Option Bool)
-    (num : KeyWithValue) (position : Position) (info : Info) : Type 0 where
+    (num : KeyWithValue) (position : Position) (info : RunInfo) : Type 0 where
   pub verbose_is : verbose ≡ program_parts.verbose
   pub present_is : present ≡ program_parts.present
   pub absent_is : absent ≡ program_parts.absent
@@ -162,7 +162,7 @@ module _ (file : List ℕ) (help : Option (List Piece)) where
 
     -- an answer of the record's parser on the program's words
     pub answer_dealt : (verbose : Named) (present : Bool) (absent : Option Bool)
-        (num : KeyWithValue) (position : Position) (info : Info) (given : Given)
+        (num : KeyWithValue) (position : Position) (info : RunInfo) (given : Given)
         → MakesRecord makes → AreProgramParts verbose present absent num position info
         → given ≡ program_given words → (r : Result Options ParseFailure)
         → IfOk r (RecordDealsOut makes (parts_of verbose present absent num position info)

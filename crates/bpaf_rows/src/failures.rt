@@ -101,20 +101,10 @@ fn want_of_memory_is_known(rt: HostRuntime) -> Result<(), Fail> {
     Ok(())
 }
 
-/// A copy of the keys that ask a run for help and for the version.
-fn copied_info(alloc: Global) -> Result<Info, AllocError> {
-    Info::new(alloc)?.copy()
-}
-
-/// How Rust's Debug prints it.
-const KEYS: &str = "Info { help_arg: NamedArg { shorts: ['h'], \
-    longs: [Text { inner: \"help\" }], \
-    envs: [], help: None }, \
-    version_arg: NamedArg { shorts: ['V'], \
-    longs: [Text { inner: \"version\" }], \
-    envs: [], help: None } }";
+/// How Rust's Debug prints a copy of the keys of a run, where none is set.
+const KEYS: &str = "Info { help_arg: None, version_arg: None }";
 
 #[test]
 fn keys_of_a_run_are_copied(rt: HostRuntime) -> Result<(), Fail> {
-    prints(&rt, copied_info(rt.alloc()), KEYS)
+    prints(&rt, Info::new().copy(), KEYS)
 }
