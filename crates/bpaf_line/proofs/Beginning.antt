@@ -1,5 +1,5 @@
 -- How a run begins: its line, and a sound state.
-use Rattle.std.proofs.Common.{◌≡◌, ℕ, ◌+◌, ◌-◌, ◌<◌, ◌≤◌, Bool, true, false, List, [], ◌++◌, length, take, drop, map, refl, ap, sym, ◌∙◌, subst, arith, append-nil, codes, Some, None, Option, IfSome, slice_get, get_or, replicate, length-set, length-append, length-drop, nat_lt, ◌&&◌, is_some, option_to_list, not, ◌≢◌, ⊎_elim}
+use Rattle.std.proofs.Common.{◌≡◌, ℕ, ◌+◌, ◌-◌, ◌<◌, ◌≤◌, Bool, true, false, List, length, map, refl, ap, sym, ◌∙◌, subst, arith, Some, None, Option, IfSome, slice_get, get_or, replicate, length-set, nat_lt, ◌&&◌, is_some, option_to_list, not, ◌≢◌, ⊎_elim}
 use Rattle.std.specs.Int.{from_bool}
 use Rattle.std.proofs.Math.ListN.{length-replicate}
 use Rattle.std.specs.Rc.{rc_slice_items}
@@ -11,7 +11,8 @@ use Rattle.bpaf_line.specs.declared.state.State.TheInside.{Inside}
 use Rattle.bpaf_line.specs.Situation.{Situation, Context, beginning, first_marks, open_count, is_open, is_taken, is_marker, is_dealt_place, take_place}
 use Rattle.bpaf_line.specs.Inside.{situation_of, IsSound}
 use Rattle.std.proofs.lemmas.Bool.{cases_lt, cases_eq}
-use Rattle.bpaf_line.proofs.Places.{taken_here, taken_other, count_below-all, open_count-take_place}
+use Rattle.bpaf_line.proofs.Places.{taken_here, taken_other, open_count-take_place}
+use Rattle.bpaf_line.proofs.Counts.{count_below-all}
 
 -- how a run begins whose line has its marker at this place
 abbrev start_with : Context → Option ℕ → Situation

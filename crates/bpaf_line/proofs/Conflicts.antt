@@ -1,14 +1,14 @@
 -- Conflict marks: what they change, and what they leave.
-use Rattle.std.proofs.Common.{◌≡◌, ◌≢◌, ℕ, ◌+◌, ◌<◌, ◌≤◌, Bool, true, false, not, ◌&&◌, ◌||◌, List, Option, Some, None, length, refl, ap, sym, ◌∙◌, subst, arith, true≢false, if◌then◌else◌, get_or-set_same, get_or-set_other, length-set, ⊎_elim, nat_lt, slice_index_or, slice_set}
+use Rattle.std.proofs.Common.{◌≡◌, ◌≢◌, ℕ, ◌+◌, ◌<◌, ◌≤◌, Bool, true, false, not, ◌&&◌, ◌||◌, Option, Some, length, refl, ap, sym, ◌∙◌, subst, arith, true≢false, if◌then◌else◌, get_or-set_same, get_or-set_other, ⊎_elim, nat_lt}
 use Rattle.std.proofs.lemmas.Bool.{cases_lt, cases_eq}
 use Rattle.std.proofs.lemmas.Bool.Decides.{nat_tests}
 use Rattle.std.proofs.lemmas.List.{get_or_past}
 use Rattle.std.proofs.Math.Bool.{beq}
 use Rattle.bpaf_line.specs.declared.state.PlaceMark.{PlaceMark}
 use Rattle.bpaf_line.specs.declared.state.PlaceMark.TheVariants.{Conflict, Taken}
-use Rattle.bpaf_line.specs.Situation.{Situation, is_open, is_taken, in_scope, is_taken_mark, mark_at, named_by, conflict_at, with_conflict, count_below, open_count}
-use Rattle.bpaf_line.specs.Conflicts.{ConflictsSaved, IsLeftmost, TakeTheSame}
-use Rattle.bpaf_line.proofs.Places.{count_below-same}
+use Rattle.bpaf_line.specs.Situation.{Situation, is_open, is_taken, in_scope, is_taken_mark, mark_at, named_by, conflict_at, with_conflict, open_count}
+use Rattle.bpaf_line.specs.Conflicts.{ConflictsSaved, TakeTheSame}
+use Rattle.bpaf_line.proofs.Counts.{count_below-same}
 
 -- a place past the line is taken
 pub taken_past_line : (s : Situation) (p : ℕ) → length s.context.line ≤ p → is_taken s p ≡ true

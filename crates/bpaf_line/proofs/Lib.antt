@@ -1,3 +1,5 @@
+pub mod Counts
+pub mod BitLemmas
 pub mod Places
 pub mod Matches
 pub mod Sound

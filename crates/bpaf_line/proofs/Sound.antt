@@ -11,7 +11,8 @@ use Rattle.std.specs.Rc.{rc_slice_items}
 use Rattle.std.specs.declared.rc.RcSlice.{RcSlice}
 use Rattle.std.specs.declared.alloc.Global.{Global}
 use Rattle.bpaf_line.specs.declared.state.PlaceMark.{PlaceMark}
-use Rattle.bpaf_line.proofs.Places.{open_count-take_place, open_in_scope, open_not_taken, taken_stays, count_below-same, count_below-cut}
+use Rattle.bpaf_line.proofs.Places.{open_count-take_place, open_in_scope, open_not_taken, taken_stays}
+use Rattle.bpaf_line.proofs.Counts.{count_below-same, count_below-cut}
 use Rattle.std.proofs.lemmas.Option.{slice_get-get_or}
 use Rattle.bpaf_line.proofs.Conflicts.{open_count-with_conflict, taken_after_conflict}
 use Rattle.std.proofs.lemmas.Bool.Decides.{nat_tests}
@@ -110,6 +111,6 @@ sound_scope i start end left h ordered inside counted =
       ordered = ordered;
       inside = inside;
       counted = counted ∙ (count_below-same (is_present_from i.marks.items start) (is_open s) end (λ q within. present_is_open i start end q inside within)
-          ∙ sym (count_below-cut (is_open s) end (length (rc_slice_items i.items)) inside (λ q past. none_open_past i start end q past)));
+          ∙ sym (count_below-cut (is_open s) end (length (rc_slice_items i.items)) inside (λ q past _. none_open_past i start end q past)));
       named = h.named;
     }

@@ -3,6 +3,7 @@ pub mod Messages
 pub mod Combining
 pub mod Failure
 pub mod Situation
+pub mod Bits
 pub mod Inside
 pub mod MissingIn
 pub mod Taking

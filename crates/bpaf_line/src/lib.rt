@@ -22,6 +22,7 @@
 //! The source of the design is bpaf's `args.rs` and `error.rs`.
 #![tactic(auto)]
 
+mod bits;
 mod conflict;
 mod construct;
 mod error;

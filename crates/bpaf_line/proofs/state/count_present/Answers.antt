@@ -1,6 +1,6 @@
 use Rattle.std.proofs.Common.{sym, arith}
 use Rattle.std.proofs.lemmas.Bool.Decides.{nat_tests}
-use Rattle.bpaf_line.proofs.Places.{count_below-none}
+use Rattle.bpaf_line.proofs.Counts.{count_below-none}
 use Rattle.bpaf_line.specs.Inside.{is_present_from}
 use Rattle.bpaf_line.proofs.state.count_present.Goals as goal
 

@@ -1,4 +1,4 @@
-use Rattle.std.proofs.Common.{◌≡◌, ap, sym, ◌∙◌, false}
+use Rattle.std.proofs.Common.{ap, sym, ◌∙◌, false}
 use Rattle.std.specs.Option.{option_map_or}
 use Rattle.bpaf_line.proofs.Matches.{none_more}
 use Rattle.bpaf_line.proofs.state.State.first_open.Goals as goal
