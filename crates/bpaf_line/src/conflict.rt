@@ -1,8 +1,9 @@
-ghost use Rattle.std.specs.Prelude.{◌≡◌, ◌&&◌, not, if◌then◌else◌};
-ghost use Rattle.bpaf_line.specs.Situation.{is_taken, with_conflict};
+ghost use Rattle.std.specs.Prelude.{ℕ, ◌≡◌, ◌&&◌, not, IfOk, OnOk, OnErr, None, Some, if◌then◌else◌};
+ghost use Rattle.bpaf_line.specs.Situation.{is_taken, conflict_at, last_of, with_conflicts};
 ghost use Rattle.bpaf_line.specs.Conflicts.{IsWinner, ConflictsSaved, first_conflict};
 
 use crate::state::State;
+use std::alloc::AllocError;
 
 impl State {
     /// The leftmost place that is taken in only one of two states, and whether it is taken in this one;
@@ -20,25 +21,40 @@ impl State {
     }
 
     /// Gives each place that is present here and taken in the other state a conflict mark, which names
-    /// the place handed in. It takes no memory.
+    /// the place handed in. Refused only for want of memory, and then nothing changes.
     ///
     /// A place with a conflict mark is present.
-    pub fn save_conflicts(&mut self, loser: &State, winner: usize)
-        ensures { ConflictsSaved self.old loser.now winner self.new }
+    pub fn save_conflicts(&mut self, loser: &State, winner: usize) -> Result<(), AllocError>
+        ensures ok { OnOk result (ConflictsSaved self.old loser.now winner self.new) }
+        ensures err { OnErr result (self.new ≡ self.old) }
     {
-        for place in 0..self.line_len() {
-            self.save_conflict(loser, place, winner);
-        }
+        let mut pairs = self.excluded(loser, winner)?;
+        self.conflicts.append(&mut pairs)?;
+        Ok(())
     }
 
-    /// Gives one place a conflict mark, where it is present here and taken in the other state.
-    fn save_conflict(&mut self, loser: &State, place: usize, winner: usize)
-        ensures { self.new ≡ (if not (is_taken self.old place) && is_taken loser.now place
-            then with_conflict self.old place winner else self.old) }
+    /// The places that are present here and taken in the other state, each with the place handed in.
+    fn excluded(&self, loser: &State, winner: usize) -> Result<Vec<(usize, usize)>, AllocError>
+        ensures { IfOk result (λ pairs. (p : ℕ) → last_of pairs.items p
+            ≡ (if not (is_taken self.now p) && is_taken loser.now p then Some winner else None)) }
     {
-        if !self.is_taken(place) && loser.is_taken(place) {
-            self.mark_conflict(place, winner);
+        let mut pairs = Vec::new(self.alloc());
+        for place in 0..self.line_len() {
+            if !self.is_taken(place) && loser.is_taken(place) {
+                pairs.push((place, winner))?;
+            }
         }
+        Ok(pairs)
+    }
+
+    /// What the conflict mark of a place names, where it has one; a taken place has none.
+    pub(crate) fn conflict_at(&self, place: usize) -> Option<usize>
+        ensures { result ≡ conflict_at self.now place }
+    {
+        if self.is_taken(place) {
+            return None;
+        }
+        last_of(self.conflicts.as_slice(), place)
     }
 
     /// The first present place in scope, and what its conflict mark names; None where it has none, or no
@@ -49,4 +65,15 @@ impl State {
         let (place, _) = self.next_open(0)?;
         Some((place, self.conflict_at(place)?))
     }
+}
+
+/// What the last pair of a place names.
+fn last_of(conflicts: &[(usize, usize)], place: usize) -> Option<usize>
+    ensures { result ≡ last_of conflicts.now place }
+{
+    conflicts
+        .iter()
+        .rev()
+        .find(|pair| pair.0 == place)
+        .map(|pair| pair.1)
 }

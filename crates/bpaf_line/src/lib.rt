@@ -6,8 +6,8 @@
 //! - [`State`] is a parse in progress. Contracts see it as a `Situation` (specs/Situation.antt), and
 //!   the layers above speak of one only through its accessors (`item_at`, `is_taken`, `conflict_at`,
 //!   `in_scope`, `is_open`, `open_count`, and the steps `take_place`, `with_scope`, `with_path`,
-//!   `with_current`, `beginning`): how the marks are kept is this crate's own affair. What the steps
-//!   change of them is in proofs/Places.antt. The marker, which is the first `--`, is taken from the
+//!   `with_current`, `beginning`): how what is taken is kept is this crate's own affair. What the steps
+//!   change of it is in proofs/Places.antt. The marker, which is the first `--`, is taken from the
 //!   start and is the item of no place.
 //! - The take calls meet their relation of specs/Taking.antt for every answer, over the whole state.
 //!   [`State::items_iter`] walks the `open_items` (specs/OpenItems.antt).

@@ -37,7 +37,7 @@ fn leftmost_place_wins(rt: HostRuntime) -> Result<(), Fail> {
 /// copy.
 fn answers_once_saved(alloc: Global, calls: &[Call<'_>]) -> Result<String, Fail> {
     let (mut this, that) = branches(alloc)?;
-    this.save_conflicts(&that, 0);
+    this.save_conflicts(&that, 0)?;
     let mut copy = this.copy()?;
     let mut all = play(alloc, &mut this, &[Call::Conflict])?;
     all.push_str(play(alloc, &mut copy, calls)?.as_str())?;
