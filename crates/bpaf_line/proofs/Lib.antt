@@ -7,3 +7,4 @@ pub mod OpenItems
 pub mod Conflicts
 pub mod Commands
 pub mod Beginning
+pub mod Marks

@@ -1,5 +1,5 @@
 -- Steps that keep a state sound.
-use Rattle.std.proofs.Common.{◌≡◌, ◌≢◌, ℕ, ◌+◌, ◌-◌, ◌<◌, ◌≤◌, Bool, true, false, not, List, [], ◌∷◌, ◌++◌, length, refl, ap, sym, ◌∙◌, subst, arith, if◌then◌else◌, ⊎_elim, Vec, vec_capacity, vec_len, get_or, Option, Some, nat_lt, nat_le, slice_index, slice_get, take, min, max, ◌&&◌, ◌||◌, IfSome}
+use Rattle.std.proofs.Common.{◌≡◌, map, string_bytes, None, ◌≢◌, ℕ, zero, suc, ◌+◌, ◌-◌, ◌<◌, ◌≤◌, Bool, true, false, not, List, [], ◌∷◌, ◌++◌, length, refl, ap, sym, ◌∙◌, subst, arith, if◌then◌else◌, ⊎_elim, Vec, String, vec_capacity, vec_len, get_or, Option, Some, nat_lt, nat_le, slice_index, slice_get, take, min, max, ◌&&◌, ◌||◌, IfSome}
 use Rattle.std.specs.Vec.{with_items}
 use Rattle.std.specs.Bool.{then_some}
 use Rattle.std.specs.Int.{from_bool}
@@ -167,6 +167,34 @@ last_in_line s p h some last =
     let n = length s.trail.items - 1 in
     let new = cut_to (situation_of s) n in
     present_in_line new p (ap (is_taken new) last ∙ h.in_turn n (omega arith))
+
+-- it is sound with other conflict marks, and another path that begins with the set name
+pub sound_path : (s : Inside) (conflicts : Vec (ℕ × ℕ) Global) (path : Vec (String Global) Global) → IsSound s → IfSome s.name (λ n. slice_get (map string_bytes path.items) 0 ≡ Some n)
+    → IsSound (record s { conflicts = conflicts; path = path })
+sound_path s conflicts path h named = record {
+  worded = h.worded;
+  bits = h.bits;
+  room = h.room;
+  in_turn = h.in_turn;
+  ordered = h.ordered;
+  inside = h.inside;
+  counted = h.counted;
+  first = record { from = h.first.from; within = h.first.within; present = h.first.present; passed = h.first.passed };
+  named = named;
+}
+
+-- a path that is cut begins with the set name, where it is not cut to nothing
+pub path_cut : (name : Option (List ℕ)) (path : List (List ℕ)) (n : ℕ) → IfSome name (λ set. slice_get path 0 ≡ Some set) → IfSome name (λ _. 1 ≤ n) → IfSome name (λ set. slice_get (take n path) 0 ≡ Some set)
+path_cut None path n begins some = tt
+path_cut (Some set) [] n begins some = cc
+path_cut (Some set) (entry ∷ path) zero begins some = absurd (omega arith)
+path_cut (Some set) (entry ∷ path) (suc n) begins some = begins
+
+-- and so does a longer one
+pub path_longer : (name : Option (List ℕ)) (path more : List (List ℕ)) → IfSome name (λ set. slice_get path 0 ≡ Some set) → IfSome name (λ set. slice_get (path ++ more) 0 ≡ Some set)
+path_longer None path more begins = tt
+path_longer (Some set) [] more begins = cc
+path_longer (Some set) (entry ∷ path) more begins = begins
 
 -- a place that is present and in scope lies in the line
 pub open_in_line : (s : Inside) (p : ℕ) → IsSound s → is_open (situation_of s) p ≡ true → p < length (rc_slice_items s.items)

@@ -2,7 +2,9 @@
 use Rattle.std.specs.Prelude.{◌≡◌, ◌≤◌, ◌<◌, ◌*◌, ℕ, List, length, map, string_bytes, IfSome, slice_get, Some, vec_capacity}
 use Rattle.std.specs.Rc.{rc_slice_items}
 use Rattle.bpaf_line.specs.declared.state.State.TheInside.{Inside}
+use Rattle.bpaf_line.specs.declared.mark.Steps.TheInside.{Inside as InsideSteps}
 use Rattle.bpaf_line.specs.Bits.{has_bit}
+use Rattle.bpaf_line.specs.Changes.{Changes}
 use Rattle.bpaf_line.specs.Situation.{Situation, is_taken, open_count, TakenInTurn, IsFirstPresent}
 
 -- the situation that a kept state means
@@ -40,3 +42,14 @@ pub record IsSound (s : Inside) : Type 0 where
   pub counted : s.left ≡ open_count (situation_of s)
   pub first : IsFirstPresent (situation_of s) s.first
   pub named : IfSome s.name (λ n. slice_get (map string_bytes s.path.items) 0 ≡ Some n)
+
+-- the changes that kept steps mean
+abbrev pub changes_of : InsideSteps → Changes
+changes_of s = record {
+  taken = s.taken.items;
+  conflicts = s.conflicts.items;
+  path = map string_bytes s.path.items;
+  start = s.start;
+  end = s.end;
+  current = s.current;
+}

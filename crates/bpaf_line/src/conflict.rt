@@ -1,5 +1,6 @@
 ghost use Rattle.std.specs.Prelude.{ℕ, ◌≡◌, ◌&&◌, not, IfOk, OnOk, OnErr, None, Some, if◌then◌else◌};
 ghost use Rattle.bpaf_line.specs.Situation.{is_taken, conflict_at, last_of, with_conflicts};
+ghost use Rattle.bpaf_line.specs.Marks.{KeepsMarks};
 ghost use Rattle.bpaf_line.specs.Conflicts.{IsWinner, ConflictsSaved, first_conflict};
 
 use crate::state::State;
@@ -26,6 +27,7 @@ impl State {
     /// A place with a conflict mark is present.
     pub fn save_conflicts(&mut self, loser: &State, winner: usize) -> Result<(), AllocError>
         ensures ok { OnOk result (ConflictsSaved self.old loser.now winner self.new) }
+        ensures marks { KeepsMarks self.old self.new }
         ensures err { OnErr result (self.new ≡ self.old) }
     {
         let mut pairs = self.excluded(loser, winner)?;

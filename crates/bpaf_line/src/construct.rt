@@ -150,7 +150,7 @@ fn copy_entries(
 }
 
 /// An equal path.
-fn copy_path(alloc: Global, path: &[String]) -> Result<Vec<String>, AllocError>
+pub(crate) fn copy_path(alloc: Global, path: &[String]) -> Result<Vec<String>, AllocError>
     ensures { IfOk result (λ copy. map string_bytes copy.items ≡ map string_bytes path.now) }
 {
     let mut copy = Vec::new(alloc);

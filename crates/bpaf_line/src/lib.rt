@@ -14,6 +14,9 @@
 //! - Of two states of a line [`State::pick_winner`] tells which took the leftmost place that only one
 //!   took; [`State::save_conflicts`] marks what the other took, and [`State::conflict`] answers such a
 //!   mark (specs/Conflicts.antt; `conflict_at` is the accessor). What is marked is present.
+//! - [`State::undo`] goes back to a [`Mark`], and [`State::redo`] does the [`Steps`] since one again
+//!   (specs/Marks.antt). Each call that changes a state leaves what its earlier marks go back to
+//!   (`KeepsMarks`).
 //! - [`Message`], [`Error`] and [`ParseFailure`] say why a parser, or a whole run, gives no value. A
 //!   [`Message`] is want of memory (`is_memory`), one past which an optional parser goes on
 //!   (`can_catch`), one for which the words are at fault (`is_wrong_input`; specs/Messages.antt), or
@@ -28,6 +31,7 @@ mod construct;
 mod error;
 mod failure;
 mod iter;
+mod mark;
 mod missing;
 mod state;
 mod take;
@@ -35,5 +39,6 @@ mod take;
 pub use error::{Error, Message};
 pub use failure::ParseFailure;
 pub use iter::ArgsIter;
+pub use mark::{Mark, Steps};
 pub use missing::{MissingItem, MissingItems};
 pub use state::State;

@@ -7,6 +7,7 @@ ghost use Rattle.bpaf_words.specs.Items.{is_positional, word_text};
 ghost use Rattle.bpaf_line.specs.MissingIn.{IsMissingIn};
 ghost use Rattle.bpaf_line.specs.OpenItems.{open_items, open_items_from, items_left};
 ghost use Rattle.bpaf_line.specs.Situation.{item_at, open_count, is_taken, is_open, take_place, with_trail, with_scope, with_path, with_current, HasNoneOpen, IsNextOpen};
+ghost use Rattle.bpaf_line.specs.Marks.{KeepsMarks};
 ghost use Rattle.bpaf_line.specs.Taking.{HasNone, IsFirst, value_after, open_item, entry_of};
 
 use crate::bits;
@@ -87,7 +88,8 @@ impl State {
     pub fn set_scope(&mut self, scope: Range<usize>)
         requires ordered { scope.start ≤ scope.end }
         requires inside { scope.end ≤ length self.old.context.line }
-        ensures { self.new ≡ with_scope self.old scope.start scope.end }
+        ensures scope { self.new ≡ with_scope self.old scope.start scope.end }
+        ensures marks { KeepsMarks self.old self.new }
     {
         self.left = bits::count_clear(&self.words, scope.start, scope.end);
         self.first = bits::first_clear(&self.words, scope.start, scope.end);
@@ -113,6 +115,7 @@ impl State {
     pub fn push_path(&mut self, entry: &str) -> Result<(), AllocError>
         ensures ok { OnOk result (self.new ≡ with_path self.old entry.now) }
         ensures err { OnErr result (self.new ≡ self.old) }
+        ensures marks { KeepsMarks self.old self.new }
     {
         let entry = String::from_str(self.alloc(), entry)?;
         self.path.push(entry)?;
@@ -128,7 +131,8 @@ impl State {
 
     /// Makes another place the current one, or none.
     pub fn set_current(&mut self, current: Option<usize>)
-        ensures { self.new ≡ with_current self.old current }
+        ensures current { self.new ≡ with_current self.old current }
+        ensures marks { KeepsMarks self.old self.new }
     {
         self.current = current;
     }
@@ -157,7 +161,9 @@ impl State {
 
     /// Takes a place that is present and in scope; at another place nothing changes. It takes no memory.
     pub fn remove(&mut self, place: usize)
-        ensures { self.new ≡ (if is_open self.old place then take_place self.old place else self.old) }
+        ensures taken { self.new
+            ≡ (if is_open self.old place then take_place self.old place else self.old) }
+        ensures marks { KeepsMarks self.old self.new }
     {
         if self.is_open(place) {
             self.take(place);
@@ -283,7 +289,8 @@ impl State {
     /// Takes a place that is present and in scope, which is then the current one. It takes no memory.
     pub(crate) fn take(&mut self, place: usize)
         requires { is_open self.old place ≡ true }
-        ensures { self.new ≡ take_place self.old place }
+        ensures taken { self.new ≡ take_place self.old place }
+        ensures marks { KeepsMarks self.old self.new }
     {
         self.put(place);
         self.current = Some(place);
