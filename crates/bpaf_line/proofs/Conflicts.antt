@@ -26,14 +26,14 @@ last_of-append xs ys p =
     mapped (Some pair) b = refl
 
 -- a pair more at the end counts for its place
-last_of_here : (pairs : List (ℕ × ℕ)) (p winner : ℕ) → last_of (pairs ++ (p, winner) ∷ []) p ≡ Some winner
+pub last_of_here : (pairs : List (ℕ × ℕ)) (p winner : ℕ) → last_of (pairs ++ (p, winner) ∷ []) p ≡ Some winner
 last_of_here pairs p winner = last_of-append pairs ((p, winner) ∷ []) p ∙ ap (λ o. option_or o (last_of pairs p)) at
   where
     at : last_of ((p, winner) ∷ []) p ≡ Some winner
     at = rw (eq-eqb p p refl) refl
 
 -- and for no other
-last_of_other : (pairs : List (ℕ × ℕ)) (p q winner : ℕ) → q ≢ p → last_of (pairs ++ (p, winner) ∷ []) q ≡ last_of pairs q
+pub last_of_other : (pairs : List (ℕ × ℕ)) (p q winner : ℕ) → q ≢ p → last_of (pairs ++ (p, winner) ∷ []) q ≡ last_of pairs q
 last_of_other pairs p q winner other = last_of-append pairs ((p, winner) ∷ []) q ∙ ap (λ o. option_or o (last_of pairs q)) at
   where
     at : last_of ((p, winner) ∷ []) q ≡ None

@@ -8,3 +8,5 @@ pub mod Conflicts
 pub mod Commands
 pub mod Beginning
 pub mod Marks
+pub mod BitSets
+pub mod Winners

@@ -38,6 +38,14 @@ is_on_push trail p q = list_any-append (λ x. x == q) trail (p ∷ []) ∙ ap (�
     or_none true = refl
     or_none false = refl
 
+-- the other places are on it where they were
+pub on_others : (trail : List ℕ) (p q : ℕ) → q ≢ p → is_on (trail ++ p ∷ []) q ≡ is_on trail q
+on_others trail p q other = is_on_push trail p q ∙ (ap (λ b. is_on trail q || b) (ne_eqb p q (λ e. other (sym e))) ∙ or_none (is_on trail q))
+  where
+    or_none : (b : Bool) → (b || false) ≡ b
+    or_none true = refl
+    or_none false = refl
+
 -- a place that was put on the trail is taken
 pub put_here : (s : Situation) (p : ℕ) → is_taken (put s p) p ≡ true
 put_here s p =
@@ -46,12 +54,7 @@ put_here s p =
 -- the other places are as they were
 pub put_other : (s : Situation) (p q : ℕ) → q ≢ p → is_taken (put s p) q ≡ is_taken s q
 put_other s p q other =
-    let apart : (p == q) ≡ false = ne_eqb p q (λ e. other (sym e)) in
-    ap (λ b. not (nat_lt q (length s.context.line)) || (is_marker s.context.marker q || b)) (is_on_push s.trail p q ∙ (ap (λ b. is_on s.trail q || b) apart ∙ or_none (is_on s.trail q)))
-  where
-    or_none : (b : Bool) → (b || false) ≡ b
-    or_none true = refl
-    or_none false = refl
+    ap (λ b. not (nat_lt q (length s.context.line)) || (is_marker s.context.marker q || b)) (on_others s.trail p q other)
 
 -- a place that isn't taken lies in the line
 pub present_in_line : (s : Situation) (p : ℕ) → is_taken s p ≡ false → p < (length s.context.line)

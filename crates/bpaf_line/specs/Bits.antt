@@ -1,7 +1,7 @@
 -- A set of places, as bits in words of 64.
-use Rattle.std.specs.Prelude.{ℕ, ◌≡◌, ◌≢◌, ◌<◌, ◌≤◌, ◌/◌, ◌%◌, ◌==◌, Bool, true, false, not, ◌&&◌, nat_le, List, length, slice_index}
+use Rattle.std.specs.Prelude.{ℕ, ◌≡◌, ◌≢◌, ◌<◌, ◌≤◌, ◌/◌, ◌%◌, ◌==◌, ◌*◌, Bool, true, false, not, ◌&&◌, nat_le, List, length, slice_index, Option, None, Some, min, if◌then◌else◌}
 use Rattle.std.specs.Int.{bit_at}
-use Rattle.bpaf_line.specs.Situation.{count_below}
+use Rattle.bpaf_line.specs.Situation.{count_below, is_on}
 
 -- whether the bit of a place is set; past the words none is
 abbrev pub has_bit : List ℕ → ℕ → Bool
@@ -27,3 +27,32 @@ is_clear_from words from p = nat_le from p && not (has_bit words p)
 -- how many of these lie below another place
 abbrev pub count_clear : List ℕ → ℕ → ℕ → ℕ
 count_clear words from end = count_below (is_clear_from words from) end
+
+-- some places have a bit in the words
+abbrev pub AreWithin : List ℕ → List ℕ → Type 0
+AreWithin words places = (q : ℕ) → is_on places q ≡ true → q < 64 * length words
+
+-- the bits of some places have this value now, and the others have theirs
+pub record ChangesBits (old new places : List ℕ) (bit : Bool) : Type 0 where
+  pub kept : length new ≡ length old
+  pub here : (q : ℕ) → is_on places q ≡ true → has_bit new q ≡ bit
+  pub others : (q : ℕ) → is_on places q ≡ false → has_bit new q ≡ has_bit old q
+
+-- the least number in a set; or there is none
+abbrev pub IsLeastIn : (ℕ → Bool) → Option ℕ → Type 0
+IsLeastIn set None = (q : ℕ) → set q ≡ false
+IsLeastIn set (Some p) = (set p ≡ true) × ((q : ℕ) → q < p → set q ≡ false)
+
+-- a place is one of these, and its bit has this value
+abbrev pub is_on_as : List ℕ → List ℕ → Bool → ℕ → Bool
+is_on_as words places bit q =
+    is_on places q && (if bit then has_bit words q else not (has_bit words q))
+
+-- a place is in the first list alone
+abbrev pub is_in_first : List ℕ → List ℕ → ℕ → Bool
+is_in_first places others q = is_on places q && not (is_on others q)
+
+-- the lesser of two numbers, the first of which may be missing
+abbrev pub lesser_of : Option ℕ → ℕ → ℕ
+lesser_of None p = p
+lesser_of (Some q) p = min q p

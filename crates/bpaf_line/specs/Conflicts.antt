@@ -1,5 +1,5 @@
 -- What two parses of one line differ in, and what excludes what.
-use Rattle.std.specs.Prelude.{◌≡◌, ◌<◌, ℕ, Bool, true, not, ◌&&◌, List, [], ◌∷◌, Option, Some, None, option_map, if◌then◌else◌}
+use Rattle.std.specs.Prelude.{◌≡◌, ◌<◌, ℕ, Bool, true, false, not, nat_lt, ◌&&◌, List, [], ◌∷◌, Option, Some, None, option_map, if◌then◌else◌}
 use Rattle.bpaf_words.specs.declared.arg.Arg.{Arg}
 use Rattle.bpaf_line.specs.Situation.{Situation, is_taken, conflict_at}
 use Rattle.bpaf_line.specs.OpenItems.{open_items}
@@ -17,6 +17,14 @@ TakeTheSame s other = (p : ℕ) → is_taken s p ≡ is_taken other p
 abbrev pub IsWinner : Situation → Situation → Bool × Option ℕ → Type 0
 IsWinner s other (here, None) = TakeTheSame s other × (here ≡ true)
 IsWinner s other (here, Some p) = IsLeftmost s other p × (is_taken s p ≡ here)
+
+-- of a place of the one and a place of the other, where there are such, the leftmost, and whether it
+-- is that of the one
+abbrev pub leftmost_of : Option ℕ → Option ℕ → Bool × Option ℕ
+leftmost_of None None = (true, None)
+leftmost_of (Some p) None = (true, Some p)
+leftmost_of None (Some q) = (false, Some q)
+leftmost_of (Some p) (Some q) = if nat_lt p q then (true, Some p) else (false, Some q)
 
 -- each place present in the one and taken in the loser has a conflict mark that names a place; all
 -- else is as it was
