@@ -8,6 +8,7 @@ use Rattle.std.proofs.lemmas.List.{reverse-append}
 use Rattle.std.proofs.lemmas.List.Folds.{find-append}
 use Rattle.std.proofs.Math.Bool.{beq}
 use Rattle.bpaf_line.specs.Situation.{Situation, is_taken, last_of, with_conflicts}
+use Rattle.bpaf_line.proofs.Marks.{keeps_marks_conflicts}
 use Rattle.bpaf_line.specs.Conflicts.{ConflictsSaved, TakeTheSame}
 
 -- a place past the line is taken
@@ -97,6 +98,7 @@ conflicts_saved s loser winner pairs excluded = record {
   path = refl;
   current = refl;
   taken = λ p. refl;
+  marks = keeps_marks_conflicts s pairs;
   marked = λ p. ap (λ o. if is_taken s p then None else o) (last_of-append s.conflicts pairs p ∙ ap (λ o. option_or o (last_of s.conflicts p)) (excluded p))
       ∙ by_cases (is_taken s p) (is_taken loser p) (last_of s.conflicts p);
 }

@@ -1,10 +1,10 @@
 -- Marks: what a step leaves of what a mark goes back to.
-use Rattle.std.proofs.Common.{◌≡◌, ℕ, ◌+◌, ◌-◌, ◌<◌, ◌≤◌, List, ◌++◌, length, take, drop, refl, ap, sym, ◌∙◌, arith, length-drop}
-use Rattle.std.proofs.lemmas.List.{take-append-drop, take-take, take_rest, drop-take, get_or-drop}
+use Rattle.std.proofs.Common.{◌≡◌, ℕ, ◌+◌, ◌-◌, ◌<◌, ◌≤◌, List, ◌++◌, length, take, drop, refl, ap, sym, ◌∙◌, arith, length-drop, Option, [], ◌∷◌, length-append}
+use Rattle.std.proofs.lemmas.List.{take-append-le, take-append-drop, take-take, take_rest, drop-take, get_or-drop}
 use Rattle.bpaf_line.specs.declared.mark.Mark.{Mark}
-use Rattle.bpaf_line.specs.Situation.{Situation, cut_to, TakenInTurn}
+use Rattle.bpaf_line.specs.Situation.{Situation, cut_to, take_place, with_conflicts, with_current, TakenInTurn}
 use Rattle.bpaf_line.specs.Changes.{Changes}
-use Rattle.bpaf_line.specs.Marks.{HasReached, undone, steps_since, redone, CanRedo, KeepsMarks}
+use Rattle.bpaf_line.specs.Marks.{HasReached, undone, steps_since, redone, CanRedo, KeepsMarks, Fits}
 
 -- a part of a list, and a part of what is behind it
 take_on : (k n : ℕ) (xs : List ℕ) → take k xs ++ take n (drop k xs) ≡ take (k + n) xs
@@ -47,3 +47,57 @@ keeps_marks_trans s t u first second = record {
 pub redone_parts : (s : Situation) (steps : Changes) (taken : List ℕ) (conflicts : List (ℕ × ℕ)) (path : List (List ℕ)) → taken ≡ steps.taken → conflicts ≡ s.conflicts ++ steps.conflicts → path ≡ s.path ++ steps.path
     → record s { trail = s.trail ++ taken; conflicts = conflicts; path = path; start = steps.start; end = steps.end; current = steps.current } ≡ redone steps s
 redone_parts s steps taken conflicts path same_taken same_conflicts same_path = rw (same_taken, same_conflicts, same_path) refl
+
+-- a part of a list is that of a longer one, where it isn't longer than the list
+front_is : {X : Type 0} (n : ℕ) (xs ys : List X) → n ≤ length xs → take n (xs ++ ys) ≡ take n xs
+front_is n xs ys within = take-append-le n xs ys within
+
+-- a longer list is no shorter
+longer : {X : Type 0} (n : ℕ) (xs ys : List X) → n ≤ length xs → n ≤ length (xs ++ ys)
+longer n xs ys within = omega (arith, length-append xs ys)
+
+-- where nothing changes, each mark is kept
+pub keeps_marks_refl : (s : Situation) → KeepsMarks s s
+keeps_marks_refl s = record { fit = λ mark fits. fits; same = λ mark fits. refl }
+
+-- a place that is taken keeps them
+pub keeps_marks_take : (s : Situation) (p : ℕ) → KeepsMarks s (take_place s p)
+keeps_marks_take s p = record {
+  fit = λ mark fits. record {
+    reached = record { taken = longer mark.taken s.trail (p ∷ []) fits.reached.taken; conflicts = fits.reached.conflicts; depth = fits.reached.depth };
+    ordered = fits.ordered;
+    inside = fits.inside;
+    named = fits.named;
+  };
+  same = λ mark fits. ap (λ trail. record (undone mark s) { trail = trail }) (front_is mark.taken s.trail (p ∷ []) fits.reached.taken);
+}
+
+-- more conflict marks keep them
+pub keeps_marks_conflicts : (s : Situation) (pairs : List (ℕ × ℕ)) → KeepsMarks s (with_conflicts s pairs)
+keeps_marks_conflicts s pairs = record {
+  fit = λ mark fits. record {
+    reached = record { taken = fits.reached.taken; conflicts = longer mark.conflicts s.conflicts pairs fits.reached.conflicts; depth = fits.reached.depth };
+    ordered = fits.ordered;
+    inside = fits.inside;
+    named = fits.named;
+  };
+  same = λ mark fits. ap (λ conflicts. record (undone mark s) { conflicts = conflicts }) (front_is mark.conflicts s.conflicts pairs fits.reached.conflicts);
+}
+
+-- what the current place is doesn't matter
+pub keeps_marks_current : (s t : Situation) (place : Option ℕ) → KeepsMarks s t → KeepsMarks s (with_current t place)
+keeps_marks_current s t place keeps = record {
+  fit = λ mark fits.
+      let there = keeps.fit mark fits in
+      record {
+        reached = record { taken = there.reached.taken; conflicts = there.reached.conflicts; depth = there.reached.depth };
+        ordered = there.ordered;
+        inside = there.inside;
+        named = there.named;
+      };
+  same = λ mark fits. keeps.same mark fits;
+}
+
+-- a parse whose mark was kept goes back to where the mark was made
+pub back_to : (s t : Situation) (mark : Mark) → KeepsMarks s t → Fits mark s → undone mark s ≡ s → undone mark t ≡ s
+back_to s t mark keeps fits back = keeps.same mark fits ∙ back
