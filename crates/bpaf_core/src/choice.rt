@@ -1,8 +1,8 @@
-ghost use Rattle.std.specs.Prelude.{◌≡◌, ◌&&◌, IfOk, map};
+ghost use Rattle.std.specs.Prelude.{◌≡◌, ◌&&◌, ◌⊎◌, IfOk, map};
 ghost use Rattle.bpaf_doc.specs.Shape.{shape_of};
 ghost use Rattle.bpaf_line.specs.Messages.{is_wrong_input};
 ghost use Rattle.bpaf_laws.specs.Step.{is_untouched};
-ghost use Rattle.bpaf_laws.specs.Choice.{Chosen, ValueOfWinner, OneOk, is_want};
+ghost use Rattle.bpaf_laws.specs.Choice.{Chosen, ValueOfWinner, OneOk, IsWant, is_want};
 ghost use Rattle.bpaf_laws.specs.Choice.{alternatives, either};
 
 use crate::parser::Parser;
@@ -29,7 +29,8 @@ pub fn is_want<T>(answer: &Result<T, Error>) -> bool
 /// depths the one with a value, unless it took nothing and the other's error is wrong input, which is
 /// then the answer; of two values the first where neither branch took an item, else that of the branch
 /// which took the leftmost place taken by only one of them, else the first. Two errors are combined.
-/// Where an error of equal depths is the answer, the state is as before.
+/// Where an error of equal depths is the answer, the state is as before; so it is where memory is
+/// wanted for conflict marks.
 ///
 /// It is public for choices in the crates of this repository, not for callers.
 pub fn this_or_that<T: Drop>(
@@ -39,7 +40,8 @@ pub fn this_or_that<T: Drop>(
     second: Result<T, Error>,
     that: State,
 ) -> Result<T, Error>
-    ensures { Chosen state.old first this second that result state.new }
+    ensures { Chosen state.old first this second that result state.new
+        ⊎ IsWant state.old result state.new }
 {
     if this.depth() > that.depth() {
         *state = this;
@@ -89,7 +91,7 @@ fn value_unless_blamed<T: Drop>(
 }
 
 /// The value of the branch that took the leftmost place taken by only one of them, else of the first;
-/// what only the other one took gets a conflict mark.
+/// what only the other one took gets a conflict mark. Want of memory for these leaves the state as before.
 fn value_of_winner<T: Drop>(
     state: &mut State,
     x: T,
@@ -97,7 +99,7 @@ fn value_of_winner<T: Drop>(
     y: T,
     that: State,
 ) -> Result<T, Error>
-    ensures { ValueOfWinner x this y that result state.new }
+    ensures { ValueOfWinner x this y that result state.new ⊎ IsWant state.old result state.new }
 {
     let mut this = this;
     let mut that = that;
@@ -107,12 +109,12 @@ fn value_of_winner<T: Drop>(
             Ok(x)
         }
         (true, Some(place)) => {
-            this.save_conflicts(&that, place);
+            this.save_conflicts(&that, place)?;
             *state = this;
             Ok(x)
         }
         (false, Some(place)) => {
-            that.save_conflicts(&this, place);
+            that.save_conflicts(&this, place)?;
             *state = that;
             Ok(y)
         }

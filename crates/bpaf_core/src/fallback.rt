@@ -8,19 +8,17 @@ use std::alloc::{AllocError, Global};
 use std::fmt::Display;
 use std::marker::PhantomData;
 
-/// Some of the parser's value, read off a copy of the state which is then kept; None where the parser
-/// answers an error that can be caught. After all but a value the state is as before.
+/// Some of the parser's value; None where the parser answers an error that can be caught. After all but
+/// a value the state is as before.
 fn attempt<T: Drop, P: Parser<T>>(parser: &P, state: &mut State) -> Result<Option<T>, Error>
     requires { P.can_eval parser.now }
     ensures { AttemptOutcome (P.outcome parser.now) state.old result state.new }
 {
-    let mut copy = state.copy()?;
-    match parser.eval(&mut copy) {
-        Ok(value) => {
-            *state = copy;
-            Ok(Some(value))
-        }
+    let mark = state.mark();
+    match parser.eval(state) {
+        Ok(value) => Ok(Some(value)),
         Err(error) => {
+            state.undo(mark);
             if error.can_catch() {
                 Ok(None)
             } else {

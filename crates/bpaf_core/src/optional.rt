@@ -35,19 +35,20 @@ pub(crate) fn parse_option<T: Drop, P: Parser<T>>(
     requires { P.can_eval parser.now }
     ensures { StepOutcome (P.outcome parser.now) catches first state.old result state.new }
 {
-    let before = state.copy()?;
+    let mark = state.mark();
+    let left = state.len();
     match parser.eval(state) {
         Ok(value) => {
-            if first || state.len() < before.len() {
+            if first || state.len() < left {
                 Ok(Some(value))
             } else {
                 Ok(None)
             }
         }
         Err(error) => {
-            let untouched = state.len() == before.len();
+            let untouched = state.len() == left;
             if stops_step(catches, &error.0, untouched) {
-                *state = before;
+                state.undo(mark);
                 Ok(None)
             } else {
                 Err(error)

@@ -1,10 +1,10 @@
 -- A choice of two: what its evaluation shows, and that it catches no want of memory.
-use Rattle.std.proofs.Common.{◌≡◌, false, Result, Ok, Err, sym, ◌∙◌, inl, ⊎_elim, true≢false}
+use Rattle.std.proofs.Common.{◌≡◌, false, Result, Ok, Err, sym, ◌∙◌, ◌⊎◌, inl, inr, ⊎_elim, true≢false}
 use Rattle.bpaf_line.specs.Situation.{Situation}
 use Rattle.bpaf_line.specs.declared.error.Error.{Error}
 use Rattle.bpaf_laws.specs.Reading.{Outcome}
 use Rattle.bpaf_laws.specs.Spared.{IsNotMemory, WithoutMemory}
-use Rattle.bpaf_laws.specs.Choice.{is_want, Chosen, BranchesRan, ChoiceOutcome}
+use Rattle.bpaf_laws.specs.Choice.{is_want, IsWant, Chosen, BranchesRan, ChoiceOutcome}
 
 -- an answer that isn't want of memory
 spared_of : {T : Type 0} (r : Result T Error) → is_want r ≡ false → IsNotMemory r
@@ -29,15 +29,17 @@ branches_ran first second s a sa b sb r t first_ran second_ran first_spared seco
       chosen = chosen;
     }
 
--- so the choice of two gives that answer
+-- so the choice of two gives that answer, or want of memory
 pub ran_outcome : {T : Type 0} (first second : Outcome T) (s : Situation) (a : Result T Error)
     (sa : Situation) (b : Result T Error) (sb : Situation) (r : Result T Error) (t : Situation)
-    → first s a sa → second s b sb → is_want a ≡ false → is_want b ≡ false → Chosen s a sa b sb r t
-    → ChoiceOutcome first second s r t
-ran_outcome first second s a sa b sb (Ok v) t f g p q chosen =
-    branches_ran first second s a sa b sb (Ok v) t f g p q chosen
-ran_outcome first second s a sa b sb (Err e) t f g p q chosen =
-    inl (branches_ran first second s a sa b sb (Err e) t f g p q chosen)
+    → first s a sa → second s b sb → is_want a ≡ false → is_want b ≡ false
+    → Chosen s a sa b sb r t ⊎ IsWant s r t → ChoiceOutcome first second s r t
+ran_outcome first second s a sa b sb (Ok v) t f g p q answer =
+    ⊎_elim (λ chosen. branches_ran first second s a sa b sb (Ok v) t f g p q chosen)
+    (λ none. absurd none) answer
+ran_outcome first second s a sa b sb (Err e) t f g p q answer =
+    ⊎_elim (λ chosen. inl (branches_ran first second s a sa b sb (Err e) t f g p q chosen))
+    (λ want. inr want) answer
 
 module _ {T : Type 0} (first second : Outcome T) where
   -- branches that ran didn't want memory

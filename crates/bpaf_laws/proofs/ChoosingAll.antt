@@ -1,5 +1,5 @@
 -- Choices of any number of parsers: one parser after another.
-use Rattle.std.proofs.Common.{◌≡◌, true, false, List, [], ◌∷◌, ◌++◌, Result, Ok, Err, IsErrAnd, length, ◌==◌, refl, sym, ap, subst, inl, inr, ⊎_elim, true≢false}
+use Rattle.std.proofs.Common.{◌≡◌, true, false, List, [], ◌∷◌, ◌++◌, Result, Ok, Err, IsErrAnd, length, ◌==◌, ◌⊎◌, refl, sym, ap, subst, inl, inr, ⊎_elim, true≢false}
 use Rattle.bpaf_doc.specs.Shape.{Shape}
 use Rattle.bpaf_line.specs.Messages.{is_memory}
 use Rattle.bpaf_line.specs.Situation.{Situation}
@@ -7,7 +7,7 @@ use Rattle.bpaf_line.specs.declared.error.Error.{Error}
 use Rattle.bpaf_line.specs.declared.error.Message.TheVariants.{Memory}
 use Rattle.bpaf_laws.specs.Reading.{Outcome}
 use Rattle.bpaf_laws.specs.Spared.{IsNotMemory, WithoutMemory}
-use Rattle.bpaf_laws.specs.Choice.{is_want, Chosen, BranchesRan, ChoiceOutcome, ChoiceDescribes, either}
+use Rattle.bpaf_laws.specs.Choice.{is_want, IsWant, Chosen, BranchesRan, ChoiceOutcome, ChoiceDescribes, either}
 use Rattle.bpaf_laws.proofs.Choosing.{ran_outcome, choice_spared}
 use Rattle.bpaf_laws.specs.Choices.{Nested, ChoicesOutcome}
 
@@ -25,7 +25,7 @@ module _ {T P : Type 0} (outcome : P → Outcome T) where
   pub one_more : (before : Outcome T) (ps : List P) (p : P) (s : Situation) (a : Result T Error)
       (sa : Situation) (b : Result T Error) (sb : Situation) (r : Result T Error) (t : Situation)
       → Nested ChoiceOutcome outcome before ps s a sa → outcome p s b sb → is_want a ≡ false
-      → is_want b ≡ false → Chosen s a sa b sb r t
+      → is_want b ≡ false → Chosen s a sa b sb r t ⊎ IsWant s r t
       → Nested ChoiceOutcome outcome before (ps ++ p ∷ []) s r t
   one_more before ps p s a sa b sb r t first second x y chosen =
       subst (λ combined. combined s r t) (sym (nested_more ChoiceOutcome outcome before ps p))

@@ -6,6 +6,7 @@ use Rattle.std.proofs.Common.{sym, ◌∙◌, ap, subst, append_assoc, append-ni
 use Rattle.std.proofs.lemmas.Bool.{cases_eq}
 use Rattle.std.proofs.lemmas.Bool.Decides.{nat_tests}
 use Rattle.bpaf_line.specs.Situation.{Situation, is_taken, is_open, in_scope, take_place, with_current}
+use Rattle.bpaf_line.proofs.Marks.{keeps_marks_refl, keeps_marks_trans, keeps_marks_take, keeps_marks_current}
 use Rattle.bpaf_line.proofs.Places.{taken_here, taken_other, open_not_taken}
 use Rattle.bpaf_line.specs.Conflicts.{ConflictsSaved}
 use Rattle.bpaf_line.specs.declared.error.Error.{Error}
@@ -34,6 +35,7 @@ keeps_refl s = record {
   fresh = λ p new. absurd (true≢false (sym new ∙ newly_none s p));
   narrows = λ p within. within;
   path = record { more = []; is = sym (append-nil s.path) };
+  marks = keeps_marks_refl s;
 }
 
 -- no place is left outside
@@ -76,6 +78,7 @@ keeps_trans s m t a b = record {
             b.path.is
             ∙ (ap (λ path. path ++ b.path.more) a.path.is ∙ append_assoc s.path a.path.more b.path.more);
       };
+  marks = keeps_marks_trans s m t a.marks b.marks;
 }
 
 -- a place left outside by either is taken after both
@@ -126,6 +129,7 @@ keeps_current s t place k =
       fresh = k.fresh;
       narrows = k.narrows;
       path = k.path;
+      marks = keeps_marks_current s t place k.marks;
     }
 
 -- where the situation is as before, all is kept
@@ -197,6 +201,7 @@ keeps_take s p there = record {
       (cases_eq q p);
   narrows = λ q within. within;
   path = record { more = []; is = sym (append-nil s.path) };
+  marks = keeps_marks_take s p;
 }
 
 -- a place is taken, and then the next one: both are newly taken, and no other
@@ -231,6 +236,7 @@ module _ (s m loser : Situation) (winner : ℕ) (t : Situation)
     fresh = λ p new. k.fresh p (sym (ap (λ share. share p) newly_conflicts) ∙ new);
     narrows = λ p within. k.narrows p (sym (scope_conflicts p) ∙ within);
     path = record { more = k.path.more; is = saved.path ∙ k.path.is };
+    marks = keeps_marks_trans s m t k.marks saved.marks;
   }
 
   -- and open nothing

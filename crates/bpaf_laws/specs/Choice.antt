@@ -21,6 +21,11 @@ abbrev pub is_want : {T : Type 0} → Result T Error → Bool
 is_want (Ok v) = false
 is_want (Err e) = is_memory e.0
 
+-- want of memory, which leaves all as before
+abbrev pub IsWant : {T : Type 0} → Situation → Result T Error → Situation → Type 0
+IsWant s (Ok v) t = ⊥
+IsWant s (Err e) t = (is_memory e.0 ≡ true) × (t ≡ s)
+
 -- the value of the branch that wins, by a place if by one: what only the other one took has then a
 -- conflict mark that names it
 abbrev pub Winner : {T : Type 0} → T → Situation → T → Situation → Bool → Option ℕ → Result T Error

@@ -1,5 +1,6 @@
 -- What every parser keeps to, whatever it parses.
 use Rattle.std.specs.Prelude.{◌≡◌, ℕ, true, false, not, ◌&&◌, List, ◌++◌, Ok, Err}
+use Rattle.bpaf_line.specs.Marks.{KeepsMarks}
 use Rattle.bpaf_line.specs.Situation.{Situation, is_taken, is_open, in_scope}
 use Rattle.bpaf_line.specs.declared.error.Error.{Error}
 use Rattle.bpaf_laws.specs.Reading.{Share, Readings, Outcome}
@@ -25,6 +26,8 @@ pub record Keeps (s t : Situation) : Type 0 where
   pub narrows : (p : ℕ) → in_scope t p ≡ true → in_scope s p ≡ true
   -- the path begins with the old path
   pub path : Extends s.path t.path
+  -- each mark to which the old situation can go back, and what it goes back to
+  pub marks : KeepsMarks s t
 
 -- a place of the old scope that is left outside the new one is taken
 abbrev pub Closes : Situation → Situation → Type 0

@@ -1,10 +1,10 @@
 -- The first present item, where it is the word of no command.
-use Rattle.std.proofs.Common.{◌≡◌, ◌≢◌, ℕ, ◌<◌, ◌≤◌, Bool, true, false, List, Option, Some, None, refl, sym, ◌∙◌, subst, arith, ⊎_elim, true≢false, if◌then◌else◌}
+use Rattle.std.proofs.Common.{◌≡◌, ◌≢◌, ℕ, ◌<◌, ◌≤◌, Bool, false, List, Some, sym, ◌∙◌, subst, arith, ⊎_elim, true≢false}
 use Rattle.std.specs.Option.{option_map_or}
 use Rattle.std.proofs.lemmas.Bool.{cases_lt, cases_eq}
 use Rattle.bpaf_words.specs.declared.arg.Arg.{Arg}
 use Rattle.bpaf_words.specs.Items.{any_item, is_command_word}
-use Rattle.bpaf_line.specs.Situation.{Situation, is_open, item_at}
+use Rattle.bpaf_line.specs.Situation.{Situation, item_at}
 use Rattle.bpaf_line.proofs.Matches.{open_item_there}
 use Rattle.bpaf_line.specs.Taking.{IsFirst, HasNoCommand, open_item}
 

@@ -1,163 +1,112 @@
 -- Conflict marks: what they change, and what they leave.
-use Rattle.std.proofs.Common.{◌≡◌, ◌≢◌, ℕ, ◌+◌, ◌<◌, ◌≤◌, Bool, true, false, not, ◌&&◌, ◌||◌, List, Option, Some, None, length, refl, ap, sym, ◌∙◌, subst, arith, true≢false, if◌then◌else◌, get_or-set_same, get_or-set_other, length-set, ⊎_elim, nat_lt, slice_index_or, slice_set}
-use Rattle.std.proofs.lemmas.Bool.{cases_lt, cases_eq}
+use Rattle.std.proofs.Common.{◌≡◌, ◌≢◌, ℕ, ◌+◌, ◌<◌, ◌≤◌, ◌==◌, Bool, true, false, not, ◌&&◌, List, [], ◌∷◌, ◌++◌, Option, Some, None, length, refl, ap, sym, ◌∙◌, subst, arith, true≢false, if◌then◌else◌, ⊎_elim, reverse, option_map}
+use Rattle.std.specs.Option.{option_or}
+use Rattle.std.specs.List.{find}
+use Rattle.std.proofs.lemmas.Bool.{cases_lt, cases_eq, eq-eqb, ne_eqb}
 use Rattle.std.proofs.lemmas.Bool.Decides.{nat_tests}
-use Rattle.std.proofs.lemmas.List.{get_or_past}
+use Rattle.std.proofs.lemmas.List.{reverse-append}
+use Rattle.std.proofs.lemmas.List.Folds.{find-append}
 use Rattle.std.proofs.Math.Bool.{beq}
-use Rattle.bpaf_line.specs.declared.state.PlaceMark.{PlaceMark}
-use Rattle.bpaf_line.specs.declared.state.PlaceMark.TheVariants.{Conflict, Taken}
-use Rattle.bpaf_line.specs.Situation.{Situation, is_open, is_taken, in_scope, is_taken_mark, mark_at, named_by, conflict_at, with_conflict, count_below, open_count}
-use Rattle.bpaf_line.specs.Conflicts.{ConflictsSaved, IsLeftmost, TakeTheSame}
-use Rattle.bpaf_line.proofs.Places.{count_below-same}
+use Rattle.bpaf_line.specs.Situation.{Situation, is_taken, last_of, with_conflicts}
+use Rattle.bpaf_line.proofs.Marks.{keeps_marks_conflicts}
+use Rattle.bpaf_line.specs.Conflicts.{ConflictsSaved, TakeTheSame}
 
 -- a place past the line is taken
 pub taken_past_line : (s : Situation) (p : ℕ) → length s.context.line ≤ p → is_taken s p ≡ true
 taken_past_line s p past = grind (arith, nat_tests)
 
--- a place that isn't taken has a mark
-pub has_mark : (s : Situation) (p : ℕ) → is_taken s p ≡ false → p < length s.marks
-has_mark s p free = ⊎_elim
-    (λ (within : p < length s.marks). within)
-    (λ (past : length s.marks ≤ p).
-    let taken : is_taken s p ≡ true = ap (λ mark. not (nat_lt p (length s.context.line)) || is_taken_mark mark) (get_or_past s.marks p Taken past) ∙ or_true (not (nat_lt p (length s.context.line))) in
-    absurd (true≢false (sym taken ∙ free)))
-    (cases_lt p (length s.marks))
+-- the last pair of a place in two lists is that of the second, where it has one there
+last_of-append : (xs ys : List (ℕ × ℕ)) (p : ℕ) → last_of (xs ++ ys) p ≡ option_or (last_of ys p) (last_of xs p)
+last_of-append xs ys p =
+    ap (λ pairs. option_map (λ pair. pair.1) (find (λ pair. pair.0 == p) pairs)) (reverse-append xs ys)
+    ∙ (ap (option_map (λ pair. pair.1)) (find-append (λ pair. pair.0 == p) (reverse ys) (reverse xs))
+    ∙ mapped (find (λ pair. pair.0 == p) (reverse ys)) (find (λ pair. pair.0 == p) (reverse xs)))
   where
-    or_true : (b : Bool) → (b || true) ≡ true
-    or_true true = refl
-    or_true false = refl
+    mapped : (a b : Option (ℕ × ℕ)) → option_map (λ pair. pair.1) (option_or a b) ≡ option_or (option_map (λ pair. pair.1) a) (option_map (λ pair. pair.1) b)
+    mapped None b = refl
+    mapped (Some pair) b = refl
 
--- a place with a new conflict mark has that mark
-mark_here : (s : Situation) (p winner : ℕ) → is_taken s p ≡ false → mark_at (with_conflict s p winner) p ≡ Conflict winner
-mark_here s p winner free = get_or-set_same s.marks p (Conflict winner) Taken (has_mark s p free)
-
--- the others have theirs
-mark_other : (s : Situation) (p q winner : ℕ) → q ≢ p → mark_at (with_conflict s p winner) q ≡ mark_at s q
-mark_other s p q winner other = get_or-set_other s.marks p q (Conflict winner) Taken other
-
--- a conflict mark takes nothing
-pub taken_after_conflict : (s : Situation) (p winner : ℕ) → is_taken s p ≡ false → (q : ℕ) → is_taken (with_conflict s p winner) q ≡ is_taken s q
-taken_after_conflict s p winner free q = ⊎_elim
-    (λ (same : q ≡ p). subst (λ x. is_taken (with_conflict s p winner) x ≡ is_taken s x) (sym same) (at_mark ∙ sym free))
-    (λ (other : q ≢ p). ap (λ mark. not (nat_lt q (length s.context.line)) || is_taken_mark mark) (mark_other s p q winner other))
-    (cases_eq q p)
+-- a pair more at the end counts for its place
+pub last_of_here : (pairs : List (ℕ × ℕ)) (p winner : ℕ) → last_of (pairs ++ (p, winner) ∷ []) p ≡ Some winner
+last_of_here pairs p winner = last_of-append pairs ((p, winner) ∷ []) p ∙ ap (λ o. option_or o (last_of pairs p)) at
   where
-    in_line : (b : Bool) (m : PlaceMark) → (not b || is_taken_mark m) ≡ false → (not b || false) ≡ false
-    in_line true m h = refl
-    in_line false m h = h
+    at : last_of ((p, winner) ∷ []) p ≡ Some winner
+    at = rw (eq-eqb p p refl) refl
 
-    at_mark : is_taken (with_conflict s p winner) p ≡ false
-    at_mark = ap (λ mark. not (nat_lt p (length s.context.line)) || is_taken_mark mark) (mark_here s p winner free) ∙ in_line (nat_lt p (length s.context.line)) (mark_at s p) free
+-- and for no other
+pub last_of_other : (pairs : List (ℕ × ℕ)) (p q winner : ℕ) → q ≢ p → last_of (pairs ++ (p, winner) ∷ []) q ≡ last_of pairs q
+last_of_other pairs p q winner other = last_of-append pairs ((p, winner) ∷ []) q ∙ ap (λ o. option_or o (last_of pairs q)) at
+  where
+    at : last_of ((p, winner) ∷ []) q ≡ None
+    at = rw (ne_eqb p q (λ e. other (sym e))) refl
 
--- it names what it was made to name
-pub conflict_here : (s : Situation) (p winner : ℕ) → is_taken s p ≡ false → conflict_at (with_conflict s p winner) p ≡ Some winner
-conflict_here s p winner free = ap named_by (mark_here s p winner free)
+-- what the pairs of excluded places say of one: the winner, where it is present here and taken in
+-- the loser's situation
+abbrev pub excluded_at : Situation → Situation → ℕ → ℕ → Option ℕ
+excluded_at s loser winner p = if not (is_taken s p) && is_taken loser p then Some winner else None
 
--- and leaves the other conflict marks
-pub conflict_other : (s : Situation) (p q winner : ℕ) → q ≢ p → conflict_at (with_conflict s p winner) q ≡ conflict_at s q
-conflict_other s p q winner other = ap named_by (mark_other s p q winner other)
-
--- as many places are present as before
-pub open_count-with_conflict : (s : Situation) (p winner : ℕ) → is_taken s p ≡ false → open_count (with_conflict s p winner) ≡ open_count s
-open_count-with_conflict s p winner free =
-    count_below-same (is_open (with_conflict s p winner)) (is_open s) (length s.context.line)
-    (λ q within. ap (λ taken. in_scope s q && not taken) (taken_after_conflict s p winner free q))
-
--- conflicts saved at the places below one
-pub record SavedBelow (s loser : Situation) (winner n : ℕ) (t : Situation) : Type 0 where
-  pub context : t.context ≡ s.context
-  pub start : t.start ≡ s.start
-  pub end : t.end ≡ s.end
-  pub path : t.path ≡ s.path
-  pub current : t.current ≡ s.current
-  pub taken : (p : ℕ) → is_taken t p ≡ is_taken s p
-  pub below : (p : ℕ) → p < n → conflict_at t p ≡ (if not (is_taken s p) && is_taken loser p then Some winner else conflict_at s p)
-  pub above : (p : ℕ) → n ≤ p → conflict_at t p ≡ conflict_at s p
+-- the pairs of the excluded places below one
+pub record ExcludedBelow (s loser : Situation) (winner n : ℕ) (pairs : List (ℕ × ℕ)) : Type 0 where
+  pub below : (p : ℕ) → p < n → last_of pairs p ≡ excluded_at s loser winner p
+  pub above : (p : ℕ) → n ≤ p → last_of pairs p ≡ None
 
 -- below the first place there are none
-pub saved_none : (s loser : Situation) (winner : ℕ) → SavedBelow s loser winner 0 s
-saved_none s loser winner = record {
+pub excluded_none : (s loser : Situation) (winner : ℕ) → ExcludedBelow s loser winner 0 []
+excluded_none s loser winner = record {
+  below = λ p within. absurd (omega arith);
+  above = λ p past. refl;
+}
+
+-- an excluded place has its pair
+pub excluded_one : (s loser : Situation) (winner n : ℕ) (pairs : List (ℕ × ℕ)) → ExcludedBelow s loser winner n pairs → (not (is_taken s n) && is_taken loser n) ≡ true
+    → ExcludedBelow s loser winner (n + 1) (pairs ++ (n, winner) ∷ [])
+excluded_one s loser winner n pairs h lost = record {
+  below = λ p within. ⊎_elim
+      (λ (same : p ≡ n). subst (λ q. last_of (pairs ++ (n, winner) ∷ []) q ≡ excluded_at s loser winner q) (sym same)
+      (last_of_here pairs n winner ∙ sym (ap (λ b. if b then Some winner else None) lost)))
+      (λ (other : p ≢ n). last_of_other pairs n p winner other ∙ h.below p (omega arith))
+      (cases_eq p n);
+  above = λ p past. last_of_other pairs n p winner (λ same. omega arith) ∙ h.above p (omega arith);
+}
+
+-- and another one none
+pub excluded_not : (s loser : Situation) (winner n : ℕ) (pairs : List (ℕ × ℕ)) → ExcludedBelow s loser winner n pairs → (not (is_taken s n) && is_taken loser n) ≡ false
+    → ExcludedBelow s loser winner (n + 1) pairs
+excluded_not s loser winner n pairs h kept = record {
+  below = λ p within. ⊎_elim
+      (λ (same : p ≡ n). subst (λ q. last_of pairs q ≡ excluded_at s loser winner q) (sym same)
+      (h.above n (omega arith) ∙ sym (ap (λ b. if b then Some winner else None) kept)))
+      (λ (other : p ≢ n). h.below p (omega arith))
+      (cases_eq p n);
+  above = λ p past. h.above p (omega arith);
+}
+
+-- past the line no place is excluded
+pub excluded_all : (s loser : Situation) (winner n : ℕ) (pairs : List (ℕ × ℕ)) → length s.context.line ≤ n → ExcludedBelow s loser winner n pairs
+    → (p : ℕ) → last_of pairs p ≡ excluded_at s loser winner p
+excluded_all s loser winner n pairs past h p = ⊎_elim
+    (λ (within : p < n). h.below p within)
+    (λ (beyond : n ≤ p). h.above p beyond ∙ sym (ap (λ b. if not b && is_taken loser p then Some winner else None) (taken_past_line s p (omega arith))))
+    (cases_lt p n)
+
+-- the pairs of the excluded places are their conflict marks
+pub conflicts_saved : (s loser : Situation) (winner : ℕ) (pairs : List (ℕ × ℕ)) → ((p : ℕ) → last_of pairs p ≡ excluded_at s loser winner p) → ConflictsSaved s loser winner (with_conflicts s pairs)
+conflicts_saved s loser winner pairs excluded = record {
   context = refl;
   start = refl;
   end = refl;
   path = refl;
   current = refl;
   taken = λ p. refl;
-  below = λ p within. absurd (omega arith);
-  above = λ p past. refl;
-}
-
--- a place with a conflict gets its mark
-saved_marked : (s loser : Situation) (winner n : ℕ) (t : Situation) → SavedBelow s loser winner n t → is_taken t n ≡ false → is_taken loser n ≡ true → SavedBelow s loser winner (n + 1) (with_conflict t n winner)
-saved_marked s loser winner n t h free lost = record {
-  context = h.context;
-  start = h.start;
-  end = h.end;
-  path = h.path;
-  current = h.current;
-  taken = λ p. taken_after_conflict t n winner free p ∙ h.taken p;
-  below = λ p within. ⊎_elim
-      (λ (same : p ≡ n). subst (λ q. conflict_at (with_conflict t n winner) q ≡ (if not (is_taken s q) && is_taken loser q then Some winner else conflict_at s q)) (sym same)
-      (conflict_here t n winner free ∙ sym (at_winner (is_taken s n) (is_taken loser n) (sym (h.taken n) ∙ free) lost (conflict_at s n))))
-      (λ (other : p ≢ n). conflict_other t n p winner other ∙ h.below p (omega arith))
-      (cases_eq p n);
-  above = λ p past. conflict_other t n p winner (λ same. omega arith) ∙ h.above p (omega arith);
+  marks = keeps_marks_conflicts s pairs;
+  marked = λ p. ap (λ o. if is_taken s p then None else o) (last_of-append s.conflicts pairs p ∙ ap (λ o. option_or o (last_of s.conflicts p)) (excluded p))
+      ∙ by_cases (is_taken s p) (is_taken loser p) (last_of s.conflicts p);
 }
   where
-    at_winner : (x y : Bool) → x ≡ false → y ≡ true → (was : Option ℕ) → (if not x && y then Some winner else was) ≡ Some winner
-    at_winner false true a b was = refl
-    at_winner true y a b was = absurd (true≢false a)
-    at_winner false false a b was = absurd (true≢false (sym b))
-
--- a place without one stays as it was
-saved_left : (s loser : Situation) (winner n : ℕ) (t : Situation) → SavedBelow s loser winner n t → (not (is_taken t n) && is_taken loser n) ≡ false → SavedBelow s loser winner (n + 1) t
-saved_left s loser winner n t h apart = record {
-  context = h.context;
-  start = h.start;
-  end = h.end;
-  path = h.path;
-  current = h.current;
-  taken = h.taken;
-  below = λ p within. ⊎_elim
-      (λ (same : p ≡ n). subst (λ q. conflict_at t q ≡ (if not (is_taken s q) && is_taken loser q then Some winner else conflict_at s q)) (sym same)
-      (h.above n (omega arith) ∙ sym (as_it_was _ (ap (λ taken. not taken && is_taken loser n) (sym (h.taken n)) ∙ apart))))
-      (λ (other : p ≢ n). h.below p (omega arith))
-      (cases_eq p n);
-  above = λ p past. h.above p (omega arith);
-}
-  where
-    as_it_was : (x : Bool) → x ≡ false → (if x then Some winner else conflict_at s n) ≡ conflict_at s n
-    as_it_was false e = refl
-    as_it_was true e = absurd (true≢false e)
-
--- so one place more is done
-pub saved_more : (s loser : Situation) (winner n : ℕ) (t : Situation) → SavedBelow s loser winner n t
-    → SavedBelow s loser winner (n + 1) (if not (is_taken t n) && is_taken loser n then with_conflict t n winner else t)
-saved_more s loser winner n t h = by_test (is_taken t n) (is_taken loser n) refl refl
-  where
-    by_test : (x y : Bool) → is_taken t n ≡ x → is_taken loser n ≡ y → SavedBelow s loser winner (n + 1) (if not x && y then with_conflict t n winner else t)
-    by_test true y a b = saved_left s loser winner n t h (ap (λ taken. not taken && is_taken loser n) a)
-    by_test false true a b = saved_marked s loser winner n t h a b
-    by_test false false a b = saved_left s loser winner n t h (ap (λ taken. not taken && is_taken loser n) a ∙ b)
-
--- past the line there is nothing to save
-pub saved_all : (s loser : Situation) (winner n : ℕ) (t : Situation) → length s.context.line ≤ n → SavedBelow s loser winner n t → ConflictsSaved s loser winner t
-saved_all s loser winner n t past h = record {
-  context = h.context;
-  start = h.start;
-  end = h.end;
-  path = h.path;
-  current = h.current;
-  taken = h.taken;
-  marked = λ p. ⊎_elim
-      (λ (within : p < n). h.below p within)
-      (λ (beyond : n ≤ p). h.above p beyond ∙ sym (not_present (is_taken s p) (taken_past_line s p (omega arith)) (is_taken loser p)))
-      (cases_lt p n);
-}
-  where
-    not_present : {was : Option ℕ} (x : Bool) → x ≡ true → (y : Bool) → (if not x && y then Some winner else was) ≡ was
-    not_present true e y = refl
-    not_present false e y = absurd (true≢false (sym e))
+    by_cases : (x y : Bool) (was : Option ℕ) → (if x then None else option_or (if not x && y then Some winner else None) was) ≡ (if not x && y then Some winner else (if x then None else was))
+    by_cases true y was = refl
+    by_cases false true was = refl
+    by_cases false false was = refl
 
 -- two situations that agree up to the end of both lines agree everywhere
 pub same_past_lines : (s other : Situation) (n : ℕ) → length s.context.line ≤ n → length other.context.line ≤ n → ((q : ℕ) → q < n → is_taken s q ≡ is_taken other q) → TakeTheSame s other

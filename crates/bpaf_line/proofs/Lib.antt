@@ -1,3 +1,5 @@
+pub mod Counts
+pub mod BitLemmas
 pub mod Places
 pub mod Matches
 pub mod Sound
@@ -5,3 +7,6 @@ pub mod OpenItems
 pub mod Conflicts
 pub mod Commands
 pub mod Beginning
+pub mod Marks
+pub mod BitSets
+pub mod Winners

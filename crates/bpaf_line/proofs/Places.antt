@@ -1,64 +1,13 @@
--- Places: what a place that is taken changes. The layers above cite these lemmas in place of the
--- marks.
-use Rattle.std.proofs.Common.{◌≡◌, ◌≢◌, ℕ, zero, suc, ◌+◌, ◌<◌, ◌≤◌, Bool, true, false, not, ◌&&◌, ◌||◌, List, Option, length, refl, ap, sym, ◌∙◌, arith, if◌then◌else◌, get_or-set_same, get_or-set_other, length-set, ⊎_elim, nat_lt, nat_le, slice_index_or, slice_set}
-use Rattle.std.proofs.lemmas.Bool.{cases_lt, cases_eq}
+-- Places: what a place changes that is put on the trail, or taken off it. The layers above cite the
+-- lemmas on a place that is taken.
+use Rattle.std.proofs.Common.{◌≡◌, ◌≢◌, ℕ, zero, suc, ◌+◌, ◌-◌, ◌<◌, ◌≤◌, ◌==◌, Bool, true, false, not, ◌&&◌, ◌||◌, List, [], ◌∷◌, ◌++◌, Option, length, take, refl, ap, sym, ◌∙◌, subst, arith, if◌then◌else◌, ⊎_elim, nat_lt, nat_le, slice_index, add-one, min}
+use Rattle.std.specs.Int.{from_bool}
+use Rattle.std.proofs.lemmas.Bool.{cases_lt, cases_eq, eq-eqb, ne_eqb, or_right, and_left, and_right, and_from, cases_Bool, true≢false, le-leb, lt-ltb}
 use Rattle.std.proofs.lemmas.Bool.Decides.{nat_tests}
-use Rattle.std.proofs.lemmas.List.{get_or_past}
-use Rattle.bpaf_line.specs.declared.state.PlaceMark.{PlaceMark}
-use Rattle.bpaf_line.specs.declared.state.PlaceMark.TheVariants.{Taken}
-use Rattle.bpaf_line.specs.Situation.{Situation, is_open, is_taken, in_scope, is_taken_mark, take_place, with_scope, with_path, with_current, item_at, count_below, open_count}
-
--- two sets that agree below n have as many numbers there
-pub count_below-same : (f g : ℕ → Bool) (n : ℕ) → ((q : ℕ) → q < n → f q ≡ g q) → count_below f n ≡ count_below g n
-count_below-same f g zero agree = refl
-count_below-same f g (suc n) agree =
-    let below = count_below-same f g n (λ q l. agree q (omega arith)) in
-    rw (agree n (omega arith), below) refl
-
--- a count that is one fewer stays so where the next number is in both sets or in neither
-counted_one : (b : Bool) (m n : ℕ) → m + 1 ≡ n → (if b then (m + 1) else m) + 1 ≡ (if b then (n + 1) else n)
-counted_one true m n e = omega arith
-counted_one false m n e = e
-
--- a set that lacks one number of another has one fewer
-pub count_below-fewer : (f g : ℕ → Bool) (n p : ℕ) → p < n → f p ≡ true → g p ≡ false → ((q : ℕ) → q ≢ p → f q ≡ g q) → count_below g n + 1 ≡ count_below f n
-count_below-fewer f g zero p within has lacks agree = absurd (omega arith)
-count_below-fewer f g (suc n) p within has lacks agree =
-    ⊎_elim
-    (λ below.
-    let fewer = count_below-fewer f g n p below has lacks agree in
-    let same : f n ≡ g n = agree n (λ z. absurd (omega arith)) in
-    rw same (counted_one (g n) (count_below g n) (count_below f n) fewer))
-    (λ above.
-    let at : n ≡ p = omega arith in
-    let same : count_below f n ≡ count_below g n = count_below-same f g n (λ q k. agree q (λ z. absurd (omega arith))) in
-    let there : f n ≡ true = ap f at ∙ has in
-    let lacking : g n ≡ false = ap g at ∙ lacks in
-    rw (there, lacking, same) refl)
-    (cases_lt p n)
-
--- a set without numbers below n has none of them
-pub count_below-none : (f : ℕ → Bool) (n : ℕ) → ((q : ℕ) → q < n → f q ≡ false) → count_below f n ≡ 0
-count_below-none f zero lacks = refl
-count_below-none f (suc n) lacks =
-    let below = count_below-none f n (λ q l. lacks q (omega arith)) in
-    rw (lacks n (omega arith)) below
-
--- a set without numbers from n on has no more of them
-pub count_below-cut : (f : ℕ → Bool) (n m : ℕ) → n ≤ m → ((q : ℕ) → n ≤ q → f q ≡ false) → count_below f m ≡ count_below f n
-count_below-cut f n zero within lacks = let at : n ≡ 0 = omega arith in rw at refl
-count_below-cut f n (suc m) within lacks =
-    ⊎_elim
-    (λ (below : m < n). let at : n ≡ suc m = omega arith in rw at refl)
-    (λ (above : n ≤ m). rw (lacks m above) (count_below-cut f n m above lacks))
-    (cases_lt m n)
-
--- a set with all numbers below n has n of them
-pub count_below-all : (f : ℕ → Bool) (n : ℕ) → ((q : ℕ) → q < n → f q ≡ true) → count_below f n ≡ n
-count_below-all f zero all = refl
-count_below-all f (suc n) all =
-    let below = count_below-all f n (λ q l. all q (omega arith)) in
-    rw (all n (omega arith), below) (omega arith)
+use Rattle.std.proofs.lemmas.List.{take_at, take-take, take-append-le, get_or_push, get_or_append_left, get_or-take, length_push, length-take-le, take_more, take_all}
+use Rattle.std.proofs.lemmas.List.Folds.{list_any-append}
+use Rattle.bpaf_line.specs.Situation.{Situation, is_on, is_taken, is_marker, in_scope, is_open, count_below, open_count, take_place, with_trail, with_scope, with_path, with_current, item_at, cut_to, TakenInTurn, IsFirstPresent}
+use Rattle.bpaf_line.proofs.Counts.{count_below-same, count_below-fewer, count_below-some, count_below-most, count_below-none}
 
 -- a present place of the scope lies in the scope
 pub open_in_scope : (s : Situation) (p : ℕ) → is_open s p ≡ true → (s.start ≤ p) × (p < s.end)
@@ -77,49 +26,169 @@ open_not_taken s p there = of_and (in_scope s p) (is_taken s p) there
     of_and true false h = refl
     of_and false y h = cc
 
--- one of two tests holds, where the second does
-or_true : (b : Bool) → (b || true) ≡ true
-or_true true = refl
-or_true false = refl
+-- the situation with one place more on the trail
+abbrev pub put : Situation → ℕ → Situation
+put s p = with_trail s (s.trail ++ p ∷ [])
 
--- two tests don't both hold, where the second doesn't
-and_false : (b : Bool) → (b && false) ≡ false
-and_false true = refl
-and_false false = refl
+-- a place is on a longer trail where it was on the old one, or is the last
+pub is_on_push : (trail : List ℕ) (p q : ℕ) → is_on (trail ++ p ∷ []) q ≡ (is_on trail q || (p == q))
+is_on_push trail p q = list_any-append (λ x. x == q) trail (p ∷ []) ∙ ap (λ b. is_on trail q || b) (or_none (p == q))
+  where
+    or_none : (b : Bool) → (b || false) ≡ b
+    or_none true = refl
+    or_none false = refl
 
--- the mark of a place that was set as taken is Taken, also past the marks
-set_there : (marks : List PlaceMark) (p : ℕ) → slice_index_or (slice_set marks p Taken) p Taken ≡ Taken
-set_there marks p =
+-- the other places are on it where they were
+pub on_others : (trail : List ℕ) (p q : ℕ) → q ≢ p → is_on (trail ++ p ∷ []) q ≡ is_on trail q
+on_others trail p q other = is_on_push trail p q ∙ (ap (λ b. is_on trail q || b) (ne_eqb p q (λ e. other (sym e))) ∙ or_none (is_on trail q))
+  where
+    or_none : (b : Bool) → (b || false) ≡ b
+    or_none true = refl
+    or_none false = refl
+
+-- a place that was put on the trail is taken
+pub put_here : (s : Situation) (p : ℕ) → is_taken (put s p) p ≡ true
+put_here s p =
+    or_right (not (nat_lt p (length s.context.line))) _ (or_right (is_marker s.context.marker p) _ (is_on_push s.trail p p ∙ or_right (is_on s.trail p) _ (eq-eqb p p refl)))
+
+-- the other places are as they were
+pub put_other : (s : Situation) (p q : ℕ) → q ≢ p → is_taken (put s p) q ≡ is_taken s q
+put_other s p q other =
+    ap (λ b. not (nat_lt q (length s.context.line)) || (is_marker s.context.marker q || b)) (on_others s.trail p q other)
+
+-- a place that isn't taken lies in the line
+pub present_in_line : (s : Situation) (p : ℕ) → is_taken s p ≡ false → p < (length s.context.line)
+present_in_line s p free = grind (arith, nat_tests)
+
+-- one place fewer is present in scope where the place that was put lies there, and else as many
+pub open_count-put : (s : Situation) (p : ℕ) → is_taken s p ≡ false → open_count (put s p) + from_bool (in_scope s p) ≡ open_count s
+open_count-put s p free = by_scope (in_scope s p) refl
+  where
+    same_open : (q : ℕ) → q ≢ p → is_open s q ≡ is_open (put s p) q
+    same_open q other = ap (λ t. in_scope s q && not t) (sym (put_other s p q other))
+
+    closed : is_open (put s p) p ≡ false
+    closed = and_right (in_scope s p) _ (ap not (put_here s p))
+
+    by_scope : (b : Bool) → in_scope s p ≡ b → open_count (put s p) + from_bool b ≡ open_count s
+    by_scope true e =
+        count_below-fewer (is_open s) (is_open (put s p)) (length s.context.line) p (present_in_line s p free) (and_from (in_scope s p) _ e (ap not free)) closed same_open
+    by_scope false e =
+        let same : open_count (put s p) ≡ open_count s = count_below-same (is_open (put s p)) (is_open s) (length s.context.line) (λ q _. ⊎_elim
+        (λ (at : q ≡ p). subst (λ x. is_open (put s p) x ≡ is_open s x) (sym at) (closed ∙ sym (and_left (in_scope s p) _ e)))
+        (λ (other : q ≢ p). sym (same_open q other))
+        (cases_eq q p)) in
+        omega arith
+
+-- each place of a longer trail was present in its turn, where those of the old one were, and the last is
+pub in_turn_put : (s : Situation) (p : ℕ) → TakenInTurn s → is_taken s p ≡ false → TakenInTurn (put s p)
+in_turn_put s p turns free n within =
     ⊎_elim
-    (λ (within : p < length marks). get_or-set_same marks p Taken Taken within)
-    (λ (past : length marks ≤ p). get_or_past (slice_set marks p Taken) p Taken (omega (arith, length-set marks p Taken)))
-    (cases_lt p (length marks))
+    (λ (below : n < length s.trail).
+    rw (take-append-le n s.trail (p ∷ []) (omega arith), get_or_append_left s.trail (p ∷ []) 0 n below) (turns n below))
+    (λ (past : length s.trail ≤ n).
+    let last : n ≡ length s.trail = omega (arith, length_push s.trail p) in
+    rw (take_at s.trail (p ∷ []) n (sym last), get_or_push s.trail p 0 n (sym last)) free)
+    (cases_lt n (length s.trail))
+
+-- the places that aren't taken and those on the trail are as many as the line has at most
+pub on_trail_at_most : (s : Situation) → TakenInTurn s → (n : ℕ) → n ≤ length s.trail → count_below (λ p. not (is_taken (cut_to s n) p)) (length s.context.line) + n ≤ (length s.context.line)
+on_trail_at_most s turns zero within = omega (arith, count_below-most (λ p. not (is_taken (cut_to s 0) p)) (length s.context.line))
+on_trail_at_most s turns (suc n) within =
+    let before = on_trail_at_most s turns n (omega arith) in
+    let p = slice_index s.trail n in
+    let free = turns n (omega arith) in
+    let next : take (suc n) s.trail ≡ take n s.trail ++ p ∷ [] = ap (λ k. take k s.trail) (sym (add-one n)) ∙ take_more s.trail n 0 (omega arith) in
+    let fewer = count_below-fewer (λ q. not (is_taken (cut_to s n) q)) (λ q. not (is_taken (put (cut_to s n) p) q)) (length s.context.line) p (present_in_line (cut_to s n) p free) (ap not free)
+    (ap not (put_here (cut_to s n) p)) (λ q other. ap not (sym (put_other (cut_to s n) p q other))) in
+    rw next (omega arith)
+
+-- so a present place has room on it
+pub room_on_trail : (s : Situation) (p : ℕ) → TakenInTurn s → is_taken s p ≡ false → length s.trail < (length s.context.line)
+room_on_trail s p turns free =
+    let most = on_trail_at_most s turns (length s.trail) (omega arith) in
+    let whole : take (length s.trail) s.trail ≡ s.trail = take_all (length s.trail) s.trail (omega arith) in
+    let most_now : count_below (λ q. not (is_taken s q)) (length s.context.line) + length s.trail ≤ (length s.context.line) = subst (λ xs. count_below (λ q. not (is_taken (with_trail s xs) q)) (length s.context.line) + length s.trail ≤ (length s.context.line)) whole most in
+    omega (arith, count_below-some (λ q. not (is_taken s q)) (length s.context.line) p (present_in_line s p free) (ap not free))
+
+-- what is taken stays so
+pub put_stays : (s : Situation) (p q : ℕ) → is_taken s q ≡ true → is_taken (put s p) q ≡ true
+put_stays s p q there = ⊎_elim
+    (λ (at : q ≡ p). ap (is_taken (put s p)) at ∙ put_here s p)
+    (λ (other : q ≢ p). put_other s p q other ∙ there)
+    (cases_eq q p)
+
+-- no place is present in scope where the first such place is not below the scope's end
+pub none_open : (s : Situation) (p : ℕ) → IsFirstPresent s p → s.end ≤ p → open_count s ≡ 0
+none_open s p first past = count_below-none (is_open s) (length s.context.line) (λ q _. by_scope q (in_scope s q) refl)
+  where
+    by_scope : (q : ℕ) (b : Bool) → in_scope s q ≡ b → is_open s q ≡ false
+    by_scope q true e =
+        let inside : (s.start ≤ q) × (q < s.end) = grind (arith, nat_tests) in
+        and_right (in_scope s q) _ (ap not (first.passed q inside.0 (omega arith)))
+    by_scope q false e = and_left (in_scope s q) _ e
+
+-- without its last place the trail is that place's turn
+pub last_put : (s : Situation) → 0 < length s.trail → put (cut_to s (length s.trail - 1)) (slice_index s.trail (length s.trail - 1)) ≡ s
+last_put s some =
+    let n = length s.trail - 1 in
+    let next : n + 1 ≡ length s.trail = omega arith in
+    ap (with_trail s) (sym (take_more s.trail n 0 (omega arith)) ∙ (ap (λ k. take k s.trail) next ∙ take_all (length s.trail) s.trail (omega arith)))
+
+-- the places of a part of the trail were present in their turn too
+pub in_turn_cut : (s : Situation) (n : ℕ) → TakenInTurn s → n ≤ length s.trail → TakenInTurn (cut_to s n)
+in_turn_cut s n turns inside k within =
+    let below : k < n = omega (arith, length-take-le n s.trail inside) in
+    rw (take-take k n s.trail (omega arith), get_or-take n s.trail k 0 below) (turns k (omega arith))
+
+-- what isn't taken with one place more isn't taken without it
+pub present_still : (s : Situation) (p q : ℕ) → is_taken (put s p) q ≡ false → is_taken s q ≡ false
+present_still s p q free = ⊎_elim
+    (λ (taken : is_taken s q ≡ true). absurd (true≢false (sym (put_stays s p q taken) ∙ free)))
+    (λ (present : is_taken s q ≡ false). present)
+    (cases_Bool (is_taken s q))
+
+-- without the place that was put, the first present one is it or the old one
+pub first_without : (s : Situation) (p first : ℕ) → IsFirstPresent (put s p) first → is_taken s p ≡ false → IsFirstPresent s (if in_scope s p then min first p else first)
+first_without s p first old free = by_scope (in_scope s p) refl
+  where
+    by_scope : (b : Bool) → in_scope s p ≡ b → IsFirstPresent s (if b then min first p else first)
+    by_scope true e =
+        let inside : (s.start ≤ p) × (p < s.end) = grind (arith, nat_tests) in
+        record {
+          from = omega (arith, old.from);
+          within = omega (arith, inside);
+          present = λ below. ⊎_elim
+              (λ (before : first < p). let at : min first p ≡ first = omega arith in rw at (present_still s p first (old.present (omega arith))))
+              (λ (behind : p ≤ first). let at : min first p ≡ p = omega arith in rw at free)
+              (cases_lt first p);
+          passed = λ q lower upper. sym (put_other s p q (λ at. absurd (omega arith))) ∙ old.passed q lower (omega arith);
+        }
+    by_scope false e = record {
+      from = old.from;
+      within = old.within;
+      present = λ below. present_still s p first (old.present below);
+      passed = λ q lower upper. sym (put_other s p q (λ at. absurd (true≢false (sym (in_it q lower (omega (arith, old.within))) ∙ (ap (in_scope s) at ∙ e))))) ∙ old.passed q lower upper;
+    }
+      where
+        in_it : (q : ℕ) → s.start ≤ q → q < s.end → in_scope s q ≡ true
+        in_it q lower upper = and_from _ _ (le-leb s.start q lower) (lt-ltb q s.end upper)
 
 -- a place that was taken is taken
 pub taken_here : (s : Situation) (p : ℕ) → is_taken (take_place s p) p ≡ true
-taken_here s p = ap (λ mark. not (nat_lt p (length s.context.line)) || is_taken_mark mark) (set_there s.marks p) ∙ or_true (not (nat_lt p (length s.context.line)))
+taken_here s p = put_here s p
 
 -- the other places are as they were
 pub taken_other : (s : Situation) (p q : ℕ) → q ≢ p → is_taken (take_place s p) q ≡ is_taken s q
-taken_other s p q other = ap (λ mark. not (nat_lt q (length s.context.line)) || is_taken_mark mark) (get_or-set_other s.marks p q Taken Taken other)
+taken_other s p q other = put_other s p q other
 
 -- what was taken stays taken
 pub taken_stays : (s : Situation) (p q : ℕ) → is_taken s q ≡ true → is_taken (take_place s p) q ≡ true
-taken_stays s p q taken = ⊎_elim
-    (λ (same : q ≡ p). ap (is_taken (take_place s p)) same ∙ taken_here s p)
-    (λ (other : q ≢ p). taken_other s p q other ∙ taken)
-    (cases_eq q p)
+taken_stays s p q taken = put_stays s p q taken
 
 -- the scope is as it was
 pub scope_after_take : (s : Situation) (p q : ℕ) → in_scope (take_place s p) q ≡ in_scope s q
 scope_after_take s p q = refl
-
--- one present place fewer
-pub open_count-take_place : (s : Situation) (p : ℕ) → is_open s p ≡ true → open_count (take_place s p) + 1 ≡ open_count s
-open_count-take_place s p there =
-    count_below-fewer (is_open s) (is_open (take_place s p)) (length s.context.line) p (open_in_line s p there) there
-    (ap (λ t. in_scope s p && not t) (taken_here s p) ∙ and_false (in_scope s p))
-    (λ q other. ap (λ t. in_scope s q && not t) (sym (taken_other s p q other)))
 
 -- another scope leaves each item
 pub item_after_scope : (s : Situation) (start end p : ℕ) → item_at (with_scope s start end) p ≡ item_at s p

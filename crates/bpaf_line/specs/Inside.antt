@@ -1,32 +1,55 @@
--- What a `State` is kept as, and what it then means.
-use Rattle.std.specs.Prelude.{◌≡◌, ◌≤◌, ℕ, Bool, true, not, ◌&&◌, nat_le, List, length, map, string_bytes, IfSome, slice_get, slice_index_or, Some}
+-- What a `State` and its `Steps` are kept as, and what they then mean.
+use Rattle.std.specs.Prelude.{◌≡◌, ◌≤◌, ◌<◌, ◌*◌, ℕ, List, length, map, string_bytes, IfSome, slice_get, Some, vec_capacity}
 use Rattle.std.specs.Rc.{rc_slice_items}
 use Rattle.bpaf_line.specs.declared.state.State.TheInside.{Inside}
-use Rattle.bpaf_line.specs.declared.state.PlaceMark.{PlaceMark}
-use Rattle.bpaf_line.specs.declared.state.PlaceMark.TheVariants.{Taken}
-use Rattle.bpaf_line.specs.Situation.{Situation, is_marker, is_taken, is_taken_mark, open_count}
+use Rattle.bpaf_line.specs.declared.mark.Steps.TheInside.{Inside as InsideSteps}
+use Rattle.bpaf_line.specs.Bits.{has_bit}
+use Rattle.bpaf_line.specs.Changes.{Changes}
+use Rattle.bpaf_line.specs.Situation.{Situation, is_taken, open_count, TakenInTurn, IsFirstPresent}
 
 -- the situation that a kept state means
 abbrev pub situation_of : Inside → Situation
 situation_of s = record {
-  context = record { line = rc_slice_items s.items; marker = s.marker; env = rc_slice_items s.env; name = s.name };
-  marks = s.marks.items;
+  context =
+      record {
+        line = rc_slice_items s.items;
+        marker = s.marker;
+        env = rc_slice_items s.env;
+        name = s.name;
+      };
+  trail = s.trail.items;
+  conflicts = s.conflicts.items;
   start = s.start;
   end = s.end;
   path = map string_bytes s.path.items;
   current = s.current;
 }
 
--- each place has its mark, the marker is taken, the scope lies in the line, the count is right, and
--- the path begins with the set name
+-- the bits are those of the taken places
+abbrev pub BitsOf : Situation → List ℕ → Type 0
+BitsOf s words = (p : ℕ) → p < length s.context.line → has_bit words p ≡ is_taken s p
+
+-- each place has its bit, the trail has room for all places, each of which was present when it was
+-- taken, the scope lies in the line, the count of the present ones and the first of them are right,
+-- and the path begins with the set name
 pub record IsSound (s : Inside) : Type 0 where
-  pub marked : length s.marks.items ≡ length (rc_slice_items s.items)
-  pub closed : (p : ℕ) → is_marker s.marker p ≡ true → is_taken (situation_of s) p ≡ true
+  pub worded : length (rc_slice_items s.items) ≤ 64 * length s.words.items
+  pub bits : BitsOf (situation_of s) s.words.items
+  pub room : length (rc_slice_items s.items) ≤ vec_capacity s.trail
+  pub in_turn : TakenInTurn (situation_of s)
   pub ordered : s.start ≤ s.end
   pub inside : s.end ≤ length (rc_slice_items s.items)
   pub counted : s.left ≡ open_count (situation_of s)
+  pub first : IsFirstPresent (situation_of s) s.first
   pub named : IfSome s.name (λ n. slice_get (map string_bytes s.path.items) 0 ≡ Some n)
 
--- a place is at least the start, and its mark is not that of a taken one
-abbrev pub is_present_from : List PlaceMark → ℕ → ℕ → Bool
-is_present_from marks start p = nat_le start p && not (is_taken_mark (slice_index_or marks p Taken))
+-- the changes that kept steps mean
+abbrev pub changes_of : InsideSteps → Changes
+changes_of s = record {
+  taken = s.taken.items;
+  conflicts = s.conflicts.items;
+  path = map string_bytes s.path.items;
+  start = s.start;
+  end = s.end;
+  current = s.current;
+}

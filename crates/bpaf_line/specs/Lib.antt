@@ -3,7 +3,10 @@ pub mod Messages
 pub mod Combining
 pub mod Failure
 pub mod Situation
+pub mod Bits
+pub mod Changes
 pub mod Inside
+pub mod Marks
 pub mod MissingIn
 pub mod Taking
 pub mod OpenItems

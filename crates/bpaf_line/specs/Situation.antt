@@ -1,11 +1,10 @@
 -- A parse in progress, as contracts see it: the line, which of its places are taken, and the scope.
 -- The layers above speak by `item_at`, `is_taken`, `conflict_at`, `in_scope`, `is_open`,
 -- `open_count` and the steps `take_place`, `with_scope`, `with_path`, `with_current`, `beginning`
--- alone, so that the marks may be kept otherwise.
-use Rattle.std.specs.Prelude.{ℕ, ◌+◌, ◌==◌, Bool, true, false, not, ◌&&◌, ◌||◌, List, [], ◌∷◌, ◌++◌, length, Option, Some, None, zero, suc, nat_lt, nat_le, if◌then◌else◌, slice_get, slice_index_or, slice_set, replicate, option_to_list}
+-- alone; how what is taken is kept is this crate's own affair.
+use Rattle.std.specs.Prelude.{ℕ, ◌≡◌, ◌+◌, ◌<◌, ◌≤◌, ◌==◌, Bool, true, false, not, ◌&&◌, ◌||◌, List, [], ◌∷◌, ◌++◌, length, take, Option, Some, None, zero, suc, nat_lt, nat_le, if◌then◌else◌, slice_get, slice_index, option_to_list, option_map, find, reverse}
+use Rattle.std.specs.List.{list_any}
 use Rattle.bpaf_words.specs.declared.arg.Arg.{Arg}
-use Rattle.bpaf_line.specs.declared.state.PlaceMark.{PlaceMark}
-use Rattle.bpaf_line.specs.declared.state.PlaceMark.TheVariants.{Present, Conflict, Taken}
 
 -- what no evaluation changes: the line, the place of its first `--`, where one stands there, the
 -- environment and the set name
@@ -18,7 +17,10 @@ pub record Context : Type 0 where
 -- a parse in progress
 pub record Situation : Type 0 where
   pub context : Context
-  pub marks : List PlaceMark
+  -- the places that were taken, in the order of taking
+  pub trail : List ℕ
+  -- a place that is excluded, and the place that excludes it; the last pair of a place counts
+  pub conflicts : List (ℕ × ℕ)
   pub start : ℕ
   pub end : ℕ
   pub path : List (List ℕ)
@@ -41,29 +43,22 @@ item_at s p = item_in s.context p
 abbrev pub is_dealt_place : Context → ℕ → Bool
 is_dealt_place context p = nat_lt p (length context.line) && not (is_marker context.marker p)
 
--- the mark of a place
-abbrev pub mark_at : Situation → ℕ → PlaceMark
-mark_at s p = slice_index_or s.marks p Taken
+-- a place is one of these
+abbrev pub is_on : List ℕ → ℕ → Bool
+is_on trail p = list_any (λ q. q == p) trail
 
--- whether a mark says so
-abbrev pub is_taken_mark : PlaceMark → Bool
-is_taken_mark Present = false
-is_taken_mark (Conflict winner) = false
-is_taken_mark Taken = true
-
--- a place is taken; past the line every place counts as taken
+-- a place is taken: it is past the line, or that of the marker, or was taken since
 abbrev pub is_taken : Situation → ℕ → Bool
-is_taken s p = not (nat_lt p (length s.context.line)) || is_taken_mark (mark_at s p)
+is_taken s p =
+    not (nat_lt p (length s.context.line)) || (is_marker s.context.marker p || is_on s.trail p)
 
--- what a mark names, where it is one of a conflict
-abbrev pub named_by : PlaceMark → Option ℕ
-named_by Present = None
-named_by (Conflict winner) = Some winner
-named_by Taken = None
+-- what the last pair of a place names
+abbrev pub last_of : List (ℕ × ℕ) → ℕ → Option ℕ
+last_of conflicts p = option_map (λ pair. pair.1) (find (λ pair. pair.0 == p) (reverse conflicts))
 
--- what the conflict mark of a place names, where it has one
+-- what the conflict mark of a place names, where it has one; a taken place has none
 abbrev pub conflict_at : Situation → ℕ → Option ℕ
-conflict_at s p = named_by (mark_at s p)
+conflict_at s p = if is_taken s p then None else last_of s.conflicts p
 
 -- a place lies in the scope
 abbrev pub in_scope : Situation → ℕ → Bool
@@ -84,11 +79,15 @@ open_count s = count_below (is_open s) (length s.context.line)
 
 -- a place taken, which is then the current one
 abbrev pub take_place : Situation → ℕ → Situation
-take_place s p = record s { marks = slice_set s.marks p Taken; current = Some p }
+take_place s p = record s { trail = s.trail ++ p ∷ []; current = Some p }
 
--- a conflict mark at a place, which names another
-abbrev pub with_conflict : Situation → ℕ → ℕ → Situation
-with_conflict s p winner = record s { marks = slice_set s.marks p (Conflict winner) }
+-- other places in the place of those that were taken
+abbrev pub with_trail : Situation → List ℕ → Situation
+with_trail s trail = record s { trail = trail }
+
+-- more conflict marks, the last of which count
+abbrev pub with_conflicts : Situation → List (ℕ × ℕ) → Situation
+with_conflicts s pairs = record s { conflicts = s.conflicts ++ pairs }
 
 -- another scope
 abbrev pub with_scope : Situation → ℕ → ℕ → Situation
@@ -102,18 +101,46 @@ with_path s entry = record s { path = s.path ++ entry ∷ [] }
 abbrev pub with_current : Situation → Option ℕ → Situation
 with_current s current = record s { current = current }
 
--- n marks, all present but that of the marker, where there is one
-abbrev pub first_marks : Option ℕ → ℕ → List PlaceMark
-first_marks None n = replicate n Present
-first_marks (Some p) n = slice_set (replicate n Present) p Taken
-
 -- how a run begins: the scope is the whole line, and all of it but the marker is present
 abbrev pub beginning : Context → Situation
 beginning context = record {
   context = context;
-  marks = first_marks context.marker (length context.line);
+  trail = [];
+  conflicts = [];
   start = 0;
   end = length context.line;
   path = option_to_list context.name;
   current = None;
 }
+
+-- the situation in which only the first n of the places had been taken
+abbrev pub cut_to : Situation → ℕ → Situation
+cut_to s n = with_trail s (take n s.trail)
+
+-- each place was present when it was taken
+abbrev pub TakenInTurn : Situation → Type 0
+TakenInTurn s =
+    (n : ℕ) → n < length s.trail → is_taken (cut_to s n) (slice_index s.trail n) ≡ false
+
+-- each of these places is present when those before it are taken
+abbrev pub PresentInTurn : Situation → List ℕ → Type 0
+PresentInTurn s places =
+    (n : ℕ) → n < length places
+    → is_taken (with_trail s (s.trail ++ take n places)) (slice_index places n) ≡ false
+
+-- the first place that is present in scope; the scope's end, where there is none
+pub record IsFirstPresent (s : Situation) (p : ℕ) : Type 0 where
+  pub from : s.start ≤ p
+  pub within : p ≤ s.end
+  pub present : p < s.end → is_taken s p ≡ false
+  pub passed : (q : ℕ) → s.start ≤ q → q < p → is_taken s q ≡ true
+
+-- the first place from one on that is present and in scope
+pub record IsNextOpen (s : Situation) (low p : ℕ) : Type 0 where
+  pub from : low ≤ p
+  pub present : is_open s p ≡ true
+  pub passed : (q : ℕ) → low ≤ q → q < p → is_open s q ≡ false
+
+-- no place from one on is present and in scope
+abbrev pub HasNoneOpen : Situation → ℕ → Type 0
+HasNoneOpen s low = (q : ℕ) → low ≤ q → is_open s q ≡ false

@@ -1,8 +1,12 @@
-ghost use Rattle.std.specs.Prelude.{◌≡◌, ◌&&◌, not, if◌then◌else◌};
-ghost use Rattle.bpaf_line.specs.Situation.{is_taken, with_conflict};
-ghost use Rattle.bpaf_line.specs.Conflicts.{IsWinner, ConflictsSaved, first_conflict};
+ghost use Rattle.std.specs.Prelude.{ℕ, ◌≡◌, ◌&&◌, not, IfOk, OnOk, OnErr, None, Some, if◌then◌else◌};
+ghost use Rattle.bpaf_line.specs.Situation.{is_on, is_taken, conflict_at, last_of};
+ghost use Rattle.bpaf_line.specs.Marks.{HasReached, CanRedo, KeepsMarks, undone, redone};
+ghost use Rattle.bpaf_line.specs.Conflicts.{IsWinner, ConflictsSaved, first_conflict, leftmost_of};
 
+use crate::bits;
+use crate::mark::{Mark, Steps};
 use crate::state::State;
+use std::alloc::AllocError;
 
 impl State {
     /// The leftmost place that is taken in only one of two states, and whether it is taken in this one;
@@ -20,25 +24,84 @@ impl State {
     }
 
     /// Gives each place that is present here and taken in the other state a conflict mark, which names
-    /// the place handed in. It takes no memory.
+    /// the place handed in. Refused only for want of memory, and then nothing changes.
     ///
     /// A place with a conflict mark is present.
-    pub fn save_conflicts(&mut self, loser: &State, winner: usize)
-        ensures { ConflictsSaved self.old loser.now winner self.new }
+    pub fn save_conflicts(&mut self, loser: &State, winner: usize) -> Result<(), AllocError>
+        ensures ok { OnOk result (ConflictsSaved self.old loser.now winner self.new) }
+        ensures marks { KeepsMarks self.old self.new }
+        ensures err { OnErr result (self.new ≡ self.old) }
     {
-        for place in 0..self.line_len() {
-            self.save_conflict(loser, place, winner);
-        }
+        let mut pairs = self.excluded(loser, winner)?;
+        self.conflicts.append(&mut pairs)?;
+        Ok(())
     }
 
-    /// Gives one place a conflict mark, where it is present here and taken in the other state.
-    fn save_conflict(&mut self, loser: &State, place: usize, winner: usize)
-        ensures { self.new ≡ (if not (is_taken self.old place) && is_taken loser.now place
-            then with_conflict self.old place winner else self.old) }
+    /// The places that are present here and taken in the other state, each with the place handed in.
+    fn excluded(&self, loser: &State, winner: usize) -> Result<Vec<(usize, usize)>, AllocError>
+        ensures { IfOk result (λ pairs. (p : ℕ) → last_of pairs.items p
+            ≡ (if not (is_taken self.now p) && is_taken loser.now p then Some winner else None)) }
     {
-        if !self.is_taken(place) && loser.is_taken(place) {
-            self.mark_conflict(place, winner);
+        let mut pairs = Vec::new(self.alloc());
+        for place in 0..self.line_len() {
+            if !self.is_taken(place) && loser.is_taken(place) {
+                pairs.push((place, winner))?;
+            }
         }
+        Ok(pairs)
+    }
+
+    /// The leftmost place that is taken in only one of two situations, and whether it is taken in this
+    /// one; `(true, None)` where there is no such place. The other one is that to which the steps lead
+    /// from the mark. It takes no memory, and the state is as before; it looks at the places taken since
+    /// the mark alone.
+    pub fn pick_winner_since(&mut self, mark: &Mark, other: &Steps) -> (bool, Option<usize>)
+        requires reached { HasReached mark.now self.old }
+        requires steps { CanRedo other.now (undone mark.now self.old) }
+        ensures winner { IsWinner self.old (redone other.now (undone mark.now self.old)) result }
+        ensures same { self.new ≡ self.old }
+    {
+        let own = &self.trail[mark.taken..];
+        let (here, there) = bits::least_apart(&mut self.words, own, &other.taken);
+        leftmost(here, there)
+    }
+
+    /// Gives each place that is present here and that the other steps took a conflict mark, which names
+    /// the place handed in: whatever mark these steps lead on from. Refused only for want of memory, and
+    /// then nothing changes.
+    pub fn save_conflicts_of(&mut self, loser: &Steps, winner: usize) -> Result<(), AllocError>
+        ensures ok { OnOk result ((mark : Mark) → ConflictsSaved self.old
+            (redone loser.now (undone mark self.old)) winner self.new) }
+        ensures marks { KeepsMarks self.old self.new }
+        ensures err { OnErr result (self.new ≡ self.old) }
+    {
+        let mut pairs = self.excluded_by(&loser.taken, winner)?;
+        self.conflicts.append(&mut pairs)?;
+        Ok(())
+    }
+
+    /// The places among some that are present, each with the place handed in.
+    fn excluded_by(&self, taken: &[usize], winner: usize) -> Result<Vec<(usize, usize)>, AllocError>
+        ensures { IfOk result (λ pairs. (p : ℕ) → last_of pairs.items p
+            ≡ (if not (is_taken self.now p) && is_on taken.now p then Some winner else None)) }
+    {
+        let mut pairs = Vec::new(self.alloc());
+        for place in taken {
+            if !self.is_taken(*place) {
+                pairs.push((*place, winner))?;
+            }
+        }
+        Ok(pairs)
+    }
+
+    /// What the conflict mark of a place names, where it has one; a taken place has none.
+    pub(crate) fn conflict_at(&self, place: usize) -> Option<usize>
+        ensures { result ≡ conflict_at self.now place }
+    {
+        if self.is_taken(place) {
+            return None;
+        }
+        last_of(self.conflicts.as_slice(), place)
     }
 
     /// The first present place in scope, and what its conflict mark names; None where it has none, or no
@@ -49,4 +112,34 @@ impl State {
         let (place, _) = self.next_open(0)?;
         Some((place, self.conflict_at(place)?))
     }
+}
+
+/// The place that stands before the other, and whether it is the first of the two.
+fn leftmost(here: Option<usize>, there: Option<usize>) -> (bool, Option<usize>)
+    ensures { result ≡ leftmost_of here there }
+{
+    let Some(other) = there else {
+        return (true, here);
+    };
+    match here {
+        None => (false, there),
+        Some(own) => {
+            if own < other {
+                (true, here)
+            } else {
+                (false, there)
+            }
+        }
+    }
+}
+
+/// What the last pair of a place names.
+fn last_of(conflicts: &[(usize, usize)], place: usize) -> Option<usize>
+    ensures { result ≡ last_of conflicts.now place }
+{
+    conflicts
+        .iter()
+        .rev()
+        .find(|pair| pair.0 == place)
+        .map(|pair| pair.1)
 }

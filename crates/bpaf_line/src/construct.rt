@@ -1,12 +1,14 @@
 //! How a state begins, and how it is copied.
-ghost use Rattle.std.specs.Prelude.{◌≡◌, ◌<◌, IfOk, OnOk, IfSome, All, IsUtf8, map, option_map, option_to_list, string_bytes};
+ghost use Rattle.std.specs.Prelude.{ℕ, ◌≡◌, ◌*◌, ◌<◌, ◌≤◌, length, IfOk, OnOk, IfSome, All, IsUtf8, map, option_map, option_to_list, string_bytes};
 ghost use Rattle.bpaf_words.specs.Arguments.{words_of, given_of, entries_of, env_entries};
 ghost use Rattle.bpaf_words.specs.Spelling.{knowing};
 ghost use Rattle.bpaf_line.specs.Constructing.{Constructs};
-ghost use Rattle.bpaf_line.specs.Situation.{first_marks};
+ghost use Rattle.bpaf_line.specs.Bits.{has_bit};
+ghost use Rattle.bpaf_line.specs.Situation.{is_marker};
 
+use crate::bits;
 use crate::error::Message;
-use crate::state::{PlaceMark, State};
+use crate::state::State;
 use bpaf_doc::Text;
 use bpaf_words::{Args, line_of};
 use std::alloc::{AllocError, Global};
@@ -34,41 +36,52 @@ impl State {
         let line = line_of(alloc, args.words(), short_flags, short_args)?;
         let entries = copy_env(alloc, args.env())?;
         let end = line.items.len();
-        let marks = first_marks(alloc, line.marker, end)?;
+        let words = first_words(alloc, line.marker, end)?;
         let (path, name) = first_path(alloc, args.name())?;
         let left = end - usize::from(line.marker.is_some());
+        let first = bits::first_clear(&words, 0, end);
         Ok(State {
             items: RcSlice::from_vec(line.items)?,
             marker: line.marker,
             env: RcSlice::from_vec(entries)?,
-            marks,
+            words,
+            trail: Vec::with_capacity(alloc, end)?,
+            conflicts: Vec::new(alloc),
             start: 0,
             end,
             left,
+            first,
             path,
             name,
             current: None,
         })
     }
 
-    /// An equal state, which shares the line and the environment (bpaf's `Clone`); refused only for
-    /// want of memory.
+    /// An equal state, which shares the line and the environment (bpaf's `Clone`), and whose trail
+    /// has room for all places too; refused only for want of memory.
     pub fn copy(&self) -> Result<State, AllocError>
         ensures { IfOk result (λ state. state ≡ self.now) }
     {
         let items = self.items.clone()?;
         let env = self.env.clone()?;
-        let marks = Vec::from_slice(self.alloc(), self.marks.as_slice())?;
-        let path = copy_path(self.alloc(), self.path.as_slice())?;
+        let alloc = self.alloc();
+        let words = Vec::from_slice(alloc, self.words.as_slice())?;
+        let mut trail = Vec::with_capacity(alloc, self.items.as_slice().len())?;
+        trail.extend_from_slice(self.trail.as_slice())?;
+        let conflicts = Vec::from_slice(alloc, self.conflicts.as_slice())?;
+        let path = copy_path(alloc, self.path.as_slice())?;
         let name = Text::copy_of(&self.name)?;
         Ok(State {
             items,
             marker: self.marker,
             env,
-            marks,
+            words,
+            trail,
+            conflicts,
             start: self.start,
             end: self.end,
             left: self.left,
+            first: self.first,
             path,
             name,
             current: self.current,
@@ -76,20 +89,18 @@ impl State {
     }
 }
 
-/// Marks that are all present but that of the marker.
-fn first_marks(
-    alloc: Global,
-    marker: Option<usize>,
-    count: usize,
-) -> Result<Vec<PlaceMark>, AllocError>
+/// Words for that many places, in which only the bit of the marker is set.
+fn first_words(alloc: Global, marker: Option<usize>, count: usize) -> Result<Vec<u64>, AllocError>
     requires { IfSome marker (λ p. p < count) }
-    ensures { IfOk result (λ marks. marks.items ≡ first_marks marker count) }
+    ensures room { IfOk result (λ words. count ≤ 64 * length words.items) }
+    ensures bits { IfOk result (λ words.
+        (p : ℕ) → has_bit words.items p ≡ is_marker marker p) }
 {
-    let mut marks = vec![in alloc; PlaceMark::Present; count]?;
+    let mut words = vec![in alloc; 0; count / 64 + 1]?;
     if let Some(place) = marker {
-        marks[place] = PlaceMark::Taken;
+        bits::set(&mut words, place);
     }
-    Ok(marks)
+    Ok(words)
 }
 
 /// A path of the set name alone, and that name.
@@ -139,7 +150,7 @@ fn copy_entries(
 }
 
 /// An equal path.
-fn copy_path(alloc: Global, path: &[String]) -> Result<Vec<String>, AllocError>
+pub(crate) fn copy_path(alloc: Global, path: &[String]) -> Result<Vec<String>, AllocError>
     ensures { IfOk result (λ copy. map string_bytes copy.items ≡ map string_bytes path.now) }
 {
     let mut copy = Vec::new(alloc);

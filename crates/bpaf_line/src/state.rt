@@ -1,15 +1,16 @@
 //! A parse in progress, and what its calls read and set.
-ghost use Rattle.std.specs.Prelude.{◌≡◌, ◌+◌, ◌<◌, ◌≤◌, ◌^◌, ◌==◌, [], ◌∷◌, if◌then◌else◌, not, nat_lt, length, true, false, Bool, MatchOption, option_copied, option_map, option_and_then, Some, None, IfOk, OnOk, OnErr, IfSome, string_bytes, map, List};
+ghost use Rattle.std.specs.Prelude.{◌≡◌, ◌+◌, ◌++◌, ◌&&◌, ◌<◌, ◌≤◌, ◌^◌, ◌==◌, [], ◌∷◌, if◌then◌else◌, not, nat_lt, nat_le, length, true, false, Bool, MatchOption, option_copied, option_map, option_and_then, Some, None, IfOk, OnOk, OnErr, IfSome, string_bytes, map, List};
 ghost use Rattle.std.specs.Borrow.{Bor};
 ghost use Rattle.bpaf_doc.specs.Shape.{part_of};
 ghost use Rattle.bpaf_words.specs.declared.arg.Arg.{Arg};
 ghost use Rattle.bpaf_words.specs.Items.{is_positional, word_text};
-ghost use Rattle.bpaf_line.specs.Inside.{is_present_from};
 ghost use Rattle.bpaf_line.specs.MissingIn.{IsMissingIn};
 ghost use Rattle.bpaf_line.specs.OpenItems.{open_items, open_items_from, items_left};
-ghost use Rattle.bpaf_line.specs.Situation.{item_at, count_below, open_count, is_taken, is_open, take_place, with_scope, with_path, with_current, conflict_at, with_conflict};
+ghost use Rattle.bpaf_line.specs.Situation.{item_at, open_count, is_taken, is_open, take_place, with_trail, with_scope, with_path, with_current, HasNoneOpen, IsNextOpen};
+ghost use Rattle.bpaf_line.specs.Marks.{KeepsMarks};
 ghost use Rattle.bpaf_line.specs.Taking.{HasNone, IsFirst, value_after, open_item, entry_of};
 
+use crate::bits;
 use crate::error::{Error, Message};
 use crate::iter::ArgsIter;
 use crate::missing::{MissingItem, MissingItems};
@@ -20,15 +21,6 @@ use std::marker::Model;
 use std::ops::Range;
 use std::rc::RcSlice;
 
-/// Whether a place of the line is still there to be taken.
-#[derive(Clone, Copy, Debug)]
-pub enum PlaceMark {
-    Present,
-    /// It is present, and what took the named place excludes it.
-    Conflict(usize),
-    Taken,
-}
-
 /// A parse in progress (bpaf's `State`): the items and the environment, which of the items are
 /// taken, the scope in which parsers look, the path of names, and the current place.
 ///
@@ -38,10 +30,13 @@ pub struct State {
     pub(crate) items: RcSlice<Arg>,
     pub(crate) marker: Option<usize>,
     pub(crate) env: RcSlice<(Text, Text)>,
-    pub(crate) marks: Vec<PlaceMark>,
+    pub(crate) words: Vec<u64>,
+    pub(crate) trail: Vec<usize>,
+    pub(crate) conflicts: Vec<(usize, usize)>,
     pub(crate) start: usize,
     pub(crate) end: usize,
     pub(crate) left: usize,
+    pub(crate) first: usize,
     pub(crate) path: Vec<String>,
     pub(crate) name: Option<Text>,
     pub(crate) current: Option<usize>,
@@ -93,9 +88,11 @@ impl State {
     pub fn set_scope(&mut self, scope: Range<usize>)
         requires ordered { scope.start ≤ scope.end }
         requires inside { scope.end ≤ length self.old.context.line }
-        ensures { self.new ≡ with_scope self.old scope.start scope.end }
+        ensures scope { self.new ≡ with_scope self.old scope.start scope.end }
+        ensures marks { KeepsMarks self.old self.new }
     {
-        self.left = count_present(self.marks.as_slice(), scope.start, scope.end);
+        self.left = bits::count_clear(&self.words, scope.start, scope.end);
+        self.first = bits::first_clear(&self.words, scope.start, scope.end);
         self.start = scope.start;
         self.end = scope.end;
     }
@@ -118,6 +115,7 @@ impl State {
     pub fn push_path(&mut self, entry: &str) -> Result<(), AllocError>
         ensures ok { OnOk result (self.new ≡ with_path self.old entry.now) }
         ensures err { OnErr result (self.new ≡ self.old) }
+        ensures marks { KeepsMarks self.old self.new }
     {
         let entry = String::from_str(self.alloc(), entry)?;
         self.path.push(entry)?;
@@ -133,7 +131,8 @@ impl State {
 
     /// Makes another place the current one, or none.
     pub fn set_current(&mut self, current: Option<usize>)
-        ensures { self.new ≡ with_current self.old current }
+        ensures current { self.new ≡ with_current self.old current }
+        ensures marks { KeepsMarks self.old self.new }
     {
         self.current = current;
     }
@@ -154,14 +153,17 @@ impl State {
         ensures { result ≡ (if nat_lt place (length self.now.context.line)
             then Some (not (is_taken self.now place)) else None) }
     {
-        let mark = self.marks.get(place)?;
-        Some(!matches!(mark, PlaceMark::Taken))
+        if place >= self.line_len() {
+            return None;
+        }
+        Some(!self.is_taken(place))
     }
 
     /// Takes a place that is present and in scope; at another place nothing changes. It takes no memory.
     pub fn remove(&mut self, place: usize)
-        ensures { self.new ≡
-            (if is_open self.old place then take_place self.old place else self.old) }
+        ensures taken { self.new
+            ≡ (if is_open self.old place then take_place self.old place else self.old) }
+        ensures marks { KeepsMarks self.old self.new }
     {
         if self.is_open(place) {
             self.take(place);
@@ -178,18 +180,30 @@ impl State {
         }
     }
 
+    /// The first place from one on that is present and in scope.
+    ///
+    /// Taken places at the scope's start aren't looked at, nor words of 64 whose places are all taken.
+    fn next_place(&self, from: usize) -> Option<usize>
+        ensures { MatchOption result (HasNoneOpen self.now from) (IsNextOpen self.now from) }
+    {
+        let from = from.max(self.first);
+        if from >= self.end {
+            return None;
+        }
+        let place = bits::first_clear(&self.words, from, self.end);
+        (place < self.end).then_some(place)
+    }
+
     /// The first present item in scope from a place on, with its place.
     pub(crate) fn next_open(&self, from: usize) -> Option<(usize, &Arg)>
+        ensures next { MatchOption result (HasNoneOpen self.now from) (λ r.
+            IsNextOpen self.now from r.0 × (open_item self.now r.0 ≡ Some r.1.now)) }
         ensures items { MatchOption result (open_items_from self.now from ≡ []) (λ r.
             open_items_from self.now from ≡ (r.0, r.1.now) ∷ open_items_from self.now (r.0 + 1)) }
         ensures fits { IfSome result (λ r. r.0 + 1 < 2 ^ 64) }
     {
-        for place in from..self.end {
-            if let Some(item) = self.get(place) {
-                return Some((place, item));
-            }
-        }
-        None
+        let place = self.next_place(from)?;
+        Some((place, &self.items.as_slice()[place]))
     }
 
     /// What the environment has under a name: the value of its first entry of that name.
@@ -222,39 +236,21 @@ impl State {
     pub(crate) fn line_len(&self) -> usize
         ensures { result ≡ length self.now.context.line }
     {
-        self.marks.len()
+        self.items.as_slice().len()
     }
 
     /// Whether a place is taken; past the line every place counts as taken.
     pub(crate) fn is_taken(&self, place: usize) -> bool
         ensures { result ≡ is_taken self.now place }
     {
-        place >= self.marks.len() || matches!(self.marks[place], PlaceMark::Taken)
-    }
-
-    /// What the conflict mark of a place names, where it has one.
-    pub(crate) fn conflict_at(&self, place: usize) -> Option<usize>
-        ensures { result ≡ conflict_at self.now place }
-    {
-        match self.marks.get(place)? {
-            PlaceMark::Conflict(winner) => Some(*winner),
-            PlaceMark::Present | PlaceMark::Taken => None,
-        }
-    }
-
-    /// Gives a place that isn't taken a conflict mark.
-    pub(crate) fn mark_conflict(&mut self, place: usize, winner: usize)
-        requires { is_taken self.old place ≡ false }
-        ensures { self.new ≡ with_conflict self.old place winner }
-    {
-        self.marks[place] = PlaceMark::Conflict(winner);
+        place >= self.items.as_slice().len() || bits::is_set(&self.words, place)
     }
 
     /// Whether a place is present, and in scope.
     fn is_open(&self, place: usize) -> bool
         ensures { result ≡ is_open self.now place }
     {
-        self.start <= place && place < self.end && !matches!(self.marks[place], PlaceMark::Taken)
+        self.start <= place && place < self.end && !bits::is_set(&self.words, place)
     }
 
     /// The first item that is present, in scope, and passes the test, with its place.
@@ -266,12 +262,12 @@ impl State {
         ensures { MatchOption result (HasNone passes self.now) (λ r.
             IsFirst passes self.now r.0 × (open_item self.now r.0 ≡ Some r.1.now)) }
     {
-        for place in self.start..self.end {
-            if let Some(item) = self.get(place) {
-                if test(item) {
-                    return Some((place, item));
-                }
+        let mut from = 0;
+        while let Some((place, item)) = self.next_open(from) {
+            if test(item) {
+                return Some((place, item));
             }
+            from = place + 1;
         }
         None
     }
@@ -290,14 +286,25 @@ impl State {
         }
     }
 
-    /// Takes a place that is present and in scope.
+    /// Takes a place that is present and in scope, which is then the current one. It takes no memory.
     pub(crate) fn take(&mut self, place: usize)
         requires { is_open self.old place ≡ true }
-        ensures { self.new ≡ take_place self.old place }
+        ensures taken { self.new ≡ take_place self.old place }
+        ensures marks { KeepsMarks self.old self.new }
     {
-        self.marks[place] = PlaceMark::Taken;
-        self.left -= 1;
+        self.put(place);
         self.current = Some(place);
+    }
+
+    /// Takes a present place, and leaves the current one. The trail has room for it.
+    pub(crate) fn put(&mut self, place: usize)
+        requires { is_taken self.old place ≡ false }
+        ensures { self.new ≡ with_trail self.old (self.old.trail ++ place ∷ []) }
+    {
+        bits::set(&mut self.words, place);
+        let _ = self.trail.push(place);
+        self.left -= usize::from(lies_within(place, self.start, self.end));
+        self.first = bits::first_clear(&self.words, self.first, self.end);
     }
 
     /// The text of the place after a key, where that is present, in scope, and a Word or an ArgWord.
@@ -324,17 +331,9 @@ fn value_of<'a>(entries: &'a [(Text, Text)], name: &str) -> Option<&'a str>
     None
 }
 
-/// How many places from `start` up to `end` are present.
-fn count_present(marks: &[PlaceMark], start: usize, end: usize) -> usize
-    requires ordered { start ≤ end }
-    requires inside { end ≤ length marks.now }
-    ensures { result ≡ count_below (is_present_from marks.now start) end }
+/// Whether a place is one from the start on, below the end.
+pub(crate) fn lies_within(place: usize, start: usize, end: usize) -> bool
+    ensures { result ≡ (nat_le start place && nat_lt place end) }
 {
-    let mut count = 0;
-    for place in start..end {
-        if !matches!(marks[place], PlaceMark::Taken) {
-            count += 1;
-        }
-    }
-    count
+    start <= place && place < end
 }

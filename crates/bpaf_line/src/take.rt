@@ -1,5 +1,6 @@
 //! The calls of a state that look for an item and take it.
 ghost use Rattle.bpaf_words.specs.Items.{any_item, is_command_word};
+ghost use Rattle.bpaf_line.specs.Marks.{KeepsMarks};
 ghost use Rattle.bpaf_line.specs.Taking.{TakesFlag, TakesArgument, TakesWord, TakesCommand, HasNoCommand, IsCommandAt};
 ghost use Rattle.std.specs.Prelude.{◌≡◌, MatchOption};
 
@@ -12,7 +13,8 @@ impl State {
     /// Takes the first present key in scope with one of the names, attached or not; false, and
     /// nothing changes, where there is none. It takes no memory.
     pub fn take_flag(&mut self, shorts: &[char], longs: &[Text]) -> bool
-        ensures { TakesFlag (record { shorts = shorts.now; longs = longs.now })
+        ensures marks { KeepsMarks self.old self.new }
+        ensures taken { TakesFlag (record { shorts = shorts.now; longs = longs.now })
             self.old result self.new }
     {
         match self.first_open(|item| is_key_of(item, shorts, longs)) {
@@ -36,7 +38,8 @@ impl State {
         adjacent: bool,
         metavar: Metavar,
     ) -> Result<Option<String>, Error>
-        ensures { TakesArgument (record { shorts = shorts.now; longs = longs.now }) adjacent
+        ensures marks { KeepsMarks self.old self.new }
+        ensures taken { TakesArgument (record { shorts = shorts.now; longs = longs.now }) adjacent
             metavar.0.now self.old result self.new }
     {
         let Some((key, _)) = self.first_open(move |item| is_argument_key(
@@ -59,7 +62,8 @@ impl State {
     /// Refused with Missing of a positional item where there is none, or for want of memory. A refusal
     /// takes nothing.
     pub fn take_positional_word(&mut self, metavar: Metavar) -> Result<(usize, bool, String), Error>
-        ensures { TakesWord metavar.0.now self.old result self.new }
+        ensures marks { KeepsMarks self.old self.new }
+        ensures taken { TakesWord metavar.0.now self.old result self.new }
     {
         let Some((place, strict, word)) = self.first_word() else {
             let item = Item::Positional {
@@ -79,7 +83,8 @@ impl State {
     /// Later items are not looked at. Otherwise false, no place is then the current one, and nothing
     /// else changes.
     pub fn take_cmd(&mut self, word: &str) -> bool
-        ensures { TakesCommand word.now self.old result self.new }
+        ensures marks { KeepsMarks self.old self.new }
+        ensures taken { TakesCommand word.now self.old result self.new }
     {
         match self.first_command(word) {
             Some(first) => {

@@ -1,6 +1,6 @@
-use Rattle.std.proofs.Common.{◌≡◌, ◌+◌, ◌++◌, ◌∷◌, [], take, sym, ◌∙◌, subst, refl}
+use Rattle.std.proofs.Common.{◌≡◌, ◌+◌, ◌⊎◌, ◌++◌, ◌∷◌, [], take, sym, ◌∙◌, subst, refl}
 use Rattle.std.proofs.lemmas.List.{take_more}
-use Rattle.bpaf_laws.specs.Choice.{Chosen, ChoiceOutcome}
+use Rattle.bpaf_laws.specs.Choice.{Chosen, IsWant, ChoiceOutcome}
 use Rattle.bpaf_laws.specs.Choices.{Nested}
 use Rattle.bpaf_laws.proofs.ChoosingAll.{one_more, wants, want_of}
 use Rattle.bpaf.proofs.choices.choose_from.Goals as goal
@@ -35,7 +35,7 @@ loop-parser-preserved g c =
     let more : take (i + 1) c.args.rest.now ≡ take i c.args.rest.now ++ c.parser-item.result ∷ [] =
     take_more c.args.rest.now i c.parser-item.result c.loop-parser-test.true ∙ (rw (sym c.parser-item.is) refl) in
     let other = subst (λ w. g.P.Parser.outcome c.parser-item.result w c.eval-other.result c.eval-other.new.state) c.in_ok-that.ensures c.eval-other.ensures in
-    let chosen = subst (λ w. Chosen w c.loop-parser.answer c.loop-parser.best c.eval-other.result c.eval-other.new.state c.this_or_that-answer.result c.this_or_that-answer.new.state) c.in_ok-next.ensures c.this_or_that-answer.ensures in
+    let chosen = subst (λ w. Chosen w c.loop-parser.answer c.loop-parser.best c.eval-other.result c.eval-other.new.state c.this_or_that-answer.result c.this_or_that-answer.new.state ⊎ IsWant w c.this_or_that-answer.result c.this_or_that-answer.new.state) c.in_ok-next.ensures c.this_or_that-answer.ensures in
     let both = one_more g.P.Parser.outcome (g.P.Parser.outcome c.args.first.now) (take i c.args.rest.now) c.parser-item.result s
     c.loop-parser.answer c.loop-parser.best c.eval-other.result c.eval-other.new.state c.this_or_that-answer.result c.this_or_that-answer.new.state
     c.loop-parser.invariant other (sym c.is_want.ensures ∙ c.if-is_want.false) (sym c.is_want-in-loop-parser.ensures ∙ c.if-is_want-2.false) chosen in

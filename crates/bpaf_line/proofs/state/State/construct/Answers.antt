@@ -1,18 +1,19 @@
-use Rattle.std.proofs.Common.{◌≡◌, length, ap, ◌∙◌, refl, None, ◌-◌, option_to_list, subst, All, IsUtf8}
+use Rattle.std.proofs.Common.{◌≡◌, length, ap, ◌∙◌, refl, None, ◌-◌, option_to_list, subst, All, IsUtf8, is_some, arith}
 use Rattle.std.specs.Int.{from_bool}
 use Rattle.bpaf_words.specs.Arguments.{env_of, name_of}
 use Rattle.bpaf_words.specs.Spelling.{knowing}
 use Rattle.bpaf_words.specs.Line.{IsLine}
 use Rattle.bpaf_words.proofs.Fronts.{marker_of_line}
-use Rattle.bpaf_line.specs.Situation.{Context, beginning, first_marks}
+use Rattle.bpaf_line.specs.Situation.{Context, beginning}
 use Rattle.bpaf_line.specs.declared.state.State.TheInside.{Inside}
+use Rattle.bpaf_line.specs.Bits.{IsFirstClear}
 use Rattle.bpaf_line.specs.Inside.{situation_of}
-use Rattle.bpaf_line.proofs.Beginning.{sound_beginning, begins, left_is, left_of}
+use Rattle.bpaf_line.proofs.Beginning.{sound_beginning, begins}
 use Rattle.bpaf_line.proofs.state.State.construct.Goals as goal
-use Rattle.bpaf_line.proofs.state.State.construct.Goals.{In_ok-from_vec-2}
+use Rattle.bpaf_line.proofs.state.State.construct.Goals.{After-new}
 
 -- the context of the line that was read
-context_is : In_ok-from_vec-2 → Context
+context_is : After-new → Context
 context_is c = record {
   line = c.in_ok-line.line.items.items;
   marker = c.in_ok-line.line.marker;
@@ -21,36 +22,41 @@ context_is c = record {
 }
 
 -- what the state is made of
-inside : In_ok-from_vec-2 → Inside
+inside : After-new → Inside
 inside c = record {
   items = c.in_ok-from_vec.field-0;
   marker = c.in_ok-line.line.marker;
   env = c.in_ok-from_vec-2.field-0;
-  marks = c.in_ok-marks.marks;
+  words = c.in_ok-words.words;
+  trail = c.in_ok-with_capacity.field-0;
+  conflicts = c.new.result;
   start = 0;
   end = c.len-end.result;
   left = c.len-end.result - c.from.result;
+  first = c.first_clear-first.result;
   path = c.in_ok-path.path;
   name = c.in_ok-path.name;
   current = None;
 }
 
 -- the end of the scope is the end of the line
-size : (c : In_ok-from_vec-2) → c.len-end.result ≡ length c.in_ok-line.line.items.items
+size : (c : After-new) → c.len-end.result ≡ length c.in_ok-line.line.items.items
 size c = c.len-end.ensures ∙ c.in_ok-line.line.items.ok.0
 
 -- it is at the beginning of that line
-start : (c : In_ok-from_vec-2) → situation_of (inside c) ≡ beginning (context_is c)
+start : (c : After-new) → situation_of (inside c) ≡ beginning (context_is c)
 unfolding inside context_is
 start c = begins (inside c) (context_is c) c.in_ok-from_vec.ensures refl (c.in_ok-from_vec-2.ensures ∙ (c.in_ok-entries.ensures ∙ c.env.ensures)) (c.in_ok-path.ensures.name ∙ c.name.ensures)
-    (c.in_ok-marks.ensures ∙ ap (first_marks c.in_ok-line.line.marker) (size c))
-    refl (size c) (c.in_ok-path.ensures.path ∙ ap option_to_list c.name.ensures) refl
+    c.in_ok-with_capacity.ensures.items c.new.ensures.items refl (size c) (c.in_ok-path.ensures.path ∙ ap option_to_list c.name.ensures) refl
 
 pub invariant_of-result : goal.invariant_of-result
 unfolding context_is inside
 invariant_of-result c =
+    let n = length c.in_ok-line.line.items.items in
     sound_beginning (inside c) (context_is c) (start c) (marker_of_line _ _ _ _ c.in_ok-line.ensures.answer)
-    (left_is c.in_ok-line.line.marker c.len-end.result c.from.result (c.from.ensures ∙ ap from_bool c.is_some.ensures) ∙ ap (left_of c.in_ok-line.line.marker) (size c))
+    (omega (arith, size c, c.in_ok-words.ensures.room)) c.in_ok-words.ensures.bits (omega (arith, size c, c.in_ok-with_capacity.ensures.capacity))
+    (ap (λ k. c.len-end.result - k) (c.from.ensures ∙ ap from_bool c.is_some.ensures) ∙ ap (λ m. m - from_bool (is_some c.in_ok-line.line.marker)) (size c))
+    (subst (λ words. IsFirstClear words 0 n c.first_clear-first.result) c.deref.ensures.value (subst (λ m. IsFirstClear c.deref.result.now 0 m c.first_clear-first.result) (size c) c.first_clear-first.ensures))
 
 pub returns-clause-texts : goal.returns-clause-texts
 returns-clause-texts c = subst (All IsUtf8) c.words.ensures c.in_ok-line.ensures.texts

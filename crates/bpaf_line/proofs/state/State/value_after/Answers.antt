@@ -1,4 +1,4 @@
-use Rattle.std.proofs.Common.{◌+◌, ◌∙◌, ap, arith}
+use Rattle.std.proofs.Common.{◌∙◌, ap, arith}
 use Rattle.bpaf_line.specs.Situation.{is_open}
 use Rattle.bpaf_line.proofs.Sound.{open_below_end}
 use Rattle.bpaf_line.proofs.state.State.value_after.Goals as goal

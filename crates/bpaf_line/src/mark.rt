@@ -1,0 +1,163 @@
+//! Marks to which a parse goes back, and what it did since one, to be done again.
+ghost use Rattle.std.specs.Prelude.{◌≡◌, ◌++◌, ◌<◌, ◌≤◌, ◌-◌, length, min, if◌then◌else◌, IfOk, OnOk, OnErr};
+ghost use Rattle.bpaf_line.specs.Situation.{with_trail, with_scope, cut_to, PresentInTurn};
+ghost use Rattle.bpaf_line.specs.Marks.{mark_of, HasReached, Fits, undone, KeepsMarks, steps_since, CanRedo, redone};
+
+use crate::bits;
+use crate::construct::copy_path;
+use crate::state::{State, lies_within};
+use std::alloc::AllocError;
+use std::marker::Model;
+
+/// How far a parse was: how many places were taken and how many conflicts and names were put down, with
+/// the scope and the current place.
+#[derive(Clone, Copy, Debug)]
+pub struct Mark {
+    pub(crate) taken: usize,
+    pub(crate) conflicts: usize,
+    pub(crate) depth: usize,
+    pub(crate) start: usize,
+    pub(crate) end: usize,
+    pub(crate) current: Option<usize>,
+}
+
+/// What a parse did since a mark, in order, with the scope and the current place that it left.
+///
+/// Contracts see it as `Changes`.
+#[derive(Drop)]
+pub struct Steps {
+    pub(crate) taken: Vec<usize>,
+    pub(crate) conflicts: Vec<(usize, usize)>,
+    pub(crate) path: Vec<String>,
+    pub(crate) start: usize,
+    pub(crate) end: usize,
+    pub(crate) current: Option<usize>,
+}
+
+impl Model for Steps {
+    ghost use Rattle.bpaf_line.specs.Changes.{Changes};
+
+    ghost Value = { Changes };
+
+    ghost use Rattle.bpaf_line.specs.Inside.{changes_of};
+
+    ghost view = { changes_of };
+}
+
+impl State {
+    /// How far the parse is. It takes no memory.
+    pub fn mark(&self) -> Mark
+        ensures mark { result ≡ mark_of self.now }
+        ensures fits { Fits result self.now }
+        ensures back { undone result self.now ≡ self.now }
+    {
+        Mark {
+            taken: self.trail.len(),
+            conflicts: self.conflicts.len(),
+            depth: self.path.len(),
+            start: self.start,
+            end: self.end,
+            current: self.current,
+        }
+    }
+
+    /// Goes back to a mark. It takes no memory.
+    pub fn undo(&mut self, mark: Mark)
+        requires { Fits mark self.old }
+        ensures { self.new ≡ undone mark self.old }
+    {
+        while self.trail.len() > mark.taken {
+            self.untake();
+        }
+        self.conflicts.truncate(mark.conflicts);
+        self.path.truncate(mark.depth);
+        self.restore_scope(mark.start, mark.end);
+        self.current = mark.current;
+    }
+
+    /// What was done since a mark; refused only for want of memory.
+    ///
+    /// Going back to the mark and then doing these steps again leaves everything as it is.
+    pub fn steps(&self, mark: &Mark) -> Result<Steps, AllocError>
+        requires { HasReached mark.now self.now }
+        ensures steps { IfOk result (λ steps. steps ≡ steps_since mark.now self.now) }
+        ensures fit { IfOk result (λ steps. CanRedo steps (undone mark.now self.now)) }
+        ensures again { IfOk result (λ steps. redone steps (undone mark.now self.now) ≡ self.now) }
+    {
+        let alloc = self.alloc();
+        Ok(Steps {
+            taken: Vec::from_slice(alloc, &self.trail[mark.taken..])?,
+            conflicts: Vec::from_slice(alloc, &self.conflicts[mark.conflicts..])?,
+            path: copy_path(alloc, &self.path[mark.depth..])?,
+            start: self.start,
+            end: self.end,
+            current: self.current,
+        })
+    }
+
+    /// Does steps again; refused only for want of memory, and then nothing changes.
+    pub fn redo(&mut self, steps: Steps) -> Result<(), AllocError>
+        requires { CanRedo steps self.old }
+        ensures ok { OnOk result (self.new ≡ redone steps self.old) }
+        ensures marks { KeepsMarks self.old self.new }
+        ensures err { OnErr result (self.new ≡ self.old) }
+    {
+        let Steps {
+            taken,
+            mut conflicts,
+            mut path,
+            start,
+            end,
+            current,
+        } = steps;
+        self.conflicts.reserve(conflicts.len())?;
+        self.path.append(&mut path)?;
+        self.conflicts.append(&mut conflicts)?;
+        self.put_all(&taken);
+        self.restore_scope(start, end);
+        self.current = current;
+        Ok(())
+    }
+
+    /// Takes places that are present in turn, and leaves the current one.
+    fn put_all(&mut self, places: &[usize])
+        requires { PresentInTurn self.old places.now }
+        ensures { self.new ≡ with_trail self.old (self.old.trail ++ places.now) }
+    {
+        for place in places {
+            self.put(*place);
+        }
+    }
+
+    /// The place that was taken last is present again; the current place stays.
+    fn untake(&mut self)
+        requires { 0 < length self.old.trail }
+        ensures { self.new ≡ cut_to self.old (length self.old.trail - 1) }
+    {
+        let last = self.trail.len() - 1;
+        let place = self.trail[last];
+        self.trail.truncate(last);
+        bits::clear(&mut self.words, place);
+        let within = lies_within(place, self.start, self.end);
+        self.left += usize::from(within);
+        self.first = earlier(self.first, place, within);
+    }
+
+    /// Makes other places the scope; where they are those of the scope already, nothing is counted.
+    fn restore_scope(&mut self, start: usize, end: usize)
+        requires ordered { start ≤ end }
+        requires inside { end ≤ length self.old.context.line }
+        ensures { self.new ≡ with_scope self.old start end }
+    {
+        if self.start != start || self.end != end {
+            self.set_scope(start..end);
+        }
+    }
+}
+
+/// The first of a place that was the first and, where it is in scope, another.
+fn earlier(first: usize, place: usize, within: bool) -> usize
+    ensures { result ≡ (if within then min first place else first) }
+{
+    if within { first.min(place) } else { first }
+}
