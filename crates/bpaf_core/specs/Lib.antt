@@ -1,3 +1,4 @@
 pub mod Known
 pub mod Run
 pub mod Dealt
+pub mod Branches

@@ -4,5 +4,5 @@ use Rattle.bpaf.proofs.leaves.positional.ParsePositionalParser.eval.Goals as goa
 
 pub returns : goal.returns
 returns g c =
-    word_read _ _ _ _ _ _ _ _ c.in_ok-place.ensures _ (sym c.accepts.ensures ∙ c.if-not-accepts.false)
+    word_read _ _ _ _ _ _ _ _ c.in_ok-place.ensures.taken _ (sym c.accepts.ensures ∙ c.if-not-accepts.false)
     (rw c.as_str.ensures.value at c.read_text.ensures)
