@@ -3,7 +3,7 @@ ghost use Rattle.bpaf_doc.specs.Shape.{shape_of};
 ghost use Rattle.bpaf_laws.specs.Choice.{ChoiceDescribes, ChoiceOutcome};
 ghost use Rattle.bpaf_laws.specs.Choices.{ChoicesOutcome, Nested};
 
-use bpaf_core::{Parser, is_want, or_meta, this_or_that};
+use bpaf_core::{Branch, Parser, Start, is_want, or_meta, this_or_that};
 use bpaf_doc::{Meta, Text};
 use bpaf_line::{Error, Message, State};
 use std::alloc::{AllocError, Global};
@@ -41,22 +41,21 @@ fn choose_from<T: Drop, P: Parser<T>>(first: &P, rest: &[P], state: &mut State) 
     if rest.is_empty() {
         return first.eval(state);
     }
-    let mut best = state.copy()?;
-    let mut answer = first.eval(&mut best);
+    let start = Start::of(state);
+    let mut answer = first.eval(state);
     for parser in rest {
         if is_want(&answer) {
+            state.undo(start.mark);
             return answer;
         }
-        let mut that = state.copy()?;
-        let other = parser.eval(&mut that);
+        let this = Branch::leave(state, start)?;
+        let other = parser.eval(state);
         if is_want(&other) {
+            state.undo(start.mark);
             return other;
         }
-        let mut next = state.copy()?;
-        answer = this_or_that(&mut next, answer, best, other, that);
-        best = next;
+        answer = this_or_that(state, start, answer, this, other);
     }
-    *state = best;
     answer
 }
 

@@ -1,2 +1,3 @@
 pub mod Running
 pub mod Dealing
+pub mod Branching

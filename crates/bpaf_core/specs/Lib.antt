@@ -2,3 +2,4 @@ pub mod Info
 pub mod Known
 pub mod Run
 pub mod Dealt
+pub mod Branches

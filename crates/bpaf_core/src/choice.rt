@@ -1,13 +1,14 @@
-ghost use Rattle.std.specs.Prelude.{◌≡◌, ◌&&◌, ◌⊎◌, IfOk, map};
+ghost use Rattle.std.specs.Prelude.{◌≡◌, ◌&&◌, ◌⊎◌, IfOk, OnErr, Ok, map};
 ghost use Rattle.bpaf_doc.specs.Shape.{shape_of};
-ghost use Rattle.bpaf_line.specs.Messages.{is_wrong_input};
-ghost use Rattle.bpaf_laws.specs.Step.{is_untouched};
-ghost use Rattle.bpaf_laws.specs.Choice.{Chosen, ValueOfWinner, OneOk, IsWant, is_want};
+ghost use Rattle.bpaf_line.specs.Marks.{Fits, CanRedo, undone, redone};
+ghost use Rattle.bpaf_laws.specs.Choice.{Chosen, BothOk, ValueOfWinner, OneOk, IsWant, is_want};
 ghost use Rattle.bpaf_laws.specs.Choice.{alternatives, either};
+ghost use Rattle.bpaf_core.specs.Branches.{IsStart, IsBranch, start_of, end_of};
 
+use crate::branch::{Branch, Start, resume};
 use crate::parser::Parser;
 use bpaf_doc::Meta;
-use bpaf_line::{Error, State};
+use bpaf_line::{Error, Mark, State, Steps};
 use std::alloc::{AllocError, Global};
 
 /// Whether an answer is want of memory. It takes none.
@@ -22,103 +23,146 @@ pub fn is_want<T>(answer: &Result<T, Error>) -> bool
     }
 }
 
-/// The answer of two branches that were evaluated from a state, by what each answered and the state
-/// that it left (bpaf's `this_or_that_picks_first`, in `structs.rs`).
+/// The answer of two branches that were evaluated from one start, by what each answered and where it
+/// led to (bpaf's `this_or_that_picks_first`, in `structs.rs`). The state is where the second one led.
 ///
 /// The state becomes that of the branch which is chosen. That is the one with the deeper path; at equal
 /// depths the one with a value, unless it took nothing and the other's error is wrong input, which is
 /// then the answer; of two values the first where neither branch took an item, else that of the branch
 /// which took the leftmost place taken by only one of them, else the first. Two errors are combined.
-/// Where an error of equal depths is the answer, the state is as before; so it is where memory is
-/// wanted for conflict marks.
+/// Where an error of equal depths is the answer, the state is as at the start; so it is where memory is
+/// wanted.
 ///
 /// It is public for choices in the crates of this repository, not for callers.
 pub fn this_or_that<T: Drop>(
     state: &mut State,
+    start: Start,
     first: Result<T, Error>,
-    this: State,
+    this: Branch,
     second: Result<T, Error>,
-    that: State,
 ) -> Result<T, Error>
-    ensures { Chosen state.old first this second that result state.new
-        ⊎ IsWant state.old result state.new }
+    requires start { IsStart start state.old }
+    requires this { IsBranch start this state.old }
+    ensures { Chosen (start_of start state.old) first (end_of start this state.old)
+        second state.old result state.new
+        ⊎ IsWant (start_of start state.old) result state.new }
 {
-    if this.depth() > that.depth() {
-        *state = this;
+    if this.depth > state.depth() {
+        resume(state, start.mark, this.steps)?;
         return first;
     }
-    if this.depth() < that.depth() {
-        *state = that;
+    if this.depth < state.depth() {
         return second;
     }
     match (first, second) {
-        (Ok(x), Ok(y)) => {
-            if this.len() == state.len() && that.len() == state.len() {
-                *state = this;
-                return Ok(x);
-            }
-            value_of_winner(state, x, this, y, that)
+        (Ok(x), Ok(y)) => value_of_both(state, start, x, this, y),
+        (Ok(x), Err(error)) => value_of_first(state, start, x, this, error),
+        (Err(error), Ok(y)) => value_of_second(state, start, y, error),
+        (Err(error), Err(other)) => {
+            state.undo(start.mark);
+            Err(error.combine_with(other))
         }
-        (Ok(x), Err(error)) => value_unless_blamed(state, x, this, error),
-        (Err(error), Ok(y)) => value_unless_blamed(state, y, that, error),
-        (Err(error), Err(other)) => Err(error.combine_with(other)),
     }
 }
 
-/// Whether a branch with a value took nothing, and the other's error is wrong input.
-fn is_blamed(before: &State, after: &State, error: &Error) -> bool
-    ensures { result ≡ (is_untouched before.now after.now && is_wrong_input error.now.0) }
-{
-    after.len() == before.len() && error.wrong_input()
-}
-
-/// The one value of two branches; the other's error, where that is wrong input and the branch with the
-/// value took nothing.
-fn value_unless_blamed<T: Drop>(
+/// The value of the first branch; the other's error, where that is wrong input and this branch took
+/// nothing.
+fn value_of_first<T: Drop>(
     state: &mut State,
+    start: Start,
     value: T,
-    after: State,
+    this: Branch,
     error: Error,
 ) -> Result<T, Error>
-    ensures { OneOk state.old value after error result state.new }
+    requires start { IsStart start state.old }
+    requires this { IsBranch start this state.old }
+    ensures { OneOk (start_of start state.old) value (end_of start this state.old)
+        error result state.new
+        ⊎ IsWant (start_of start state.old) result state.new }
 {
-    if is_blamed(state, &after, &error) {
-        Err(error)
-    } else {
-        *state = after;
-        Ok(value)
+    if this.left == start.left && error.wrong_input() {
+        state.undo(start.mark);
+        return Err(error);
+    }
+    resume(state, start.mark, this.steps)?;
+    Ok(value)
+}
+
+/// The value of the second branch, where the state is; the other's error, where that is wrong input and
+/// this branch took nothing.
+fn value_of_second<T: Drop>(
+    state: &mut State,
+    start: Start,
+    value: T,
+    error: Error,
+) -> Result<T, Error>
+    requires { IsStart start state.old }
+    ensures { OneOk (start_of start state.old) value state.old error result state.new }
+{
+    if state.len() == start.left && error.wrong_input() {
+        state.undo(start.mark);
+        return Err(error);
+    }
+    Ok(value)
+}
+
+/// The value of one of two branches: of the first where neither took an item, else that of the winner.
+fn value_of_both<T: Drop>(
+    state: &mut State,
+    start: Start,
+    x: T,
+    this: Branch,
+    y: T,
+) -> Result<T, Error>
+    requires start { IsStart start state.old }
+    requires this { IsBranch start this state.old }
+    ensures { BothOk (start_of start state.old) x (end_of start this state.old)
+        y state.old result state.new
+        ⊎ IsWant (start_of start state.old) result state.new }
+{
+    if this.left == start.left && state.len() == start.left {
+        resume(state, start.mark, this.steps)?;
+        return Ok(x);
+    }
+    match value_of_winner(state, start.mark, x, this.steps, y) {
+        Ok(value) => Ok(value),
+        Err(error) => {
+            state.undo(start.mark);
+            Err(Error::from(error))
+        }
     }
 }
 
 /// The value of the branch that took the leftmost place taken by only one of them, else of the first;
-/// what only the other one took gets a conflict mark. Want of memory for these leaves the state as before.
+/// what only the other one took gets a conflict mark. Refused only for want of memory; the state can
+/// then still go back to the mark.
 fn value_of_winner<T: Drop>(
     state: &mut State,
+    mark: Mark,
     x: T,
-    this: State,
+    this: Steps,
     y: T,
-    that: State,
-) -> Result<T, Error>
-    ensures { ValueOfWinner x this y that result state.new ⊎ IsWant state.old result state.new }
+) -> Result<T, AllocError>
+    requires fits { Fits mark state.old }
+    requires this { CanRedo this (undone mark state.old) }
+    ensures ok { IfOk result (λ value. ValueOfWinner x (redone this (undone mark state.old))
+        y state.old (Ok value) state.new) }
+    ensures fits { OnErr result (Fits mark state.new) }
+    ensures back { OnErr result (undone mark state.new ≡ undone mark state.old) }
 {
-    let mut this = this;
-    let mut that = that;
-    match this.pick_winner(&that) {
-        (_, None) => {
-            *state = this;
-            Ok(x)
-        }
-        (true, Some(place)) => {
-            this.save_conflicts(&that, place)?;
-            *state = this;
-            Ok(x)
-        }
-        (false, Some(place)) => {
-            that.save_conflicts(&this, place)?;
-            *state = that;
-            Ok(y)
-        }
+    let (here, place) = state.pick_winner_since(&mark, &this);
+    let Some(place) = place else {
+        resume(state, mark, this)?;
+        return Ok(x);
+    };
+    if here {
+        state.save_conflicts_of(&this, place)?;
+        return Ok(y);
     }
+    let that = state.steps(&mark)?;
+    resume(state, mark, this)?;
+    state.save_conflicts_of(&that, place)?;
+    Ok(x)
 }
 
 /// What a shape adds to a choice: the members of an Or, and else itself.
@@ -155,7 +199,7 @@ pub struct ParseOrElse<A, B> {
     pub that: B,
 }
 
-/// Both are evaluated, each on a copy of the state, the first one first; [`this_or_that`] tells which
+/// Both are evaluated, each from the same situation, the first one first; [`this_or_that`] tells which
 /// answer stands. Want of memory in either is refused at once, with the state as before.
 impl<T: Drop, A: Parser<T>, B: Parser<T>> Parser<T> for ParseOrElse<A, B> {
     ghost use Rattle.bpaf_laws.specs.Choice.{ChoiceOutcome, ChoiceReads, ChoiceDescribes};
@@ -183,17 +227,19 @@ impl<T: Drop, A: Parser<T>, B: Parser<T>> Parser<T> for ParseOrElse<A, B> {
             (WithoutMemory (B.outcome self.now.that))
             state.old result state.new }
     {
-        let mut this = state.copy()?;
-        let mut that = state.copy()?;
-        let first = self.this.eval(&mut this);
+        let start = Start::of(state);
+        let first = self.this.eval(state);
         if is_want(&first) {
+            state.undo(start.mark);
             return first;
         }
-        let second = self.that.eval(&mut that);
+        let this = Branch::leave(state, start)?;
+        let second = self.that.eval(state);
         if is_want(&second) {
+            state.undo(start.mark);
             return second;
         }
-        this_or_that(state, first, this, second, that)
+        this_or_that(state, start, first, this, second)
     }
 
     fn meta(&self, alloc: Global) -> Result<Meta, AllocError> {

@@ -34,6 +34,7 @@
 #![tactic(auto)]
 
 mod argument;
+mod branch;
 mod choice;
 mod collect;
 mod count;
@@ -49,6 +50,7 @@ mod repeat;
 mod transform;
 mod value;
 
+pub use branch::{Branch, Start};
 pub use choice::{ParseOrElse, is_want, or_meta, this_or_that};
 pub use collect::ParseCollect;
 pub use count::{ParseCount, ParseLast};

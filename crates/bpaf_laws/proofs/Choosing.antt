@@ -1,10 +1,11 @@
 -- A choice of two: what its evaluation shows, and that it catches no want of memory.
-use Rattle.std.proofs.Common.{◌≡◌, false, Result, Ok, Err, sym, ◌∙◌, ◌⊎◌, inl, inr, ⊎_elim, true≢false}
-use Rattle.bpaf_line.specs.Situation.{Situation}
+use Rattle.std.proofs.Common.{◌≡◌, ℕ, Bool, true, not, Some, refl, ap, false, Result, Ok, Err, sym, ◌∙◌, ◌⊎◌, inl, inr, ⊎_elim, true≢false}
+use Rattle.bpaf_line.specs.Conflicts.{IsLeftmost, IsWinner, ConflictsSaved}
+use Rattle.bpaf_line.specs.Situation.{Situation, is_taken}
 use Rattle.bpaf_line.specs.declared.error.Error.{Error}
 use Rattle.bpaf_laws.specs.Reading.{Outcome}
 use Rattle.bpaf_laws.specs.Spared.{IsNotMemory, WithoutMemory}
-use Rattle.bpaf_laws.specs.Choice.{is_want, IsWant, Chosen, BranchesRan, ChoiceOutcome}
+use Rattle.bpaf_laws.specs.Choice.{is_want, IsWant, ValueOfWinner, Chosen, BranchesRan, ChoiceOutcome, LeftmostWins}
 
 -- an answer that isn't want of memory
 spared_of : {T : Type 0} (r : Result T Error) → is_want r ≡ false → IsNotMemory r
@@ -64,3 +65,42 @@ module _ {T : Type 0} (first second : Outcome T) where
   choice_spared s t (Err e) o spared =
       ⊎_elim (λ ran. inl (ran_spared s (Err e) t ran))
       (λ want. absurd (true≢false (sym want.0 ∙ spared))) o
+
+-- want of memory of a branch is the answer, where all is as before
+pub want_outcome : {T : Type 0} (first second : Outcome T) (s : Situation) (r : Result T Error)
+    (t : Situation) → is_want r ≡ true → t ≡ s → ChoiceOutcome first second s r t
+want_outcome first second s (Ok v) t want same = absurd (true≢false (sym want))
+want_outcome first second s (Err e) t want same = inr (want, same)
+
+-- also where the leftmost wins
+pub want_leftmost : {T : Type 0} (first second : Outcome T) (s : Situation) (r : Result T Error)
+    (t : Situation) → is_want r ≡ true → t ≡ s → LeftmostWins first second s r t
+want_leftmost first second s (Ok v) t want same = absurd (true≢false (sym want))
+want_leftmost first second s (Err e) t want same = inr (want, same)
+
+-- of two situations the leftmost place of the one is that of the other
+leftmost_of_other : (s other : Situation) (p : ℕ) → IsLeftmost s other p → IsLeftmost other s p
+leftmost_of_other s other p h = record {
+  differs = turned (is_taken s p) (is_taken other p) h.differs;
+  first = λ q below. sym (h.first q below);
+}
+  where
+    turned : (a b : Bool) → a ≡ not b → b ≡ not a
+    turned a true e = sym (ap not e)
+    turned a false e = sym (ap not e)
+
+-- who doesn't win against the second is the first
+pub first_wins : {T : Type 0} (x : T) (sa : Situation) (y : T) (sb : Situation) (place : ℕ)
+    (t : Situation) → IsWinner sb sa (false, Some place) → ConflictsSaved sa sb place t
+    → ValueOfWinner x sa y sb (Ok x) t
+first_wins x sa y sb place t winner saved =
+    let left = leftmost_of_other sb sa place winner.0 in
+    (true, Some place, (left, left.differs ∙ ap not winner.1), (refl, saved))
+
+-- and who does is the second
+pub second_wins : {T : Type 0} (x : T) (sa : Situation) (y : T) (sb : Situation) (place : ℕ)
+    (t : Situation) → IsWinner sb sa (true, Some place) → ConflictsSaved sb sa place t
+    → ValueOfWinner x sa y sb (Ok y) t
+second_wins x sa y sb place t winner saved =
+    let left = leftmost_of_other sb sa place winner.0 in
+    (false, Some place, (left, left.differs ∙ ap not winner.1), (refl, saved))

@@ -1,6 +1,6 @@
 -- Marks: what a step leaves of what a mark goes back to.
 use Rattle.std.proofs.Common.{◌≡◌, ℕ, ◌+◌, ◌-◌, ◌<◌, ◌≤◌, List, ◌++◌, length, take, drop, refl, ap, sym, ◌∙◌, arith, length-drop, Option, [], ◌∷◌, length-append}
-use Rattle.std.proofs.lemmas.List.{take-append-le, take-append-drop, take-take, take_rest, drop-take, get_or-drop}
+use Rattle.std.proofs.lemmas.List.{length-take-le, take-append-le, take-append-drop, take-take, take_rest, drop-take, get_or-drop}
 use Rattle.bpaf_line.specs.declared.mark.Mark.{Mark}
 use Rattle.bpaf_line.specs.Situation.{Situation, cut_to, take_place, with_conflicts, with_current, TakenInTurn}
 use Rattle.bpaf_line.specs.Changes.{Changes}
@@ -101,3 +101,20 @@ keeps_marks_current s t place keeps = record {
 -- a parse whose mark was kept goes back to where the mark was made
 pub back_to : (s t : Situation) (mark : Mark) → KeepsMarks s t → Fits mark s → undone mark s ≡ s → undone mark t ≡ s
 back_to s t mark keeps fits back = keeps.same mark fits ∙ back
+
+-- as far as a list was cut it reaches, where it did before
+cut_reaches : {X : Type 0} (n : ℕ) (xs : List X) → n ≤ length xs → n ≤ length (take n xs)
+cut_reaches n xs within = omega (arith, length-take-le n xs within)
+
+-- a parse gone back to a mark can go back to it again
+pub fits_undone : (mark : Mark) (s : Situation) → Fits mark s → Fits mark (undone mark s)
+fits_undone mark s fits = record {
+  reached = record { taken = cut_reaches mark.taken s.trail fits.reached.taken; conflicts = cut_reaches mark.conflicts s.conflicts fits.reached.conflicts; depth = cut_reaches mark.depth s.path fits.reached.depth };
+  ordered = fits.ordered;
+  inside = fits.inside;
+  named = fits.named;
+}
+
+-- and is there already
+pub undone_twice : (mark : Mark) (s : Situation) → undone mark (undone mark s) ≡ undone mark s
+undone_twice mark s = rw (take-take mark.taken mark.taken s.trail (omega arith), take-take mark.conflicts mark.conflicts s.conflicts (omega arith), take-take mark.depth mark.depth s.path (omega arith)) refl

@@ -61,10 +61,12 @@ impl State {
         }
     }
 
-    /// Goes back to a mark. It takes no memory.
+    /// Goes back to a mark, also to one to which it has gone back already. It takes no memory.
     pub fn undo(&mut self, mark: Mark)
         requires { Fits mark self.old }
-        ensures { self.new ≡ undone mark self.old }
+        ensures undone { self.new ≡ undone mark self.old }
+        ensures fits { Fits mark self.new }
+        ensures back { undone mark self.new ≡ self.new }
     {
         while self.trail.len() > mark.taken {
             self.untake();

@@ -1,42 +1,179 @@
-use Rattle.std.proofs.Common.{◌≡◌, ◌+◌, ◌⊎◌, ◌++◌, ◌∷◌, [], take, sym, ◌∙◌, subst, refl}
+use Rattle.std.proofs.Common.{◌≡◌, ◌+◌, ◌++◌, ◌∷◌, [], take, sym, ◌∙◌, subst, refl}
 use Rattle.std.proofs.lemmas.List.{take_more}
-use Rattle.bpaf_laws.specs.Choice.{Chosen, IsWant, ChoiceOutcome}
+use Rattle.bpaf_laws.specs.Choice.{ChoiceOutcome}
 use Rattle.bpaf_laws.specs.Choices.{Nested}
+use Rattle.bpaf_laws.proofs.ChoicesLaws.{from_lawful}
 use Rattle.bpaf_laws.proofs.ChoosingAll.{one_more, wants, want_of}
+use Rattle.bpaf_laws.proofs.Keeping.{keeps_of}
+use Rattle.bpaf_core.specs.Branches.{LedTo}
+use Rattle.bpaf_core.proofs.Branching.{start_back, start_kept, second_keeps, branch_kept, chosen_kept}
 use Rattle.bpaf.proofs.choices.choose_from.Goals as goal
 
-pub returns-in_err-best : goal.returns-in_err-best
-returns-in_err-best g c =
-    wants g.P.Parser.outcome (g.P.Parser.outcome c.args.first.now) c.args.state.now c.from_residual.result c.args.rest.now (sym c.is_empty.ensures ∙ c.if-is_empty.false) (want_of c.from_residual.result c.from_residual.ensures.1)
+pub undo-requires : goal.undo-requires
+undo-requires g c =
+    let s = c.args.state.now in
+    let start = c.of-start.result in
+    let begins = c.of-start.ensures.start in
+    let back = c.of-start.ensures.back in
+    let law =
+    from_lawful g.P.Parser.outcome g.P.Parser.reads (g.P.Parser.outcome c.args.first.now)
+    (g.P.Parser.reads c.args.first.now) (take c.loop-parser.parser-index c.args.rest.now)
+    g.met.P.Parser.lawful (g.met.P.Parser.lawful c.args.first.now) in
+    let keeps =
+    (keeps_of law s c.loop-parser.answer c.loop-parser.state c.loop-parser.invariant).marks in
+    (start_kept s start begins back c.loop-parser.state keeps).fits
 
 pub returns-then-is_want : goal.returns-then-is_want
 returns-then-is_want g c =
-    wants g.P.Parser.outcome (g.P.Parser.outcome c.args.first.now) c.args.state.now c.loop-parser.answer c.args.rest.now (sym c.is_empty.ensures ∙ c.if-is_empty.false) (sym c.is_want.ensures ∙ c.if-is_want.true)
+    let s = c.args.state.now in
+    let start = c.of-start.result in
+    let begins = c.of-start.ensures.start in
+    let back = c.of-start.ensures.back in
+    let law =
+    from_lawful g.P.Parser.outcome g.P.Parser.reads (g.P.Parser.outcome c.args.first.now)
+    (g.P.Parser.reads c.args.first.now) (take c.loop-parser.parser-index c.args.rest.now)
+    g.met.P.Parser.lawful (g.met.P.Parser.lawful c.args.first.now) in
+    let keeps =
+    (keeps_of law s c.loop-parser.answer c.loop-parser.state c.loop-parser.invariant).marks in
+    subst (λ u. Nested ChoiceOutcome g.P.Parser.outcome (g.P.Parser.outcome c.args.first.now)
+    c.args.rest.now s c.loop-parser.answer u)
+    (sym (c.undo.ensures.undone ∙ start_back s start begins back c.loop-parser.state keeps))
+    (wants g.P.Parser.outcome (g.P.Parser.outcome c.args.first.now) s c.loop-parser.answer c.args.rest.now
+    (sym c.is_empty.ensures ∙ c.if-is_empty.false) (sym c.is_want.ensures ∙ c.if-is_want.true))
 
-pub returns-in_err-that : goal.returns-in_err-that
-returns-in_err-that g c =
-    wants g.P.Parser.outcome (g.P.Parser.outcome c.args.first.now) c.args.state.now c.from_residual-in_err-that.result c.args.rest.now (sym c.is_empty.ensures ∙ c.if-is_empty.false)
-    (want_of c.from_residual-in_err-that.result c.from_residual-in_err-that.ensures.1)
+pub leave-requires : goal.leave-requires
+leave-requires g c =
+    let s = c.args.state.now in
+    let start = c.of-start.result in
+    let begins = c.of-start.ensures.start in
+    let back = c.of-start.ensures.back in
+    let law =
+    from_lawful g.P.Parser.outcome g.P.Parser.reads (g.P.Parser.outcome c.args.first.now)
+    (g.P.Parser.reads c.args.first.now) (take c.loop-parser.parser-index c.args.rest.now)
+    g.met.P.Parser.lawful (g.met.P.Parser.lawful c.args.first.now) in
+    let keeps =
+    (keeps_of law s c.loop-parser.answer c.loop-parser.state c.loop-parser.invariant).marks in
+    (start_kept s start begins back c.loop-parser.state keeps).fits
+
+pub returns-in_err-this : goal.returns-in_err-this
+returns-in_err-this g c =
+    let s = c.args.state.now in
+    let start = c.of-start.result in
+    let begins = c.of-start.ensures.start in
+    let back = c.of-start.ensures.back in
+    let law =
+    from_lawful g.P.Parser.outcome g.P.Parser.reads (g.P.Parser.outcome c.args.first.now)
+    (g.P.Parser.reads c.args.first.now) (take c.loop-parser.parser-index c.args.rest.now)
+    g.met.P.Parser.lawful (g.met.P.Parser.lawful c.args.first.now) in
+    let keeps =
+    (keeps_of law s c.loop-parser.answer c.loop-parser.state c.loop-parser.invariant).marks in
+    subst (λ u. Nested ChoiceOutcome g.P.Parser.outcome (g.P.Parser.outcome c.args.first.now)
+    c.args.rest.now s c.from_residual.result u)
+    (sym (c.leave.ensures.back ∙ start_back s start begins back c.loop-parser.state keeps))
+    (wants g.P.Parser.outcome (g.P.Parser.outcome c.args.first.now) s c.from_residual.result c.args.rest.now
+    (sym c.is_empty.ensures ∙ c.if-is_empty.false) (want_of c.from_residual.result c.from_residual.ensures.1))
+
+pub undo-requires-then-is_want-2 : goal.undo-requires-then-is_want-2
+undo-requires-then-is_want-2 g c =
+    let s = c.args.state.now in
+    let start = c.of-start.result in
+    let begins = c.of-start.ensures.start in
+    let back = c.of-start.ensures.back in
+    let law =
+    from_lawful g.P.Parser.outcome g.P.Parser.reads (g.P.Parser.outcome c.args.first.now)
+    (g.P.Parser.reads c.args.first.now) (take c.loop-parser.parser-index c.args.rest.now)
+    g.met.P.Parser.lawful (g.met.P.Parser.lawful c.args.first.now) in
+    let both =
+    second_keeps s start begins back law (g.met.P.Parser.lawful c.parser-item.result)
+    c.loop-parser.answer c.loop-parser.state c.leave.new.state c.eval-other.result
+    c.eval-other.new.state c.loop-parser.invariant c.leave.ensures.back c.eval-other.ensures in
+    (start_kept s start begins back c.eval-other.new.state both.1).fits
 
 pub returns-then-is_want-2 : goal.returns-then-is_want-2
 returns-then-is_want-2 g c =
-    wants g.P.Parser.outcome (g.P.Parser.outcome c.args.first.now) c.args.state.now c.eval-other.result c.args.rest.now (sym c.is_empty.ensures ∙ c.if-is_empty.false)
-    (sym c.is_want-in-loop-parser.ensures ∙ c.if-is_want-2.true)
+    let s = c.args.state.now in
+    let start = c.of-start.result in
+    let begins = c.of-start.ensures.start in
+    let back = c.of-start.ensures.back in
+    let law =
+    from_lawful g.P.Parser.outcome g.P.Parser.reads (g.P.Parser.outcome c.args.first.now)
+    (g.P.Parser.reads c.args.first.now) (take c.loop-parser.parser-index c.args.rest.now)
+    g.met.P.Parser.lawful (g.met.P.Parser.lawful c.args.first.now) in
+    let both =
+    second_keeps s start begins back law (g.met.P.Parser.lawful c.parser-item.result)
+    c.loop-parser.answer c.loop-parser.state c.leave.new.state c.eval-other.result
+    c.eval-other.new.state c.loop-parser.invariant c.leave.ensures.back c.eval-other.ensures in
+    subst (λ u. Nested ChoiceOutcome g.P.Parser.outcome (g.P.Parser.outcome c.args.first.now)
+    c.args.rest.now s c.eval-other.result u)
+    (sym (c.undo-then-is_want-2.ensures.undone ∙ start_back s start begins back c.eval-other.new.state both.1))
+    (wants g.P.Parser.outcome (g.P.Parser.outcome c.args.first.now) s c.eval-other.result c.args.rest.now
+    (sym c.is_empty.ensures ∙ c.if-is_empty.false) (sym c.is_want-in-loop-parser.ensures ∙ c.if-is_want-2.true))
 
-pub returns-in_err-next : goal.returns-in_err-next
-returns-in_err-next g c =
-    wants g.P.Parser.outcome (g.P.Parser.outcome c.args.first.now) c.args.state.now c.from_residual-in_err-next.result c.args.rest.now (sym c.is_empty.ensures ∙ c.if-is_empty.false)
-    (want_of c.from_residual-in_err-next.result c.from_residual-in_err-next.ensures.1)
+pub this_or_that-answer-requires-clause-start : goal.this_or_that-answer-requires-clause-start
+this_or_that-answer-requires-clause-start g c =
+    let s = c.args.state.now in
+    let start = c.of-start.result in
+    let begins = c.of-start.ensures.start in
+    let back = c.of-start.ensures.back in
+    let law =
+    from_lawful g.P.Parser.outcome g.P.Parser.reads (g.P.Parser.outcome c.args.first.now)
+    (g.P.Parser.reads c.args.first.now) (take c.loop-parser.parser-index c.args.rest.now)
+    g.met.P.Parser.lawful (g.met.P.Parser.lawful c.args.first.now) in
+    let both =
+    second_keeps s start begins back law (g.met.P.Parser.lawful c.parser-item.result)
+    c.loop-parser.answer c.loop-parser.state c.leave.new.state c.eval-other.result
+    c.eval-other.new.state c.loop-parser.invariant c.leave.ensures.back c.eval-other.ensures in
+    start_kept s start begins back c.eval-other.new.state both.1
+
+pub this_or_that-answer-requires-clause-this : goal.this_or_that-answer-requires-clause-this
+this_or_that-answer-requires-clause-this g c =
+    let s = c.args.state.now in
+    let start = c.of-start.result in
+    let begins = c.of-start.ensures.start in
+    let back = c.of-start.ensures.back in
+    let law =
+    from_lawful g.P.Parser.outcome g.P.Parser.reads (g.P.Parser.outcome c.args.first.now)
+    (g.P.Parser.reads c.args.first.now) (take c.loop-parser.parser-index c.args.rest.now)
+    g.met.P.Parser.lawful (g.met.P.Parser.lawful c.args.first.now) in
+    let both =
+    second_keeps s start begins back law (g.met.P.Parser.lawful c.parser-item.result)
+    c.loop-parser.answer c.loop-parser.state c.leave.new.state c.eval-other.result
+    c.eval-other.new.state c.loop-parser.invariant c.leave.ensures.back c.eval-other.ensures in
+    let led = subst (λ o. LedTo c.in_ok-this.this o c.loop-parser.state) both.0 c.in_ok-this.ensures.left in
+    branch_kept s start begins back c.in_ok-this.this c.loop-parser.state c.eval-other.new.state
+    led both.1
 
 pub loop-parser-preserved : goal.loop-parser-preserved
 loop-parser-preserved g c =
     let s = c.args.state.now in
+    let start = c.of-start.result in
+    let begins = c.of-start.ensures.start in
+    let back = c.of-start.ensures.back in
+    let law =
+    from_lawful g.P.Parser.outcome g.P.Parser.reads (g.P.Parser.outcome c.args.first.now)
+    (g.P.Parser.reads c.args.first.now) (take c.loop-parser.parser-index c.args.rest.now)
+    g.met.P.Parser.lawful (g.met.P.Parser.lawful c.args.first.now) in
+    let both =
+    second_keeps s start begins back law (g.met.P.Parser.lawful c.parser-item.result)
+    c.loop-parser.answer c.loop-parser.state c.leave.new.state c.eval-other.result
+    c.eval-other.new.state c.loop-parser.invariant c.leave.ensures.back c.eval-other.ensures in
+    let led = subst (λ o. LedTo c.in_ok-this.this o c.loop-parser.state) both.0 c.in_ok-this.ensures.left in
     let i = c.loop-parser.parser-index in
     let more : take (i + 1) c.args.rest.now ≡ take i c.args.rest.now ++ c.parser-item.result ∷ [] =
-    take_more c.args.rest.now i c.parser-item.result c.loop-parser-test.true ∙ (rw (sym c.parser-item.is) refl) in
-    let other = subst (λ w. g.P.Parser.outcome c.parser-item.result w c.eval-other.result c.eval-other.new.state) c.in_ok-that.ensures c.eval-other.ensures in
-    let chosen = subst (λ w. Chosen w c.loop-parser.answer c.loop-parser.best c.eval-other.result c.eval-other.new.state c.this_or_that-answer.result c.this_or_that-answer.new.state ⊎ IsWant w c.this_or_that-answer.result c.this_or_that-answer.new.state) c.in_ok-next.ensures c.this_or_that-answer.ensures in
-    let both = one_more g.P.Parser.outcome (g.P.Parser.outcome c.args.first.now) (take i c.args.rest.now) c.parser-item.result s
-    c.loop-parser.answer c.loop-parser.best c.eval-other.result c.eval-other.new.state c.this_or_that-answer.result c.this_or_that-answer.new.state
-    c.loop-parser.invariant other (sym c.is_want.ensures ∙ c.if-is_want.false) (sym c.is_want-in-loop-parser.ensures ∙ c.if-is_want-2.false) chosen in
-    subst (λ ps. Nested ChoiceOutcome g.P.Parser.outcome (g.P.Parser.outcome c.args.first.now) ps s c.this_or_that-answer.result c.this_or_that-answer.new.state) (sym more) both
+    take_more c.args.rest.now i c.parser-item.result c.loop-parser-test.true
+    ∙ (rw (sym c.parser-item.is) refl) in
+    let other =
+    subst (λ w. g.P.Parser.outcome c.parser-item.result w c.eval-other.result c.eval-other.new.state)
+    both.0 c.eval-other.ensures in
+    let chosen =
+    chosen_kept s start begins back c.in_ok-this.this c.loop-parser.state c.eval-other.new.state led
+    both.1 c.loop-parser.answer c.eval-other.result c.this_or_that-answer.result
+    c.this_or_that-answer.new.state c.this_or_that-answer.ensures in
+    let all =
+    one_more g.P.Parser.outcome (g.P.Parser.outcome c.args.first.now) (take i c.args.rest.now)
+    c.parser-item.result s c.loop-parser.answer c.loop-parser.state c.eval-other.result
+    c.eval-other.new.state c.this_or_that-answer.result c.this_or_that-answer.new.state
+    c.loop-parser.invariant other (sym c.is_want.ensures ∙ c.if-is_want.false)
+    (sym c.is_want-in-loop-parser.ensures ∙ c.if-is_want-2.false) chosen in
+    subst (λ ps. Nested ChoiceOutcome g.P.Parser.outcome (g.P.Parser.outcome c.args.first.now) ps s
+    c.this_or_that-answer.result c.this_or_that-answer.new.state) (sym more) all

@@ -1,8 +1,82 @@
 use Rattle.std.proofs.Common.{sym, ◌∙◌, subst}
 use Rattle.bpaf_laws.specs.Choice.{ChoiceOutcome}
-use Rattle.bpaf_laws.proofs.Choosing.{ran_outcome, choice_spared}
+use Rattle.bpaf_laws.proofs.Choosing.{ran_outcome, choice_spared, want_outcome, want_leftmost}
 use Rattle.bpaf_laws.proofs.Leftmost.{leftmost_is_chosen}
+use Rattle.bpaf_core.specs.Branches.{LedTo}
+use Rattle.bpaf_core.proofs.Branching.{start_back, start_kept, second_keeps, branch_kept, chosen_kept}
 use Rattle.bpaf_core.proofs.choice.ParseOrElseParser.eval.Goals as goal
+
+pub undo-requires-then-is_want-2 : goal.undo-requires-then-is_want-2
+undo-requires-then-is_want-2 g c =
+    let s = c.args.state.now in
+    let start = c.of-start.result in
+    let begins = c.of-start.ensures.start in
+    let back = c.of-start.ensures.back in
+    let both =
+    second_keeps s start begins back (g.met.A.Parser.lawful c.args.self.now.this)
+    (g.met.B.Parser.lawful c.args.self.now.that) c.eval-first.result c.eval-first.new.state
+    c.leave.new.state c.eval-second.result c.eval-second.new.state c.eval-first.ensures
+    c.leave.ensures.back c.eval-second.ensures in
+    (start_kept s start begins back c.eval-second.new.state both.1).fits
+
+pub returns-then-is_want-2-clause-outcome : goal.returns-then-is_want-2-clause-outcome
+returns-then-is_want-2-clause-outcome g c =
+    let s = c.args.state.now in
+    let start = c.of-start.result in
+    let begins = c.of-start.ensures.start in
+    let back = c.of-start.ensures.back in
+    let both =
+    second_keeps s start begins back (g.met.A.Parser.lawful c.args.self.now.this)
+    (g.met.B.Parser.lawful c.args.self.now.that) c.eval-first.result c.eval-first.new.state
+    c.leave.new.state c.eval-second.result c.eval-second.new.state c.eval-first.ensures
+    c.leave.ensures.back c.eval-second.ensures in
+    want_outcome (g.A.Parser.outcome c.args.self.now.this) (g.B.Parser.outcome c.args.self.now.that)
+    s c.eval-second.result c.undo-then-is_want-2.new.self (sym c.is_want-2.ensures ∙ c.if-is_want-2.true)
+    (c.undo-then-is_want-2.ensures.undone ∙ start_back s start begins back c.eval-second.new.state both.1)
+
+pub returns-then-is_want-2-clause-leftmost_wins :
+    goal.returns-then-is_want-2-clause-leftmost_wins
+returns-then-is_want-2-clause-leftmost_wins g c =
+    let s = c.args.state.now in
+    let start = c.of-start.result in
+    let begins = c.of-start.ensures.start in
+    let back = c.of-start.ensures.back in
+    let both =
+    second_keeps s start begins back (g.met.A.Parser.lawful c.args.self.now.this)
+    (g.met.B.Parser.lawful c.args.self.now.that) c.eval-first.result c.eval-first.new.state
+    c.leave.new.state c.eval-second.result c.eval-second.new.state c.eval-first.ensures
+    c.leave.ensures.back c.eval-second.ensures in
+    want_leftmost (g.A.Parser.outcome c.args.self.now.this) (g.B.Parser.outcome c.args.self.now.that)
+    s c.eval-second.result c.undo-then-is_want-2.new.self (sym c.is_want-2.ensures ∙ c.if-is_want-2.true)
+    (c.undo-then-is_want-2.ensures.undone ∙ start_back s start begins back c.eval-second.new.state both.1)
+
+pub this_or_that-requires-clause-start : goal.this_or_that-requires-clause-start
+this_or_that-requires-clause-start g c =
+    let s = c.args.state.now in
+    let start = c.of-start.result in
+    let begins = c.of-start.ensures.start in
+    let back = c.of-start.ensures.back in
+    let both =
+    second_keeps s start begins back (g.met.A.Parser.lawful c.args.self.now.this)
+    (g.met.B.Parser.lawful c.args.self.now.that) c.eval-first.result c.eval-first.new.state
+    c.leave.new.state c.eval-second.result c.eval-second.new.state c.eval-first.ensures
+    c.leave.ensures.back c.eval-second.ensures in
+    start_kept s start begins back c.eval-second.new.state both.1
+
+pub this_or_that-requires-clause-this : goal.this_or_that-requires-clause-this
+this_or_that-requires-clause-this g c =
+    let s = c.args.state.now in
+    let start = c.of-start.result in
+    let begins = c.of-start.ensures.start in
+    let back = c.of-start.ensures.back in
+    let both =
+    second_keeps s start begins back (g.met.A.Parser.lawful c.args.self.now.this)
+    (g.met.B.Parser.lawful c.args.self.now.that) c.eval-first.result c.eval-first.new.state
+    c.leave.new.state c.eval-second.result c.eval-second.new.state c.eval-first.ensures
+    c.leave.ensures.back c.eval-second.ensures in
+    let led = subst (λ o. LedTo c.in_ok-this.this o c.eval-first.new.state) both.0 c.in_ok-this.ensures.left in
+    branch_kept s start begins back c.in_ok-this.this c.eval-first.new.state
+    c.eval-second.new.state led both.1
 
 -- both branches ran, and the table's answer is the answer
 ran : (g : _) (c : goal.After-this_or_that g)
@@ -10,17 +84,26 @@ ran : (g : _) (c : goal.After-this_or_that g)
     (g.B.Parser.outcome c.args.self.now.that) c.args.state.now c.this_or_that.result
     c.this_or_that.new.state
 ran g c =
+    let s = c.args.state.now in
+    let start = c.of-start.result in
+    let begins = c.of-start.ensures.start in
+    let back = c.of-start.ensures.back in
+    let both =
+    second_keeps s start begins back (g.met.A.Parser.lawful c.args.self.now.this)
+    (g.met.B.Parser.lawful c.args.self.now.that) c.eval-first.result c.eval-first.new.state
+    c.leave.new.state c.eval-second.result c.eval-second.new.state c.eval-first.ensures
+    c.leave.ensures.back c.eval-second.ensures in
+    let led = subst (λ o. LedTo c.in_ok-this.this o c.eval-first.new.state) both.0 c.in_ok-this.ensures.left in
     ran_outcome (g.A.Parser.outcome c.args.self.now.this) (g.B.Parser.outcome c.args.self.now.that)
-    c.args.state.now
-    c.eval-first.result c.eval-first.new.state c.eval-second.result c.eval-second.new.state
-    c.this_or_that.result c.this_or_that.new.state
-    (subst (λ s. g.A.Parser.outcome c.args.self.now.this s c.eval-first.result
-    c.eval-first.new.state) c.in_ok-this.ensures c.eval-first.ensures)
-    (subst (λ s. g.B.Parser.outcome c.args.self.now.that s c.eval-second.result
-    c.eval-second.new.state) c.in_ok-that.ensures c.eval-second.ensures)
+    s c.eval-first.result c.eval-first.new.state c.eval-second.result c.eval-second.new.state
+    c.this_or_that.result c.this_or_that.new.state c.eval-first.ensures
+    (subst (λ w. g.B.Parser.outcome c.args.self.now.that w c.eval-second.result
+    c.eval-second.new.state) both.0 c.eval-second.ensures)
     (sym c.is_want.ensures ∙ c.if-is_want.false)
     (sym c.is_want-2.ensures ∙ c.if-is_want-2.false)
-    c.this_or_that.ensures
+    (chosen_kept s start begins back c.in_ok-this.this c.eval-first.new.state
+    c.eval-second.new.state led both.1 c.eval-first.result c.eval-second.result
+    c.this_or_that.result c.this_or_that.new.state c.this_or_that.ensures)
 
 pub returns-clause-outcome : goal.returns-clause-outcome
 returns-clause-outcome g c = ran g c
