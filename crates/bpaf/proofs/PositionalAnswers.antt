@@ -1,13 +1,28 @@
 -- How the answer of a positional word is put together.
-use Rattle.std.proofs.Common.{◌≡◌, ℕ, Bool, true, List, Result, Ok, Err, inr}
+use Rattle.std.proofs.Common.{◌≡◌, ℕ, Bool, true, false, List, Result, Ok, Err, Some, inr, ap, sym, ◌∙◌}
+use Rattle.std.proofs.Common.{refl, subst, option_and_then, if◌then◌else◌}
+use Rattle.bpaf_words.specs.Items.{is_positional, word_text}
 use Rattle.bpaf_line.specs.declared.error.Error.{Error}
 use Rattle.bpaf_line.specs.declared.error.Message.{Message}
 use Rattle.bpaf_line.specs.declared.error.Message.TheVariants.{Memory, ParseFailed}
-use Rattle.bpaf_line.specs.Situation.{Situation}
-use Rattle.bpaf_line.specs.Taking.{TakesText}
+use Rattle.bpaf_line.specs.Situation.{Situation, item_at, is_open, take_place}
+use Rattle.bpaf_line.specs.Taking.{TakesText, IsFirst}
+use Rattle.bpaf_line.proofs.Matches.{match_is_open}
 use Rattle.bpaf_laws.specs.Value.{ReadsValue, FaultsText}
 use Rattle.bpaf.specs.declared.leaves.positional.Position.{Position}
-use Rattle.bpaf.specs.Positional.{PositionalOutcome, PositionalFails, accepts}
+use Rattle.bpaf.specs.Positional.{PositionalOutcome, PositionalFails, accepts, misplaced}
+
+-- a first word is taken, where it is removed
+pub word_removed : (s t : Situation) (place : ℕ) (strict : Bool) (text : List ℕ)
+    → IsFirst is_positional s place
+    → option_and_then word_text (item_at s place) ≡ Some (strict, text)
+    → t ≡ (if is_open s place then take_place s place else s) → TakesText s place strict text t
+word_removed s t place strict text first is removed = record {
+  first = first;
+  is = is;
+  taken = removed ∙ ap (λ b. if b then take_place s place else s)
+      (match_is_open is_positional s place first.matches);
+}
 
 module _ {T : Type 0} (means : List ℕ → T → Type 0) (position : Position) (metavar : List ℕ)
     (s t : Situation) (place : ℕ) (strict : Bool) (text : List ℕ)
@@ -33,3 +48,14 @@ module _ {T : Type 0} (means : List ℕ → T → Type 0) (position : Position) 
     meant,
   )
   word_read (Err e) accepted fault = fault_refused e.0 accepted fault
+
+  -- a word on the wrong side that was taken is a refusal of the positional
+  pub word_misplaced : (m : Message) → accepts position strict ≡ false
+      → m ≡ misplaced strict place metavar → PositionalFails means position metavar s m t
+  word_misplaced m wrong is = subst (λ x. PositionalFails means position metavar s x t) (sym is)
+      (by_side strict wrong takes)
+    where
+      by_side : (b : Bool) → accepts position b ≡ false → TakesText s place b text t
+          → PositionalFails means position metavar s (misplaced b place metavar) t
+      by_side true wrong takes = (wrong, refl, (text, takes))
+      by_side false wrong takes = (wrong, refl, (text, takes))

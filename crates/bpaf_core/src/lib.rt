@@ -62,4 +62,4 @@ pub use options::OptionParser;
 pub use parser::Parser;
 pub use repeat::{ParseMany, ParseSome};
 pub use transform::{ParseGuard, ParseMap, ParseWith};
-pub use value::read_text;
+pub use value::{read_text, value_or_refusal};

@@ -1,8 +1,23 @@
-ghost use Rattle.bpaf_laws.specs.Value.{ReadsValue};
+ghost use Rattle.bpaf_laws.specs.Value.{ReadsValue, TellsReading};
 
 use bpaf_doc::Text;
 use bpaf_line::{Error, Message, State};
 use bpaf_text::{FromText, TextFault};
+
+/// What the reading of a taken text is for a parser: the value; or ParseFailed, which names the
+/// current place, where the text means none; or want of memory.
+pub fn value_or_refusal<T>(state: &State, read: Result<T, TextFault>) -> Result<T, Error>
+    ensures { TellsReading read state.now.current result }
+{
+    match read {
+        Ok(value) => Ok(value),
+        Err(TextFault::Memory) => Err(Error(Message::Memory)),
+        Err(TextFault::Fault(fault)) => Err(Error(Message::ParseFailed(
+            state.current(),
+            Text::from(fault),
+        ))),
+    }
+}
 
 /// The value that a taken text means.
 ///
@@ -11,12 +26,5 @@ use bpaf_text::{FromText, TextFault};
 pub fn read_text<T: FromText>(state: &State, text: &str) -> Result<T, Error>
     ensures { ReadsValue T.means text.now state.now.current result }
 {
-    match T::from_text(state.alloc(), text) {
-        Ok(value) => Ok(value),
-        Err(TextFault::Memory) => Err(Error(Message::Memory)),
-        Err(TextFault::Fault(fault)) => Err(Error(Message::ParseFailed(
-            state.current(),
-            Text::from(fault),
-        ))),
-    }
+    value_or_refusal(state, T::from_text(state.alloc(), text))
 }

@@ -21,3 +21,4 @@ pub mod Shapes
 pub mod ChoicesLaws
 pub mod ChoosingAll
 pub mod LeftmostOfAll
+pub mod Reading

@@ -1,5 +1,7 @@
 -- What reading a taken text answers.
 use Rattle.std.specs.Prelude.{◌≡◌, ℕ, List, Result, Ok, Err, Option, ⊤}
+use Rattle.bpaf_text.specs.declared.fault.TextFault.{TextFault}
+use Rattle.bpaf_text.specs.declared.fault.TextFault.TheVariants as fault
 use Rattle.bpaf_line.specs.declared.error.Error.{Error}
 use Rattle.bpaf_line.specs.declared.error.Message.{Message}
 use Rattle.bpaf_line.specs.declared.error.Message.TheVariants.{Memory, ParseFailed}
@@ -16,3 +18,13 @@ abbrev pub ReadsValue : {T : Type 0} → (List ℕ → T → Type 0) → List �
     → Type 0
 ReadsValue means text current (Ok v) = means text v
 ReadsValue means text current (Err e) = FaultsText means text current e.0
+
+-- what a reading of a text is for a parser: its value; a fault, at the current place; or want of
+-- memory
+abbrev pub TellsReading : {T : Type 0} → Result T TextFault → Option ℕ → Result T Error → Type 0
+TellsReading (Ok v) current (Ok w) = w ≡ v
+TellsReading (Err (fault.Fault text)) current (Err e) =
+    (told : List ℕ) × (e.0 ≡ ParseFailed current told)
+TellsReading (Err fault.Memory) current (Err e) = e.0 ≡ Memory
+TellsReading (Ok v) current (Err e) = ⊥
+TellsReading (Err fault) current (Ok w) = ⊥

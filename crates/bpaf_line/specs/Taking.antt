@@ -1,5 +1,6 @@
 -- What the calls of a state answer, and which situation they leave.
 use Rattle.std.specs.Prelude.{◌≡◌, ℕ, ◌+◌, ◌<◌, Bool, true, false, List, Option, Some, None, Result, Ok, Err, bytes_eq, string_bytes, String, if◌then◌else◌, option_and_then, option_map, find, ⊤}
+use Rattle.std.specs.Borrow.{Bor}
 use Rattle.std.specs.Option.{option_map_or}
 use Rattle.std.specs.declared.alloc.Global.{Global}
 use Rattle.bpaf_doc.specs.Names.{Names}
@@ -69,6 +70,13 @@ abbrev pub RefusesWord : List ℕ → Situation → Message → Type 0
 RefusesWord metavar s (Missing items) = HasNone is_positional s × IsMissingIn s (Some (Positional metavar None)) items
 RefusesWord metavar s Memory = ⊤
 RefusesWord metavar s m = ⊥
+
+-- `positional_word`: the first word: its place, whether it is a PosWord, its text; or a refusal
+abbrev pub FindsWord : List ℕ → Situation → Result (ℕ × Bool × Bor (List ℕ)) Error → Type 0
+FindsWord metavar s (Ok r) =
+    IsFirst is_positional s r.0
+    × (option_and_then word_text (item_at s r.0) ≡ Some (r.1, r.2.now))
+FindsWord metavar s (Err e) = RefusesWord metavar s e.0
 
 -- `take_positional_word`: the first word is taken: its place, whether it is a PosWord, its text; or
 -- a refusal; then nothing changes

@@ -1,7 +1,7 @@
 //! The calls of a state that look for an item and take it.
 ghost use Rattle.bpaf_words.specs.Items.{any_item, is_command_word};
 ghost use Rattle.bpaf_line.specs.Marks.{KeepsMarks};
-ghost use Rattle.bpaf_line.specs.Taking.{TakesFlag, TakesArgument, TakesWord, TakesCommand, HasNoCommand, IsCommandAt};
+ghost use Rattle.bpaf_line.specs.Taking.{TakesFlag, TakesArgument, FindsWord, TakesWord, TakesCommand, HasNoCommand, IsCommandAt};
 ghost use Rattle.std.specs.Prelude.{◌≡◌, MatchOption};
 
 use crate::error::{Error, Message};
@@ -57,21 +57,33 @@ impl State {
         Ok(Some(text.into_string()))
     }
 
-    /// Takes the first present Word or PosWord in scope: its place, whether it is a PosWord, its text.
+    /// The first present Word or PosWord in scope: its place, whether it is a PosWord, its text.
     ///
-    /// Refused with Missing of a positional item where there is none, or for want of memory. A refusal
-    /// takes nothing.
+    /// Refused with Missing of a positional item where there is none, or for want of memory.
+    pub fn positional_word(&self, metavar: Metavar) -> Result<(usize, bool, &Text), Error>
+        ensures { FindsWord metavar.0.now self.now result }
+    {
+        match self.first_word() {
+            Some(word) => Ok(word),
+            None => {
+                let item = Item::Positional {
+                    metavar: Text::new(self.alloc(), metavar.0)?,
+                    help: None,
+                };
+                Err(self.missing(Some(item))?)
+            }
+        }
+    }
+
+    /// Takes the first present Word or PosWord in scope: its place, whether it is a PosWord, a copy of
+    /// its text.
+    ///
+    /// Refused as [`State::positional_word`] is. A refusal takes nothing.
     pub fn take_positional_word(&mut self, metavar: Metavar) -> Result<(usize, bool, String), Error>
         ensures marks { KeepsMarks self.old self.new }
         ensures taken { TakesWord metavar.0.now self.old result self.new }
     {
-        let Some((place, strict, word)) = self.first_word() else {
-            let item = Item::Positional {
-                metavar: Text::new(self.alloc(), metavar.0)?,
-                help: None,
-            };
-            return Err(self.missing(Some(item))?);
-        };
+        let (place, strict, word) = self.positional_word(metavar)?;
         let text = word.copy()?;
         self.take(place);
         Ok((place, strict, text.into_string()))

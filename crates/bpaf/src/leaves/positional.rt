@@ -1,7 +1,7 @@
 ghost use Rattle.std.specs.Prelude.{◌≡◌, IfOk, Some, None};
 ghost use Rattle.bpaf.specs.Positional.{accepts, misplaced};
 
-use bpaf_core::{Parser, read_text};
+use bpaf_core::{Parser, value_or_refusal};
 use bpaf_doc::{Doc, Item, Meta, Metavar, Text};
 use bpaf_line::{Error, Message, State};
 use bpaf_text::FromText;
@@ -144,11 +144,14 @@ impl<T: FromText + Drop> Parser<T> for ParsePositional<T> {
     ghost outcome = { λ p. PositionalOutcome T.means p.position p.metavar.0.now };
 
     fn eval(&self, state: &mut State) -> Result<T, Error> {
-        let (place, strict, text) = state.take_positional_word(self.metavar)?;
+        let (place, strict, text) = state.positional_word(self.metavar)?;
         if !self.position.accepts(strict) {
+            state.remove(place);
             return Err(misplaced(state.alloc(), strict, place, self.metavar)?);
         }
-        read_text(state, text.as_str())
+        let read = T::from_text(state.alloc(), text.as_str());
+        state.remove(place);
+        value_or_refusal(state, read)
     }
 
     fn meta(&self, alloc: Global) -> Result<Meta, AllocError> {

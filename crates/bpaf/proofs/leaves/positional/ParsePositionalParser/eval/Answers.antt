@@ -1,8 +1,15 @@
 use Rattle.std.proofs.Common.{sym, ◌∙◌}
-use Rattle.bpaf.proofs.PositionalAnswers.{word_read}
+use Rattle.bpaf_laws.proofs.Reading.{reading_told}
+use Rattle.bpaf.proofs.PositionalAnswers.{word_read, word_removed, word_misplaced}
 use Rattle.bpaf.proofs.leaves.positional.ParsePositionalParser.eval.Goals as goal
+
+pub returns-then-not-accepts : goal.returns-then-not-accepts
+returns-then-not-accepts g c =
+    let word = c.in_ok-place.ensures in
+    word_misplaced _ _ _ _ _ _ _ _ (word_removed _ _ _ _ _ word.0 word.1 c.remove.ensures.taken) _ (sym c.accepts.ensures ∙ c.if-not-accepts.true) c.in_ok-misplaced.ensures
 
 pub returns : goal.returns
 returns g c =
-    word_read _ _ _ _ _ _ _ _ c.in_ok-place.ensures.taken _ (sym c.accepts.ensures ∙ c.if-not-accepts.false)
-    (rw c.as_str.ensures.value at c.read_text.ensures)
+    let word = c.in_ok-place.ensures in
+    word_read _ _ _ _ _ _ _ _ (word_removed _ _ _ _ _ word.0 word.1 c.remove-2.ensures.taken) _ (sym c.accepts.ensures ∙ c.if-not-accepts.false)
+    (reading_told g.T.FromText.means c.in_ok-place.text.now _ _ _ (rw c.as_str.ensures at c.from_text-read.ensures) c.value_or_refusal.ensures)
