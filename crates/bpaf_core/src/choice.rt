@@ -150,18 +150,18 @@ fn value_of_winner<T: Drop>(
     ensures fits { OnErr result (Fits mark state.new) }
     ensures back { OnErr result (undone mark state.new ≡ undone mark state.old) }
 {
-    let (here, place) = state.pick_winner_since(&mark, &this);
+    let (here, place) = state.pick_winner(&mark, &this);
     let Some(place) = place else {
         resume(state, mark, this)?;
         return Ok(x);
     };
     if here {
-        state.save_conflicts_of(&this, place)?;
+        state.save_conflicts(&this, place)?;
         return Ok(y);
     }
     let that = state.steps(&mark)?;
     resume(state, mark, this)?;
-    state.save_conflicts_of(&that, place)?;
+    state.save_conflicts(&that, place)?;
     Ok(x)
 }
 
