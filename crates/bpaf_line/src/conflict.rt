@@ -9,10 +9,10 @@ use crate::state::State;
 use std::alloc::AllocError;
 
 impl State {
-    /// The leftmost place that is taken in only one of two situations, and whether it is taken in this
-    /// one; `(true, None)` where there is no such place. The other one is that to which the steps lead
-    /// from the mark. It takes no memory, and the state is as before; it looks at the places taken since
-    /// the mark alone.
+    /// The leftmost place that is taken in only one of two situations, and whether it is taken in
+    /// this one; `(true, None)` where there is no such place. The other one is that to which the
+    /// steps lead from the mark. It takes no memory, and the state is as before; it looks at the
+    /// places taken since the mark alone.
     pub fn pick_winner(&mut self, mark: &Mark, other: &Steps) -> (bool, Option<usize>)
         requires reached { HasReached mark.now self.old }
         requires steps { CanRedo other.now (undone mark.now self.old) }
@@ -24,9 +24,9 @@ impl State {
         leftmost(here, there)
     }
 
-    /// Gives each place that is present here and that the other steps took a conflict mark, which names
-    /// the place handed in: whatever mark these steps lead on from. Refused only for want of memory, and
-    /// then nothing changes.
+    /// Gives each place that is present here and that the other steps took a conflict mark, which
+    /// names the place handed in: whatever mark these steps lead on from. Refused only for want of
+    /// memory, and then nothing changes.
     pub fn save_conflicts(&mut self, loser: &Steps, winner: usize) -> Result<(), AllocError>
         ensures ok { OnOk result ((mark : Mark) → ConflictsSaved self.old
             (redone loser.now (undone mark self.old)) winner self.new) }
@@ -62,8 +62,8 @@ impl State {
         last_of(self.conflicts.as_slice(), place)
     }
 
-    /// The first present place in scope, and what its conflict mark names; None where it has none, or no
-    /// place is present. It takes no memory.
+    /// The first present place in scope, and what its conflict mark names; None where it has none,
+    /// or no place is present. It takes no memory.
     pub fn conflict(&self) -> Option<(usize, usize)>
         ensures { result ≡ first_conflict self.now }
     {
