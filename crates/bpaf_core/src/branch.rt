@@ -14,8 +14,8 @@ pub struct Start {
     pub left: usize,
 }
 
-/// Where a branch led to: its steps, and in the situation that these leave the number of present items
-/// and that of the names on the path.
+/// Where a branch led to: its steps, and in the situation that these leave the number of present
+/// items and that of the names on the path.
 ///
 /// It is public for choices in the crates of this repository, not for callers.
 #[derive(Drop)]
@@ -41,8 +41,8 @@ impl Start {
 }
 
 impl Branch {
-    /// The branch that led from the start to this state, which goes back to the start, also where memory
-    /// is refused.
+    /// The branch that led from the start to this state, which goes back to the start, also where
+    /// memory is refused.
     ///
     /// It is public for choices in the crates of this repository, not for callers.
     pub fn leave(state: &mut State, start: Start) -> Result<Branch, AllocError>
@@ -62,8 +62,8 @@ impl Branch {
     }
 }
 
-/// Goes back to a mark, and does the steps since it; where memory is refused the state is that of the
-/// mark.
+/// Goes back to a mark, and does the steps since it; where memory is refused the state is that of
+/// the mark.
 pub(crate) fn resume(state: &mut State, mark: Mark, steps: Steps) -> Result<(), AllocError>
     requires fits { Fits mark state.old }
     requires steps { CanRedo steps (undone mark state.old) }

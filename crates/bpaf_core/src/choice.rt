@@ -23,15 +23,16 @@ pub fn is_want<T>(answer: &Result<T, Error>) -> bool
     }
 }
 
-/// The answer of two branches that were evaluated from one start, by what each answered and where it
-/// led to (bpaf's `this_or_that_picks_first`, in `structs.rs`). The state is where the second one led.
+/// The answer of two branches that were evaluated from one start, by what each answered and where
+/// it led to (bpaf's `this_or_that_picks_first`, in `structs.rs`). The state is where the second
+/// one led.
 ///
-/// The state becomes that of the branch which is chosen. That is the one with the deeper path; at equal
-/// depths the one with a value, unless it took nothing and the other's error is wrong input, which is
-/// then the answer; of two values the first where neither branch took an item, else that of the branch
-/// which took the leftmost place taken by only one of them, else the first. Two errors are combined.
-/// Where an error of equal depths is the answer, the state is as at the start; so it is where memory is
-/// wanted.
+/// The state becomes that of the branch which is chosen. That is the one with the deeper path; at
+/// equal depths the one with a value, unless it took nothing and the other's error is wrong input,
+/// which is then the answer; of two values the first where neither branch took an item, else that
+/// of the branch which took the leftmost place taken by only one of them, else the first. Two
+/// errors are combined. Where an error of equal depths is the answer, the state is as at the start;
+/// so it is where memory is wanted.
 ///
 /// It is public for choices in the crates of this repository, not for callers.
 pub fn this_or_that<T: Drop>(
@@ -88,8 +89,8 @@ fn value_of_first<T: Drop>(
     Ok(value)
 }
 
-/// The value of the second branch, where the state is; the other's error, where that is wrong input and
-/// this branch took nothing.
+/// The value of the second branch, where the state is; the other's error, where that is wrong input
+/// and this branch took nothing.
 fn value_of_second<T: Drop>(
     state: &mut State,
     start: Start,
@@ -106,7 +107,8 @@ fn value_of_second<T: Drop>(
     Ok(value)
 }
 
-/// The value of one of two branches: of the first where neither took an item, else that of the winner.
+/// The value of one of two branches: of the first where neither took an item, else that of the
+/// winner.
 fn value_of_both<T: Drop>(
     state: &mut State,
     start: Start,
@@ -133,9 +135,9 @@ fn value_of_both<T: Drop>(
     }
 }
 
-/// The value of the branch that took the leftmost place taken by only one of them, else of the first;
-/// what only the other one took gets a conflict mark. Refused only for want of memory; the state can
-/// then still go back to the mark.
+/// The value of the branch that took the leftmost place taken by only one of them, else of the
+/// first; what only the other one took gets a conflict mark. Refused only for want of memory; the
+/// state can then still go back to the mark.
 fn value_of_winner<T: Drop>(
     state: &mut State,
     mark: Mark,
@@ -150,18 +152,18 @@ fn value_of_winner<T: Drop>(
     ensures fits { OnErr result (Fits mark state.new) }
     ensures back { OnErr result (undone mark state.new ≡ undone mark state.old) }
 {
-    let (here, place) = state.pick_winner_since(&mark, &this);
+    let (here, place) = state.pick_winner(&mark, &this);
     let Some(place) = place else {
         resume(state, mark, this)?;
         return Ok(x);
     };
     if here {
-        state.save_conflicts_of(&this, place)?;
+        state.save_conflicts(&this, place)?;
         return Ok(y);
     }
     let that = state.steps(&mark)?;
     resume(state, mark, this)?;
-    state.save_conflicts_of(&that, place)?;
+    state.save_conflicts(&that, place)?;
     Ok(x)
 }
 
@@ -179,8 +181,8 @@ fn alternatives(alloc: Global, meta: Meta) -> Result<Vec<Meta>, AllocError>
     }
 }
 
-/// What a choice of two shows: a member that is an Or itself is opened into it (bpaf's `Meta::or`, in
-/// `meta.rs`). Refused only for want of memory.
+/// What a choice of two shows: a member that is an Or itself is opened into it (bpaf's `Meta::or`,
+/// in `meta.rs`). Refused only for want of memory.
 ///
 /// It is public for choices in the crates of this repository, not for callers.
 pub fn or_meta(alloc: Global, first: Meta, second: Meta) -> Result<Meta, AllocError>
@@ -199,8 +201,8 @@ pub struct ParseOrElse<A, B> {
     pub that: B,
 }
 
-/// Both are evaluated, each from the same situation, the first one first; [`this_or_that`] tells which
-/// answer stands. Want of memory in either is refused at once, with the state as before.
+/// Both are evaluated, each from the same situation, the first one first; [`this_or_that`] tells
+/// which answer stands. Want of memory in either is refused at once, with the state as before.
 impl<T: Drop, A: Parser<T>, B: Parser<T>> Parser<T> for ParseOrElse<A, B> {
     ghost use Rattle.bpaf_laws.specs.Choice.{ChoiceOutcome, ChoiceReads, ChoiceDescribes};
     ghost use Rattle.bpaf_laws.specs.Choice.{LeftmostWins};

@@ -8,8 +8,8 @@ use std::alloc::{AllocError, Global};
 use std::fmt::Display;
 use std::marker::PhantomData;
 
-/// Some of the parser's value; None where the parser answers an error that can be caught. After all but
-/// a value the state is as before.
+/// Some of the parser's value; None where the parser answers an error that can be caught. After all
+/// but a value the state is as before.
 fn attempt<T: Drop, P: Parser<T>>(parser: &P, state: &mut State) -> Result<Option<T>, Error>
     requires { P.can_eval parser.now }
     ensures { AttemptOutcome (P.outcome parser.now) state.old result state.new }
@@ -36,8 +36,8 @@ pub struct ParseFallback<P, T> {
 }
 
 /// The inner value; or a clone of the kept one where the inner parser answers an error that can be
-/// caught. Every other error is refused; so is want of memory. After all but an inner value the state
-/// is as before.
+/// caught. Every other error is refused; so is want of memory. After all but an inner value the
+/// state is as before.
 impl<T: Clone + Drop, P: Parser<T>> Parser<T> for ParseFallback<P, T> {
     ghost use Rattle.bpaf_laws.specs.Default.{FallbackOutcome, FallbackReads, GivesClone};
     ghost use Rattle.bpaf_laws.specs.Default.{OptionalDescribes};
@@ -86,9 +86,9 @@ pub struct ParseFallbackWith<T, P, F, E> {
     pub err: PhantomData<E>,
 }
 
-/// The inner value; or the closure's where the inner parser answers an error that can be caught. The
-/// closure's fault is refused with PureFailed, every other error as it is; so is want of memory. After
-/// all but an inner value the state is as before.
+/// The inner value; or the closure's where the inner parser answers an error that can be caught.
+/// The closure's fault is refused with PureFailed, every other error as it is; so is want of
+/// memory. After all but an inner value the state is as before.
 impl<T: Drop, E: Display + Drop, P: Parser<T>, F: Fn() -> Result<T, E>> Parser<T>
     for ParseFallbackWith<T, P, F, E> {
     ghost use Rattle.bpaf_laws.specs.Default.{FallbackOutcome, FallbackReads, GivesAnswer};

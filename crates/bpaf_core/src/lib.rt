@@ -21,8 +21,8 @@
 //!   the start and one (clause `repeat_is_bounded`), and none catches want of memory (clause
 //!   `memory_is_never_caught`).
 //! - [`ParseOrElse`] is one of two parsers, both evaluated from the same state: the table of
-//!   [`this_or_that`] tells which answer stands (specs/Choice.antt). That function, [`or_meta`] and
-//!   [`is_want`] are for the crates of this repository, not for callers.
+//!   [`this_or_that`] tells which answer stands (specs/Choice.antt). That function, [`Start`],
+//!   [`Branch`], [`or_meta`] and [`is_want`] are for the crates of this repository, not for callers.
 //!   The branch that took the leftmost place taken by only one of them wins (clause `leftmost_wins`).
 //! - [`OptionParser::run_inner`] runs a parser over words. It answers a value only where that is
 //!   dealt out of the words: read off all items of their line but the first `--`, each used once

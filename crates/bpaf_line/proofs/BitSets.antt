@@ -8,8 +8,10 @@ use Rattle.bpaf_line.specs.Situation.{is_on}
 use Rattle.bpaf_line.proofs.Places.{is_on_push, on_others}
 
 -- the place at a number of a list is on it
-pub on_at : (places : List ℕ) (i : ℕ) → i < length places → is_on places (slice_index places i) ≡ true
-on_at places i within = list_any_at (λ q. q == slice_index places i) places i 0 within (eq-eqb (slice_index places i) (slice_index places i) refl)
+pub on_at : (places : List ℕ) (i : ℕ) → i < length places
+    → is_on places (slice_index places i) ≡ true
+on_at places i within = list_any_at (λ q. q == slice_index places i) places i 0 within
+    (eq-eqb (slice_index places i) (slice_index places i) refl)
 
 -- no bit of no place is changed
 pub changes_none : (words : List ℕ) (bit : Bool) → ChangesBits words words [] bit
@@ -20,7 +22,9 @@ changes_none words bit = record {
 }
 
 -- the bit of one place more is changed
-pub changes_more : (old words new places : List ℕ) (p : ℕ) (bit : Bool) → ChangesBits old words places bit → ChangesBit words new p bit → ChangesBits old new (places ++ p ∷ []) bit
+pub changes_more : (old words new places : List ℕ) (p : ℕ) (bit : Bool)
+    → ChangesBits old words places bit → ChangesBit words new p bit
+    → ChangesBits old new (places ++ p ∷ []) bit
 changes_more old words new places p bit h change = record {
   kept = change.kept ∙ h.kept;
   here = λ q on. ⊎_elim
@@ -29,7 +33,8 @@ changes_more old words new places p bit h change = record {
       (cases_eq q p);
   others = λ q off. ⊎_elim
       (λ (at : q ≡ p). absurd (true≢false (sym (on_itself q at) ∙ off)))
-      (λ (other : q ≢ p). change.others q other ∙ h.others q (sym (on_others places p q other) ∙ off))
+      (λ (other : q ≢ p). change.others q other
+      ∙ h.others q (sym (on_others places p q other) ∙ off))
       (cases_eq q p);
 }
   where
@@ -44,23 +49,31 @@ as_tested false true = refl
 as_tested false false = refl
 
 -- one place more is one of these, or is it itself
-on_as_more : (words places : List ℕ) (p : ℕ) (bit : Bool) (q : ℕ) → q ≢ p → is_on_as words (places ++ p ∷ []) bit q ≡ is_on_as words places bit q
+on_as_more : (words places : List ℕ) (p : ℕ) (bit : Bool) (q : ℕ) → q ≢ p
+    → is_on_as words (places ++ p ∷ []) bit q ≡ is_on_as words places bit q
 on_as_more words places p bit q other =
-    ap (λ b. b && (if bit then has_bit words q else not (has_bit words q))) (on_others places p q other)
+    ap (λ b. b && (if bit then has_bit words q else not (has_bit words q)))
+    (on_others places p q other)
 
 -- and it itself has the bit or not
-on_as_here : (words places : List ℕ) (p : ℕ) (bit : Bool) → is_on_as words (places ++ p ∷ []) bit p ≡ beq (has_bit words p) bit
+on_as_here : (words places : List ℕ) (p : ℕ) (bit : Bool)
+    → is_on_as words (places ++ p ∷ []) bit p ≡ beq (has_bit words p) bit
 on_as_here words places p bit =
-    ap (λ b. b && (if bit then has_bit words p else not (has_bit words p))) (is_on_push places p p ∙ or_right (is_on places p) _ (eq-eqb p p refl)) ∙ as_tested (has_bit words p) bit
+    ap (λ b. b && (if bit then has_bit words p else not (has_bit words p)))
+    (is_on_push places p p ∙ or_right (is_on places p) _ (eq-eqb p p refl))
+    ∙ as_tested (has_bit words p) bit
 
 -- the least of no places is none
 pub least_none : (words : List ℕ) (bit : Bool) → IsLeastIn (is_on_as words [] bit) None
 least_none words bit q = refl
 
 -- a place without the bit changes nothing
-pub least_skip : (words places : List ℕ) (p : ℕ) (bit : Bool) (found : Option ℕ) → IsLeastIn (is_on_as words places bit) found → beq (has_bit words p) bit ≡ false → IsLeastIn (is_on_as words (places ++ p ∷ []) bit) found
+pub least_skip : (words places : List ℕ) (p : ℕ) (bit : Bool) (found : Option ℕ)
+    → IsLeastIn (is_on_as words places bit) found → beq (has_bit words p) bit ≡ false
+    → IsLeastIn (is_on_as words (places ++ p ∷ []) bit) found
 least_skip words places p bit None h off = λ q. ⊎_elim
-    (λ (at : q ≡ p). ap (is_on_as words (places ++ p ∷ []) bit) at ∙ (on_as_here words places p bit ∙ off))
+    (λ (at : q ≡ p). ap (is_on_as words (places ++ p ∷ []) bit) at
+    ∙ (on_as_here words places p bit ∙ off))
     (λ (other : q ≢ p). on_as_more words places p bit q other ∙ h q)
     (cases_eq q p)
 least_skip words places p bit (Some least) h off = (
@@ -69,7 +82,8 @@ least_skip words places p bit (Some least) h off = (
       (λ (other : least ≢ p). on_as_more words places p bit least other ∙ h.0)
       (cases_eq least p),
   λ q below. ⊎_elim
-      (λ (at : q ≡ p). ap (is_on_as words (places ++ p ∷ []) bit) at ∙ (on_as_here words places p bit ∙ off))
+      (λ (at : q ≡ p). ap (is_on_as words (places ++ p ∷ []) bit) at
+      ∙ (on_as_here words places p bit ∙ off))
       (λ (other : q ≢ p). on_as_more words places p bit q other ∙ h.1 q below)
       (cases_eq q p),
 )
@@ -79,10 +93,14 @@ least_skip words places p bit (Some least) h off = (
     and_false false = refl
 
     without : (q : ℕ) → q ≡ p → is_on_as words places bit q ≡ false
-    without q at = ap (is_on_as words places bit) at ∙ (ap (λ b. is_on places p && b) (as_tested (has_bit words p) bit ∙ off) ∙ and_false (is_on places p))
+    without q at = ap (is_on_as words places bit) at
+        ∙ (ap (λ b. is_on places p && b) (as_tested (has_bit words p) bit ∙ off)
+        ∙ and_false (is_on places p))
 
 -- a place with it is the least, or the one that was
-pub least_take : (words places : List ℕ) (p : ℕ) (bit : Bool) (found : Option ℕ) → IsLeastIn (is_on_as words places bit) found → beq (has_bit words p) bit ≡ true → IsLeastIn (is_on_as words (places ++ p ∷ []) bit) (Some (lesser_of found p))
+pub least_take : (words places : List ℕ) (p : ℕ) (bit : Bool) (found : Option ℕ)
+    → IsLeastIn (is_on_as words places bit) found → beq (has_bit words p) bit ≡ true
+    → IsLeastIn (is_on_as words (places ++ p ∷ []) bit) (Some (lesser_of found p))
 least_take words places p bit None h on = (
   on_as_here words places p bit ∙ on,
   λ q below. on_as_more words places p bit q (λ at. absurd (omega arith)) ∙ h q,
@@ -98,20 +116,24 @@ least_take words places p bit (Some least) h on = ⊎_elim
     let at : min least p ≡ p = omega arith in
     rw at (
       on_as_here words places p bit ∙ on,
-      λ q below. on_as_more words places p bit q (λ same. absurd (omega arith)) ∙ h.1 q (omega arith),
+      λ q below. on_as_more words places p bit q (λ same. absurd (omega arith))
+          ∙ h.1 q (omega arith),
     ))
     (cases_lt least p)
 
 -- two sets with the same numbers have the same least one
-least_of_same : (f g : ℕ → Bool) (found : Option ℕ) → ((q : ℕ) → f q ≡ g q) → IsLeastIn f found → IsLeastIn g found
+least_of_same : (f g : ℕ → Bool) (found : Option ℕ) → ((q : ℕ) → f q ≡ g q) → IsLeastIn f found
+    → IsLeastIn g found
 least_of_same f g found same h = subst (λ set. IsLeastIn set found) (λ i q. same q i) h
 
 -- what is on a list with a bit is what is on it alone, where the bits of its places tell that
-of_list : (own : Bool) (bit alone : Bool) → (own ≡ true → bit ≡ alone) → (own && bit) ≡ (own && alone)
+of_list : (own : Bool) (bit alone : Bool) → (own ≡ true → bit ≡ alone)
+    → (own && bit) ≡ (own && alone)
 of_list true bit alone same = same refl
 of_list false bit alone same = refl
 
-module _ (words own others : List ℕ) (set : (q : ℕ) → is_on own q ≡ true → has_bit words q ≡ true) (clear : (q : ℕ) → is_on others q ≡ true → is_on own q ≡ false → has_bit words q ≡ false) where
+module _ (words own others : List ℕ) (set : (q : ℕ) → is_on own q ≡ true → has_bit words q ≡ true)
+    (clear : (q : ℕ) → is_on others q ≡ true → is_on own q ≡ false → has_bit words q ≡ false) where
   -- the others' bits are set where they are own places too
   others_bit : (q : ℕ) → is_on others q ≡ true → has_bit words q ≡ is_on own q
   others_bit q on = ⊎_elim
@@ -120,8 +142,10 @@ module _ (words own others : List ℕ) (set : (q : ℕ) → is_on own q ≡ true
       (cases_Bool (is_on own q))
 
   -- so the least of them whose bit is clear is theirs alone
-  pub least_there : (found : Option ℕ) → IsLeastIn (is_on_as words others false) found → IsLeastIn (is_in_first others own) found
-  least_there found h = least_of_same (is_on_as words others false) (is_in_first others own) found (λ q. of_list (is_on others q) _ _ (λ on. ap not (others_bit q on))) h
+  pub least_there : (found : Option ℕ) → IsLeastIn (is_on_as words others false) found
+      → IsLeastIn (is_in_first others own) found
+  least_there found h = least_of_same (is_on_as words others false) (is_in_first others own) found
+      (λ q. of_list (is_on others q) _ _ (λ on. ap not (others_bit q on))) h
 
   module _ (cleared : List ℕ) (first : ChangesBits words cleared others false) where
     -- once these are cleared, the bits of own places tell whether they are own alone
@@ -132,11 +156,14 @@ module _ (words own others : List ℕ) (set : (q : ℕ) → is_on own q ≡ true
         (cases_Bool (is_on others q))
 
     -- so the least of them whose bit is set is own alone
-    pub least_here : (found : Option ℕ) → IsLeastIn (is_on_as cleared own true) found → IsLeastIn (is_in_first own others) found
-    least_here found h = least_of_same (is_on_as cleared own true) (is_in_first own others) found (λ q. of_list (is_on own q) _ _ (λ mine. own_bit q mine)) h
+    pub least_here : (found : Option ℕ) → IsLeastIn (is_on_as cleared own true) found
+        → IsLeastIn (is_in_first own others) found
+    least_here found h = least_of_same (is_on_as cleared own true) (is_in_first own others) found
+        (λ q. of_list (is_on own q) _ _ (λ mine. own_bit q mine)) h
 
     -- and once the own ones are set again, all bits are as they were
-    pub same_again : (new : List ℕ) → ChangesBits cleared new own true → (q : ℕ) → has_bit new q ≡ has_bit words q
+    pub same_again : (new : List ℕ) → ChangesBits cleared new own true → (q : ℕ)
+        → has_bit new q ≡ has_bit words q
     same_again new second q = ⊎_elim
         (λ (mine : is_on own q ≡ true). second.here q mine ∙ sym (set q mine))
         (λ (not_mine : is_on own q ≡ false). second.others q not_mine ∙ ⊎_elim

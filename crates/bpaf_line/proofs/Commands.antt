@@ -9,7 +9,8 @@ use Rattle.bpaf_line.proofs.Matches.{open_item_there}
 use Rattle.bpaf_line.specs.Taking.{IsFirst, HasNoCommand, open_item}
 
 -- there is one first match at most
-first_is_one : (test : Arg → Bool) (s : Situation) (p q : ℕ) → IsFirst test s p → IsFirst test s q → p ≡ q
+first_is_one : (test : Arg → Bool) (s : Situation) (p q : ℕ) → IsFirst test s p → IsFirst test s q
+    → p ≡ q
 first_is_one test s p q a b = ⊎_elim
     (λ (before : p < q). absurd (true≢false (sym a.matches ∙ b.first p before)))
     (λ (behind : q ≤ p). ⊎_elim
@@ -19,7 +20,9 @@ first_is_one test s p q a b = ⊎_elim
     (cases_lt p q)
 
 -- where the first present item isn't the word, there is no command of it
-pub no_command : (word : List ℕ) (s : Situation) (p : ℕ) (item : Arg) → IsFirst any_item s p → open_item s p ≡ Some item → is_command_word word item ≡ false → HasNoCommand word s
+pub no_command : (word : List ℕ) (s : Situation) (p : ℕ) (item : Arg) → IsFirst any_item s p
+    → open_item s p ≡ Some item → is_command_word word item ≡ false → HasNoCommand word s
 no_command word s p item first there other q first_too =
-    subst (λ place. option_map_or (is_command_word word) (item_at s place) false ≡ false) (first_is_one any_item s p q first first_too)
+    subst (λ place. option_map_or (is_command_word word) (item_at s place) false ≡ false)
+    (first_is_one any_item s p q first first_too)
     (rw (open_item_there s p item there).1 other)

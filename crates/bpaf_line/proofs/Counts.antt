@@ -4,19 +4,22 @@ use Rattle.std.proofs.lemmas.Bool.{cases_lt}
 use Rattle.bpaf_line.specs.Situation.{count_below}
 
 -- two sets that agree below n have as many numbers there
-pub count_below-same : (f g : ℕ → Bool) (n : ℕ) → ((q : ℕ) → q < n → f q ≡ g q) → count_below f n ≡ count_below g n
+pub count_below-same : (f g : ℕ → Bool) (n : ℕ) → ((q : ℕ) → q < n → f q ≡ g q)
+    → count_below f n ≡ count_below g n
 count_below-same f g zero agree = refl
 count_below-same f g (suc n) agree =
     let below = count_below-same f g n (λ q l. agree q (omega arith)) in
     rw (agree n (omega arith), below) refl
 
 -- a count that is one fewer stays so where the next number is in both sets or in neither
-counted_one : (b : Bool) (m n : ℕ) → m + 1 ≡ n → (if b then (m + 1) else m) + 1 ≡ (if b then (n + 1) else n)
+counted_one : (b : Bool) (m n : ℕ) → m + 1 ≡ n
+    → (if b then (m + 1) else m) + 1 ≡ (if b then (n + 1) else n)
 counted_one true m n e = omega arith
 counted_one false m n e = e
 
 -- a set that lacks one number of another has one fewer
-pub count_below-fewer : (f g : ℕ → Bool) (n p : ℕ) → p < n → f p ≡ true → g p ≡ false → ((q : ℕ) → q ≢ p → f q ≡ g q) → count_below g n + 1 ≡ count_below f n
+pub count_below-fewer : (f g : ℕ → Bool) (n p : ℕ) → p < n → f p ≡ true → g p ≡ false
+    → ((q : ℕ) → q ≢ p → f q ≡ g q) → count_below g n + 1 ≡ count_below f n
 count_below-fewer f g zero p within has lacks agree = absurd (omega arith)
 count_below-fewer f g (suc n) p within has lacks agree =
     ⊎_elim
@@ -26,26 +29,30 @@ count_below-fewer f g (suc n) p within has lacks agree =
     rw same (counted_one (g n) (count_below g n) (count_below f n) fewer))
     (λ above.
     let at : n ≡ p = omega arith in
-    let same : count_below f n ≡ count_below g n = count_below-same f g n (λ q k. agree q (λ z. absurd (omega arith))) in
+    let same : count_below f n ≡ count_below g n = count_below-same f g n
+    (λ q k. agree q (λ z. absurd (omega arith))) in
     let there : f n ≡ true = ap f at ∙ has in
     let lacking : g n ≡ false = ap g at ∙ lacks in
     rw (there, lacking, same) refl)
     (cases_lt p n)
 
 -- a set without numbers below n has none of them
-pub count_below-none : (f : ℕ → Bool) (n : ℕ) → ((q : ℕ) → q < n → f q ≡ false) → count_below f n ≡ 0
+pub count_below-none : (f : ℕ → Bool) (n : ℕ) → ((q : ℕ) → q < n → f q ≡ false)
+    → count_below f n ≡ 0
 count_below-none f zero lacks = refl
 count_below-none f (suc n) lacks =
     let below = count_below-none f n (λ q l. lacks q (omega arith)) in
     rw (lacks n (omega arith)) below
 
 -- a set without numbers from n on has no more of them
-pub count_below-cut : (f : ℕ → Bool) (n m : ℕ) → n ≤ m → ((q : ℕ) → n ≤ q → q < m → f q ≡ false) → count_below f m ≡ count_below f n
+pub count_below-cut : (f : ℕ → Bool) (n m : ℕ) → n ≤ m → ((q : ℕ) → n ≤ q → q < m → f q ≡ false)
+    → count_below f m ≡ count_below f n
 count_below-cut f n zero within lacks = let at : n ≡ 0 = omega arith in rw at refl
 count_below-cut f n (suc m) within lacks =
     ⊎_elim
     (λ (below : m < n). let at : n ≡ suc m = omega arith in rw at refl)
-    (λ (above : n ≤ m). rw (lacks m above (omega arith)) (count_below-cut f n m above (λ q l h. lacks q l (omega arith))))
+    (λ (above : n ≤ m). rw (lacks m above (omega arith))
+    (count_below-cut f n m above (λ q l h. lacks q l (omega arith))))
     (cases_lt m n)
 
 -- a set with a number below n has at least one

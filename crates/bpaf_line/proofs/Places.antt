@@ -31,8 +31,10 @@ abbrev pub put : Situation → ℕ → Situation
 put s p = with_trail s (s.trail ++ p ∷ [])
 
 -- a place is on a longer trail where it was on the old one, or is the last
-pub is_on_push : (trail : List ℕ) (p q : ℕ) → is_on (trail ++ p ∷ []) q ≡ (is_on trail q || (p == q))
-is_on_push trail p q = list_any-append (λ x. x == q) trail (p ∷ []) ∙ ap (λ b. is_on trail q || b) (or_none (p == q))
+pub is_on_push : (trail : List ℕ) (p q : ℕ)
+    → is_on (trail ++ p ∷ []) q ≡ (is_on trail q || (p == q))
+is_on_push trail p q = list_any-append (λ x. x == q) trail (p ∷ [])
+    ∙ ap (λ b. is_on trail q || b) (or_none (p == q))
   where
     or_none : (b : Bool) → (b || false) ≡ b
     or_none true = refl
@@ -40,7 +42,8 @@ is_on_push trail p q = list_any-append (λ x. x == q) trail (p ∷ []) ∙ ap (�
 
 -- the other places are on it where they were
 pub on_others : (trail : List ℕ) (p q : ℕ) → q ≢ p → is_on (trail ++ p ∷ []) q ≡ is_on trail q
-on_others trail p q other = is_on_push trail p q ∙ (ap (λ b. is_on trail q || b) (ne_eqb p q (λ e. other (sym e))) ∙ or_none (is_on trail q))
+on_others trail p q other = is_on_push trail p q
+    ∙ (ap (λ b. is_on trail q || b) (ne_eqb p q (λ e. other (sym e))) ∙ or_none (is_on trail q))
   where
     or_none : (b : Bool) → (b || false) ≡ b
     or_none true = refl
@@ -49,19 +52,23 @@ on_others trail p q other = is_on_push trail p q ∙ (ap (λ b. is_on trail q ||
 -- a place that was put on the trail is taken
 pub put_here : (s : Situation) (p : ℕ) → is_taken (put s p) p ≡ true
 put_here s p =
-    or_right (not (nat_lt p (length s.context.line))) _ (or_right (is_marker s.context.marker p) _ (is_on_push s.trail p p ∙ or_right (is_on s.trail p) _ (eq-eqb p p refl)))
+    or_right (not (nat_lt p (length s.context.line))) _
+    (or_right (is_marker s.context.marker p) _
+    (is_on_push s.trail p p ∙ or_right (is_on s.trail p) _ (eq-eqb p p refl)))
 
 -- the other places are as they were
 pub put_other : (s : Situation) (p q : ℕ) → q ≢ p → is_taken (put s p) q ≡ is_taken s q
 put_other s p q other =
-    ap (λ b. not (nat_lt q (length s.context.line)) || (is_marker s.context.marker q || b)) (on_others s.trail p q other)
+    ap (λ b. not (nat_lt q (length s.context.line)) || (is_marker s.context.marker q || b))
+    (on_others s.trail p q other)
 
 -- a place that isn't taken lies in the line
 pub present_in_line : (s : Situation) (p : ℕ) → is_taken s p ≡ false → p < (length s.context.line)
 present_in_line s p free = grind (arith, nat_tests)
 
 -- one place fewer is present in scope where the place that was put lies there, and else as many
-pub open_count-put : (s : Situation) (p : ℕ) → is_taken s p ≡ false → open_count (put s p) + from_bool (in_scope s p) ≡ open_count s
+pub open_count-put : (s : Situation) (p : ℕ) → is_taken s p ≡ false
+    → open_count (put s p) + from_bool (in_scope s p) ≡ open_count s
 open_count-put s p free = by_scope (in_scope s p) refl
   where
     same_open : (q : ℕ) → q ≢ p → is_open s q ≡ is_open (put s p) q
@@ -72,44 +79,69 @@ open_count-put s p free = by_scope (in_scope s p) refl
 
     by_scope : (b : Bool) → in_scope s p ≡ b → open_count (put s p) + from_bool b ≡ open_count s
     by_scope true e =
-        count_below-fewer (is_open s) (is_open (put s p)) (length s.context.line) p (present_in_line s p free) (and_from (in_scope s p) _ e (ap not free)) closed same_open
+        count_below-fewer (is_open s) (is_open (put s p)) (length s.context.line) p
+        (present_in_line s p free) (and_from (in_scope s p) _ e (ap not free)) closed same_open
     by_scope false e =
-        let same : open_count (put s p) ≡ open_count s = count_below-same (is_open (put s p)) (is_open s) (length s.context.line) (λ q _. ⊎_elim
-        (λ (at : q ≡ p). subst (λ x. is_open (put s p) x ≡ is_open s x) (sym at) (closed ∙ sym (and_left (in_scope s p) _ e)))
+        let same : open_count (put s p) ≡ open_count s = count_below-same (is_open (put s p))
+        (is_open s) (length s.context.line) (λ q _. ⊎_elim
+        (λ (at : q ≡ p). subst (λ x. is_open (put s p) x ≡ is_open s x) (sym at)
+        (closed ∙ sym (and_left (in_scope s p) _ e)))
         (λ (other : q ≢ p). sym (same_open q other))
         (cases_eq q p)) in
         omega arith
 
--- each place of a longer trail was present in its turn, where those of the old one were, and the last is
-pub in_turn_put : (s : Situation) (p : ℕ) → TakenInTurn s → is_taken s p ≡ false → TakenInTurn (put s p)
+-- each place of a longer trail was present in its turn, where those of the old one were, and the
+-- last is
+pub in_turn_put : (s : Situation) (p : ℕ) → TakenInTurn s → is_taken s p ≡ false
+    → TakenInTurn (put s p)
 in_turn_put s p turns free n within =
     ⊎_elim
     (λ (below : n < length s.trail).
-    rw (take-append-le n s.trail (p ∷ []) (omega arith), get_or_append_left s.trail (p ∷ []) 0 n below) (turns n below))
+    rw (
+      take-append-le n s.trail (p ∷ []) (omega arith),
+      get_or_append_left s.trail (p ∷ []) 0 n
+          below,
+    ) (turns n below))
     (λ (past : length s.trail ≤ n).
     let last : n ≡ length s.trail = omega (arith, length_push s.trail p) in
     rw (take_at s.trail (p ∷ []) n (sym last), get_or_push s.trail p 0 n (sym last)) free)
     (cases_lt n (length s.trail))
 
 -- the places that aren't taken and those on the trail are as many as the line has at most
-pub on_trail_at_most : (s : Situation) → TakenInTurn s → (n : ℕ) → n ≤ length s.trail → count_below (λ p. not (is_taken (cut_to s n) p)) (length s.context.line) + n ≤ (length s.context.line)
-on_trail_at_most s turns zero within = omega (arith, count_below-most (λ p. not (is_taken (cut_to s 0) p)) (length s.context.line))
+pub on_trail_at_most : (s : Situation) → TakenInTurn s → (n : ℕ) → n ≤ length s.trail
+    → count_below (λ p. not (is_taken (cut_to s n) p)) (length s.context.line) + n ≤
+    (length s.context.line)
+on_trail_at_most s turns zero within = omega
+    (arith, count_below-most (λ p. not (is_taken (cut_to s 0) p)) (length s.context.line))
 on_trail_at_most s turns (suc n) within =
     let before = on_trail_at_most s turns n (omega arith) in
     let p = slice_index s.trail n in
     let free = turns n (omega arith) in
-    let next : take (suc n) s.trail ≡ take n s.trail ++ p ∷ [] = ap (λ k. take k s.trail) (sym (add-one n)) ∙ take_more s.trail n 0 (omega arith) in
-    let fewer = count_below-fewer (λ q. not (is_taken (cut_to s n) q)) (λ q. not (is_taken (put (cut_to s n) p) q)) (length s.context.line) p (present_in_line (cut_to s n) p free) (ap not free)
-    (ap not (put_here (cut_to s n) p)) (λ q other. ap not (sym (put_other (cut_to s n) p q other))) in
+    let next : take (suc n) s.trail ≡ take n s.trail ++ p ∷ [] = ap (λ k. take k s.trail)
+    (sym (add-one n)) ∙ take_more s.trail n 0 (omega arith) in
+    let fewer = count_below-fewer (λ q. not (is_taken (cut_to s n) q))
+    (λ q. not (is_taken (put (cut_to s n) p) q)) (length s.context.line) p
+    (present_in_line (cut_to s n) p free) (ap not free)
+    (ap not (put_here (cut_to s n) p)) (λ q other. ap not (sym (put_other (cut_to s n) p q other)))
+    in
     rw next (omega arith)
 
 -- so a present place has room on it
-pub room_on_trail : (s : Situation) (p : ℕ) → TakenInTurn s → is_taken s p ≡ false → length s.trail < (length s.context.line)
+pub room_on_trail : (s : Situation) (p : ℕ) → TakenInTurn s → is_taken s p ≡ false
+    → length s.trail < (length s.context.line)
 room_on_trail s p turns free =
     let most = on_trail_at_most s turns (length s.trail) (omega arith) in
-    let whole : take (length s.trail) s.trail ≡ s.trail = take_all (length s.trail) s.trail (omega arith) in
-    let most_now : count_below (λ q. not (is_taken s q)) (length s.context.line) + length s.trail ≤ (length s.context.line) = subst (λ xs. count_below (λ q. not (is_taken (with_trail s xs) q)) (length s.context.line) + length s.trail ≤ (length s.context.line)) whole most in
-    omega (arith, count_below-some (λ q. not (is_taken s q)) (length s.context.line) p (present_in_line s p free) (ap not free))
+    let whole : take (length s.trail) s.trail ≡ s.trail = take_all (length s.trail) s.trail
+    (omega arith) in
+    let most_now : count_below (λ q. not (is_taken s q)) (length s.context.line) + length s.trail ≤
+    (length s.context.line) = subst
+    (λ xs. count_below (λ q. not (is_taken (with_trail s xs) q)) (length s.context.line) +
+    length s.trail ≤ (length s.context.line)) whole most in
+    omega (
+      arith,
+      count_below-some (λ q. not (is_taken s q)) (length s.context.line) p
+          (present_in_line s p free) (ap not free),
+    )
 
 -- what is taken stays so
 pub put_stays : (s : Situation) (p q : ℕ) → is_taken s q ≡ true → is_taken (put s p) q ≡ true
@@ -120,7 +152,8 @@ put_stays s p q there = ⊎_elim
 
 -- no place is present in scope where the first such place is not below the scope's end
 pub none_open : (s : Situation) (p : ℕ) → IsFirstPresent s p → s.end ≤ p → open_count s ≡ 0
-none_open s p first past = count_below-none (is_open s) (length s.context.line) (λ q _. by_scope q (in_scope s q) refl)
+none_open s p first past = count_below-none (is_open s) (length s.context.line)
+    (λ q _. by_scope q (in_scope s q) refl)
   where
     by_scope : (q : ℕ) (b : Bool) → in_scope s q ≡ b → is_open s q ≡ false
     by_scope q true e =
@@ -129,17 +162,21 @@ none_open s p first past = count_below-none (is_open s) (length s.context.line) 
     by_scope q false e = and_left (in_scope s q) _ e
 
 -- without its last place the trail is that place's turn
-pub last_put : (s : Situation) → 0 < length s.trail → put (cut_to s (length s.trail - 1)) (slice_index s.trail (length s.trail - 1)) ≡ s
+pub last_put : (s : Situation) → 0 < length s.trail
+    → put (cut_to s (length s.trail - 1)) (slice_index s.trail (length s.trail - 1)) ≡ s
 last_put s some =
     let n = length s.trail - 1 in
     let next : n + 1 ≡ length s.trail = omega arith in
-    ap (with_trail s) (sym (take_more s.trail n 0 (omega arith)) ∙ (ap (λ k. take k s.trail) next ∙ take_all (length s.trail) s.trail (omega arith)))
+    ap (with_trail s) (sym (take_more s.trail n 0 (omega arith))
+    ∙ (ap (λ k. take k s.trail) next ∙ take_all (length s.trail) s.trail (omega arith)))
 
 -- the places of a part of the trail were present in their turn too
-pub in_turn_cut : (s : Situation) (n : ℕ) → TakenInTurn s → n ≤ length s.trail → TakenInTurn (cut_to s n)
+pub in_turn_cut : (s : Situation) (n : ℕ) → TakenInTurn s → n ≤ length s.trail
+    → TakenInTurn (cut_to s n)
 in_turn_cut s n turns inside k within =
     let below : k < n = omega (arith, length-take-le n s.trail inside) in
-    rw (take-take k n s.trail (omega arith), get_or-take n s.trail k 0 below) (turns k (omega arith))
+    rw (take-take k n s.trail (omega arith), get_or-take n s.trail k 0 below)
+    (turns k (omega arith))
 
 -- what isn't taken with one place more isn't taken without it
 pub present_still : (s : Situation) (p q : ℕ) → is_taken (put s p) q ≡ false → is_taken s q ≡ false
@@ -149,7 +186,8 @@ present_still s p q free = ⊎_elim
     (cases_Bool (is_taken s q))
 
 -- without the place that was put, the first present one is it or the old one
-pub first_without : (s : Situation) (p first : ℕ) → IsFirstPresent (put s p) first → is_taken s p ≡ false → IsFirstPresent s (if in_scope s p then min first p else first)
+pub first_without : (s : Situation) (p first : ℕ) → IsFirstPresent (put s p) first
+    → is_taken s p ≡ false → IsFirstPresent s (if in_scope s p then min first p else first)
 first_without s p first old free = by_scope (in_scope s p) refl
   where
     by_scope : (b : Bool) → in_scope s p ≡ b → IsFirstPresent s (if b then min first p else first)
@@ -159,16 +197,20 @@ first_without s p first old free = by_scope (in_scope s p) refl
           from = omega (arith, old.from);
           within = omega (arith, inside);
           present = λ below. ⊎_elim
-              (λ (before : first < p). let at : min first p ≡ first = omega arith in rw at (present_still s p first (old.present (omega arith))))
+              (λ (before : first < p). let at : min first p ≡ first = omega arith in rw at
+              (present_still s p first (old.present (omega arith))))
               (λ (behind : p ≤ first). let at : min first p ≡ p = omega arith in rw at free)
               (cases_lt first p);
-          passed = λ q lower upper. sym (put_other s p q (λ at. absurd (omega arith))) ∙ old.passed q lower (omega arith);
+          passed = λ q lower upper. sym (put_other s p q (λ at. absurd (omega arith)))
+              ∙ old.passed q lower (omega arith);
         }
     by_scope false e = record {
       from = old.from;
       within = old.within;
       present = λ below. present_still s p first (old.present below);
-      passed = λ q lower upper. sym (put_other s p q (λ at. absurd (true≢false (sym (in_it q lower (omega (arith, old.within))) ∙ (ap (in_scope s) at ∙ e))))) ∙ old.passed q lower upper;
+      passed = λ q lower upper. sym (put_other s p q
+          (λ at. absurd (true≢false (sym (in_it q lower (omega (arith, old.within)))
+          ∙ (ap (in_scope s) at ∙ e))))) ∙ old.passed q lower upper;
     }
       where
         in_it : (q : ℕ) → s.start ≤ q → q < s.end → in_scope s q ≡ true
@@ -183,7 +225,8 @@ pub taken_other : (s : Situation) (p q : ℕ) → q ≢ p → is_taken (take_pla
 taken_other s p q other = put_other s p q other
 
 -- what was taken stays taken
-pub taken_stays : (s : Situation) (p q : ℕ) → is_taken s q ≡ true → is_taken (take_place s p) q ≡ true
+pub taken_stays : (s : Situation) (p q : ℕ) → is_taken s q ≡ true
+    → is_taken (take_place s p) q ≡ true
 taken_stays s p q taken = put_stays s p q taken
 
 -- the scope is as it was
@@ -191,23 +234,28 @@ pub scope_after_take : (s : Situation) (p q : ℕ) → in_scope (take_place s p)
 scope_after_take s p q = refl
 
 -- another scope leaves each item
-pub item_after_scope : (s : Situation) (start end p : ℕ) → item_at (with_scope s start end) p ≡ item_at s p
+pub item_after_scope : (s : Situation) (start end p : ℕ)
+    → item_at (with_scope s start end) p ≡ item_at s p
 item_after_scope s start end p = refl
 
 -- another scope leaves what is taken
-pub taken_after_scope : (s : Situation) (start end p : ℕ) → is_taken (with_scope s start end) p ≡ is_taken s p
+pub taken_after_scope : (s : Situation) (start end p : ℕ)
+    → is_taken (with_scope s start end) p ≡ is_taken s p
 taken_after_scope s start end p = refl
 
 -- the places from its start up to its end are in it
-pub in_new_scope : (s : Situation) (start end p : ℕ) → in_scope (with_scope s start end) p ≡ (nat_le start p && nat_lt p end)
+pub in_new_scope : (s : Situation) (start end p : ℕ)
+    → in_scope (with_scope s start end) p ≡ (nat_le start p && nat_lt p end)
 in_new_scope s start end p = refl
 
 -- a place of the new scope is open in it where it isn't taken
-pub open_after_scope : (s : Situation) (start end p : ℕ) → is_open (with_scope s start end) p ≡ ((nat_le start p && nat_lt p end) && not (is_taken s p))
+pub open_after_scope : (s : Situation) (start end p : ℕ)
+    → is_open (with_scope s start end) p ≡ ((nat_le start p && nat_lt p end) && not (is_taken s p))
 open_after_scope s start end p = refl
 
 -- a scope and then another is that other
-pub scope_twice : (s : Situation) (a b start end : ℕ) → with_scope (with_scope s a b) start end ≡ with_scope s start end
+pub scope_twice : (s : Situation) (a b start end : ℕ)
+    → with_scope (with_scope s a b) start end ≡ with_scope s start end
 scope_twice s a b start end = refl
 
 -- the scope that is there already changes nothing
@@ -215,25 +263,31 @@ pub scope_as_it_was : (s : Situation) → with_scope s s.start s.end ≡ s
 scope_as_it_was s = refl
 
 -- a place taken under another scope is taken as under the old one
-pub take_in_scope : (s : Situation) (start end p : ℕ) → take_place (with_scope s start end) p ≡ with_scope (take_place s p) start end
+pub take_in_scope : (s : Situation) (start end p : ℕ)
+    → take_place (with_scope s start end) p ≡ with_scope (take_place s p) start end
 take_in_scope s start end p = refl
 
 -- a longer path leaves each item
-pub item_after_path : (s : Situation) (entry : List ℕ) (p : ℕ) → item_at (with_path s entry) p ≡ item_at s p
+pub item_after_path : (s : Situation) (entry : List ℕ) (p : ℕ)
+    → item_at (with_path s entry) p ≡ item_at s p
 item_after_path s entry p = refl
 
 -- a longer path leaves what is taken
-pub taken_after_path : (s : Situation) (entry : List ℕ) (p : ℕ) → is_taken (with_path s entry) p ≡ is_taken s p
+pub taken_after_path : (s : Situation) (entry : List ℕ) (p : ℕ)
+    → is_taken (with_path s entry) p ≡ is_taken s p
 taken_after_path s entry p = refl
 
 -- a longer path leaves what is open
-pub open_after_path : (s : Situation) (entry : List ℕ) (p : ℕ) → is_open (with_path s entry) p ≡ is_open s p
+pub open_after_path : (s : Situation) (entry : List ℕ) (p : ℕ)
+    → is_open (with_path s entry) p ≡ is_open s p
 open_after_path s entry p = refl
 
 -- a longer path leaves the count of open places
-pub open_count-with_path : (s : Situation) (entry : List ℕ) → open_count (with_path s entry) ≡ open_count s
+pub open_count-with_path : (s : Situation) (entry : List ℕ)
+    → open_count (with_path s entry) ≡ open_count s
 open_count-with_path s entry = refl
 
 -- another current place leaves what is open
-pub open_after_current : (s : Situation) (current : Option ℕ) (p : ℕ) → is_open (with_current s current) p ≡ is_open s p
+pub open_after_current : (s : Situation) (current : Option ℕ) (p : ℕ)
+    → is_open (with_current s current) p ≡ is_open s p
 open_after_current s current p = refl

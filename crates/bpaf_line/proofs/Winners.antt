@@ -16,10 +16,13 @@ use Rattle.bpaf_line.proofs.Marks.{can_redo}
 use Rattle.bpaf_line.proofs.Places.{is_on_push, on_others, present_in_line}
 
 -- what is taken with more places on the trail
-taken_with : (s : Situation) (more : List ℕ) (q : ℕ) → is_taken (with_trail s (s.trail ++ more)) q ≡ (is_taken s q || is_on more q)
+taken_with : (s : Situation) (more : List ℕ) (q : ℕ)
+    → is_taken (with_trail s (s.trail ++ more)) q ≡ (is_taken s q || is_on more q)
 taken_with s more q =
-    ap (λ b. not (nat_lt q (length s.context.line)) || (is_marker s.context.marker q || b)) (list_any-append (λ x. x == q) s.trail more)
-    ∙ moved (not (nat_lt q (length s.context.line))) (is_marker s.context.marker q) (is_on s.trail q) (is_on more q)
+    ap (λ b. not (nat_lt q (length s.context.line)) || (is_marker s.context.marker q || b))
+    (list_any-append (λ x. x == q) s.trail more)
+    ∙ moved (not (nat_lt q (length s.context.line))) (is_marker s.context.marker q)
+    (is_on s.trail q) (is_on more q)
   where
     moved : (x y a b : Bool) → (x || (y || (a || b))) ≡ ((x || (y || a)) || b)
     moved true y a b = refl
@@ -32,15 +35,21 @@ neither false b e = refl
 neither true b e = e
 
 -- places that are present in turn are present at first
-present_at_first : (s : Situation) (places : List ℕ) → PresentInTurn s places → (n : ℕ) → n ≤ length places → (q : ℕ) → is_on (take n places) q ≡ true → is_taken s q ≡ false
+present_at_first : (s : Situation) (places : List ℕ) → PresentInTurn s places → (n : ℕ)
+    → n ≤ length places → (q : ℕ) → is_on (take n places) q ≡ true → is_taken s q ≡ false
 present_at_first s places turns zero within q on = absurd (true≢false (sym on))
 present_at_first s places turns (suc n) within q on =
     let p = slice_index places n in
-    let next : take (suc n) places ≡ take n places ++ p ∷ [] = ap (λ k. take k places) (sym (add-one n)) ∙ take_more places n 0 (omega arith) in
-    let either : (is_on (take n places) q || (p == q)) ≡ true = sym (ap (λ ps. is_on ps q) next ∙ is_on_push (take n places) p q) ∙ on in
+    let next : take (suc n) places ≡ take n places ++ p ∷ [] = ap (λ k. take k places)
+    (sym (add-one n)) ∙ take_more places n 0 (omega arith) in
+    let either : (is_on (take n places) q || (p == q)) ≡ true = sym
+    (ap (λ ps. is_on ps q) next ∙ is_on_push (take n places) p q) ∙ on in
     ⊎_elim
-    (λ (at : q ≡ p). ap (is_taken s) at ∙ neither (is_taken s p) (is_on (take n places) p) (sym (taken_with s (take n places) p) ∙ turns n (omega arith)))
-    (λ (other : q ≢ p). present_at_first s places turns n (omega arith) q (first_of (is_on (take n places) q) (p == q) (ne_eqb p q (λ e. other (sym e))) either))
+    (λ (at : q ≡ p). ap (is_taken s) at
+    ∙ neither (is_taken s p) (is_on (take n places) p)
+    (sym (taken_with s (take n places) p) ∙ turns n (omega arith)))
+    (λ (other : q ≢ p). present_at_first s places turns n (omega arith) q
+    (first_of (is_on (take n places) q) (p == q) (ne_eqb p q (λ e. other (sym e))) either))
     (cases_eq q p)
   where
     first_of : (a b : Bool) → b ≡ false → (a || b) ≡ true → a ≡ true
@@ -48,52 +57,71 @@ present_at_first s places turns (suc n) within q on =
     first_of false b e f = absurd (true≢false (sym f ∙ e))
 
 -- all of them are
-present_all : (s : Situation) (places : List ℕ) → PresentInTurn s places → (q : ℕ) → is_on places q ≡ true → is_taken s q ≡ false
+present_all : (s : Situation) (places : List ℕ) → PresentInTurn s places → (q : ℕ)
+    → is_on places q ≡ true → is_taken s q ≡ false
 present_all s places turns q on =
-    let whole : take (length places) places ≡ places = take_all (length places) places (omega arith) in
-    present_at_first s places turns (length places) (omega arith) q (ap (λ ps. is_on ps q) whole ∙ on)
+    let whole : take (length places) places ≡ places = take_all (length places) places (omega arith)
+    in
+    present_at_first s places turns (length places) (omega arith) q
+    (ap (λ ps. is_on ps q) whole ∙ on)
 
 module _ (s : Situation) (mark : Mark) (steps : Changes) where
   -- what is taken here was taken up to the mark, or since
-  taken_own : (q : ℕ) → is_taken s q ≡ (is_taken (undone mark s) q || is_on (drop mark.taken s.trail) q)
+  taken_own : (q : ℕ) → is_taken s q ≡
+      (is_taken (undone mark s) q || is_on (drop mark.taken s.trail) q)
   taken_own q =
       ap (λ trail. is_taken (with_trail s trail) q) (sym (take-append-drop mark.taken s.trail))
       ∙ taken_with (undone mark s) (drop mark.taken s.trail) q
 
   -- what is taken there was taken up to the mark, or by the steps
-  taken_there : (q : ℕ) → is_taken (redone steps (undone mark s)) q ≡ (is_taken (undone mark s) q || is_on steps.taken q)
+  taken_there : (q : ℕ) → is_taken (redone steps (undone mark s)) q ≡
+      (is_taken (undone mark s) q || is_on steps.taken q)
   taken_there q = taken_with (undone mark s) steps.taken q
 
   -- a place that is present here is taken there where the steps took it
-  pub excluded_there : (winner p : ℕ) → (if not (is_taken s p) && is_on steps.taken p then Some winner else None) ≡ excluded_at s (redone steps (undone mark s)) winner p
+  pub excluded_there : (winner p : ℕ)
+      → (if not (is_taken s p) && is_on steps.taken p then Some winner else None) ≡ excluded_at s
+      (redone steps (undone mark s)) winner p
   excluded_there winner p =
       ap (λ b. if b then Some winner else None)
-      (either_way (is_taken s p) (is_taken (undone mark s) p) (is_on (drop mark.taken s.trail) p) (is_on steps.taken p) (taken_own p)
+      (either_way (is_taken s p) (is_taken (undone mark s) p) (is_on (drop mark.taken s.trail) p)
+      (is_on steps.taken p) (taken_own p)
       ∙ ap (λ b. not (is_taken s p) && b) (sym (taken_there p)))
     where
-      either_way : (x base mine theirs : Bool) → x ≡ (base || mine) → (not x && theirs) ≡ (not x && (base || theirs))
+      either_way : (x base mine theirs : Bool) → x ≡ (base || mine)
+          → (not x && theirs) ≡ (not x && (base || theirs))
       either_way true base mine theirs e = refl
       either_way false false mine theirs e = refl
       either_way false true mine theirs e = absurd (true≢false (sym e))
 
-  module _ (turns : PresentInTurn (undone mark s) (drop mark.taken s.trail)) (redo : CanRedo steps (undone mark s)) where
+  module _ (turns : PresentInTurn (undone mark s) (drop mark.taken s.trail))
+      (redo : CanRedo steps (undone mark s)) where
     -- where both took the same it is taken in both or in none
-    same_both : (q : ℕ) → is_in_first (drop mark.taken s.trail) steps.taken q ≡ false → is_in_first steps.taken (drop mark.taken s.trail) q ≡ false → is_taken s q ≡ is_taken (redone steps (undone mark s)) q
+    same_both : (q : ℕ) → is_in_first (drop mark.taken s.trail) steps.taken q ≡ false
+        → is_in_first steps.taken (drop mark.taken s.trail) q ≡ false
+        → is_taken s q ≡ is_taken (redone steps (undone mark s)) q
     same_both q mine theirs =
-        taken_own q ∙ (same_in (is_taken (undone mark s) q) (is_on (drop mark.taken s.trail) q) (is_on steps.taken q) mine theirs ∙ sym (taken_there q))
+        taken_own q ∙ (same_in (is_taken (undone mark s) q) (is_on (drop mark.taken s.trail) q)
+        (is_on steps.taken q) mine theirs ∙ sym (taken_there q))
       where
-        same_in : (base a b : Bool) → (a && not b) ≡ false → (b && not a) ≡ false → (base || a) ≡ (base || b)
+        same_in : (base a b : Bool) → (a && not b) ≡ false → (b && not a) ≡ false
+            → (base || a) ≡ (base || b)
         same_in base true true e f = refl
         same_in base false false e f = refl
         same_in base true false e f = absurd (true≢false e)
         same_in base false true e f = absurd (true≢false f)
 
     -- what only this one took is taken in it alone
-    only_here : (q : ℕ) → is_in_first (drop mark.taken s.trail) steps.taken q ≡ true → (is_taken s q ≡ true) × (is_taken (redone steps (undone mark s)) q ≡ false)
+    only_here : (q : ℕ) → is_in_first (drop mark.taken s.trail) steps.taken q ≡ true
+        → (is_taken s q ≡ true) × (is_taken (redone steps (undone mark s)) q ≡ false)
     only_here q alone =
         let parts = both_of (is_on (drop mark.taken s.trail) q) (is_on steps.taken q) alone in
-        let free = present_all (undone mark s) (drop mark.taken s.trail) turns q parts.0 in
-        (taken_own q ∙ by_second (is_taken (undone mark s) q) (is_on (drop mark.taken s.trail) q) parts.0, taken_there q ∙ by_none (is_taken (undone mark s) q) (is_on steps.taken q) free parts.1)
+        let free = present_all (undone mark s) (drop mark.taken s.trail) turns q parts.0 in (
+          taken_own q ∙ by_second (is_taken (undone mark s) q) (is_on (drop mark.taken s.trail) q)
+              parts.0,
+          taken_there q ∙ by_none (is_taken (undone mark s) q) (is_on steps.taken q) free
+              parts.1,
+        )
       where
         both_of : (a b : Bool) → (a && not b) ≡ true → (a ≡ true) × (b ≡ false)
         both_of true false e = (refl, refl)
@@ -109,11 +137,16 @@ module _ (s : Situation) (mark : Mark) (steps : Changes) where
         by_none true b e f = e
 
     -- what only the steps took is taken there alone
-    only_there : (q : ℕ) → is_in_first steps.taken (drop mark.taken s.trail) q ≡ true → (is_taken s q ≡ false) × (is_taken (redone steps (undone mark s)) q ≡ true)
+    only_there : (q : ℕ) → is_in_first steps.taken (drop mark.taken s.trail) q ≡ true
+        → (is_taken s q ≡ false) × (is_taken (redone steps (undone mark s)) q ≡ true)
     only_there q alone =
         let parts = both_of (is_on steps.taken q) (is_on (drop mark.taken s.trail) q) alone in
-        let free = present_all (undone mark s) steps.taken redo.present q parts.0 in
-        (taken_own q ∙ by_none (is_taken (undone mark s) q) (is_on (drop mark.taken s.trail) q) free parts.1, taken_there q ∙ by_second (is_taken (undone mark s) q) (is_on steps.taken q) parts.0)
+        let free = present_all (undone mark s) steps.taken redo.present q parts.0 in (
+          taken_own q ∙ by_none (is_taken (undone mark s) q) (is_on (drop mark.taken s.trail) q) free
+              parts.1,
+          taken_there q ∙ by_second (is_taken (undone mark s) q) (is_on steps.taken q)
+              parts.0,
+        )
       where
         both_of : (a b : Bool) → (a && not b) ≡ true → (a ≡ true) × (b ≡ false)
         both_of true false e = (refl, refl)
@@ -129,28 +162,38 @@ module _ (s : Situation) (mark : Mark) (steps : Changes) where
         by_none true b e f = e
 
     -- the leftmost is the leftmost of the first of either's own places
-    leftmost_here : (p : ℕ) → is_in_first (drop mark.taken s.trail) steps.taken p ≡ true → ((q : ℕ) → q < p → is_taken s q ≡ is_taken (redone steps (undone mark s)) q)
+    leftmost_here : (p : ℕ) → is_in_first (drop mark.taken s.trail) steps.taken p ≡ true
+        → ((q : ℕ) → q < p → is_taken s q ≡ is_taken (redone steps (undone mark s)) q)
         → IsWinner s (redone steps (undone mark s)) (true, Some p)
     leftmost_here p alone before =
         let parts = only_here p alone in
         (record { differs = parts.0 ∙ sym (ap not parts.1); first = before }, parts.0)
 
-    leftmost_there : (p : ℕ) → is_in_first steps.taken (drop mark.taken s.trail) p ≡ true → ((q : ℕ) → q < p → is_taken s q ≡ is_taken (redone steps (undone mark s)) q)
+    leftmost_there : (p : ℕ) → is_in_first steps.taken (drop mark.taken s.trail) p ≡ true
+        → ((q : ℕ) → q < p → is_taken s q ≡ is_taken (redone steps (undone mark s)) q)
         → IsWinner s (redone steps (undone mark s)) (false, Some p)
     leftmost_there p alone before =
         let parts = only_there p alone in
         (record { differs = parts.0 ∙ sym (ap not parts.1); first = before }, parts.0)
 
-    pub winner_is : (a b : Option ℕ) → IsLeastIn (is_in_first (drop mark.taken s.trail) steps.taken) a → IsLeastIn (is_in_first steps.taken (drop mark.taken s.trail)) b
+    pub winner_is : (a b : Option ℕ)
+        → IsLeastIn (is_in_first (drop mark.taken s.trail) steps.taken) a
+        → IsLeastIn (is_in_first steps.taken (drop mark.taken s.trail)) b
         → IsWinner s (redone steps (undone mark s)) (leftmost_of a b)
     winner_is None None mine theirs = (λ q. same_both q (mine q) (theirs q), refl)
-    winner_is (Some p) None mine theirs = leftmost_here p mine.0 (λ q below. same_both q (mine.1 q below) (theirs q))
-    winner_is None (Some r) mine theirs = leftmost_there r theirs.0 (λ q below. same_both q (mine q) (theirs.1 q below))
+    winner_is (Some p) None mine theirs = leftmost_here p mine.0
+        (λ q below. same_both q (mine.1 q below) (theirs q))
+    winner_is None (Some r) mine theirs = leftmost_there r theirs.0
+        (λ q below. same_both q (mine q) (theirs.1 q below))
     winner_is (Some p) (Some r) mine theirs = by_order (nat_lt p r) refl
       where
-        by_order : (b : Bool) → nat_lt p r ≡ b → IsWinner s (redone steps (undone mark s)) (if b then (true, Some p) else (false, Some r))
-        by_order true e = let order : p < r = ltb-true p r e in leftmost_here p mine.0 (λ q below. same_both q (mine.1 q below) (theirs.1 q (omega arith)))
-        by_order false e = let order : r ≤ p = ltb-false p r e in leftmost_there r theirs.0 (λ q below. same_both q (mine.1 q (omega arith)) (theirs.1 q below))
+        by_order : (b : Bool) → nat_lt p r ≡ b
+            → IsWinner s (redone steps (undone mark s))
+            (if b then (true, Some p) else (false, Some r))
+        by_order true e = let order : p < r = ltb-true p r e in leftmost_here p mine.0
+            (λ q below. same_both q (mine.1 q below) (theirs.1 q (omega arith)))
+        by_order false e = let order : r ≤ p = ltb-false p r e in leftmost_there r theirs.0
+            (λ q below. same_both q (mine.1 q (omega arith)) (theirs.1 q below))
 
 -- the bits tell what own places and the others' are
 pub record AreApart (words own theirs : List ℕ) : Type 0 where
@@ -159,68 +202,100 @@ pub record AreApart (words own theirs : List ℕ) : Type 0 where
   pub set : (q : ℕ) → is_on own q ≡ true → has_bit words q ≡ true
   pub clear : (q : ℕ) → is_on theirs q ≡ true → is_on own q ≡ false → has_bit words q ≡ false
 
-module _ (i : Inside) (s : Situation) (mark : Mark) (steps : Changes) (sound : IsSound i) (view : situation_of i ≡ s) (reached : HasReached mark s) (redo : CanRedo steps (undone mark s)) where
-  -- each place since the mark was present there in its turn
-  turns : PresentInTurn (undone mark s) (drop mark.taken s.trail)
-  turns = (can_redo mark s reached (subst TakenInTurn view sound.in_turn) (subst (λ t. t.start ≤ t.end) view sound.ordered) (subst (λ t. t.end ≤ length t.context.line) view sound.inside)).present
+module _ (i : Inside) (s : Situation) (mark : Mark) (steps : Changes) (sound : IsSound i)
+    (view : situation_of i ≡ s) (reached : HasReached mark s) (redo : CanRedo steps (undone mark s))
+  where
+    -- each place since the mark was present there in its turn
+    turns : PresentInTurn (undone mark s) (drop mark.taken s.trail)
+    turns = (can_redo mark s reached (subst TakenInTurn view sound.in_turn)
+        (subst (λ t. t.start ≤ t.end) view sound.ordered)
+        (subst (λ t. t.end ≤ length t.context.line) view sound.inside)).present
 
-  -- the bits are those of the situation
-  bits : BitsOf s i.words.items
-  bits = subst (λ t. BitsOf t i.words.items) view sound.bits
+    -- the bits are those of the situation
+    bits : BitsOf s i.words.items
+    bits = subst (λ t. BitsOf t i.words.items) view sound.bits
 
-  -- a place that is present at the mark has a bit
-  in_words : (q : ℕ) → is_taken (undone mark s) q ≡ false → q < 64 * length i.words.items
-  in_words q free = omega (arith, present_in_line (undone mark s) q free, ap (λ t. length t.context.line) view, sound.worded)
+    -- a place that is present at the mark has a bit
+    in_words : (q : ℕ) → is_taken (undone mark s) q ≡ false → q < 64 * length i.words.items
+    in_words q free = omega (
+      arith,
+      present_in_line (undone mark s) q free,
+      ap
+          (λ t. length t.context.line) view,
+      sound.worded,
+    )
 
-  -- the bits tell the places since the mark and those of the steps
-  apart : AreApart i.words.items (drop mark.taken s.trail) steps.taken
-  apart = record {
-    own_within = λ q on. in_words q (present_all (undone mark s) (drop mark.taken s.trail) turns q on);
-    within = λ q on. in_words q (present_all (undone mark s) steps.taken redo.present q on);
-    set = λ q on.
-        let free = present_all (undone mark s) (drop mark.taken s.trail) turns q on in
-        bits q (present_in_line (undone mark s) q free) ∙ (taken_own s mark steps q ∙ or_right (is_taken (undone mark s) q) _ on);
-    clear = λ q on off.
-        let free = present_all (undone mark s) steps.taken redo.present q on in
-        bits q (present_in_line (undone mark s) q free) ∙ (taken_own s mark steps q ∙ by_none (is_taken (undone mark s) q) _ free off);
-  }
-    where
-      by_none : (a b : Bool) → a ≡ false → b ≡ false → (a || b) ≡ false
-      by_none false b e f = f
-      by_none true b e f = e
+    -- the bits tell the places since the mark and those of the steps
+    apart : AreApart i.words.items (drop mark.taken s.trail) steps.taken
+    apart = record {
+      own_within = λ q on. in_words q
+          (present_all (undone mark s) (drop mark.taken s.trail) turns q on);
+      within = λ q on. in_words q (present_all (undone mark s) steps.taken redo.present q on);
+      set = λ q on.
+          let free = present_all (undone mark s) (drop mark.taken s.trail) turns q on in
+          bits q (present_in_line (undone mark s) q free)
+          ∙ (taken_own s mark steps q ∙ or_right (is_taken (undone mark s) q) _ on);
+      clear = λ q on off.
+          let free = present_all (undone mark s) steps.taken redo.present q on in
+          bits q (present_in_line (undone mark s) q free)
+          ∙ (taken_own s mark steps q ∙ by_none (is_taken (undone mark s) q) _ free off);
+    }
+      where
+        by_none : (a b : Bool) → a ≡ false → b ≡ false → (a || b) ≡ false
+        by_none false b e f = f
+        by_none true b e f = e
 
-  -- also where they are known by other names
-  pub apart_as : (words own theirs : List ℕ) → words ≡ i.words.items → own ≡ drop mark.taken s.trail → theirs ≡ steps.taken → AreApart words own theirs
-  apart_as words own theirs same_words same_own same_theirs = rw (same_words, same_own, same_theirs) apart
+    -- also where they are known by other names
+    pub apart_as : (words own theirs : List ℕ) → words ≡ i.words.items → own ≡ drop mark.taken s.trail
+        → theirs ≡ steps.taken → AreApart words own theirs
+    apart_as words own theirs same_words same_own same_theirs = rw (same_words, same_own, same_theirs)
+        apart
 
-  -- and the first of either tells the winner
-  pub winner_as : (own theirs : List ℕ) → own ≡ drop mark.taken s.trail → theirs ≡ steps.taken → (a b : Option ℕ) → IsLeastIn (is_in_first own theirs) a → IsLeastIn (is_in_first theirs own) b
-      → IsWinner s (redone steps (undone mark s)) (leftmost_of a b)
-  winner_as own theirs same_own same_theirs a b mine other =
-      winner_is s mark steps turns redo a b
-      (subst (λ ps. IsLeastIn (is_in_first (drop mark.taken s.trail) ps) a) same_theirs (subst (λ ps. IsLeastIn (is_in_first ps theirs) a) same_own mine))
-      (subst (λ ps. IsLeastIn (is_in_first ps (drop mark.taken s.trail)) b) same_theirs (subst (λ ps. IsLeastIn (is_in_first theirs ps) b) same_own other))
+    -- and the first of either tells the winner
+    pub winner_as : (own theirs : List ℕ) → own ≡ drop mark.taken s.trail → theirs ≡ steps.taken
+        → (a b : Option ℕ) → IsLeastIn (is_in_first own theirs) a
+        → IsLeastIn (is_in_first theirs own) b
+        → IsWinner s (redone steps (undone mark s)) (leftmost_of a b)
+    winner_as own theirs same_own same_theirs a b mine other =
+        winner_is s mark steps turns redo a b
+        (subst (λ ps. IsLeastIn (is_in_first (drop mark.taken s.trail) ps) a) same_theirs
+        (subst (λ ps. IsLeastIn (is_in_first ps theirs) a) same_own mine))
+        (subst (λ ps. IsLeastIn (is_in_first ps (drop mark.taken s.trail)) b) same_theirs
+        (subst (λ ps. IsLeastIn (is_in_first theirs ps) b) same_own other))
 
 -- the pairs of those of some places that are present
 abbrev pub PairsOf : Situation → ℕ → List ℕ → List (ℕ × ℕ) → Type 0
-PairsOf s winner places pairs = (p : ℕ) → last_of pairs p ≡ (if not (is_taken s p) && is_on places p then Some winner else None)
+PairsOf s winner places pairs = (p : ℕ)
+    → last_of pairs p ≡ (if not (is_taken s p) && is_on places p then Some winner else None)
 
 -- a present place more has its pair
-pub pairs_more : (s : Situation) (winner : ℕ) (places : List ℕ) (pairs : List (ℕ × ℕ)) (n : ℕ) → PairsOf s winner places pairs → is_taken s n ≡ false → PairsOf s winner (places ++ n ∷ []) (pairs ++ (n, winner) ∷ [])
+pub pairs_more : (s : Situation) (winner : ℕ) (places : List ℕ) (pairs : List (ℕ × ℕ)) (n : ℕ)
+    → PairsOf s winner places pairs → is_taken s n ≡ false
+    → PairsOf s winner (places ++ n ∷ []) (pairs ++ (n, winner) ∷ [])
 pairs_more s winner places pairs n h free p = ⊎_elim
-    (λ (at : p ≡ n). subst (λ q. last_of (pairs ++ (n, winner) ∷ []) q ≡ (if not (is_taken s q) && is_on (places ++ n ∷ []) q then Some winner else None)) (sym at)
-    (last_of_here pairs n winner ∙ sym (ap (λ b. if not b && is_on (places ++ n ∷ []) n then Some winner else None) free ∙ ap (λ b. if b then Some winner else None) (is_on_push places n n ∙ or_right (is_on places n) _ (eq-eqb n n refl)))))
-    (λ (other : p ≢ n). last_of_other pairs n p winner other ∙ (h p ∙ ap (λ b. if not (is_taken s p) && b then Some winner else None) (sym (on_others places n p other))))
+    (λ (at : p ≡ n). subst (λ q. last_of (pairs ++ (n, winner) ∷ []) q ≡
+    (if not (is_taken s q) && is_on (places ++ n ∷ []) q then Some winner else None)) (sym at)
+    (last_of_here pairs n winner ∙ sym
+    (ap (λ b. if not b && is_on (places ++ n ∷ []) n then Some winner else None) free
+    ∙ ap (λ b. if b then Some winner else None)
+    (is_on_push places n n ∙ or_right (is_on places n) _ (eq-eqb n n refl)))))
+    (λ (other : p ≢ n). last_of_other pairs n p winner other
+    ∙ (h p ∙ ap (λ b. if not (is_taken s p) && b then Some winner else None)
+    (sym (on_others places n p other))))
     (cases_eq p n)
 
 -- and a taken one has none
-pub pairs_not : (s : Situation) (winner : ℕ) (places : List ℕ) (pairs : List (ℕ × ℕ)) (n : ℕ) → PairsOf s winner places pairs → is_taken s n ≡ true → PairsOf s winner (places ++ n ∷ []) pairs
+pub pairs_not : (s : Situation) (winner : ℕ) (places : List ℕ) (pairs : List (ℕ × ℕ)) (n : ℕ)
+    → PairsOf s winner places pairs → is_taken s n ≡ true
+    → PairsOf s winner (places ++ n ∷ []) pairs
 pairs_not s winner places pairs n h taken p = ⊎_elim
     (λ (at : p ≡ n).
     let none = taken_one p (ap (is_taken s) at ∙ taken) in
     h p ∙ (none (is_on places p) ∙ sym (none (is_on (places ++ n ∷ []) p))))
-    (λ (other : p ≢ n). h p ∙ ap (λ b. if not (is_taken s p) && b then Some winner else None) (sym (on_others places n p other)))
+    (λ (other : p ≢ n). h p ∙ ap (λ b. if not (is_taken s p) && b then Some winner else None)
+    (sym (on_others places n p other)))
     (cases_eq p n)
   where
-    taken_one : (q : ℕ) → is_taken s q ≡ true → (b : Bool) → (if not (is_taken s q) && b then Some winner else None) ≡ None
+    taken_one : (q : ℕ) → is_taken s q ≡ true → (b : Bool)
+        → (if not (is_taken s q) && b then Some winner else None) ≡ None
     taken_one q e b = ap (λ t. if not t && b then Some winner else None) e

@@ -9,7 +9,8 @@ use Rattle.bpaf_line.specs.Messages.{is_memory, can_catch}
 abbrev pub CombinesSpared : Message → Message → Message → Type 0
 CombinesSpared (ParseFailure failure) second both = both ≡ ParseFailure failure
 CombinesSpared first (ParseFailure failure) both = both ≡ ParseFailure failure
-CombinesSpared (Missing items) (Missing others) both = (both ≡ Missing (items ++ others)) ⊎ (both ≡ Memory)
+CombinesSpared (Missing items) (Missing others) both = (both ≡ Missing (items ++ others))
+    ⊎ (both ≡ Memory)
 CombinesSpared first second both = both ≡ (if can_catch first then second else first)
 
 -- want of memory, where one of the two is

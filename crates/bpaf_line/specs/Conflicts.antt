@@ -19,7 +19,8 @@ abbrev pub IsWinner : Situation → Situation → Bool × Option ℕ → Type 0
 IsWinner s other (here, None) = TakeTheSame s other × (here ≡ true)
 IsWinner s other (here, Some p) = IsLeftmost s other p × (is_taken s p ≡ here)
 
--- of a place of the one and a place of the other, where there are such, the leftmost, and whether it
+-- of a place of the one and a place of the other, where there are such, the leftmost, and whether
+-- it
 -- is that of the one
 abbrev pub leftmost_of : Option ℕ → Option ℕ → Bool × Option ℕ
 leftmost_of None None = (true, None)
@@ -37,7 +38,8 @@ pub record ConflictsSaved (s loser : Situation) (winner : ℕ) (t : Situation) :
   pub current : t.current ≡ s.current
   pub taken : (p : ℕ) → is_taken t p ≡ is_taken s p
   pub marks : KeepsMarks s t
-  pub marked : (p : ℕ) → conflict_at t p ≡ (if not (is_taken s p) && is_taken loser p then Some winner else conflict_at s p)
+  pub marked : (p : ℕ) → conflict_at t p ≡
+      (if not (is_taken s p) && is_taken loser p then Some winner else conflict_at s p)
 
 -- the first of some places, and what its conflict mark names, where it has one
 abbrev pub first_named : Situation → List (ℕ × Arg) → Option (ℕ × ℕ)

@@ -29,5 +29,6 @@ RefusesLine known words m = ⊥
 -- `construct`: the state at the beginning of the words' line; or they have none; or memory is
 -- wanted
 abbrev pub Constructs : Known → Given → Result Situation Message → Type 0
-Constructs known given (Ok s) = (context : Context) × IsContext known given context × (s ≡ beginning context)
+Constructs known given (Ok s) = (context : Context) × IsContext known given context ×
+    (s ≡ beginning context)
 Constructs known given (Err m) = RefusesLine known given.words m

@@ -21,7 +21,8 @@ pub record HasReached (mark : Mark) (s : Situation) : Type 0 where
   pub conflicts : mark.conflicts ≤ length s.conflicts
   pub depth : mark.depth ≤ length s.path
 
--- a parse can go back to the mark: it has reached it, the mark's scope lies in the line, and its path
+-- a parse can go back to the mark: it has reached it, the mark's scope lies in the line, and its
+-- path
 -- has the set name
 pub record Fits (mark : Mark) (s : Situation) : Type 0 where
   pub reached : HasReached mark s

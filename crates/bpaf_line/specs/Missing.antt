@@ -12,4 +12,10 @@ pub record Missed : Type 0 where
 
 -- that of a value of the program
 abbrev pub missed_of : MissingItem → Missed
-missed_of m = record { item = part_of m.item; position = m.position; start = m.scope.start; «end» = m.scope.«end» }
+missed_of m = record {
+  item = part_of m.item;
+  position = m.position;
+  start = m.scope.start;
+  «end» =
+      m.scope.«end»;
+}

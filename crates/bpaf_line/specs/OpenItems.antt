@@ -12,7 +12,8 @@ placed_item s p = option_map (λ item. (p, item)) (open_item s p)
 
 -- those of the places from one on, up to the line's end
 abbrev pub open_items_from : Situation → ℕ → List (ℕ × Arg)
-open_items_from s from = filter_map (placed_item s) (range_with_len from (length s.context.line - from))
+open_items_from s from = filter_map (placed_item s)
+    (range_with_len from (length s.context.line - from))
 
 -- those of all places
 abbrev pub open_items : Situation → List (ℕ × Arg)

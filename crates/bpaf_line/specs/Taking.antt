@@ -40,7 +40,8 @@ abbrev pub value_after : Situation → ℕ → Option (List ℕ)
 value_after s p = option_and_then value_text (open_item s (p + 1))
 
 -- the first key and its value, which is this text, are taken
-pub record TakesValue (names : Names) (adjacent : Bool) (s : Situation) (text : List ℕ) (t : Situation) : Type 0 where
+pub record TakesValue (names : Names) (adjacent : Bool) (s : Situation) (text : List ℕ)
+    (t : Situation) : Type 0 where
   pub key : ℕ
   pub first : IsFirst (is_argument_key names adjacent) s key
   pub value : value_after s key ≡ Some text
@@ -48,26 +49,33 @@ pub record TakesValue (names : Names) (adjacent : Bool) (s : Situation) (text : 
 
 -- no value: the first key is named; or memory is wanted
 abbrev pub RefusesArgument : Names → Bool → List ℕ → Situation → Message → Type 0
-RefusesArgument names adjacent metavar s (NoArgument p m) = IsFirst (is_argument_key names adjacent) s p × (value_after s p ≡ None) × (m ≡ metavar)
+RefusesArgument names adjacent metavar s (NoArgument p m) = IsFirst (is_argument_key names adjacent)
+    s p × (value_after s p ≡ None) × (m ≡ metavar)
 RefusesArgument names adjacent metavar s Memory = ⊤
 RefusesArgument names adjacent metavar s m = ⊥
 
 -- `take_arg`: the first key and its value are taken; or there is no key; or a refusal; then nothing
 -- changes
-abbrev pub TakesArgument : Names → Bool → List ℕ → Situation → Result (Option (String Global)) Error → Situation → Type 0
-TakesArgument names adjacent metavar s (Ok (Some text)) t = TakesValue names adjacent s (string_bytes text) t
-TakesArgument names adjacent metavar s (Ok None) t = HasNone (is_argument_key names adjacent) s × (t ≡ s)
-TakesArgument names adjacent metavar s (Err e) t = RefusesArgument names adjacent metavar s e.0 × (t ≡ s)
+abbrev pub TakesArgument : Names → Bool → List ℕ → Situation → Result (Option (String Global)) Error
+    → Situation → Type 0
+TakesArgument names adjacent metavar s (Ok (Some text)) t = TakesValue names adjacent s
+    (string_bytes text) t
+TakesArgument names adjacent metavar s (Ok None) t = HasNone (is_argument_key names adjacent) s ×
+    (t ≡ s)
+TakesArgument names adjacent metavar s (Err e) t = RefusesArgument names adjacent metavar s e.0 ×
+    (t ≡ s)
 
 -- the first Word or PosWord is at this place, has this text, and is taken
-pub record TakesText (s : Situation) (place : ℕ) (strict : Bool) (text : List ℕ) (t : Situation) : Type 0 where
+pub record TakesText (s : Situation) (place : ℕ) (strict : Bool) (text : List ℕ) (t : Situation) :
+    Type 0 where
   pub first : IsFirst is_positional s place
   pub is : option_and_then word_text (item_at s place) ≡ Some (strict, text)
   pub taken : t ≡ take_place s place
 
 -- no word: a positional item is missing; or memory is wanted
 abbrev pub RefusesWord : List ℕ → Situation → Message → Type 0
-RefusesWord metavar s (Missing items) = HasNone is_positional s × IsMissingIn s (Some (Positional metavar None)) items
+RefusesWord metavar s (Missing items) = HasNone is_positional s × IsMissingIn s
+    (Some (Positional metavar None)) items
 RefusesWord metavar s Memory = ⊤
 RefusesWord metavar s m = ⊥
 
@@ -80,7 +88,8 @@ FindsWord metavar s (Err e) = RefusesWord metavar s e.0
 
 -- `take_positional_word`: the first word is taken: its place, whether it is a PosWord, its text; or
 -- a refusal; then nothing changes
-abbrev pub TakesWord : List ℕ → Situation → Result (ℕ × Bool × String Global) Error → Situation → Type 0
+abbrev pub TakesWord : List ℕ → Situation → Result (ℕ × Bool × String Global) Error → Situation
+    → Type 0
 TakesWord metavar s (Ok r) t = TakesText s r.0 r.1 (string_bytes r.2) t
 TakesWord metavar s (Err e) t = RefusesWord metavar s e.0 × (t ≡ s)
 
@@ -91,7 +100,8 @@ pub record IsCommandAt (word : List ℕ) (s : Situation) (p : ℕ) : Type 0 wher
 
 -- there is no present item in scope, or the first one isn't the word of the command
 abbrev pub HasNoCommand : List ℕ → Situation → Type 0
-HasNoCommand word s = (p : ℕ) → IsFirst any_item s p → option_map_or (is_command_word word) (item_at s p) false ≡ false
+HasNoCommand word s = (p : ℕ) → IsFirst any_item s p
+    → option_map_or (is_command_word word) (item_at s p) false ≡ false
 
 -- `take_cmd`: the first item is the word of the command, and is taken; or it isn't, and then no
 -- place is the current one

@@ -9,53 +9,11 @@ use crate::state::State;
 use std::alloc::AllocError;
 
 impl State {
-    /// The leftmost place that is taken in only one of two states, and whether it is taken in this one;
-    /// `(true, None)` where there is no such place. It takes no memory.
-    pub fn pick_winner(&self, other: &State) -> (bool, Option<usize>)
-        ensures { IsWinner self.now other.now result }
-    {
-        for place in 0..self.line_len().max(other.line_len()) {
-            let here = self.is_taken(place);
-            if here != other.is_taken(place) {
-                return (here, Some(place));
-            }
-        }
-        (true, None)
-    }
-
-    /// Gives each place that is present here and taken in the other state a conflict mark, which names
-    /// the place handed in. Refused only for want of memory, and then nothing changes.
-    ///
-    /// A place with a conflict mark is present.
-    pub fn save_conflicts(&mut self, loser: &State, winner: usize) -> Result<(), AllocError>
-        ensures ok { OnOk result (ConflictsSaved self.old loser.now winner self.new) }
-        ensures marks { KeepsMarks self.old self.new }
-        ensures err { OnErr result (self.new ≡ self.old) }
-    {
-        let mut pairs = self.excluded(loser, winner)?;
-        self.conflicts.append(&mut pairs)?;
-        Ok(())
-    }
-
-    /// The places that are present here and taken in the other state, each with the place handed in.
-    fn excluded(&self, loser: &State, winner: usize) -> Result<Vec<(usize, usize)>, AllocError>
-        ensures { IfOk result (λ pairs. (p : ℕ) → last_of pairs.items p
-            ≡ (if not (is_taken self.now p) && is_taken loser.now p then Some winner else None)) }
-    {
-        let mut pairs = Vec::new(self.alloc());
-        for place in 0..self.line_len() {
-            if !self.is_taken(place) && loser.is_taken(place) {
-                pairs.push((place, winner))?;
-            }
-        }
-        Ok(pairs)
-    }
-
-    /// The leftmost place that is taken in only one of two situations, and whether it is taken in this
-    /// one; `(true, None)` where there is no such place. The other one is that to which the steps lead
-    /// from the mark. It takes no memory, and the state is as before; it looks at the places taken since
-    /// the mark alone.
-    pub fn pick_winner_since(&mut self, mark: &Mark, other: &Steps) -> (bool, Option<usize>)
+    /// The leftmost place that is taken in only one of two situations, and whether it is taken in
+    /// this one; `(true, None)` where there is no such place. The other one is that to which the
+    /// steps lead from the mark. It takes no memory, and the state is as before; it looks at the
+    /// places taken since the mark alone.
+    pub fn pick_winner(&mut self, mark: &Mark, other: &Steps) -> (bool, Option<usize>)
         requires reached { HasReached mark.now self.old }
         requires steps { CanRedo other.now (undone mark.now self.old) }
         ensures winner { IsWinner self.old (redone other.now (undone mark.now self.old)) result }
@@ -66,22 +24,22 @@ impl State {
         leftmost(here, there)
     }
 
-    /// Gives each place that is present here and that the other steps took a conflict mark, which names
-    /// the place handed in: whatever mark these steps lead on from. Refused only for want of memory, and
-    /// then nothing changes.
-    pub fn save_conflicts_of(&mut self, loser: &Steps, winner: usize) -> Result<(), AllocError>
+    /// Gives each place that is present here and that the other steps took a conflict mark, which
+    /// names the place handed in: whatever mark these steps lead on from. Refused only for want of
+    /// memory, and then nothing changes.
+    pub fn save_conflicts(&mut self, loser: &Steps, winner: usize) -> Result<(), AllocError>
         ensures ok { OnOk result ((mark : Mark) → ConflictsSaved self.old
             (redone loser.now (undone mark self.old)) winner self.new) }
         ensures marks { KeepsMarks self.old self.new }
         ensures err { OnErr result (self.new ≡ self.old) }
     {
-        let mut pairs = self.excluded_by(&loser.taken, winner)?;
+        let mut pairs = self.excluded(&loser.taken, winner)?;
         self.conflicts.append(&mut pairs)?;
         Ok(())
     }
 
     /// The places among some that are present, each with the place handed in.
-    fn excluded_by(&self, taken: &[usize], winner: usize) -> Result<Vec<(usize, usize)>, AllocError>
+    fn excluded(&self, taken: &[usize], winner: usize) -> Result<Vec<(usize, usize)>, AllocError>
         ensures { IfOk result (λ pairs. (p : ℕ) → last_of pairs.items p
             ≡ (if not (is_taken self.now p) && is_on taken.now p then Some winner else None)) }
     {
@@ -104,8 +62,8 @@ impl State {
         last_of(self.conflicts.as_slice(), place)
     }
 
-    /// The first present place in scope, and what its conflict mark names; None where it has none, or no
-    /// place is present. It takes no memory.
+    /// The first present place in scope, and what its conflict mark names; None where it has none,
+    /// or no place is present. It takes no memory.
     pub fn conflict(&self) -> Option<(usize, usize)>
         ensures { result ≡ first_conflict self.now }
     {

@@ -9,8 +9,8 @@ use crate::state::{State, lies_within};
 use std::alloc::AllocError;
 use std::marker::Model;
 
-/// How far a parse was: how many places were taken and how many conflicts and names were put down, with
-/// the scope and the current place.
+/// How far a parse was: how many places were taken and how many conflicts and names were put down,
+/// with the scope and the current place.
 #[derive(Clone, Copy, Debug)]
 pub struct Mark {
     pub(crate) taken: usize,

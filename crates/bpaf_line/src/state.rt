@@ -111,7 +111,8 @@ impl State {
         self.path.as_slice()
     }
 
-    /// Puts a name at the end of the path; refused only for want of memory, and then nothing changes.
+    /// Puts a name at the end of the path; refused only for want of memory, and then nothing
+    /// changes.
     pub fn push_path(&mut self, entry: &str) -> Result<(), AllocError>
         ensures ok { OnOk result (self.new ≡ with_path self.old entry.now) }
         ensures err { OnErr result (self.new ≡ self.old) }
@@ -159,7 +160,8 @@ impl State {
         Some(!self.is_taken(place))
     }
 
-    /// Takes a place that is present and in scope; at another place nothing changes. It takes no memory.
+    /// Takes a place that is present and in scope; at another place nothing changes. It takes no
+    /// memory.
     pub fn remove(&mut self, place: usize)
         ensures taken { self.new
             ≡ (if is_open self.old place then take_place self.old place else self.old) }
@@ -182,7 +184,8 @@ impl State {
 
     /// The first place from one on that is present and in scope.
     ///
-    /// Taken places at the scope's start aren't looked at, nor words of 64 whose places are all taken.
+    /// Taken places at the scope's start aren't looked at, nor words of 64 whose places are all
+    /// taken.
     fn next_place(&self, from: usize) -> Option<usize>
         ensures { MatchOption result (HasNoneOpen self.now from) (IsNextOpen self.now from) }
     {
@@ -286,7 +289,8 @@ impl State {
         }
     }
 
-    /// Takes a place that is present and in scope, which is then the current one. It takes no memory.
+    /// Takes a place that is present and in scope, which is then the current one. It takes no
+    /// memory.
     pub(crate) fn take(&mut self, place: usize)
         requires { is_open self.old place ≡ true }
         ensures taken { self.new ≡ take_place self.old place }
@@ -307,7 +311,8 @@ impl State {
         self.first = bits::first_clear(&self.words, self.first, self.end);
     }
 
-    /// The text of the place after a key, where that is present, in scope, and a Word or an ArgWord.
+    /// The text of the place after a key, where that is present, in scope, and a Word or an
+    /// ArgWord.
     pub(crate) fn value_after(&self, key: usize) -> Option<&Text>
         requires { is_open self.now key ≡ true }
         ensures text { option_copied result ≡ value_after self.now key }

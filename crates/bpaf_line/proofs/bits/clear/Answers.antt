@@ -6,6 +6,8 @@ use Rattle.bpaf_line.proofs.bits.clear.Goals as goal
 pub returns : goal.returns
 returns c = record {
   kept = length-set _ _ _;
-  here = has_bit_written _ _ _ c.requires ∙ ap (λ b. b == 1) (bit_at_clear_same w64 _ (c.args.place % 64) (omega arith));
-  others = has_bit_others _ _ _ c.requires (λ i within other. bit_at_clear_other w64 _ (c.args.place % 64) (omega arith) i within other);
+  here = has_bit_written _ _ _ c.requires
+      ∙ ap (λ b. b == 1) (bit_at_clear_same w64 _ (c.args.place % 64) (omega arith));
+  others = has_bit_others _ _ _ c.requires
+      (λ i within other. bit_at_clear_other w64 _ (c.args.place % 64) (omega arith) i within other);
 }

@@ -13,14 +13,20 @@ loop-place-init c =
     }
 
 pub overflow_add-count : goal.overflow_add-count
-overflow_add-count c = omega (arith, c.loop-place.invariant.counted, count_clear-most c.args.words.now c.args.from c.loop-place.place)
+overflow_add-count c = omega (
+  arith,
+  c.loop-place.invariant.counted,
+  count_clear-most
+      c.args.words.now c.args.from c.loop-place.place,
+)
 
 pub loop-place-preserved : goal.loop-place-preserved
 loop-place-preserved c =
     let old = c.loop-place.invariant in
     let next = c.first_clear-place-in-loop-place.ensures in
     record {
-      counted = ap (λ n. n + 1) old.counted ∙ sym (count_clear-next _ _ _ _ _ old.above (old.clear c.loop-place-test.true) next);
+      counted = ap (λ n. n + 1) old.counted
+          ∙ sym (count_clear-next _ _ _ _ _ old.above (old.clear c.loop-place-test.true) next);
       above = omega (arith, old.above, next.from);
       within = next.within;
       clear = next.clear;

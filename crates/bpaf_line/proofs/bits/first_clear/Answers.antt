@@ -9,6 +9,7 @@ loop-place-preserved-then-words-place c = record {
   within = omega arith;
   set = λ q above below. ⊎_elim
       (λ (before : q < c.loop-place.place). c.loop-place.invariant.set q above before)
-      (λ (here : c.loop-place.place ≤ q). has_bit_full c.args.words.now c.loop-place.place c.if-words-place.true q (omega arith))
+      (λ (here : c.loop-place.place ≤ q). has_bit_full c.args.words.now c.loop-place.place
+      c.if-words-place.true q (omega arith))
       (cases_lt q c.loop-place.place);
 }

@@ -10,22 +10,30 @@ use Rattle.bpaf_line.proofs.state.State.redo.Goals as goal
 pub invariant_of-self-2 : goal.invariant_of-self-2
 invariant_of-self-2 c =
     let s = c.self.inside in
-    let path : map string_bytes c.append.new.self.items ≡ map string_bytes s.path.items ++ map string_bytes c.steps.inside.path.items =
-    ap (map string_bytes) c.in_ok-append.ensures.items ∙ map-append string_bytes s.path.items c.steps.inside.path.items in
+    let path : map string_bytes c.append.new.self.items ≡ map string_bytes s.path.items ++ map
+    string_bytes c.steps.inside.path.items =
+    ap (map string_bytes) c.in_ok-append.ensures.items
+    ∙ map-append string_bytes s.path.items c.steps.inside.path.items in
     sound_path s c.append-2.new.self c.append.new.self c.self.invariant
-    (subst (λ xs. IfSome s.name (λ n. slice_get xs 0 ≡ Some n)) (sym path) (path_longer s.name (map string_bytes s.path.items) _ c.self.invariant.named))
+    (subst (λ xs. IfSome s.name (λ n. slice_get xs 0 ≡ Some n)) (sym path)
+    (path_longer s.name (map string_bytes s.path.items) _ c.self.invariant.named))
 
 pub put_all-requires : goal.put_all-requires
 put_all-requires c =
     let taken = c.deref.ensures.value ∙ ap (λ steps. steps.taken) c.steps.view_is in
-    subst (PresentInTurn (situation_of c.self.inside)) (sym taken) (subst (λ s. PresentInTurn s c.args.steps.taken) (sym c.self.view_is) c.requires.present)
+    subst (PresentInTurn (situation_of c.self.inside)) (sym taken)
+    (subst (λ s. PresentInTurn s c.args.steps.taken) (sym c.self.view_is) c.requires.present)
 
 pub returns-clause-ok : goal.returns-clause-ok
 returns-clause-ok c =
     let s = situation_of c.self.inside in
     let steps = changes_of c.steps.inside in
-    let path = ap (map string_bytes) c.in_ok-append.ensures.items ∙ map-append string_bytes c.self.inside.path.items c.steps.inside.path.items in
-    ap (λ t. with_current t steps.current) (c.self-2.view_is ∙ (c.restore_scope.ensures ∙ ap (λ t. with_scope t steps.start steps.end) c.put_all.ensures))
-    ∙ (redone_parts s steps c.deref.result.now c.append-2.new.self.items (map string_bytes c.append.new.self.items) c.deref.ensures.value
+    let path = ap (map string_bytes) c.in_ok-append.ensures.items
+    ∙ map-append string_bytes c.self.inside.path.items c.steps.inside.path.items in
+    ap (λ t. with_current t steps.current)
+    (c.self-2.view_is ∙ (c.restore_scope.ensures
+    ∙ ap (λ t. with_scope t steps.start steps.end) c.put_all.ensures))
+    ∙ (redone_parts s steps c.deref.result.now c.append-2.new.self.items
+    (map string_bytes c.append.new.self.items) c.deref.ensures.value
     (c.in_ok-append-2.ensures.items ∙ ap (λ xs. xs ++ steps.conflicts) c.reserve.ensures.items) path
     ∙ (ap (λ changes. redone changes s) c.steps.view_is ∙ ap (redone c.args.steps) c.self.view_is))

@@ -8,16 +8,25 @@ pub returns-clause-steps : goal.returns-clause-steps
 returns-clause-steps c =
     let mark = c.args.mark.now in
     let s = c.self.inside in
-    let taken : c.in_ok-from_slice.field-0.items ≡ drop mark.taken s.trail.items = rest_is mark.taken _ _ _ c.in_ok-from_slice.ensures.items c.deref.ensures.value in
-    let conflicts : c.in_ok-from_slice-2.field-0.items ≡ drop mark.conflicts s.conflicts.items = rest_is mark.conflicts _ _ _ c.in_ok-from_slice-2.ensures.items c.deref-2.ensures.value in
-    let path : map string_bytes c.in_ok-copy_path.field-0.items ≡ drop mark.depth (map string_bytes s.path.items) =
-    c.in_ok-copy_path.ensures ∙ (ap (map string_bytes) (rest_is mark.depth s.path.items c.deref-3.result.now _ refl c.deref-3.ensures.value) ∙ sym (drop-map string_bytes mark.depth s.path.items)) in
+    let taken : c.in_ok-from_slice.field-0.items ≡ drop mark.taken s.trail.items = rest_is
+    mark.taken _ _ _ c.in_ok-from_slice.ensures.items c.deref.ensures.value in
+    let conflicts : c.in_ok-from_slice-2.field-0.items ≡ drop mark.conflicts s.conflicts.items =
+    rest_is mark.conflicts _ _ _ c.in_ok-from_slice-2.ensures.items c.deref-2.ensures.value in
+    let path : map string_bytes c.in_ok-copy_path.field-0.items ≡ drop mark.depth
+    (map string_bytes s.path.items) =
+    c.in_ok-copy_path.ensures ∙ (ap (map string_bytes)
+    (rest_is mark.depth s.path.items c.deref-3.result.now _ refl c.deref-3.ensures.value)
+    ∙ sym (drop-map string_bytes mark.depth s.path.items)) in
     rw (taken, conflicts, path) (ap (steps_since mark) c.self.view_is)
 
 pub returns-clause-fit : goal.returns-clause-fit
 returns-clause-fit c =
-    subst (λ steps. CanRedo steps (undone c.args.mark.now c.args.self.now)) (sym (returns-clause-steps c))
-    (subst (λ s. CanRedo (steps_since c.args.mark.now s) (undone c.args.mark.now s)) c.self.view_is (can_redo c.args.mark.now _ (subst (HasReached c.args.mark.now) (sym c.self.view_is) c.requires) c.self.invariant.in_turn c.self.invariant.ordered c.self.invariant.inside))
+    subst (λ steps. CanRedo steps (undone c.args.mark.now c.args.self.now))
+    (sym (returns-clause-steps c))
+    (subst (λ s. CanRedo (steps_since c.args.mark.now s) (undone c.args.mark.now s)) c.self.view_is
+    (can_redo c.args.mark.now _ (subst (HasReached c.args.mark.now) (sym c.self.view_is)
+    c.requires) c.self.invariant.in_turn c.self.invariant.ordered c.self.invariant.inside))
 
 pub returns-clause-again : goal.returns-clause-again
-returns-clause-again c = ap (λ steps. redone steps (undone c.args.mark.now c.args.self.now)) (returns-clause-steps c) ∙ redone_undone c.args.mark.now c.args.self.now
+returns-clause-again c = ap (λ steps. redone steps (undone c.args.mark.now c.args.self.now))
+    (returns-clause-steps c) ∙ redone_undone c.args.mark.now c.args.self.now

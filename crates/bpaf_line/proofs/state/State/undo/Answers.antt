@@ -10,24 +10,39 @@ use Rattle.bpaf_line.proofs.state.State.undo.Goals as goal
 pub invariant_of-self : goal.invariant_of-self
 invariant_of-self c =
     let s = c.self-2.inside in
-    let name : s.name ≡ c.args.self.now.context.name = ap (λ t. t.context.name) (c.self-2.view_is ∙ c.loop-self.invariant.cut) in
-    let path : map string_bytes c.truncate-2.new.self.items ≡ take c.args.mark.depth (map string_bytes s.path.items) =
-    ap (map string_bytes) c.truncate-2.ensures.items ∙ sym (take-map string_bytes c.args.mark.depth s.path.items) in
+    let name : s.name ≡ c.args.self.now.context.name = ap (λ t. t.context.name)
+    (c.self-2.view_is ∙ c.loop-self.invariant.cut) in
+    let path : map string_bytes c.truncate-2.new.self.items ≡ take c.args.mark.depth
+    (map string_bytes s.path.items) =
+    ap (map string_bytes) c.truncate-2.ensures.items
+    ∙ sym (take-map string_bytes c.args.mark.depth s.path.items) in
     sound_path s c.truncate.new.self c.truncate-2.new.self c.self-2.invariant
     (subst (λ xs. IfSome s.name (λ n. slice_get xs 0 ≡ Some n)) (sym path)
-    (path_cut s.name (map string_bytes s.path.items) c.args.mark.depth c.self-2.invariant.named (subst (λ n. IfSome n (λ _. 1 ≤ c.args.mark.depth)) (sym name) c.requires.named)))
+    (path_cut s.name (map string_bytes s.path.items) c.args.mark.depth c.self-2.invariant.named
+    (subst (λ n. IfSome n (λ _. 1 ≤ c.args.mark.depth)) (sym name) c.requires.named)))
 
 pub returns-clause-undone : goal.returns-clause-undone
 returns-clause-undone c =
     let mark = c.args.mark in
     let all : length c.loop-self.self.trail ≡ mark.taken =
-    (let e = ap (λ s. length s.trail) c.self.view_is in omega (arith, e, c.len.ensures, c.self.inside.trail.ok.0, c.loop-self-test.false, c.loop-self.invariant.kept)) in
+    (let e = ap (λ s. length s.trail) c.self.view_is in omega (
+      arith,
+      e,
+      c.len.ensures,
+      c.self.inside.trail.ok.0,
+      c.loop-self-test.false,
+      c.loop-self.invariant.kept,
+    )) in
     ap (λ s. with_current s mark.current) (c.self-3.view_is ∙ c.restore_scope.ensures)
-    ∙ undone_cut mark c.args.self.now (situation_of c.self-2.inside) _ c.truncate.new.self.items _ (c.self-2.view_is ∙ c.loop-self.invariant.cut) all c.truncate.ensures.items
-    (ap (map string_bytes) c.truncate-2.ensures.items ∙ sym (take-map string_bytes mark.depth c.self-2.inside.path.items))
+    ∙ undone_cut mark c.args.self.now (situation_of c.self-2.inside) _ c.truncate.new.self.items _
+    (c.self-2.view_is ∙ c.loop-self.invariant.cut) all c.truncate.ensures.items
+    (ap (map string_bytes) c.truncate-2.ensures.items
+    ∙ sym (take-map string_bytes mark.depth c.self-2.inside.path.items))
 
 pub returns-clause-fits : goal.returns-clause-fits
-returns-clause-fits c = subst (Fits c.args.mark) (sym (returns-clause-undone c)) (fits_undone c.args.mark c.args.self.now c.requires)
+returns-clause-fits c = subst (Fits c.args.mark) (sym (returns-clause-undone c))
+    (fits_undone c.args.mark c.args.self.now c.requires)
 
 pub returns-clause-back : goal.returns-clause-back
-returns-clause-back c = ap (undone c.args.mark) (returns-clause-undone c) ∙ (undone_twice c.args.mark c.args.self.now ∙ sym (returns-clause-undone c))
+returns-clause-back c = ap (undone c.args.mark) (returns-clause-undone c)
+    ∙ (undone_twice c.args.mark c.args.self.now ∙ sym (returns-clause-undone c))

@@ -4,4 +4,8 @@ use Rattle.bpaf_line.proofs.Sound.{open_below_end}
 use Rattle.bpaf_line.proofs.state.State.value_after.Goals as goal
 
 pub overflow_add-key : goal.overflow_add-key
-overflow_add-key c = omega (arith, open_below_end c.self.inside c.args.key (ap (λ s. is_open s c.args.key) c.self.view_is ∙ c.requires))
+overflow_add-key c = omega (
+  arith,
+  open_below_end c.self.inside c.args.key
+      (ap (λ s. is_open s c.args.key) c.self.view_is ∙ c.requires),
+)
