@@ -28,7 +28,7 @@ mod product;
 
 pub use bpaf_core::{Info, OptionParser, Parser, count_falls, read_text};
 pub use bpaf_doc::{Doc, Item, Meta, MetaInfo, Metavar, Piece, ShortLong, Style, Text};
-pub use bpaf_line::{ArgsIter, Error, Message, MissingItem, MissingItems, ParseFailure, State};
+pub use bpaf_line::{ArgsIter, Error, Mark, Message, MissingItem, MissingItems, ParseFailure, State, Steps};
 pub use bpaf_text::{FromList, FromText, NamedArg, TextFault, env, long, short};
 pub use bpaf_words::{Arg, Args, LentWord, Words, lines_are_unique, spellings_are_unique};
 pub use choices::{ParseChoice, choice};
