@@ -11,7 +11,8 @@
 //!   what a spelling depends on is one record, `Known`. Each word but `--` has exactly one spelling.
 //! - [`line_of`] answers the [`Line`] of all words and the place of their first `--`. A line is
 //!   refused exactly where a word is ambiguous (`IsLine` and `HasNoLine`, specs/Line.antt), and for
-//!   want of memory. Words have one line or a first ambiguous word, never both.
+//!   want of memory. Words have one line or a first ambiguous word, never both. Where [`any_joined`]
+//!   answers false their line doesn't depend on what is known.
 //!
 //! The source of the design is bpaf's `arg.rs` and `args.rs`.
 #![tactic(auto)]
