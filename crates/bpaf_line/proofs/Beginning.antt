@@ -8,6 +8,7 @@ use Rattle.std.proofs.lemmas.Bool.Decides.{nat_tests}
 use Rattle.bpaf_line.specs.declared.state.State.TheInside.{Inside}
 use Rattle.bpaf_line.specs.Bits.{has_bit, IsFirstClear}
 use Rattle.bpaf_line.specs.Situation.{Situation, Context, beginning, open_count, is_open, is_taken, is_marker, is_dealt_place, TakenInTurn, IsFirstPresent}
+use Rattle.bpaf_line.specs.Chained.{Chained, class_in, head_of, AreChainsOf}
 use Rattle.bpaf_line.specs.Inside.{situation_of, BitsOf, IsSound}
 use Rattle.bpaf_line.proofs.Counts.{count_below-all, count_below-fewer}
 use Rattle.bpaf_line.proofs.Sound.{first_by_bits}
@@ -56,11 +57,18 @@ path_begins : (name : Option (List ℕ)) → IfSome name (λ n. slice_get (optio
 path_begins None = tt
 path_begins (Some n) = refl
 
+-- no place stands before the chains of a run that begins
+chains_beginning : (context : Context) (chains : Option Chained) → IfSome chains (λ c. c.classes ≡ map (class_in (length c.heads)) context.line) → IfSome chains (λ c. (p : ℕ) → p < length c.classes → head_of c p ≤ p)
+    → IfSome chains (AreChainsOf (beginning context))
+chains_beginning context None classes heads = tt
+chains_beginning context (Some chains) classes heads = record { classes = classes; passed = λ p within before. absurd (let low = heads p within in omega arith) }
+
 -- a state at the beginning is sound, where its bits, its count of open places and the first are right
 pub sound_beginning : (i : Inside) (context : Context) → situation_of i ≡ beginning context → IfSome context.marker (λ p. p < length context.line)
     → length context.line ≤ 64 * length i.words.items → ((p : ℕ) → has_bit i.words.items p ≡ is_marker context.marker p) → length context.line ≤ vec_capacity i.trail
-    → i.left ≡ length context.line - from_bool (is_some context.marker) → IsFirstClear i.words.items 0 (length context.line) i.first → IsSound i
-sound_beginning i context e marked worded bits room left clear =
+    → i.left ≡ length context.line - from_bool (is_some context.marker) → IsFirstClear i.words.items 0 (length context.line) i.first
+    → IfSome i.chains (λ c. c.classes ≡ map (class_in (length c.heads)) context.line) → IfSome i.chains (λ c. (p : ℕ) → p < length c.classes → head_of c p ≤ p) → IsSound i
+sound_beginning i context e marked worded bits room left clear classes heads =
     let start = beginning context in
     let size : length (rc_slice_items i.items) ≡ length context.line = ap (λ s. length s.context.line) e in
     let set : BitsOf start i.words.items = bits_beginning context i.words.items bits in
@@ -73,6 +81,7 @@ sound_beginning i context e marked worded bits room left clear =
       inside = let to = ap (λ s. s.end) e in omega (arith, to);
       counted = left ∙ (sym (open_count-start context context.marker marked) ∙ sym (ap open_count e));
       first = subst (λ s. IsFirstPresent s i.first) (sym e) (first_by_bits start i.words.items 0 i.first (omega arith) set (omega arith) (λ q lower upper. absurd (omega arith)) clear);
+      chained = subst (λ s. IfSome i.chains (AreChainsOf s)) (sym e) (chains_beginning context i.chains classes heads);
       named = subst (λ s. IfSome s.context.name (λ n. slice_get s.path 0 ≡ Some n)) (sym e) (path_begins context.name);
     }
 

@@ -1,5 +1,6 @@
 pub mod Counts
 pub mod BitLemmas
+pub mod Chained
 pub mod Places
 pub mod Matches
 pub mod Sound

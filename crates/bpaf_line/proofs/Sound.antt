@@ -13,11 +13,13 @@ use Rattle.std.proofs.lemmas.Option.{slice_get-get_or}
 use Rattle.bpaf_words.specs.declared.arg.Arg.{Arg}
 use Rattle.bpaf_line.specs.declared.state.State.TheInside.{Inside}
 use Rattle.bpaf_line.specs.Bits.{has_bit, is_clear_from, count_clear, ChangesBit, IsFirstClear}
+use Rattle.bpaf_line.specs.Chained.{Chained, class_in, head_of, AreChainsOf, HavePassed, ReachBack, IfChained}
 use Rattle.bpaf_line.specs.Inside.{situation_of, BitsOf, IsSound}
 use Rattle.bpaf_line.specs.Situation.{Situation, with_trail, with_scope, cut_to, is_open, is_marker, is_taken, is_on, in_scope, open_count, TakenInTurn, IsFirstPresent, IsNextOpen, HasNoneOpen}
 use Rattle.bpaf_line.specs.Taking.{open_item}
 use Rattle.bpaf_line.proofs.Places.{put, put_here, put_other, put_stays, open_count-put, in_turn_put, room_on_trail, last_put, in_turn_cut, first_without, present_in_line, open_in_scope, open_not_taken}
 use Rattle.bpaf_line.proofs.Counts.{count_below-same, count_below-cut, count_below-most}
+use Rattle.bpaf_line.proofs.Chained.{classes_size}
 
 -- the bits of a situation with one place more
 pub bits_put : (s : Situation) (old new : List ℕ) (p : ℕ) → BitsOf s old → ChangesBit old new p true → BitsOf (put s p) new
@@ -39,17 +41,53 @@ first_by_bits s words from p inside bits above passed first = record {
       (cases_lt q from);
 }
 
+-- what stands before the chains is taken, where they begin behind it and one place more is taken
+pub chains_put : (s : Situation) (p : ℕ) (words : List ℕ) (old new : Option Chained) → BitsOf (put s p) words → IfSome old (AreChainsOf s) → IfChained (HavePassed words) old new → IfSome new (AreChainsOf (put s p))
+chains_put s p words None None bits h passed = tt
+chains_put s p words None (Some new) bits h passed = absurd passed
+chains_put s p words (Some old) None bits h passed = tt
+chains_put s p words (Some old) (Some new) bits h passed =
+    let size : length old.classes ≡ length s.context.line = classes_size s.context.line old.classes (length old.heads) h.classes in
+    record {
+      classes = passed.classes ∙ (h.classes ∙ ap (λ n. map (class_in n) s.context.line) (sym passed.count));
+      passed = λ q within before. let inside : q < length old.classes = omega (arith, ap length passed.classes) in ⊎_elim
+          (λ (early : q < head_of old q). put_stays s p q (h.passed q inside early))
+          (λ (behind : head_of old q ≤ q). sym (bits q (omega arith)) ∙ passed.passed q inside behind before)
+          (cases_lt q (head_of old q));
+    }
+
+-- and where they begin no later, also not behind the place that is taken no more
+pub chains_untake : (s : Situation) (p : ℕ) (old new : Option Chained) → IfSome old (AreChainsOf (put s p)) → IfChained (ReachBack p) old new → IfSome new (AreChainsOf s)
+chains_untake s p None None h back = tt
+chains_untake s p None (Some new) h back = absurd back
+chains_untake s p (Some old) None h back = tt
+chains_untake s p (Some old) (Some new) h back = record {
+  classes = back.classes ∙ (h.classes ∙ ap (λ n. map (class_in n) s.context.line) (sym back.count));
+  passed = λ q within before. let inside : q < length old.classes = omega (arith, ap length back.classes) in ⊎_elim
+      (λ (at : q ≡ p). absurd (let low : head_of new q ≤ q = subst (λ x. head_of new x ≤ x) (sym at) back.here in omega arith))
+      (λ (other : q ≢ p). sym (put_other s p q other) ∙ h.passed q inside (omega (arith, back.earlier q inside)))
+      (cases_eq q p);
+}
+
+-- and where the same is taken on the same line
+pub chains_same : (s t : Situation) (chains : Option Chained) → t.context ≡ s.context → ((p : ℕ) → is_taken t p ≡ is_taken s p) → IfSome chains (AreChainsOf s) → IfSome chains (AreChainsOf t)
+chains_same s t None context taken h = tt
+chains_same s t (Some chains) context taken h = record {
+  classes = h.classes ∙ ap (λ c. map (class_in (length chains.heads)) c.line) (sym context);
+  passed = λ q within before. taken q ∙ h.passed q within before;
+}
+
 -- a state with other bits and another trail, counted anew
-abbrev pub with_parts : Inside → List ℕ → Vec ℕ Global → ℕ → ℕ → Inside
-with_parts s words trail left first = record s { words = with_items s.words words; trail = trail; left = left; first = first }
+abbrev pub with_parts : Inside → List ℕ → Vec ℕ Global → ℕ → ℕ → Option Chained → Inside
+with_parts s words trail left first chains = record s { words = with_items s.words words; trail = trail; left = left; first = first; chains = chains }
 
 -- it is sound with one place more
-pub sound_put : (s : Inside) (p : ℕ) (words : List ℕ) (trail : Vec ℕ Global) (left first : ℕ) → IsSound s → is_taken (situation_of s) p ≡ false
+pub sound_put : (s : Inside) (p : ℕ) (words : List ℕ) (trail : Vec ℕ Global) (left first : ℕ) (chains : Option Chained) → IsSound s → is_taken (situation_of s) p ≡ false
     → ChangesBit s.words.items words p true → trail.items ≡ s.trail.items ++ p ∷ [] → vec_capacity s.trail ≤ vec_capacity trail
     → left ≡ s.left - from_bool (in_scope (situation_of s) p) → IsFirstClear words s.first s.end first
-    → IsSound (with_parts s words trail left first)
-sound_put s p words trail left first h free change pushed grown counted next =
-    let means : situation_of (with_parts s words trail left first) ≡ put (situation_of s) p = ap (with_trail (situation_of s)) pushed in
+    → IfChained (HavePassed words) s.chains chains → IsSound (with_parts s words trail left first chains)
+sound_put s p words trail left first chains h free change pushed grown counted next passed =
+    let means : situation_of (with_parts s words trail left first chains) ≡ put (situation_of s) p = ap (with_trail (situation_of s)) pushed in
     let written : (with_items s.words words).items ≡ words = with_items_is s.words words (change.kept ∙ sym s.words.ok.0) in
     let new = put (situation_of s) p in
     let bits : BitsOf new words = bits_put (situation_of s) s.words.items words p h.bits change in
@@ -64,6 +102,7 @@ sound_put s p words trail left first h free change pushed grown counted next =
       counted = let less : left ≡ open_count new = omega (arith, h.counted) in less ∙ sym (ap open_count means);
       first = subst (λ t. IsFirstPresent t first) (sym means)
           (first_by_bits new words s.first first h.inside bits h.first.from (λ q lower upper. put_stays (situation_of s) p q (h.first.passed q lower upper)) next);
+      chained = subst (λ t. IfSome chains (AreChainsOf t)) (sym means) (chains_put (situation_of s) p words s.chains chains bits h.chained passed);
       named = h.named;
     }
 
@@ -88,11 +127,11 @@ bits_untake s old new p bits change free q within = ⊎_elim
     (cases_eq q p)
 
 -- it is sound without the last place
-pub sound_untake : (s : Inside) (p : ℕ) (words : List ℕ) (trail : Vec ℕ Global) (left first : ℕ) → IsSound s → 0 < length s.trail.items → p ≡ slice_index s.trail.items (length s.trail.items - 1)
+pub sound_untake : (s : Inside) (p : ℕ) (words : List ℕ) (trail : Vec ℕ Global) (left first : ℕ) (chains : Option Chained) → IsSound s → 0 < length s.trail.items → p ≡ slice_index s.trail.items (length s.trail.items - 1)
     → ChangesBit s.words.items words p false → trail.items ≡ take (length s.trail.items - 1) s.trail.items → vec_capacity s.trail ≤ vec_capacity trail
     → left ≡ s.left + from_bool (in_scope (situation_of s) p) → first ≡ (if in_scope (situation_of s) p then min s.first p else s.first)
-    → IsSound (with_parts s words trail left first)
-sound_untake s p words trail left first h some last change shorter same counted next =
+    → IfChained (ReachBack p) s.chains chains → IsSound (with_parts s words trail left first chains)
+sound_untake s p words trail left first chains h some last change shorter same counted next back =
     let old = situation_of s in
     let n = length s.trail.items - 1 in
     let new = cut_to old n in
@@ -102,7 +141,7 @@ sound_untake s p words trail left first h some last change shorter same counted 
     let bits : BitsOf new words = bits_untake new s.words.items words p (subst (λ t. BitsOf t s.words.items) (sym before) h.bits) change free in
     let more = open_count-put new p free in
     let was : open_count (put new p) ≡ open_count old = ap open_count before in
-    let means : situation_of (with_parts s words trail left first) ≡ new = ap (with_trail old) shorter in
+    let means : situation_of (with_parts s words trail left first chains) ≡ new = ap (with_trail old) shorter in
     let earlier : IsFirstPresent new first = subst (IsFirstPresent new) (sym next) (first_without new p s.first (subst (λ t. IsFirstPresent t s.first) (sym before) h.first) free) in
     record {
       worded = rw written (omega (arith, h.worded, change.kept));
@@ -113,6 +152,7 @@ sound_untake s p words trail left first h some last change shorter same counted 
       inside = h.inside;
       counted = let now : left ≡ open_count new = omega (arith, h.counted) in now ∙ sym (ap open_count means);
       first = subst (λ t. IsFirstPresent t first) (sym means) earlier;
+      chained = subst (λ t. IfSome chains (AreChainsOf t)) (sym means) (chains_untake new p s.chains chains (subst (λ t. IfSome s.chains (AreChainsOf t)) (sym before) h.chained) back);
       named = h.named;
     }
 
@@ -152,6 +192,7 @@ sound_scope s start end left first h ordered inside counted clear = record {
   inside = inside;
   counted = counted ∙ count_clear-open (situation_of s) s.words.items start end h.bits inside;
   first = first_by_bits (with_scope (situation_of s) start end) s.words.items start first inside h.bits (omega arith) (λ q lower upper. absurd (omega arith)) clear;
+  chained = chains_same (situation_of s) (with_scope (situation_of s) start end) s.chains refl (λ q. refl) h.chained;
   named = h.named;
 }
 
@@ -180,6 +221,7 @@ sound_path s conflicts path h named = record {
   inside = h.inside;
   counted = h.counted;
   first = record { from = h.first.from; within = h.first.within; present = h.first.present; passed = h.first.passed };
+  chained = chains_same (situation_of s) (situation_of (record s { conflicts = conflicts; path = path })) s.chains refl (λ q. refl) h.chained;
   named = named;
 }
 
@@ -267,8 +309,8 @@ next_found s from place found h some clear is =
     by_test false e = none (ltb-false place s.end e)
 
 -- a state of the same situation, with equal bits and first place, is sound too
-pub sound_copy : (i j : Inside) → situation_of i ≡ situation_of j → i.words.items ≡ j.words.items → i.left ≡ j.left → i.first ≡ j.first → length (rc_slice_items i.items) ≤ vec_capacity i.trail → IsSound j → IsSound i
-sound_copy i j same words left first room h =
+pub sound_copy : (i j : Inside) → situation_of i ≡ situation_of j → i.chains ≡ j.chains → i.words.items ≡ j.words.items → i.left ≡ j.left → i.first ≡ j.first → length (rc_slice_items i.items) ≤ vec_capacity i.trail → IsSound j → IsSound i
+sound_copy i j same chains words left first room h =
     let count : length (rc_slice_items i.items) ≡ length (rc_slice_items j.items) = ap (λ s. length s.context.line) same in
     let end : i.end ≡ j.end = ap (λ s. s.end) same in
     let start : i.start ≡ j.start = ap (λ s. s.start) same in
@@ -281,5 +323,6 @@ sound_copy i j same words left first room h =
       inside = omega (arith, h.inside);
       counted = left ∙ (h.counted ∙ sym (ap open_count same));
       first = subst (IsFirstPresent (situation_of i)) (sym first) (subst (λ s. IsFirstPresent s j.first) (sym same) h.first);
+      chained = subst (λ c. IfSome c (AreChainsOf (situation_of i))) (sym chains) (subst (λ s. IfSome j.chains (AreChainsOf s)) (sym same) h.chained);
       named = subst (λ s. IfSome s.context.name (λ n. slice_get s.path 0 ≡ Some n)) (sym same) h.named;
     }

@@ -5,6 +5,8 @@ pub mod Failure
 pub mod Situation
 pub mod Bits
 pub mod Changes
+pub mod Chained
+pub mod InsideChains
 pub mod Inside
 pub mod Marks
 pub mod MissingIn

@@ -26,6 +26,7 @@
 #![tactic(auto)]
 
 mod bits;
+mod chains;
 mod conflict;
 mod construct;
 mod error;
