@@ -3,6 +3,7 @@ pub mod BitLemmas
 pub mod Chained
 pub mod Places
 pub mod Matches
+pub mod Finding
 pub mod Sound
 pub mod OpenItems
 pub mod Conflicts

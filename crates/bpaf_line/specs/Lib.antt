@@ -11,6 +11,7 @@ pub mod Inside
 pub mod Marks
 pub mod MissingIn
 pub mod Taking
+pub mod Finding
 pub mod OpenItems
 pub mod Conflicts
 pub mod Constructing

@@ -31,6 +31,7 @@ mod conflict;
 mod construct;
 mod error;
 mod failure;
+mod find;
 mod iter;
 mod mark;
 mod missing;
