@@ -1,5 +1,5 @@
 -- Chains: how a line's places are linked, and how a walk along the links goes.
-use Rattle.std.proofs.Common.{◌≡◌, ◌≢◌, ℕ, zero, suc, refl, ◌+◌, ◌<◌, ◌≤◌, ◌%◌, true, List, [], ◌∷◌, length, map, ap, sym, ◌∙◌, subst, arith, ⊎_elim, get_or, slice_index, slice_index_or, slice_set, length-set, get_or-set_same, get_or-set_other}
+use Rattle.std.proofs.Common.{◌≡◌, ◌≢◌, ℕ, zero, suc, refl, ◌+◌, ◌<◌, ◌≤◌, true, List, [], ◌∷◌, length, map, ap, sym, ◌∙◌, subst, arith, ⊎_elim, get_or, slice_index, slice_index_or, slice_set, length-set, get_or-set_same, get_or-set_other}
 use Rattle.std.specs.Rc.{rc_slice_items}
 use Rattle.std.specs.Vec.{with_item}
 use Rattle.std.proofs.Math.Nat.{mod-lt}

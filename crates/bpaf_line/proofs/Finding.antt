@@ -1,5 +1,5 @@
 -- Finding: a key with one of some names has a number of one of those.
-use Rattle.std.proofs.Common.{◌≡◌, ◌≢◌, ℕ, ◌+◌, ◌<◌, ◌≤◌, ◌%◌, ◌==◌, Bool, true, false, not, ◌&&◌, ◌||◌, List, [], ◌∷◌, ◌++◌, Option, Some, None, length, map, refl, ap, sym, ◌∙◌, subst, arith, ⊎_elim, if◌then◌else◌, nat_lt, slice_get, slice_index, bytes_eq, MatchOption}
+use Rattle.std.proofs.Common.{◌≡◌, ◌≢◌, ℕ, ◌+◌, ◌<◌, ◌≤◌, ◌%◌, ◌==◌, Bool, true, false, ◌&&◌, ◌||◌, List, [], ◌∷◌, ◌++◌, Option, Some, None, length, map, refl, ap, sym, ◌∙◌, subst, arith, ⊎_elim, if◌then◌else◌, nat_lt, slice_get, slice_index, bytes_eq, MatchOption}
 use Rattle.std.specs.Bool.{then_some}
 use Rattle.std.specs.Option.{option_map_or}
 use Rattle.std.proofs.lemmas.Bool.{cases_lt, cases_eq, cases_Bool, true≢false, ltb-true, ltb-false, le-ltb, eq-eqb, ne_eqb, and_left, and_right, or_left, or_right}
@@ -10,10 +10,10 @@ use Rattle.std.proofs.lemmas.Option.{get_or_from_slice_get, slice_get_within}
 use Rattle.bpaf_doc.specs.Names.{Names}
 use Rattle.bpaf_words.specs.declared.arg.Arg.{Arg}
 use Rattle.bpaf_words.specs.declared.arg.Arg.TheVariants.{Short, Long, ArgWord, Word, PosWord}
-use Rattle.bpaf_words.specs.Items.{is_among, is_text_among, is_key_of, is_argument_key}
+use Rattle.bpaf_words.specs.Items.{is_among, is_text_among, is_argument_key}
 use Rattle.bpaf_line.specs.Chained.{Chained, text_number, name_number, class_in, IsNextOf, IsPlaceOf, AreChainsOf}
 use Rattle.bpaf_line.specs.Finding.{HasNoneAmong, IsFirstAmong}
-use Rattle.bpaf_line.specs.Situation.{Situation, is_marker, is_open, is_taken, in_scope, item_at}
+use Rattle.bpaf_line.specs.Situation.{Situation, is_marker, in_scope, item_at}
 use Rattle.bpaf_line.specs.Taking.{open_item, is_match, HasNone, IsFirst}
 use Rattle.bpaf_line.proofs.Chained.{classes_size}
 use Rattle.bpaf_line.proofs.Matches.{open_item_there}
@@ -128,23 +128,3 @@ key_found names adjacent s short place found shorts longs is =
           first = before_it;
         }
     by_test false e = λ q. ⊎_elim (λ (before : q < place). before_it q before) (λ (past : place ≤ q). past_scope q (let far = ltb-false place s.end e in omega arith)) (cases_lt q place)
-
--- a key of an argument that need not be attached is a key
-any_key : (names : Names) (s : Situation) (p : ℕ) → is_match (is_argument_key names false) s p ≡ is_match (is_key_of names) s p
-any_key names s p = of_item (open_item s p)
-  where
-    and_it : (b : Bool) → (b && true) ≡ b
-    and_it true = refl
-    and_it false = refl
-
-    of_item : (at : Option Arg) → option_map_or (is_argument_key names false) at false ≡ option_map_or (is_key_of names) at false
-    of_item None = refl
-    of_item (Some item) = and_it (is_key_of names item)
-
--- so the first of the ones is the first of the others
-pub first_any_key : (names : Names) (s : Situation) (p : ℕ) → IsFirst (is_argument_key names false) s p → IsFirst (is_key_of names) s p
-first_any_key names s p first = record { matches = sym (any_key names s p) ∙ first.matches; first = λ q before. sym (any_key names s q) ∙ first.first q before }
-
--- and where there are none of the ones there are none of the others
-pub none_any_key : (names : Names) (s : Situation) → HasNone (is_argument_key names false) s → HasNone (is_key_of names) s
-none_any_key names s none q = sym (any_key names s q) ∙ none q

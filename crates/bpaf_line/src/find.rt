@@ -15,17 +15,12 @@ impl State {
     /// attached one. It takes no memory.
     ///
     /// On a long line only the places chained with one of the names are looked at.
-    pub(crate) fn first_key(
-        &self,
-        shorts: &[char],
-        longs: &[Text],
-        adjacent: bool,
-    ) -> Option<usize>
+    pub(crate) fn first_key(&self, shorts: &[char], longs: &[Text], adjacent: bool) -> Option<usize>
         ensures { MatchOption result
             (HasNone (is_argument_key (record { shorts = shorts.now; longs = longs.now }) adjacent)
-                self.now)
+            self.now)
             (IsFirst (is_argument_key (record { shorts = shorts.now; longs = longs.now }) adjacent)
-                self.now) }
+            self.now) }
     {
         let Some(chains) = &self.chains else {
             let (place, _) = self.first_open(move |item| is_argument_key(

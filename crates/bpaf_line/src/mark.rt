@@ -3,10 +3,9 @@ ghost use Rattle.std.specs.Prelude.{◌≡◌, ◌++◌, ◌<◌, ◌≤◌, ◌
 ghost use Rattle.bpaf_line.specs.Situation.{with_trail, with_scope, cut_to, PresentInTurn};
 ghost use Rattle.bpaf_line.specs.Marks.{mark_of, HasReached, Fits, undone, KeepsMarks, steps_since, CanRedo, redone};
 
-use crate::bits;
-use crate::chains;
 use crate::construct::copy_path;
 use crate::state::{State, lies_within};
+use crate::{bits, chains};
 use std::alloc::AllocError;
 use std::marker::Model;
 

@@ -1,4 +1,4 @@
-use Rattle.std.proofs.Common.{◌<◌, ◌∙◌, sym, arith, length}
+use Rattle.std.proofs.Common.{◌∙◌, sym, arith, length}
 use Rattle.std.proofs.lemmas.List.{with_items_is}
 use Rattle.bpaf_line.proofs.Chained.{classes_size, classes_below, linked_first}
 use Rattle.bpaf_line.proofs.chains.Chains.of_long_line.Goals as goal

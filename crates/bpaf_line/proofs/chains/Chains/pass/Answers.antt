@@ -1,4 +1,4 @@
-use Rattle.std.proofs.Common.{◌∙◌, ap, sym, subst, arith, length, slice_index_or}
+use Rattle.std.proofs.Common.{ap, sym, subst, arith, length}
 use Rattle.bpaf_line.specs.Chained.{IsPlaceOf}
 use Rattle.bpaf_line.proofs.Chained.{linked_passed}
 use Rattle.bpaf_line.proofs.chains.Chains.pass.Goals as goal

@@ -1,4 +1,4 @@
-use Rattle.std.proofs.Common.{◌≡◌, ◌++◌, ◌∷◌, [], ◌∙◌, ap, sym, subst, take, map}
+use Rattle.std.proofs.Common.{◌++◌, ◌∷◌, [], ◌∙◌, ap, sym, subst, take, map}
 use Rattle.std.proofs.lemmas.List.{map_more}
 use Rattle.bpaf_words.specs.Items.{is_argument_key}
 use Rattle.bpaf_line.specs.Chained.{text_number}
