@@ -1,7 +1,9 @@
 pub mod Counts
 pub mod BitLemmas
+pub mod Chained
 pub mod Places
 pub mod Matches
+pub mod Finding
 pub mod Sound
 pub mod OpenItems
 pub mod Conflicts

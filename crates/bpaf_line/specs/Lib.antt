@@ -5,10 +5,13 @@ pub mod Failure
 pub mod Situation
 pub mod Bits
 pub mod Changes
+pub mod Chained
+pub mod InsideChains
 pub mod Inside
 pub mod Marks
 pub mod MissingIn
 pub mod Taking
+pub mod Finding
 pub mod OpenItems
 pub mod Conflicts
 pub mod Constructing

@@ -7,6 +7,7 @@ ghost use Rattle.bpaf_line.specs.Bits.{has_bit};
 ghost use Rattle.bpaf_line.specs.Situation.{is_marker};
 
 use crate::bits;
+use crate::chains::Chains;
 use crate::error::Message;
 use crate::state::State;
 use bpaf_doc::Text;
@@ -40,10 +41,12 @@ impl State {
         let (path, name) = first_path(alloc, args.name())?;
         let left = end - usize::from(line.marker.is_some());
         let first = bits::first_clear(&words, 0, end);
+        let chains = Chains::of_line(alloc, &line.items)?;
         Ok(State {
             items: RcSlice::from_vec(line.items)?,
             marker: line.marker,
             env: RcSlice::from_vec(entries)?,
+            chains,
             words,
             trail: Vec::with_capacity(alloc, end)?,
             conflicts: Vec::new(alloc),
@@ -65,6 +68,7 @@ impl State {
         let items = self.items.clone()?;
         let env = self.env.clone()?;
         let alloc = self.alloc();
+        let chains = Chains::copy_of(&self.chains)?;
         let words = Vec::from_slice(alloc, self.words.as_slice())?;
         let mut trail = Vec::with_capacity(alloc, self.items.as_slice().len())?;
         trail.extend_from_slice(self.trail.as_slice())?;
@@ -75,6 +79,7 @@ impl State {
             items,
             marker: self.marker,
             env,
+            chains,
             words,
             trail,
             conflicts,

@@ -27,10 +27,12 @@
 #![tactic(auto)]
 
 mod bits;
+mod chains;
 mod conflict;
 mod construct;
 mod error;
 mod failure;
+mod find;
 mod iter;
 mod mark;
 mod missing;

@@ -3,9 +3,9 @@ ghost use Rattle.std.specs.Prelude.{◌≡◌, ◌++◌, ◌<◌, ◌≤◌, ◌
 ghost use Rattle.bpaf_line.specs.Situation.{with_trail, with_scope, cut_to, PresentInTurn};
 ghost use Rattle.bpaf_line.specs.Marks.{mark_of, HasReached, Fits, undone, KeepsMarks, steps_since, CanRedo, redone};
 
-use crate::bits;
 use crate::construct::copy_path;
 use crate::state::{State, lies_within};
+use crate::{bits, chains};
 use std::alloc::AllocError;
 use std::marker::Model;
 
@@ -143,6 +143,7 @@ impl State {
         let within = lies_within(place, self.start, self.end);
         self.left += usize::from(within);
         self.first = earlier(self.first, place, within);
+        chains::reach_back(&mut self.chains, place);
     }
 
     /// Makes other places the scope; where they are those of the scope already, nothing is counted.

@@ -11,6 +11,7 @@ ghost use Rattle.bpaf_line.specs.Marks.{KeepsMarks};
 ghost use Rattle.bpaf_line.specs.Taking.{HasNone, IsFirst, value_after, open_item, entry_of};
 
 use crate::bits;
+use crate::chains::{self, Chains};
 use crate::error::{Error, Message};
 use crate::iter::ArgsIter;
 use crate::missing::{MissingItem, MissingItems};
@@ -30,6 +31,7 @@ pub struct State {
     pub(crate) items: RcSlice<Arg>,
     pub(crate) marker: Option<usize>,
     pub(crate) env: RcSlice<(Text, Text)>,
+    pub(crate) chains: Option<Chains>,
     pub(crate) words: Vec<u64>,
     pub(crate) trail: Vec<usize>,
     pub(crate) conflicts: Vec<(usize, usize)>,
@@ -309,6 +311,7 @@ impl State {
         let _ = self.trail.push(place);
         self.left -= usize::from(lies_within(place, self.start, self.end));
         self.first = bits::first_clear(&self.words, self.first, self.end);
+        chains::pass(&mut self.chains, &self.words, place);
     }
 
     /// The text of the place after a key, where that is present, in scope, and a Word or an

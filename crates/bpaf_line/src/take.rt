@@ -7,7 +7,7 @@ ghost use Rattle.std.specs.Prelude.{◌≡◌, MatchOption};
 use crate::error::{Error, Message};
 use crate::state::State;
 use bpaf_doc::{Item, Metavar, Text};
-use bpaf_words::{is_argument_key, is_command_word, is_key_of};
+use bpaf_words::is_command_word;
 
 impl State {
     /// Takes the first present key in scope with one of the names, attached or not; false, and
@@ -17,8 +17,8 @@ impl State {
         ensures taken { TakesFlag (record { shorts = shorts.now; longs = longs.now })
             self.old result self.new }
     {
-        match self.first_open(|item| is_key_of(item, shorts, longs)) {
-            Some((place, _)) => {
+        match self.first_key(shorts, longs, false) {
+            Some(place) => {
                 self.take(place);
                 true
             }
@@ -42,9 +42,7 @@ impl State {
         ensures taken { TakesArgument (record { shorts = shorts.now; longs = longs.now }) adjacent
             metavar.0.now self.old result self.new }
     {
-        let Some((key, _)) = self.first_open(move |item| is_argument_key(
-            item, shorts, longs, adjacent,
-        )) else {
+        let Some(key) = self.first_key(shorts, longs, adjacent) else {
             return Ok(None);
         };
         let Some(value) = self.value_after(key) else {

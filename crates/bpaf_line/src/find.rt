@@ -1,0 +1,118 @@
+//! The first key with one of some names, found along the chains of those names.
+ghost use Rattle.std.specs.Prelude.{◌≡◌, ◌≤◌, [], ◌∷◌, MatchOption, length, map};
+ghost use Rattle.bpaf_words.specs.Items.{is_argument_key};
+ghost use Rattle.bpaf_line.specs.Chained.{AreChainsOf, text_number};
+ghost use Rattle.bpaf_line.specs.Finding.{IsFirstAmong};
+ghost use Rattle.bpaf_line.specs.Taking.{is_match, HasNone, IsFirst};
+
+use crate::chains::{Chains, text_number};
+use crate::state::State;
+use bpaf_doc::Text;
+use bpaf_words::is_argument_key;
+
+impl State {
+    /// The first key that is present, in scope, and has one of the names; under `adjacent` the first
+    /// attached one. It takes no memory.
+    ///
+    /// On a long line only the places chained with one of the names are looked at.
+    pub(crate) fn first_key(&self, shorts: &[char], longs: &[Text], adjacent: bool) -> Option<usize>
+        ensures { MatchOption result
+            (HasNone (is_argument_key (record { shorts = shorts.now; longs = longs.now }) adjacent)
+            self.now)
+            (IsFirst (is_argument_key (record { shorts = shorts.now; longs = longs.now }) adjacent)
+            self.now) }
+    {
+        let Some(chains) = &self.chains else {
+            let (place, _) = self.first_open(move |item| is_argument_key(
+                item, shorts, longs, adjacent,
+            ))?;
+            return Some(place);
+        };
+        let place = self.first_short_key(chains, shorts, longs, adjacent);
+        let place = self.first_long_key(chains, place, shorts, longs, adjacent);
+        (place < self.end).then_some(place)
+    }
+
+    /// The first such key with a number that is that of a short name; the scope's end, where there is
+    /// none.
+    fn first_short_key(
+        &self,
+        chains: &Chains,
+        shorts: &[char],
+        longs: &[Text],
+        adjacent: bool,
+    ) -> usize
+        requires { AreChainsOf self.now chains.now }
+        ensures { IsFirstAmong
+            (is_argument_key (record { shorts = shorts.now; longs = longs.now }) adjacent)
+            shorts.now self.now self.now.end result }
+    {
+        let mut place = self.end;
+        for short in shorts {
+            place = self.first_numbered(chains, *short as usize, place, shorts, longs, adjacent);
+        }
+        place
+    }
+
+    /// The first such key below a place with a number that is that of a long name; that place, where
+    /// there is none.
+    fn first_long_key(
+        &self,
+        chains: &Chains,
+        end: usize,
+        shorts: &[char],
+        longs: &[Text],
+        adjacent: bool,
+    ) -> usize
+        requires chains { AreChainsOf self.now chains.now }
+        requires inside { end ≤ length self.now.context.line }
+        ensures { IsFirstAmong
+            (is_argument_key (record { shorts = shorts.now; longs = longs.now }) adjacent)
+            (map (text_number 0) longs.now) self.now end result }
+    {
+        let mut place = end;
+        for long in longs {
+            let number = text_number(long.as_str());
+            place = self.first_numbered(chains, number, place, shorts, longs, adjacent);
+        }
+        place
+    }
+
+    /// The first such key below a place with this number; that place, where there is none.
+    fn first_numbered(
+        &self,
+        chains: &Chains,
+        number: usize,
+        end: usize,
+        shorts: &[char],
+        longs: &[Text],
+        adjacent: bool,
+    ) -> usize
+        requires chains { AreChainsOf self.now chains.now }
+        requires inside { end ≤ length self.now.context.line }
+        ensures { IsFirstAmong
+            (is_argument_key (record { shorts = shorts.now; longs = longs.now }) adjacent)
+            (number ∷ []) self.now end result }
+    {
+        let mut place = chains.head(number);
+        while place < end {
+            if self.is_key_at(place, shorts, longs, adjacent) {
+                return place;
+            }
+            place = chains.after(place);
+        }
+        end
+    }
+
+    /// Whether such a key is at a place.
+    fn is_key_at(&self, place: usize, shorts: &[char], longs: &[Text], adjacent: bool) -> bool
+        ensures { result ≡ is_match
+            (is_argument_key (record { shorts = shorts.now; longs = longs.now }) adjacent)
+            self.now place }
+    {
+        match self.get(place) {
+            Some(item) => is_argument_key(item, shorts, longs, adjacent),
+            None => false,
+        }
+    }
+}
