@@ -1,5 +1,8 @@
 -- How a run begins: its line, and a sound state.
-use Rattle.std.proofs.Common.{◌≡◌, ◌≢◌, ℕ, ◌-◌, ◌*◌, ◌<◌, ◌≤◌, ◌==◌, Bool, true, false, List, length, map, refl, ap, sym, ◌∙◌, subst, arith, Some, None, Option, IfSome, slice_get, nat_lt, ◌&&◌, ◌||◌, is_some, option_to_list, not, vec_capacity, []}
+use Rattle.std.proofs.Common.{◌≡◌, ◌≢◌, ℕ, ◌-◌, ◌*◌, ◌<◌, ◌≤◌, ◌==◌, Bool, true, false, List}
+use Rattle.std.proofs.Common.{length, map, refl, ap, sym, ◌∙◌, subst, arith, Some, None, Option}
+use Rattle.std.proofs.Common.{IfSome, slice_get, nat_lt, ◌&&◌, ◌||◌, is_some, option_to_list, not}
+use Rattle.std.proofs.Common.{vec_capacity, []}
 use Rattle.std.specs.Int.{from_bool}
 use Rattle.std.specs.Rc.{rc_slice_items}
 use Rattle.std.specs.Prelude.{string_bytes}
@@ -7,15 +10,18 @@ use Rattle.std.proofs.lemmas.Bool.{lt-ltb, and_right, or_right, or_left, eq-eqb}
 use Rattle.std.proofs.lemmas.Bool.Decides.{nat_tests}
 use Rattle.bpaf_line.specs.declared.state.State.TheInside.{Inside}
 use Rattle.bpaf_line.specs.Bits.{has_bit, IsFirstClear}
-use Rattle.bpaf_line.specs.Situation.{Situation, Context, beginning, open_count, is_open, is_taken, is_marker, is_dealt_place, TakenInTurn, IsFirstPresent}
+use Rattle.bpaf_line.specs.Situation.{Situation, Context, beginning, open_count, is_open, is_taken}
+use Rattle.bpaf_line.specs.Situation.{is_marker, is_dealt_place, TakenInTurn, IsFirstPresent}
 use Rattle.bpaf_line.specs.Chained.{Chained, class_in, head_of, AreChainsOf}
 use Rattle.bpaf_line.specs.Inside.{situation_of, BitsOf, IsSound}
 use Rattle.bpaf_line.proofs.Counts.{count_below-all, count_below-fewer}
 use Rattle.bpaf_line.proofs.Sound.{first_by_bits}
 
 -- at the beginning of a run all places of the line are present but that of the marker
-pub taken_at_beginning : (context : Context) (p : ℕ) → is_taken (beginning context) p ≡ not (is_dealt_place context p)
-taken_at_beginning context p = at_start (nat_lt p (length context.line)) (is_marker context.marker p)
+pub taken_at_beginning : (context : Context) (p : ℕ) → is_taken (beginning context) p
+    ≡ not (is_dealt_place context p)
+taken_at_beginning context p = at_start (nat_lt p (length context.line))
+    (is_marker context.marker p)
   where
     at_start : (x y : Bool) → (not x || (y || false)) ≡ not (x && not y)
     at_start true true = refl
@@ -23,9 +29,11 @@ taken_at_beginning context p = at_start (nat_lt p (length context.line)) (is_mar
     at_start false y = refl
 
 -- the bits at the beginning are those of the marker
-bits_beginning : (context : Context) (words : List ℕ) → ((p : ℕ) → has_bit words p ≡ is_marker context.marker p) → BitsOf (beginning context) words
+bits_beginning : (context : Context) (words : List ℕ)
+    → ((p : ℕ) → has_bit words p ≡ is_marker context.marker p) → BitsOf (beginning context) words
 bits_beginning context words bits p within =
-    bits p ∙ sym (ap (λ b. not b || (is_marker context.marker p || false)) (lt-ltb p (length context.line) within) ∙ or_it (is_marker context.marker p))
+    bits p ∙ sym (ap (λ b. not b || (is_marker context.marker p || false))
+        (lt-ltb p (length context.line) within) ∙ or_it (is_marker context.marker p))
   where
     or_it : (b : Bool) → (b || false) ≡ b
     or_it true = refl
@@ -36,41 +44,60 @@ abbrev start_with : Context → Option ℕ → Situation
 start_with context marker = beginning (record context { marker = marker })
 
 -- how many places are present there: all of the line but that of the marker
-open_count-start : (context : Context) (marker : Option ℕ) → IfSome marker (λ p. p < length context.line) → open_count (start_with context marker) ≡ length context.line - from_bool (is_some marker)
+open_count-start : (context : Context) (marker : Option ℕ)
+    → IfSome marker (λ p. p < length context.line) → open_count (start_with context marker)
+    ≡ length context.line - from_bool (is_some marker)
 open_count-start context None inside =
-    let all : open_count (start_with context None) ≡ length context.line = count_below-all (is_open (start_with context None)) (length context.line) (λ q within. open_at q within) in
+    let all : open_count (start_with context None) ≡ length context.line = count_below-all
+        (is_open (start_with context None)) (length context.line) (λ q within. open_at q within) in
     omega arith
   where
     open_at : (q : ℕ) → q < length context.line → is_open (start_with context None) q ≡ true
     open_at q within = grind (arith, nat_tests)
 open_count-start context (Some m) below =
     let start = start_with context (Some m) in
-    let one_fewer = count_below-fewer (λ q. nat_lt q (length context.line)) (is_open start) (length context.line) m below (lt-ltb m (length context.line) below)
-    (and_right _ _ (ap not (or_right (not (nat_lt m (length context.line))) _ (or_left (m == m) false (eq-eqb m m refl))))) (λ q other. like_it q other) in
-    omega (arith, one_fewer, count_below-all (λ q. nat_lt q (length context.line)) (length context.line) (λ q within. lt-ltb q (length context.line) within))
+    let one_fewer = count_below-fewer (λ q. nat_lt q (length context.line)) (is_open start)
+        (length context.line) m below (lt-ltb m (length context.line) below)
+    (and_right _ _ (ap not (or_right (not (nat_lt m (length context.line))) _
+        (or_left (m == m) false (eq-eqb m m refl))))) (λ q other. like_it q other) in
+    omega (arith, one_fewer, count_below-all (λ q. nat_lt q (length context.line))
+        (length context.line) (λ q within. lt-ltb q (length context.line) within))
   where
-    like_it : (q : ℕ) → q ≢ m → nat_lt q (length context.line) ≡ is_open (start_with context (Some m)) q
+    like_it : (q : ℕ) → q ≢ m → nat_lt q (length context.line)
+        ≡ is_open (start_with context (Some m)) q
     like_it q other = grind (arith, nat_tests)
 
 -- the first path begins with the set name
-path_begins : (name : Option (List ℕ)) → IfSome name (λ n. slice_get (option_to_list name) 0 ≡ Some n)
+path_begins : (name : Option (List ℕ)) → IfSome name
+    (λ n. slice_get (option_to_list name) 0 ≡ Some n)
 path_begins None = tt
 path_begins (Some n) = refl
 
 -- no place stands before the chains of a run that begins
-chains_beginning : (context : Context) (chains : Option Chained) → IfSome chains (λ c. c.classes ≡ map (class_in (length c.heads)) context.line) → IfSome chains (λ c. (p : ℕ) → p < length c.classes → head_of c p ≤ p)
+chains_beginning : (context : Context) (chains : Option Chained)
+    → IfSome chains (λ c. c.classes ≡ map (class_in (length c.heads)) context.line)
+    → IfSome chains (λ c. (p : ℕ) → p < length c.classes → head_of c p ≤ p)
     → IfSome chains (AreChainsOf (beginning context))
 chains_beginning context None classes heads = tt
-chains_beginning context (Some chains) classes heads = record { classes = classes; passed = λ p within before. absurd (let low = heads p within in omega arith) }
+chains_beginning context (Some chains) classes heads =
+    record { classes = classes; passed = λ p within before. absurd
+    (let low = heads p within in omega arith) }
 
--- a state at the beginning is sound, where its bits, its count of open places and the first are right
-pub sound_beginning : (i : Inside) (context : Context) → situation_of i ≡ beginning context → IfSome context.marker (λ p. p < length context.line)
-    → length context.line ≤ 64 * length i.words.items → ((p : ℕ) → has_bit i.words.items p ≡ is_marker context.marker p) → length context.line ≤ vec_capacity i.trail
-    → i.left ≡ length context.line - from_bool (is_some context.marker) → IsFirstClear i.words.items 0 (length context.line) i.first
-    → IfSome i.chains (λ c. c.classes ≡ map (class_in (length c.heads)) context.line) → IfSome i.chains (λ c. (p : ℕ) → p < length c.classes → head_of c p ≤ p) → IsSound i
+-- a state at the beginning is sound, where its bits, its count of open places and the first are
+-- right
+pub sound_beginning : (i : Inside) (context : Context) → situation_of i ≡ beginning context
+    → IfSome context.marker (λ p. p < length context.line)
+    → length context.line ≤ 64 * length i.words.items →
+        ((p : ℕ) → has_bit i.words.items p ≡ is_marker context.marker p) → length context.line
+        ≤ vec_capacity i.trail
+    → i.left ≡ length context.line - from_bool (is_some context.marker)
+        → IsFirstClear i.words.items 0 (length context.line) i.first
+    → IfSome i.chains (λ c. c.classes ≡ map (class_in (length c.heads)) context.line)
+        → IfSome i.chains (λ c. (p : ℕ) → p < length c.classes → head_of c p ≤ p) → IsSound i
 sound_beginning i context e marked worded bits room left clear classes heads =
     let start = beginning context in
-    let size : length (rc_slice_items i.items) ≡ length context.line = ap (λ s. length s.context.line) e in
+    let size : length (rc_slice_items i.items) ≡ length context.line = ap
+        (λ s. length s.context.line) e in
     let set : BitsOf start i.words.items = bits_beginning context i.words.items bits in
     record {
       worded = omega arith;
@@ -79,14 +106,22 @@ sound_beginning i context e marked worded bits room left clear classes heads =
       in_turn = subst TakenInTurn (sym e) (λ n within. absurd (omega arith));
       ordered = let from = ap (λ s. s.start) e in omega (arith, from);
       inside = let to = ap (λ s. s.end) e in omega (arith, to);
-      counted = left ∙ (sym (open_count-start context context.marker marked) ∙ sym (ap open_count e));
-      first = subst (λ s. IsFirstPresent s i.first) (sym e) (first_by_bits start i.words.items 0 i.first (omega arith) set (omega arith) (λ q lower upper. absurd (omega arith)) clear);
-      chained = subst (λ s. IfSome i.chains (AreChainsOf s)) (sym e) (chains_beginning context i.chains classes heads);
-      named = subst (λ s. IfSome s.context.name (λ n. slice_get s.path 0 ≡ Some n)) (sym e) (path_begins context.name);
+      counted = left ∙ (sym (open_count-start context context.marker marked)
+          ∙ sym (ap open_count e));
+      first = subst (λ s. IsFirstPresent s i.first) (sym e)
+          (first_by_bits start i.words.items 0 i.first (omega arith) set (omega arith)
+          (λ q lower upper. absurd (omega arith)) clear);
+      chained = subst (λ s. IfSome i.chains (AreChainsOf s)) (sym e)
+          (chains_beginning context i.chains classes heads);
+      named = subst (λ s. IfSome s.context.name (λ n. slice_get s.path 0 ≡ Some n)) (sym e)
+          (path_begins context.name);
     }
 
 -- a state whose fields are those of the beginning is at the beginning
-pub begins : (i : Inside) (context : Context) → rc_slice_items i.items ≡ context.line → i.marker ≡ context.marker → rc_slice_items i.env ≡ context.env → i.name ≡ context.name
-    → i.trail.items ≡ [] → i.conflicts.items ≡ [] → i.start ≡ 0 → i.end ≡ length context.line → map string_bytes i.path.items ≡ option_to_list context.name → i.current ≡ None
+pub begins : (i : Inside) (context : Context) → rc_slice_items i.items ≡ context.line → i.marker
+    ≡ context.marker → rc_slice_items i.env ≡ context.env → i.name ≡ context.name
+    → i.trail.items ≡ [] → i.conflicts.items ≡ [] → i.start ≡ 0 → i.end ≡ length context.line
+        → map string_bytes i.path.items ≡ option_to_list context.name → i.current ≡ None
     → situation_of i ≡ beginning context
-begins i context a m b c trail conflicts e f g h = rw (a, m, b, c, trail, conflicts, e, f, g, h) refl
+begins i context a m b c trail conflicts e f g h =
+    rw (a, m, b, c, trail, conflicts, e, f, g, h) refl

@@ -1,7 +1,11 @@
 -- Bits in words of 64: what a write of one word changes.
-use Rattle.std.proofs.Common.{◌≡◌, ◌≢◌, ℕ, ◌+◌, ◌*◌, ◌/◌, ◌%◌, ◌<◌, ◌≤◌, ◌==◌, Bool, true, false, not, List, length, refl, ap, sym, ◌∙◌, arith, ⊎_elim, slice_index, slice_set, get_or-set_same, get_or-set_other, nat_le, replicate, suc, if◌then◌else◌}
+use Rattle.std.proofs.Common.{◌≡◌, ◌≢◌, ℕ, ◌+◌, ◌*◌, ◌/◌, ◌%◌, ◌<◌, ◌≤◌, ◌==◌, Bool, true, false}
+use Rattle.std.proofs.Common.{not, List, length, refl, ap, sym, ◌∙◌, arith, ⊎_elim, slice_index}
+use Rattle.std.proofs.Common.{slice_set, get_or-set_same, get_or-set_other, nat_le, replicate, suc}
+use Rattle.std.proofs.Common.{if◌then◌else◌}
 use Rattle.std.specs.Int.{bit_at}
-use Rattle.std.proofs.lemmas.Bool.{cases_eq, cases_lt, eq-eqb, ne_eqb, and_left, and_right, and_from, le-leb, leb-true}
+use Rattle.std.proofs.lemmas.Bool.{cases_eq, cases_lt, eq-eqb, ne_eqb, and_left, and_right}
+use Rattle.std.proofs.lemmas.Bool.{and_from, le-leb, leb-true}
 use Rattle.std.proofs.lemmas.Nat.Bits.{bit_at_ones, bit_at-zero}
 use Rattle.std.proofs.lemmas.List.{get_or-replicate, get_or_past, length-replicate}
 use Rattle.bpaf_line.specs.Bits.{has_bit, is_clear_from, count_clear, ChangesBit, IsFirstClear}

@@ -1,9 +1,12 @@
 -- The bits of several places at once, and the least place of some.
-use Rattle.std.proofs.Common.{◌≡◌, ◌≢◌, ℕ, ◌<◌, ◌≤◌, ◌==◌, Bool, true, false, not, ◌&&◌, List, [], ◌∷◌, ◌++◌, Option, Some, None, length, refl, ap, sym, ◌∙◌, subst, arith, ⊎_elim, min, if◌then◌else◌, true≢false, slice_index}
+use Rattle.std.proofs.Common.{◌≡◌, ◌≢◌, ℕ, ◌<◌, ◌≤◌, ◌==◌, Bool, true, false, not, ◌&&◌, List, []}
+use Rattle.std.proofs.Common.{◌∷◌, ◌++◌, Option, Some, None, length, refl, ap, sym, ◌∙◌, subst}
+use Rattle.std.proofs.Common.{arith, ⊎_elim, min, if◌then◌else◌, true≢false, slice_index}
 use Rattle.std.proofs.lemmas.List.Folds.{list_any_at}
 use Rattle.std.proofs.lemmas.Bool.{cases_eq, cases_lt, cases_Bool, eq-eqb, or_right}
 use Rattle.std.proofs.Math.Bool.{beq}
-use Rattle.bpaf_line.specs.Bits.{has_bit, lesser_of, is_on_as, is_in_first, ChangesBit, ChangesBits, IsLeastIn}
+use Rattle.bpaf_line.specs.Bits.{has_bit, lesser_of, is_on_as, is_in_first, ChangesBit, ChangesBits}
+use Rattle.bpaf_line.specs.Bits.{IsLeastIn}
 use Rattle.bpaf_line.specs.Situation.{is_on}
 use Rattle.bpaf_line.proofs.Places.{is_on_push, on_others}
 

@@ -1,5 +1,6 @@
 -- The first present item, where it is the word of no command.
-use Rattle.std.proofs.Common.{◌≡◌, ◌≢◌, ℕ, ◌<◌, ◌≤◌, Bool, false, List, Some, sym, ◌∙◌, subst, arith, ⊎_elim, true≢false}
+use Rattle.std.proofs.Common.{◌≡◌, ◌≢◌, ℕ, ◌<◌, ◌≤◌, Bool, false, List, Some, sym, ◌∙◌, subst}
+use Rattle.std.proofs.Common.{arith, ⊎_elim, true≢false}
 use Rattle.std.specs.Option.{option_map_or}
 use Rattle.std.proofs.lemmas.Bool.{cases_lt, cases_eq}
 use Rattle.bpaf_words.specs.declared.arg.Arg.{Arg}

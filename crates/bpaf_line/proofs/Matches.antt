@@ -1,5 +1,6 @@
 -- Matches: a first item that passes a test is present, in scope, and passes it.
-use Rattle.std.proofs.Common.{◌≡◌, ◌≢◌, ℕ, ◌+◌, ◌<◌, Bool, true, false, List, Option, Some, None, refl, ap, ◌∙◌, arith, ⊎_elim, if◌then◌else◌, option_and_then}
+use Rattle.std.proofs.Common.{◌≡◌, ◌≢◌, ℕ, ◌+◌, ◌<◌, Bool, true, false, List, Option, Some, None}
+use Rattle.std.proofs.Common.{refl, ap, ◌∙◌, arith, ⊎_elim, if◌then◌else◌, option_and_then}
 use Rattle.std.proofs.lemmas.Bool.{cases_eq}
 use Rattle.std.specs.Option.{option_map_or}
 use Rattle.bpaf_words.specs.declared.arg.Arg.{Arg}

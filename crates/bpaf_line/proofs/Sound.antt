@@ -1,35 +1,48 @@
 -- Steps that keep a state sound.
-use Rattle.std.proofs.Common.{◌≡◌, map, string_bytes, None, ◌≢◌, ℕ, zero, suc, ◌+◌, ◌-◌, ◌<◌, ◌≤◌, Bool, true, false, not, List, [], ◌∷◌, ◌++◌, length, refl, ap, sym, ◌∙◌, subst, arith, if◌then◌else◌, ⊎_elim, Vec, String, vec_capacity, vec_len, get_or, Option, Some, nat_lt, nat_le, slice_index, slice_get, take, min, max, ◌&&◌, ◌||◌, IfSome}
+use Rattle.std.proofs.Common.{◌≡◌, map, string_bytes, None, ◌≢◌, ℕ, zero, suc, ◌+◌, ◌-◌, ◌<◌, ◌≤◌}
+use Rattle.std.proofs.Common.{Bool, true, false, not, List, [], ◌∷◌, ◌++◌, length, refl, ap, sym}
+use Rattle.std.proofs.Common.{◌∙◌, subst, arith, if◌then◌else◌, ⊎_elim, Vec, String, vec_capacity}
+use Rattle.std.proofs.Common.{vec_len, get_or, Option, Some, nat_lt, nat_le, slice_index, slice_get}
+use Rattle.std.proofs.Common.{take, min, max, ◌&&◌, ◌||◌, IfSome}
 use Rattle.std.specs.Vec.{with_items}
 use Rattle.std.specs.Bool.{then_some}
 use Rattle.std.specs.Int.{from_bool}
 use Rattle.std.specs.Option.{MatchOption}
 use Rattle.std.specs.Rc.{rc_slice_items}
 use Rattle.std.specs.declared.alloc.Global.{Global}
-use Rattle.std.proofs.lemmas.Bool.{cases_lt, cases_eq, ltb-true, ltb-false, lt-ltb, le-ltb, cond-true, and_left, and_right, and_from, le-leb}
+use Rattle.std.proofs.lemmas.Bool.{cases_lt, cases_eq, ltb-true, ltb-false, lt-ltb, le-ltb}
+use Rattle.std.proofs.lemmas.Bool.{cond-true, and_left, and_right, and_from, le-leb}
 use Rattle.std.proofs.lemmas.Bool.Decides.{nat_tests}
 use Rattle.std.proofs.lemmas.List.{with_items_is, get_or_read}
 use Rattle.std.proofs.lemmas.Option.{slice_get-get_or}
 use Rattle.bpaf_words.specs.declared.arg.Arg.{Arg}
 use Rattle.bpaf_line.specs.declared.state.State.TheInside.{Inside}
 use Rattle.bpaf_line.specs.Bits.{has_bit, is_clear_from, count_clear, ChangesBit, IsFirstClear}
-use Rattle.bpaf_line.specs.Chained.{Chained, class_in, head_of, AreChainsOf, HavePassed, ReachBack, IfChained}
+use Rattle.bpaf_line.specs.Chained.{Chained, class_in, head_of, AreChainsOf, HavePassed, ReachBack}
+use Rattle.bpaf_line.specs.Chained.{IfChained}
 use Rattle.bpaf_line.specs.Inside.{situation_of, BitsOf, IsSound}
-use Rattle.bpaf_line.specs.Situation.{Situation, with_trail, with_scope, cut_to, is_open, is_marker, is_taken, is_on, in_scope, open_count, TakenInTurn, IsFirstPresent, IsNextOpen, HasNoneOpen}
+use Rattle.bpaf_line.specs.Situation.{Situation, with_trail, with_scope, cut_to, is_open, is_marker}
+use Rattle.bpaf_line.specs.Situation.{is_taken, is_on, in_scope, open_count, TakenInTurn}
+use Rattle.bpaf_line.specs.Situation.{IsFirstPresent, IsNextOpen, HasNoneOpen}
 use Rattle.bpaf_line.specs.Taking.{open_item}
-use Rattle.bpaf_line.proofs.Places.{put, put_here, put_other, put_stays, open_count-put, in_turn_put, room_on_trail, last_put, in_turn_cut, first_without, present_in_line, open_in_scope, open_not_taken}
+use Rattle.bpaf_line.proofs.Places.{put, put_here, put_other, put_stays, open_count-put}
+use Rattle.bpaf_line.proofs.Places.{in_turn_put, room_on_trail, last_put, in_turn_cut}
+use Rattle.bpaf_line.proofs.Places.{first_without, present_in_line, open_in_scope, open_not_taken}
 use Rattle.bpaf_line.proofs.Counts.{count_below-same, count_below-cut, count_below-most}
 use Rattle.bpaf_line.proofs.Chained.{classes_size}
 
 -- the bits of a situation with one place more
-pub bits_put : (s : Situation) (old new : List ℕ) (p : ℕ) → BitsOf s old → ChangesBit old new p true → BitsOf (put s p) new
+pub bits_put : (s : Situation) (old new : List ℕ) (p : ℕ) → BitsOf s old
+    → ChangesBit old new p true → BitsOf (put s p) new
 bits_put s old new p bits change q within = ⊎_elim
-    (λ (at : q ≡ p). ap (has_bit new) at ∙ (change.here ∙ sym (ap (is_taken (put s p)) at ∙ put_here s p)))
+    (λ (at : q ≡ p). ap (has_bit new) at ∙ (change.here
+        ∙ sym (ap (is_taken (put s p)) at ∙ put_here s p)))
     (λ (other : q ≢ p). change.others q other ∙ (bits q within ∙ sym (put_other s p q other)))
     (cases_eq q p)
 
 -- the first present place is found by the bits, from a place up to which all are taken
-pub first_by_bits : (s : Situation) (words : List ℕ) (from p : ℕ) → s.end ≤ length s.context.line → BitsOf s words → s.start ≤ from → ((q : ℕ) → s.start ≤ q → q < from → is_taken s q ≡ true)
+pub first_by_bits : (s : Situation) (words : List ℕ) (from p : ℕ) → s.end ≤ length s.context.line
+    → BitsOf s words → s.start ≤ from → ((q : ℕ) → s.start ≤ q → q < from → is_taken s q ≡ true)
     → IsFirstClear words from s.end p → IsFirstPresent s p
 first_by_bits s words from p inside bits above passed first = record {
   from = omega (arith, first.from);
@@ -42,35 +55,48 @@ first_by_bits s words from p inside bits above passed first = record {
 }
 
 -- what stands before the chains is taken, where they begin behind it and one place more is taken
-pub chains_put : (s : Situation) (p : ℕ) (words : List ℕ) (old new : Option Chained) → BitsOf (put s p) words → IfSome old (AreChainsOf s) → IfChained (HavePassed words) old new → IfSome new (AreChainsOf (put s p))
+pub chains_put : (s : Situation) (p : ℕ) (words : List ℕ) (old new : Option Chained)
+    → BitsOf (put s p) words → IfSome old (AreChainsOf s) → IfChained (HavePassed words) old new
+    → IfSome new (AreChainsOf (put s p))
 chains_put s p words None None bits h passed = tt
 chains_put s p words None (Some new) bits h passed = absurd passed
 chains_put s p words (Some old) None bits h passed = tt
 chains_put s p words (Some old) (Some new) bits h passed =
-    let size : length old.classes ≡ length s.context.line = classes_size s.context.line old.classes (length old.heads) h.classes in
+    let size : length old.classes ≡ length s.context.line =
+        classes_size s.context.line old.classes (length old.heads) h.classes in
     record {
-      classes = passed.classes ∙ (h.classes ∙ ap (λ n. map (class_in n) s.context.line) (sym passed.count));
-      passed = λ q within before. let inside : q < length old.classes = omega (arith, ap length passed.classes) in ⊎_elim
+      classes = passed.classes ∙ (h.classes ∙ ap (λ n. map (class_in n) s.context.line)
+          (sym passed.count));
+      passed = λ q within before. let inside : q < length old.classes = omega
+          (arith, ap length passed.classes) in ⊎_elim
           (λ (early : q < head_of old q). put_stays s p q (h.passed q inside early))
-          (λ (behind : head_of old q ≤ q). sym (bits q (omega arith)) ∙ passed.passed q inside behind before)
+          (λ (behind : head_of old q ≤ q). sym (bits q (omega arith))
+              ∙ passed.passed q inside behind before)
           (cases_lt q (head_of old q));
     }
 
 -- and where they begin no later, also not behind the place that is taken no more
-pub chains_untake : (s : Situation) (p : ℕ) (old new : Option Chained) → IfSome old (AreChainsOf (put s p)) → IfChained (ReachBack p) old new → IfSome new (AreChainsOf s)
+pub chains_untake : (s : Situation) (p : ℕ) (old new : Option Chained)
+    → IfSome old (AreChainsOf (put s p)) → IfChained (ReachBack p) old new
+    → IfSome new (AreChainsOf s)
 chains_untake s p None None h back = tt
 chains_untake s p None (Some new) h back = absurd back
 chains_untake s p (Some old) None h back = tt
 chains_untake s p (Some old) (Some new) h back = record {
   classes = back.classes ∙ (h.classes ∙ ap (λ n. map (class_in n) s.context.line) (sym back.count));
-  passed = λ q within before. let inside : q < length old.classes = omega (arith, ap length back.classes) in ⊎_elim
-      (λ (at : q ≡ p). absurd (let low : head_of new q ≤ q = subst (λ x. head_of new x ≤ x) (sym at) back.here in omega arith))
-      (λ (other : q ≢ p). sym (put_other s p q other) ∙ h.passed q inside (omega (arith, back.earlier q inside)))
+  passed = λ q within before. let inside : q < length old.classes = omega
+      (arith, ap length back.classes) in ⊎_elim
+      (λ (at : q ≡ p). absurd (let low : head_of new q ≤ q = subst (λ x. head_of new x ≤ x)
+          (sym at) back.here in omega arith))
+      (λ (other : q ≢ p). sym (put_other s p q other) ∙ h.passed q inside
+          (omega (arith, back.earlier q inside)))
       (cases_eq q p);
 }
 
 -- and where the same is taken on the same line
-pub chains_same : (s t : Situation) (chains : Option Chained) → t.context ≡ s.context → ((p : ℕ) → is_taken t p ≡ is_taken s p) → IfSome chains (AreChainsOf s) → IfSome chains (AreChainsOf t)
+pub chains_same : (s t : Situation) (chains : Option Chained) → t.context ≡ s.context
+    → ((p : ℕ) → is_taken t p ≡ is_taken s p) → IfSome chains (AreChainsOf s)
+    → IfSome chains (AreChainsOf t)
 chains_same s t None context taken h = tt
 chains_same s t (Some chains) context taken h = record {
   classes = h.classes ∙ ap (λ c. map (class_in (length chains.heads)) c.line) (sym context);
@@ -79,16 +105,24 @@ chains_same s t (Some chains) context taken h = record {
 
 -- a state with other bits and another trail, counted anew
 abbrev pub with_parts : Inside → List ℕ → Vec ℕ Global → ℕ → ℕ → Option Chained → Inside
-with_parts s words trail left first chains = record s { words = with_items s.words words; trail = trail; left = left; first = first; chains = chains }
+with_parts s words trail left first chains =
+    record s { words = with_items s.words words; trail = trail; left = left; first = first;
+    chains = chains }
 
 -- it is sound with one place more
-pub sound_put : (s : Inside) (p : ℕ) (words : List ℕ) (trail : Vec ℕ Global) (left first : ℕ) (chains : Option Chained) → IsSound s → is_taken (situation_of s) p ≡ false
-    → ChangesBit s.words.items words p true → trail.items ≡ s.trail.items ++ p ∷ [] → vec_capacity s.trail ≤ vec_capacity trail
-    → left ≡ s.left - from_bool (in_scope (situation_of s) p) → IsFirstClear words s.first s.end first
-    → IfChained (HavePassed words) s.chains chains → IsSound (with_parts s words trail left first chains)
+pub sound_put : (s : Inside) (p : ℕ) (words : List ℕ) (trail : Vec ℕ Global) (left first : ℕ)
+    (chains : Option Chained) → IsSound s → is_taken (situation_of s) p ≡ false
+    → ChangesBit s.words.items words p true → trail.items ≡ s.trail.items ++ p ∷ []
+        → vec_capacity s.trail ≤ vec_capacity trail
+    → left ≡ s.left - from_bool (in_scope (situation_of s) p)
+        → IsFirstClear words s.first s.end first
+    → IfChained (HavePassed words) s.chains chains → IsSound
+        (with_parts s words trail left first chains)
 sound_put s p words trail left first chains h free change pushed grown counted next passed =
-    let means : situation_of (with_parts s words trail left first chains) ≡ put (situation_of s) p = ap (with_trail (situation_of s)) pushed in
-    let written : (with_items s.words words).items ≡ words = with_items_is s.words words (change.kept ∙ sym s.words.ok.0) in
+    let means : situation_of (with_parts s words trail left first chains)
+        ≡ put (situation_of s) p = ap (with_trail (situation_of s)) pushed in
+    let written : (with_items s.words words).items ≡ words = with_items_is s.words words
+        (change.kept ∙ sym s.words.ok.0) in
     let new = put (situation_of s) p in
     let bits : BitsOf new words = bits_put (situation_of s) s.words.items words p h.bits change in
     let fewer = open_count-put (situation_of s) p free in
@@ -99,37 +133,53 @@ sound_put s p words trail left first chains h free change pushed grown counted n
       in_turn = rw pushed (in_turn_put (situation_of s) p h.in_turn free);
       ordered = h.ordered;
       inside = h.inside;
-      counted = let less : left ≡ open_count new = omega (arith, h.counted) in less ∙ sym (ap open_count means);
+      counted = let less : left ≡ open_count new = omega (arith, h.counted) in less
+          ∙ sym (ap open_count means);
       first = subst (λ t. IsFirstPresent t first) (sym means)
-          (first_by_bits new words s.first first h.inside bits h.first.from (λ q lower upper. put_stays (situation_of s) p q (h.first.passed q lower upper)) next);
-      chained = subst (λ t. IfSome chains (AreChainsOf t)) (sym means) (chains_put (situation_of s) p words s.chains chains bits h.chained passed);
+          (first_by_bits new words s.first first h.inside bits h.first.from
+              (λ q lower upper. put_stays (situation_of s) p q
+              (h.first.passed q lower upper)) next);
+      chained = subst (λ t. IfSome chains (AreChainsOf t)) (sym means)
+          (chains_put (situation_of s) p words s.chains chains bits h.chained passed);
       named = h.named;
     }
 
 -- what is subtracted from the count of those left is no more than they are
-pub left_enough : (s : Inside) (p n : ℕ) → IsSound s → is_taken (situation_of s) p ≡ false → n ≡ from_bool (in_scope (situation_of s) p) → n ≤ s.left
+pub left_enough : (s : Inside) (p n : ℕ) → IsSound s → is_taken (situation_of s) p ≡ false → n
+    ≡ from_bool (in_scope (situation_of s) p) → n ≤ s.left
 left_enough s p n h free e = omega (arith, e, h.counted, open_count-put (situation_of s) p free)
 
 -- the trail has room for a present place
-pub room_for : (s : Inside) (p : ℕ) → IsSound s → is_taken (situation_of s) p ≡ false → vec_len s.trail < vec_capacity s.trail
-room_for s p h free = omega (arith, s.trail.ok.0, h.room, room_on_trail (situation_of s) p h.in_turn free)
+pub room_for : (s : Inside) (p : ℕ) → IsSound s → is_taken (situation_of s) p ≡ false
+    → vec_len s.trail < vec_capacity s.trail
+room_for s p h free = omega (arith, s.trail.ok.0, h.room, room_on_trail
+    (situation_of s) p h.in_turn free)
 
 -- so a place that was pushed is on it
-pub pushed_place : (s : Inside) (p : ℕ) (trail : Vec ℕ Global) (pushed : Bool) → IsSound s → is_taken (situation_of s) p ≡ false
-    → (vec_len s.trail < vec_capacity s.trail → pushed ≡ true) → trail.items ≡ (if pushed then s.trail.items ++ p ∷ [] else s.trail.items) → trail.items ≡ s.trail.items ++ p ∷ []
-pushed_place s p trail pushed h free succeeds is = is ∙ cond-true pushed _ _ (succeeds (room_for s p h free))
+pub pushed_place : (s : Inside) (p : ℕ) (trail : Vec ℕ Global) (pushed : Bool) → IsSound s
+    → is_taken (situation_of s) p ≡ false
+    → (vec_len s.trail < vec_capacity s.trail → pushed ≡ true) → trail.items
+        ≡ (if pushed then s.trail.items ++ p ∷ [] else s.trail.items) → trail.items ≡ s.trail.items
+        ++ p ∷ []
+pushed_place s p trail pushed h free succeeds is = is
+    ∙ cond-true pushed _ _ (succeeds (room_for s p h free))
 
 -- the bits of a situation with one place fewer
-pub bits_untake : (s : Situation) (old new : List ℕ) (p : ℕ) → BitsOf (put s p) old → ChangesBit old new p false → is_taken s p ≡ false → BitsOf s new
+pub bits_untake : (s : Situation) (old new : List ℕ) (p : ℕ) → BitsOf (put s p) old
+    → ChangesBit old new p false → is_taken s p ≡ false → BitsOf s new
 bits_untake s old new p bits change free q within = ⊎_elim
     (λ (at : q ≡ p). ap (has_bit new) at ∙ (change.here ∙ sym (ap (is_taken s) at ∙ free)))
     (λ (other : q ≢ p). change.others q other ∙ (bits q within ∙ put_other s p q other))
     (cases_eq q p)
 
 -- it is sound without the last place
-pub sound_untake : (s : Inside) (p : ℕ) (words : List ℕ) (trail : Vec ℕ Global) (left first : ℕ) (chains : Option Chained) → IsSound s → 0 < length s.trail.items → p ≡ slice_index s.trail.items (length s.trail.items - 1)
-    → ChangesBit s.words.items words p false → trail.items ≡ take (length s.trail.items - 1) s.trail.items → vec_capacity s.trail ≤ vec_capacity trail
-    → left ≡ s.left + from_bool (in_scope (situation_of s) p) → first ≡ (if in_scope (situation_of s) p then min s.first p else s.first)
+pub sound_untake : (s : Inside) (p : ℕ) (words : List ℕ) (trail : Vec ℕ Global) (left first : ℕ)
+    (chains : Option Chained) → IsSound s → 0 < length s.trail.items → p
+    ≡ slice_index s.trail.items (length s.trail.items - 1)
+    → ChangesBit s.words.items words p false → trail.items
+        ≡ take (length s.trail.items - 1) s.trail.items → vec_capacity s.trail ≤ vec_capacity trail
+    → left ≡ s.left + from_bool (in_scope (situation_of s) p) → first
+        ≡ (if in_scope (situation_of s) p then min s.first p else s.first)
     → IfChained (ReachBack p) s.chains chains → IsSound (with_parts s words trail left first chains)
 sound_untake s p words trail left first chains h some last change shorter same counted next back =
     let old = situation_of s in
@@ -137,12 +187,17 @@ sound_untake s p words trail left first chains h some last change shorter same c
     let new = cut_to old n in
     let before : put new p ≡ old = ap (put new) last ∙ last_put old some in
     let free : is_taken new p ≡ false = ap (is_taken new) last ∙ h.in_turn n (omega arith) in
-    let written : (with_items s.words words).items ≡ words = with_items_is s.words words (change.kept ∙ sym s.words.ok.0) in
-    let bits : BitsOf new words = bits_untake new s.words.items words p (subst (λ t. BitsOf t s.words.items) (sym before) h.bits) change free in
+    let written : (with_items s.words words).items ≡ words = with_items_is s.words words
+        (change.kept ∙ sym s.words.ok.0) in
+    let bits : BitsOf new words = bits_untake new s.words.items words p
+        (subst (λ t. BitsOf t s.words.items) (sym before) h.bits) change free in
     let more = open_count-put new p free in
     let was : open_count (put new p) ≡ open_count old = ap open_count before in
-    let means : situation_of (with_parts s words trail left first chains) ≡ new = ap (with_trail old) shorter in
-    let earlier : IsFirstPresent new first = subst (IsFirstPresent new) (sym next) (first_without new p s.first (subst (λ t. IsFirstPresent t s.first) (sym before) h.first) free) in
+    let means : situation_of (with_parts s words trail left first chains)
+        ≡ new = ap (with_trail old) shorter in
+    let earlier : IsFirstPresent new first = subst (IsFirstPresent new) (sym next)
+        (first_without new p s.first (subst (λ t. IsFirstPresent t s.first)
+        (sym before) h.first) free) in
     record {
       worded = rw written (omega (arith, h.worded, change.kept));
       bits = rw (written, shorter) bits;
@@ -150,28 +205,39 @@ sound_untake s p words trail left first chains h some last change shorter same c
       in_turn = rw shorter (in_turn_cut old n h.in_turn (omega arith));
       ordered = h.ordered;
       inside = h.inside;
-      counted = let now : left ≡ open_count new = omega (arith, h.counted) in now ∙ sym (ap open_count means);
+      counted = let now : left ≡ open_count new = omega (arith, h.counted) in now
+          ∙ sym (ap open_count means);
       first = subst (λ t. IsFirstPresent t first) (sym means) earlier;
-      chained = subst (λ t. IfSome chains (AreChainsOf t)) (sym means) (chains_untake new p s.chains chains (subst (λ t. IfSome s.chains (AreChainsOf t)) (sym before) h.chained) back);
+      chained = subst (λ t. IfSome chains (AreChainsOf t)) (sym means)
+          (chains_untake new p s.chains chains (subst (λ t. IfSome s.chains (AreChainsOf t))
+          (sym before) h.chained) back);
       named = h.named;
     }
 
 -- with one place fewer the count of those left fits too
-pub left_below_count : (s : Inside) (p n : ℕ) → IsSound s → 0 < length s.trail.items → p ≡ slice_index s.trail.items (length s.trail.items - 1) → n ≡ from_bool (in_scope (situation_of s) p) → s.left + n ≤ length (rc_slice_items s.items)
+pub left_below_count : (s : Inside) (p n : ℕ) → IsSound s → 0 < length s.trail.items → p
+    ≡ slice_index s.trail.items (length s.trail.items - 1) → n
+    ≡ from_bool (in_scope (situation_of s) p) → s.left + n ≤ length (rc_slice_items s.items)
 left_below_count s p n h some last is =
     let old = situation_of s in
     let new = cut_to old (length s.trail.items - 1) in
     let before : put new p ≡ old = ap (put new) last ∙ last_put old some in
-    let free : is_taken new p ≡ false = ap (is_taken new) last ∙ h.in_turn (length s.trail.items - 1) (omega arith) in
+    let free : is_taken new p ≡ false = ap (is_taken new) last
+        ∙ h.in_turn (length s.trail.items - 1) (omega arith) in
     let was : open_count (put new p) ≡ open_count old = ap open_count before in
-    omega (arith, is, h.counted, open_count-put new p free, count_below-most (is_open new) (length (rc_slice_items s.items)))
+    omega (arith, is, h.counted, open_count-put new p free, count_below-most (is_open new)
+        (length (rc_slice_items s.items)))
 
 -- the places of a scope that are clear are those that are open in it
-pub count_clear-open : (s : Situation) (words : List ℕ) (start end : ℕ) → BitsOf s words → end ≤ length s.context.line → count_clear words start end ≡ open_count (with_scope s start end)
+pub count_clear-open : (s : Situation) (words : List ℕ) (start end : ℕ) → BitsOf s words → end
+    ≤ length s.context.line → count_clear words start end ≡ open_count (with_scope s start end)
 count_clear-open s words start end bits inside =
     let set = is_open (with_scope s start end) in
-    count_below-same (is_clear_from words start) set end (λ q within. ap (λ b. nat_le start q && not b) (bits q (omega arith)) ∙ ap (λ b. b && not (is_taken s q)) (sym (in_it q within)))
-    ∙ sym (count_below-cut set end (length s.context.line) inside (λ q past _. and_left _ _ (and_right _ _ (le-ltb q end past))))
+    count_below-same (is_clear_from words start) set end
+        (λ q within. ap (λ b. nat_le start q && not b) (bits q (omega arith))
+        ∙ ap (λ b. b && not (is_taken s q)) (sym (in_it q within)))
+    ∙ sym (count_below-cut set end (length s.context.line) inside
+        (λ q past _. and_left _ _ (and_right _ _ (le-ltb q end past))))
   where
     in_it : (q : ℕ) → q < end → (nat_le start q && nat_lt q end) ≡ nat_le start q
     in_it q within = ap (λ b. nat_le start q && b) (lt-ltb q end within) ∙ and_it (nat_le start q)
@@ -181,7 +247,9 @@ count_clear-open s words start end bits inside =
         and_it false = refl
 
 -- it is sound with another scope
-pub sound_scope : (s : Inside) (start end left first : ℕ) → IsSound s → start ≤ end → end ≤ length (rc_slice_items s.items) → left ≡ count_clear s.words.items start end → IsFirstClear s.words.items start end first
+pub sound_scope : (s : Inside) (start end left first : ℕ) → IsSound s → start ≤ end → end
+    ≤ length (rc_slice_items s.items) → left ≡ count_clear s.words.items start end
+    → IsFirstClear s.words.items start end first
     → IsSound (record s { start = start; end = end; left = left; first = first })
 sound_scope s start end left first h ordered inside counted clear = record {
   worded = h.worded;
@@ -191,26 +259,33 @@ sound_scope s start end left first h ordered inside counted clear = record {
   ordered = ordered;
   inside = inside;
   counted = counted ∙ count_clear-open (situation_of s) s.words.items start end h.bits inside;
-  first = first_by_bits (with_scope (situation_of s) start end) s.words.items start first inside h.bits (omega arith) (λ q lower upper. absurd (omega arith)) clear;
-  chained = chains_same (situation_of s) (with_scope (situation_of s) start end) s.chains refl (λ q. refl) h.chained;
+  first = first_by_bits
+      (with_scope (situation_of s) start end) s.words.items start first inside h.bits (omega arith)
+      (λ q lower upper. absurd (omega arith)) clear;
+  chained = chains_same (situation_of s) (with_scope (situation_of s) start end) s.chains refl
+      (λ q. refl) h.chained;
   named = h.named;
 }
 
 -- what is read at the trail's end is its last place
-pub last_read : (s : Inside) (n p : ℕ) → n ≡ vec_len s.trail → 0 < length s.trail.items → p ≡ get_or s.trail.items (n - 1) p → p ≡ slice_index s.trail.items (length s.trail.items - 1)
+pub last_read : (s : Inside) (n p : ℕ) → n ≡ vec_len s.trail → 0 < length s.trail.items → p
+    ≡ get_or s.trail.items (n - 1) p → p ≡ slice_index s.trail.items (length s.trail.items - 1)
 last_read s n p is some read =
     let at : n - 1 ≡ length s.trail.items - 1 = omega (arith, is, s.trail.ok.0) in
-    get_or_read s.trail.items (length s.trail.items - 1) p (omega arith) (read ∙ ap (λ i. get_or s.trail.items i p) at) 0
+    get_or_read s.trail.items (length s.trail.items - 1) p (omega arith)
+        (read ∙ ap (λ i. get_or s.trail.items i p) at) 0
 
 -- a place that is on the trail's end lies in the line
-pub last_in_line : (s : Inside) (p : ℕ) → IsSound s → 0 < length s.trail.items → p ≡ slice_index s.trail.items (length s.trail.items - 1) → p < length (rc_slice_items s.items)
+pub last_in_line : (s : Inside) (p : ℕ) → IsSound s → 0 < length s.trail.items → p
+    ≡ slice_index s.trail.items (length s.trail.items - 1) → p < length (rc_slice_items s.items)
 last_in_line s p h some last =
     let n = length s.trail.items - 1 in
     let new = cut_to (situation_of s) n in
     present_in_line new p (ap (is_taken new) last ∙ h.in_turn n (omega arith))
 
 -- it is sound with other conflict marks, and another path that begins with the set name
-pub sound_path : (s : Inside) (conflicts : Vec (ℕ × ℕ) Global) (path : Vec (String Global) Global) → IsSound s → IfSome s.name (λ n. slice_get (map string_bytes path.items) 0 ≡ Some n)
+pub sound_path : (s : Inside) (conflicts : Vec (ℕ × ℕ) Global) (path : Vec (String Global) Global)
+    → IsSound s → IfSome s.name (λ n. slice_get (map string_bytes path.items) 0 ≡ Some n)
     → IsSound (record s { conflicts = conflicts; path = path })
 sound_path s conflicts path h named = record {
   worded = h.worded;
@@ -220,26 +295,33 @@ sound_path s conflicts path h named = record {
   ordered = h.ordered;
   inside = h.inside;
   counted = h.counted;
-  first = record { from = h.first.from; within = h.first.within; present = h.first.present; passed = h.first.passed };
-  chained = chains_same (situation_of s) (situation_of (record s { conflicts = conflicts; path = path })) s.chains refl (λ q. refl) h.chained;
+  first = record { from = h.first.from; within = h.first.within; present = h.first.present;
+      passed = h.first.passed };
+  chained = chains_same (situation_of s) (situation_of
+      (record s { conflicts = conflicts; path = path })) s.chains refl (λ q. refl) h.chained;
   named = named;
 }
 
 -- a path that is cut begins with the set name, where it is not cut to nothing
-pub path_cut : (name : Option (List ℕ)) (path : List (List ℕ)) (n : ℕ) → IfSome name (λ set. slice_get path 0 ≡ Some set) → IfSome name (λ _. 1 ≤ n) → IfSome name (λ set. slice_get (take n path) 0 ≡ Some set)
+pub path_cut : (name : Option (List ℕ)) (path : List (List ℕ)) (n : ℕ)
+    → IfSome name (λ set. slice_get path 0 ≡ Some set) → IfSome name (λ _. 1 ≤ n)
+    → IfSome name (λ set. slice_get (take n path) 0 ≡ Some set)
 path_cut None path n begins some = tt
 path_cut (Some set) [] n begins some = cc
 path_cut (Some set) (entry ∷ path) zero begins some = absurd (omega arith)
 path_cut (Some set) (entry ∷ path) (suc n) begins some = begins
 
 -- and so does a longer one
-pub path_longer : (name : Option (List ℕ)) (path more : List (List ℕ)) → IfSome name (λ set. slice_get path 0 ≡ Some set) → IfSome name (λ set. slice_get (path ++ more) 0 ≡ Some set)
+pub path_longer : (name : Option (List ℕ)) (path more : List (List ℕ))
+    → IfSome name (λ set. slice_get path 0 ≡ Some set)
+    → IfSome name (λ set. slice_get (path ++ more) 0 ≡ Some set)
 path_longer None path more begins = tt
 path_longer (Some set) [] more begins = cc
 path_longer (Some set) (entry ∷ path) more begins = begins
 
 -- a place that is present and in scope lies in the line
-pub open_in_line : (s : Inside) (p : ℕ) → IsSound s → is_open (situation_of s) p ≡ true → p < length (rc_slice_items s.items)
+pub open_in_line : (s : Inside) (p : ℕ) → IsSound s → is_open (situation_of s) p ≡ true → p
+    < length (rc_slice_items s.items)
 open_in_line s p h o = omega (arith, h.inside, open_in_scope (situation_of s) p o)
 
 -- and below the end of the scope
@@ -247,12 +329,17 @@ pub open_below_end : (s : Inside) (p : ℕ) → is_open (situation_of s) p ≡ t
 open_below_end s p o = omega (arith, open_in_scope (situation_of s) p o)
 
 -- an open place is not that of the marker, so its item is the one that the line has there
-pub open_item_is : (s : Inside) (p : ℕ) (xs : List Arg) (item : Arg) → IsSound s → xs ≡ rc_slice_items s.items → is_open (situation_of s) p ≡ true
+pub open_item_is : (s : Inside) (p : ℕ) (xs : List Arg) (item : Arg) → IsSound s → xs
+    ≡ rc_slice_items s.items → is_open (situation_of s) p ≡ true
     → item ≡ get_or xs p item → open_item (situation_of s) p ≡ Some item
 open_item_is s p xs item h same o there =
-    let unmarked : is_marker s.marker p ≡ false = not_marker (not (nat_lt p (length (rc_slice_items s.items)))) (is_marker s.marker p) (is_on s.trail.items p) (open_not_taken (situation_of s) p o) in
-    let at : item ≡ get_or (rc_slice_items s.items) p item = there ∙ ap (λ ys. get_or ys p item) same in
-    rw (o, unmarked, slice_get-get_or (rc_slice_items s.items) p item (open_in_line s p h o), ← at) refl
+    let unmarked : is_marker s.marker p ≡ false = not_marker
+        (not (nat_lt p (length (rc_slice_items s.items)))) (is_marker s.marker p)
+        (is_on s.trail.items p) (open_not_taken (situation_of s) p o) in
+    let at : item ≡ get_or (rc_slice_items s.items) p item = there
+        ∙ ap (λ ys. get_or ys p item) same in
+    rw (o, unmarked, slice_get-get_or (rc_slice_items s.items) p item
+        (open_in_line s p h o), ← at) refl
   where
     not_marker : (past marker on : Bool) → (past || (marker || on)) ≡ false → marker ≡ false
     not_marker past false on e = refl
@@ -260,13 +347,16 @@ open_item_is s p xs item h same o there =
     not_marker false true on e = cc
 
 -- no place is open between one and the next place whose bit is clear
-closed_before : (s : Inside) (from place : ℕ) → IsSound s → IsFirstClear s.words.items (max from s.first) s.end place → (q : ℕ) → from ≤ q → q < place → is_open (situation_of s) q ≡ false
+closed_before : (s : Inside) (from place : ℕ) → IsSound s
+    → IsFirstClear s.words.items (max from s.first) s.end place → (q : ℕ) → from ≤ q → q < place
+    → is_open (situation_of s) q ≡ false
 closed_before s from place h clear q lower upper = by_scope (in_scope (situation_of s) q) refl
   where
     taken : s.start ≤ q → is_taken (situation_of s) q ≡ true
     taken above = ⊎_elim
         (λ (before : q < s.first). h.first.passed q above before)
-        (λ (behind : s.first ≤ q). sym (h.bits q (omega (arith, clear.within, h.inside))) ∙ clear.set q (omega arith) upper)
+        (λ (behind : s.first ≤ q). sym (h.bits q (omega (arith, clear.within, h.inside)))
+            ∙ clear.set q (omega arith) upper)
         (cases_lt q s.first)
 
     by_scope : (b : Bool) → in_scope (situation_of s) q ≡ b → is_open (situation_of s) q ≡ false
@@ -276,53 +366,71 @@ closed_before s from place h clear q lower upper = by_scope (in_scope (situation
         and_right (in_scope (situation_of s) q) _ (ap not (taken inside.0))
 
 -- no place is open where a walk begins behind the scope, or no place of the scope is present
-pub none_behind : (s : Inside) (from : ℕ) → IsSound s → s.end ≤ max from s.first → HasNoneOpen (situation_of s) from
+pub none_behind : (s : Inside) (from : ℕ) → IsSound s → s.end ≤ max from s.first
+    → HasNoneOpen (situation_of s) from
 none_behind s from h past q lower = by_scope (in_scope (situation_of s) q) refl
   where
     by_scope : (b : Bool) → in_scope (situation_of s) q ≡ b → is_open (situation_of s) q ≡ false
     by_scope false e = and_left (in_scope (situation_of s) q) _ e
     by_scope true e =
         let inside : (s.start ≤ q) × (q < s.end) = grind (arith, nat_tests) in
-        and_right (in_scope (situation_of s) q) _ (ap not (h.first.passed q inside.0 (omega (arith, inside))))
+        and_right (in_scope (situation_of s) q) _
+            (ap not (h.first.passed q inside.0 (omega (arith, inside))))
 
--- the next place whose bit is clear is the next one that is open; where it is the scope's end, none is
-pub next_found : (s : Inside) (from place : ℕ) (found : Option ℕ) → IsSound s → max from s.first < s.end → IsFirstClear s.words.items (max from s.first) s.end place → found ≡ then_some (nat_lt place s.end) place
+-- the next place whose bit is clear is the next one that is open; where it is the scope's end, none
+-- is
+pub next_found : (s : Inside) (from place : ℕ) (found : Option ℕ) → IsSound s → max from s.first
+    < s.end → IsFirstClear s.words.items (max from s.first) s.end place → found
+    ≡ then_some (nat_lt place s.end) place
     → MatchOption found (HasNoneOpen (situation_of s) from) (IsNextOpen (situation_of s) from)
 next_found s from place found h some clear is =
-    subst (λ r. MatchOption r (HasNoneOpen (situation_of s) from) (IsNextOpen (situation_of s) from)) (sym is) (by_test (nat_lt place s.end) refl)
+    subst (λ r. MatchOption r (HasNoneOpen (situation_of s) from)
+        (IsNextOpen (situation_of s) from)) (sym is) (by_test (nat_lt place s.end) refl)
   where
     none : s.end ≤ place → HasNoneOpen (situation_of s) from
     none past q lower = ⊎_elim
         (λ (before : q < place). closed_before s from place h clear q lower before)
-        (λ (behind : place ≤ q). and_left (in_scope (situation_of s) q) _ (and_right _ _ (le-ltb q s.end (omega arith))))
+        (λ (behind : place ≤ q). and_left (in_scope (situation_of s) q) _
+            (and_right _ _ (le-ltb q s.end (omega arith))))
         (cases_lt q place)
 
-    by_test : (b : Bool) → nat_lt place s.end ≡ b → MatchOption (then_some b place) (HasNoneOpen (situation_of s) from) (IsNextOpen (situation_of s) from)
+    by_test : (b : Bool) → nat_lt place s.end ≡ b → MatchOption (then_some b place)
+        (HasNoneOpen (situation_of s) from) (IsNextOpen (situation_of s) from)
     by_test true e =
         let below : place < s.end = ltb-true place s.end e in
-        let free : is_taken (situation_of s) place ≡ false = sym (h.bits place (omega (arith, h.inside))) ∙ clear.clear below in
+        let free : is_taken (situation_of s) place ≡ false = sym
+            (h.bits place (omega (arith, h.inside))) ∙ clear.clear below in
         record {
           from = omega (arith, clear.from);
-          present = and_from (in_scope (situation_of s) place) _ (and_from _ _ (le-leb s.start place (omega (arith, clear.from, h.first.from))) (lt-ltb place s.end below)) (ap not free);
+          present = and_from (in_scope (situation_of s) place) _
+              (and_from _ _ (le-leb s.start place (omega (arith, clear.from, h.first.from)))
+              (lt-ltb place s.end below)) (ap not free);
           passed = closed_before s from place h clear;
         }
     by_test false e = none (ltb-false place s.end e)
 
 -- a state of the same situation, with equal bits and first place, is sound too
-pub sound_copy : (i j : Inside) → situation_of i ≡ situation_of j → i.chains ≡ j.chains → i.words.items ≡ j.words.items → i.left ≡ j.left → i.first ≡ j.first → length (rc_slice_items i.items) ≤ vec_capacity i.trail → IsSound j → IsSound i
+pub sound_copy : (i j : Inside) → situation_of i ≡ situation_of j → i.chains ≡ j.chains
+    → i.words.items ≡ j.words.items → i.left ≡ j.left → i.first ≡ j.first
+    → length (rc_slice_items i.items) ≤ vec_capacity i.trail → IsSound j → IsSound i
 sound_copy i j same chains words left first room h =
-    let count : length (rc_slice_items i.items) ≡ length (rc_slice_items j.items) = ap (λ s. length s.context.line) same in
+    let count : length (rc_slice_items i.items) ≡ length (rc_slice_items j.items) = ap
+        (λ s. length s.context.line) same in
     let end : i.end ≡ j.end = ap (λ s. s.end) same in
     let start : i.start ≡ j.start = ap (λ s. s.start) same in
     record {
       worded = omega (arith, h.worded, ap length words);
-      bits = λ p within. ap (λ w. has_bit w p) words ∙ (h.bits p (omega arith) ∙ sym (ap (λ s. is_taken s p) same));
+      bits = λ p within. ap (λ w. has_bit w p) words ∙
+          (h.bits p (omega arith) ∙ sym (ap (λ s. is_taken s p) same));
       room = room;
       in_turn = subst TakenInTurn (sym same) h.in_turn;
       ordered = omega (arith, h.ordered);
       inside = omega (arith, h.inside);
       counted = left ∙ (h.counted ∙ sym (ap open_count same));
-      first = subst (IsFirstPresent (situation_of i)) (sym first) (subst (λ s. IsFirstPresent s j.first) (sym same) h.first);
-      chained = subst (λ c. IfSome c (AreChainsOf (situation_of i))) (sym chains) (subst (λ s. IfSome j.chains (AreChainsOf s)) (sym same) h.chained);
-      named = subst (λ s. IfSome s.context.name (λ n. slice_get s.path 0 ≡ Some n)) (sym same) h.named;
+      first = subst (IsFirstPresent (situation_of i)) (sym first)
+          (subst (λ s. IsFirstPresent s j.first) (sym same) h.first);
+      chained = subst (λ c. IfSome c (AreChainsOf (situation_of i))) (sym chains)
+          (subst (λ s. IfSome j.chains (AreChainsOf s)) (sym same) h.chained);
+      named = subst (λ s. IfSome s.context.name (λ n. slice_get s.path 0 ≡ Some n))
+          (sym same) h.named;
     }

@@ -1,5 +1,8 @@
 -- Two parses that went on from one mark: what only one of them took.
-use Rattle.std.proofs.Common.{◌≡◌, ◌≢◌, ℕ, zero, suc, ◌*◌, ◌<◌, ◌≤◌, ◌==◌, Bool, true, false, not, ◌&&◌, ◌||◌, List, [], ◌∷◌, ◌++◌, Option, Some, None, length, take, drop, refl, ap, sym, ◌∙◌, subst, arith, ⊎_elim, nat_lt, slice_index, add-one, if◌then◌else◌, true≢false}
+use Rattle.std.proofs.Common.{◌≡◌, ◌≢◌, ℕ, zero, suc, ◌*◌, ◌<◌, ◌≤◌, ◌==◌, Bool, true, false, not}
+use Rattle.std.proofs.Common.{◌&&◌, ◌||◌, List, [], ◌∷◌, ◌++◌, Option, Some, None, length, take}
+use Rattle.std.proofs.Common.{drop, refl, ap, sym, ◌∙◌, subst, arith, ⊎_elim, nat_lt, slice_index}
+use Rattle.std.proofs.Common.{add-one, if◌then◌else◌, true≢false}
 use Rattle.std.proofs.lemmas.Bool.{cases_eq, ne_eqb, eq-eqb, or_right, ltb-true, ltb-false}
 use Rattle.std.proofs.lemmas.List.{take_more, take_all, take-append-drop}
 use Rattle.std.proofs.lemmas.List.Folds.{list_any-append}
@@ -9,7 +12,8 @@ use Rattle.bpaf_line.specs.Bits.{has_bit, is_in_first, AreWithin, IsLeastIn}
 use Rattle.bpaf_line.specs.Changes.{Changes}
 use Rattle.bpaf_line.specs.Conflicts.{IsWinner, leftmost_of}
 use Rattle.bpaf_line.specs.Marks.{HasReached, CanRedo, undone, redone}
-use Rattle.bpaf_line.specs.Situation.{Situation, is_on, is_taken, is_marker, last_of, with_trail, TakenInTurn, PresentInTurn}
+use Rattle.bpaf_line.specs.Situation.{Situation, is_on, is_taken, is_marker, last_of, with_trail}
+use Rattle.bpaf_line.specs.Situation.{TakenInTurn, PresentInTurn}
 use Rattle.bpaf_line.proofs.Conflicts.{excluded_at, last_of_here, last_of_other}
 use Rattle.bpaf_line.specs.Inside.{situation_of, BitsOf, IsSound}
 use Rattle.bpaf_line.proofs.Marks.{can_redo}
@@ -142,7 +146,8 @@ module _ (s : Situation) (mark : Mark) (steps : Changes) where
     only_there q alone =
         let parts = both_of (is_on steps.taken q) (is_on (drop mark.taken s.trail) q) alone in
         let free = present_all (undone mark s) steps.taken redo.present q parts.0 in (
-          taken_own q ∙ by_none (is_taken (undone mark s) q) (is_on (drop mark.taken s.trail) q) free
+          taken_own q ∙ by_none (is_taken (undone mark s) q)
+              (is_on (drop mark.taken s.trail) q) free
               parts.1,
           taken_there q ∙ by_second (is_taken (undone mark s) q) (is_on steps.taken q)
               parts.0,
@@ -246,9 +251,11 @@ module _ (i : Inside) (s : Situation) (mark : Mark) (steps : Changes) (sound : I
         by_none true b e f = e
 
     -- also where they are known by other names
-    pub apart_as : (words own theirs : List ℕ) → words ≡ i.words.items → own ≡ drop mark.taken s.trail
+    pub apart_as : (words own theirs : List ℕ) → words ≡ i.words.items → own
+        ≡ drop mark.taken s.trail
         → theirs ≡ steps.taken → AreApart words own theirs
-    apart_as words own theirs same_words same_own same_theirs = rw (same_words, same_own, same_theirs)
+    apart_as words own theirs same_words same_own same_theirs =
+        rw (same_words, same_own, same_theirs)
         apart
 
     -- and the first of either tells the winner

@@ -1,6 +1,7 @@
 -- The places of a line, chained by the names of their items. No contract above this crate speaks of
 -- them.
-use Rattle.std.specs.Prelude.{ℕ, ◌≡◌, ◌≢◌, ◌+◌, ◌*◌, ◌%◌, ◌^◌, ◌<◌, ◌≤◌, true, List, [], ◌∷◌, length, map, slice_index, Option, Some, None, ⊤}
+use Rattle.std.specs.Prelude.{ℕ, ◌≡◌, ◌≢◌, ◌+◌, ◌*◌, ◌%◌, ◌^◌, ◌<◌, ◌≤◌, true, List, [], ◌∷◌}
+use Rattle.std.specs.Prelude.{length, map, slice_index, Option, Some, None, ⊤}
 use Rattle.bpaf_words.specs.declared.arg.Arg.{Arg}
 use Rattle.bpaf_words.specs.declared.arg.Arg.TheVariants.{Short, Long, ArgWord, Word, PosWord}
 use Rattle.bpaf_line.specs.Bits.{has_bit}
@@ -43,12 +44,13 @@ pub record IsNextOf (classes : List ℕ) (class low p : ℕ) : Type 0 where
 abbrev pub IsPlaceOf : List ℕ → ℕ → ℕ → Type 0
 IsPlaceOf classes class p = p < length classes → slice_index classes p ≡ class
 
--- a chain was walked from one place to another, whose class is the same; the bits of all places of the
--- class that were passed are set
+-- a chain was walked from one place to another, whose class is the same; the bits of all places of
+-- the class that were passed are set
 pub record HasWalked (classes words : List ℕ) (low p : ℕ) : Type 0 where
   pub above : low ≤ p
   pub same : (k : ℕ) → IsPlaceOf classes k low → IsPlaceOf classes k p
-  pub set : (k q : ℕ) → IsPlaceOf classes k low → low ≤ q → q < p → slice_index classes q ≡ k → has_bit words q ≡ true
+  pub set : (k q : ℕ) → IsPlaceOf classes k low → low ≤ q → q < p → slice_index classes q ≡ k
+      → has_bit words q ≡ true
 
 -- the chains are those of the situation's line, and what stands before their beginnings is taken
 pub record AreChainsOf (s : Situation) (chains : Chained) : Type 0 where
@@ -59,7 +61,8 @@ pub record AreChainsOf (s : Situation) (chains : Chained) : Type 0 where
 pub record HavePassed (words : List ℕ) (old new : Chained) : Type 0 where
   pub classes : new.classes ≡ old.classes
   pub count : length new.heads ≡ length old.heads
-  pub passed : (p : ℕ) → p < length old.classes → head_of old p ≤ p → p < head_of new p → has_bit words p ≡ true
+  pub passed : (p : ℕ) → p < length old.classes → head_of old p ≤ p → p < head_of new p
+      → has_bit words p ≡ true
 
 -- no chain begins later now, and that of a place not behind it
 pub record ReachBack (place : ℕ) (old new : Chained) : Type 0 where

@@ -14,7 +14,8 @@ HasNoneAmong test numbers s p =
 
 -- a place below the end, at which an item is present, in scope, and passes the test, or the end; no
 -- such item before it has one of the numbers
-pub record IsFirstAmong (test : Arg → Bool) (numbers : List ℕ) (s : Situation) (end p : ℕ) : Type 0 where
+pub record IsFirstAmong (test : Arg → Bool) (numbers : List ℕ) (s : Situation)
+    (end p : ℕ) : Type 0 where
   pub within : p ≤ end
   pub matches : p < end → is_match test s p ≡ true
   pub none : HasNoneAmong test numbers s p

@@ -1,7 +1,10 @@
 -- The classes of refusals.
 use Rattle.std.specs.Prelude.{Bool, true, false}
 use Rattle.bpaf_line.specs.declared.error.Message.{Message}
-use Rattle.bpaf_line.specs.declared.error.Message.TheVariants.{Memory, NoEnv, ParseSome, ParseFail, PureFailed, Missing, ParseFailure, StrictPos, NonStrictPos, NoArgument, Unconsumed, Ambiguity}
+use Rattle.bpaf_line.specs.declared.error.Message.TheVariants.{Memory, NoEnv, ParseSome, ParseFail}
+use Rattle.bpaf_line.specs.declared.error.Message.TheVariants.{PureFailed, Missing, ParseFailure}
+use Rattle.bpaf_line.specs.declared.error.Message.TheVariants.{StrictPos, NonStrictPos, NoArgument}
+use Rattle.bpaf_line.specs.declared.error.Message.TheVariants.{Unconsumed, Ambiguity}
 use Rattle.bpaf_line.specs.declared.failure.ParseFailure.TheVariants as failure
 
 -- want of memory, also that of an inner run

@@ -1,5 +1,7 @@
 -- What the calls of a state answer, and which situation they leave.
-use Rattle.std.specs.Prelude.{◌≡◌, ℕ, ◌+◌, ◌<◌, Bool, true, false, List, Option, Some, None, Result, Ok, Err, bytes_eq, string_bytes, String, if◌then◌else◌, option_and_then, option_map, find, ⊤}
+use Rattle.std.specs.Prelude.{◌≡◌, ℕ, ◌+◌, ◌<◌, Bool, true, false, List, Option, Some, None, Result}
+use Rattle.std.specs.Prelude.{Ok, Err, bytes_eq, string_bytes, String, if◌then◌else◌}
+use Rattle.std.specs.Prelude.{option_and_then, option_map, find, ⊤}
 use Rattle.std.specs.Borrow.{Bor}
 use Rattle.std.specs.Option.{option_map_or}
 use Rattle.std.specs.declared.alloc.Global.{Global}
@@ -9,7 +11,8 @@ use Rattle.bpaf_words.specs.declared.arg.Arg.{Arg}
 use Rattle.bpaf_line.specs.declared.error.Error.{Error}
 use Rattle.bpaf_line.specs.declared.error.Message.{Message}
 use Rattle.bpaf_line.specs.declared.error.Message.TheVariants.{Memory, Missing, NoArgument}
-use Rattle.bpaf_words.specs.Items.{is_key_of, is_argument_key, value_text, is_positional, word_text, any_item, is_command_word}
+use Rattle.bpaf_words.specs.Items.{is_key_of, is_argument_key, value_text, is_positional, word_text}
+use Rattle.bpaf_words.specs.Items.{any_item, is_command_word}
 use Rattle.bpaf_line.specs.Situation.{Situation, item_at, is_open, take_place, with_current}
 use Rattle.bpaf_line.specs.MissingIn.{IsMissingIn}
 

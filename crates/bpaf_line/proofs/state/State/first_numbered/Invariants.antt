@@ -7,7 +7,8 @@ use Rattle.bpaf_line.proofs.state.State.first_numbered.Given as goal
 abbrev pub invariant-loop-place : goal.invariant-loop-place
 invariant-loop-place l = record {
   chained : IsPlaceOf l.chains.classes (l.number % length l.chains.heads) l.place;
-  none : HasNoneAmong (is_argument_key (record { shorts = l.shorts; longs = l.longs }) l.adjacent) (l.number ∷ []) l.self l.place;
+  none : HasNoneAmong (is_argument_key (record { shorts = l.shorts; longs = l.longs }) l.adjacent)
+      (l.number ∷ []) l.self l.place;
 }
 
 abbrev pub decreases-loop-place : goal.decreases-loop-place

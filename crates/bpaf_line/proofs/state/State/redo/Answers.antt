@@ -1,4 +1,5 @@
-use Rattle.std.proofs.Common.{◌≡◌, ◌∙◌, ◌++◌, ap, sym, subst, map, string_bytes, slice_get, IfSome, Some}
+use Rattle.std.proofs.Common.{◌≡◌, ◌∙◌, ◌++◌, ap, sym, subst, map, string_bytes, slice_get, IfSome}
+use Rattle.std.proofs.Common.{Some}
 use Rattle.std.proofs.lemmas.List.{map-append}
 use Rattle.bpaf_line.specs.Inside.{situation_of, changes_of}
 use Rattle.bpaf_line.specs.Situation.{with_current, with_scope, PresentInTurn}

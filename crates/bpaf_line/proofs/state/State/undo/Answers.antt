@@ -1,4 +1,5 @@
-use Rattle.std.proofs.Common.{◌≡◌, ◌∙◌, ◌≤◌, ap, sym, subst, take, slice_get, IfSome, Some, map, string_bytes, length, arith}
+use Rattle.std.proofs.Common.{◌≡◌, ◌∙◌, ◌≤◌, ap, sym, subst, take, slice_get, IfSome, Some, map}
+use Rattle.std.proofs.Common.{string_bytes, length, arith}
 use Rattle.std.proofs.lemmas.List.{take-map}
 use Rattle.bpaf_line.specs.Marks.{Fits, undone}
 use Rattle.bpaf_line.specs.Situation.{with_current}
