@@ -4,3 +4,4 @@ pub mod Names
 pub mod Order
 pub mod Shape
 pub mod Walks
+pub mod InsideText

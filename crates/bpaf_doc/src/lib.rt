@@ -22,6 +22,7 @@ mod fold;
 mod item;
 mod meta;
 mod order;
+mod short;
 mod text;
 mod walks;
 

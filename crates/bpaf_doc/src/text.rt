@@ -1,23 +1,33 @@
-ghost use Rattle.std.specs.Prelude.{◌≡◌, IfOk, string_bytes};
+ghost use Rattle.std.specs.Prelude.{◌≡◌, IfOk};
 
+use crate::short::{ROOM, ShortText};
 use std::alloc::{AllocError, Global};
 use std::fmt;
 use std::marker::Model;
 
-/// A text that contracts see as its bytes.
+/// A text that contracts see as its bytes; one of at most 23 bytes takes no memory.
 ///
 /// A `String` holds its capacity too, so two of them that say the same may differ in contracts.
-#[derive(Debug, Drop)]
+#[derive(Drop)]
 pub struct Text {
-    inner: String,
+    kept: Kept,
+}
+
+/// What the bytes of a text are kept in.
+#[derive(Drop)]
+enum Kept {
+    Short(ShortText),
+    Long(String),
 }
 
 impl Model for Text {
-    ghost use Rattle.std.specs.Prelude.{List, ℕ, string_bytes};
+    ghost use Rattle.std.specs.Prelude.{List, ℕ};
 
     ghost Value = { List ℕ };
 
-    ghost view = { λ t. string_bytes t.inner };
+    ghost use Rattle.bpaf_doc.specs.InsideText.{bytes_of};
+
+    ghost view = { λ t. bytes_of t.kept };
 }
 
 impl Text {
@@ -25,25 +35,33 @@ impl Text {
     pub fn new(alloc: Global, text: &str) -> Result<Text, AllocError>
         ensures { IfOk result (λ t. t ≡ text.now) }
     {
-        Ok(Text {
-            inner: String::from_str(alloc, text)?,
-        })
+        let kept = if text.len() <= ROOM {
+            Kept::Short(ShortText::new(text))
+        } else {
+            Kept::Long(String::from_str(alloc, text)?)
+        };
+        Ok(Text { kept })
     }
 
     /// The text itself.
     pub fn as_str(&self) -> &str
         ensures { result.now ≡ self.now }
     {
-        self.inner.as_str()
+        match &self.kept {
+            Kept::Short(text) => text.as_str(),
+            Kept::Long(text) => text.as_str(),
+        }
     }
 
     /// An equal text; refused only for want of memory.
     pub fn copy(&self) -> Result<Text, AllocError>
         ensures { IfOk result (λ t. t ≡ self.now) }
     {
-        Ok(Text {
-            inner: self.inner.clone()?,
-        })
+        let kept = match &self.kept {
+            Kept::Short(text) => Kept::Short(text.copy()),
+            Kept::Long(text) => Kept::Long(text.clone()?),
+        };
+        Ok(Text { kept })
     }
 
     /// An equal text, where there is one; refused only for want of memory.
@@ -55,13 +73,6 @@ impl Text {
             None => Ok(None),
         }
     }
-
-    /// The `String` of it, without memory.
-    pub fn into_string(self) -> String
-        ensures { string_bytes result ≡ self }
-    {
-        self.inner
-    }
 }
 
 impl From<String> for Text {
@@ -70,7 +81,15 @@ impl From<String> for Text {
     ghost from_gives = { λ inner text. text ≡ string_bytes inner };
 
     fn from(inner: String) -> Text {
-        Text { inner }
+        Text {
+            kept: Kept::Long(inner),
+        }
+    }
+}
+
+impl fmt::Debug for Text {
+    fn fmt<W: fmt::Write>(&self, f: &mut fmt::Formatter<W>) -> fmt::Result {
+        fmt::Debug::fmt(self.as_str(), f)
     }
 }
 
@@ -80,6 +99,6 @@ impl fmt::Display for Text {
     ghost output = { λ t. Some t };
 
     fn fmt<W: fmt::Write>(&self, f: &mut fmt::Formatter<W>) -> fmt::Result {
-        f.write_str(self.inner.as_str())
+        f.write_str(self.as_str())
     }
 }
