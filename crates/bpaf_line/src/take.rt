@@ -49,10 +49,10 @@ impl State {
             let metavar = Text::new(self.alloc(), metavar.0)?;
             return Err(Error(Message::NoArgument(key, metavar)));
         };
-        let text = value.copy()?;
+        let text = String::from_str(self.alloc(), value.as_str())?;
         self.take(key);
         self.take(key + 1);
-        Ok(Some(text.into_string()))
+        Ok(Some(text))
     }
 
     /// The first present Word or PosWord in scope: its place, whether it is a PosWord, its text.
@@ -82,9 +82,9 @@ impl State {
         ensures taken { TakesWord metavar.0.now self.old result self.new }
     {
         let (place, strict, word) = self.positional_word(metavar)?;
-        let text = word.copy()?;
+        let text = String::from_str(self.alloc(), word.as_str())?;
         self.take(place);
-        Ok((place, strict, text.into_string()))
+        Ok((place, strict, text))
     }
 
     /// Takes the first present item in scope, where it is the word of a command: a Word, any Short, or

@@ -1,5 +1,5 @@
 -- Words that aren't joined characters, and what their spelling depends on.
-use Rattle.std.proofs.Common.{◌≡◌, ◌≢◌, ◌==◌, ℕ, zero, suc, true, false, not, List, [], ◌∷◌, ◌++◌, length}
+use Rattle.std.proofs.Common.{◌≡◌, ◌≢◌, ℕ, suc, true, false, not, List, [], ◌∷◌, ◌++◌, length}
 use Rattle.std.proofs.Common.{refl, ap, sym, ◌∙◌, subst, arith, drop, encode_utf8, encode_utf8_all}
 use Rattle.std.proofs.Common.{Bool, true≢false, All, Option, codes}
 use Rattle.std.specs.List.{AllZip}

@@ -83,7 +83,7 @@ fn split_words(
     ensures { SplitsWords (knowing (record { flags = flags.now; arguments = arguments.now }))
         (words_in words.entry) result }
 {
-    let mut items = Vec::new(alloc);
+    let mut items = Vec::with_capacity(alloc, words.len())?;
     for index in 0..words.len() {
         let word = words.at(index);
         if word == "--" {

@@ -49,6 +49,9 @@ pub fn split_word(
         return Ok(push_word(alloc, word, items)?);
     };
     let tail = letters.as_str();
+    if tail.is_empty() {
+        return Ok(push_flag(alloc, c, word, items)?);
+    }
     match tail.split_once('=') {
         Some((name, value)) => {
             let value = if name.is_empty() { value } else { tail };
@@ -59,7 +62,6 @@ pub fn split_word(
                 items,
             )?)
         }
-        None if tail.is_empty() => Ok(push_flag(alloc, c, word, items)?),
         None => split_joined(alloc, word, rest, flags, arguments, items),
     }
 }
@@ -76,9 +78,12 @@ pub(crate) fn is_joined(word: &str) -> bool
         return false;
     };
     let tail = letters.as_str();
+    if tail.is_empty() {
+        return false;
+    }
     match tail.split_once('=') {
         Some(_) => false,
-        None => c != '-' && !tail.is_empty(),
+        None => c != '-',
     }
 }
 

@@ -4,7 +4,7 @@ use Rattle.bpaf_words.specs.Spelling.{knowing, plain, dash, short}
 use Rattle.std.proofs.lemmas.List.{nil_from_length}
 use Rattle.bpaf_words.proofs.SplitLemmas.{no_dash, after_dash, other_than_dash, at_equals, no_equals, with_value, joined_word, not_both, is_zero}
 use Rattle.bpaf_words.proofs.split.split_word.Goals as goal
-use Rattle.bpaf_words.proofs.split.split_word.Goals.{then-is_empty, else-is_empty}
+use Rattle.bpaf_words.proofs.split.split_word.Goals.{then-is_empty-2, else-is_empty-2}
 
 pub returns-in_default : goal.returns-in_default
 returns-in_default c = (Word c.args.word.now ∷ [], plain (no_dash c.args.word.now c.in_default.ensures.cases), c.in_ok-push_word.ensures)
@@ -23,28 +23,28 @@ returns-in_ok-push_attached-in-Some-split_once c =
     let none = no_dash c.in-Some.rest.now c.in_default-strip_prefix.ensures.cases in
     let tail : c.in-Some.rest.now ≡ encode_utf8 c.in-Some-next.c ++ c.as_str-tail.result.now = sym c.chars-letters.ensures.rest ∙ (c.in-Some-next.ensures.steps.0 ∙ ap (λ x. encode_utf8 c.in-Some-next.c ++ x) (sym c.as_str-tail.ensures)) in
     let parts = at_equals c.as_str-tail.result.now c.in-Some-split_once.name c.in-Some-split_once.value c.in-Some-split_once.ensures.cases in (
-      Short c.in-Some-next.c true c.args.word.now ∷ ArgWord c.if-is_empty.value.now ∷ [],
-      with_value _ c.args.word.now c.in-Some.rest.now c.as_str-tail.result.now c.in-Some-split_once.name.now c.in-Some-split_once.value.now c.if-is_empty.value.now c.in-Some-next.c whole tail
+      Short c.in-Some-next.c true c.args.word.now ∷ ArgWord c.if-is_empty-2.value.now ∷ [],
+      with_value _ c.args.word.now c.in-Some.rest.now c.as_str-tail.result.now c.in-Some-split_once.name.now c.in-Some-split_once.value.now c.if-is_empty-2.value.now c.in-Some-next.c whole tail
           (other_than_dash c.in-Some.rest.now c.as_str-tail.result.now c.in-Some-next.c none tail) parts.0 parts.1
-          (λ z. elim c.if-is_empty.branch [ then-is_empty w ↦ ap (λ r. r.now) w.value-is | else-is_empty w ↦ absurd (not_both _ z (sym w.if-is_empty.ensures)) ])
-          (λ z. elim c.if-is_empty.branch [ then-is_empty w ↦ absurd (z (is_zero _ (sym w.if-is_empty.ensures))) | else-is_empty w ↦ ap (λ r. r.now) w.value-is ]),
+          (λ z. elim c.if-is_empty-2.branch [ then-is_empty-2 w ↦ ap (λ r. r.now) w.value-is | else-is_empty-2 w ↦ absurd (not_both _ z (sym w.if-is_empty-2.ensures)) ])
+          (λ z. elim c.if-is_empty-2.branch [ then-is_empty-2 w ↦ absurd (z (is_zero _ (sym w.if-is_empty-2.ensures))) | else-is_empty-2 w ↦ ap (λ r. r.now) w.value-is ]),
       search rules,
     )
 
-pub returns-in_ok-push_flag-in-None : goal.returns-in_ok-push_flag-in-None
-returns-in_ok-push_flag-in-None c =
+pub returns-then-is_empty : goal.returns-then-is_empty
+returns-then-is_empty c =
     let whole = after_dash c.args.word.now c.in-Some.rest c.in-Some.ensures.cases in
     let none = no_dash c.in-Some.rest.now c.in_default-strip_prefix.ensures.cases in
     let tail : c.in-Some.rest.now ≡ encode_utf8 c.in-Some-next.c ++ c.as_str-tail.result.now = sym c.chars-letters.ensures.rest ∙ (c.in-Some-next.ensures.steps.0 ∙ ap (λ x. encode_utf8 c.in-Some-next.c ++ x) (sym c.as_str-tail.ensures)) in (
       Short c.in-Some-next.c false c.args.word.now ∷ [],
-      short c.in-Some-next.c (whole ∙ ap (λ x. 45 ∷ x) (tail ∙ (ap (λ x. encode_utf8 c.in-Some-next.c ++ x) (nil_from_length _ (is_zero _ (sym c.if-is_empty-2.ensures))) ∙ append-nil _))) (other_than_dash c.in-Some.rest.now c.as_str-tail.result.now c.in-Some-next.c none tail),
-      c.in_ok-push_flag-in-None.ensures,
+      short c.in-Some-next.c (whole ∙ ap (λ x. 45 ∷ x) (tail ∙ (ap (λ x. encode_utf8 c.in-Some-next.c ++ x) (nil_from_length _ (is_zero _ (sym c.if-is_empty.ensures))) ∙ append-nil _))) (other_than_dash c.in-Some.rest.now c.as_str-tail.result.now c.in-Some-next.c none tail),
+      c.in_ok-push_flag.ensures,
     )
 
-pub returns-in-None-2 : goal.returns-in-None-2
-returns-in-None-2 c =
+pub returns-in-None : goal.returns-in-None
+returns-in-None c =
     let whole = after_dash c.args.word.now c.in-Some.rest c.in-Some.ensures.cases in
     let none = no_dash c.in-Some.rest.now c.in_default-strip_prefix.ensures.cases in
     let tail : c.in-Some.rest.now ≡ encode_utf8 c.in-Some-next.c ++ c.as_str-tail.result.now = sym c.chars-letters.ensures.rest ∙ (c.in-Some-next.ensures.steps.0 ∙ ap (λ x. encode_utf8 c.in-Some-next.c ++ x) (sym c.as_str-tail.ensures)) in
     joined_word _ c.args.word.now c.in-Some.rest.now c.as_str-tail.result.now _ _ _ c.in-Some-next.c c.utf8.word whole tail
-    (other_than_dash c.in-Some.rest.now c.as_str-tail.result.now c.in-Some-next.c none tail) (λ z. not_both _ z (sym c.if-is_empty-2.ensures)) (no_equals c.as_str-tail.result.now c.in-None-2.ensures.cases) c.split_joined.ensures
+    (other_than_dash c.in-Some.rest.now c.as_str-tail.result.now c.in-Some-next.c none tail) (λ z. not_both _ z (sym c.if-is_empty.ensures)) (no_equals c.as_str-tail.result.now c.in-None.ensures.cases) c.split_joined.ensures
