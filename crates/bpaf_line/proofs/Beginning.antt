@@ -33,7 +33,7 @@ bits_beginning : (context : Context) (words : List ℕ)
     → ((p : ℕ) → has_bit words p ≡ is_marker context.marker p) → BitsOf (beginning context) words
 bits_beginning context words bits p within =
     bits p ∙ sym (ap (λ b. not b || (is_marker context.marker p || false))
-        (lt-ltb p (length context.line) within) ∙ or_it (is_marker context.marker p))
+    (lt-ltb p (length context.line) within) ∙ or_it (is_marker context.marker p))
   where
     or_it : (b : Bool) → (b || false) ≡ b
     or_it true = refl
@@ -49,7 +49,7 @@ open_count-start : (context : Context) (marker : Option ℕ)
     ≡ length context.line - from_bool (is_some marker)
 open_count-start context None inside =
     let all : open_count (start_with context None) ≡ length context.line = count_below-all
-        (is_open (start_with context None)) (length context.line) (λ q within. open_at q within) in
+    (is_open (start_with context None)) (length context.line) (λ q within. open_at q within) in
     omega arith
   where
     open_at : (q : ℕ) → q < length context.line → is_open (start_with context None) q ≡ true
@@ -57,11 +57,15 @@ open_count-start context None inside =
 open_count-start context (Some m) below =
     let start = start_with context (Some m) in
     let one_fewer = count_below-fewer (λ q. nat_lt q (length context.line)) (is_open start)
-        (length context.line) m below (lt-ltb m (length context.line) below)
+    (length context.line) m below (lt-ltb m (length context.line) below)
     (and_right _ _ (ap not (or_right (not (nat_lt m (length context.line))) _
-        (or_left (m == m) false (eq-eqb m m refl))))) (λ q other. like_it q other) in
-    omega (arith, one_fewer, count_below-all (λ q. nat_lt q (length context.line))
-        (length context.line) (λ q within. lt-ltb q (length context.line) within))
+    (or_left (m == m) false (eq-eqb m m refl))))) (λ q other. like_it q other) in
+    omega (
+      arith,
+      one_fewer,
+      count_below-all (λ q. nat_lt q (length context.line))
+          (length context.line) (λ q within. lt-ltb q (length context.line) within),
+    )
   where
     like_it : (q : ℕ) → q ≢ m → nat_lt q (length context.line)
         ≡ is_open (start_with context (Some m)) q
@@ -80,24 +84,27 @@ chains_beginning : (context : Context) (chains : Option Chained)
     → IfSome chains (AreChainsOf (beginning context))
 chains_beginning context None classes heads = tt
 chains_beginning context (Some chains) classes heads =
-    record { classes = classes; passed = λ p within before. absurd
-    (let low = heads p within in omega arith) }
+    record {
+      classes = classes;
+      passed = λ p within before. absurd
+          (let low = heads p within in omega arith);
+    }
 
 -- a state at the beginning is sound, where its bits, its count of open places and the first are
 -- right
 pub sound_beginning : (i : Inside) (context : Context) → situation_of i ≡ beginning context
     → IfSome context.marker (λ p. p < length context.line)
     → length context.line ≤ 64 * length i.words.items →
-        ((p : ℕ) → has_bit i.words.items p ≡ is_marker context.marker p) → length context.line
-        ≤ vec_capacity i.trail
+    ((p : ℕ) → has_bit i.words.items p ≡ is_marker context.marker p) → length context.line
+    ≤ vec_capacity i.trail
     → i.left ≡ length context.line - from_bool (is_some context.marker)
-        → IsFirstClear i.words.items 0 (length context.line) i.first
+    → IsFirstClear i.words.items 0 (length context.line) i.first
     → IfSome i.chains (λ c. c.classes ≡ map (class_in (length c.heads)) context.line)
-        → IfSome i.chains (λ c. (p : ℕ) → p < length c.classes → head_of c p ≤ p) → IsSound i
+    → IfSome i.chains (λ c. (p : ℕ) → p < length c.classes → head_of c p ≤ p) → IsSound i
 sound_beginning i context e marked worded bits room left clear classes heads =
     let start = beginning context in
     let size : length (rc_slice_items i.items) ≡ length context.line = ap
-        (λ s. length s.context.line) e in
+    (λ s. length s.context.line) e in
     let set : BitsOf start i.words.items = bits_beginning context i.words.items bits in
     record {
       worded = omega arith;
@@ -121,7 +128,7 @@ sound_beginning i context e marked worded bits room left clear classes heads =
 pub begins : (i : Inside) (context : Context) → rc_slice_items i.items ≡ context.line → i.marker
     ≡ context.marker → rc_slice_items i.env ≡ context.env → i.name ≡ context.name
     → i.trail.items ≡ [] → i.conflicts.items ≡ [] → i.start ≡ 0 → i.end ≡ length context.line
-        → map string_bytes i.path.items ≡ option_to_list context.name → i.current ≡ None
+    → map string_bytes i.path.items ≡ option_to_list context.name → i.current ≡ None
     → situation_of i ≡ beginning context
 begins i context a m b c trail conflicts e f g h =
     rw (a, m, b, c, trail, conflicts, e, f, g, h) refl

@@ -42,7 +42,7 @@ walked_more classes words from p next walked below set link = record {
       (λ (rest : p ≤ q). ⊎_elim
       (λ (at : q ≡ p). ap (has_bit words) at ∙ set)
       (λ (behind : q ≢ p). absurd (link.between q (omega arith) before
-          (mine ∙ sym (walked.same k of below))))
+      (mine ∙ sym (walked.same k of below))))
       (cases_eq q p))
       (cases_lt q p);
 }
@@ -59,27 +59,27 @@ headed_set : (classes heads : List ℕ) (class head : ℕ)
     → ((k : ℕ) → k < length heads → IsPlaceOf classes k (slice_index heads k)) → class
     < length heads → IsPlaceOf classes class head
     → (k : ℕ) → k < length (slice_set heads class head)
-        → IsPlaceOf classes k (slice_index (slice_set heads class head) k)
+    → IsPlaceOf classes k (slice_index (slice_set heads class head) k)
 headed_set classes heads class head headed inside there k within = ⊎_elim
     (λ (at : k ≡ class). subst (λ x. IsPlaceOf classes x
-        (slice_index (slice_set heads class head) x)) (sym at)
-        (subst (IsPlaceOf classes class) (sym (get_or-set_same heads class head 0 inside)) there))
+    (slice_index (slice_set heads class head) x)) (sym at)
+    (subst (IsPlaceOf classes class) (sym (get_or-set_same heads class head 0 inside)) there))
     (λ (other : k ≢ class). subst (IsPlaceOf classes k)
-        (sym (get_or-set_other heads class k head 0 other))
-        (headed k (omega (arith, length-set heads class head))))
+    (sym (get_or-set_other heads class k head 0 other))
+    (headed k (omega (arith, length-set heads class head))))
     (cases_eq k class)
 
 -- the links stay right where the chain of a place's class begins at another of its places
 pub linked_passed : (s : Inside) (classes : List ℕ) (place from head : ℕ) → IsLinked s → classes
     ≡ rc_slice_items s.classes → place < length (rc_slice_items s.classes)
     → from ≡ get_or s.heads.items (slice_index_or classes place 0) from
-        → ((k : ℕ) → IsPlaceOf (rc_slice_items s.classes) k from
-        → IsPlaceOf (rc_slice_items s.classes) k head)
+    → ((k : ℕ) → IsPlaceOf (rc_slice_items s.classes) k from
+    → IsPlaceOf (rc_slice_items s.classes) k head)
     → IsLinked (record s { heads = with_item s.heads (slice_index_or classes place 0) head })
 linked_passed s classes place from head h same within read walked =
     let class = slice_index_or classes place 0 in
     let inside : class < length s.heads.items = subst
-        (λ xs. slice_index xs place < length s.heads.items) (sym same) (h.numbered place within) in
+    (λ xs. slice_index xs place < length s.heads.items) (sym same) (h.numbered place within) in
     let begins = get_or_read s.heads.items class from inside read 0 in
     record {
       some = omega (arith, h.some, length-set s.heads.items class head);
@@ -97,8 +97,8 @@ pub linked_first : (s : Inside) (classes next heads : List ℕ) → rc_slice_ite
     → rc_slice_items s.next ≡ next → s.heads.items ≡ heads → 0 < length heads → length next
     ≡ length classes
     → ((p : ℕ) → p < length classes → slice_index classes p < length heads)
-        → ((p : ℕ) → p < length classes → IsNextOf classes (slice_index classes p) (p + 1)
-        (slice_index next p))
+    → ((p : ℕ) → p < length classes → IsNextOf classes (slice_index classes p) (p + 1)
+    (slice_index next p))
     → ((k : ℕ) → k < length heads → IsNextOf classes k 0 (slice_index heads k)) → IsLinked s
 linked_first s classes next heads same follow begin some whole numbered linked first = record {
   some = omega (arith, ap length begin);
@@ -114,7 +114,7 @@ pub first_not_behind : (classes heads : List ℕ) (p : ℕ)
     → slice_index heads (slice_index classes p) ≤ p
 first_not_behind classes heads p first = ⊎_elim
     (λ (before : p < slice_index heads (slice_index classes p)). absurd
-        (first.between p (omega arith) before refl))
+    (first.between p (omega arith) before refl))
     (λ (at : slice_index heads (slice_index classes p) ≤ p). at)
     (cases_lt p (slice_index heads (slice_index classes p)))
 
@@ -129,4 +129,4 @@ pub classes_below : (items : List Arg) (classes : List ℕ) (count : ℕ) → cl
     < count
 classes_below items classes count are some p within =
     subst (λ xs. slice_index xs p < count) (sym are)
-        (class_below items count some p (omega (arith, classes_size items classes count are)))
+    (class_below items count some p (omega (arith, classes_size items classes count are)))

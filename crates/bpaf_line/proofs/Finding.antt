@@ -41,8 +41,8 @@ class_at s chains p item h there =
     let at = item_of_line s p item there in
     ap (λ xs. slice_index xs p) h.classes
     ∙ (get_or-map (class_in (length chains.heads)) s.context.line p item 0
-        (slice_get_within s.context.line p item at) ∙ ap (class_in (length chains.heads))
-        (get_or_from_slice_get s.context.line p item item at))
+    (slice_get_within s.context.line p item at) ∙ ap (class_in (length chains.heads))
+    (get_or_from_slice_get s.context.line p item item at))
 
 -- a number that isn't the one is not among it alone
 not_among_one : (number other : ℕ) → other ≢ number → is_among (number ∷ []) other ≡ false
@@ -55,31 +55,34 @@ pub none_before_head : (test : Arg → Bool) (s : Situation) (chains : Chained) 
 none_before_head test s chains number head h is q item before there passes =
     not_among_one number (name_number item) (λ same.
     let class : slice_index chains.classes q ≡ number % length chains.heads =
-        class_at s chains q item h there ∙ ap (λ n. n % length chains.heads) same in
+    class_at s chains q item h there ∙ ap (λ n. n % length chains.heads) same in
     let begin : slice_index chains.heads (slice_index chains.classes q)
-        ≡ head = ap (slice_index chains.heads) class ∙ sym is in
-    let inside : q < length chains.classes = omega
-        (arith, classes_size s.context.line chains.classes
-        (length chains.heads) h.classes, slice_get_within s.context.line q item
-        (item_of_line s q item there)) in
+    ≡ head = ap (slice_index chains.heads) class ∙ sym is in
+    let inside : q < length chains.classes = omega (
+      arith,
+      classes_size s.context.line chains.classes
+          (length chains.heads) h.classes,
+      slice_get_within s.context.line q item
+          (item_of_line s q item there),
+    ) in
     absurd (true≢false (sym (h.passed q inside (omega arith))
-        ∙ open_not_taken s q (open_item_there s q item there).0)))
+    ∙ open_not_taken s q (open_item_there s q item there).0)))
 
 -- nor before the next place of a chain, where the one before it has no such item
 pub none_before_next : (test : Arg → Bool) (s : Situation) (chains : Chained) (number p next : ℕ)
     → AreChainsOf s chains → p < length chains.classes
     → IsPlaceOf chains.classes (number % length chains.heads) p
     → is_match test s p ≡ false → IsNextOf chains.classes (slice_index chains.classes p)
-        (p + 1) next → HasNoneAmong test (number ∷ []) s p → HasNoneAmong test (number ∷ []) s next
+    (p + 1) next → HasNoneAmong test (number ∷ []) s p → HasNoneAmong test (number ∷ []) s next
 none_before_next test s chains number p next h below here closed link none q item before there
     passes = ⊎_elim
     (λ (early : q < p). none q item early there passes)
     (λ (rest : p ≤ q). not_among_one number (name_number item) (λ same. ⊎_elim
     (λ (at : q ≡ p). true≢false (sym (ap (λ found. option_map_or test found false) there ∙ passes)
-        ∙ (ap (is_match test s) at ∙ closed)))
+    ∙ (ap (is_match test s) at ∙ closed)))
     (λ (behind : q ≢ p). link.between q (omega arith) before
-        (class_at s chains q item h there ∙ (ap (λ n. n % length chains.heads) same
-        ∙ sym (here below))))
+    (class_at s chains q item h there ∙ (ap (λ n. n % length chains.heads) same
+    ∙ sym (here below))))
     (cases_eq q p)))
     (cases_lt q p)
 
@@ -92,13 +95,13 @@ among_more test numbers number s end p next old new = record {
   matches = λ below. ⊎_elim
       (λ (nearer : next < p). new.matches nearer)
       (λ (past : p ≤ next). let at : next ≡ p = omega (arith, new.within) in
-          ap (is_match test s) at ∙ old.matches (omega arith))
+      ap (is_match test s) at ∙ old.matches (omega arith))
       (cases_lt next p);
   none = λ q item before there passes.
       list_any-append (λ d. d == name_number item) numbers (number ∷ [])
       ∙ (ap (λ b. b || is_among (number ∷ []) (name_number item))
-          (old.none q item (omega (arith, new.within)) there passes)
-          ∙ new.none q item before there passes);
+      (old.none q item (omega (arith, new.within)) there passes)
+      ∙ new.none q item before there passes);
 }
 
 -- the first of two that both hold
@@ -136,14 +139,14 @@ key_numbered names adjacent (PosWord text) key short long = sym key
 pub key_found : (names : Names) (adjacent : Bool) (s : Situation) (short place : ℕ)
     (found : Option ℕ)
     → IsFirstAmong (is_argument_key names adjacent) names.shorts s s.end short
-        → IsFirstAmong (is_argument_key names adjacent)
-        (map (text_number 0) names.longs) s short place → found
-        ≡ then_some (nat_lt place s.end) place
+    → IsFirstAmong (is_argument_key names adjacent)
+    (map (text_number 0) names.longs) s short place → found
+    ≡ then_some (nat_lt place s.end) place
     → MatchOption found (HasNone (is_argument_key names adjacent) s)
-        (IsFirst (is_argument_key names adjacent) s)
+    (IsFirst (is_argument_key names adjacent) s)
 key_found names adjacent s short place found shorts longs is =
     subst (λ r. MatchOption r (HasNone test s) (IsFirst test s)) (sym is)
-        (by_test (nat_lt place s.end) refl)
+    (by_test (nat_lt place s.end) refl)
   where
     test : Arg → Bool
     test = is_argument_key names adjacent
@@ -153,8 +156,8 @@ key_found names adjacent s short place found shorts longs is =
     none_at q before None e = refl
     none_at q before (Some item) e = ⊎_elim
         (λ (key : test item ≡ true). absurd (true≢false
-            (key_numbered names adjacent item key (shorts.none q item
-            (omega (arith, longs.within)) e key) (longs.none q item before e key))))
+        (key_numbered names adjacent item key (shorts.none q item
+        (omega (arith, longs.within)) e key) (longs.none q item before e key))))
         (λ (other : test item ≡ false). other)
         (cases_Bool (test item))
 
@@ -173,7 +176,7 @@ key_found names adjacent s short place found shorts longs is =
           matches = ⊎_elim
               (λ (nearer : place < short). longs.matches nearer)
               (λ (past : short ≤ place). let at : place ≡ short = omega (arith, longs.within) in ap
-                  (is_match test s) at ∙ shorts.matches (omega arith))
+              (is_match test s) at ∙ shorts.matches (omega arith))
               (cases_lt place short);
           first = before_it;
         }

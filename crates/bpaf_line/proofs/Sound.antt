@@ -36,7 +36,7 @@ pub bits_put : (s : Situation) (old new : List ℕ) (p : ℕ) → BitsOf s old
     → ChangesBit old new p true → BitsOf (put s p) new
 bits_put s old new p bits change q within = ⊎_elim
     (λ (at : q ≡ p). ap (has_bit new) at ∙ (change.here
-        ∙ sym (ap (is_taken (put s p)) at ∙ put_here s p)))
+    ∙ sym (ap (is_taken (put s p)) at ∙ put_here s p)))
     (λ (other : q ≢ p). change.others q other ∙ (bits q within ∙ sym (put_other s p q other)))
     (cases_eq q p)
 
@@ -63,7 +63,7 @@ chains_put s p words None (Some new) bits h passed = absurd passed
 chains_put s p words (Some old) None bits h passed = tt
 chains_put s p words (Some old) (Some new) bits h passed =
     let size : length old.classes ≡ length s.context.line =
-        classes_size s.context.line old.classes (length old.heads) h.classes in
+    classes_size s.context.line old.classes (length old.heads) h.classes in
     record {
       classes = passed.classes ∙ (h.classes ∙ ap (λ n. map (class_in n) s.context.line)
           (sym passed.count));
@@ -71,7 +71,7 @@ chains_put s p words (Some old) (Some new) bits h passed =
           (arith, ap length passed.classes) in ⊎_elim
           (λ (early : q < head_of old q). put_stays s p q (h.passed q inside early))
           (λ (behind : head_of old q ≤ q). sym (bits q (omega arith))
-              ∙ passed.passed q inside behind before)
+          ∙ passed.passed q inside behind before)
           (cases_lt q (head_of old q));
     }
 
@@ -87,9 +87,9 @@ chains_untake s p (Some old) (Some new) h back = record {
   passed = λ q within before. let inside : q < length old.classes = omega
       (arith, ap length back.classes) in ⊎_elim
       (λ (at : q ≡ p). absurd (let low : head_of new q ≤ q = subst (λ x. head_of new x ≤ x)
-          (sym at) back.here in omega arith))
+      (sym at) back.here in omega arith))
       (λ (other : q ≢ p). sym (put_other s p q other) ∙ h.passed q inside
-          (omega (arith, back.earlier q inside)))
+      (omega (arith, back.earlier q inside)))
       (cases_eq q p);
 }
 
@@ -106,23 +106,28 @@ chains_same s t (Some chains) context taken h = record {
 -- a state with other bits and another trail, counted anew
 abbrev pub with_parts : Inside → List ℕ → Vec ℕ Global → ℕ → ℕ → Option Chained → Inside
 with_parts s words trail left first chains =
-    record s { words = with_items s.words words; trail = trail; left = left; first = first;
-    chains = chains }
+    record s {
+      words = with_items s.words words;
+      trail = trail;
+      left = left;
+      first = first;
+      chains = chains;
+    }
 
 -- it is sound with one place more
 pub sound_put : (s : Inside) (p : ℕ) (words : List ℕ) (trail : Vec ℕ Global) (left first : ℕ)
     (chains : Option Chained) → IsSound s → is_taken (situation_of s) p ≡ false
     → ChangesBit s.words.items words p true → trail.items ≡ s.trail.items ++ p ∷ []
-        → vec_capacity s.trail ≤ vec_capacity trail
+    → vec_capacity s.trail ≤ vec_capacity trail
     → left ≡ s.left - from_bool (in_scope (situation_of s) p)
-        → IsFirstClear words s.first s.end first
+    → IsFirstClear words s.first s.end first
     → IfChained (HavePassed words) s.chains chains → IsSound
-        (with_parts s words trail left first chains)
+    (with_parts s words trail left first chains)
 sound_put s p words trail left first chains h free change pushed grown counted next passed =
     let means : situation_of (with_parts s words trail left first chains)
-        ≡ put (situation_of s) p = ap (with_trail (situation_of s)) pushed in
+    ≡ put (situation_of s) p = ap (with_trail (situation_of s)) pushed in
     let written : (with_items s.words words).items ≡ words = with_items_is s.words words
-        (change.kept ∙ sym s.words.ok.0) in
+    (change.kept ∙ sym s.words.ok.0) in
     let new = put (situation_of s) p in
     let bits : BitsOf new words = bits_put (situation_of s) s.words.items words p h.bits change in
     let fewer = open_count-put (situation_of s) p free in
@@ -137,8 +142,8 @@ sound_put s p words trail left first chains h free change pushed grown counted n
           ∙ sym (ap open_count means);
       first = subst (λ t. IsFirstPresent t first) (sym means)
           (first_by_bits new words s.first first h.inside bits h.first.from
-              (λ q lower upper. put_stays (situation_of s) p q
-              (h.first.passed q lower upper)) next);
+          (λ q lower upper. put_stays (situation_of s) p q
+          (h.first.passed q lower upper)) next);
       chained = subst (λ t. IfSome chains (AreChainsOf t)) (sym means)
           (chains_put (situation_of s) p words s.chains chains bits h.chained passed);
       named = h.named;
@@ -152,15 +157,20 @@ left_enough s p n h free e = omega (arith, e, h.counted, open_count-put (situati
 -- the trail has room for a present place
 pub room_for : (s : Inside) (p : ℕ) → IsSound s → is_taken (situation_of s) p ≡ false
     → vec_len s.trail < vec_capacity s.trail
-room_for s p h free = omega (arith, s.trail.ok.0, h.room, room_on_trail
-    (situation_of s) p h.in_turn free)
+room_for s p h free = omega (
+  arith,
+  s.trail.ok.0,
+  h.room,
+  room_on_trail
+      (situation_of s) p h.in_turn free,
+)
 
 -- so a place that was pushed is on it
 pub pushed_place : (s : Inside) (p : ℕ) (trail : Vec ℕ Global) (pushed : Bool) → IsSound s
     → is_taken (situation_of s) p ≡ false
     → (vec_len s.trail < vec_capacity s.trail → pushed ≡ true) → trail.items
-        ≡ (if pushed then s.trail.items ++ p ∷ [] else s.trail.items) → trail.items ≡ s.trail.items
-        ++ p ∷ []
+    ≡ (if pushed then s.trail.items ++ p ∷ [] else s.trail.items) → trail.items ≡ s.trail.items
+    ++ p ∷ []
 pushed_place s p trail pushed h free succeeds is = is
     ∙ cond-true pushed _ _ (succeeds (room_for s p h free))
 
@@ -177,9 +187,9 @@ pub sound_untake : (s : Inside) (p : ℕ) (words : List ℕ) (trail : Vec ℕ Gl
     (chains : Option Chained) → IsSound s → 0 < length s.trail.items → p
     ≡ slice_index s.trail.items (length s.trail.items - 1)
     → ChangesBit s.words.items words p false → trail.items
-        ≡ take (length s.trail.items - 1) s.trail.items → vec_capacity s.trail ≤ vec_capacity trail
+    ≡ take (length s.trail.items - 1) s.trail.items → vec_capacity s.trail ≤ vec_capacity trail
     → left ≡ s.left + from_bool (in_scope (situation_of s) p) → first
-        ≡ (if in_scope (situation_of s) p then min s.first p else s.first)
+    ≡ (if in_scope (situation_of s) p then min s.first p else s.first)
     → IfChained (ReachBack p) s.chains chains → IsSound (with_parts s words trail left first chains)
 sound_untake s p words trail left first chains h some last change shorter same counted next back =
     let old = situation_of s in
@@ -188,16 +198,16 @@ sound_untake s p words trail left first chains h some last change shorter same c
     let before : put new p ≡ old = ap (put new) last ∙ last_put old some in
     let free : is_taken new p ≡ false = ap (is_taken new) last ∙ h.in_turn n (omega arith) in
     let written : (with_items s.words words).items ≡ words = with_items_is s.words words
-        (change.kept ∙ sym s.words.ok.0) in
+    (change.kept ∙ sym s.words.ok.0) in
     let bits : BitsOf new words = bits_untake new s.words.items words p
-        (subst (λ t. BitsOf t s.words.items) (sym before) h.bits) change free in
+    (subst (λ t. BitsOf t s.words.items) (sym before) h.bits) change free in
     let more = open_count-put new p free in
     let was : open_count (put new p) ≡ open_count old = ap open_count before in
     let means : situation_of (with_parts s words trail left first chains)
-        ≡ new = ap (with_trail old) shorter in
+    ≡ new = ap (with_trail old) shorter in
     let earlier : IsFirstPresent new first = subst (IsFirstPresent new) (sym next)
-        (first_without new p s.first (subst (λ t. IsFirstPresent t s.first)
-        (sym before) h.first) free) in
+    (first_without new p s.first (subst (λ t. IsFirstPresent t s.first)
+    (sym before) h.first) free) in
     record {
       worded = rw written (omega (arith, h.worded, change.kept));
       bits = rw (written, shorter) bits;
@@ -223,10 +233,16 @@ left_below_count s p n h some last is =
     let new = cut_to old (length s.trail.items - 1) in
     let before : put new p ≡ old = ap (put new) last ∙ last_put old some in
     let free : is_taken new p ≡ false = ap (is_taken new) last
-        ∙ h.in_turn (length s.trail.items - 1) (omega arith) in
+    ∙ h.in_turn (length s.trail.items - 1) (omega arith) in
     let was : open_count (put new p) ≡ open_count old = ap open_count before in
-    omega (arith, is, h.counted, open_count-put new p free, count_below-most (is_open new)
-        (length (rc_slice_items s.items)))
+    omega (
+      arith,
+      is,
+      h.counted,
+      open_count-put new p free,
+      count_below-most (is_open new)
+          (length (rc_slice_items s.items)),
+    )
 
 -- the places of a scope that are clear are those that are open in it
 pub count_clear-open : (s : Situation) (words : List ℕ) (start end : ℕ) → BitsOf s words → end
@@ -234,10 +250,10 @@ pub count_clear-open : (s : Situation) (words : List ℕ) (start end : ℕ) → 
 count_clear-open s words start end bits inside =
     let set = is_open (with_scope s start end) in
     count_below-same (is_clear_from words start) set end
-        (λ q within. ap (λ b. nat_le start q && not b) (bits q (omega arith))
-        ∙ ap (λ b. b && not (is_taken s q)) (sym (in_it q within)))
+    (λ q within. ap (λ b. nat_le start q && not b) (bits q (omega arith))
+    ∙ ap (λ b. b && not (is_taken s q)) (sym (in_it q within)))
     ∙ sym (count_below-cut set end (length s.context.line) inside
-        (λ q past _. and_left _ _ (and_right _ _ (le-ltb q end past))))
+    (λ q past _. and_left _ _ (and_right _ _ (le-ltb q end past))))
   where
     in_it : (q : ℕ) → q < end → (nat_le start q && nat_lt q end) ≡ nat_le start q
     in_it q within = ap (λ b. nat_le start q && b) (lt-ltb q end within) ∙ and_it (nat_le start q)
@@ -273,7 +289,7 @@ pub last_read : (s : Inside) (n p : ℕ) → n ≡ vec_len s.trail → 0 < lengt
 last_read s n p is some read =
     let at : n - 1 ≡ length s.trail.items - 1 = omega (arith, is, s.trail.ok.0) in
     get_or_read s.trail.items (length s.trail.items - 1) p (omega arith)
-        (read ∙ ap (λ i. get_or s.trail.items i p) at) 0
+    (read ∙ ap (λ i. get_or s.trail.items i p) at) 0
 
 -- a place that is on the trail's end lies in the line
 pub last_in_line : (s : Inside) (p : ℕ) → IsSound s → 0 < length s.trail.items → p
@@ -295,8 +311,12 @@ sound_path s conflicts path h named = record {
   ordered = h.ordered;
   inside = h.inside;
   counted = h.counted;
-  first = record { from = h.first.from; within = h.first.within; present = h.first.present;
-      passed = h.first.passed };
+  first = record {
+    from = h.first.from;
+    within = h.first.within;
+    present = h.first.present;
+    passed = h.first.passed;
+  };
   chained = chains_same (situation_of s) (situation_of
       (record s { conflicts = conflicts; path = path })) s.chains refl (λ q. refl) h.chained;
   named = named;
@@ -334,12 +354,17 @@ pub open_item_is : (s : Inside) (p : ℕ) (xs : List Arg) (item : Arg) → IsSou
     → item ≡ get_or xs p item → open_item (situation_of s) p ≡ Some item
 open_item_is s p xs item h same o there =
     let unmarked : is_marker s.marker p ≡ false = not_marker
-        (not (nat_lt p (length (rc_slice_items s.items)))) (is_marker s.marker p)
-        (is_on s.trail.items p) (open_not_taken (situation_of s) p o) in
+    (not (nat_lt p (length (rc_slice_items s.items)))) (is_marker s.marker p)
+    (is_on s.trail.items p) (open_not_taken (situation_of s) p o) in
     let at : item ≡ get_or (rc_slice_items s.items) p item = there
-        ∙ ap (λ ys. get_or ys p item) same in
-    rw (o, unmarked, slice_get-get_or (rc_slice_items s.items) p item
-        (open_in_line s p h o), ← at) refl
+    ∙ ap (λ ys. get_or ys p item) same in
+    rw (
+      o,
+      unmarked,
+      slice_get-get_or (rc_slice_items s.items) p item
+          (open_in_line s p h o),
+      ← at,
+    ) refl
   where
     not_marker : (past marker on : Bool) → (past || (marker || on)) ≡ false → marker ≡ false
     not_marker past false on e = refl
@@ -356,7 +381,7 @@ closed_before s from place h clear q lower upper = by_scope (in_scope (situation
     taken above = ⊎_elim
         (λ (before : q < s.first). h.first.passed q above before)
         (λ (behind : s.first ≤ q). sym (h.bits q (omega (arith, clear.within, h.inside)))
-            ∙ clear.set q (omega arith) upper)
+        ∙ clear.set q (omega arith) upper)
         (cases_lt q s.first)
 
     by_scope : (b : Bool) → in_scope (situation_of s) q ≡ b → is_open (situation_of s) q ≡ false
@@ -375,7 +400,7 @@ none_behind s from h past q lower = by_scope (in_scope (situation_of s) q) refl
     by_scope true e =
         let inside : (s.start ≤ q) × (q < s.end) = grind (arith, nat_tests) in
         and_right (in_scope (situation_of s) q) _
-            (ap not (h.first.passed q inside.0 (omega (arith, inside))))
+        (ap not (h.first.passed q inside.0 (omega (arith, inside))))
 
 -- the next place whose bit is clear is the next one that is open; where it is the scope's end, none
 -- is
@@ -385,13 +410,13 @@ pub next_found : (s : Inside) (from place : ℕ) (found : Option ℕ) → IsSoun
     → MatchOption found (HasNoneOpen (situation_of s) from) (IsNextOpen (situation_of s) from)
 next_found s from place found h some clear is =
     subst (λ r. MatchOption r (HasNoneOpen (situation_of s) from)
-        (IsNextOpen (situation_of s) from)) (sym is) (by_test (nat_lt place s.end) refl)
+    (IsNextOpen (situation_of s) from)) (sym is) (by_test (nat_lt place s.end) refl)
   where
     none : s.end ≤ place → HasNoneOpen (situation_of s) from
     none past q lower = ⊎_elim
         (λ (before : q < place). closed_before s from place h clear q lower before)
         (λ (behind : place ≤ q). and_left (in_scope (situation_of s) q) _
-            (and_right _ _ (le-ltb q s.end (omega arith))))
+        (and_right _ _ (le-ltb q s.end (omega arith))))
         (cases_lt q place)
 
     by_test : (b : Bool) → nat_lt place s.end ≡ b → MatchOption (then_some b place)
@@ -399,7 +424,7 @@ next_found s from place found h some clear is =
     by_test true e =
         let below : place < s.end = ltb-true place s.end e in
         let free : is_taken (situation_of s) place ≡ false = sym
-            (h.bits place (omega (arith, h.inside))) ∙ clear.clear below in
+        (h.bits place (omega (arith, h.inside))) ∙ clear.clear below in
         record {
           from = omega (arith, clear.from);
           present = and_from (in_scope (situation_of s) place) _
@@ -415,7 +440,7 @@ pub sound_copy : (i j : Inside) → situation_of i ≡ situation_of j → i.chai
     → length (rc_slice_items i.items) ≤ vec_capacity i.trail → IsSound j → IsSound i
 sound_copy i j same chains words left first room h =
     let count : length (rc_slice_items i.items) ≡ length (rc_slice_items j.items) = ap
-        (λ s. length s.context.line) same in
+    (λ s. length s.context.line) same in
     let end : i.end ≡ j.end = ap (λ s. s.end) same in
     let start : i.start ≡ j.start = ap (λ s. s.start) same in
     record {

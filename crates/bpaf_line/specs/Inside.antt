@@ -7,6 +7,7 @@ use Rattle.bpaf_line.specs.declared.mark.Steps.TheInside.{Inside as InsideSteps}
 use Rattle.bpaf_line.specs.Bits.{has_bit}
 use Rattle.bpaf_line.specs.Chained.{AreChainsOf}
 use Rattle.bpaf_line.specs.Changes.{Changes}
+use Rattle.bpaf_line.specs.TakenPlaces.{places_of}
 use Rattle.bpaf_line.specs.Situation.{Situation, is_taken, open_count, TakenInTurn, IsFirstPresent}
 
 -- the situation that a kept state means
@@ -49,7 +50,7 @@ pub record IsSound (s : Inside) : Type 0 where
 -- the changes that kept steps mean
 abbrev pub changes_of : InsideSteps → Changes
 changes_of s = record {
-  taken = s.taken.items;
+  taken = places_of s.taken;
   conflicts = s.conflicts.items;
   path = map string_bytes s.path.items;
   start = s.start;

@@ -15,3 +15,4 @@ pub mod Finding
 pub mod OpenItems
 pub mod Conflicts
 pub mod Constructing
+pub mod TakenPlaces

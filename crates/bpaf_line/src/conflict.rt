@@ -20,7 +20,7 @@ impl State {
         ensures same { self.new ≡ self.old }
     {
         let own = &self.trail[mark.taken..];
-        let (here, there) = bits::least_apart(&mut self.words, own, &other.taken);
+        let (here, there) = bits::least_apart(&mut self.words, own, other.taken.as_slice());
         leftmost(here, there)
     }
 
@@ -33,7 +33,7 @@ impl State {
         ensures marks { KeepsMarks self.old self.new }
         ensures err { OnErr result (self.new ≡ self.old) }
     {
-        let mut pairs = self.excluded(&loser.taken, winner)?;
+        let mut pairs = self.excluded(loser.taken.as_slice(), winner)?;
         self.conflicts.append(&mut pairs)?;
         Ok(())
     }

@@ -38,6 +38,7 @@ mod mark;
 mod missing;
 mod state;
 mod take;
+mod taken;
 
 pub use error::{Error, Message};
 pub use failure::ParseFailure;

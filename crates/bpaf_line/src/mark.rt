@@ -5,6 +5,7 @@ ghost use Rattle.bpaf_line.specs.Marks.{mark_of, HasReached, Fits, undone, Keeps
 
 use crate::construct::copy_path;
 use crate::state::{State, lies_within};
+use crate::taken::TakenPlaces;
 use crate::{bits, chains};
 use std::alloc::AllocError;
 use std::marker::Model;
@@ -26,7 +27,7 @@ pub struct Mark {
 /// Contracts see it as `Changes`.
 #[derive(Drop)]
 pub struct Steps {
-    pub(crate) taken: Vec<usize>,
+    pub(crate) taken: TakenPlaces,
     pub(crate) conflicts: Vec<(usize, usize)>,
     pub(crate) path: Vec<String>,
     pub(crate) start: usize,
@@ -88,7 +89,7 @@ impl State {
     {
         let alloc = self.alloc();
         Ok(Steps {
-            taken: Vec::from_slice(alloc, &self.trail[mark.taken..])?,
+            taken: TakenPlaces::from_slice(alloc, &self.trail[mark.taken..])?,
             conflicts: Vec::from_slice(alloc, &self.conflicts[mark.conflicts..])?,
             path: copy_path(alloc, &self.path[mark.depth..])?,
             start: self.start,
@@ -115,7 +116,7 @@ impl State {
         self.conflicts.reserve(conflicts.len())?;
         self.path.append(&mut path)?;
         self.conflicts.append(&mut conflicts)?;
-        self.put_all(&taken);
+        self.put_all(taken.as_slice());
         self.restore_scope(start, end);
         self.current = current;
         Ok(())

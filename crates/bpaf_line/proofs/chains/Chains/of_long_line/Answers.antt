@@ -7,7 +7,7 @@ pub link-requires-clause-numbered : goal.link-requires-clause-numbered
 link-requires-clause-numbered c p within =
     let items = c.args.items.now in
     let below = classes_below items c.deref.result.now (length items)
-        (c.deref.ensures.value ∙ c.in_ok-classes.ensures) c.requires p within in
+    (c.deref.ensures.value ∙ c.in_ok-classes.ensures) c.requires p within in
     omega (arith, below, c.deref_mut-2.ensures.len, c.in_ok-heads.ensures.len)
 
 pub invariant_of-result : goal.invariant_of-result
@@ -17,15 +17,30 @@ invariant_of-result c =
     let heads = c.link.new.heads in
     let are = c.deref.ensures.value ∙ c.in_ok-classes.ensures in
     linked_first _ c.deref.result.now next heads
-        (c.in_ok-from_vec.ensures ∙ sym c.deref.ensures.value)
+    (c.in_ok-from_vec.ensures ∙ sym c.deref.ensures.value)
     (c.in_ok-from_vec-2.ensures ∙ with_items_is c.in_ok-next.next next
-        (c.link.auto.next ∙ c.deref_mut.ensures.len))
+    (c.link.auto.next ∙ c.deref_mut.ensures.len))
     (with_items_is c.in_ok-heads.heads heads (c.link.auto.heads ∙ c.deref_mut-2.ensures.len))
-        (omega (arith, c.link.auto.heads, c.deref_mut-2.ensures.len, c.in_ok-heads.ensures.len,
-        c.requires))
-    (omega (arith, c.link.auto.next, c.deref_mut.ensures.len, c.in_ok-next.ensures.len,
-        classes_size items c.deref.result.now (length items) are))
-    (λ p within. omega (arith, classes_below items c.deref.result.now
-        (length items) are c.requires p within, c.link.auto.heads, c.deref_mut-2.ensures.len,
-        c.in_ok-heads.ensures.len)) c.link.ensures.linked
+    (omega (
+      arith,
+      c.link.auto.heads,
+      c.deref_mut-2.ensures.len,
+      c.in_ok-heads.ensures.len,
+      c.requires,
+    ))
+    (omega (
+      arith,
+      c.link.auto.next,
+      c.deref_mut.ensures.len,
+      c.in_ok-next.ensures.len,
+      classes_size items c.deref.result.now (length items) are,
+    ))
+    (λ p within. omega (
+      arith,
+      classes_below items c.deref.result.now
+          (length items) are c.requires p within,
+      c.link.auto.heads,
+      c.deref_mut-2.ensures.len,
+      c.in_ok-heads.ensures.len,
+    )) c.link.ensures.linked
     (λ k within. c.link.ensures.first k (omega (arith, c.link.auto.heads)))

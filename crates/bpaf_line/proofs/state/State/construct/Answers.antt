@@ -53,33 +53,44 @@ start c = begins (inside c) (context_is c) c.in_ok-from_vec.ensures refl
     (c.in_ok-from_vec-2.ensures ∙ (c.in_ok-entries.ensures ∙ c.env.ensures))
     (c.in_ok-path.ensures.name ∙ c.name.ensures)
     c.in_ok-with_capacity.ensures.items c.new.ensures.items refl (size c)
-        (c.in_ok-path.ensures.path ∙ ap option_to_list c.name.ensures) refl
+    (c.in_ok-path.ensures.path ∙ ap option_to_list c.name.ensures) refl
 
 pub invariant_of-result : goal.invariant_of-result
 unfolding context_is inside
 invariant_of-result c =
     let n = length c.in_ok-line.line.items.items in
     sound_beginning (inside c) (context_is c) (start c)
-        (marker_of_line _ _ _ _ c.in_ok-line.ensures.answer)
+    (marker_of_line _ _ _ _ c.in_ok-line.ensures.answer)
     (omega (arith, size c, c.in_ok-words.ensures.room)) c.in_ok-words.ensures.bits
-        (omega (arith, size c, c.in_ok-with_capacity.ensures.capacity))
+    (omega (arith, size c, c.in_ok-with_capacity.ensures.capacity))
     (ap (λ k. c.len-end.result - k) (c.from.ensures ∙ ap from_bool c.is_some.ensures)
-        ∙ ap (λ m. m - from_bool (is_some c.in_ok-line.line.marker)) (size c))
+    ∙ ap (λ m. m - from_bool (is_some c.in_ok-line.line.marker)) (size c))
     (subst (λ words. IsFirstClear words 0 n c.first_clear-first.result) c.deref.ensures.value
-        (subst (λ m. IsFirstClear c.deref.result.now 0 m c.first_clear-first.result)
-        (size c) c.first_clear-first.ensures))
+    (subst (λ m. IsFirstClear c.deref.result.now 0 m c.first_clear-first.result)
+    (size c) c.first_clear-first.ensures))
     (subst (λ items. IfSome c.in_ok-chains.chains
-        (λ chains. chains.classes ≡ map (class_in
-        (length chains.heads)) items)) c.deref-2.ensures.value c.in_ok-chains.ensures.classes)
-        c.in_ok-chains.ensures.heads
+    (λ chains. chains.classes ≡ map (class_in
+    (length chains.heads)) items)) c.deref-2.ensures.value c.in_ok-chains.ensures.classes)
+    c.in_ok-chains.ensures.heads
 
 pub returns-clause-texts : goal.returns-clause-texts
 returns-clause-texts c = subst (All IsUtf8) c.words.ensures c.in_ok-line.ensures.texts
 
 pub returns-clause-answer : goal.returns-clause-answer
 unfolding context_is inside
-returns-clause-answer c = (context_is c, record { is_line =
-    subst (λ words. IsLine (knowing (record { flags = c.args.short_flags.now; arguments =
-    c.args.short_args.now })) words (context_is c).line
-    (context_is c).marker) c.words.ensures c.in_ok-line.ensures.answer; env = refl; name =
-    refl }, start c)
+returns-clause-answer c = (
+  context_is c,
+  record {
+    is_line =
+        subst (λ words. IsLine (knowing (record {
+          flags = c.args.short_flags.now;
+          arguments =
+              c.args.short_args.now;
+        })) words (context_is c).line
+        (context_is c).marker) c.words.ensures c.in_ok-line.ensures.answer;
+    env = refl;
+    name =
+        refl;
+  },
+  start c,
+)

@@ -7,4 +7,4 @@ use Rattle.bpaf_line.proofs.state.State.first_long_key.Given as goal
 abbrev pub invariant-loop-long : goal.invariant-loop-long
 invariant-loop-long l =
     IsFirstAmong (is_argument_key (record { shorts = l.shorts; longs = l.longs }) l.adjacent)
-        (map (text_number 0) (take l.long-index l.longs)) l.self l.end l.place
+    (map (text_number 0) (take l.long-index l.longs)) l.self l.end l.place

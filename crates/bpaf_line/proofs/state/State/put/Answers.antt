@@ -19,21 +19,21 @@ invariant_of-self c =
     let s = c.self.inside in
     let free = ap (λ s. is_taken s c.args.place) c.self.view_is ∙ c.requires in
     let changed = subst (λ old.
-        ChangesBit old c.set.new.words c.args.place true) c.deref_mut.ensures.value c.set.ensures in
+    ChangesBit old c.set.new.words c.args.place true) c.deref_mut.ensures.value c.set.ensures in
     let written = with_items_is s.words c.set.new.words (changed.kept ∙ sym s.words.ok.0) in
     sound_put s c.args.place c.set.new.words c.push.new.self _ _ c.pass.new.chains c.self.invariant
-        free changed
+    free changed
     (pushed_place s c.args.place c.push.new.self _ c.self.invariant free c.push.ensures.succeeds
-        c.push.ensures.items) c.push.ensures.capacity
+    c.push.ensures.items) c.push.ensures.capacity
     (ap (λ n. s.left - n) (c.from.ensures ∙ ap from_bool c.lies_within.ensures))
     (subst (λ words. IsFirstClear words s.first s.end c.first_clear-self-inside.result)
-        (c.deref.ensures.value ∙ written) c.first_clear-self-inside.ensures)
+    (c.deref.ensures.value ∙ written) c.first_clear-self-inside.ensures)
     (subst (λ words. IfChained (HavePassed words) s.chains c.pass.new.chains)
-        (c.deref-2.ensures.value ∙ written) c.pass.ensures)
+    (c.deref-2.ensures.value ∙ written) c.pass.ensures)
 
 pub returns : goal.returns
 returns c =
     let free = ap (λ s. is_taken s c.args.place) c.self.view_is ∙ c.requires in
     ap (with_trail (situation_of c.self.inside))
-        (pushed_place c.self.inside c.args.place c.push.new.self _ c.self.invariant free
-        c.push.ensures.succeeds c.push.ensures.items) ∙ ap (λ s. put s c.args.place) c.self.view_is
+    (pushed_place c.self.inside c.args.place c.push.new.self _ c.self.invariant free
+    c.push.ensures.succeeds c.push.ensures.items) ∙ ap (λ s. put s c.args.place) c.self.view_is

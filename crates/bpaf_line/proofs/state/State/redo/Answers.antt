@@ -21,7 +21,7 @@ invariant_of-self-2 c =
 
 pub put_all-requires : goal.put_all-requires
 put_all-requires c =
-    let taken = c.deref.ensures.value ∙ ap (λ steps. steps.taken) c.steps.view_is in
+    let taken = c.as_slice.ensures ∙ ap (λ steps. steps.taken) c.steps.view_is in
     subst (PresentInTurn (situation_of c.self.inside)) (sym taken)
     (subst (λ s. PresentInTurn s c.args.steps.taken) (sym c.self.view_is) c.requires.present)
 
@@ -34,7 +34,7 @@ returns-clause-ok c =
     ap (λ t. with_current t steps.current)
     (c.self-2.view_is ∙ (c.restore_scope.ensures
     ∙ ap (λ t. with_scope t steps.start steps.end) c.put_all.ensures))
-    ∙ (redone_parts s steps c.deref.result.now c.append-2.new.self.items
-    (map string_bytes c.append.new.self.items) c.deref.ensures.value
+    ∙ (redone_parts s steps c.as_slice.result.now c.append-2.new.self.items
+    (map string_bytes c.append.new.self.items) c.as_slice.ensures
     (c.in_ok-append-2.ensures.items ∙ ap (λ xs. xs ++ steps.conflicts) c.reserve.ensures.items) path
     ∙ (ap (λ changes. redone changes s) c.steps.view_is ∙ ap (redone c.args.steps) c.self.view_is))

@@ -11,7 +11,7 @@ pub returns-clause-ok : goal.returns-clause-ok
 returns-clause-ok c mark =
     let s = c.args.self.now in
     let pairs = c.in_ok-pairs.pairs.items in
-    let taken = c.deref.ensures.value ∙ ap (λ steps. steps.taken) c.loser.view_is in
+    let taken = c.as_slice.ensures ∙ ap (λ steps. steps.taken) c.loser.view_is in
     let saved = ap (λ xs. record (situation_of c.self.inside) { conflicts = xs })
     c.in_ok-append.ensures.items ∙ ap (λ t. with_conflicts t pairs) c.self.view_is in
     subst (ConflictsSaved s (redone c.args.loser.now (undone mark s)) c.args.winner) (sym saved)

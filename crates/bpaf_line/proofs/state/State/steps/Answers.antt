@@ -1,5 +1,6 @@
 use Rattle.std.proofs.Common.{◌≡◌, ◌∙◌, ap, sym, subst, refl, drop, map, string_bytes}
 use Rattle.std.proofs.lemmas.List.{drop-map}
+use Rattle.bpaf_line.specs.TakenPlaces.{places_of}
 use Rattle.bpaf_line.specs.Marks.{HasReached, undone, steps_since, redone, CanRedo}
 use Rattle.bpaf_line.proofs.Marks.{rest_is, redone_undone, can_redo}
 use Rattle.bpaf_line.proofs.state.State.steps.Goals as goal
@@ -8,8 +9,8 @@ pub returns-clause-steps : goal.returns-clause-steps
 returns-clause-steps c =
     let mark = c.args.mark.now in
     let s = c.self.inside in
-    let taken : c.in_ok-from_slice.field-0.items ≡ drop mark.taken s.trail.items = rest_is
-    mark.taken _ _ _ c.in_ok-from_slice.ensures.items c.deref.ensures.value in
+    let taken : places_of c.in_ok-from_slice.field-0 ≡ drop mark.taken s.trail.items = rest_is
+    mark.taken _ _ _ c.in_ok-from_slice.ensures c.deref.ensures.value in
     let conflicts : c.in_ok-from_slice-2.field-0.items ≡ drop mark.conflicts s.conflicts.items =
     rest_is mark.conflicts _ _ _ c.in_ok-from_slice-2.ensures.items c.deref-2.ensures.value in
     let path : map string_bytes c.in_ok-copy_path.field-0.items ≡ drop mark.depth

@@ -8,11 +8,11 @@ use Rattle.bpaf_line.proofs.state.State.untake.Goals as goal
 pub overflow_add-self : goal.overflow_add-self
 overflow_add-self c =
     let some : 0 < length c.self.inside.trail.items =
-        (let e = ap (λ s. length s.trail) c.self.view_is in omega (arith, e, c.requires)) in
+    (let e = ap (λ s. length s.trail) c.self.view_is in omega (arith, e, c.requires)) in
     let fewer = left_below_count c.self.inside c.index-place.result.now c.from.result
-        c.self.invariant some
-        (last_read c.self.inside _ _ c.len-last.ensures some c.index-place.ensures)
-        (c.from.ensures ∙ ap from_bool c.lies_within-within.ensures) in
+    c.self.invariant some
+    (last_read c.self.inside _ _ c.len-last.ensures some c.index-place.ensures)
+    (c.from.ensures ∙ ap from_bool c.lies_within-within.ensures) in
     omega (arith, fewer)
 
 pub invariant_of-self : goal.invariant_of-self
@@ -20,16 +20,16 @@ invariant_of-self c =
     let s = c.self.inside in
     let p = c.index-place.result.now in
     let some : 0 < length s.trail.items = (let e = ap (λ s. length s.trail) c.self.view_is in
-        omega (arith, e, c.requires)) in
+    omega (arith, e, c.requires)) in
     let shorter : c.len-last.result - 1 ≡ length s.trail.items - 1 =
-        omega (arith, c.len-last.ensures, s.trail.ok.0) in
+    omega (arith, c.len-last.ensures, s.trail.ok.0) in
     let last = last_read s _ _ c.len-last.ensures some c.index-place.ensures in
     sound_untake s p c.clear.new.words c.truncate.new.self _ _ c.reach_back.new.chains
-        c.self.invariant some last
+    c.self.invariant some last
     (subst (λ old. ChangesBit old c.clear.new.words p false) c.deref_mut.ensures.value
-        c.clear.ensures)
+    c.clear.ensures)
     (c.truncate.ensures.items ∙ ap (λ n. take n s.trail.items) shorter)
-        (omega (arith, c.truncate.ensures.capacity))
+    (omega (arith, c.truncate.ensures.capacity))
     (ap (λ n. s.left + n) (c.from.ensures ∙ ap from_bool c.lies_within-within.ensures))
     (c.earlier-self-inside.ensures ∙ ap (λ b.
-        if b then min s.first p else s.first) c.lies_within-within.ensures) c.reach_back.ensures
+    if b then min s.first p else s.first) c.lies_within-within.ensures) c.reach_back.ensures
