@@ -202,3 +202,32 @@ fn trees_answer_and_are_copied(rt: HostRuntime) -> Result<(), Fail> {
     }
     Ok(())
 }
+
+// Texts of each way to be kept: empty, the longest that takes no memory, and longer ones.
+const TEXTS: &[&str] = &[
+    "",
+    "-v",
+    "größer als zuvor",
+    "abcdefghijklmnopqrstuvw",
+    "abcdefghijklmnopqrstuvwx",
+    "abcdefghijklmnopqrstuvñ",
+    "several words that need memory of their own",
+];
+
+// Whether a text and its copy say and print what they were made of, as one made of a String does.
+fn says(alloc: Global, text: &str) -> Result<bool, AllocError> {
+    let made = Text::new(alloc, text)?;
+    let copy = made.copy()?;
+    let owned = Text::from(String::from_str(alloc, text)?);
+    let printed = format!(in alloc; "{made}|{copy:?}")?;
+    let wanted = format!(in alloc; "{text}|{text:?}")?;
+    Ok(copy.as_str() == text && owned.as_str() == text && printed == wanted)
+}
+
+#[test]
+fn texts_say_what_they_are_made_of(rt: HostRuntime) -> Result<(), Fail> {
+    for text in TEXTS {
+        assert!(rt; says(rt.alloc(), *text)?);
+    }
+    Ok(())
+}

@@ -74,7 +74,7 @@ fn copied_help(alloc: Global) -> Result<Option<Doc>, AllocError> {
 }
 
 /// How Rust's Debug prints it.
-const HELP: &str = "Some(Doc { pieces: [Piece { text: Text { inner: \"File to process\" }, \
+const HELP: &str = "Some(Doc { pieces: [Piece { text: \"File to process\", \
     style: Text, detail: false }] })";
 
 #[test]

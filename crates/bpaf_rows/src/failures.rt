@@ -70,9 +70,9 @@ fn missing_both(alloc: Global) -> Result<Error, AllocError> {
 
 /// How Rust's Debug prints it.
 const MISSING: &str = "Error(Missing(MissingItems { items: [\
-    MissingItem { item: Positional { metavar: Text { inner: \"FILE\" }, help: None }, \
+    MissingItem { item: Positional { metavar: \"FILE\", help: None }, \
     position: 1, scope: 1..3 }, \
-    MissingItem { item: Positional { metavar: Text { inner: \"DIR\" }, help: None }, \
+    MissingItem { item: Positional { metavar: \"DIR\", help: None }, \
     position: 1, scope: 1..3 }] }))";
 
 #[test]

@@ -112,9 +112,9 @@ fn a_type_of_the_callers_own_is_read(rt: HostRuntime) {
 
 // A key with two names of each kind and a help, as it is printed.
 const SIZE: &str = "NamedArg { shorts: ['s', 'n'], \
-    longs: [Text { inner: \"size\" }, Text { inner: \"number\" }], \
-    envs: [Text { inner: \"SIZE\" }, Text { inner: \"WIDTH\" }], \
-    help: Some(Doc { pieces: [Piece { text: Text { inner: \"how wide\" }, \
+    longs: [\"size\", \"number\"], \
+    envs: [\"SIZE\", \"WIDTH\"], \
+    help: Some(Doc { pieces: [Piece { text: \"how wide\", \
     style: Text, detail: false }] }) }";
 
 // The key that `SIZE` prints.
@@ -204,7 +204,7 @@ const TOLD: &[(&str, &str, &str)] = &[
     ),
     (
         "long",
-        "NamedArg { shorts: [], longs: [Text { inner: \"all\" }], ",
+        "NamedArg { shorts: [], longs: [\"all\"], ",
         "envs: [], help: None }",
     ),
     ("key", "", SIZE),
@@ -212,14 +212,14 @@ const TOLD: &[(&str, &str, &str)] = &[
     ("argument", "Metavar(\"NUM\") false ", SIZE),
     (
         "flag item",
-        "Some(Flag { name: Both('s', Text { inner: \"size\" }), shorts: ['s', 'n'], \
-        env: Some(Text { inner: \"SIZE\" }), help: Some(",
+        "Some(Flag { name: Both('s', \"size\"), shorts: ['s', 'n'], \
+        env: Some(\"SIZE\"), help: Some(",
         "style: Text, detail: false }] }) })",
     ),
     (
         "argument item",
-        "Some(Argument { name: Both('s', Text { inner: \"size\" }), shorts: ['s', 'n'], \
-        metavar: Text { inner: \"NUM\" }, env: Some(Text { inner: \"SIZE\" }), help: Some(",
+        "Some(Argument { name: Both('s', \"size\"), shorts: ['s', 'n'], \
+        metavar: \"NUM\", env: Some(\"SIZE\"), help: Some(",
         "style: Text, detail: false }] }) })",
     ),
 ];
