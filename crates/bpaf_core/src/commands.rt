@@ -10,6 +10,7 @@ use crate::options::OptionParser;
 use crate::parser::Parser;
 use bpaf_doc::{Doc, Item, Meta, Text};
 use bpaf_line::{Error, Message, ParseFailure, State};
+use bpaf_text::copy_texts;
 use std::alloc::{AllocError, Global};
 use std::marker::Model;
 
@@ -97,8 +98,20 @@ impl CommandNames {
         self.shorts.first().copied()
     }
 
+    /// Equal names; refused only for want of memory.
+    pub fn copy(&self) -> Result<CommandNames, AllocError>
+        ensures { IfOk result (λ names. names ≡ self.now) }
+    {
+        let alloc = *self.longs.allocator();
+        Ok(CommandNames {
+            name: self.name.copy()?,
+            longs: copy_texts(alloc, &self.longs)?,
+            shorts: Vec::from_slice(alloc, &self.shorts)?,
+        })
+    }
+
     /// With one more long name; refused only for want of memory, and then the names are gone.
-    fn long(mut self, name: &str) -> Result<CommandNames, AllocError>
+    pub fn long(mut self, name: &str) -> Result<CommandNames, AllocError>
         ensures { IfOk result (λ names. names ≡ with_long_name self name.now) }
     {
         let name = Text::new(*self.longs.allocator(), name)?;
@@ -107,7 +120,7 @@ impl CommandNames {
     }
 
     /// With one more short name; refused only for want of memory, and then the names are gone.
-    fn short(mut self, name: char) -> Result<CommandNames, AllocError>
+    pub fn short(mut self, name: char) -> Result<CommandNames, AllocError>
         ensures { IfOk result (λ names. names ≡ with_short_name self name) }
     {
         self.shorts.push(name)?;
