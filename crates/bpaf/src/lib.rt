@@ -26,7 +26,7 @@ pub mod params;
 pub mod parsers;
 mod product;
 
-pub use bpaf_core::{Info, OptionParser, Parser, count_falls, read_text};
+pub use bpaf_core::{Info, OptionParser, Parser, command, count_falls, read_text};
 pub use bpaf_doc::{Doc, Item, Meta, MetaInfo, Metavar, Piece, ShortLong, Style, Text};
 pub use bpaf_line::{
     ArgsIter, Error, Mark, Message, MissingItem, MissingItems, ParseFailure, State, Steps,
@@ -34,6 +34,7 @@ pub use bpaf_line::{
 pub use bpaf_text::{FromList, FromText, NamedArg, TextFault, env, long, short};
 pub use bpaf_words::{Arg, Args, LentWord, Words, lines_are_unique, spellings_are_unique};
 pub use choices::{ParseChoice, choice};
+pub use leaves::appname::appname;
 pub use leaves::positional::{ParsePositional, Position, positional};
 pub use leaves::pure::{fail, pure, pure_with};
 pub use product::{Both, Fields, Last, ParseCon};

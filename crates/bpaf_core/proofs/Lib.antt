@@ -1,3 +1,5 @@
 pub mod Running
 pub mod Dealing
 pub mod Branching
+pub mod Opening
+pub mod Commanding

@@ -1,5 +1,5 @@
 -- How the answers of a run are put together.
-use Rattle.std.proofs.Common.{◌≡◌, ◌==◌, ℕ, ◌<◌, Bool, true, false, List, Result, Ok, Err, ⊎_elim, inl, inr, subst, sym, refl, true≢false}
+use Rattle.std.proofs.Common.{◌≡◌, ◌==◌, ℕ, ◌<◌, Bool, true, false, List, Result, Ok, Err, ⊎_elim, inl, inr, subst, sym, refl}
 use Rattle.std.proofs.lemmas.Bool.Decides.{nat_tests}
 use Rattle.std.proofs.Common.{arith}
 use Rattle.bpaf_line.specs.declared.error.Message.{Message}
@@ -82,13 +82,8 @@ module _ {T : Type 0} {inner : Outcome T} {describes : Shape → Type 0} {info :
         → ReadsNames describes info given.words flags arguments
         → RefusesLine (knowing (record { flags = flags; arguments = arguments })) given.words m
         → Tells m f → RunsWords T inner describes info given (Err f)
-    line_refused flags arguments Memory f names refuses tells = ⊎_elim
-        (λ memory. subst (λ x. RunsWords T inner describes info given (Err x)) (sym memory.1)
-        no_memory)
-        (λ told. absurd (true≢false told.0))
-        tells
-    line_refused flags arguments (Ambiguity word number) f names refuses tells = ⊎_elim
-        (λ memory. absurd (true≢false (sym memory.0)))
-        (λ told. line_lacks flags arguments word number f names refuses told.1)
-        tells
+    line_refused flags arguments Memory f names refuses tells =
+        subst (λ x. RunsWords T inner describes info given (Err x)) (sym tells) no_memory
+    line_refused flags arguments (Ambiguity word number) f names refuses tells =
+        line_lacks flags arguments word number f names refuses tells
     line_refused flags arguments other f names refuses tells = absurd refuses

@@ -2,4 +2,6 @@ pub mod Info
 pub mod Known
 pub mod Run
 pub mod Dealt
+pub mod Command
+pub mod CommandLaws
 pub mod Branches

@@ -1,12 +1,12 @@
 -- What a run answers.
-use Rattle.std.specs.Prelude.{◌≡◌, ◌⊎◌, ℕ, ◌<◌, true, false, List, Result, Ok, Err, codes, ⊤}
+use Rattle.std.specs.Prelude.{◌≡◌, ℕ, ◌<◌, true, List, Result, Ok, Err, codes, ⊤}
 use Rattle.bpaf_doc.specs.Print.{printed}
 use Rattle.bpaf_line.specs.declared.error.Error.{Error}
 use Rattle.bpaf_line.specs.declared.error.Message.{Message}
+use Rattle.bpaf_line.specs.declared.error.Message.TheVariants as message
 use Rattle.bpaf_line.specs.declared.failure.ParseFailure.{ParseFailure}
 use Rattle.bpaf_line.specs.declared.failure.ParseFailure.TheVariants as failure
 use Rattle.bpaf_words.specs.Arguments.{Given}
-use Rattle.bpaf_line.specs.Messages.{is_memory}
 use Rattle.bpaf_words.specs.Line.{HasNoLine}
 use Rattle.bpaf_line.specs.Situation.{Situation, Context, beginning, open_count}
 use Rattle.bpaf_doc.specs.Shape.{Shape}
@@ -20,9 +20,12 @@ IsRefusal (failure.Stdout doc full) = ⊥
 IsRefusal (failure.Stderr doc) = printed true doc ≡ codes "refused"
 IsRefusal failure.Memory = ⊤
 
--- want of memory stays that; every other message is refused by a text
+-- want of memory stays that, and the answer of an inner run is passed on; every other message is
+-- refused by a text
 abbrev pub Tells : Message → ParseFailure → Type 0
-Tells m f = ((is_memory m ≡ true) × (f ≡ failure.Memory)) ⊎ ((is_memory m ≡ false) × IsRefusal f)
+Tells message.Memory f = f ≡ failure.Memory
+Tells (message.ParseFailure inner) f = f ≡ inner
+Tells m f = IsRefusal f
 
 -- a run from a situation on, and the situation that it leaves: a value, and no item is left; a
 -- value that left some; a refusal

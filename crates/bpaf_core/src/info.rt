@@ -1,19 +1,23 @@
 ghost use Rattle.std.specs.Prelude.{◌≡◌, ◌++◌, ◌∷◌, [], IfOk, OnOk};
 ghost use Rattle.bpaf_doc.specs.Names.{Names};
-ghost use Rattle.bpaf_core.specs.Info.{key_or_usual, plain_info};
+ghost use Rattle.bpaf_core.specs.Info.{key_or_usual, plain_info, short_descr};
 
+use bpaf_doc::Doc;
 use bpaf_text::NamedArg;
 use std::alloc::AllocError;
 use std::marker::Model;
 
 /// What a run knows beside its parser (bpaf's `Info`, in `info.rs`): the keys that ask for help and
-/// for the version. Both are known flags in joined words, also where no version is set.
+/// for the version, and a description. Both keys are known flags in joined words, also where no
+/// version is set.
 #[derive(Debug, Drop)]
 pub struct Info {
     /// The key that asks for help; where none is set, `-h` and `--help`.
     pub help_arg: Option<NamedArg>,
     /// The key that asks for the version; where none is set, `-V` and `--version`.
     pub version_arg: Option<NamedArg>,
+    /// What the parser is for; none is set at first.
+    pub descr: Option<Doc>,
 }
 
 impl Model for Info {
@@ -25,6 +29,7 @@ impl Model for Info {
         record {
           help_arg = key_or_usual help_names info.help_arg;
           version_arg = key_or_usual version_names info.version_arg;
+          descr = info.descr;
         } };
 }
 
@@ -50,13 +55,14 @@ fn push_shorts(key: &Option<NamedArg>, usual: char, names: &mut Vec<char>) -> Re
 }
 
 impl Info {
-    /// The keys `-h`, `--help` and `-V`, `--version`. It takes no memory.
+    /// The keys `-h`, `--help` and `-V`, `--version`, and no description. It takes no memory.
     pub fn new() -> Info
         ensures { result ≡ plain_info }
     {
         Info {
             help_arg: None,
             version_arg: None,
+            descr: None,
         }
     }
 
@@ -67,7 +73,18 @@ impl Info {
         Ok(Info {
             help_arg: copy_of(&self.help_arg)?,
             version_arg: copy_of(&self.version_arg)?,
+            descr: Doc::copy_of(&self.descr)?,
         })
+    }
+
+    /// The first line of the description, where there is one; refused only for want of memory.
+    pub(crate) fn short_descr(&self) -> Result<Option<Doc>, AllocError>
+        ensures { IfOk result (λ line. line ≡ short_descr self.now) }
+    {
+        match &self.descr {
+            Some(descr) => descr.first_line(),
+            None => Ok(None),
+        }
     }
 
     /// Appends the short names of both keys, that for help first; refused for want of memory.

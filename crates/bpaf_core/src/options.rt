@@ -1,5 +1,5 @@
 //! A run of a parser over words.
-ghost use Rattle.std.specs.Prelude.{◌≡◌, IfOk};
+ghost use Rattle.std.specs.Prelude.{◌≡◌, IfOk, Some};
 ghost use Rattle.bpaf_words.specs.Arguments.{given_of, words_of};
 ghost use Rattle.bpaf_core.specs.Known.{ReadsNames, ShowsNames};
 ghost use Rattle.bpaf_core.specs.Run.{Runs, RunsWords, IsRefusal, Tells};
@@ -41,14 +41,36 @@ fn refused(alloc: Global) -> Result<Doc, AllocError>
     Ok(doc)
 }
 
-/// What a run ends with where a parser, or the line, refuses: want of memory stays that.
+/// What a run ends with where a parser, or the line, refuses: want of memory stays that, and the
+/// answer of an inner run is passed on.
 fn failure_of(alloc: Global, message: Message) -> ParseFailure
     ensures { Tells message result }
 {
-    if message.is_memory() {
-        return ParseFailure::Memory;
+    match message {
+        Message::Memory => ParseFailure::Memory,
+        Message::ParseFailure(failure) => failure,
+        refused => {
+            drop(refused);
+            refusal(alloc)
+        }
     }
-    refusal(alloc)
+}
+
+impl<T, P> OptionParser<T, P> {
+    /// The parser with this description, in place of the one that it has (bpaf's
+    /// `OptionParser::descr`). It takes no memory.
+    ///
+    /// A command made of it shows the first line, where it is given no help of its own.
+    ///
+    /// ```text
+    /// num.to_options(alloc)?.descr(Doc::from_text(alloc, "Builds the program")?)
+    /// ```
+    pub fn descr(mut self, descr: Doc) -> OptionParser<T, P>
+        ensures { result ≡ record self { info = record self.info { descr = Some descr } } }
+    {
+        self.info.descr = Some(descr);
+        self
+    }
 }
 
 impl<T: Drop, P: Parser<T>> OptionParser<T, P> {
@@ -102,7 +124,7 @@ impl<T: Drop, P: Parser<T>> OptionParser<T, P> {
     }
 
     /// A run from a state on.
-    fn run_from(&self, state: &mut State) -> Result<T, ParseFailure>
+    pub(crate) fn run_from(&self, state: &mut State) -> Result<T, ParseFailure>
         requires { P.can_eval self.now.inner }
         ensures { Runs T (P.outcome self.now.inner) state.old result state.new }
     {

@@ -1,12 +1,12 @@
 -- How what evaluations keep is put together. No combinator builds a `Keeps` of its own: it goes
 -- through these lemmas and one for each call of a state, so that a clause can be added to the laws
 -- here.
-use Rattle.std.specs.Prelude.{◌≡◌, ◌≢◌, ℕ, ◌+◌, ◌==◌, Bool, true, false, not, ◌&&◌, ◌||◌, [], ◌++◌, Result, Ok, Err, Option, None, refl}
+use Rattle.std.specs.Prelude.{◌≡◌, ◌≢◌, ℕ, ◌+◌, ◌==◌, Bool, true, false, not, ◌&&◌, ◌||◌, List, [], ◌∷◌, ◌++◌, Result, Ok, Err, Option, None, refl}
 use Rattle.std.proofs.Common.{sym, ◌∙◌, ap, subst, append_assoc, append-nil, arith, ⊎_elim, true≢false}
 use Rattle.std.proofs.lemmas.Bool.{cases_eq}
 use Rattle.std.proofs.lemmas.Bool.Decides.{nat_tests}
-use Rattle.bpaf_line.specs.Situation.{Situation, is_taken, is_open, in_scope, take_place, with_current}
-use Rattle.bpaf_line.proofs.Marks.{keeps_marks_refl, keeps_marks_trans, keeps_marks_take, keeps_marks_current}
+use Rattle.bpaf_line.specs.Situation.{Situation, is_taken, is_open, in_scope, take_place, with_scope, with_path, with_current}
+use Rattle.bpaf_line.proofs.Marks.{keeps_marks_refl, keeps_marks_trans, keeps_marks_take, keeps_marks_scope, keeps_marks_path, keeps_marks_current}
 use Rattle.bpaf_line.proofs.Places.{taken_here, taken_other, open_not_taken}
 use Rattle.bpaf_line.specs.Conflicts.{ConflictsSaved}
 use Rattle.bpaf_line.specs.declared.error.Error.{Error}
@@ -130,6 +130,39 @@ keeps_current s t place k =
       narrows = k.narrows;
       path = k.path;
       marks = keeps_marks_current s t place k.marks;
+    }
+
+-- a scope inside the old one keeps all
+pub keeps_scope : (s t : Situation) (start end : ℕ) → Keeps s t
+    → ((p : ℕ) → in_scope (with_scope t start end) p ≡ true → in_scope s p ≡ true)
+    → Keeps s (with_scope t start end)
+keeps_scope s t start end k narrows =
+    record {
+      context = k.context;
+      stays = k.stays;
+      fresh = k.fresh;
+      narrows = narrows;
+      path = k.path;
+      marks = keeps_marks_scope s t start end k.marks;
+    }
+
+-- so does a name at the end of the path
+pub keeps_path : (s t : Situation) (entry : List ℕ) → Keeps s t → Keeps s (with_path t entry)
+keeps_path s t entry k =
+    record {
+      context = k.context;
+      stays = k.stays;
+      fresh = k.fresh;
+      narrows = k.narrows;
+      path =
+          record {
+            more = k.path.more ++ entry ∷ [];
+            is =
+                ap (λ path. path ++ entry ∷ []) k.path.is
+                ∙ append_assoc s.path k.path.more (entry ∷ []);
+          };
+      marks =
+          keeps_marks_trans s t (with_path t entry) k.marks (keeps_marks_path t entry);
     }
 
 -- where the situation is as before, all is kept

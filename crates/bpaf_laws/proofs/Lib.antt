@@ -21,4 +21,6 @@ pub mod Shapes
 pub mod ChoicesLaws
 pub mod ChoosingAll
 pub mod LeftmostOfAll
+pub mod CommandLaws
+pub mod AppnameLaws
 pub mod Reading

@@ -4,8 +4,8 @@ use Rattle.std.proofs.Common.{sym, ◌∙◌, arith, length-drop, Option, [], �
 use Rattle.std.proofs.lemmas.List.{length-take-le, take-append-le, take-append-drop, take-take}
 use Rattle.std.proofs.lemmas.List.{take_rest, drop-take, get_or-drop}
 use Rattle.bpaf_line.specs.declared.mark.Mark.{Mark}
-use Rattle.bpaf_line.specs.Situation.{Situation, cut_to, take_place, with_conflicts, with_current}
-use Rattle.bpaf_line.specs.Situation.{TakenInTurn}
+use Rattle.bpaf_line.specs.Situation.{Situation, cut_to, take_place, with_conflicts, with_scope}
+use Rattle.bpaf_line.specs.Situation.{with_path, with_current, TakenInTurn}
 use Rattle.bpaf_line.specs.Changes.{Changes}
 use Rattle.bpaf_line.specs.Marks.{HasReached, undone, steps_since, redone, CanRedo, KeepsMarks}
 use Rattle.bpaf_line.specs.Marks.{Fits}
@@ -149,6 +149,42 @@ keeps_marks_current s t place keeps = record {
         named = there.named;
       };
   same = λ mark fits. keeps.same mark fits;
+}
+
+-- nor does the scope
+pub keeps_marks_scope : (s t : Situation) (start end : ℕ) → KeepsMarks s t
+    → KeepsMarks s (with_scope t start end)
+keeps_marks_scope s t start end keeps = record {
+  fit = λ mark fits.
+      let there = keeps.fit mark fits in
+      record {
+        reached = record {
+          taken = there.reached.taken;
+          conflicts = there.reached.conflicts;
+          depth = there.reached.depth;
+        };
+        ordered = there.ordered;
+        inside = there.inside;
+        named = there.named;
+      };
+  same = λ mark fits. keeps.same mark fits;
+}
+
+-- a name at the end of the path keeps them
+pub keeps_marks_path : (s : Situation) (entry : List ℕ) → KeepsMarks s (with_path s entry)
+keeps_marks_path s entry = record {
+  fit = λ mark fits. record {
+    reached = record {
+      taken = fits.reached.taken;
+      conflicts = fits.reached.conflicts;
+      depth = longer mark.depth s.path (entry ∷ []) fits.reached.depth;
+    };
+    ordered = fits.ordered;
+    inside = fits.inside;
+    named = fits.named;
+  };
+  same = λ mark fits. ap (λ path. record (undone mark s) { path = path })
+      (front_is mark.depth s.path (entry ∷ []) fits.reached.depth);
 }
 
 -- a parse whose mark was kept goes back to where the mark was made

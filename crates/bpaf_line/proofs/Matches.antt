@@ -1,11 +1,15 @@
 -- Matches: a first item that passes a test is present, in scope, and passes it.
-use Rattle.std.proofs.Common.{◌≡◌, ◌≢◌, ℕ, ◌+◌, ◌<◌, Bool, true, false, List, Option, Some, None}
-use Rattle.std.proofs.Common.{refl, ap, ◌∙◌, arith, ⊎_elim, if◌then◌else◌, option_and_then}
+use Rattle.std.proofs.Common.{◌≡◌, ◌≢◌, ℕ, ◌+◌, ◌<◌, Bool, true, false, not, ◌||◌, List, [], Option}
+use Rattle.std.proofs.Common.{Some, None, refl, ap, ◌∙◌, arith, ⊎_elim, if◌then◌else◌}
+use Rattle.std.proofs.Common.{option_and_then, length, slice_get, get_or, nat_lt}
 use Rattle.std.proofs.lemmas.Bool.{cases_eq}
+use Rattle.std.proofs.lemmas.Option.{slice_get-get_or}
 use Rattle.std.specs.Option.{option_map_or}
 use Rattle.bpaf_words.specs.declared.arg.Arg.{Arg}
-use Rattle.bpaf_words.specs.Items.{value_text}
-use Rattle.bpaf_line.specs.Situation.{Situation, is_open, item_at}
+use Rattle.bpaf_words.specs.declared.arg.Arg.TheVariants.{ArgWord}
+use Rattle.bpaf_words.specs.Items.{value_text, any_item}
+use Rattle.bpaf_line.specs.Situation.{Situation, is_open, item_at, is_marker, is_on}
+use Rattle.bpaf_line.proofs.Places.{open_in_line, open_not_taken}
 use Rattle.bpaf_line.specs.Taking.{is_match, open_item, value_after}
 
 -- an open item is the item of its place, which is open
@@ -32,6 +36,29 @@ module _ (test : Arg → Bool) (s : Situation) (p : ℕ) (matches : is_match tes
   -- and the item there passes the test
   pub match_has_item : option_map_or test (item_at s p) false ≡ true
   match_has_item = (both_of (is_open s p) (item_at s p) matches).1
+
+-- a place that is present and in scope has an item
+pub open_has_item : (s : Situation) (p : ℕ) → is_open s p ≡ true → is_match any_item s p ≡ true
+open_has_item s p there =
+    has (is_open s p) (is_marker s.context.marker p) there
+    (not_marker (nat_lt p (length s.context.line)) (is_marker s.context.marker p)
+    (is_on s.trail p) (open_not_taken s p there))
+    (slice_get s.context.line p) (get_or s.context.line p (ArgWord []))
+    (slice_get-get_or s.context.line p (ArgWord []) (open_in_line s p there))
+  where
+    not_marker : (within marker on : Bool) → (not within || (marker || on)) ≡ false
+        → marker ≡ false
+    not_marker within false on e = refl
+    not_marker true true on e = cc
+    not_marker false true on e = cc
+
+    has : (b marker : Bool) → b ≡ true → marker ≡ false → (at : Option Arg) (item : Arg)
+        → at ≡ Some item
+        → option_map_or any_item (if b then (if marker then None else at) else None) false ≡ true
+    has true false e f (Some x) item at = refl
+    has true false e f None item at = cc
+    has true true e f at item is = cc
+    has false marker e f at item is = cc
 
 -- the place behind a key with a value is present and in scope, and has this text
 pub value_is_open : (s : Situation) (p : ℕ) (text : List ℕ) → value_after s p ≡ Some text

@@ -1,5 +1,5 @@
 //! A parse in progress, and what its calls read and set.
-ghost use Rattle.std.specs.Prelude.{◌≡◌, ◌+◌, ◌++◌, ◌&&◌, ◌<◌, ◌≤◌, ◌^◌, ◌==◌, [], ◌∷◌, if◌then◌else◌, not, nat_lt, nat_le, length, true, false, Bool, MatchOption, option_copied, option_map, option_and_then, Some, None, IfOk, OnOk, OnErr, IfSome, string_bytes, map, List};
+ghost use Rattle.std.specs.Prelude.{◌≡◌, ◌+◌, ◌++◌, ◌&&◌, ◌<◌, ◌≤◌, ◌^◌, ◌==◌, [], ◌∷◌, if◌then◌else◌, not, nat_lt, nat_le, length, slice_get, true, false, Bool, MatchOption, option_copied, option_map, option_and_then, Some, None, IfOk, OnOk, OnErr, IfSome, string_bytes, map, List};
 ghost use Rattle.std.specs.Borrow.{Bor};
 ghost use Rattle.bpaf_doc.specs.Shape.{part_of};
 ghost use Rattle.bpaf_words.specs.declared.arg.Arg.{Arg};
@@ -108,7 +108,8 @@ impl State {
 
     /// The set name, where there is one, and then the names that were put on the path.
     pub fn path(&self) -> &[String]
-        ensures { map string_bytes result.now ≡ self.now.path }
+        ensures path { map string_bytes result.now ≡ self.now.path }
+        ensures named { IfSome self.now.context.name (λ name. slice_get self.now.path 0 ≡ Some name) }
     {
         self.path.as_slice()
     }

@@ -37,7 +37,7 @@ mod params;
 pub use fault::TextFault;
 pub use from_list::FromList;
 pub use from_text::FromText;
-pub use named::{NamedArg, env, long, short};
+pub use named::{NamedArg, copy_texts, env, long, short};
 pub use params::{ParseArgument, ParseFlag};
 
 #[cfg(test)]

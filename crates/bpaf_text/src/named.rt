@@ -265,7 +265,7 @@ impl NamedArg {
 }
 
 /// Equal texts; refused only for want of memory.
-fn copy_texts(alloc: Global, texts: &[Text]) -> Result<Vec<Text>, AllocError>
+pub fn copy_texts(alloc: Global, texts: &[Text]) -> Result<Vec<Text>, AllocError>
     ensures { IfOk result (λ copies. copies.items ≡ texts.now) }
 {
     let mut copies = Vec::new(alloc);

@@ -1,0 +1,349 @@
+//! Commands: a word that opens a run of its own over the items after it.
+ghost use Rattle.std.specs.Prelude.{◌≡◌, [], ◌∷◌, map, encode_utf8, slice_get, IfOk, Some};
+ghost use Rattle.bpaf_doc.specs.Shape.{part_of};
+ghost use Rattle.bpaf_laws.specs.Command.{CommandPart, OpensScope, TakesOpening};
+ghost use Rattle.bpaf_laws.specs.Command.{named_only, opening_words, with_long_name, with_short_name};
+ghost use Rattle.bpaf_core.specs.Command.{IsMissingPart, end_message};
+ghost use Rattle.bpaf_core.specs.Info.{short_descr};
+
+use crate::options::OptionParser;
+use crate::parser::Parser;
+use bpaf_doc::{Doc, Item, Meta, Text};
+use bpaf_line::{Error, Message, ParseFailure, State};
+use bpaf_text::copy_texts;
+use std::alloc::{AllocError, Global};
+use std::marker::Model;
+
+/// The names of a command: a long one, which is shown, and hidden aliases; of its short names the
+/// first is shown.
+#[derive(Debug, Drop)]
+pub struct CommandNames {
+    name: Text,
+    longs: Vec<Text>,
+    shorts: Vec<char>,
+}
+
+impl Model for CommandNames {
+    ghost use Rattle.bpaf_laws.specs.Command.{Called};
+
+    ghost Value = { Called };
+
+    ghost view = { λ names.
+        record { name = names.name; longs = names.longs.items; shorts = names.shorts.items } };
+}
+
+/// Takes the first present item in scope, where it is this word: its place.
+fn take_word(state: &mut State, word: &str) -> Option<usize>
+    ensures { TakesOpening (word.now ∷ []) state.old result state.new }
+{
+    if state.take_cmd(word) {
+        state.current()
+    } else {
+        None
+    }
+}
+
+/// Takes the first present item in scope, where it is one of these words: its place.
+fn take_long(state: &mut State, words: &[Text]) -> Option<usize>
+    ensures { TakesOpening words.now state.old result state.new }
+{
+    state.set_current(None);
+    for word in words {
+        let place = take_word(state, word.as_str());
+        if place.is_some() {
+            return place;
+        }
+    }
+    None
+}
+
+/// Takes the first present item in scope, where it is the word of one of these characters: its place.
+fn take_short(state: &mut State, shorts: &[char]) -> Option<usize>
+    ensures { TakesOpening (map encode_utf8 shorts.now) state.old result state.new }
+{
+    state.set_current(None);
+    for short in shorts {
+        let mut bytes = [0u8; 4];
+        let place = take_word(state, short.encode_utf8(&mut bytes));
+        if place.is_some() {
+            return place;
+        }
+    }
+    None
+}
+
+impl CommandNames {
+    /// One long name; refused only for want of memory.
+    pub fn new(alloc: Global, name: &str) -> Result<CommandNames, AllocError>
+        ensures { IfOk result (λ names. names ≡ named_only name.now) }
+    {
+        Ok(CommandNames {
+            name: Text::new(alloc, name)?,
+            longs: Vec::new(alloc),
+            shorts: Vec::new(alloc),
+        })
+    }
+
+    /// The first long name, which is shown and put on the path.
+    pub fn name(&self) -> &str
+        ensures { result.now ≡ self.now.name }
+    {
+        self.name.as_str()
+    }
+
+    /// The first short name, which is shown.
+    pub fn first_short(&self) -> Option<char>
+        ensures { result ≡ slice_get self.now.shorts 0 }
+    {
+        self.shorts.first().copied()
+    }
+
+    /// Equal names; refused only for want of memory.
+    pub fn copy(&self) -> Result<CommandNames, AllocError>
+        ensures { IfOk result (λ names. names ≡ self.now) }
+    {
+        let alloc = *self.longs.allocator();
+        Ok(CommandNames {
+            name: self.name.copy()?,
+            longs: copy_texts(alloc, &self.longs)?,
+            shorts: Vec::from_slice(alloc, &self.shorts)?,
+        })
+    }
+
+    /// With one more long name; refused only for want of memory, and then the names are gone.
+    pub fn long(mut self, name: &str) -> Result<CommandNames, AllocError>
+        ensures { IfOk result (λ names. names ≡ with_long_name self name.now) }
+    {
+        let name = Text::new(*self.longs.allocator(), name)?;
+        self.longs.push(name)?;
+        Ok(self)
+    }
+
+    /// With one more short name; refused only for want of memory, and then the names are gone.
+    pub fn short(mut self, name: char) -> Result<CommandNames, AllocError>
+        ensures { IfOk result (λ names. names ≡ with_short_name self name) }
+    {
+        self.shorts.push(name)?;
+        Ok(self)
+    }
+
+    /// Takes the first present item in scope, where it is the word of one of the names: its place.
+    fn take(&self, state: &mut State) -> Option<usize>
+        ensures { TakesOpening (opening_words self.now) state.old result state.new }
+    {
+        let place = take_word(state, self.name.as_str());
+        if place.is_some() {
+            return place;
+        }
+        let place = take_long(state, &self.longs);
+        if place.is_some() {
+            return place;
+        }
+        take_short(state, &self.shorts)
+    }
+
+    /// Takes that item, and makes the scope run from it to its old end; false where it isn't there.
+    /// It takes no memory.
+    fn open(&self, state: &mut State) -> bool
+        ensures { OpensScope (opening_words self.now) state.old result state.new }
+    {
+        let Some(place) = self.take(state) else {
+            return false;
+        };
+        let end = state.scope().end;
+        state.set_scope(place..end);
+        true
+    }
+}
+
+/// A word that opens a run of its own over the items after it (bpaf's `ParseCommand`, in
+/// `params.rs`).
+#[derive(Drop)]
+pub struct ParseCommand<T, P> {
+    /// The names by which it is called.
+    pub names: CommandNames,
+    /// What is shown of it beside its name.
+    pub help: Option<Doc>,
+    /// What runs behind it.
+    pub subparser: OptionParser<T, P>,
+}
+
+/// A command of this name, which runs the parser over the items behind it (bpaf's `command`).
+///
+/// Its help is the first line of the parser's description, where it has one. Refused only for want of
+/// memory, and then the parser is gone; the allocator is the parser's own.
+///
+/// ```text
+/// let build = command("build", num.to_options(alloc)?)?.short('b')?;
+/// ```
+pub fn command<T, P: Drop>(
+    name: &str,
+    subparser: OptionParser<T, P>,
+) -> Result<ParseCommand<T, P>, AllocError>
+    ensures names { IfOk result (λ command. command.names ≡ named_only name.now) }
+    ensures help { IfOk result (λ command. command.help ≡ short_descr subparser.info) }
+    ensures subparser { IfOk result (λ command. command.subparser ≡ subparser) }
+{
+    let names = CommandNames::new(subparser.alloc, name)?;
+    let help = subparser.info.short_descr()?;
+    Ok(ParseCommand {
+        names,
+        help,
+        subparser,
+    })
+}
+
+impl<T, P: Drop> OptionParser<T, P> {
+    /// The command of this name that runs this parser (bpaf's `OptionParser::command`): [`command`].
+    ///
+    /// ```text
+    /// num.to_options(alloc)?.command("build")?
+    /// ```
+    pub fn command(self, name: &str) -> Result<ParseCommand<T, P>, AllocError>
+        ensures names { IfOk result (λ command. command.names ≡ named_only name.now) }
+        ensures help { IfOk result (λ command. command.help ≡ short_descr self.info) }
+        ensures subparser { IfOk result (λ command. command.subparser ≡ self) }
+    {
+        command(name, self)
+    }
+}
+
+impl<T, P: Drop> ParseCommand<T, P> {
+    /// The command with this help, in place of the one that it has (bpaf's `ParseCommand::help`). It
+    /// takes no memory.
+    pub fn help(mut self, help: Doc) -> ParseCommand<T, P>
+        ensures { result ≡ record self { help = Some help } }
+    {
+        self.help = Some(help);
+        self
+    }
+
+    /// The command with one more short name, which is typed as a word of one character (bpaf's
+    /// `ParseCommand::short`). The first one is shown.
+    ///
+    /// Refused only for want of memory, and then the command is gone.
+    ///
+    /// ```text
+    /// command("build", options)?.short('b')?
+    /// ```
+    pub fn short(self, name: char) -> Result<ParseCommand<T, P>, AllocError>
+        ensures { IfOk result (λ command.
+            command ≡ record self { names = with_short_name self.names name }) }
+    {
+        Ok(ParseCommand {
+            names: self.names.short(name)?,
+            help: self.help,
+            subparser: self.subparser,
+        })
+    }
+
+    /// The command with one more long name, which isn't shown (bpaf's `ParseCommand::long`).
+    ///
+    /// Refused only for want of memory, and then the command is gone.
+    ///
+    /// ```text
+    /// command("remove", options)?.long("rm")?
+    /// ```
+    pub fn long(self, name: &str) -> Result<ParseCommand<T, P>, AllocError>
+        ensures { IfOk result (λ command.
+            command ≡ record self { names = with_long_name self.names name.now }) }
+    {
+        Ok(ParseCommand {
+            names: self.names.long(name)?,
+            help: self.help,
+            subparser: self.subparser,
+        })
+    }
+}
+
+impl<T: Drop, P: Parser<T>> ParseCommand<T, P> {
+    /// What it shows; refused only for want of memory.
+    fn item(&self, alloc: Global) -> Result<Item, AllocError>
+        requires { P.can_eval self.now.subparser.inner }
+        ensures { IfOk result (λ item. CommandPart self.now.names self.now.help
+            (P.describes self.now.subparser.inner) (part_of item)) }
+    {
+        Ok(Item::Command {
+            name: Text::new(alloc, self.names.name())?,
+            short: self.names.first_short(),
+            help: Doc::copy_of(&self.help)?,
+            meta: Box::new(alloc, self.subparser.inner.meta(alloc)?)?,
+        })
+    }
+
+    /// That its word isn't there; also the refusal where memory for that is wanted.
+    fn missing(&self, state: &State) -> Error
+        requires { P.can_eval self.now.subparser.inner }
+        ensures { IsMissingPart (CommandPart self.now.names self.now.help
+            (P.describes self.now.subparser.inner)) state.now result.0 }
+    {
+        match self.item(state.alloc()) {
+            Ok(item) => match state.missing(Some(item)) {
+                Ok(error) => error,
+                Err(refused) => Error::from(refused),
+            },
+            Err(refused) => Error::from(refused),
+        }
+    }
+}
+
+/// The end of an inner run, as a refusal of its command: want of memory stays that.
+fn end_message(failure: ParseFailure) -> Message
+    ensures { result ≡ end_message failure }
+{
+    match failure {
+        ParseFailure::Memory => Message::Memory,
+        failure => Message::ParseFailure(failure),
+    }
+}
+
+/// The value of the inner run over the items behind the command's word; Ok only where that leaves
+/// nothing present in scope.
+///
+/// Where the first present item in scope isn't its word, its item is missing. A refusal of the inner run
+/// is ParseFailure, which nothing but `catch` catches; want of memory stays that.
+impl<T: Drop, P: Parser<T>> Parser<T> for ParseCommand<T, P> {
+    ghost use Rattle.std.specs.Prelude.{IfOk};
+    ghost use Rattle.bpaf_laws.specs.Command.{CommandDescribes, CommandPart, CommandReads};
+    ghost use Rattle.bpaf_laws.specs.Command.{LeavesNothing, opening_words};
+    ghost use Rattle.bpaf_laws.specs.Spared.{IsNotMemory, WithoutMemory};
+    ghost use Rattle.bpaf_core.specs.Command.{CommandOutcome};
+    ghost use Rattle.bpaf_core.specs.CommandLaws.{command_lawful};
+
+    ghost can_eval = { λ p. P.can_eval p.subparser.inner };
+
+    ghost describes = { λ p. CommandDescribes p.names p.help (P.describes p.subparser.inner) };
+
+    ghost reads = { λ p. CommandReads T (opening_words p.names) (P.reads p.subparser.inner) };
+
+    ghost outcome = { λ p. CommandOutcome T (P.outcome p.subparser.inner) p.names
+        (CommandPart p.names p.help (P.describes p.subparser.inner)) };
+
+    fn eval(&self, state: &mut State) -> Result<T, Error>
+        requires { P.can_eval self.now.subparser.inner }
+        ensures outcome { CommandOutcome T (P.outcome self.now.subparser.inner) self.now.names
+            (CommandPart self.now.names self.now.help (P.describes self.now.subparser.inner))
+            state.old result state.new }
+        ensures command_leaves_nothing { IfOk result (λ _. LeavesNothing state.old state.new) }
+        ensures memory_is_never_caught { IsNotMemory result →
+            CommandOutcome T (WithoutMemory (P.outcome self.now.subparser.inner)) self.now.names
+            (CommandPart self.now.names self.now.help (P.describes self.now.subparser.inner))
+            state.old result state.new }
+    {
+        if !self.names.open(state) {
+            return Err(self.missing(state));
+        }
+        state.push_path(self.names.name())?;
+        match self.subparser.run_from(state) {
+            Ok(value) => Ok(value),
+            Err(failure) => Err(Error(end_message(failure))),
+        }
+    }
+
+    fn meta(&self, alloc: Global) -> Result<Meta, AllocError> {
+        Ok(Meta::Item(self.item(alloc)?))
+    }
+
+    ghost lawful = { λ p. command_lawful (P.lawful p.subparser.inner) p.names
+        (CommandPart p.names p.help (P.describes p.subparser.inner)) };
+}

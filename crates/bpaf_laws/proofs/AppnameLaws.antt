@@ -1,0 +1,22 @@
+-- The name by which a program is called keeps to the laws.
+use Rattle.std.proofs.Common.{◌≡◌, ℕ, List, [], ◌∷◌, Option, Some, None, IfSome, slice_get, string_bytes, String}
+use Rattle.std.specs.declared.alloc.Global.{Global}
+use Rattle.bpaf_laws.specs.Laws.{Lawful}
+use Rattle.bpaf_laws.specs.Appname.{AppnameOutcome, AppnameReads, first_entry}
+use Rattle.bpaf_laws.proofs.Keeping.{keeps_same, newly_none, reads_same}
+
+-- the first entry of a path that begins with a name is that name
+first_is_name : (path : List (List ℕ)) (name : Option (List ℕ)) (text : List ℕ)
+    → text ≡ first_entry path → IfSome name (λ n. slice_get path 0 ≡ Some n)
+    → IfSome name (λ n. text ≡ n)
+first_is_name path None text is begins = tt
+first_is_name [] (Some n) text is begins = cc
+first_is_name (entry ∷ entries) (Some n) text is begins = cc
+
+-- it keeps to the laws
+pub appname_lawful : Lawful (String Global) AppnameOutcome AppnameReads
+appname_lawful = record {
+  ok = λ s t v o. reads_same AppnameReads s t v o.2
+      (newly_none s, first_is_name s.path s.context.name (string_bytes v) o.0 o.1);
+  err = λ s t e o. keeps_same s t o.1;
+}
