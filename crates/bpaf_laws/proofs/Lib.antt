@@ -22,3 +22,5 @@ pub mod ChoicesLaws
 pub mod ChoosingAll
 pub mod LeftmostOfAll
 pub mod Reading
+pub mod HideLaws
+pub mod AnyLaws

@@ -15,3 +15,5 @@ pub mod Choice
 pub mod Pure
 pub mod Product
 pub mod Choices
+pub mod Hide
+pub mod Any
