@@ -1,1 +1,2 @@
 pub mod PositionalAnswers
+pub mod Looking

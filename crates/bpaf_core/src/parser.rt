@@ -1,4 +1,4 @@
-ghost use Rattle.std.specs.Prelude.{◌≡◌, IfOk, false};
+ghost use Rattle.std.specs.Prelude.{◌≡◌, IfOk, false, Some, None};
 ghost use Rattle.bpaf_doc.specs.Shape.{shape_of};
 ghost use Rattle.bpaf_core.specs.Info.{plain_info};
 
@@ -6,12 +6,14 @@ use crate::choice::ParseOrElse;
 use crate::collect::ParseCollect;
 use crate::count::{ParseCount, ParseLast};
 use crate::fallback::{ParseFallback, ParseFallbackWith};
+use crate::hide::ParseHide;
 use crate::info::Info;
 use crate::optional::ParseOptional;
 use crate::options::OptionParser;
 use crate::repeat::{ParseMany, ParseSome};
 use crate::transform::{ParseGuard, ParseMap, ParseWith};
-use bpaf_doc::Meta;
+use crate::usage::{ParseGroupHelp, ParseUsage, ParseWithGroupHelp};
+use bpaf_doc::{Doc, Meta, MetaInfo};
 use bpaf_line::{Error, State};
 use bpaf_text::FromList;
 use std::alloc::{AllocError, Global};
@@ -263,6 +265,80 @@ pub trait Parser<T>: Sized {
         ensures that { result.that ≡ that }
     {
         ParseOrElse { this: self, that }
+    }
+
+    /// This parser, which is not shown (bpaf's `Parser::hide`); where it is missing, a message names no
+    /// item of it.
+    ///
+    /// ```text
+    /// long(alloc, "trace")?.switch().hide()
+    /// ```
+    final fn hide(self) -> ParseHide<Self>
+        ensures { result.inner ≡ self }
+    {
+        ParseHide { inner: self }
+    }
+
+    /// This parser, of which nothing stands in the usage (bpaf's `Parser::hide_usage`); help shows it.
+    ///
+    /// ```text
+    /// short(alloc, 'v')?.switch().hide_usage()
+    /// ```
+    final fn hide_usage(self) -> ParseUsage<Self>
+        ensures inner { result.inner ≡ self }
+        ensures usage { result.usage ≡ None }
+    {
+        ParseUsage {
+            inner: self,
+            usage: None,
+        }
+    }
+
+    /// This parser, for which the text stands in the usage (bpaf's `Parser::custom_usage`).
+    ///
+    /// ```text
+    /// dates.custom_usage(Doc::from_text(alloc, "FROM..TO")?)
+    /// ```
+    final fn custom_usage(self, usage: Doc) -> ParseUsage<Self>
+        ensures inner { result.inner ≡ self }
+        ensures usage { result.usage ≡ Some usage }
+    {
+        ParseUsage {
+            inner: self,
+            usage: Some(usage),
+        }
+    }
+
+    /// This parser, which help shows in a section below the text (bpaf's `Parser::group_help`).
+    ///
+    /// ```text
+    /// construct!(width, height).group_help(Doc::from_text(alloc, "Size of the page")?)
+    /// ```
+    final fn group_help(self, message: Doc) -> ParseGroupHelp<Self>
+        ensures inner { result.inner ≡ self }
+        ensures message { result.message ≡ message }
+    {
+        ParseGroupHelp {
+            inner: self,
+            message,
+        }
+    }
+
+    /// This parser, which help shows in a section below what the closure makes of what the parser shows
+    /// (bpaf's `Parser::with_group_help`).
+    ///
+    /// ```text
+    /// page.with_group_help(|shown| title_of(alloc, shown.first_item()))
+    /// ```
+    final fn with_group_help<F: Fn(MetaInfo<'_>) -> Result<Doc, AllocError>>(
+        self,
+        f: F,
+    ) -> ParseWithGroupHelp<Self, F>
+        requires callable { F.IsAlwaysCallable f }
+        ensures inner { result.inner ≡ self }
+        ensures f { result.f ≡ f }
+    {
+        ParseWithGroupHelp { inner: self, f }
     }
 
     /// A parser that can run over words; refused only for want of memory.

@@ -4,7 +4,7 @@ ghost use Rattle.bpaf_doc.specs.Order.{in_order, all_in_order, each_in_order};
 ghost use Rattle.bpaf_doc.specs.Order.{has_word, any_has_word, takes_word};
 
 use crate::item::Item;
-use crate::meta::Meta;
+use crate::meta::{Meta, MetaInfo};
 
 /// Whether all members of an And are in order; `seen` tells whether a word was asked for before
 /// them, and then whether one was in them too.
@@ -110,5 +110,14 @@ impl Meta {
     {
         let mut seen = false;
         self.in_order(&mut seen)
+    }
+}
+
+impl<'a> MetaInfo<'a> {
+    /// Whether no key stands behind a word or a command in the tree, as [`Meta::positional_order`].
+    pub fn positional_order(self) -> bool
+        ensures { result ≡ in_order (shape_of self.entry.0.now) false }
+    {
+        self.meta().positional_order()
     }
 }

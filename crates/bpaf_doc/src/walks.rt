@@ -3,7 +3,7 @@ ghost use Rattle.bpaf_doc.specs.Shape.{shape_of, part_of, members_of, And, Shown
 ghost use Rattle.bpaf_doc.specs.Walks.{flag_shorts, argument_shorts, first_part};
 
 use crate::item::Item;
-use crate::meta::Meta;
+use crate::meta::{Meta, MetaInfo};
 use std::alloc::AllocError;
 
 /// Appends the names of all members, as `Meta::collect_shorts` those of one.
@@ -104,5 +104,32 @@ impl Meta {
             Meta::Item(item) => Some(item),
             Meta::Skip => None,
         }
+    }
+}
+
+impl<'a> MetaInfo<'a> {
+    /// Appends the short names that the tree shows, as [`Meta::collect_shorts`].
+    ///
+    /// Refused only for want of memory.
+    pub fn collect_shorts(
+        self,
+        flags: &mut Vec<char>,
+        arguments: &mut Vec<char>,
+    ) -> Result<(), AllocError>
+        ensures flags { OnOk result (flags.new.items
+            ≡ flags.old.items ++ flag_shorts (shape_of self.entry.0.now)) }
+        ensures arguments { OnOk result (arguments.new.items
+            ≡ arguments.old.items ++ argument_shorts (shape_of self.entry.0.now)) }
+    {
+        self.meta().collect_shorts(flags, arguments)
+    }
+
+    /// The item that stands first in the tree, as [`Meta::first_item`].
+    pub fn first_item(self) -> Option<&'a Item>
+        ensures { MatchOption result
+            (first_part (shape_of self.entry.0.now) ≡ None)
+            (λ item. first_part (shape_of self.entry.0.now) ≡ Some (part_of item.now)) }
+    {
+        self.meta().first_item()
     }
 }

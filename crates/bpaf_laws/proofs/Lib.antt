@@ -24,3 +24,5 @@ pub mod LeftmostOfAll
 pub mod CommandLaws
 pub mod AppnameLaws
 pub mod Reading
+pub mod HideLaws
+pub mod AnyLaws

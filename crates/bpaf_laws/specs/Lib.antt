@@ -17,3 +17,5 @@ pub mod Product
 pub mod Choices
 pub mod Command
 pub mod Appname
+pub mod Hide
+pub mod Any

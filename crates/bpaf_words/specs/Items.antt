@@ -60,6 +60,14 @@ word_text (ArgWord text) = None
 word_text (Word text) = Some (false, text)
 word_text (PosWord text) = Some (true, text)
 
+-- the text of an item: of a key its whole word
+abbrev pub item_text : Arg → List ℕ
+item_text (Short c attached word) = word
+item_text (Long name attached word) = word
+item_text (ArgWord text) = text
+item_text (Word text) = text
+item_text (PosWord text) = text
+
 -- the whole word by which an item may name a command: that of a Word, of a Short, or of a Long that
 -- isn't attached
 abbrev pub command_word : Arg → Option (List ℕ)

@@ -1,5 +1,5 @@
 ghost use Rattle.std.specs.Prelude.{◌≡◌, option_copied};
-ghost use Rattle.bpaf_words.specs.Items.{is_text_among, is_key_of, is_argument_key, is_attached, is_positional, value_text, is_command_word};
+ghost use Rattle.bpaf_words.specs.Items.{is_text_among, is_key_of, is_argument_key, is_attached, is_positional, value_text, item_text, is_command_word};
 
 use bpaf_doc::Text;
 use std::fmt;
@@ -68,7 +68,7 @@ pub fn is_argument_key(item: &Arg, shorts: &[char], longs: &[Text], adjacent: bo
 }
 
 /// Whether the item is a key with its value in its own word.
-fn is_attached(item: &Arg) -> bool
+pub fn is_attached(item: &Arg) -> bool
     ensures { result ≡ is_attached item.now }
 {
     match item {
@@ -92,6 +92,16 @@ pub fn value_text(item: &Arg) -> Option<&Text>
         Arg::Word(text) => Some(text),
         Arg::ArgWord(text) => Some(text),
         Arg::Short(..) | Arg::Long(..) | Arg::PosWord(_) => None,
+    }
+}
+
+/// The text of an item: of a key its whole word.
+pub fn item_text(item: &Arg) -> &Text
+    ensures { result.now ≡ item_text item.now }
+{
+    match item {
+        Arg::Short(_, _, word) | Arg::Long(_, _, word) => word,
+        Arg::ArgWord(text) | Arg::Word(text) | Arg::PosWord(text) => text,
     }
 }
 

@@ -23,7 +23,10 @@ mod laws;
 mod line;
 mod split;
 
-pub use arg::{Arg, is_argument_key, is_command_word, is_key_of, is_positional, value_text};
+pub use arg::{
+    Arg, is_argument_key, is_attached, is_command_word, is_key_of, is_positional, item_text,
+    value_text,
+};
 pub use args::{Args, LentWord, Words};
 pub use laws::{lines_are_unique, spellings_are_unique};
 pub use line::{Line, LineFault, any_joined, line_of};

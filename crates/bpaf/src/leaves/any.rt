@@ -1,0 +1,144 @@
+ghost use Rattle.std.specs.Prelude.{◌≡◌, ◌∷◌, [], IfOk, Some, None, true, false};
+ghost use Rattle.bpaf_doc.specs.Print.{shown_as};
+
+use crate::leaves::look::{Look, any_item, take_match};
+use bpaf_core::Parser;
+use bpaf_doc::{Doc, Meta, Style};
+use bpaf_line::{Error, State};
+use bpaf_text::{FromText, TextFault};
+use std::alloc::{AllocError, Global};
+use std::marker::PhantomData;
+
+/// What a check makes of an item (bpaf's `ParseAny`, in `params.rs`).
+#[derive(Drop)]
+pub struct ParseAny<I, T, F> {
+    /// What stands for the item where it is shown.
+    pub metavar: Doc,
+    /// What is shown of it beside its metavar.
+    pub help: Option<Doc>,
+    /// Some of a value, where the item is one that is wanted.
+    pub check: F,
+    /// Whether later items are looked at, where the first one isn't wanted.
+    pub anywhere: bool,
+    /// The type as which the item's text is read.
+    pub from: PhantomData<I>,
+    /// The type of the value.
+    pub of: PhantomData<T>,
+}
+
+/// An item that the check accepts, whatever it is: a word, a key, or the value behind one (bpaf's
+/// `any`).
+///
+/// Its text, of a key its whole word, is read as an `I`, and given to the check; an item whose text is no
+/// `I` isn't wanted. Refused only for want of memory, for the metavar.
+///
+/// ```text
+/// any::<String, String, _>(alloc, "ARG", |text| if text.len() > 3 { Some(text) } else { None })?
+/// ```
+pub fn any<I: FromText, T, F: Fn(I) -> Option<T>>(
+    alloc: Global,
+    metavar: &str,
+    check: F,
+) -> Result<ParseAny<I, T, F>, AllocError>
+where
+    F: Drop,
+    requires callable { F.IsAlwaysCallable check }
+    ensures metavar { IfOk result (λ p. p.metavar ≡ shown_as Style.Metavar metavar.now ∷ []) }
+    ensures help { IfOk result (λ p. p.help ≡ None) }
+    ensures check { IfOk result (λ p. p.check ≡ check) }
+    ensures anywhere { IfOk result (λ p. p.anywhere ≡ false) }
+{
+    Ok(ParseAny {
+        metavar: Doc::from_pieces(alloc, &[(metavar, Style::Metavar)])?,
+        help: None,
+        check,
+        anywhere: false,
+        from: PhantomData,
+        of: PhantomData,
+    })
+}
+
+impl<I, T, F> ParseAny<I, T, F> {
+    /// This parser with this help, in place of the one that it has (bpaf's `ParseAny::help`). It takes no
+    /// memory.
+    pub fn help(mut self, help: Doc) -> ParseAny<I, T, F>
+        ensures { result ≡ record self { help = Some help } }
+    {
+        self.help = Some(help);
+        self
+    }
+
+    /// This parser with this metavar, in place of the one that it has (bpaf's `ParseAny::metavar`). It
+    /// takes no memory.
+    pub fn metavar(mut self, metavar: Doc) -> ParseAny<I, T, F>
+        ensures { result ≡ record self { metavar = metavar } }
+    {
+        self.metavar = metavar;
+        self
+    }
+
+    /// This parser, but each present item is looked at, in order, until one is wanted (bpaf's
+    /// `ParseAny::anywhere`).
+    pub fn anywhere(mut self) -> ParseAny<I, T, F>
+        ensures { result ≡ record self { anywhere = true } }
+    {
+        self.anywhere = true;
+        self
+    }
+}
+
+/// What the check answers on the text, read as an `I`; none where it is no `I`.
+impl<I: FromText, T, F: Fn(I) -> Option<T>> Look<T> for ParseAny<I, T, F> {
+    ghost use Rattle.bpaf_laws.specs.Any.{ChecksText};
+
+    ghost can_look = { λ p. F.IsAlwaysCallable p.check };
+
+    ghost looks = { λ p. ChecksText I.means (λ x v. F.post p.check x v) };
+
+    fn look(&self, alloc: Global, text: &str) -> Result<Option<T>, AllocError> {
+        match I::from_text(alloc, text) {
+            Ok(value) => Ok((self.check)(value)),
+            Err(TextFault::Fault(fault)) => {
+                drop(fault);
+                Ok(None)
+            }
+            Err(TextFault::Memory) => Err(AllocError),
+        }
+    }
+}
+
+/// The value of the first present item in scope, or under `anywhere` of the first that the check accepts;
+/// it is taken, and with an attached key the value behind it.
+///
+/// Refused with Missing where no item that is looked at is accepted, or for want of memory; then nothing is
+/// taken.
+impl<I: FromText, T: Drop, F: Fn(I) -> Option<T>> Parser<T> for ParseAny<I, T, F> {
+    ghost use Rattle.std.specs.Prelude.{◌≡◌};
+    ghost use Rattle.bpaf_doc.specs.Shape.{Shown, Any};
+    ghost use Rattle.bpaf_laws.specs.Any.{AnyOutcome, AnyReads, ChecksText};
+    ghost use Rattle.bpaf_laws.proofs.AnyLaws.{any_lawful};
+
+    ghost can_eval = { λ p. F.IsAlwaysCallable p.check };
+
+    ghost describes = { λ p shape. shape ≡ Shown (Any p.metavar p.help p.anywhere) };
+
+    ghost reads = { λ p. AnyReads T (ChecksText I.means (λ x v. F.post p.check x v)) };
+
+    ghost outcome = { λ p. AnyOutcome (ChecksText I.means (λ x v. F.post p.check x v))
+        (Any p.metavar p.help p.anywhere) p.anywhere };
+
+    fn eval(&self, state: &mut State) -> Result<T, Error> {
+        if let Some(value) = take_match(self, self.anywhere, state)? {
+            return Ok(value);
+        }
+        let item = any_item(&self.metavar, &self.help, self.anywhere)?;
+        Err(state.missing(Some(item))?)
+    }
+
+    fn meta(&self, _alloc: Global) -> Result<Meta, AllocError> {
+        Ok(Meta::Item(any_item(&self.metavar, &self.help, self.anywhere)?))
+    }
+
+    ghost lawful = { λ p. any_lawful T (ChecksText I.means (λ x v. F.post p.check x v))
+        (Any p.metavar p.help p.anywhere) p.anywhere };
+}

@@ -1,0 +1,118 @@
+ghost use Rattle.std.specs.Prelude.{◌≡◌, ◌∷◌, [], IfOk, Some, None, true, false};
+ghost use Rattle.bpaf_doc.specs.Print.{shown_as};
+
+use crate::leaves::look::{Look, any_item, take_match};
+use bpaf_core::Parser;
+use bpaf_doc::{Doc, Meta, Style, Text};
+use bpaf_line::{Error, State};
+use std::alloc::{AllocError, Global};
+
+/// An item of one text (bpaf's `ParseAny<()>` of `literal`).
+#[derive(Debug, Drop)]
+pub struct ParseLiteral {
+    /// The text.
+    pub text: Text,
+    /// What stands for the item where it is shown.
+    pub metavar: Doc,
+    /// What is shown of it beside its metavar.
+    pub help: Option<Doc>,
+    /// Whether later items are looked at, where the first one has another text.
+    pub anywhere: bool,
+}
+
+/// An item of this text, whatever it is (bpaf's `literal`): a word, a key by its whole word, or the value
+/// behind one. It is shown by its text.
+///
+/// Refused only for want of memory.
+///
+/// ```text
+/// literal(alloc, "+verbose")?.anywhere()
+/// ```
+pub fn literal(alloc: Global, text: &str) -> Result<ParseLiteral, AllocError>
+    ensures text { IfOk result (λ p. p.text ≡ text.now) }
+    ensures metavar { IfOk result (λ p. p.metavar ≡ shown_as Style.Literal text.now ∷ []) }
+    ensures help { IfOk result (λ p. p.help ≡ None) }
+    ensures anywhere { IfOk result (λ p. p.anywhere ≡ false) }
+{
+    Ok(ParseLiteral {
+        text: Text::new(alloc, text)?,
+        metavar: Doc::from_pieces(alloc, &[(text, Style::Literal)])?,
+        help: None,
+        anywhere: false,
+    })
+}
+
+impl ParseLiteral {
+    /// This parser with this help, in place of the one that it has. It takes no memory.
+    pub fn help(mut self, help: Doc) -> ParseLiteral
+        ensures { result ≡ record self { help = Some help } }
+    {
+        self.help = Some(help);
+        self
+    }
+
+    /// This parser with this metavar, in place of its text. It takes no memory.
+    pub fn metavar(mut self, metavar: Doc) -> ParseLiteral
+        ensures { result ≡ record self { metavar = metavar } }
+    {
+        self.metavar = metavar;
+        self
+    }
+
+    /// This parser, but each present item is looked at, in order, until one has the text.
+    pub fn anywhere(mut self) -> ParseLiteral
+        ensures { result ≡ record self { anywhere = true } }
+    {
+        self.anywhere = true;
+        self
+    }
+}
+
+/// Whether the text is this one.
+impl Look<()> for ParseLiteral {
+    ghost use Rattle.bpaf_laws.specs.Any.{IsLiteral};
+
+    ghost can_look = { λ p. Unit {0} };
+
+    ghost looks = { λ p. IsLiteral p.text };
+
+    fn look(&self, _alloc: Global, text: &str) -> Result<Option<()>, AllocError> {
+        Ok((self.text.as_str() == text).then_some(()))
+    }
+}
+
+/// Takes the first present item in scope, or under `anywhere` the first with the text; and with an attached
+/// key the value behind it.
+///
+/// Refused with Missing where no item that is looked at has the text, or for want of memory; then nothing is
+/// taken.
+impl Parser<()> for ParseLiteral {
+    ghost use Rattle.std.specs.Prelude.{◌≡◌};
+    ghost use Rattle.bpaf_doc.specs.Shape.{Shown, Any};
+    ghost use Rattle.bpaf_laws.specs.Any.{AnyOutcome, AnyReads, IsLiteral};
+    ghost use Rattle.bpaf_laws.proofs.AnyLaws.{any_lawful};
+
+    ghost can_eval = { λ p. Unit {0} };
+
+    ghost describes = { λ p shape. shape ≡ Shown (Any p.metavar p.help p.anywhere) };
+
+    ghost reads = { λ p. AnyReads (Unit {0}) (IsLiteral p.text) };
+
+    ghost outcome = { λ p.
+        AnyOutcome (IsLiteral p.text) (Any p.metavar p.help p.anywhere) p.anywhere };
+
+    fn eval(&self, state: &mut State) -> Result<(), Error> {
+        if take_match(self, self.anywhere, state)?.is_some() {
+            return Ok(());
+        }
+        let item = any_item(&self.metavar, &self.help, self.anywhere)?;
+        Err(state.missing(Some(item))?)
+    }
+
+    fn meta(&self, _alloc: Global) -> Result<Meta, AllocError> {
+        Ok(Meta::Item(any_item(&self.metavar, &self.help, self.anywhere)?))
+    }
+
+    ghost lawful = { λ p.
+        any_lawful (Unit {0}) (IsLiteral p.text) (Any p.metavar p.help p.anywhere) p.anywhere };
+}

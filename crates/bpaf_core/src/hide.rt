@@ -1,0 +1,61 @@
+ghost use Rattle.std.specs.Prelude.{◌≡◌};
+ghost use Rattle.bpaf_laws.specs.Hide.{hidden};
+
+use crate::parser::Parser;
+use bpaf_doc::Meta;
+use bpaf_line::{Error, Message, MissingItems, State};
+use std::alloc::{AllocError, Global};
+
+/// The refusal, in which no missing item is named. It takes no memory.
+fn hide(alloc: Global, message: Message) -> Message
+    ensures { result ≡ hidden message }
+{
+    match message {
+        Message::Missing(items) => {
+            drop(items);
+            Message::Missing(MissingItems::none(alloc))
+        }
+        other => other,
+    }
+}
+
+/// A parser that isn't shown (bpaf's `ParseHide`, in `structs.rs`).
+#[derive(Drop)]
+pub struct ParseHide<P> {
+    pub inner: P,
+}
+
+/// The inner answer, with the state that it left; but a refusal with Missing names no item.
+impl<T: Drop, P: Parser<T>> Parser<T> for ParseHide<P> {
+    ghost use Rattle.std.specs.Prelude.{◌≡◌};
+    ghost use Rattle.bpaf_doc.specs.Shape.{Skip};
+    ghost use Rattle.bpaf_laws.specs.Hide.{HideOutcome};
+    ghost use Rattle.bpaf_laws.specs.Spared.{IsNotMemory, WithoutMemory};
+    ghost use Rattle.bpaf_laws.proofs.HideLaws.{hide_lawful};
+
+    ghost can_eval = { λ p. P.can_eval p.inner };
+
+    ghost describes = { λ p shape. shape ≡ Skip };
+
+    ghost reads = { λ p. P.reads p.inner };
+
+    ghost outcome = { λ p. HideOutcome (P.outcome p.inner) };
+
+    fn eval(&self, state: &mut State) -> Result<T, Error>
+        requires { P.can_eval self.now.inner }
+        ensures outcome { HideOutcome (P.outcome self.now.inner) state.old result state.new }
+        ensures memory_is_never_caught { IsNotMemory result →
+            HideOutcome (WithoutMemory (P.outcome self.now.inner)) state.old result state.new }
+    {
+        match self.inner.eval(state) {
+            Ok(value) => Ok(value),
+            Err(error) => Err(Error(hide(state.alloc(), error.0))),
+        }
+    }
+
+    fn meta(&self, _alloc: Global) -> Result<Meta, AllocError> {
+        Ok(Meta::Skip)
+    }
+
+    ghost lawful = { λ p. hide_lawful (P.lawful p.inner) };
+}

@@ -1,0 +1,118 @@
+-- Items that a look matches: what is read of them keeps to the laws.
+use Rattle.std.proofs.Common.{◌≡◌, ℕ, ◌+◌, Bool, true, false, List, [], ◌∷◌, refl, sym, subst, inl, inr, arith}
+use Rattle.std.proofs.Common.{Option, Some, None, option_map, if◌then◌else◌}
+use Rattle.std.specs.Prelude.{All, Contains}
+use Rattle.std.specs.List.{filter_map, cons_option}
+use Rattle.std.proofs.lemmas.List.Elements.{All-nil, All-cons, All-take, All-contains, Contains-append_right}
+use Rattle.bpaf_doc.specs.Shape.{Part}
+use Rattle.bpaf_words.specs.declared.arg.Arg.{Arg}
+use Rattle.bpaf_words.specs.Items.{is_attached}
+use Rattle.bpaf_line.specs.OpenItems.{placed_item}
+use Rattle.bpaf_line.specs.Situation.{Situation, is_open, item_at, take_place}
+use Rattle.bpaf_line.specs.Taking.{open_item}
+use Rattle.bpaf_line.specs.declared.error.Message.{Message}
+use Rattle.bpaf_line.specs.declared.error.Message.TheVariants.{Memory, Missing}
+use Rattle.bpaf_line.proofs.Matches.{open_item_there}
+use Rattle.bpaf_laws.specs.Laws.{Keeps, Reads, Lawful}
+use Rattle.bpaf_laws.specs.Any.{Looks, AnyReads, AnyOutcome, AnyFails, FirstMatch, looked_at, take_item}
+use Rattle.bpaf_laws.proofs.Keeping.{keeps_same, keeps_take, keeps_trans, closes_take, closes_take_both, newly_take, newly_take_both}
+
+-- a place with its item, which is present and in scope
+abbrev IsPlaced : Situation → ℕ × Arg → Type 0
+IsPlaced s placed = open_item s placed.0 ≡ Some placed.1
+
+-- one more place, with its item where that is present and in scope
+placed_more : (s : Situation) (p : ℕ) (items : List (ℕ × Arg)) (at : Option Arg)
+    → open_item s p ≡ at → All (IsPlaced s) items
+    → All (IsPlaced s) (cons_option (option_map (λ item. (p, item)) at) items)
+placed_more s p items None is all = all
+placed_more s p items (Some item) is all = All-cons (IsPlaced s) (p, item) items is all
+
+-- the open items of some places are present and in scope
+all_placed : (s : Situation) (places : List ℕ)
+    → All (IsPlaced s) (filter_map (placed_item s) places)
+all_placed s [] = All-nil (IsPlaced s)
+all_placed s (p ∷ places) =
+    placed_more s p (filter_map (placed_item s) places) (open_item s p) refl (all_placed s places)
+
+-- so are those that are looked at
+looked_placed : (s : Situation) (anywhere : Bool) → All (IsPlaced s) (looked_at anywhere s)
+looked_placed s true = all_placed s _
+looked_placed s false = All-take (IsPlaced s) 1 _ (all_placed s _)
+
+module _ {T : Type 0} (looks : Looks T) (anywhere : Bool) (s : Situation) (place : ℕ) (item : Arg)
+    (v : T) (found : FirstMatch looks (looked_at anywhere s) place item v) where
+  -- the item that matches is among those that are looked at
+  match_is_looked_at : Contains (looked_at anywhere s) (place, item)
+  match_is_looked_at =
+      let rest = (place, item) ∷ found.after in
+      subst (λ items. Contains items (place, item)) (sym found.split)
+      (Contains-append_right found.before rest (place, item) (0, omega arith, refl))
+
+  -- it is present and in scope
+  pub match_placed : (is_open s place ≡ true) × (item_at s place ≡ Some item)
+  match_placed = open_item_there s place item
+      (All-contains (IsPlaced s) (looked_at anywhere s) (place, item) (looked_placed s anywhere)
+      match_is_looked_at)
+
+  -- the place alone is taken
+  place_read : Reads T (AnyReads T looks) s v (take_place s place)
+  place_read = record {
+    keeps = keeps_take s place match_placed.0;
+    closed = closes_take s place;
+    reading = record {
+      place = place;
+      item = item;
+      there = match_placed.1;
+      matched = found.matched;
+      places = inl (newly_take s place match_placed.0);
+    };
+  }
+
+  -- the place of an attached key and the next one are taken
+  pair_read : is_attached item ≡ true → is_open (take_place s place) (place + 1) ≡ true
+      → Reads T (AnyReads T looks) s v (take_place (take_place s place) (place + 1))
+  pair_read attached next =
+      let m = take_place s place in
+      record {
+        keeps =
+            keeps_trans s m (take_place m (place + 1)) (keeps_take s place match_placed.0)
+            (keeps_take m (place + 1) next);
+        closed = closes_take_both s place (place + 1);
+        reading = record {
+          place = place;
+          item = item;
+          there = match_placed.1;
+          matched = found.matched;
+          places = inr (attached, newly_take_both s place match_placed.0 next);
+        };
+      }
+
+  -- the match is taken, whatever stands behind it
+  taken_read : (attached next : Bool) → is_attached item ≡ attached
+      → is_open (take_place s place) (place + 1) ≡ next
+      → Reads T (AnyReads T looks) s v (if attached then
+      (if next then take_place (take_place s place) (place + 1) else take_place s place)
+      else take_place s place)
+  taken_read true true attached next = pair_read attached next
+  taken_read true false attached next = place_read
+  taken_read false next attached is = place_read
+
+  -- a match that is taken is a reading
+  pub match_read : Reads T (AnyReads T looks) s v (take_item s place (is_attached item))
+  match_read = taken_read (is_attached item) (is_open (take_place s place) (place + 1)) refl refl
+
+module _ (T : Type 0) (looks : Looks T) (part : Part) (anywhere : Bool) where
+  -- what a refusal keeps
+  any_refused : (s t : Situation) (m : Message) → AnyFails looks part anywhere s m t → Keeps s t
+  any_refused s t (Missing items) fails = keeps_same s t fails.0.1
+  any_refused s t Memory fails = keeps_same s t fails
+  any_refused s t other fails = absurd fails
+
+  -- the parser of any item keeps to the laws
+  pub any_lawful : Lawful T (AnyOutcome looks part anywhere) (AnyReads T looks)
+  any_lawful = record {
+    ok = λ s t v o. subst (Reads T (AnyReads T looks) s v) (sym o.3)
+        (match_read looks anywhere s o.0 o.1 v o.2);
+    err = λ s t e o. any_refused s t e.0 o;
+  }
