@@ -16,3 +16,4 @@ pub mod OpenItems
 pub mod Conflicts
 pub mod Constructing
 pub mod TakenPlaces
+pub mod Runs

@@ -26,6 +26,7 @@
 //! The source of the design is bpaf's `args.rs` and `error.rs`.
 #![tactic(auto)]
 
+mod adjacent;
 mod bits;
 mod chains;
 mod conflict;

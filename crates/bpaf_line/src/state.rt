@@ -253,7 +253,7 @@ impl State {
     }
 
     /// Whether a place is present, and in scope.
-    fn is_open(&self, place: usize) -> bool
+    pub(crate) fn is_open(&self, place: usize) -> bool
         ensures { result ≡ is_open self.now place }
     {
         self.start <= place && place < self.end && !bits::is_set(&self.words, place)

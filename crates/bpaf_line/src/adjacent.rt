@@ -1,0 +1,40 @@
+//! Runs of present places.
+ghost use Rattle.std.specs.Prelude.{◌≡◌, ◌≤◌, length, MatchOption};
+ghost use Rattle.bpaf_line.specs.Runs.{IsRunFrom, HasNoneInBoth, IsFirstInBoth};
+
+use crate::state::State;
+use std::ops::Range;
+
+impl State {
+    /// The unbroken run of places from one on that are present and in scope; it is empty where that
+    /// place isn't. It takes no memory.
+    pub fn adjacently_available_from(&self, place: usize) -> Range<usize>
+        ensures start { result.start ≡ place }
+        ensures run { IsRunFrom self.now place result.end }
+        ensures inside { place ≤ length self.now.context.line
+            → result.end ≤ length self.now.context.line }
+    {
+        let line = self.line_len();
+        let mut end = place;
+        while end < line && self.is_open(end) {
+            end += 1;
+        }
+        place..end
+    }
+
+    /// The places from the scope's start to the first one in scope that is present here and in the
+    /// other state; None where there is no such place. It takes no memory.
+    pub fn adjacent_scope(&self, other: &State) -> Option<Range<usize>>
+        ensures { MatchOption result (HasNoneInBoth self.now other.now) (λ r.
+            (r.start ≡ self.now.start) × IsFirstInBoth self.now other.now r.end) }
+    {
+        let mut from = 0;
+        while let Some((place, _)) = self.next_open(from) {
+            if !other.is_taken(place) {
+                return Some(self.start..place);
+            }
+            from = place + 1;
+        }
+        None
+    }
+}
