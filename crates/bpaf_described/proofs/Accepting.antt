@@ -24,7 +24,8 @@ module _ {T : Type 0} (looks more : Looks T)
       (λ placed. allows (item_text placed.1) None) items
 
   -- so is a refusal
-  fails_more : (m : Message) → AnyFails looks part anywhere s m t → AnyFails more part anywhere s m t
+  fails_more : (m : Message) → AnyFails looks part anywhere s m t
+      → AnyFails more part anywhere s m t
   fails_more (Missing items) fails = ((passed_more _ fails.0.0, fails.0.1), fails.1)
   fails_more Memory fails = fails
   fails_more other fails = absurd fails
