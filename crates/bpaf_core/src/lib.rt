@@ -24,6 +24,9 @@
 //!   [`this_or_that`] tells which answer stands (specs/Choice.antt). That function, [`Start`],
 //!   [`Branch`], [`or_meta`] and [`is_want`] are for the crates of this repository, not for callers.
 //!   The branch that took the leftmost place taken by only one of them wins (clause `leftmost_wins`).
+//! - [`ParseHide`] names no missing item in its refusals (specs/Hide.antt); [`ParseUsage`],
+//!   [`ParseGroupHelp`] and [`ParseWithGroupHelp`] change only what is shown: their outcome, their
+//!   readings and their law are those of the parser inside.
 //! - [`OptionParser::run_inner`] runs a parser over words. It answers a value only where that is
 //!   dealt out of the words: read off all items of their line but the first `--`, each used once
 //!   (specs/Dealt.antt), whatever the parser's type.

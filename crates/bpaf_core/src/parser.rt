@@ -267,8 +267,8 @@ pub trait Parser<T>: Sized {
         ParseOrElse { this: self, that }
     }
 
-    /// This parser, which is not shown (bpaf's `Parser::hide`); where it is missing, a message names no
-    /// item of it.
+    /// This parser, which is not shown (bpaf's `Parser::hide`); where it is missing, a message names
+    /// no item of it.
     ///
     /// ```text
     /// long(alloc, "trace")?.switch().hide()
@@ -279,7 +279,8 @@ pub trait Parser<T>: Sized {
         ParseHide { inner: self }
     }
 
-    /// This parser, of which nothing stands in the usage (bpaf's `Parser::hide_usage`); help shows it.
+    /// This parser, of which nothing stands in the usage (bpaf's `Parser::hide_usage`); help shows
+    /// it.
     ///
     /// ```text
     /// short(alloc, 'v')?.switch().hide_usage()
@@ -324,8 +325,8 @@ pub trait Parser<T>: Sized {
         }
     }
 
-    /// This parser, which help shows in a section below what the closure makes of what the parser shows
-    /// (bpaf's `Parser::with_group_help`).
+    /// This parser, which help shows in a section below what the closure makes of what the parser
+    /// shows (bpaf's `Parser::with_group_help`).
     ///
     /// ```text
     /// page.with_group_help(|shown| title_of(alloc, shown.first_item()))

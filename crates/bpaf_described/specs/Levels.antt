@@ -3,11 +3,13 @@ use Rattle.std.specs.Prelude.{◌≡◌, List, ℕ, Option, codes, true}
 use Rattle.std.specs.Global.{Vec}
 use Rattle.std.specs.declared.collections.VecDeque.{VecDeque}
 use Rattle.std.specs.declared.alloc.Global.{Global}
-use Rattle.bpaf_doc.specs.Shape.{Shape}
+use Rattle.bpaf_doc.specs.Shape.{Shape, Skip}
 use Rattle.bpaf_laws.specs.Reading.{Readings, Outcome}
 use Rattle.bpaf_laws.specs.Laws.{Lawful}
 use Rattle.bpaf_laws.specs.Transform.{MapOutcome, MapReads, ParseOutcome, GuardOutcome, GuardReads}
 use Rattle.bpaf_laws.proofs.TransformLaws.{map_lawful, parse_lawful, guard_lawful}
+use Rattle.bpaf_laws.specs.Hide.{HideOutcome}
+use Rattle.bpaf_laws.proofs.HideLaws.{hide_lawful}
 use Rattle.bpaf_laws.specs.Step.{StepOutcome}
 use Rattle.bpaf_laws.specs.Default.{Gives, GivesClone, GivesAnswer, FallbackOutcome, FallbackReads}
 use Rattle.bpaf_laws.specs.Default.{OptionalReads, OptionalDescribes}
@@ -89,6 +91,7 @@ OverOutcome clones (over.Guard limit) inner = GuardOutcome inner Checks too_much
 OverOutcome clones (over.Parse limit) inner = AcceptOutcome inner
 OverOutcome clones (over.Fallback n) inner = FallbackOutcome inner (GivesClone clones (number_of n))
 OverOutcome clones (over.FallbackWith number) inner = FallbackOutcome inner (GivesNumber number)
+OverOutcome clones over.Hide inner = HideOutcome inner
 
 -- what is read under a modifier
 abbrev pub OverReads : Clones → Modifier → Readings Value → Readings Value
@@ -106,6 +109,7 @@ OverReads clones (over.Guard limit) reads = GuardReads reads Checks
 OverReads clones (over.Parse limit) reads = AcceptReads reads
 OverReads clones (over.Fallback n) reads = FallbackReads reads (GivesClone clones (number_of n))
 OverReads clones (over.FallbackWith number) reads = FallbackReads reads (GivesNumber number)
+OverReads clones over.Hide reads = reads
 
 -- what is shown under a modifier
 abbrev pub OverDescribes : Modifier → (Shape → Type 0) → Shape → Type 0
@@ -121,6 +125,7 @@ OverDescribes (over.Guard limit) inner shape = inner shape
 OverDescribes (over.Parse limit) inner shape = inner shape
 OverDescribes (over.Fallback n) inner shape = OptionalDescribes inner shape
 OverDescribes (over.FallbackWith number) inner shape = OptionalDescribes inner shape
+OverDescribes over.Hide inner shape = shape ≡ Skip
 
 -- a modifier keeps to the laws where its parser does
 pub over_lawful : {inner : Outcome Value} {reads : Readings Value} (clones : Clones) (m : Modifier)
@@ -139,6 +144,7 @@ over_lawful clones (over.Guard limit) law = guard_lawful law Checks too_much
 over_lawful clones (over.Parse limit) law = parse_lawful law Accepts untold
 over_lawful clones (over.Fallback n) law = fallback_lawful law (GivesClone clones (number_of n))
 over_lawful clones (over.FallbackWith number) law = fallback_lawful law (GivesNumber number)
+over_lawful clones over.Hide law = hide_lawful law
 
 -- what a level answers: a modifier is over the choice of all its parsers
 abbrev pub LevelOutcome : {P : Type 0} → (P → Outcome Value) → Clones → Kind → List P

@@ -1,5 +1,6 @@
-ghost use Rattle.std.specs.Prelude.{◌≡◌, IfErr, codes, is_ok};
+ghost use Rattle.std.specs.Prelude.{◌≡◌, IfErr, codes, is_ok, string_bytes};
 ghost use Rattle.bpaf_described.specs.Closures.{Accepts, Given, IsHalf};
+ghost use Rattle.bpaf_described.specs.OneText.{AcceptsText};
 
 use crate::value::Value;
 
@@ -31,5 +32,16 @@ pub fn give(number: Option<u64>, fault: &'static str) -> Result<Value, &'static 
     match number {
         Some(number) => Ok(Value::Number(number)),
         None => Err(fault),
+    }
+}
+
+/// The text as a value, if it is the wanted one.
+pub fn accept_text(text: String, wanted: &str) -> Option<Value>
+    ensures { AcceptsText wanted.now (string_bytes text) result }
+{
+    if text.as_str() == wanted {
+        Some(Value::Text(text))
+    } else {
+        None
     }
 }

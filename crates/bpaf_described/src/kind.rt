@@ -25,6 +25,8 @@ pub enum Modifier {
     Fallback(u64),
     /// Its value, or what a closure answers: a number, or without one a fault.
     FallbackWith(Option<u64>),
+    /// Its value; where it is missing, no item is named.
+    Hide,
 }
 
 /// What a level makes of its inner parsers.

@@ -23,6 +23,7 @@ mod lent;
 mod level;
 mod modifiers;
 mod names;
+mod one_text;
 mod product;
 mod several;
 mod tokens;
@@ -33,6 +34,7 @@ pub use described::{Described, read_parser};
 pub use kind::{Kind, Modifier};
 pub use leaf::{Answer, Leaf};
 pub use level::Level;
+pub use one_text::OneText;
 pub use tokens::{Description, Fault, Place, Problem, Token, Tokens};
 pub use value::{Told, Value};
 

@@ -1,5 +1,6 @@
 ghost use Rattle.std.specs.Prelude.{IfOk, true};
 ghost use Rattle.bpaf_doc.specs.Shape.{shape_of};
+ghost use Rattle.bpaf_laws.specs.Hide.{HideOutcome};
 ghost use Rattle.bpaf_laws.specs.Default.{FallbackOutcome, GivesClone, OptionalDescribes};
 ghost use Rattle.bpaf_laws.specs.Repeat.{CollectOutcome, CountOutcome, LastOutcome};
 ghost use Rattle.bpaf_laws.specs.Repeat.{ManyDescribes, ManyOutcome, SomeDescribes, SomeOutcome};
@@ -18,8 +19,8 @@ use crate::kind::Modifier;
 use crate::lent::Lent;
 use crate::value::Value;
 use bpaf::parsers::{
-    ParseCollect, ParseCount, ParseFallback, ParseFallbackWith, ParseGuard, ParseLast, ParseMany,
-    ParseMap, ParseOptional, ParseSome, ParseWith,
+    ParseCollect, ParseCount, ParseFallback, ParseFallbackWith, ParseGuard, ParseHide, ParseLast,
+    ParseMany, ParseMap, ParseOptional, ParseSome, ParseWith,
 };
 use bpaf::{Error, Meta, Parser, State};
 use std::alloc::{AllocError, Global};
@@ -192,6 +193,16 @@ fn fallback_with<P: Parser<Value>>(
     parser.eval(state)
 }
 
+/// The value of a parser; where it is missing, no item is named.
+fn hidden<P: Parser<Value>>(inner: &P, state: &mut State) -> Result<Value, Error>
+    requires { P.can_eval inner.now }
+    ensures { HideOutcome (P.outcome inner.now) state.old result state.new }
+{
+    let inner = Lent { inner };
+    let parser: ParseHide<Lent<'_, P>> = ParseHide { inner };
+    parser.eval(state)
+}
+
 /// What a modifier makes of a parser's answer.
 pub fn modified<P: Parser<Value>>(
     modifier: Modifier,
@@ -215,6 +226,7 @@ pub fn modified<P: Parser<Value>>(
         Modifier::Parse(limit) => parsed(inner, limit, state),
         Modifier::Fallback(number) => fallback(inner, number, state),
         Modifier::FallbackWith(number) => fallback_with(inner, number, state),
+        Modifier::Hide => hidden(inner, state),
     }
 }
 
@@ -273,5 +285,6 @@ pub fn modified_meta<P: Parser<Value>>(
         }
         Modifier::Many(_) | Modifier::Collect(_) | Modifier::Count => many_meta(inner, alloc),
         Modifier::Some(_) | Modifier::Last => some_meta(inner, alloc),
+        Modifier::Hide => Ok(Meta::Skip),
     }
 }

@@ -1,8 +1,10 @@
 use crate::as_value::AsValue;
 use crate::kind::{Kind, Modifier};
 use crate::leaf::{Answer, Leaf};
+use crate::one_text::OneText;
 use crate::value::Value;
-use bpaf::{NamedArg, fail, positional, pure};
+use bpaf::{NamedArg, fail, literal, positional, pure};
+use std::alloc::{AllocError, Global};
 use std::marker::PhantomData;
 
 fn as_value<T, P>(inner: P) -> AsValue<T, P> {
@@ -82,6 +84,26 @@ pub fn numbered_leaf(token: &str, number: u64) -> Option<Leaf> {
     }
 }
 
+/// Whether a token stands before a text.
+pub fn is_texted(token: &str) -> bool {
+    matches!(
+        token,
+        "lit" | "literal" | "lita" | "literal_anywhere" | "any" | "anya" | "any_anywhere"
+    )
+}
+
+/// A leaf of a token and a text; refused only for want of memory.
+pub fn texted_leaf(alloc: Global, token: &str, text: &str) -> Result<Leaf, AllocError> {
+    match token {
+        "lit" | "literal" => Ok(Leaf::Literal(as_value(literal(alloc, text)?))),
+        "lita" | "literal_anywhere" => {
+            Ok(Leaf::Literal(as_value(literal(alloc, text)?.anywhere())))
+        }
+        "any" => Ok(Leaf::Any(OneText::new(alloc, text, false)?)),
+        _ => Ok(Leaf::Any(OneText::new(alloc, text, true)?)),
+    }
+}
+
 /// What stands before one parser.
 pub fn modifier(token: &str) -> Option<Modifier> {
     match token {
@@ -96,6 +118,7 @@ pub fn modifier(token: &str) -> Option<Modifier> {
         "count" => Some(Modifier::Count),
         "last" => Some(Modifier::Last),
         "map" => Some(Modifier::Map),
+        "hide" => Some(Modifier::Hide),
         "fberr" | "fallback_with_fault" => Some(Modifier::FallbackWith(None)),
         _ => None,
     }

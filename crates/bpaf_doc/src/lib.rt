@@ -10,8 +10,8 @@
 //! - [`Item`] is one flag, argument, word or command as it is shown, and [`Meta`] the tree of them
 //!   that a parser shows; [`MetaInfo`] lends one. Contracts see both through `part_of` and
 //!   `shape_of` (specs/Shape.antt), data in which neither addresses nor capacities stand. The walks
-//!   over a tree gather short names and find the first item (specs/Walks.antt), and tell whether
-//!   words stand behind keys (specs/Order.antt).
+//!   over a tree, and over one that is lent, gather short names and find the first item
+//!   (specs/Walks.antt), and tell whether words stand behind keys (specs/Order.antt).
 //!
 //! The source of the design is bpaf's `buffer.rs`, `item.rs` and `meta.rs`.
 #![tactic(auto)]

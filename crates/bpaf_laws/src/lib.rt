@@ -11,8 +11,8 @@
 //! - For each leaf and combinator there is its outcome, its readings and what it may show, over those
 //!   of its inner parsers (specs/Flag.antt, specs/Argument.antt, specs/Transform.antt,
 //!   specs/Default.antt, specs/Repeat.antt, specs/Choice.antt, specs/Choices.antt, specs/Pure.antt,
-//!   specs/Product.antt), and the lemma that it keeps to the laws where its inner parsers do, in the
-//!   file of proofs/ of that name and `Laws`.
+//!   specs/Product.antt, specs/Hide.antt, specs/Any.antt), and the lemma that it keeps to the laws
+//!   where its inner parsers do, in the file of proofs/ of that name and `Laws`.
 //! - What follows from the laws alone: the count of present items falls by what was newly taken
 //!   (specs/Counting.antt). Want of memory is told apart by specs/Spared.antt.
 //!

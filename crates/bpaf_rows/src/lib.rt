@@ -24,3 +24,5 @@ mod lines;
 mod shared;
 #[cfg(test)]
 mod sources;
+#[cfg(test)]
+mod wrappers;

@@ -29,8 +29,8 @@ pub struct ParseAny<I, T, F> {
 /// An item that the check accepts, whatever it is: a word, a key, or the value behind one (bpaf's
 /// `any`).
 ///
-/// Its text, of a key its whole word, is read as an `I`, and given to the check; an item whose text is no
-/// `I` isn't wanted. Refused only for want of memory, for the metavar.
+/// Its text, of a key its whole word, is read as an `I`, and given to the check; an item whose text
+/// is no `I` isn't wanted. Refused only for want of memory, for the metavar.
 ///
 /// ```text
 /// any::<String, String, _>(alloc, "ARG", |text| if text.len() > 3 { Some(text) } else { None })?
@@ -59,8 +59,8 @@ where
 }
 
 impl<I, T, F> ParseAny<I, T, F> {
-    /// This parser with this help, in place of the one that it has (bpaf's `ParseAny::help`). It takes no
-    /// memory.
+    /// This parser with this help, in place of the one that it has (bpaf's `ParseAny::help`). It
+    /// takes no memory.
     pub fn help(mut self, help: Doc) -> ParseAny<I, T, F>
         ensures { result ≡ record self { help = Some help } }
     {
@@ -68,8 +68,8 @@ impl<I, T, F> ParseAny<I, T, F> {
         self
     }
 
-    /// This parser with this metavar, in place of the one that it has (bpaf's `ParseAny::metavar`). It
-    /// takes no memory.
+    /// This parser with this metavar, in place of the one that it has (bpaf's `ParseAny::metavar`).
+    /// It takes no memory.
     pub fn metavar(mut self, metavar: Doc) -> ParseAny<I, T, F>
         ensures { result ≡ record self { metavar = metavar } }
     {
@@ -107,11 +107,11 @@ impl<I: FromText, T, F: Fn(I) -> Option<T>> Look<T> for ParseAny<I, T, F> {
     }
 }
 
-/// The value of the first present item in scope, or under `anywhere` of the first that the check accepts;
-/// it is taken, and with an attached key the value behind it.
+/// The value of the first present item in scope, or under `anywhere` of the first that the check
+/// accepts; it is taken, and with an attached key the value behind it.
 ///
-/// Refused with Missing where no item that is looked at is accepted, or for want of memory; then nothing is
-/// taken.
+/// Refused with Missing where no item that is looked at is accepted, or for want of memory; then
+/// nothing is taken.
 impl<I: FromText, T: Drop, F: Fn(I) -> Option<T>> Parser<T> for ParseAny<I, T, F> {
     ghost use Rattle.std.specs.Prelude.{◌≡◌};
     ghost use Rattle.bpaf_doc.specs.Shape.{Shown, Any};

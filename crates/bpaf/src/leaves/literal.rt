@@ -20,8 +20,8 @@ pub struct ParseLiteral {
     pub anywhere: bool,
 }
 
-/// An item of this text, whatever it is (bpaf's `literal`): a word, a key by its whole word, or the value
-/// behind one. It is shown by its text.
+/// An item of this text, whatever it is (bpaf's `literal`): a word, a key by its whole word, or the
+/// value behind one. It is shown by its text.
 ///
 /// Refused only for want of memory.
 ///
@@ -81,11 +81,11 @@ impl Look<()> for ParseLiteral {
     }
 }
 
-/// Takes the first present item in scope, or under `anywhere` the first with the text; and with an attached
-/// key the value behind it.
+/// Takes the first present item in scope, or under `anywhere` the first with the text; and with an
+/// attached key the value behind it.
 ///
-/// Refused with Missing where no item that is looked at has the text, or for want of memory; then nothing is
-/// taken.
+/// Refused with Missing where no item that is looked at has the text, or for want of memory; then
+/// nothing is taken.
 impl Parser<()> for ParseLiteral {
     ghost use Rattle.std.specs.Prelude.{◌≡◌};
     ghost use Rattle.bpaf_doc.specs.Shape.{Shown, Any};

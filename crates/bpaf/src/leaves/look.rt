@@ -64,7 +64,8 @@ fn take_item(state: &mut State, place: usize, attached: bool)
 
 /// Takes the first item that matches, and behind an attached key the next place; its value.
 ///
-/// None, and nothing changes, where no item matches; so it is where it is refused for want of memory.
+/// None, and nothing changes, where no item matches; so it is where it is refused for want of
+/// memory.
 pub(crate) fn take_match<T: Drop, L: Look<T>>(
     look: &L,
     anywhere: bool,

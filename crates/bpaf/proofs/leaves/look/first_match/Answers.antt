@@ -4,7 +4,8 @@ use Rattle.bpaf.proofs.leaves.look.first_match.Goals as goal
 
 pub loop-place-preserved : goal.loop-place-preserved
 loop-place-preserved g c =
-    let here = rw (c.as_str.ensures ∙ c.item_text.ensures, c.in_default.is) at c.in_ok-value.ensures in (
+    let text = c.as_str.ensures ∙ c.item_text.ensures in
+    let here = rw (text, c.in_default.is) at c.in_ok-value.ensures in (
       tt,
       tt,
       passed_more (g.L.Look.looks c.args.look.now) c.args.state.now c.args.anywhere _ _ _

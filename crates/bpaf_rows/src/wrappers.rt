@@ -1,0 +1,129 @@
+//! Parsers that are shown otherwise, and items by their text at types that no description has.
+use crate::shared::{file, num, prints, reads, value};
+use bpaf::{Doc, Item, Meta, MetaInfo, Parser, Style, any, construct, literal};
+use std::alloc::{AllocError, Global};
+use std::test::Fail;
+
+/// What a wrapper shows: its text in the usage, the title of its section, or nothing; and what an
+/// item by its text does.
+fn told(alloc: Global, meta: &Meta) -> Result<String, AllocError> {
+    match meta {
+        Meta::CustomUsage(_, usage) => {
+            let usage = usage.monochrome(true)?;
+            format!(in alloc; "usage `{usage}`")
+        }
+        Meta::Subsection(_, title) => {
+            let title = title.monochrome(true)?;
+            format!(in alloc; "section `{title}`")
+        }
+        Meta::Item(
+            Item::Any {
+                metavar,
+                help,
+                anywhere,
+            },
+        ) => {
+            let metavar = metavar.monochrome(true)?;
+            let helped = help.is_some();
+            format!(in alloc; "item `{metavar}` {helped} {anywhere}")
+        }
+        Meta::Skip => String::from_str(alloc, "nothing"),
+        _ => String::from_str(alloc, "another"),
+    }
+}
+
+/// What a parser of a number shows, and its value on words.
+fn shown<P: Parser<u64> + Drop>(alloc: Global, parser: P) -> Result<String, AllocError>
+    requires { P.can_eval parser }
+{
+    let meta = parser.meta(alloc)?;
+    let shown = told(alloc, &meta)?;
+    let value = value(alloc, parser, &["-n", "3"])?;
+    format!(in alloc; "{shown} {value:?}")
+}
+
+/// A title that tells what is shown below it.
+fn title(alloc: Global, shown: MetaInfo<'_>) -> Result<Doc, AllocError> {
+    let mut flags = Vec::new(alloc);
+    let mut arguments = Vec::new(alloc);
+    shown.collect_shorts(&mut flags, &mut arguments)?;
+    let flags = flags.len();
+    let arguments = arguments.len();
+    let first = shown.first_item().is_some();
+    let ordered = shown.positional_order();
+    let text = format!(in alloc; "{flags} {arguments} {first} {ordered}")?;
+    Doc::from_text(alloc, text.as_str())
+}
+
+/// A parser that isn't shown.
+fn hidden(alloc: Global) -> Result<String, AllocError> {
+    shown(alloc, num(alloc)?.hide())
+}
+
+/// A parser of which nothing stands in the usage.
+fn without_usage(alloc: Global) -> Result<String, AllocError> {
+    shown(alloc, num(alloc)?.hide_usage())
+}
+
+/// A parser with a usage of its own.
+fn with_usage(alloc: Global) -> Result<String, AllocError> {
+    let usage = Doc::from_text(alloc, "a number")?;
+    shown(alloc, num(alloc)?.custom_usage(usage))
+}
+
+/// A parser in a section.
+fn in_section(alloc: Global) -> Result<String, AllocError> {
+    let title = Doc::from_text(alloc, "Numbers")?;
+    shown(alloc, num(alloc)?.group_help(title))
+}
+
+/// A parser in a section with a title by a closure.
+fn in_titled_section(alloc: Global) -> Result<String, AllocError> {
+    shown(
+        alloc,
+        num(alloc)?.with_group_help(|shown| title(alloc, shown)),
+    )
+}
+
+#[test]
+fn wrappers_show_their_texts(rt: HostRuntime) -> Result<(), Fail> {
+    let alloc = rt.alloc();
+    reads(&rt, hidden(alloc), "nothing Some(3)")?;
+    reads(&rt, without_usage(alloc), "usage `` Some(3)")?;
+    reads(&rt, with_usage(alloc), "usage `a number` Some(3)")?;
+    reads(&rt, in_section(alloc), "section `Numbers` Some(3)")?;
+    reads(
+        &rt,
+        in_titled_section(alloc),
+        "section `0 1 true true` Some(3)",
+    )
+}
+
+/// The first small number among words, and the other words.
+fn small_number(alloc: Global, words: &[&str]) -> Result<Option<(u64, Vec<String>)>, AllocError> {
+    let small = any::<u64, u64, _>(alloc, "N", |n| if n < 10 { Some(n) } else { None })?;
+    let metavar = Doc::from_text(alloc, "SMALL")?;
+    let small = small.metavar(metavar).help(Doc::new(alloc)).anywhere();
+    value(alloc, construct!(small, files(file().many())), words)
+}
+
+#[test]
+fn any_reads_its_type(rt: HostRuntime) -> Result<(), Fail> {
+    let small = small_number(rt.alloc(), &["x", "12", "3"]);
+    prints(&rt, small, "Some((3, [\"x\", \"12\"]))")?;
+    prints(&rt, small_number(rt.alloc(), &["x", "12"]), "None")
+}
+
+/// A literal with another metavar and a help.
+fn shown_literal(alloc: Global) -> Result<String, AllocError> {
+    let metavar = Doc::from_pieces(alloc, &[("GO", Style::Metavar)])?;
+    let help = Doc::from_text(alloc, "starts")?;
+    let go = literal(alloc, "go")?.metavar(metavar).help(help);
+    let meta = go.anywhere().meta(alloc)?;
+    told(alloc, &meta)
+}
+
+#[test]
+fn literal_shows_its_metavar(rt: HostRuntime) -> Result<(), Fail> {
+    reads(&rt, shown_literal(rt.alloc()), "item `GO` true true")
+}
