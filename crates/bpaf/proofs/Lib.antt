@@ -1,1 +1,3 @@
 pub mod PositionalAnswers
+pub mod Sides
+pub mod PassingOn

@@ -1,2 +1,3 @@
 pub mod Positional
 pub mod PositionalLaws
+pub mod Marker
