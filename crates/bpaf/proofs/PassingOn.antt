@@ -4,7 +4,8 @@ use Rattle.std.proofs.Common.{◌≡◌, ◌≢◌, ℕ, zero, suc, ◌+◌, ◌
 use Rattle.std.proofs.Common.{List, [], ◌∷◌, ◌++◌, Option, Some, None, Result, Ok, Err, length, map}
 use Rattle.std.proofs.Common.{refl, ap, sym, subst, ◌∙◌, arith, ⊎_elim, slice_get, nat_lt, codes}
 use Rattle.std.proofs.Common.{if◌then◌else◌, option_and_then, true≢false}
-use Rattle.std.specs.Prelude.{◌==◌, ◌&&◌, ◌||◌, option_map, nat_le}
+use Rattle.std.specs.Prelude.{◌==◌, ◌&&◌, ◌||◌, option_map, nat_le, string_bytes, String}
+use Rattle.std.specs.declared.alloc.Global.{Global}
 use Rattle.std.specs.List.{AllZip, AllByRecursion}
 use Rattle.std.specs.Option.{option_map_or}
 use Rattle.std.proofs.lemmas.Bool.{cases_lt, cases_eq, lt-ltb, le-ltb, le-leb, ltb-false}
@@ -506,10 +507,30 @@ module _ {T X : Type 0} {inner : Outcome T} (means : List ℕ → X → Type 0) 
       (none_open left none)
 
   -- so does a value of a run over words
-  pub words_passed : {describes : Shape → Type 0} {info : RunInfo} (v : T)
+  words_passed : {describes : Shape → Type 0} {info : RunInfo} (v : T)
       → RunsWords T inner describes info given (Ok v)
       → AllZip means (words_behind given.words) (values v)
   words_passed v (ran context r t is run) = ⊎_elim
       (λ shown. line_passed _ context v t shown.2 run)
       (λ any. line_passed _ context v t (any (knowing (record { flags = []; arguments = [] }))) run)
       is
+
+-- texts that words mean, each of which means itself, are the texts of those words
+texts_are : (texts : List (List ℕ)) (words : List (String Global))
+    → AllZip (λ text word. string_bytes word ≡ text) texts words → map string_bytes words ≡ texts
+texts_are [] [] all = refl
+texts_are [] (word ∷ words) all = absurd all
+texts_are (text ∷ texts) [] all = absurd all
+texts_are (text ∷ texts) (word ∷ words) all =
+    let first : string_bytes word ≡ text = all.0 in
+    let rest = texts_are texts words all.1 in
+    cc
+
+-- texts that a value of a run passes on are exactly the words behind the first `--`, in order
+pub texts_passed : {T : Type 0} {inner : Outcome T} {describes : Shape → Type 0} {info : RunInfo}
+    (texts : T → List (String Global))
+    → PassesOn inner (λ text word. string_bytes word ≡ text) texts → (given : Given) (v : T) → RunsWords T inner describes info given (Ok v)
+    → map string_bytes (texts v) ≡ words_behind given.words
+texts_passed texts passes given v run =
+    texts_are (words_behind given.words) (texts v)
+    (words_passed (λ text word. string_bytes word ≡ text) texts passes given v run)
