@@ -1,2 +1,4 @@
 pub mod PositionalAnswers
 pub mod Looking
+pub mod Sides
+pub mod PassingOn

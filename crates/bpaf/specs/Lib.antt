@@ -1,3 +1,4 @@
 pub mod Positional
 pub mod PositionalLaws
 pub mod Matching
+pub mod Marker

@@ -1,0 +1,282 @@
+-- From what a run says of the record's parser to a launch that the words ask for.
+use Rattle.std.proofs.Common.{◌≡◌, ℕ, Bool, true, false, List, [], ◌∷◌, Option, Some, Result}
+use Rattle.std.proofs.Common.{Ok, Err, IfOk, refl, sym, subst, ap, ◌∙◌, ⊎_elim}
+use Rattle.std.specs.Global.{Vec}
+use Rattle.std.specs.List.{Contains}
+use Rattle.bpaf_doc.specs.declared.doc.Piece.{Piece}
+use Rattle.bpaf_doc.specs.Names.{Names}
+use Rattle.bpaf_doc.specs.Shape.{Shape, And, Many, Optional, members}
+use Rattle.bpaf_text.specs.declared.params.ParseFlag.{ParseFlag}
+use Rattle.bpaf_core.specs.declared.repeat.ParseMany.{ParseMany}
+use Rattle.bpaf_text.specs.Named.{key_named}
+use Rattle.bpaf_words.specs.Arguments.{Given}
+use Rattle.bpaf_line.specs.Constructing.{IsContext}
+use Rattle.bpaf_line.specs.Situation.{Context}
+use Rattle.bpaf_line.specs.declared.failure.ParseFailure.{ParseFailure}
+use Rattle.bpaf_laws.specs.Reading.{Share, Readings, Outcome}
+use Rattle.bpaf_laws.specs.Laws.{Lawful}
+use Rattle.bpaf_laws.specs.Flag.{FlagReads, FlagOutcome, flag_shape}
+use Rattle.bpaf_laws.specs.Repeat.{ManyReads, ManyOutcome, ManyDescribes}
+use Rattle.bpaf_laws.specs.Product.{BothReads, ProductReads, BothOutcome, ProductOutcome}
+use Rattle.bpaf_laws.specs.Product.{BothDescribes, LastDescribes, ProductDescribes}
+use Rattle.bpaf_laws.proofs.FlagLaws.{flag_lawful}
+use Rattle.bpaf_core.specs.Info.{RunInfo, plain_info}
+use Rattle.bpaf_core.specs.Known.{known_names}
+use Rattle.bpaf_core.specs.Dealt.{IsDealtOut}
+use Rattle.bpaf_core.specs.Run.{RunsWords}
+use Rattle.bpaf.specs.declared.leaves.positional.ParsePositional.{ParsePositional}
+use Rattle.bpaf.specs.declared.leaves.positional.Position.TheVariants.{Strict, NonStrict}
+use Rattle.bpaf.specs.Marker.{words_before}
+use Rattle.bpaf.specs.Positional.{PositionalReads, PositionalOutcome, positional_shape}
+use Rattle.bpaf.specs.PositionalLaws.{positional_lawful}
+use Rattle.bpaf.proofs.PassingOn.{PassesOn, ReadsBefore, both_passes, many_passes, product_passes}
+use Rattle.bpaf.proofs.PassingOn.{flag_reads_before, word_reads_before, texts_passed}
+use Rattle.bpaf_launch.specs.declared.options.Launch.{Launch}
+use Rattle.bpaf_launch.specs.Dealing.{IsDealtLaunch, IsLaunchOf, IsKept, MeansText, String}
+use Rattle.bpaf_launch.specs.Dealing.{verbose_names, dry_run_names, program_given, program_known}
+use Rattle.bpaf_launch.proofs.Naming.{name_before}
+
+-- the values of the record's fields
+abbrev pub FieldValues : Type 0
+FieldValues = Bool × (Bool × (String × Vec String))
+
+-- the record of the fields' values
+abbrev pub record_of : FieldValues → Launch
+record_of x = record { verbose = x.0; dry_run = x.1.0; name = x.1.1.0; words = x.1.1.1 }
+
+-- a switch of the program
+abbrev pub Switch : Type 0
+Switch = ParseFlag Bool
+
+-- a positional word of the program
+abbrev pub Word : Type 0
+Word = ParsePositional String
+
+-- what the record's parser is made of, and what it knows beside that
+pub record Parts : Type 0 where
+  pub verbose : Switch
+  pub dry_run : Switch
+  pub name : Word
+  pub words : ParseMany Word
+  pub info : RunInfo
+
+-- a switch with these names
+pub record IsSwitch (names : Names) (switch : Switch) : Type 0 where
+  pub named : switch.named ≡ key_named names
+  pub present : switch.present ≡ true
+  pub absent : switch.absent ≡ Some false
+
+-- parts that are those of the program
+pub record AreProgramParts (parts : Parts) : Type 0 where
+  pub verbose : IsSwitch verbose_names parts.verbose
+  pub dry_run : IsSwitch dry_run_names parts.dry_run
+  pub name : parts.name.position ≡ NonStrict
+  pub words : parts.words.inner.position ≡ Strict
+  pub info : parts.info ≡ plain_info
+
+-- which records a constructor makes of the fields' values
+abbrev pub Makes : Type 1
+Makes = FieldValues → Launch → Type 0
+
+-- it makes the record of them, and no other
+abbrev pub MakesRecord : Makes → Type 0
+MakesRecord makes = (x : FieldValues) (v : Launch) → makes x v → v ≡ record_of x
+
+-- what a switch reads
+abbrev pub SwitchReads : Switch → Readings Bool
+SwitchReads switch = FlagReads Bool IsKept switch.named switch.present switch.absent
+
+-- what a switch answers
+abbrev pub SwitchOutcome : Switch → Outcome Bool
+SwitchOutcome switch = FlagOutcome IsKept switch.named switch.present switch.absent
+
+-- what a word reads
+abbrev pub WordReads : Word → Readings String
+WordReads word = PositionalReads String MeansText word.position
+
+-- what a word answers
+abbrev pub WordOutcome : Word → Outcome String
+WordOutcome word = PositionalOutcome MeansText word.position word.metavar.0.now
+
+-- what the record's parser reads
+abbrev pub RecordReads : Makes → Parts → Readings Launch
+RecordReads makes parts =
+    ProductReads FieldValues Launch
+    (BothReads Bool (Bool × (String × Vec String)) (SwitchReads parts.verbose)
+    (BothReads Bool (String × Vec String) (SwitchReads parts.dry_run)
+    (BothReads String (Vec String) (WordReads parts.name)
+    (ManyReads (WordReads parts.words.inner)))))
+    makes
+
+-- what the record's parser answers
+abbrev pub RecordOutcome : Makes → Parts → Outcome Launch
+RecordOutcome makes parts =
+    ProductOutcome
+    (BothOutcome (SwitchOutcome parts.verbose)
+    (BothOutcome (SwitchOutcome parts.dry_run)
+    (BothOutcome (WordOutcome parts.name)
+    (ManyOutcome (WordOutcome parts.words.inner) parts.words.catch))))
+    makes
+
+-- a shape is that of a switch
+abbrev pub IsSwitchShape : Switch → Shape → Type 0
+IsSwitchShape switch shape = shape ≡ flag_shape switch.named switch.absent
+
+-- a shape is that of a word
+abbrev pub IsWordShape : Word → Shape → Type 0
+IsWordShape word shape = shape ≡ positional_shape word.position word.metavar.0.now word.help
+
+-- what the record's parser shows
+abbrev pub RecordDescribes : Parts → Shape → Type 0
+RecordDescribes parts =
+    ProductDescribes (BothDescribes (IsSwitchShape parts.verbose)
+    (BothDescribes (IsSwitchShape parts.dry_run)
+    (BothDescribes (IsWordShape parts.name)
+    (LastDescribes (ManyDescribes (IsWordShape parts.words.inner))))))
+
+-- the record's parser deals a launch out of what is given
+abbrev pub RecordDealsOut : Makes → Parts → Given → Launch → Type 0
+RecordDealsOut makes parts given v =
+    IsDealtOut Launch (RecordReads makes parts) (RecordDescribes parts) parts.info given v
+
+-- a run of the record's parser
+abbrev pub RecordRuns : Makes → Parts → Given → Result Launch ParseFailure → Type 0
+RecordRuns makes parts given r =
+    RunsWords Launch (RecordOutcome makes parts) (RecordDescribes parts) parts.info given r
+
+-- the shape of a switch with these names
+abbrev switch_shape : Names → Shape
+switch_shape names = flag_shape (key_named names) (Some false)
+
+-- the known names of a shape whose members are these are those of the program
+known_of : (verbose dry_run name words : Shape) (metavar passed : List ℕ)
+    (help passed_help : Option (List Piece))
+    → verbose ≡ switch_shape verbose_names → dry_run ≡ switch_shape dry_run_names
+    → name ≡ positional_shape NonStrict metavar help
+    → words ≡ Many (Optional (positional_shape Strict passed passed_help))
+    → known_names plain_info (And (members (verbose ∷ dry_run ∷ name ∷ words ∷ []))) ≡ program_known
+known_of verbose dry_run name words metavar passed help passed_help a b c d = rw (a, b, c, d) refl
+
+-- a switch with these names has their shape
+switch_shown : (names : Names) (switch : Switch) (shape : Shape) → IsSwitch names switch
+    → IsSwitchShape switch shape → shape ≡ switch_shape names
+switch_shown names switch shape is shown = rw (is.named, is.absent) at shown
+
+module _ (parts : Parts) (program : AreProgramParts parts) where
+  -- the known names of what the program's parser shows
+  known_shown : (shape : Shape) → RecordDescribes parts shape
+      → known_names parts.info shape ≡ program_known
+  known_shown shape shown =
+      let verbose = shown.1 in
+      let dry_run = verbose.3 in
+      let name = dry_run.3 in
+      let words = name.3 in
+      let two : dry_run.1 ≡ name.0 ∷ words.0 ∷ [] = name.4 ∙ ap (λ xs. name.0 ∷ xs) words.2 in
+      let three : verbose.1 ≡ dry_run.0 ∷ name.0 ∷ words.0 ∷ [] =
+      dry_run.4 ∙ ap (λ xs. dry_run.0 ∷ xs) two in
+      let all : shown.0 ≡ verbose.0 ∷ dry_run.0 ∷ name.0 ∷ words.0 ∷ [] =
+      verbose.4 ∙ ap (λ xs. verbose.0 ∷ xs) three in
+      ap (λ info. known_names info shape) program.info
+      ∙ (ap (known_names plain_info) (shown.2 ∙ ap (λ xs. And (members xs)) all)
+      ∙ known_of verbose.0 dry_run.0 name.0 words.0 _ _ _ _
+      (switch_shown verbose_names parts.verbose verbose.0 program.verbose verbose.2)
+      (switch_shown dry_run_names parts.dry_run dry_run.0 program.dry_run dry_run.2)
+      (rw program.name at name.2)
+      (words.1.2 ∙ ap (λ inside. Many (Optional inside)) (rw program.words at words.1.1)))
+
+  -- the record's parser passes on all words behind the first `--`
+  record_passes : (makes : Makes) → MakesRecord makes
+      → PassesOn (RecordOutcome makes parts) MeansText (λ launch. launch.words.items)
+  record_passes makes made =
+      product_passes makes MeansText (λ x. x.1.1.1.items) (λ launch. launch.words.items)
+      (λ x v is. ap (λ launch. launch.words.items) (made x v is))
+      (both_passes MeansText (λ x. x.1.1.items) (switch_lawful parts.verbose)
+      (switch_before parts.verbose)
+      (both_passes MeansText (λ x. x.1.items) (switch_lawful parts.dry_run)
+      (switch_before parts.dry_run)
+      (both_passes MeansText (λ words. words.items)
+      (positional_lawful String MeansText parts.name.position parts.name.metavar.0.now)
+      name_reads_before
+      words_pass)))
+    where
+      switch_lawful : (switch : Switch) → Lawful Bool (SwitchOutcome switch) (SwitchReads switch)
+      switch_lawful switch =
+          flag_lawful Bool IsKept switch.named switch.present switch.absent
+
+      switch_before : (switch : Switch) → ReadsBefore (SwitchReads switch)
+      switch_before switch =
+          flag_reads_before Bool IsKept switch.named switch.present switch.absent
+
+      name_reads_before : ReadsBefore (WordReads parts.name)
+      name_reads_before =
+          subst (λ p. ReadsBefore (PositionalReads String MeansText p)) (sym program.name)
+          (word_reads_before String MeansText)
+
+      words_pass : PassesOn (ManyOutcome (WordOutcome parts.words.inner) parts.words.catch)
+          MeansText (λ words. words.items)
+      words_pass =
+          let metavar = parts.words.inner.metavar.0.now in
+          subst (λ p. PassesOn (ManyOutcome (PositionalOutcome MeansText p metavar)
+          parts.words.catch) MeansText (λ words. words.items)) (sym program.words)
+          (many_passes MeansText metavar parts.words.catch)
+
+module _ (makes : Makes) (made : MakesRecord makes) (parts : Parts)
+    (program : AreProgramParts parts) (words : List (List ℕ)) (v : Launch) where
+  -- what the record's parser deals out is a launch dealt out of the words
+  launch_dealt : RecordDealsOut makes parts (program_given words) v → IsDealtLaunch words v
+  launch_dealt dealt =
+      let read = dealt.read.read in
+      let values = dealt.read.values in
+      let others = read.rest_read in
+      let positionals = others.rest_read in
+      subst (IsDealtLaunch words) (sym (made values v dealt.read.made)) (record {
+        context = dealt.context;
+        is_context = ⊎_elim
+            (λ shown. subst (λ known. IsContext known (program_given words) dealt.context)
+            (known_shown parts program shown.0 shown.1) shown.2)
+            (λ any. any program_known)
+            dealt.is_context;
+        verbose_share = read.first_share;
+        dry_run_share = others.first_share;
+        name_share = positionals.first_share;
+        words_share = positionals.rest_share;
+        other_share = read.rest_share;
+        positional_share = others.rest_share;
+        joins = read.joins;
+        others_join = others.joins;
+        positionals_join = positionals.joins;
+        verbose = switch_reads verbose_names parts.verbose program.verbose read.first_read;
+        dry_run = switch_reads dry_run_names parts.dry_run program.dry_run others.first_read;
+        name = rw program.name at positionals.first_read;
+        words = rw program.words at positionals.rest_read;
+      })
+    where
+      switch_reads : {context : Context} {share : Share} {value : Bool} (names : Names)
+          (switch : Switch) → IsSwitch names switch → SwitchReads switch context share value
+          → FlagReads Bool IsKept (key_named names) true (Some false) context share value
+      switch_reads names switch is read = rw (is.named, is.present, is.absent) at read
+
+  -- it is a launch that the words ask for, where a run answers it
+  launch_asked : RecordDealsOut makes parts (program_given words) v
+      → RecordRuns makes parts (program_given words) (Ok v) → IsLaunchOf words v
+  launch_asked dealt run =
+      let launch = launch_dealt dealt in
+      let name = name_before (program_given words) launch.context launch.name_share v.name
+      launch.is_context launch.name in
+      record {
+        dealt = launch;
+        named = subst (Contains (words_before words)) (sym name.1) name.2;
+        passed = texts_passed (λ launch. launch.words.items)
+            (record_passes parts program makes made) (program_given words) v run;
+      }
+
+-- an answer of the record's parser on the program's words
+pub answer_asked : (makes : Makes) (parts : Parts) (given : Given) (words : List (List ℕ))
+    → MakesRecord makes → AreProgramParts parts → given ≡ program_given words
+    → (r : Result Launch ParseFailure) → IfOk r (RecordDealsOut makes parts given)
+    → RecordRuns makes parts given r → IfOk r (IsLaunchOf words)
+answer_asked makes parts given words made program is (Ok v) dealt run =
+    launch_asked makes made parts program words v
+    (subst (λ g. RecordDealsOut makes parts g v) is dealt)
+    (subst (λ g. RecordRuns makes parts g (Ok v)) is run)
+answer_asked makes parts given words made program is (Err f) dealt run = tt

@@ -1,0 +1,168 @@
+//! The rows of the program, and what it writes where there is no launch or a write fails.
+use crate::run::run;
+use std::alloc::{AllocError, Global};
+use std::io;
+use std::io::Write;
+use std::test::Fail;
+
+/// What a run on these words wrote on its two writers, and its status.
+struct Written {
+    out: String,
+    err: String,
+    status: u8,
+}
+
+fn text(bytes: Vec<u8>) -> Result<String, &'static str> {
+    String::from_utf8(bytes).map_err(|_| "no text")
+}
+
+/// Words that are written with a space between each two; none for the empty text.
+fn owned(alloc: Global, words: &str) -> Result<Vec<String>, AllocError> {
+    let mut all = Vec::new(alloc);
+    if !words.is_empty() {
+        for word in words.split(' ') {
+            all.push(String::from_str(alloc, word)?)?;
+        }
+    }
+    Ok(all)
+}
+
+fn ran(alloc: Global, words: &str) -> Result<Written, Fail> {
+    let words = owned(alloc, words)?;
+    let mut out: Vec<u8> = Vec::new(alloc);
+    let mut err: Vec<u8> = Vec::new(alloc);
+    let status = run(alloc, words.as_slice(), &mut out, &mut err);
+    Ok(Written {
+        out: text(out)?,
+        err: text(err)?,
+        status,
+    })
+}
+
+/// Whether these words are refused as they should be: a message on the one writer, nothing on the
+/// other.
+fn is_refused(alloc: Global, words: &str) -> Result<bool, Fail> {
+    let Written { out, err, status } = ran(alloc, words)?;
+    Ok(out.is_empty() && err.as_str() == "Error: refused\n" && status == 1)
+}
+
+/// Whether these words ask for a launch, and these lines alone are written, here with `, ` between
+/// each two.
+fn prints(alloc: Global, words: &str, lines: &str) -> Result<bool, Fail> {
+    let Written { out, err, status } = ran(alloc, words)?;
+    let printed = out.as_str().lines().eq(lines.split(", "));
+    Ok(printed && err.is_empty() && status == 0)
+}
+
+#[test]
+fn own_options_come_in_any_order(rt: HostRuntime) -> Result<(), Fail> {
+    let lines = "verbose: true, dry run: true, name: ls";
+    for words in [
+        "-v --dry-run ls",
+        "ls --dry-run --verbose",
+        "--dry-run ls -v --",
+    ] {
+        assert!(rt; prints(rt.alloc(), words, lines)?);
+    }
+    Ok(())
+}
+
+#[test]
+fn words_are_passed_on_unread(rt: HostRuntime) -> Result<(), Fail> {
+    let rows = [
+        ("ls", ""),
+        ("ls --", ""),
+        ("ls -- -l -- x", ", word: -l, word: --, word: x"),
+        ("ls -- b a -- --", ", word: b, word: a, word: --, word: --"),
+        (
+            "ls -- -v --dry-run -vx --",
+            ", word: -v, word: --dry-run, word: -vx, word: --",
+        ),
+        (
+            "ls -- --name=3 -n=3 -  -v",
+            ", word: --name=3, word: -n=3, word: -, word: , word: -v",
+        ),
+    ];
+    for (words, passed) in rows {
+        let lines = format!(in rt.alloc(); "verbose: false, dry run: false, name: ls{passed}")?;
+        assert!(rt; prints(rt.alloc(), words, lines.as_str())?);
+    }
+    Ok(())
+}
+
+#[test]
+fn refusals_print_no_launch(rt: HostRuntime) -> Result<(), Fail> {
+    let rows = [
+        "",
+        "--",
+        "-- ls",
+        "a b",
+        "a b -- c",
+        "-x ls",
+        "ls -l",
+        "-v -v ls",
+        "--verbose=1 ls",
+    ];
+    for words in rows {
+        assert!(rt; is_refused(rt.alloc(), words)?);
+    }
+    Ok(())
+}
+
+/// A writer that takes two bytes at a time, and no more than it has room for; its first call is
+/// interrupted.
+#[derive(Drop)]
+struct Narrow {
+    taken: Vec<u8>,
+    room: usize,
+    interrupted: bool,
+}
+
+impl Write for Narrow {
+    fn write(&mut self, buf: &[u8]) -> io::Result<usize> {
+        if !self.interrupted {
+            self.interrupted = true;
+            return Err(io::Error::from(io::ErrorKind::Interrupted));
+        }
+        let mut count = 0;
+        for byte in buf {
+            if count == 2 || self.taken.len() == self.room {
+                break;
+            }
+            self.taken.push(*byte)?;
+            count += 1;
+        }
+        Ok(count)
+    }
+
+    fn flush(&mut self) -> io::Result<()> {
+        Ok(())
+    }
+}
+
+/// What a run wrote on a writer with so much room, and its status.
+fn narrowed(alloc: Global, room: usize) -> Result<(String, u8), Fail> {
+    let words = owned(alloc, "ls -- x")?;
+    let mut out = Narrow {
+        taken: Vec::new(alloc),
+        room,
+        interrupted: false,
+    };
+    let mut err: Vec<u8> = Vec::new(alloc);
+    let status = run(alloc, words.as_slice(), &mut out, &mut err);
+    Ok((text(out.taken)?, status))
+}
+
+#[test]
+fn a_writer_that_fails_has_a_beginning(rt: HostRuntime) -> Result<(), Fail> {
+    let a = rt.alloc();
+    let (written, status) = narrowed(a, 100)?;
+    assert!(rt; written.as_str() == "verbose: false\ndry run: false\nname: ls\nword: x\n");
+    assert!(rt; status == 0);
+    let (written, status) = narrowed(a, 17)?;
+    assert!(rt; written.as_str() == "verbose: false\ndr");
+    assert!(rt; status == 1);
+    let (written, status) = narrowed(a, 0)?;
+    assert!(rt; written.is_empty() && status == 1);
+    Ok(())
+}
