@@ -2,7 +2,7 @@ use crate::as_value::AsValue;
 use crate::closures::give;
 use crate::value::Value;
 use bpaf::params::{ParseArgument, ParseFlag, ParsePositional};
-use bpaf::parsers::{ParseFail, ParsePure, ParsePureWith};
+use bpaf::parsers::{ParseAppname, ParseFail, ParsePure, ParsePureWith};
 use bpaf::{Error, Meta, Parser, State};
 use std::alloc::{AllocError, Global};
 use std::marker::PhantomData;
@@ -63,6 +63,8 @@ pub enum Leaf {
     NumberWord(AsValue<u64, ParsePositional<u64>>),
     /// A word that is a text.
     Word(AsValue<String, ParsePositional<String>>),
+    /// The name by which the program is called.
+    Appname(AsValue<String, ParseAppname>),
     /// A kept value.
     Pure(ParsePure<Value>),
     /// A closure's answer.
@@ -75,10 +77,11 @@ impl Parser<Value> for Leaf {
     ghost use Rattle.bpaf_laws.proofs.FlagLaws.{flag_lawful};
     ghost use Rattle.bpaf_laws.proofs.ArgumentLaws.{argument_lawful};
     ghost use Rattle.bpaf.specs.PositionalLaws.{positional_lawful};
+    ghost use Rattle.bpaf_laws.proofs.AppnameLaws.{appname_lawful};
     ghost use Rattle.bpaf_laws.proofs.PureLaws.{pure_lawful};
     ghost use Rattle.bpaf_described.specs.declared.leaf.Leaf.TheVariants.{Switch, Flag, Number};
     ghost use Rattle.bpaf_described.specs.declared.leaf.Leaf.TheVariants.{Integer, Text, NumberWord};
-    ghost use Rattle.bpaf_described.specs.declared.leaf.Leaf.TheVariants.{Word, Pure, PureWith, Fail};
+    ghost use Rattle.bpaf_described.specs.declared.leaf.Leaf.TheVariants.{Word, Appname, Pure, PureWith, Fail};
     ghost use Rattle.bpaf_described.specs.Told.{told_lawful};
 
     ghost can_eval = { elim [
@@ -89,6 +92,7 @@ impl Parser<Value> for Leaf {
       | Text p ↦ ⟦<AsValue<String, ParseArgument<String>> as Parser<Value>>⟧.can_eval p
       | NumberWord p ↦ ⟦<AsValue<u64, ParsePositional<u64>> as Parser<Value>>⟧.can_eval p
       | Word p ↦ ⟦<AsValue<String, ParsePositional<String>> as Parser<Value>>⟧.can_eval p
+      | Appname p ↦ ⟦<AsValue<String, ParseAppname> as Parser<Value>>⟧.can_eval p
       | Pure p ↦ ⟦<ParsePure<Value> as Parser<Value>>⟧.can_eval p
       | PureWith p ↦ ⟦<Answer as Parser<Value>>⟧.can_eval p
       | Fail p ↦ ⟦<ParseFail<Value> as Parser<Value>>⟧.can_eval p
@@ -102,6 +106,7 @@ impl Parser<Value> for Leaf {
       | Text p ↦ ⟦<AsValue<String, ParseArgument<String>> as Parser<Value>>⟧.describes p
       | NumberWord p ↦ ⟦<AsValue<u64, ParsePositional<u64>> as Parser<Value>>⟧.describes p
       | Word p ↦ ⟦<AsValue<String, ParsePositional<String>> as Parser<Value>>⟧.describes p
+      | Appname p ↦ ⟦<AsValue<String, ParseAppname> as Parser<Value>>⟧.describes p
       | Pure p ↦ ⟦<ParsePure<Value> as Parser<Value>>⟧.describes p
       | PureWith p ↦ ⟦<Answer as Parser<Value>>⟧.describes p
       | Fail p ↦ ⟦<ParseFail<Value> as Parser<Value>>⟧.describes p
@@ -115,6 +120,7 @@ impl Parser<Value> for Leaf {
       | Text p ↦ ⟦<AsValue<String, ParseArgument<String>> as Parser<Value>>⟧.reads p
       | NumberWord p ↦ ⟦<AsValue<u64, ParsePositional<u64>> as Parser<Value>>⟧.reads p
       | Word p ↦ ⟦<AsValue<String, ParsePositional<String>> as Parser<Value>>⟧.reads p
+      | Appname p ↦ ⟦<AsValue<String, ParseAppname> as Parser<Value>>⟧.reads p
       | Pure p ↦ ⟦<ParsePure<Value> as Parser<Value>>⟧.reads p
       | PureWith p ↦ ⟦<Answer as Parser<Value>>⟧.reads p
       | Fail p ↦ ⟦<ParseFail<Value> as Parser<Value>>⟧.reads p
@@ -128,6 +134,7 @@ impl Parser<Value> for Leaf {
       | Text p ↦ ⟦<AsValue<String, ParseArgument<String>> as Parser<Value>>⟧.outcome p
       | NumberWord p ↦ ⟦<AsValue<u64, ParsePositional<u64>> as Parser<Value>>⟧.outcome p
       | Word p ↦ ⟦<AsValue<String, ParsePositional<String>> as Parser<Value>>⟧.outcome p
+      | Appname p ↦ ⟦<AsValue<String, ParseAppname> as Parser<Value>>⟧.outcome p
       | Pure p ↦ ⟦<ParsePure<Value> as Parser<Value>>⟧.outcome p
       | PureWith p ↦ ⟦<Answer as Parser<Value>>⟧.outcome p
       | Fail p ↦ ⟦<ParseFail<Value> as Parser<Value>>⟧.outcome p
@@ -142,6 +149,7 @@ impl Parser<Value> for Leaf {
             Leaf::Text(p) => p.eval(state),
             Leaf::NumberWord(p) => p.eval(state),
             Leaf::Word(p) => p.eval(state),
+            Leaf::Appname(p) => p.eval(state),
             Leaf::Pure(p) => p.eval(state),
             Leaf::PureWith(p) => p.eval(state),
             Leaf::Fail(p) => p.eval(state),
@@ -157,6 +165,7 @@ impl Parser<Value> for Leaf {
             Leaf::Text(p) => p.meta(alloc),
             Leaf::NumberWord(p) => p.meta(alloc),
             Leaf::Word(p) => p.meta(alloc),
+            Leaf::Appname(p) => p.meta(alloc),
             Leaf::Pure(p) => p.meta(alloc),
             Leaf::PureWith(p) => p.meta(alloc),
             Leaf::Fail(p) => p.meta(alloc),
@@ -171,6 +180,7 @@ impl Parser<Value> for Leaf {
       | Text p ↦ told_lawful _ (argument_lawful _ _ _)
       | NumberWord p ↦ told_lawful _ (positional_lawful _ _ _ _)
       | Word p ↦ told_lawful _ (positional_lawful _ _ _ _)
+      | Appname p ↦ told_lawful _ appname_lawful
       | Pure p ↦ pure_lawful _
       | PureWith p ↦ pure_lawful _
       | Fail p ↦ pure_lawful _

@@ -2,7 +2,7 @@ use crate::as_value::AsValue;
 use crate::kind::{Kind, Modifier};
 use crate::leaf::{Answer, Leaf};
 use crate::value::Value;
-use bpaf::{NamedArg, fail, positional, pure};
+use bpaf::{NamedArg, appname, fail, positional, pure};
 use std::marker::PhantomData;
 
 fn as_value<T, P>(inner: P) -> AsValue<T, P> {
@@ -29,6 +29,7 @@ pub fn bare_leaf(token: &str) -> Option<Leaf> {
         "psn" | "positional_text_non_strict" => {
             Some(Leaf::Word(as_value(positional::<String>("S").non_strict())))
         }
+        "appname" => Some(Leaf::Appname(as_value(appname()))),
         "fail" => Some(Leaf::Fail(fail::<Value>("no"))),
         "pwerr" | "pure_with_fault" => Some(Leaf::PureWith(Answer { number: None })),
         _ => None,
@@ -129,10 +130,16 @@ pub fn is_choice(token: &str) -> bool {
     token == "ch" || token == "choice"
 }
 
+/// Whether the names of a command and one parser follow.
+pub fn is_command(token: &str) -> bool {
+    token == "cmd" || token == "command"
+}
+
 /// Whether other parsers follow.
 pub fn is_combination(token: &str) -> bool {
     modifier(token).is_some()
         || numbered_modifier(token, 0).is_some()
         || several_kind(token).is_some()
         || is_choice(token)
+        || is_command(token)
 }
