@@ -1,5 +1,5 @@
 -- A level: what its kind makes of the inner parsers.
-use Rattle.std.specs.Prelude.{◌≡◌, List, ℕ, Option, codes, true}
+use Rattle.std.specs.Prelude.{◌≡◌, List, ℕ, Option, None, codes, true}
 use Rattle.std.specs.Global.{Vec}
 use Rattle.std.specs.declared.collections.VecDeque.{VecDeque}
 use Rattle.std.specs.declared.alloc.Global.{Global}
@@ -22,6 +22,8 @@ use Rattle.bpaf_laws.proofs.RepeatLaws.{many_lawful, some_lawful}
 use Rattle.bpaf_laws.proofs.RepeatLaws.{collect_lawful, count_lawful, last_lawful}
 use Rattle.bpaf_laws.specs.Choices.{ChoicesOutcome, ChoicesReads, ChoicesDescribes}
 use Rattle.bpaf_laws.proofs.ChoicesLaws.{choices_lawful}
+use Rattle.bpaf_laws.specs.Command.{CommandDescribes}
+use Rattle.bpaf_described.specs.Commands.{CalledOutcome, CalledReads, called_lawful}
 use Rattle.bpaf_described.specs.Told.{ToldOutcome, told_lawful}
 use Rattle.bpaf_described.specs.Values.{ToldOption, ToldQueue}
 use Rattle.bpaf_described.specs.Closures.{IsHalf, Accepts, Checks, Given, untold}
@@ -146,12 +148,15 @@ over_lawful clones (over.Fallback n) law = fallback_lawful law (GivesClone clone
 over_lawful clones (over.FallbackWith number) law = fallback_lawful law (GivesNumber number)
 over_lawful clones over.Hide law = hide_lawful law
 
--- what a level answers: a modifier is over the choice of all its parsers
-abbrev pub LevelOutcome : {P : Type 0} → (P → Outcome Value) → Clones → Kind → List P
-    → Outcome Value
-LevelOutcome outcome clones (kind.Over m) ps = OverOutcome clones m (ChoicesOutcome outcome ps)
-LevelOutcome outcome clones kind.Product ps = TupleOutcome outcome ps
-LevelOutcome outcome clones kind.OrElse ps = OrElseOutcome outcome ps
+-- what a level answers: a modifier and a command are over the choice of all its parsers
+abbrev pub LevelOutcome : {P : Type 0} → (P → Outcome Value) → (P → Shape → Type 0) → Clones → Kind
+    → List P → Outcome Value
+LevelOutcome outcome describes clones (kind.Over m) ps =
+    OverOutcome clones m (ChoicesOutcome outcome ps)
+LevelOutcome outcome describes clones kind.Product ps = TupleOutcome outcome ps
+LevelOutcome outcome describes clones kind.OrElse ps = OrElseOutcome outcome ps
+LevelOutcome outcome describes clones (kind.Command called) ps =
+    CalledOutcome called (ChoicesOutcome outcome ps) (ChoicesDescribes describes ps)
 
 -- what is read of it
 abbrev pub LevelReads : {P : Type 0} → (P → Readings Value) → Clones → Kind → List P
@@ -159,6 +164,7 @@ abbrev pub LevelReads : {P : Type 0} → (P → Readings Value) → Clones → K
 LevelReads reads clones (kind.Over m) ps = OverReads clones m (ChoicesReads reads ps)
 LevelReads reads clones kind.Product ps = TupleReads reads ps
 LevelReads reads clones kind.OrElse ps = OrElseReads reads ps
+LevelReads reads clones (kind.Command called) ps = CalledReads called (ChoicesReads reads ps)
 
 -- what it shows
 abbrev pub LevelDescribes : {P : Type 0} → (P → Shape → Type 0) → Kind → List P → Shape → Type 0
@@ -166,12 +172,17 @@ LevelDescribes describes (kind.Over m) ps shape =
     OverDescribes m (ChoicesDescribes describes ps) shape
 LevelDescribes describes kind.Product ps shape = TupleDescribes describes ps shape
 LevelDescribes describes kind.OrElse ps shape = OrElseDescribes describes ps shape
+LevelDescribes describes (kind.Command called) ps shape =
+    CommandDescribes called None (ChoicesDescribes describes ps) shape
 
 -- it keeps to the laws where its parsers do
 pub level_lawful : {P : Type 0} (outcome : P → Outcome Value) (reads : P → Readings Value)
-    (clones : Clones) (k : Kind) (ps : List P) → ((p : P) → Lawful Value (outcome p) (reads p))
-    → Lawful Value (LevelOutcome outcome clones k ps) (LevelReads reads clones k ps)
-level_lawful outcome reads clones (kind.Over m) ps each =
+    (describes : P → Shape → Type 0) (clones : Clones) (k : Kind) (ps : List P)
+    → ((p : P) → Lawful Value (outcome p) (reads p))
+    → Lawful Value (LevelOutcome outcome describes clones k ps) (LevelReads reads clones k ps)
+level_lawful outcome reads describes clones (kind.Over m) ps each =
     over_lawful clones m (choices_lawful outcome reads ps each)
-level_lawful outcome reads clones kind.Product ps each = tuple_lawful outcome reads ps each
-level_lawful outcome reads clones kind.OrElse ps each = or_else_lawful outcome reads ps each
+level_lawful outcome reads describes clones kind.Product ps each = tuple_lawful outcome reads ps each
+level_lawful outcome reads describes clones kind.OrElse ps each = or_else_lawful outcome reads ps each
+level_lawful outcome reads describes clones (kind.Command called) ps each =
+    called_lawful called (ChoicesDescribes describes ps) (choices_lawful outcome reads ps each)

@@ -1,3 +1,5 @@
+use bpaf::parsers::CommandNames;
+
 /// What is made of one parser.
 #[derive(Clone, Copy)]
 pub enum Modifier {
@@ -30,7 +32,7 @@ pub enum Modifier {
 }
 
 /// What a level makes of its inner parsers.
-#[derive(Clone, Copy)]
+#[derive(Drop)]
 pub enum Kind {
     /// A modifier of the choice of all of them.
     Over(Modifier),
@@ -38,4 +40,6 @@ pub enum Kind {
     Product,
     /// The choice of two or three, as `or_else` writes it.
     OrElse,
+    /// A command of these names over the choice of all of them.
+    Command(CommandNames),
 }

@@ -3,7 +3,7 @@ use crate::closures::give;
 use crate::one_text::OneText;
 use crate::value::Value;
 use bpaf::params::{ParseArgument, ParseFlag, ParsePositional};
-use bpaf::parsers::{ParseFail, ParseLiteral, ParsePure, ParsePureWith};
+use bpaf::parsers::{ParseAppname, ParseFail, ParseLiteral, ParsePure, ParsePureWith};
 use bpaf::{Error, Meta, Parser, State};
 use std::alloc::{AllocError, Global};
 use std::marker::PhantomData;
@@ -68,6 +68,8 @@ pub enum Leaf {
     Literal(AsValue<(), ParseLiteral>),
     /// An item that a check of its text accepts.
     Any(OneText),
+    /// The name by which the program is called.
+    Appname(AsValue<String, ParseAppname>),
     /// A kept value.
     Pure(ParsePure<Value>),
     /// A closure's answer.
@@ -80,12 +82,13 @@ impl Parser<Value> for Leaf {
     ghost use Rattle.bpaf_laws.proofs.FlagLaws.{flag_lawful};
     ghost use Rattle.bpaf_laws.proofs.ArgumentLaws.{argument_lawful};
     ghost use Rattle.bpaf.specs.PositionalLaws.{positional_lawful};
+    ghost use Rattle.bpaf_laws.proofs.AppnameLaws.{appname_lawful};
     ghost use Rattle.bpaf_laws.proofs.PureLaws.{pure_lawful};
     ghost use Rattle.bpaf_laws.proofs.AnyLaws.{any_lawful};
     ghost use Rattle.bpaf_described.specs.declared.leaf.Leaf.TheVariants.{Switch, Flag, Number};
     ghost use Rattle.bpaf_described.specs.declared.leaf.Leaf.TheVariants.{Integer, Text, NumberWord};
     ghost use Rattle.bpaf_described.specs.declared.leaf.Leaf.TheVariants.{Word, Pure, PureWith, Fail};
-    ghost use Rattle.bpaf_described.specs.declared.leaf.Leaf.TheVariants.{Literal, Any};
+    ghost use Rattle.bpaf_described.specs.declared.leaf.Leaf.TheVariants.{Literal, Any, Appname};
     ghost use Rattle.bpaf_described.specs.Told.{told_lawful};
 
     ghost can_eval = { elim [
@@ -98,6 +101,7 @@ impl Parser<Value> for Leaf {
       | Word p ↦ ⟦<AsValue<String, ParsePositional<String>> as Parser<Value>>⟧.can_eval p
       | Literal p ↦ ⟦<AsValue<(), ParseLiteral> as Parser<Value>>⟧.can_eval p
       | Any p ↦ ⟦<OneText as Parser<Value>>⟧.can_eval p
+      | Appname p ↦ ⟦<AsValue<String, ParseAppname> as Parser<Value>>⟧.can_eval p
       | Pure p ↦ ⟦<ParsePure<Value> as Parser<Value>>⟧.can_eval p
       | PureWith p ↦ ⟦<Answer as Parser<Value>>⟧.can_eval p
       | Fail p ↦ ⟦<ParseFail<Value> as Parser<Value>>⟧.can_eval p
@@ -113,6 +117,7 @@ impl Parser<Value> for Leaf {
       | Word p ↦ ⟦<AsValue<String, ParsePositional<String>> as Parser<Value>>⟧.describes p
       | Literal p ↦ ⟦<AsValue<(), ParseLiteral> as Parser<Value>>⟧.describes p
       | Any p ↦ ⟦<OneText as Parser<Value>>⟧.describes p
+      | Appname p ↦ ⟦<AsValue<String, ParseAppname> as Parser<Value>>⟧.describes p
       | Pure p ↦ ⟦<ParsePure<Value> as Parser<Value>>⟧.describes p
       | PureWith p ↦ ⟦<Answer as Parser<Value>>⟧.describes p
       | Fail p ↦ ⟦<ParseFail<Value> as Parser<Value>>⟧.describes p
@@ -128,6 +133,7 @@ impl Parser<Value> for Leaf {
       | Word p ↦ ⟦<AsValue<String, ParsePositional<String>> as Parser<Value>>⟧.reads p
       | Literal p ↦ ⟦<AsValue<(), ParseLiteral> as Parser<Value>>⟧.reads p
       | Any p ↦ ⟦<OneText as Parser<Value>>⟧.reads p
+      | Appname p ↦ ⟦<AsValue<String, ParseAppname> as Parser<Value>>⟧.reads p
       | Pure p ↦ ⟦<ParsePure<Value> as Parser<Value>>⟧.reads p
       | PureWith p ↦ ⟦<Answer as Parser<Value>>⟧.reads p
       | Fail p ↦ ⟦<ParseFail<Value> as Parser<Value>>⟧.reads p
@@ -143,6 +149,7 @@ impl Parser<Value> for Leaf {
       | Word p ↦ ⟦<AsValue<String, ParsePositional<String>> as Parser<Value>>⟧.outcome p
       | Literal p ↦ ⟦<AsValue<(), ParseLiteral> as Parser<Value>>⟧.outcome p
       | Any p ↦ ⟦<OneText as Parser<Value>>⟧.outcome p
+      | Appname p ↦ ⟦<AsValue<String, ParseAppname> as Parser<Value>>⟧.outcome p
       | Pure p ↦ ⟦<ParsePure<Value> as Parser<Value>>⟧.outcome p
       | PureWith p ↦ ⟦<Answer as Parser<Value>>⟧.outcome p
       | Fail p ↦ ⟦<ParseFail<Value> as Parser<Value>>⟧.outcome p
@@ -159,6 +166,7 @@ impl Parser<Value> for Leaf {
             Leaf::Word(p) => p.eval(state),
             Leaf::Literal(p) => p.eval(state),
             Leaf::Any(p) => p.eval(state),
+            Leaf::Appname(p) => p.eval(state),
             Leaf::Pure(p) => p.eval(state),
             Leaf::PureWith(p) => p.eval(state),
             Leaf::Fail(p) => p.eval(state),
@@ -176,6 +184,7 @@ impl Parser<Value> for Leaf {
             Leaf::Word(p) => p.meta(alloc),
             Leaf::Literal(p) => p.meta(alloc),
             Leaf::Any(p) => p.meta(alloc),
+            Leaf::Appname(p) => p.meta(alloc),
             Leaf::Pure(p) => p.meta(alloc),
             Leaf::PureWith(p) => p.meta(alloc),
             Leaf::Fail(p) => p.meta(alloc),
@@ -192,6 +201,7 @@ impl Parser<Value> for Leaf {
       | Word p ↦ told_lawful _ (positional_lawful _ _ _ _)
       | Literal p ↦ told_lawful _ (any_lawful _ _ _ _)
       | Any p ↦ any_lawful _ _ _ _
+      | Appname p ↦ told_lawful _ appname_lawful
       | Pure p ↦ pure_lawful _
       | PureWith p ↦ pure_lawful _
       | Fail p ↦ pure_lawful _

@@ -3,7 +3,7 @@ use crate::kind::{Kind, Modifier};
 use crate::leaf::{Answer, Leaf};
 use crate::one_text::OneText;
 use crate::value::Value;
-use bpaf::{NamedArg, fail, literal, positional, pure};
+use bpaf::{NamedArg, appname, fail, literal, positional, pure};
 use std::alloc::{AllocError, Global};
 use std::marker::PhantomData;
 
@@ -31,6 +31,7 @@ pub fn bare_leaf(token: &str) -> Option<Leaf> {
         "psn" | "positional_text_non_strict" => {
             Some(Leaf::Word(as_value(positional::<String>("S").non_strict())))
         }
+        "appname" => Some(Leaf::Appname(as_value(appname()))),
         "fail" => Some(Leaf::Fail(fail::<Value>("no"))),
         "pwerr" | "pure_with_fault" => Some(Leaf::PureWith(Answer { number: None })),
         _ => None,
@@ -152,10 +153,16 @@ pub fn is_choice(token: &str) -> bool {
     token == "ch" || token == "choice"
 }
 
+/// Whether the names of a command and one parser follow.
+pub fn is_command(token: &str) -> bool {
+    token == "cmd" || token == "command"
+}
+
 /// Whether other parsers follow.
 pub fn is_combination(token: &str) -> bool {
     modifier(token).is_some()
         || numbered_modifier(token, 0).is_some()
         || several_kind(token).is_some()
         || is_choice(token)
+        || is_command(token)
 }

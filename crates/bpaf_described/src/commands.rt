@@ -1,0 +1,61 @@
+ghost use Rattle.std.specs.Prelude.{◌≡◌, IfOk, None};
+ghost use Rattle.bpaf_doc.specs.Shape.{shape_of};
+ghost use Rattle.bpaf_laws.specs.Command.{CommandDescribes};
+ghost use Rattle.bpaf_described.specs.Commands.{CalledOutcome};
+
+use crate::lent::Lent;
+use crate::value::Value;
+use bpaf::parsers::{CommandNames, ParseCommand};
+use bpaf::{Error, Info, Meta, OptionParser, Parser, State};
+use std::alloc::{AllocError, Global};
+use std::marker::PhantomData;
+
+/// The run of a parser that is lent.
+fn run_of<'p, P>(inner: &'p P, alloc: Global) -> OptionParser<Value, Lent<'p, P>>
+    ensures { result.inner.inner.now ≡ inner.now }
+{
+    OptionParser {
+        inner: Lent { inner },
+        info: Info::new(),
+        alloc,
+        of: PhantomData,
+    }
+}
+
+/// The value of a parser that runs behind a command of these names.
+pub fn called<P: Parser<Value>>(
+    names: &CommandNames,
+    inner: &P,
+    state: &mut State,
+) -> Result<Value, Error>
+    requires { P.can_eval inner.now }
+    ensures { CalledOutcome names.now (P.outcome inner.now) (P.describes inner.now)
+        state.old result state.new }
+{
+    let names = names.copy()?;
+    let parser: ParseCommand<Value, Lent<'_, P>> = ParseCommand {
+        names,
+        help: None,
+        subparser: run_of(inner, state.alloc()),
+    };
+    parser.eval(state)
+}
+
+/// What such a command shows.
+pub fn called_meta<P: Parser<Value>>(
+    names: &CommandNames,
+    inner: &P,
+    alloc: Global,
+) -> Result<Meta, AllocError>
+    requires { P.can_eval inner.now }
+    ensures { IfOk result (λ meta.
+        CommandDescribes names.now None (P.describes inner.now) (shape_of meta)) }
+{
+    let names = names.copy()?;
+    let parser: ParseCommand<Value, Lent<'_, P>> = ParseCommand {
+        names,
+        help: None,
+        subparser: run_of(inner, alloc),
+    };
+    <ParseCommand<Value, Lent<'_, P>> as Parser<Value>>::meta(&parser, alloc)
+}
