@@ -124,14 +124,9 @@ impl Write for Narrow {
             self.interrupted = true;
             return Err(io::Error::from(io::ErrorKind::Interrupted));
         }
-        let mut count = 0;
-        for byte in buf {
-            if count == 2 || self.taken.len() == self.room {
-                break;
-            }
-            self.taken.push(*byte)?;
-            count += 1;
-        }
+        let count = buf.len().min(2).min(self.room);
+        self.taken.extend_from_slice(&buf[..count])?;
+        self.room -= count;
         Ok(count)
     }
 
