@@ -24,6 +24,10 @@
 //!   [`this_or_that`] tells which answer stands (specs/Choice.antt). That function, [`Start`],
 //!   [`Branch`], [`or_meta`] and [`is_want`] are for the crates of this repository, not for callers.
 //!   The branch that took the leftmost place taken by only one of them wins (clause `leftmost_wins`).
+//! - [`ParseCommand`], which [`command`] and [`OptionParser::command`] make, is a word that opens a
+//!   run of its own over the items behind it (specs/Command.antt). It answers a value only where that
+//!   run leaves nothing in the scope that the command was given (clause `command_leaves_nothing`),
+//!   and catches no want of memory.
 //! - [`OptionParser::run_inner`] runs a parser over words. It answers a value only where that is
 //!   dealt out of the words: read off all items of their line but the first `--`, each used once
 //!   (specs/Dealt.antt), whatever the parser's type.
