@@ -81,7 +81,8 @@ impl Parser<Value> for Leaf {
     ghost use Rattle.bpaf_laws.proofs.PureLaws.{pure_lawful};
     ghost use Rattle.bpaf_described.specs.declared.leaf.Leaf.TheVariants.{Switch, Flag, Number};
     ghost use Rattle.bpaf_described.specs.declared.leaf.Leaf.TheVariants.{Integer, Text, NumberWord};
-    ghost use Rattle.bpaf_described.specs.declared.leaf.Leaf.TheVariants.{Word, Appname, Pure, PureWith, Fail};
+    ghost use Rattle.bpaf_described.specs.declared.leaf.Leaf.TheVariants.{Word, Appname, Pure};
+    ghost use Rattle.bpaf_described.specs.declared.leaf.Leaf.TheVariants.{PureWith, Fail};
     ghost use Rattle.bpaf_described.specs.Told.{told_lawful};
 
     ghost can_eval = { elim [
