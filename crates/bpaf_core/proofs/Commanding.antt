@@ -11,7 +11,8 @@ use Rattle.bpaf_laws.specs.Command.{Called, IsOpenedAt, OpensScope, inside, open
 use Rattle.bpaf_core.specs.Run.{Runs}
 use Rattle.bpaf_core.specs.Command.{CommandOutcome, IsMissingPart, ended, end_message, missing, no_memory, value}
 
-module _ {T : Type 0} (inner : Outcome T) (called : Called) (shows : Part → Type 0) (s : Situation) where
+module _ {T : Type 0} (inner : Outcome T) (called : Called) (shows : Part → Type 0)
+    (s : Situation) where
   -- the word isn't there
   pub not_there : (m : Situation) (is : Bool) (e : Error) → is ≡ false
       → OpensScope (opening_words called) s is m → IsMissingPart shows m e.0

@@ -13,7 +13,8 @@ use Rattle.bpaf_laws.specs.Reading.{Outcome}
 use Rattle.bpaf_laws.specs.Command.{Called, IsNotOpened, IsOpenedAt, inside, opened, opening_words}
 use Rattle.bpaf_core.specs.Run.{Runs}
 
--- the end of an inner run as a refusal, which nothing but `catch` catches; want of memory stays that
+-- the end of an inner run as a refusal, which nothing but `catch` catches; want of memory stays
+-- that
 abbrev pub end_message : ParseFailure → Message
 end_message failure.Memory = message.Memory
 end_message (failure.Stdout text full) = message.ParseFailure (failure.Stdout text full)

@@ -2,7 +2,8 @@
 ghost use Rattle.std.specs.Prelude.{◌≡◌, [], ◌∷◌, map, encode_utf8, slice_get, IfOk, Some};
 ghost use Rattle.bpaf_doc.specs.Shape.{part_of};
 ghost use Rattle.bpaf_laws.specs.Command.{CommandPart, OpensScope, TakesOpening};
-ghost use Rattle.bpaf_laws.specs.Command.{named_only, opening_words, with_long_name, with_short_name};
+ghost use Rattle.bpaf_laws.specs.Command.{named_only, opening_words};
+ghost use Rattle.bpaf_laws.specs.Command.{with_long_name, with_short_name};
 ghost use Rattle.bpaf_core.specs.Command.{IsMissingPart, end_message};
 ghost use Rattle.bpaf_core.specs.Info.{short_descr};
 
@@ -57,7 +58,8 @@ fn take_long(state: &mut State, words: &[Text]) -> Option<usize>
     None
 }
 
-/// Takes the first present item in scope, where it is the word of one of these characters: its place.
+/// Takes the first present item in scope, where it is the word of one of these characters: its
+/// place.
 fn take_short(state: &mut State, shorts: &[char]) -> Option<usize>
     ensures { TakesOpening (map encode_utf8 shorts.now) state.old result state.new }
 {
@@ -170,8 +172,8 @@ pub struct ParseCommand<T, P> {
 
 /// A command of this name, which runs the parser over the items behind it (bpaf's `command`).
 ///
-/// Its help is the first line of the parser's description, where it has one. Refused only for want of
-/// memory, and then the parser is gone; the allocator is the parser's own.
+/// Its help is the first line of the parser's description, where it has one. Refused only for want
+/// of memory, and then the parser is gone; the allocator is the parser's own.
 ///
 /// ```text
 /// let build = command("build", num.to_options(alloc)?)?.short('b')?;
@@ -194,7 +196,8 @@ pub fn command<T, P: Drop>(
 }
 
 impl<T, P: Drop> OptionParser<T, P> {
-    /// The command of this name that runs this parser (bpaf's `OptionParser::command`): [`command`].
+    /// The command of this name that runs this parser, as [`command`] (bpaf's
+    /// `OptionParser::command`).
     ///
     /// ```text
     /// num.to_options(alloc)?.command("build")?
@@ -209,8 +212,8 @@ impl<T, P: Drop> OptionParser<T, P> {
 }
 
 impl<T, P: Drop> ParseCommand<T, P> {
-    /// The command with this help, in place of the one that it has (bpaf's `ParseCommand::help`). It
-    /// takes no memory.
+    /// The command with this help, in place of the one that it has (bpaf's `ParseCommand::help`).
+    /// It takes no memory.
     pub fn help(mut self, help: Doc) -> ParseCommand<T, P>
         ensures { result ≡ record self { help = Some help } }
     {
@@ -300,8 +303,8 @@ fn end_message(failure: ParseFailure) -> Message
 /// The value of the inner run over the items behind the command's word; Ok only where that leaves
 /// nothing present in scope.
 ///
-/// Where the first present item in scope isn't its word, its item is missing. A refusal of the inner run
-/// is ParseFailure, which nothing but `catch` catches; want of memory stays that.
+/// Where the first present item in scope isn't its word, its item is missing. A refusal of the inner
+/// run is ParseFailure, which nothing but `catch` catches; want of memory stays that.
 impl<T: Drop, P: Parser<T>> Parser<T> for ParseCommand<T, P> {
     ghost use Rattle.std.specs.Prelude.{IfOk};
     ghost use Rattle.bpaf_laws.specs.Command.{CommandDescribes, CommandPart, CommandReads};

@@ -27,6 +27,10 @@
 //! - [`ParseHide`] names no missing item in its refusals (specs/Hide.antt); [`ParseUsage`],
 //!   [`ParseGroupHelp`] and [`ParseWithGroupHelp`] change only what is shown: their outcome, their
 //!   readings and their law are those of the parser inside.
+//! - [`ParseCommand`], which [`command`] and [`OptionParser::command`] make, is a word that opens a
+//!   run of its own over the items behind it (specs/Command.antt). It answers a value only where that
+//!   run leaves nothing in the scope that the command was given (clause `command_leaves_nothing`),
+//!   and catches no want of memory.
 //! - [`OptionParser::run_inner`] runs a parser over words. It answers a value only where that is
 //!   dealt out of the words: read off all items of their line but the first `--`, each used once
 //!   (specs/Dealt.antt), whatever the parser's type.

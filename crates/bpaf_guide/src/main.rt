@@ -8,6 +8,7 @@
 #![tactic(auto)]
 
 mod closures;
+mod commands;
 mod keys;
 mod options;
 mod toggle;

@@ -101,8 +101,8 @@ fn want_of_memory_is_known(rt: HostRuntime) -> Result<(), Fail> {
     Ok(())
 }
 
-/// How Rust's Debug prints a copy of the keys of a run, where none is set.
-const KEYS: &str = "Info { help_arg: None, version_arg: None }";
+/// How Rust's Debug prints a copy of what a run knows, where nothing is set.
+const KEYS: &str = "Info { help_arg: None, version_arg: None, descr: None }";
 
 #[test]
 fn keys_of_a_run_are_copied(rt: HostRuntime) -> Result<(), Fail> {

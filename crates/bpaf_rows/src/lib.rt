@@ -11,6 +11,8 @@ mod calls;
 #[cfg(test)]
 mod combinators;
 #[cfg(test)]
+mod commands;
+#[cfg(test)]
 mod counting;
 #[cfg(test)]
 mod failures;

@@ -33,9 +33,9 @@ returns-in-Ok-clause-outcome g c =
     let p = c.args.self.now in
     answered (g.P.Parser.outcome p.subparser.inner) p.names
     (CommandPart p.names p.help (g.P.Parser.describes p.subparser.inner)) c.args.state.now
-    c.open.new.state c.push_path.new.self c.run_from.new.state c.open.result c.name.result.now c.in-Ok.value
-    c.if-not-open.false c.open.ensures
-    c.name.ensures c.in_ok-push_path.ensures.ok
+    c.open.new.state c.push_path.new.self c.run_from.new.state c.open.result c.name.result.now
+    c.in-Ok.value c.if-not-open.false c.open.ensures c.name.ensures
+    c.in_ok-push_path.ensures.ok
     c.in-Ok.ensures
 
 pub returns-in-Ok-clause-command_leaves_nothing : goal.returns-in-Ok-clause-command_leaves_nothing
@@ -57,8 +57,8 @@ returns-in-Err-clause-outcome g c =
     let p = c.args.self.now in
     run_refused (g.P.Parser.outcome p.subparser.inner) p.names
     (CommandPart p.names p.help (g.P.Parser.describes p.subparser.inner)) c.args.state.now
-    c.open.new.state c.push_path.new.self c.run_from.new.state c.open.result c.name.result.now c.in-Err.failure
-    (record { 0 = c.end_message.result }) c.if-not-open.false c.open.ensures
+    c.open.new.state c.push_path.new.self c.run_from.new.state c.open.result c.name.result.now
+    c.in-Err.failure (record { 0 = c.end_message.result }) c.if-not-open.false c.open.ensures
     c.name.ensures c.in_ok-push_path.ensures.ok
     c.in-Err.ensures c.end_message.ensures
 

@@ -1,0 +1,33 @@
+//! A program with commands.
+use crate::keys::{num, verbose};
+use bpaf::params::{ParseArgument, ParseFlag};
+use bpaf::parsers::ParseCommand;
+use bpaf::{Args, Doc, ParseFailure, Parser, command, construct};
+use std::alloc::{AllocError, Global};
+
+/// What the program is asked to do.
+#[derive(Drop)]
+pub enum Task {
+    Build(u64),
+    Clean(bool),
+}
+
+/// `build -n 3`, and `b -n 3`.
+pub fn build(alloc: Global) -> Result<ParseCommand<u64, ParseArgument<u64>>, AllocError> {
+    let descr = Doc::from_text(alloc, "Builds with so many jobs")?;
+    let options = num(alloc)?.to_options(alloc)?.descr(descr);
+    options.command("build")?.short('b')
+}
+
+/// `clean`, and `clean -v`.
+pub fn clean(alloc: Global) -> Result<ParseCommand<bool, ParseFlag<bool>>, AllocError> {
+    command("clean", verbose(alloc)?.to_options(alloc)?)
+}
+
+/// The task that the words give.
+pub fn read_task(alloc: Global, words: &[String]) -> Result<Task, ParseFailure> {
+    let build = build(alloc)?.map(|jobs| Task::Build(jobs));
+    let clean = clean(alloc)?.map(|tell| Task::Clean(tell));
+    let options = construct!([build, clean]).to_options(alloc)?;
+    options.run_once(Args::from(words))
+}
