@@ -2,7 +2,7 @@
 use Rattle.std.proofs.Common.{◌≡◌, ◌≢◌, ℕ, zero, suc, ◌*◌, ◌<◌, ◌≤◌, ◌==◌, Bool, true, false, not}
 use Rattle.std.proofs.Common.{◌&&◌, ◌||◌, List, [], ◌∷◌, ◌++◌, Option, Some, None, length, take}
 use Rattle.std.proofs.Common.{drop, refl, ap, sym, ◌∙◌, subst, arith, ⊎_elim, nat_lt, slice_index}
-use Rattle.std.proofs.Common.{add-one, if◌then◌else◌, true≢false}
+use Rattle.std.proofs.Common.{add-one, if◌then◌else◌, true≢false, Result, Ok, Err, OnOk}
 use Rattle.std.proofs.lemmas.Bool.{cases_eq, ne_eqb, eq-eqb, or_right, ltb-true, ltb-false}
 use Rattle.std.proofs.lemmas.List.{take_more, take_all, take-append-drop}
 use Rattle.std.proofs.lemmas.List.Folds.{list_any-append}
@@ -269,6 +269,11 @@ module _ (i : Inside) (s : Situation) (mark : Mark) (steps : Changes) (sound : I
         (subst (λ ps. IsLeastIn (is_in_first ps theirs) a) same_own mine))
         (subst (λ ps. IsLeastIn (is_in_first ps (drop mark.taken s.trail)) b) same_theirs
         (subst (λ ps. IsLeastIn (is_in_first theirs ps) b) same_own other))
+
+-- what follows from what holds where there is a value holds there too
+pub where_ok : {T E A B : Type 0} (r : Result T E) → (A → B) → OnOk r A → OnOk r B
+where_ok (Ok v) follows a = follows a
+where_ok (Err e) follows a = tt
 
 -- the pairs of those of some places that are present
 abbrev pub PairsOf : Situation → ℕ → List ℕ → List (ℕ × ℕ) → Type 0

@@ -1,4 +1,4 @@
-ghost use Rattle.std.specs.Prelude.{ℕ, ◌≡◌, ◌&&◌, not, IfOk, OnOk, OnErr, None, Some, if◌then◌else◌};
+ghost use Rattle.std.specs.Prelude.{ℕ, ◌≡◌, ◌&&◌, ◌++◌, List, not, OnOk, OnErr, None, Some, if◌then◌else◌};
 ghost use Rattle.bpaf_line.specs.Situation.{is_on, is_taken, conflict_at, last_of};
 ghost use Rattle.bpaf_line.specs.Marks.{HasReached, CanRedo, KeepsMarks, undone, redone};
 ghost use Rattle.bpaf_line.specs.Conflicts.{IsWinner, ConflictsSaved, first_conflict, leftmost_of};
@@ -7,6 +7,7 @@ use crate::bits;
 use crate::mark::{Mark, Steps};
 use crate::state::State;
 use std::alloc::AllocError;
+use std::mem;
 
 impl State {
     /// The leftmost place that is taken in only one of two situations, and whether it is taken in
@@ -33,23 +34,38 @@ impl State {
         ensures marks { KeepsMarks self.old self.new }
         ensures err { OnErr result (self.new ≡ self.old) }
     {
-        let mut pairs = self.excluded(loser.taken.as_slice(), winner)?;
-        self.conflicts.append(&mut pairs)?;
-        Ok(())
+        let alloc = self.alloc();
+        let mut conflicts = mem::replace(&mut self.conflicts, Vec::new(alloc));
+        let saved = self.exclude(loser.taken.as_slice(), winner, &mut conflicts);
+        self.conflicts = conflicts;
+        saved
     }
 
-    /// The places among some that are present, each with the place handed in.
-    fn excluded(&self, taken: &[usize], winner: usize) -> Result<Vec<(usize, usize)>, AllocError>
-        ensures { IfOk result (λ pairs. (p : ℕ) → last_of pairs.items p
-            ≡ (if not (is_taken self.now p) && is_on taken.now p then Some winner else None)) }
+    /// Appends those of some places that are present, each with the place handed in; refused only for
+    /// want of memory, and then nothing is appended.
+    fn exclude(
+        &self,
+        taken: &[usize],
+        winner: usize,
+        conflicts: &mut Vec<(usize, usize)>,
+    ) -> Result<(), AllocError>
+        ensures ok { OnOk result ((pairs : List (ℕ × ℕ))
+            × (conflicts.new.items ≡ conflicts.old.items ++ pairs)
+            × ((p : ℕ) → last_of pairs p
+            ≡ (if not (is_taken self.now p) && is_on taken.now p then Some winner else None))) }
+        ensures err { OnErr result (conflicts.new.items ≡ conflicts.old.items) }
     {
-        let mut pairs = Vec::new(self.alloc());
+        let before = conflicts.len();
         for place in taken {
-            if !self.is_taken(*place) {
-                pairs.push((*place, winner))?;
+            if self.is_taken(*place) {
+                continue;
+            }
+            if let Err(refused) = conflicts.push((*place, winner)) {
+                conflicts.truncate(before);
+                return Err(refused.into());
             }
         }
-        Ok(pairs)
+        Ok(())
     }
 
     /// What the conflict mark of a place names, where it has one; a taken place has none.
