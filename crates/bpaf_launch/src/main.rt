@@ -11,7 +11,7 @@
 //!                            a line each, status 0
 //! launch ls --dry-run        verbose: false, dry run: true, name: ls
 //! launch ls -l               Error: refused, on standard error, status 1
-//! launch ls x                Error: refused: a word is passed on only behind `--`
+//! launch ls x                the same, since a word is passed on only behind `--`
 //! ```
 //!
 //! What is proved of it: where the writers tell their bytes, status 0 comes only where the launch
