@@ -28,7 +28,8 @@ fn either(alloc: Global, words: &[&str]) -> Result<Option<u64>, AllocError> {
 fn help_of(
     made: Result<ParseCommand<u64, ParseArgument<u64>>, AllocError>,
 ) -> Result<Option<String>, AllocError> {
-    match made?.help {
+    let command = made?;
+    match &command.help {
         Some(help) => Ok(Some(help.monochrome(true)?)),
         None => Ok(None),
     }
