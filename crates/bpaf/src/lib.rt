@@ -35,8 +35,8 @@ pub use bpaf_line::{
 pub use bpaf_text::{FromList, FromText, NamedArg, TextFault, env, long, short};
 pub use bpaf_words::{Arg, Args, LentWord, Words, lines_are_unique, spellings_are_unique};
 pub use choices::{ParseChoice, choice};
-pub use leaves::appname::appname;
 pub use leaves::any::{ParseAny, any};
+pub use leaves::appname::appname;
 pub use leaves::literal::{ParseLiteral, literal};
 pub use leaves::positional::{ParsePositional, Position, positional};
 pub use leaves::pure::{fail, pure, pure_with};
