@@ -1,5 +1,6 @@
 -- How the answers of a command are put together.
-use Rattle.std.proofs.Common.{◌≡◌, ℕ, Bool, true, false, None, Result, Ok, Err, ⊎_elim, subst, sym, true≢false}
+use Rattle.std.proofs.Common.{◌≡◌, ℕ, Bool, true, false, None, Result, Ok, Err, ⊎_elim, subst}
+use Rattle.std.proofs.Common.{sym, true≢false}
 use Rattle.std.specs.Result.{IsErr, IsErrAnd}
 use Rattle.bpaf_doc.specs.Shape.{Part}
 use Rattle.bpaf_line.specs.declared.error.Error.{Error}

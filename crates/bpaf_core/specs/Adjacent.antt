@@ -1,4 +1,5 @@
--- What a command answers that may be adjacent: one that reads the items behind its word without a gap.
+-- What a command answers that may be adjacent, and then reads the items behind its word without a
+-- gap.
 use Rattle.std.specs.Prelude.{◌≡◌, ◌⊎◌, ℕ, ◌+◌, Bool, true, false, List, None, Result, Ok, Err}
 use Rattle.bpaf_doc.specs.Shape.{Part}
 use Rattle.bpaf_line.specs.declared.error.Error.{Error}
@@ -39,8 +40,8 @@ pub data Retry (T : Type 0) (inner : Outcome T) (s : Situation) (from end : ℕ)
 
 -- the failure that stands where the second attempt failed too: the first one, there where the first
 -- attempt led; or want of memory, back where both began
-abbrev pub GivesBack : ParseFailure → ParseFailure → Situation → Situation → ParseFailure → Situation
-    → Type 0
+abbrev pub GivesBack : ParseFailure → ParseFailure → Situation → Situation → ParseFailure
+    → Situation → Type 0
 GivesBack first second back there f t =
     (IsTold second × (f ≡ first) × (t ≡ there)) ⊎ ((f ≡ failure.Memory) × (t ≡ back))
 
@@ -61,8 +62,8 @@ AdjacentRuns T inner s (Ok v) t =
     × (t ≡ with_scope left s.start s.end)
 AdjacentRuns T inner s (Err f) t = Attempts T inner s (s.start + 1) (Err f) t
 
--- the word is there, and the attempts behind it answer a value, or refuse; or it isn't there, and the
--- command's part is missing; or there is no memory for the path
+-- the word is there, and the attempts behind it answer a value, or refuse; or it isn't there, and
+-- the command's part is missing; or there is no memory for the path
 pub data AdjacentOutcome (T : Type 0) (inner : Outcome T) (called : Called)
     (shows : Part → Type 0) (s : Situation) : Result T Error → Situation → Type 0 where
   counted : (v : T) (p : ℕ) (t : Situation) → IsOpenedAt (opening_words called) s p
@@ -94,8 +95,8 @@ abbrev pub RunsInside : Bool → (T : Type 0) → Outcome T → Situation → Re
 RunsInside true T inner s = AdjacentRuns T inner s
 RunsInside false T inner s = Runs T inner s
 
--- not going inside: the word isn't there, and the command's part is missing; or it is, and there is no
--- memory for the path
+-- not going inside: the word isn't there, and the command's part is missing; or it is, and there is
+-- no memory for the path
 abbrev pub StaysOutside : Called → (Part → Type 0) → Situation → Error → Situation → Type 0
 StaysOutside called shows s e t =
     (IsNotOpened (opening_words called) s × IsMissingPart shows s e.0 × (t ≡ with_current s None))

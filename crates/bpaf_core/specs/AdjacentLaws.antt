@@ -1,5 +1,5 @@
--- Commands that may be adjacent keep to the laws where their inner parsers do; an adjacent one takes one
--- run, and neither its first attempt nor its second catches want of memory.
+-- Commands that may be adjacent keep to the laws where their inner parsers do; an adjacent one takes
+-- one run, and neither its first attempt nor its second catches want of memory.
 use Rattle.std.specs.Prelude.{◌≡◌, ℕ, ◌+◌, ◌<◌, ◌≤◌, Bool, true, false, None, Result, Ok, Err, refl}
 use Rattle.std.proofs.Common.{sym, subst, arith, true≢false}
 use Rattle.bpaf_doc.specs.Shape.{Part}
@@ -20,7 +20,8 @@ use Rattle.bpaf_laws.proofs.Keeping.{keeps_refl, keeps_trans, keeps_unset}
 use Rattle.bpaf_laws.proofs.OneRun.{keeps_run}
 use Rattle.bpaf_core.specs.Adjacent.{AdjacentOutcome, Attempt, Attempts, IsTold, Retry}
 use Rattle.bpaf_core.specs.Adjacent.{counted, failed, first_counts, first_fails, no_path}
-use Rattle.bpaf_core.specs.Adjacent.{nothing_left, second_counts, second_fails, unnamed, wants_memory}
+use Rattle.bpaf_core.specs.Adjacent.{nothing_left, second_counts, second_fails, unnamed}
+use Rattle.bpaf_core.specs.Adjacent.{wants_memory}
 use Rattle.bpaf_core.specs.Adjacent.{EitherCommandOutcome, EitherCommandReads}
 use Rattle.bpaf_core.specs.CommandLaws.{IsNotWant, command_lawful, command_leaves_nothing}
 use Rattle.bpaf_core.specs.CommandLaws.{run_empty, run_read, runs_keeps, spared_command, spared_run}
@@ -42,7 +43,8 @@ module _ {T : Type 0} {inner : Outcome T} (s : Situation) (from : ℕ) where
   spared_retry end f t r u (second_counts v stop w told left ran) spared =
       second_counts v stop w told left (spared_run (with_scope s from stop) (Ok v) w ran tt)
   spared_retry end f t r u (second_fails g stop w told left ran again) spared =
-      second_fails g stop w told left (spared_run (with_scope s from stop) (Err g) w ran again) again
+      second_fails g stop w told left
+      (spared_run (with_scope s from stop) (Err g) w ran again) again
   spared_retry end f t r u wants_memory spared = absurd (true≢false spared)
 
   -- attempts whose end isn't want of memory rest on none

@@ -31,8 +31,9 @@ fn first_left(state: &State, from: usize, end: usize) -> Option<usize>
     None
 }
 
-/// The failure of a first attempt, where its steps led, since a second one failed too; want of memory
-/// at the mark, where the second one ended so, or memory for doing the steps again is refused.
+/// The failure of a first attempt, where its steps led, since a second one failed too; want of
+/// memory at the mark, where the second one ended so, or memory for doing the steps again is
+/// refused.
 fn first_failure(
     state: &mut State,
     mark: Mark,

@@ -1,5 +1,6 @@
 //! Commands: a word that opens a run of its own over the items after it.
-ghost use Rattle.std.specs.Prelude.{◌≡◌, ◌<◌, [], ◌∷◌, map, encode_utf8, slice_get, IfOk, Some, true, false};
+ghost use Rattle.std.specs.Prelude.{◌≡◌, ◌<◌, [], ◌∷◌, map, encode_utf8, slice_get, IfOk, Some};
+ghost use Rattle.std.specs.Prelude.{true, false};
 ghost use Rattle.bpaf_doc.specs.Shape.{part_of};
 ghost use Rattle.bpaf_laws.specs.Command.{CommandPart, OpensScope, TakesOpening};
 ghost use Rattle.bpaf_laws.specs.Command.{named_only, opening_words, with_long_name, with_short_name};
@@ -228,8 +229,8 @@ impl<T, P: Drop> ParseCommand<T, P> {
     /// may follow it (bpaf's `ParseCommand::adjacent`). It takes no memory.
     ///
     /// The parser runs over the unbroken run of present items behind the word. Where that fails, it
-    /// runs once more, over those before the first one that it left; where this fails too, the first
-    /// failure is the answer.
+    /// runs once more, over those before the first one that it left; where this fails too, the
+    /// first failure is the answer.
     ///
     /// ```text
     /// let turn = construct!(left, degrees).to_options(alloc)?.command("turn")?.adjacent();
@@ -326,8 +327,8 @@ impl<T: Drop, P: Parser<T>> ParseCommand<T, P> {
         Ok(())
     }
 
-    /// The run over all that is in scope; of an adjacent command the attempts behind its word, which
-    /// stands where the scope begins.
+    /// The run over all that is in scope; of an adjacent command the attempts behind its word,
+    /// which stands where the scope begins.
     fn run_inside(&self, state: &mut State) -> Result<T, ParseFailure>
         requires can { P.can_eval self.now.subparser.inner }
         requires word { state.old.start < state.old.end }
@@ -355,10 +356,10 @@ fn end_message(failure: ParseFailure) -> Message
 /// The value of the inner run over the items behind the command's word; Ok only where that leaves
 /// nothing present in scope.
 ///
-/// Where the first present item in scope isn't its word, its item is missing. A refusal of the inner run
-/// is ParseFailure, which nothing but `catch` catches; want of memory stays that. An adjacent command
-/// runs over the unbroken run of present items behind its word, or over a part of it, and leaves what
-/// follows to others.
+/// Where the first present item in scope isn't its word, its item is missing. A refusal of the inner
+/// run is ParseFailure, which nothing but `catch` catches; want of memory stays that. An adjacent
+/// command runs over the unbroken run of present items behind its word, or over a part of it, and
+/// leaves what follows to others.
 impl<T: Drop, P: Parser<T>> Parser<T> for ParseCommand<T, P> {
     ghost use Rattle.std.specs.Prelude.{◌≡◌, IfOk, true, false};
     ghost use Rattle.bpaf_laws.specs.Command.{CommandDescribes, CommandPart, LeavesNothing};

@@ -1,7 +1,9 @@
 -- What a parser takes that reads a run of present places, and leaves none of them.
-use Rattle.std.proofs.Common.{◌≡◌, ℕ, ◌<◌, ◌≤◌, Bool, true, false, not, ◌&&◌, nat_le, nat_lt, refl, sym, arith}
+use Rattle.std.proofs.Common.{◌≡◌, ℕ, ◌<◌, ◌≤◌, Bool, true, false, not, ◌&&◌, nat_le, nat_lt}
+use Rattle.std.proofs.Common.{refl, sym, arith}
 use Rattle.std.proofs.lemmas.Bool.Decides.{nat_tests}
-use Rattle.bpaf_line.specs.Situation.{Situation, in_scope, is_open, is_taken, open_count, with_scope}
+use Rattle.bpaf_line.specs.Situation.{Situation, in_scope, is_open, is_taken, open_count}
+use Rattle.bpaf_line.specs.Situation.{with_scope}
 use Rattle.bpaf_line.proofs.Places.{open_not_taken}
 use Rattle.bpaf_laws.specs.Laws.{Keeps, Closes, newly}
 use Rattle.bpaf_laws.proofs.CommandLaws.{leaves_nothing}
