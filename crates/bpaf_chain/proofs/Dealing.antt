@@ -1,5 +1,5 @@
 -- From what a run says of the program's parser to steps that are dealt out of the words.
-use Rattle.std.proofs.Common.{◌≡◌, ◌⊎◌, ℕ, ℤ, Bool, true, false, List, [], ◌∷◌, Option, Some}
+use Rattle.std.proofs.Common.{◌≡◌, ℕ, ℤ, Bool, true, false, List, [], ◌∷◌, Option, Some}
 use Rattle.std.proofs.Common.{Result, Ok, Err, IfOk, codes, inl, inr, ⊎_elim, subst}
 use Rattle.std.specs.Global.{Vec}
 use Rattle.bpaf_doc.specs.Shape.{Shape}
@@ -20,7 +20,7 @@ use Rattle.bpaf_laws.specs.Repeat.{EachReads, ListReads, ManyReads}
 use Rattle.bpaf_core.specs.Adjacent.{EitherCommandReads}
 use Rattle.bpaf_core.specs.Dealt.{IsDealtOut}
 use Rattle.bpaf_core.specs.Info.{RunInfo}
-use Rattle.bpaf_core.specs.Known.{IsLineContext, known_names}
+use Rattle.bpaf_core.specs.Known.{known_names}
 use Rattle.bpaf.specs.declared.leaves.positional.Position.{Position}
 use Rattle.bpaf.specs.declared.leaves.positional.Position.TheVariants.{Unrestricted}
 use Rattle.bpaf.specs.Positional.{PositionalReads}
