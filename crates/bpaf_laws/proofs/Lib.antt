@@ -22,6 +22,8 @@ pub mod ChoicesLaws
 pub mod ChoosingAll
 pub mod LeftmostOfAll
 pub mod CommandLaws
+pub mod OneRun
+pub mod AdjacentCommandLaws
 pub mod AppnameLaws
 pub mod Reading
 pub mod HideLaws

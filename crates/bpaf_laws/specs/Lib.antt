@@ -16,6 +16,8 @@ pub mod Pure
 pub mod Product
 pub mod Choices
 pub mod Command
+pub mod OneRun
+pub mod AdjacentCommand
 pub mod Appname
 pub mod Hide
 pub mod Any

@@ -7,6 +7,8 @@
 #![tactic(auto)]
 
 #[cfg(test)]
+mod adjacent;
+#[cfg(test)]
 mod calls;
 #[cfg(test)]
 mod combinators;
