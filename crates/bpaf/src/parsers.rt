@@ -1,7 +1,8 @@
 //! The parser types (bpaf's module `parsers`).
+pub use crate::adjacent::ParseAdjacent;
 pub use crate::choices::ParseChoice;
-pub use crate::leaves::appname::ParseAppname;
 pub use crate::leaves::any::ParseAny;
+pub use crate::leaves::appname::ParseAppname;
 pub use crate::leaves::literal::ParseLiteral;
 pub use crate::leaves::positional::ParsePositional;
 pub use crate::leaves::pure::{ParseFail, ParsePure, ParsePureWith};

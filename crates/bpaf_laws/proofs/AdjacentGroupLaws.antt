@@ -1,5 +1,5 @@
 -- Adjacent groups keep to the laws where their products do.
-use Rattle.std.specs.Prelude.{◌≡◌, ℕ, ◌<◌, ◌≤◌, Bool, true, false, not, ◌&&◌, nat_le, nat_lt, Result, Ok, Err, Option, Some, None, if◌then◌else◌, refl}
+use Rattle.std.specs.Prelude.{IfOk, ◌≡◌, ℕ, ◌<◌, ◌≤◌, Bool, true, false, not, ◌&&◌, nat_le, nat_lt, Result, Ok, Err, Option, Some, None, if◌then◌else◌, refl}
 use Rattle.std.proofs.Common.{sym, subst, ◌∙◌, ◌+◌, arith, true≢false}
 use Rattle.std.proofs.lemmas.Bool.Decides.{nat_tests}
 use Rattle.bpaf_doc.specs.Shape.{Part}
@@ -7,9 +7,9 @@ use Rattle.bpaf_line.specs.declared.error.Error.{Error}
 use Rattle.bpaf_line.specs.Situation.{Situation, is_taken, is_open, in_scope, with_scope}
 use Rattle.bpaf_line.proofs.Places.{open_in_scope, open_not_taken}
 use Rattle.bpaf_laws.specs.Reading.{Readings, Outcome, Share, IsEmptyShare, HasPlace}
-use Rattle.bpaf_laws.specs.Laws.{Keeps, Reads, Lawful}
+use Rattle.bpaf_laws.specs.Laws.{Keeps, Reads, Lawful, newly}
 use Rattle.bpaf_laws.specs.Spared.{IsNotMemory, WithoutMemory}
-use Rattle.bpaf_laws.specs.AdjacentGroup.{GroupReads, Failure, longer, taken_by, Probe}
+use Rattle.bpaf_laws.specs.AdjacentGroup.{IsRun, GroupReads, Failure, longer, taken_by, Probe}
 use Rattle.bpaf_laws.specs.AdjacentGroup.{Narrowed, whole, again, Tries, answered, refused}
 use Rattle.bpaf_laws.specs.AdjacentGroup.{TriesAt, skipped, failed, found, no_memory}
 use Rattle.bpaf_laws.specs.AdjacentGroup.{Searches, over, on, value, wanted, GroupOutcome, EndsWith, width_of}
@@ -121,14 +121,14 @@ module _ {T : Type 0} {inner : Outcome T} {reads : Readings T} (law : Lawful T i
       [ true ↦ now | false ↦ before ]
 
   -- what is remembered after a place keeps all
-  tried_keeps : (width a : ℕ) (best : Option Failure) (r : Result (Option T) Error)
-      (after : Option Failure) (t : Situation) → TriesAt T inner s width a best r after t
+  tried_keeps : (a stop : ℕ) (best : Option Failure) (r : Result (Option T) Error)
+      (after : Option Failure) (t : Situation) → TriesAt T inner s a stop best r after t
       → BestKeeps best → BestKeeps after
-  tried_keeps width a best r after t (skipped probe) before = before
-  tried_keeps width a best r after t (failed e left probe tries spared) before =
+  tried_keeps a stop best r after t (skipped probe) before = before
+  tried_keeps a stop best r after t (failed e left probe tries spared) before =
       longer_keeps best (record { error = e; left = left }) before (tries_keep a (Err e) left tries)
-  tried_keeps width a best r after t (found v left probe tries) before = before
-  tried_keeps width a best r after t (no_memory e memory) before = before
+  tried_keeps a stop best r after t (found v left probe tries) before = before
+  tried_keeps a stop best r after t (no_memory e memory) before = before
 
   -- a value that comes of a place is a reading
   abbrev IsFound : Result (Option T) Error → Situation → Type 0
@@ -137,13 +137,13 @@ module _ {T : Type 0} {inner : Outcome T} {reads : Readings T} (law : Lawful T i
   IsFound (Err e) t = Unit {0}
 
   -- it is
-  tried_reads : (width a : ℕ) (best : Option Failure) (r : Result (Option T) Error)
-      (after : Option Failure) (t : Situation) → TriesAt T inner s width a best r after t
+  tried_reads : (a stop : ℕ) (best : Option Failure) (r : Result (Option T) Error)
+      (after : Option Failure) (t : Situation) → TriesAt T inner s a stop best r after t
       → IsFound r t
-  tried_reads width a best r after t (skipped probe) = tt
-  tried_reads width a best r after t (failed e left probe tries spared) = tt
-  tried_reads width a best r after t (found v left probe tries) = tries_read a v left tries
-  tried_reads width a best r after t (no_memory e memory) = tt
+  tried_reads a stop best r after t (skipped probe) = tt
+  tried_reads a stop best r after t (failed e left probe tries spared) = tt
+  tried_reads a stop best r after t (found v left probe tries) = tries_read a v left tries
+  tried_reads a stop best r after t (no_memory e memory) = tt
 
   -- what the laws say of an answer
   abbrev IsGood : Result T Error → Situation → Type 0
@@ -163,9 +163,9 @@ module _ {T : Type 0} {inner : Outcome T} {reads : Readings T} (law : Lawful T i
       end_keeps first best' e t' before ends
   searches_good first from best r t before (on from' a best' after r' t' start tried rest) =
       searches_good first (a + 1) after r' t'
-      (tried_keeps (width_of first) a best' (Ok None) after s tried before) rest
-  searches_good first from best r t before (value from' a best' v t' start tried) =
-      tried_reads (width_of first) a best' (Ok (Some v)) best' t' tried
+      (tried_keeps a (a + width_of first) best' (Ok None) after s tried before) rest
+  searches_good first from best r t before (value from' a best' after v t' start tried) =
+      tried_reads a (a + width_of first) best' (Ok (Some v)) after t' tried
   searches_good first from best r t before (wanted from' best' e memory) = keeps_refl s
 
 -- adjacent groups keep to the laws
@@ -175,6 +175,13 @@ group_lawful first law = record {
   ok = λ s t v o. searches_good law s first s.start None (Ok v) t tt o;
   err = λ s t e o. searches_good law s first s.start None (Err e) t tt o;
 }
+
+-- a value of theirs newly took one run
+pub group_takes_run : {T : Type 0} {inner : Outcome T} {reads : Readings T} (first : Part)
+    → Lawful T inner reads → (s : Situation) (r : Result T Error) (t : Situation)
+    → GroupOutcome T inner first s r t → IfOk r (λ _. IsRun (newly s t))
+group_takes_run first law s (Ok v) t o = ((group_lawful first law).ok s t v o).reading.run
+group_takes_run first law s (Err e) t o = tt
 
 module _ {T : Type 0} (inner : Outcome T) (s : Situation) where
   -- what ended an attempt with a value isn't want of memory
@@ -192,9 +199,9 @@ module _ {T : Type 0} (inner : Outcome T) (s : Situation) where
       refused stop e left (narrowed_spared a stop narrowed) (ran, spared)
 
   -- nor do probes
-  probe_spared : (a width : ℕ) (Takes : Share → Type 0) → Probe T inner s a width Takes
-      → Probe T (WithoutMemory inner) s a width Takes
-  probe_spared a width Takes probe = record {
+  probe_spared : (a stop : ℕ) (Takes : Share → Type 0) → Probe T inner s a stop Takes
+      → Probe T (WithoutMemory inner) s a stop Takes
+  probe_spared a stop Takes probe = record {
     answer = probe.answer;
     left = probe.left;
     ran = (probe.ran, probe.spared);
@@ -203,18 +210,18 @@ module _ {T : Type 0} (inner : Outcome T) (s : Situation) where
   }
 
   -- what comes of a place catches none
-  tried_spared : (width a : ℕ) (best : Option Failure) (r : Result (Option T) Error)
+  tried_spared : (a stop : ℕ) (best : Option Failure) (r : Result (Option T) Error)
       (after : Option Failure) (t : Situation) → IsNotMemory r
-      → TriesAt T inner s width a best r after t
-      → TriesAt T (WithoutMemory inner) s width a best r after t
-  tried_spared width a best r after t not_memory (skipped probe) =
-      skipped (probe_spared a width IsEmptyShare probe)
-  tried_spared width a best r after t not_memory (failed e left probe tries spared) =
-      failed e left (probe_spared a width HasPlace probe)
+      → TriesAt T inner s a stop best r after t
+      → TriesAt T (WithoutMemory inner) s a stop best r after t
+  tried_spared a stop best r after t not_memory (skipped probe) =
+      skipped (probe_spared a stop IsEmptyShare probe)
+  tried_spared a stop best r after t not_memory (failed e left probe tries spared) =
+      failed e left (probe_spared a stop HasPlace probe)
       (tries_spared a (Err e) left spared tries) spared
-  tried_spared width a best r after t not_memory (found v left probe tries) =
-      found v left (probe_spared a width HasPlace probe) (tries_spared a (Ok v) left tt tries)
-  tried_spared width a best r after t not_memory (no_memory e memory) =
+  tried_spared a stop best r after t not_memory (found v left probe tries) =
+      found v left (probe_spared a stop HasPlace probe) (tries_spared a (Ok v) left tt tries)
+  tried_spared a stop best r after t not_memory (no_memory e memory) =
       absurd (not_both e.0 not_memory memory)
 
   -- so an adjacent group catches none
@@ -225,10 +232,10 @@ module _ {T : Type 0} (inner : Outcome T) (s : Situation) where
       over from' best' e t' none ends
   spared_group first from best r t (on from' a best' after r' t' start tried rest) spared =
       on from' a best' after r' t' start
-      (tried_spared (width_of first) a best' (Ok None) after s tt tried)
+      (tried_spared a (a + width_of first) best' (Ok None) after s tt tried)
       (spared_group first (a + 1) after r' t' rest spared)
-  spared_group first from best r t (value from' a best' v t' start tried) spared =
-      value from' a best' v t' start
-      (tried_spared (width_of first) a best' (Ok (Some v)) best' t' tt tried)
+  spared_group first from best r t (value from' a best' after v t' start tried) spared =
+      value from' a best' after v t' start
+      (tried_spared a (a + width_of first) best' (Ok (Some v)) after t' tt tried)
   spared_group first from best r t (wanted from' best' e memory) spared =
       absurd (not_both e.0 spared memory)

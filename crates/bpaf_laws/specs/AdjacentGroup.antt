@@ -64,10 +64,10 @@ HasNoStart s width from = (p : ℕ) → IsNextOpen s from p → s.end < p + widt
 
 module _ (T : Type 0) (inner : Outcome T) (s : Situation) where
   -- the places of a first item alone are the scope, and what is then taken of them
-  pub record Probe (place width : ℕ) (Takes : Share → Type 0) : Type 0 where
+  pub record Probe (place stop : ℕ) (Takes : Share → Type 0) : Type 0 where
     pub answer : Result T Error
     pub left : Situation
-    pub ran : inner (with_scope s place (place + width)) answer left
+    pub ran : inner (with_scope s place stop) answer left
     pub spared : IsNotMemory answer
     pub takes : Takes (newly s left)
 
@@ -90,15 +90,15 @@ module _ (T : Type 0) (inner : Outcome T) (s : Situation) where
 
   -- what comes of a place: None, where no item is taken or the attempts fail, which may be
   -- remembered; a value; or want of memory
-  pub data TriesAt (width place : ℕ) (best : Option Failure) : Result (Option T) Error
+  pub data TriesAt (place stop : ℕ) (best : Option Failure) : Result (Option T) Error
       → Option Failure → Situation → Type 0 where
-    skipped : Probe place width IsEmptyShare → TriesAt width place best (Ok None) best s
-    failed : (e : Error) (t : Situation) → Probe place width HasPlace → Tries place (Err e) t
+    skipped : Probe place stop IsEmptyShare → TriesAt place stop best (Ok None) best s
+    failed : (e : Error) (t : Situation) → Probe place stop HasPlace → Tries place (Err e) t
         → is_memory e.0 ≡ false
-        → TriesAt width place best (Ok None) (longer s best (record { error = e; left = t })) s
-    found : (v : T) (t : Situation) → Probe place width HasPlace → Tries place (Ok v) t
-        → TriesAt width place best (Ok (Some v)) best t
-    no_memory : (e : Error) → is_memory e.0 ≡ true → TriesAt width place best (Err e) best s
+        → TriesAt place stop best (Ok None) (longer s best (record { error = e; left = t })) s
+    found : (v : T) (t : Situation) → Probe place stop HasPlace → Tries place (Ok v) t
+        → TriesAt place stop best (Ok (Some v)) best t
+    no_memory : (e : Error) → is_memory e.0 ≡ true → TriesAt place stop best (Err e) best s
 
   -- the places are tried one after the other, until one gives a value
   pub data Searches (first : Part) : ℕ → Option Failure → Result T Error → Situation → Type 0 where
@@ -107,11 +107,11 @@ module _ (T : Type 0) (inner : Outcome T) (s : Situation) where
         → Searches first from best (Err e) t
     on : (from place : ℕ) (best after : Option Failure) (r : Result T Error) (t : Situation)
         → IsStart s (width_of first) from place
-        → TriesAt (width_of first) place best (Ok None) after s
+        → TriesAt place (place + width_of first) best (Ok None) after s
         → Searches first (place + 1) after r t → Searches first from best r t
-    value : (from place : ℕ) (best : Option Failure) (v : T) (t : Situation)
+    value : (from place : ℕ) (best after : Option Failure) (v : T) (t : Situation)
         → IsStart s (width_of first) from place
-        → TriesAt (width_of first) place best (Ok (Some v)) best t
+        → TriesAt place (place + width_of first) best (Ok (Some v)) after t
         → Searches first from best (Ok v) t
     wanted : (from : ℕ) (best : Option Failure) (e : Error) → is_memory e.0 ≡ true
         → Searches first from best (Err e) s
