@@ -17,6 +17,7 @@ pub mod Choosing
 pub mod Leftmost
 pub mod PureLaws
 pub mod ProductLaws
+pub mod AdjacentGroupLaws
 pub mod Shapes
 pub mod ChoicesLaws
 pub mod ChoosingAll

@@ -14,6 +14,7 @@ pub mod Spared
 pub mod Choice
 pub mod Pure
 pub mod Product
+pub mod AdjacentGroup
 pub mod Choices
 pub mod Command
 pub mod OneRun
