@@ -80,7 +80,8 @@ is_step : {V : Type 0} (word : List ℕ) (make : V → Step) (parts : Readings V
     (called : Called) (makes : V → Step → Type 0) → IsCommand word make adjacent called makes
     → IsAlso (CalledReads adjacent called parts makes) (StepReads word parts make)
 is_step {V} word make parts adjacent called makes is context share step read =
-    let plain : AdjacentReads Step (word ∷ []) (ProductReads V Step parts makes) context share step =
+    let plain : AdjacentReads Step (word ∷ []) (ProductReads V Step parts makes) context share
+    step =
     rw (is.adjacent_is, is.called_is) at read in
     let inside = plain.command.read in
     record {

@@ -7,7 +7,7 @@
 //! ```text
 //! chain [move DX DY | turn [--left] DEGREES | repeat N]...
 //!
-//! chain move 1 2 turn --left 90 repeat 3    move 1 2, turn left 90, repeat 3, a line each, status 0
+//! chain move 1 2 turn --left 90 repeat 3    move 1 2, turn left 90, repeat 3, a line each
 //! chain turn 90 --left                      turn left 90
 //! chain                                     nothing, status 0
 //! chain move 1 turn 90                      Error: refused, on standard error, status 1
@@ -17,8 +17,8 @@
 //! Each command is adjacent: it reads the words behind its name without a gap, and leaves what
 //! follows to the next one.
 //!
-//! What is proved of it: where the writers tell their bytes, status 0 comes only where the steps that
-//! were printed are dealt out of the words, and each step is read off one run of them
+//! What is proved of it: where the writers tell their bytes, status 0 comes only where the steps
+//! that were printed are dealt out of the words, and each step is read off one run of them
 //! (specs/Dealing.antt, specs/Lines.antt).
 #![tactic(auto)]
 

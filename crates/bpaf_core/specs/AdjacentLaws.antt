@@ -1,5 +1,5 @@
--- Commands that may be adjacent keep to the laws where their inner parsers do; an adjacent one takes
--- one run, and neither its first attempt nor its second catches want of memory.
+-- Commands that may be adjacent keep to the laws where their inner parsers do; an adjacent one
+-- takes one run, and neither its first attempt nor its second catches want of memory.
 use Rattle.std.specs.Prelude.{◌≡◌, ℕ, ◌+◌, ◌<◌, ◌≤◌, Bool, true, false, None, Result, Ok, Err, refl}
 use Rattle.std.proofs.Common.{sym, subst, arith, true≢false}
 use Rattle.bpaf_doc.specs.Shape.{Part}

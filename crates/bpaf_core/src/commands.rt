@@ -358,10 +358,10 @@ fn end_message(failure: ParseFailure) -> Message
 /// The value of the inner run over the items behind the command's word; Ok only where that leaves
 /// nothing present in scope.
 ///
-/// Where the first present item in scope isn't its word, its item is missing. A refusal of the inner
-/// run is ParseFailure, which nothing but `catch` catches; want of memory stays that. An adjacent
-/// command runs over the unbroken run of present items behind its word, or over a part of it, and
-/// leaves what follows to others.
+/// Where the first present item in scope isn't its word, its item is missing. A refusal of the
+/// inner run is ParseFailure, which nothing but `catch` catches; want of memory stays that. An
+/// adjacent command runs over the unbroken run of present items behind its word, or over a part of
+/// it, and leaves what follows to others.
 impl<T: Drop, P: Parser<T>> Parser<T> for ParseCommand<T, P> {
     ghost use Rattle.std.specs.Prelude.{◌≡◌, IfOk, true, false};
     ghost use Rattle.bpaf_laws.specs.Command.{CommandDescribes, CommandPart, LeavesNothing};

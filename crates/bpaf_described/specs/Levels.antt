@@ -186,4 +186,5 @@ level_lawful outcome reads describes clones (kind.Over m) ps each =
 level_lawful outcome reads describes clones kind.Product ps each = tuple_lawful outcome reads ps each
 level_lawful outcome reads describes clones kind.OrElse ps each = or_else_lawful outcome reads ps each
 level_lawful outcome reads describes clones (kind.Command called adjacent) ps each =
-    called_lawful adjacent called (ChoicesDescribes describes ps) (choices_lawful outcome reads ps each)
+    called_lawful adjacent called (ChoicesDescribes describes ps)
+    (choices_lawful outcome reads ps each)
