@@ -21,6 +21,8 @@ mod failures;
 #[cfg(test)]
 mod forms;
 #[cfg(test)]
+mod groups;
+#[cfg(test)]
 mod laws;
 #[cfg(test)]
 mod lines;
