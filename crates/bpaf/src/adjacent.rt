@@ -469,7 +469,8 @@ impl<V: Drop, T: Drop, P: Fields<V>, F: Fn(V) -> T> Parser<T> for ParseAdjacent<
     ghost use Rattle.bpaf_laws.specs.Spared.{IsNotMemory, WithoutMemory};
     ghost use Rattle.bpaf_laws.specs.Product.{ProductOutcome, ProductReads, ProductDescribes};
     ghost use Rattle.bpaf_laws.proofs.ProductLaws.{product_lawful};
-    ghost use Rattle.bpaf_laws.specs.AdjacentGroup.{IsRun, GroupDescribes, GroupOutcome, GroupReads};
+    ghost use Rattle.bpaf_laws.specs.AdjacentGroup.{GroupDescribes, GroupOutcome, GroupReads};
+    ghost use Rattle.bpaf_laws.specs.OneRun.{IsRun};
     ghost use Rattle.bpaf_laws.proofs.AdjacentGroupLaws.{group_lawful};
 
     ghost can_eval = { λ p. P.can_eval p.inner.fields × F.IsAlwaysCallable p.inner.make };

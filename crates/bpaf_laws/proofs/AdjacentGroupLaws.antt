@@ -9,7 +9,8 @@ use Rattle.bpaf_line.proofs.Places.{open_in_scope, open_not_taken}
 use Rattle.bpaf_laws.specs.Reading.{Readings, Outcome, Share, IsEmptyShare, HasPlace}
 use Rattle.bpaf_laws.specs.Laws.{Keeps, Reads, Lawful, newly}
 use Rattle.bpaf_laws.specs.Spared.{IsNotMemory, WithoutMemory}
-use Rattle.bpaf_laws.specs.AdjacentGroup.{IsRun, GroupReads, Failure, longer, taken_by, Probe}
+use Rattle.bpaf_laws.specs.OneRun.{IsRun}
+use Rattle.bpaf_laws.specs.AdjacentGroup.{GroupReads, Failure, longer, taken_by, Probe}
 use Rattle.bpaf_laws.specs.AdjacentGroup.{Narrowed, whole, again, Tries, answered, refused}
 use Rattle.bpaf_laws.specs.AdjacentGroup.{TriesAt, skipped, failed, found, no_memory}
 use Rattle.bpaf_laws.specs.AdjacentGroup.{Searches, over, on, value, wanted, GroupOutcome, EndsWith, width_of}

@@ -1,5 +1,6 @@
 -- Adjacent groups: products whose items stand next to one another.
-use Rattle.std.specs.Prelude.{◌≡◌, ℕ, ◌+◌, ◌<◌, ◌≤◌, true, false, ◌&&◌, List, Result, Ok, Err, Option, Some, None, nat_le, nat_lt, if◌then◌else◌}
+use Rattle.std.specs.Prelude.{◌≡◌, ℕ, ◌+◌, ◌<◌, ◌≤◌, true, false, ◌&&◌, List, Result, Ok, Err}
+use Rattle.std.specs.Prelude.{Option, Some, None, nat_le, nat_lt, if◌then◌else◌}
 use Rattle.bpaf_doc.specs.Shape.{Shape, Part, Argument, Adjacent}
 use Rattle.bpaf_line.specs.declared.error.Error.{Error}
 use Rattle.bpaf_line.specs.declared.error.Message.TheVariants as message
@@ -10,14 +11,9 @@ use Rattle.bpaf_line.specs.Runs.{IsRunFrom}
 use Rattle.bpaf_line.specs.Situation.{Situation, Context, with_scope, HasNoneOpen, IsNextOpen}
 use Rattle.bpaf_laws.specs.Counting.{taken_count}
 use Rattle.bpaf_laws.specs.Laws.{newly}
+use Rattle.bpaf_laws.specs.OneRun.{IsRun}
 use Rattle.bpaf_laws.specs.Reading.{Share, Readings, Outcome, IsEmptyShare, HasPlace}
 use Rattle.bpaf_laws.specs.Spared.{IsNotMemory}
-
--- consecutive places, perhaps none
-pub record IsRun (share : Share) : Type 0 where
-  pub from : ℕ
-  pub to : ℕ
-  pub is : (p : ℕ) → share p ≡ (nat_le from p && nat_lt p to)
 
 -- a reading of the product, off one run
 pub record GroupReads (T : Type 0) (inner : Readings T) (context : Context) (share : Share)
@@ -43,7 +39,8 @@ taken_by s (Some failure) = taken_count s failure.left
 -- of the failure that is remembered and another one that which took more places; of equals the
 -- former
 abbrev pub longer : Situation → Option Failure → Failure → Option Failure
-longer s best other = if nat_lt (taken_by s best) (taken_count s other.left) then Some other else best
+longer s best other = if nat_lt (taken_by s best)
+    (taken_count s other.left) then Some other else best
 
 -- at the end the failure that is remembered; without one the first item is missing, and all is as
 -- before
