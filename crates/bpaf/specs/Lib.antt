@@ -2,3 +2,4 @@ pub mod Positional
 pub mod PositionalLaws
 pub mod Matching
 pub mod Marker
+pub mod Remembering

@@ -19,6 +19,7 @@
 //! The source of the design is bpaf's `lib.rs` and `structs.rs`.
 #![tactic(auto)]
 
+mod adjacent;
 mod choices;
 mod construct;
 pub mod doc;
@@ -27,6 +28,7 @@ pub mod params;
 pub mod parsers;
 mod product;
 
+pub use adjacent::{AdjacentError, ParseAdjacent};
 pub use bpaf_core::{Info, OptionParser, Parser, command, count_falls, read_text};
 pub use bpaf_doc::{Doc, Item, Meta, MetaInfo, Metavar, Piece, ShortLong, Style, Text};
 pub use bpaf_line::{

@@ -1,4 +1,5 @@
 //! The parser types (bpaf's module `parsers`).
+pub use crate::adjacent::ParseAdjacent;
 pub use crate::choices::ParseChoice;
 pub use crate::leaves::any::ParseAny;
 pub use crate::leaves::appname::ParseAppname;

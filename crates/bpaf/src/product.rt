@@ -39,8 +39,20 @@ pub trait Fields<V>: Sized {
         ensures { OnOk result (AppendsShapes (describes self.now)
             (map shape_of metas.old.items) (map shape_of metas.new.items)) };
 
+    /// What such an evaluation may answer where a failing first field is the end.
+    ghost fast_outcome: { Self → Outcome V };
+
+    /// Evaluates the first field, where it fails no other one, and else the others as ever: an
+    /// adjacent group finds its first item so.
+    fn eval_fail_fast(&self, state: &mut State) -> Result<V, Error>
+        requires { can_eval self.now }
+        ensures { fast_outcome self.now state.old result state.new };
+
     /// What each implementation keeps to.
     ghost lawful: { (p : Self) → Lawful V (outcome p) (reads p) };
+
+    /// What it keeps to where a failing first field is the end.
+    ghost fast_lawful: { (p : Self) → Lawful V (fast_outcome p) (reads p) };
 }
 
 /// The last field of a product.
@@ -70,7 +82,15 @@ impl<T: Drop, A: Parser<T>> Fields<T> for Last<A> {
         Ok(())
     }
 
+    ghost fast_outcome = { λ p. A.outcome p.last };
+
+    fn eval_fail_fast(&self, state: &mut State) -> Result<T, Error> {
+        self.last.eval(state)
+    }
+
     ghost lawful = { λ p. A.lawful p.last };
+
+    ghost fast_lawful = { λ p. A.lawful p.last };
 }
 
 /// A field of a product, and the fields after it.
@@ -85,7 +105,8 @@ pub struct Both<A, R> {
 impl<T: Drop, V: Drop, A: Parser<T>, R: Fields<V>> Fields<(T, V)> for Both<A, R> {
     ghost use Rattle.bpaf_laws.specs.Spared.{IsNotMemory, WithoutMemory};
     ghost use Rattle.bpaf_laws.specs.Product.{BothOutcome, BothReads, BothDescribes};
-    ghost use Rattle.bpaf_laws.proofs.ProductLaws.{both_lawful};
+    ghost use Rattle.bpaf_laws.specs.Product.{FailFastOutcome};
+    ghost use Rattle.bpaf_laws.proofs.ProductLaws.{both_lawful, fail_fast_lawful};
 
     ghost can_eval = { λ p. A.can_eval p.first × R.can_eval p.rest };
 
@@ -132,7 +153,29 @@ impl<T: Drop, V: Drop, A: Parser<T>, R: Fields<V>> Fields<(T, V)> for Both<A, R>
         self.rest.push_metas(alloc, metas)
     }
 
+    ghost fast_outcome = { λ p. FailFastOutcome (A.outcome p.first) (R.outcome p.rest) };
+
+    fn eval_fail_fast(&self, state: &mut State) -> Result<(T, V), Error>
+        requires first { A.can_eval self.now.first }
+        requires rest { R.can_eval self.now.rest }
+        ensures outcome { FailFastOutcome (A.outcome self.now.first) (R.outcome self.now.rest)
+            state.old result state.new }
+        ensures memory_is_never_caught { IsNotMemory result →
+            FailFastOutcome (WithoutMemory (A.outcome self.now.first))
+            (WithoutMemory (R.outcome self.now.rest)) state.old result state.new }
+    {
+        match self.first.eval(state) {
+            Ok(first) => match self.rest.eval_fields(state) {
+                Ok(rest) => Ok((first, rest)),
+                Err(error) => Err(error),
+            },
+            Err(error) => Err(error),
+        }
+    }
+
     ghost lawful = { λ p. both_lawful (A.lawful p.first) (R.lawful p.rest) };
+
+    ghost fast_lawful = { λ p. fail_fast_lawful (A.lawful p.first) (R.lawful p.rest) };
 }
 
 /// A product: what a constructor makes of the values of fields (bpaf's `ParseCon`, in `structs.rs`).

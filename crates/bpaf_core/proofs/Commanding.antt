@@ -1,63 +1,82 @@
 -- How the answers of a command are put together.
-use Rattle.std.proofs.Common.{◌≡◌, ℕ, Bool, true, false, List, Result, Ok, Err, subst, sym, ap, ◌∙◌}
+use Rattle.std.proofs.Common.{◌≡◌, ℕ, Bool, true, false, None, Result, Ok, Err, ⊎_elim, subst}
+use Rattle.std.proofs.Common.{sym, true≢false}
 use Rattle.std.specs.Result.{IsErr, IsErrAnd}
 use Rattle.bpaf_doc.specs.Shape.{Part}
 use Rattle.bpaf_line.specs.declared.error.Error.{Error}
 use Rattle.bpaf_line.specs.declared.error.Message.TheVariants as message
 use Rattle.bpaf_line.specs.declared.failure.ParseFailure.{ParseFailure}
-use Rattle.bpaf_line.specs.Situation.{Situation, with_path}
+use Rattle.bpaf_line.specs.Situation.{Situation, with_current}
 use Rattle.bpaf_laws.specs.Reading.{Outcome}
-use Rattle.bpaf_laws.specs.Command.{Called, IsOpenedAt, OpensScope, inside, opening_words}
+use Rattle.bpaf_laws.specs.Command.{Called, IsNotOpened, IsOpenedAt, opened, opening_words}
 use Rattle.bpaf_core.specs.Run.{Runs}
-use Rattle.bpaf_core.specs.Command.{CommandOutcome, IsMissingPart, ended, end_message, missing, no_memory, value}
+use Rattle.bpaf_core.specs.Command.{IsMissingPart, ended, end_message, missing, no_memory, value}
+use Rattle.bpaf_core.specs.Adjacent.{AdjacentRuns, EitherCommandOutcome, Enters, RunsInside}
+use Rattle.bpaf_core.specs.Adjacent.{StaysOutside}
+use Rattle.bpaf_core.specs.Adjacent.{counted, failed, no_path, unnamed}
+
+-- a plain command runs once inside
+pub runs_plain : {T : Type 0} (inner : Outcome T) (adjacent : Bool) (s : Situation)
+    (r : Result T ParseFailure) (t : Situation) → adjacent ≡ false → Runs T inner s r t
+    → RunsInside adjacent T inner s r t
+runs_plain inner false s r t plain run = run
+runs_plain inner true s r t plain run = absurd (true≢false plain)
 
 module _ {T : Type 0} (inner : Outcome T) (called : Called) (shows : Part → Type 0)
     (s : Situation) where
   -- the word isn't there
-  pub not_there : (m : Situation) (is : Bool) (e : Error) → is ≡ false
-      → OpensScope (opening_words called) s is m → IsMissingPart shows m e.0
-      → CommandOutcome T inner called shows s (Err e) m
-  not_there m false e closed opens missed =
-      subst (λ t. CommandOutcome T inner called shows s (Err e) t) (sym opens.1)
-      (missing e opens.0 (subst (λ t. IsMissingPart shows t e.0) opens.1 missed))
-  not_there m true e closed opens missed = cc
+  lacking : (adjacent : Bool) (e : Error) → IsNotOpened (opening_words called) s
+      → IsMissingPart shows s e.0
+      → EitherCommandOutcome adjacent T inner called shows s (Err e) (with_current s None)
+  lacking true e none is = unnamed e none is
+  lacking false e none is = missing e none is
 
   -- the word is there, and memory for the path is wanted
-  pub no_path : (m t : Situation) (is : Bool) (r : Result T Error) → is ≡ true
-      → OpensScope (opening_words called) s is m → t ≡ m
-      → IsErr r × IsErrAnd r (λ e. e.0 ≡ message.Memory)
-      → CommandOutcome T inner called shows s r t
-  no_path m t true (Err e) there opens same wanted =
-      subst (λ left. CommandOutcome T inner called shows s (Err e) left)
-      (sym (same ∙ opens.2)) (no_memory e opens.0 opens.1 wanted.1)
-  no_path m t true (Ok v) there opens same wanted = absurd wanted.1
-  no_path m t false r there opens same wanted = cc
+  wanting : (adjacent : Bool) (e : Error) (p : ℕ) → IsOpenedAt (opening_words called) s p
+      → e.0 ≡ message.Memory
+      → EitherCommandOutcome adjacent T inner called shows s (Err e) (opened s p)
+  wanting true e p at is = no_path e p at is
+  wanting false e p at is = no_memory e p at is
 
-  -- where the word is there, and the name is put on the path, the run begins inside
-  goes_inside : (m n : Situation) (is : Bool) (name : List ℕ) → is ≡ true
-      → OpensScope (opening_words called) s is m → name ≡ called.name → n ≡ with_path m name
-      → (p : ℕ) × IsOpenedAt (opening_words called) s p × (n ≡ inside called s p)
-  goes_inside m n true name there opens same put = (
-    opens.0,
-    opens.1,
-    put ∙ (ap (with_path m) same ∙ ap (λ x. with_path x called.name) opens.2),
-  )
-  goes_inside m n false name there opens same put = cc
+  -- where one doesn't get inside, the command refuses
+  not_inside : (adjacent : Bool) (e : Error) (t : Situation) → StaysOutside called shows s e t
+      → EitherCommandOutcome adjacent T inner called shows s (Err e) t
+  not_inside adjacent e t outside = ⊎_elim
+      (λ (lacks : IsNotOpened (opening_words called) s × IsMissingPart shows s e.0
+      × (t ≡ with_current s None)).
+      subst (EitherCommandOutcome adjacent T inner called shows s (Err e)) (sym lacks.2)
+      (lacking adjacent e lacks.0 lacks.1))
+      (λ (wants : (p : ℕ) × IsOpenedAt (opening_words called) s p × (e.0 ≡ message.Memory)
+      × (t ≡ opened s p)).
+      subst (EitherCommandOutcome adjacent T inner called shows s (Err e)) (sym wants.3)
+      (wanting adjacent e wants.0 wants.1 wants.2))
+      outside
 
-  -- the inner run answers a value
-  pub answered : (m n t : Situation) (is : Bool) (name : List ℕ) (v : T) → is ≡ true
-      → OpensScope (opening_words called) s is m → name ≡ called.name → n ≡ with_path m name
-      → Runs T inner n (Ok v) t → CommandOutcome T inner called shows s (Ok v) t
-  answered m n t is name v there opens same put run =
-      let at = goes_inside m n is name there opens same put in
-      value v at.0 t at.1 (subst (λ from. Runs T inner from (Ok v) t) at.2 run)
+  -- so it does where that refusal is handed on
+  pub refused_inside : (adjacent : Bool) (e : Error) (r : Result T Error) (t : Situation)
+      → IsErr r × IsErrAnd r (λ given. given ≡ e) → StaysOutside called shows s e t
+      → EitherCommandOutcome adjacent T inner called shows s r t
+  refused_inside adjacent e (Err given) t handed outside =
+      subst (λ x. EitherCommandOutcome adjacent T inner called shows s (Err x) t) (sym handed.1)
+      (not_inside adjacent e t outside)
+  refused_inside adjacent e (Ok v) t handed outside = absurd (true≢false (sym handed.0))
 
-  -- the inner run refuses
-  pub run_refused : (m n t : Situation) (is : Bool) (name : List ℕ) (f : ParseFailure)
-      (e : Error) → is ≡ true → OpensScope (opening_words called) s is m
-      → name ≡ called.name → n ≡ with_path m name
-      → Runs T inner n (Err f) t → e.0 ≡ end_message f
-      → CommandOutcome T inner called shows s (Err e) t
-  run_refused m n t is name f e there opens same put run told =
-      let at = goes_inside m n is name there opens same put in
-      ended f e at.0 t at.1 (subst (λ from. Runs T inner from (Err f) t) at.2 run) told
+  module _ {U : Type 0} (u : U) (m t : Situation) (enters : Enters called shows s (Ok u) m) where
+    -- what runs inside answers a value
+    pub inside_answers : (adjacent : Bool) (v : T) → RunsInside adjacent T inner m (Ok v) t
+        → EitherCommandOutcome adjacent T inner called shows s (Ok v) t
+    inside_answers true v runs =
+        counted v enters.0 t enters.1
+        (subst (λ x. AdjacentRuns T inner x (Ok v) t) enters.2 runs)
+    inside_answers false v runs =
+        value v enters.0 t enters.1 (subst (λ x. Runs T inner x (Ok v) t) enters.2 runs)
+
+    -- what runs inside refuses
+    pub inside_refuses : (adjacent : Bool) (f : ParseFailure) (e : Error)
+        → RunsInside adjacent T inner m (Err f) t → e.0 ≡ end_message f
+        → EitherCommandOutcome adjacent T inner called shows s (Err e) t
+    inside_refuses true f e runs told =
+        failed f e enters.0 t enters.1
+        (subst (λ x. AdjacentRuns T inner x (Err f) t) enters.2 runs) told
+    inside_refuses false f e runs told =
+        ended f e enters.0 t enters.1 (subst (λ x. Runs T inner x (Err f) t) enters.2 runs) told

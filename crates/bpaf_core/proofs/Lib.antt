@@ -3,3 +3,4 @@ pub mod Dealing
 pub mod Branching
 pub mod Opening
 pub mod Commanding
+pub mod Attempting

@@ -22,7 +22,7 @@ use Rattle.bpaf_core.specs.Run.{value as run_value}
 use Rattle.bpaf_core.specs.Command.{CommandOutcome, ended, end_message, missing, no_memory, value}
 
 -- a run's answer that isn't told as want of memory
-abbrev IsNotWant : {T : Type 0} → Result T ParseFailure → Type 0
+abbrev pub IsNotWant : {T : Type 0} → Result T ParseFailure → Type 0
 IsNotWant (Ok v) = Unit {0}
 IsNotWant (Err f) = is_memory (end_message f) ≡ false
 
@@ -43,12 +43,12 @@ spared_message m f told spared = ⊎_elim
     (cases_Bool (is_memory m))
 
 -- after a value of a run nothing is present
-run_empty : {T : Type 0} {inner : Outcome T} (s : Situation) (v : T) (t : Situation)
+pub run_empty : {T : Type 0} {inner : Outcome T} (s : Situation) (v : T) (t : Situation)
     → Runs T inner s (Ok v) t → open_count t ≡ 0
 run_empty s v t (run_value w left answered none) = none
 
 -- a run that isn't told as want of memory had no inner want of memory
-spared_run : {T : Type 0} {inner : Outcome T} (s : Situation) (r : Result T ParseFailure)
+pub spared_run : {T : Type 0} {inner : Outcome T} (s : Situation) (r : Result T ParseFailure)
     (t : Situation) → Runs T inner s r t → IsNotWant r → Runs T (WithoutMemory inner) s r t
 spared_run s r t (run_value v left answered none) spared = run_value v left (answered, tt) none
 spared_run s r t (leftover v left f answered some told) spared =
@@ -79,7 +79,7 @@ module _ {T : Type 0} {inner : Outcome T} {reads : Readings T} (law : Lawful T i
   runs_keeps s r t (refused e left f answered told) = law.err s left e answered
 
   -- a value that a run from a situation on answers is read there
-  run_read : (s : Situation) (v : T) (t : Situation) → Runs T inner s (Ok v) t
+  pub run_read : (s : Situation) (v : T) (t : Situation) → Runs T inner s (Ok v) t
       → Reads T reads s v t
   run_read s v t (run_value w left answered none) = law.ok s left w answered
 

@@ -4,4 +4,6 @@ pub mod Run
 pub mod Dealt
 pub mod Command
 pub mod CommandLaws
+pub mod Adjacent
+pub mod AdjacentLaws
 pub mod Branches

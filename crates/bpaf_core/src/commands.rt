@@ -1,9 +1,10 @@
 //! Commands: a word that opens a run of its own over the items after it.
-ghost use Rattle.std.specs.Prelude.{◌≡◌, [], ◌∷◌, map, encode_utf8, slice_get, IfOk, Some};
+ghost use Rattle.std.specs.Prelude.{◌≡◌, ◌<◌, [], ◌∷◌, map, encode_utf8, slice_get, IfOk, Some};
+ghost use Rattle.std.specs.Prelude.{true, false};
 ghost use Rattle.bpaf_doc.specs.Shape.{part_of};
 ghost use Rattle.bpaf_laws.specs.Command.{CommandPart, OpensScope, TakesOpening};
-ghost use Rattle.bpaf_laws.specs.Command.{named_only, opening_words};
-ghost use Rattle.bpaf_laws.specs.Command.{with_long_name, with_short_name};
+ghost use Rattle.bpaf_laws.specs.Command.{named_only, opening_words, with_long_name, with_short_name};
+ghost use Rattle.bpaf_core.specs.Adjacent.{Enters, RunsInside};
 ghost use Rattle.bpaf_core.specs.Command.{IsMissingPart, end_message};
 ghost use Rattle.bpaf_core.specs.Info.{short_descr};
 
@@ -168,6 +169,8 @@ pub struct ParseCommand<T, P> {
     pub help: Option<Doc>,
     /// What runs behind it.
     pub subparser: OptionParser<T, P>,
+    /// Whether it reads the items behind its word without a gap alone.
+    pub adjacent: bool,
 }
 
 /// A command of this name, which runs the parser over the items behind it (bpaf's `command`).
@@ -185,6 +188,7 @@ pub fn command<T, P: Drop>(
     ensures names { IfOk result (λ command. command.names ≡ named_only name.now) }
     ensures help { IfOk result (λ command. command.help ≡ short_descr subparser.info) }
     ensures subparser { IfOk result (λ command. command.subparser ≡ subparser) }
+    ensures adjacent { IfOk result (λ command. command.adjacent ≡ false) }
 {
     let names = CommandNames::new(subparser.alloc, name)?;
     let help = subparser.info.short_descr()?;
@@ -192,6 +196,7 @@ pub fn command<T, P: Drop>(
         names,
         help,
         subparser,
+        adjacent: false,
     })
 }
 
@@ -206,6 +211,7 @@ impl<T, P: Drop> OptionParser<T, P> {
         ensures names { IfOk result (λ command. command.names ≡ named_only name.now) }
         ensures help { IfOk result (λ command. command.help ≡ short_descr self.info) }
         ensures subparser { IfOk result (λ command. command.subparser ≡ self) }
+        ensures adjacent { IfOk result (λ command. command.adjacent ≡ false) }
     {
         command(name, self)
     }
@@ -218,6 +224,24 @@ impl<T, P: Drop> ParseCommand<T, P> {
         ensures { result ≡ record self { help = Some help } }
     {
         self.help = Some(help);
+        self
+    }
+
+    /// The command over the items that stand behind its word without a gap, so that other commands
+    /// may follow it (bpaf's `ParseCommand::adjacent`). It takes no memory.
+    ///
+    /// The parser runs over the unbroken run of present items behind the word. Where that fails, it
+    /// runs once more, over those before the first one that it left; where this fails too, the
+    /// first failure is the answer.
+    ///
+    /// ```text
+    /// let turn = construct!(left, degrees).to_options(alloc)?.command("turn")?.adjacent();
+    /// construct!([step, turn]).many()     reads `move 1 2 turn --left 90 move 3 4`
+    /// ```
+    pub fn adjacent(mut self) -> ParseCommand<T, P>
+        ensures { result ≡ record self { adjacent = true } }
+    {
+        self.adjacent = true;
         self
     }
 
@@ -237,6 +261,7 @@ impl<T, P: Drop> ParseCommand<T, P> {
             names: self.names.short(name)?,
             help: self.help,
             subparser: self.subparser,
+            adjacent: self.adjacent,
         })
     }
 
@@ -255,6 +280,7 @@ impl<T, P: Drop> ParseCommand<T, P> {
             names: self.names.long(name)?,
             help: self.help,
             subparser: self.subparser,
+            adjacent: self.adjacent,
         })
     }
 }
@@ -288,6 +314,35 @@ impl<T: Drop, P: Parser<T>> ParseCommand<T, P> {
             Err(refused) => Error::from(refused),
         }
     }
+
+    /// Takes its word, makes the scope run from it to its old end, and puts the name on the path.
+    /// Refused where the word isn't there, and for want of memory.
+    fn enter(&self, state: &mut State) -> Result<(), Error>
+        requires { P.can_eval self.now.subparser.inner }
+        ensures { Enters self.now.names (CommandPart self.now.names self.now.help
+            (P.describes self.now.subparser.inner)) state.old result state.new }
+    {
+        if !self.names.open(state) {
+            return Err(self.missing(state));
+        }
+        state.push_path(self.names.name())?;
+        Ok(())
+    }
+
+    /// The run over all that is in scope; of an adjacent command the attempts behind its word,
+    /// which stands where the scope begins.
+    fn run_inside(&self, state: &mut State) -> Result<T, ParseFailure>
+        requires can { P.can_eval self.now.subparser.inner }
+        requires word { state.old.start < state.old.end }
+        ensures { RunsInside self.now.adjacent T (P.outcome self.now.subparser.inner)
+            state.old result state.new }
+    {
+        if self.adjacent {
+            self.subparser.run_adjacent(state)
+        } else {
+            self.subparser.run_from(state)
+        }
+    }
 }
 
 /// The end of an inner run, as a refusal of its command: want of memory stays that.
@@ -303,41 +358,48 @@ fn end_message(failure: ParseFailure) -> Message
 /// The value of the inner run over the items behind the command's word; Ok only where that leaves
 /// nothing present in scope.
 ///
-/// Where the first present item in scope isn't its word, its item is missing. A refusal of the inner
-/// run is ParseFailure, which nothing but `catch` catches; want of memory stays that.
+/// Where the first present item in scope isn't its word, its item is missing. A refusal of the
+/// inner run is ParseFailure, which nothing but `catch` catches; want of memory stays that. An
+/// adjacent command runs over the unbroken run of present items behind its word, or over a part of
+/// it, and leaves what follows to others.
 impl<T: Drop, P: Parser<T>> Parser<T> for ParseCommand<T, P> {
-    ghost use Rattle.std.specs.Prelude.{IfOk};
-    ghost use Rattle.bpaf_laws.specs.Command.{CommandDescribes, CommandPart, CommandReads};
-    ghost use Rattle.bpaf_laws.specs.Command.{LeavesNothing, opening_words};
+    ghost use Rattle.std.specs.Prelude.{◌≡◌, IfOk, true, false};
+    ghost use Rattle.bpaf_laws.specs.Command.{CommandDescribes, CommandPart, LeavesNothing};
+    ghost use Rattle.bpaf_laws.specs.Command.{opening_words};
+    ghost use Rattle.bpaf_laws.specs.Laws.{newly};
+    ghost use Rattle.bpaf_laws.specs.OneRun.{IsRun};
     ghost use Rattle.bpaf_laws.specs.Spared.{IsNotMemory, WithoutMemory};
-    ghost use Rattle.bpaf_core.specs.Command.{CommandOutcome};
-    ghost use Rattle.bpaf_core.specs.CommandLaws.{command_lawful};
+    ghost use Rattle.bpaf_core.specs.Adjacent.{EitherCommandOutcome, EitherCommandReads};
+    ghost use Rattle.bpaf_core.specs.AdjacentLaws.{either_lawful};
 
     ghost can_eval = { λ p. P.can_eval p.subparser.inner };
 
     ghost describes = { λ p. CommandDescribes p.names p.help (P.describes p.subparser.inner) };
 
-    ghost reads = { λ p. CommandReads T (opening_words p.names) (P.reads p.subparser.inner) };
+    ghost reads = { λ p.
+        EitherCommandReads p.adjacent T (opening_words p.names) (P.reads p.subparser.inner) };
 
-    ghost outcome = { λ p. CommandOutcome T (P.outcome p.subparser.inner) p.names
+    ghost outcome = { λ p. EitherCommandOutcome p.adjacent T (P.outcome p.subparser.inner) p.names
         (CommandPart p.names p.help (P.describes p.subparser.inner)) };
 
     fn eval(&self, state: &mut State) -> Result<T, Error>
         requires { P.can_eval self.now.subparser.inner }
-        ensures outcome { CommandOutcome T (P.outcome self.now.subparser.inner) self.now.names
+        ensures outcome { EitherCommandOutcome self.now.adjacent T
+            (P.outcome self.now.subparser.inner) self.now.names
             (CommandPart self.now.names self.now.help (P.describes self.now.subparser.inner))
             state.old result state.new }
-        ensures command_leaves_nothing { IfOk result (λ _. LeavesNothing state.old state.new) }
+        ensures command_leaves_nothing { self.now.adjacent ≡ false →
+            IfOk result (λ _. LeavesNothing state.old state.new) }
+        ensures takes_one_run { self.now.adjacent ≡ true →
+            IfOk result (λ _. IsRun (newly state.old state.new)) }
         ensures memory_is_never_caught { IsNotMemory result →
-            CommandOutcome T (WithoutMemory (P.outcome self.now.subparser.inner)) self.now.names
+            EitherCommandOutcome self.now.adjacent T
+            (WithoutMemory (P.outcome self.now.subparser.inner)) self.now.names
             (CommandPart self.now.names self.now.help (P.describes self.now.subparser.inner))
             state.old result state.new }
     {
-        if !self.names.open(state) {
-            return Err(self.missing(state));
-        }
-        state.push_path(self.names.name())?;
-        match self.subparser.run_from(state) {
+        self.enter(state)?;
+        match self.run_inside(state) {
             Ok(value) => Ok(value),
             Err(failure) => Err(Error(end_message(failure))),
         }
@@ -347,6 +409,6 @@ impl<T: Drop, P: Parser<T>> Parser<T> for ParseCommand<T, P> {
         Ok(Meta::Item(self.item(alloc)?))
     }
 
-    ghost lawful = { λ p. command_lawful (P.lawful p.subparser.inner) p.names
-        (CommandPart p.names p.help (P.describes p.subparser.inner)) };
+    ghost lawful = { λ p. either_lawful (P.lawful p.subparser.inner) p.names
+        (CommandPart p.names p.help (P.describes p.subparser.inner)) p.adjacent };
 }

@@ -40,6 +40,7 @@
 //! The source of the design is bpaf's `lib.rs`, `params.rs`, `structs.rs` and `info.rs`.
 #![tactic(auto)]
 
+mod adjacent;
 mod argument;
 mod branch;
 mod choice;

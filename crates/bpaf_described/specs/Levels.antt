@@ -155,8 +155,8 @@ LevelOutcome outcome describes clones (kind.Over m) ps =
     OverOutcome clones m (ChoicesOutcome outcome ps)
 LevelOutcome outcome describes clones kind.Product ps = TupleOutcome outcome ps
 LevelOutcome outcome describes clones kind.OrElse ps = OrElseOutcome outcome ps
-LevelOutcome outcome describes clones (kind.Command called) ps =
-    CalledOutcome called (ChoicesOutcome outcome ps) (ChoicesDescribes describes ps)
+LevelOutcome outcome describes clones (kind.Command called adjacent) ps =
+    CalledOutcome adjacent called (ChoicesOutcome outcome ps) (ChoicesDescribes describes ps)
 
 -- what is read of it
 abbrev pub LevelReads : {P : Type 0} → (P → Readings Value) → Clones → Kind → List P
@@ -164,7 +164,8 @@ abbrev pub LevelReads : {P : Type 0} → (P → Readings Value) → Clones → K
 LevelReads reads clones (kind.Over m) ps = OverReads clones m (ChoicesReads reads ps)
 LevelReads reads clones kind.Product ps = TupleReads reads ps
 LevelReads reads clones kind.OrElse ps = OrElseReads reads ps
-LevelReads reads clones (kind.Command called) ps = CalledReads called (ChoicesReads reads ps)
+LevelReads reads clones (kind.Command called adjacent) ps =
+    CalledReads adjacent called (ChoicesReads reads ps)
 
 -- what it shows
 abbrev pub LevelDescribes : {P : Type 0} → (P → Shape → Type 0) → Kind → List P → Shape → Type 0
@@ -172,7 +173,7 @@ LevelDescribes describes (kind.Over m) ps shape =
     OverDescribes m (ChoicesDescribes describes ps) shape
 LevelDescribes describes kind.Product ps shape = TupleDescribes describes ps shape
 LevelDescribes describes kind.OrElse ps shape = OrElseDescribes describes ps shape
-LevelDescribes describes (kind.Command called) ps shape =
+LevelDescribes describes (kind.Command called adjacent) ps shape =
     CommandDescribes called None (ChoicesDescribes describes ps) shape
 
 -- it keeps to the laws where its parsers do
@@ -182,9 +183,8 @@ pub level_lawful : {P : Type 0} (outcome : P → Outcome Value) (reads : P → R
     → Lawful Value (LevelOutcome outcome describes clones k ps) (LevelReads reads clones k ps)
 level_lawful outcome reads describes clones (kind.Over m) ps each =
     over_lawful clones m (choices_lawful outcome reads ps each)
-level_lawful outcome reads describes clones kind.Product ps each =
-    tuple_lawful outcome reads ps each
-level_lawful outcome reads describes clones kind.OrElse ps each =
-    or_else_lawful outcome reads ps each
-level_lawful outcome reads describes clones (kind.Command called) ps each =
-    called_lawful called (ChoicesDescribes describes ps) (choices_lawful outcome reads ps each)
+level_lawful outcome reads describes clones kind.Product ps each = tuple_lawful outcome reads ps each
+level_lawful outcome reads describes clones kind.OrElse ps each = or_else_lawful outcome reads ps each
+level_lawful outcome reads describes clones (kind.Command called adjacent) ps each =
+    called_lawful adjacent called (ChoicesDescribes describes ps)
+    (choices_lawful outcome reads ps each)

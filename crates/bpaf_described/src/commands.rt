@@ -25,11 +25,12 @@ fn run_of<'p, P>(inner: &'p P, alloc: Global) -> OptionParser<Value, Lent<'p, P>
 /// The value of a parser that runs behind a command of these names.
 pub fn called<P: Parser<Value>>(
     names: &CommandNames,
+    adjacent: bool,
     inner: &P,
     state: &mut State,
 ) -> Result<Value, Error>
     requires { P.can_eval inner.now }
-    ensures { CalledOutcome names.now (P.outcome inner.now) (P.describes inner.now)
+    ensures { CalledOutcome adjacent names.now (P.outcome inner.now) (P.describes inner.now)
         state.old result state.new }
 {
     let names = names.copy()?;
@@ -37,6 +38,7 @@ pub fn called<P: Parser<Value>>(
         names,
         help: None,
         subparser: run_of(inner, state.alloc()),
+        adjacent,
     };
     parser.eval(state)
 }
@@ -56,6 +58,7 @@ pub fn called_meta<P: Parser<Value>>(
         names,
         help: None,
         subparser: run_of(inner, alloc),
+        adjacent: false,
     };
     <ParseCommand<Value, Lent<'_, P>> as Parser<Value>>::meta(&parser, alloc)
 }

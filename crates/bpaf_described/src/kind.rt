@@ -40,6 +40,6 @@ pub enum Kind {
     Product,
     /// The choice of two or three, as `or_else` writes it.
     OrElse,
-    /// A command of these names over the choice of all of them.
-    Command(CommandNames),
+    /// A command of these names over the choice of all of them; true is an adjacent one.
+    Command(CommandNames, bool),
 }

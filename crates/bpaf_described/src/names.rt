@@ -45,6 +45,7 @@ pub enum Keyed {
     Flag,
     RequiredFlag,
     Number,
+    AdjacentNumber,
     Integer,
     Text,
 }
@@ -56,6 +57,7 @@ pub fn kind_of_key(token: &str) -> Option<Keyed> {
         "fl" | "flag" => Some(Keyed::Flag),
         "rf" | "required_flag" => Some(Keyed::RequiredFlag),
         "an" | "argument" => Some(Keyed::Number),
+        "ana" | "argument_adjacent" => Some(Keyed::AdjacentNumber),
         "ai" | "argument_integer" => Some(Keyed::Integer),
         "as" | "argument_text" => Some(Keyed::Text),
         _ => None,
@@ -69,6 +71,7 @@ pub fn keyed_leaf(keyed: Keyed, key: NamedArg, number: u64) -> Leaf {
         Keyed::Flag => Leaf::Flag(as_value(key.flag(1u64, 0u64))),
         Keyed::RequiredFlag => Leaf::Flag(as_value(key.req_flag(number))),
         Keyed::Number => Leaf::Number(as_value(key.argument::<u64>("NUM"))),
+        Keyed::AdjacentNumber => { Leaf::Number(as_value(key.argument::<u64>("NUM").adjacent())) }
         Keyed::Integer => Leaf::Integer(as_value(key.argument::<i64>("INT"))),
         Keyed::Text => Leaf::Text(as_value(key.argument::<String>("STR"))),
     }
@@ -155,7 +158,12 @@ pub fn is_choice(token: &str) -> bool {
 
 /// Whether the names of a command and one parser follow.
 pub fn is_command(token: &str) -> bool {
-    token == "cmd" || token == "command"
+    token == "cmd" || token == "command" || is_adjacent_command(token)
+}
+
+/// Whether those of an adjacent command follow.
+pub fn is_adjacent_command(token: &str) -> bool {
+    token == "cmda" || token == "command_adjacent"
 }
 
 /// Whether other parsers follow.

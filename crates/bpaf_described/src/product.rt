@@ -26,7 +26,15 @@ impl<'p, V, P: Fields<V>> Fields<V> for LentFields<'p, P> {
         self.inner.push_metas(alloc, metas)
     }
 
+    ghost fast_outcome = { λ p. P.fast_outcome p.inner.now };
+
+    fn eval_fail_fast(&self, state: &mut State) -> Result<V, Error> {
+        self.inner.eval_fail_fast(state)
+    }
+
     ghost lawful = { λ p. P.lawful p.inner.now };
+
+    ghost fast_lawful = { λ p. P.fast_lawful p.inner.now };
 }
 
 /// The product of fields, whose values stay nested pairs.

@@ -28,7 +28,7 @@ taken_unless_open false taken here closed = absurd (true≢false (sym here))
 
 module _ (words : List (List ℕ)) (s : Situation) (p : ℕ) (at : IsOpenedAt words s p) where
   -- the word is present, and in scope
-  word_is_open : is_open s p ≡ true
+  pub word_is_open : is_open s p ≡ true
   word_is_open = match_is_open any_item s p at.first.matches
 
   -- the scope behind it lies in the old one
@@ -80,7 +80,7 @@ module _ (called : Called) (s : Situation) (p : ℕ)
       keeps_path s (opened s p) called.name (keeps_opened (opening_words called) s p at)
 
   -- a place that is left outside it is taken
-  closes_inside : Closes s (inside called s p)
+  pub closes_inside : Closes s (inside called s p)
   closes_inside q within outside =
       let words = opening_words called in
       taken_stays s p q (taken_before words s p at q within

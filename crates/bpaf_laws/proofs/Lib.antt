@@ -17,11 +17,14 @@ pub mod Choosing
 pub mod Leftmost
 pub mod PureLaws
 pub mod ProductLaws
+pub mod AdjacentGroupLaws
 pub mod Shapes
 pub mod ChoicesLaws
 pub mod ChoosingAll
 pub mod LeftmostOfAll
 pub mod CommandLaws
+pub mod OneRun
+pub mod AdjacentCommandLaws
 pub mod AppnameLaws
 pub mod Reading
 pub mod HideLaws

@@ -1,13 +1,13 @@
 -- Products keep to the laws where their fields do.
 use Rattle.std.specs.Prelude.{◌≡◌, true, false, Result, Ok, Err, None, if◌then◌else◌}
-use Rattle.std.proofs.Common.{sym, subst, inl, inr}
+use Rattle.std.proofs.Common.{sym, subst, inl, inr, refl, ⊎_elim}
 use Rattle.bpaf_line.specs.Situation.{Situation}
 use Rattle.bpaf_line.specs.Messages.{is_memory}
 use Rattle.bpaf_line.specs.declared.error.Error.{Error}
 use Rattle.bpaf_laws.specs.Reading.{Readings, Outcome}
 use Rattle.bpaf_laws.specs.Laws.{Keeps, Reads, Lawful, newly}
 use Rattle.bpaf_laws.proofs.Keeping.{keeps_of, keeps_trans, keeps_current, closes_trans, newly_joins}
-use Rattle.bpaf_laws.specs.Product.{BothReads, BothOutcome, joined, ProductOutcome, ProductReads}
+use Rattle.bpaf_laws.specs.Product.{BothReads, BothOutcome, FailFastOutcome, joined, ProductOutcome, ProductReads}
 
 -- the values of fields that were evaluated one after the other are a reading of both
 both_ok : (A B : Type 0) (first : Outcome A) (rest : Outcome B) (rf : Readings A) (rr : Readings B)
@@ -53,6 +53,21 @@ both_lawful {A = A} {B = B} {first = first} {rest = rest} {rf = rf} {rr = rr} la
         (keeps_of lb ran.middle ran.b t ran.rest_ran)
     | inr stopped ↦ la.err s t e stopped.0
   ];
+}
+
+-- so they do where a failing first field is the end
+pub fail_fast_lawful : {A B : Type 0} {first : Outcome A} {rest : Outcome B} {rf : Readings A}
+    {rr : Readings B}
+    → Lawful A first rf → Lawful B rest rr
+    → Lawful (A × B) (FailFastOutcome first rest) (BothReads A B rf rr)
+fail_fast_lawful {A = A} {B = B} {first = first} {rest = rest} {rf = rf} {rr = rr} la lb = record {
+  ok =
+      λ s t v o. both_ok A B first rest rf rr la lb (Ok v.0) (Ok v.1) s o.0 t v o.1 o.2 refl;
+  err = λ s t e o. ⊎_elim
+      (λ failed. la.err s t e failed)
+      (λ later. keeps_trans s later.1 t (la.ok s later.1 later.0 later.2).keeps
+      (lb.err later.1 t e later.3))
+      o;
 }
 
 -- a product keeps to the laws where its fields do

@@ -14,8 +14,11 @@ pub mod Spared
 pub mod Choice
 pub mod Pure
 pub mod Product
+pub mod AdjacentGroup
 pub mod Choices
 pub mod Command
+pub mod OneRun
+pub mod AdjacentCommand
 pub mod Appname
 pub mod Hide
 pub mod Any

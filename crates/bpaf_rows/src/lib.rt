@@ -7,6 +7,8 @@
 #![tactic(auto)]
 
 #[cfg(test)]
+mod adjacent;
+#[cfg(test)]
 mod calls;
 #[cfg(test)]
 mod combinators;
@@ -18,6 +20,8 @@ mod counting;
 mod failures;
 #[cfg(test)]
 mod forms;
+#[cfg(test)]
+mod groups;
 #[cfg(test)]
 mod laws;
 #[cfg(test)]

@@ -1,4 +1,4 @@
-ghost use Rattle.std.specs.Prelude.{◌≡◌, IfOk, IsSomeAnd, MatchOption, None, false};
+ghost use Rattle.std.specs.Prelude.{◌≡◌, IfOk, IsSomeAnd, MatchOption, None, false, true};
 ghost use Rattle.bpaf_text.specs.Named.{with_help};
 
 use crate::named::NamedArg;
@@ -88,6 +88,19 @@ impl<T> ParseArgument<T> {
         ensures { result ≡ record self { named = with_help self.named help } }
     {
         self.named = self.named.help(help);
+        self
+    }
+
+    /// The argument whose key counts only with its value in its own word (bpaf's
+    /// `ParseArgument::adjacent`). It takes no memory.
+    ///
+    /// ```text
+    /// short(alloc, 'n')?.argument::<u64>("NUM").adjacent()     reads `-n3` and `-n=3`, not `-n 3`
+    /// ```
+    pub fn adjacent(mut self) -> ParseArgument<T>
+        ensures { result ≡ record self { adjacent = true } }
+    {
+        self.adjacent = true;
         self
     }
 

@@ -1,0 +1,33 @@
+use Rattle.std.proofs.Common.{refl, ap, ◌∙◌, Ok, arith, ◌≤◌, length}
+use Rattle.bpaf_laws.specs.AdjacentGroup.{whole}
+use Rattle.bpaf.proofs.Attempting.{whole_answers, error_answers, left_narrows}
+use Rattle.bpaf.proofs.adjacent.attempts.Goals as goal
+
+pub loop-value-init : goal.loop-value-init
+loop-value-init g c =
+    let run = c.adjacently_available_from-end.ensures in
+    record { same = refl; narrowed = whole _ run.run; inside = run.inside c.requires.inside }
+
+pub returns-in-Err : goal.returns-in-Err
+returns-in-Err g c =
+    error_answers g.row.T.Denot (g.P.Parser.outcome c.args.parser.now) c.args.state.now
+    c.loop-value.state c.attempt.new.state c.args.place c.loop-value.end
+    c.loop-value.invariant.same c.loop-value.invariant.narrowed c.attempt.result c.in-Err.error
+    c.in-Err.is c.attempt.ensures
+
+pub returns-in-Ok-Whole : goal.returns-in-Ok-Whole
+returns-in-Ok-Whole g c =
+    whole_answers g.row.T.Denot (g.P.Parser.outcome c.args.parser.now) c.args.state.now
+    c.loop-value.state c.attempt.new.state c.args.place c.loop-value.end
+    c.loop-value.invariant.same c.loop-value.invariant.narrowed c.attempt.result
+    c.in-Ok-Whole.value (c.in-Ok-Whole.is ∙ ap Ok c.in-Ok-Whole.field-0-is) c.attempt.ensures
+
+pub loop-value-preserved : goal.loop-value-preserved
+loop-value-preserved g c =
+    let left = left_narrows g.row.T.Denot (g.P.Parser.outcome c.args.parser.now) c.args.state.now
+    c.loop-value.state c.attempt.new.state c.args.place c.loop-value.end
+    c.loop-value.invariant.same c.loop-value.invariant.narrowed c.attempt.result
+    c.in-Ok-Left.left (c.in-Ok-Left.is ∙ ap Ok c.in-Ok-Left.field-0-is) c.attempt.ensures in
+    let before : c.loop-value.end ≤ length c.args.state.now.context.line =
+    c.loop-value.invariant.inside in
+    record { same = left.0; narrowed = left.1; inside = omega arith }

@@ -1,0 +1,14 @@
+-- All is as before, and the next attempt ends where the one before says.
+use Rattle.std.proofs.Common.{◌≡◌, ◌≤◌, length}
+use Rattle.bpaf_laws.specs.AdjacentGroup.{Narrowed}
+use Rattle.bpaf.proofs.adjacent.attempts.Given as goal
+
+abbrev pub invariant-loop-value : goal.invariant-loop-value
+invariant-loop-value g l = record {
+  same : l.state ≡ l.fn.state;
+  narrowed : Narrowed g.row.T.Denot (g.P.Parser.outcome l.parser) l.fn.state l.place l.end;
+  inside : l.end ≤ length l.fn.state.context.line;
+}
+
+abbrev pub decreases-loop-value : goal.decreases-loop-value
+decreases-loop-value g l = l.end

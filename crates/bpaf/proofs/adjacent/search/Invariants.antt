@@ -1,0 +1,18 @@
+-- All is as before, and what the places from here on give is what the group gives.
+use Rattle.std.proofs.Common.{◌≡◌, ◌≤◌, ◌-◌}
+use Rattle.bpaf_doc.specs.Shape.{part_of}
+use Rattle.bpaf.specs.Remembering.{IsRemembered}
+use Rattle.bpaf.proofs.Seeking.{Rest}
+use Rattle.bpaf.proofs.adjacent.search.Given as goal
+
+abbrev pub invariant-loop-places : goal.invariant-loop-places
+invariant-loop-places g l = record {
+  same : l.state ≡ l.fn.state;
+  begun : l.fn.state.start ≤ l.from;
+  sound : IsRemembered l.fn.state l.best;
+  rest : Rest g.row.T.Denot (g.P.Parser.outcome l.parser) l.fn.state (part_of l.first) l.from
+      l.best;
+}
+
+abbrev pub decreases-loop-places : goal.decreases-loop-places
+decreases-loop-places g l = l.fn.state.end - l.from

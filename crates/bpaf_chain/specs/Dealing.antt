@@ -1,0 +1,91 @@
+-- Steps that are dealt out of the words, and what a run of the program does.
+use Rattle.std.specs.Prelude.{◌≡◌, ◌⊎◌, ℕ, ℤ, Bool, true, false, List, [], ◌∷◌, Option, Some, codes}
+use Rattle.std.specs.Global.{Vec}
+use Rattle.std.specs.Io.KnownBytes.{Keeps, Appends}
+use mir.Syntax.{w64}
+use Rattle.bpaf_doc.specs.Names.{Names}
+use Rattle.bpaf_text.specs.Meaning.{SpellsSigned, SpellsUnsigned}
+use Rattle.bpaf_text.specs.Named.{key_named}
+use Rattle.bpaf_words.specs.Arguments.{Given}
+use Rattle.bpaf_words.specs.Spelling.{Known}
+use Rattle.bpaf_line.specs.Constructing.{IsContext}
+use Rattle.bpaf_line.specs.Situation.{Context, is_dealt_place}
+use Rattle.bpaf_laws.specs.AdjacentCommand.{AdjacentReads}
+use Rattle.bpaf_laws.specs.Choice.{ChoiceReads}
+use Rattle.bpaf_laws.specs.Flag.{FlagReads}
+use Rattle.bpaf_laws.specs.Product.{BothReads, ProductReads}
+use Rattle.bpaf_laws.specs.Reading.{Readings}
+use Rattle.bpaf_laws.specs.Repeat.{ManyReads}
+use Rattle.bpaf.specs.declared.leaves.positional.Position.TheVariants.{Unrestricted}
+use Rattle.bpaf.specs.Positional.{PositionalReads}
+use Rattle.bpaf_chain.specs.declared.steps.Step.{Step}
+use Rattle.bpaf_chain.specs.declared.steps.Step.TheVariants.{Move, Turn, Repeat}
+use Rattle.bpaf_chain.specs.Lines.{step_lines}
+
+-- what the program is given
+abbrev pub program_given : List (List ℕ) → Given
+program_given words = record { words = words; env = []; name = Some (codes "chain") }
+
+-- the name of the switch by which a turn goes to the left
+abbrev pub left_names : Names
+left_names = record { shorts = []; longs = codes "left" ∷ [] }
+
+-- a truth value that a switch keeps is given as it is
+abbrev pub IsKept : Bool → Bool → Type 0
+IsKept kept v = v ≡ kept
+
+-- a word that spells a number
+abbrev pub NumberReads : Readings ℕ
+NumberReads = PositionalReads ℕ (SpellsUnsigned 64) Unrestricted
+
+-- a word that spells a number with a sign
+abbrev pub IntegerReads : Readings ℤ
+IntegerReads = PositionalReads ℤ (SpellsSigned w64) Unrestricted
+
+-- the switch `--left`
+abbrev pub LeftReads : Readings Bool
+LeftReads = FlagReads Bool IsKept (key_named left_names) true (Some false)
+
+-- one run of words: this name, and what the step is made of
+abbrev pub StepReads : {V : Type 0} → List ℕ → Readings V → (V → Step) → Readings Step
+StepReads {V} word parts make =
+    AdjacentReads Step (word ∷ []) (ProductReads V Step parts (λ x step. step ≡ make x))
+
+-- `move DX DY`
+abbrev pub MoveReads : Readings Step
+MoveReads =
+    StepReads {V = ℤ × ℤ} (codes "move") (BothReads ℤ ℤ IntegerReads IntegerReads)
+    (λ x. Move x.0 x.1)
+
+-- `turn [--left] DEGREES`
+abbrev pub TurnReads : Readings Step
+TurnReads =
+    StepReads {V = Bool × ℕ} (codes "turn") (BothReads Bool ℕ LeftReads NumberReads)
+    (λ x. Turn x.0 x.1)
+
+-- `repeat N`
+abbrev pub RepeatReads : Readings Step
+RepeatReads = StepReads {V = ℕ} (codes "repeat") NumberReads (λ n. Repeat n)
+
+-- all places of the words' line but the first `--`, by some known short names, are dealt out to the
+-- steps, each used once
+pub record AreDealtSteps (words : List (List ℕ)) (steps : Vec Step) : Type 0 where
+  pub known : Known
+  pub context : Context
+  pub is_context : IsContext known (program_given words) context
+  pub read : ManyReads (ChoiceReads (ChoiceReads MoveReads TurnReads) RepeatReads)
+      context (is_dealt_place context) steps
+
+-- status 0: nothing on the error writer, and on the other exactly the lines of steps that are dealt
+-- out of the words
+pub record Succeeds (words : List (List ℕ)) (out out_after err err_after : Option (List ℕ)) : Type 0
+  where
+    pub quiet : Keeps err err_after
+    pub steps : Vec Step
+    pub dealt : AreDealtSteps words steps
+    pub printed : Appends out out_after (step_lines steps.items)
+
+-- status 1: nothing on the writer, or there are such steps
+abbrev pub Fails : List (List ℕ) → Option (List ℕ) → Option (List ℕ) → Type 0
+Fails words out out_after =
+    Keeps out out_after ⊎ ((steps : Vec Step) × AreDealtSteps words steps)

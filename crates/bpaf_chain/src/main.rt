@@ -1,0 +1,60 @@
+//! A program of chained commands: moves, turns and repeats, in the order in which they are typed.
+//!
+//! It stands on `bpaf` alone, and has no contract for a layer above: it is the top. `run` is the
+//! whole program over two writers; `main` hands it the words, standard output and standard error,
+//! and ends with its status. It moves nothing: it prints each step.
+//!
+//! ```text
+//! chain [move DX DY | turn [--left] DEGREES | repeat N]...
+//!
+//! chain move 1 2 turn --left 90 repeat 3    move 1 2, turn left 90, repeat 3, a line each
+//! chain turn 90 --left                      turn left 90
+//! chain                                     nothing, status 0
+//! chain move 1 turn 90                      Error: refused, on standard error, status 1
+//! chain move -1 2                           Error: refused: `-1` is a key
+//! ```
+//!
+//! Each command is adjacent: it reads the words behind its name without a gap, and leaves what
+//! follows to the next one.
+//!
+//! What is proved of it: where the writers tell their bytes, status 0 comes only where the steps
+//! that were printed are dealt out of the words, and each step is read off one run of them
+//! (specs/Dealing.antt, specs/Lines.antt).
+#![tactic(auto)]
+
+mod print;
+mod run;
+mod steps;
+
+use bpaf::ParseFailure;
+use run::{refuse, run};
+use std::process::ExitCode;
+use std::{env, io};
+
+#[cfg(test)]
+mod tests;
+
+fn main(rt: HostRuntime) -> io::Result<ExitCode> {
+    let mut out = rt.stdout();
+    let mut err = rt.stderr();
+    let status = match words_of(&rt) {
+        Ok(words) => run(rt.alloc(), words.as_slice(), &mut out, &mut err),
+        Err(error) => {
+            if error.kind() != io::ErrorKind::OutOfMemory {
+                return Err(error);
+            }
+            refuse(ParseFailure::Memory, &mut err)
+        }
+    };
+    Ok(ExitCode::from(status))
+}
+
+/// The words that the program is called with, without its own name; refused for want of memory, and
+/// where one is no text.
+fn words_of(rt: &HostRuntime) -> io::Result<Vec<String>> {
+    let mut words = Vec::new(rt.alloc());
+    for word in env::args(rt)?.skip(1) {
+        words.push(word)?;
+    }
+    Ok(words)
+}

@@ -1,0 +1,45 @@
+ghost use Rattle.std.specs.Prelude.{◌≡◌, ◌⊎◌, map, string_bytes};
+ghost use Rattle.bpaf_chain.specs.Dealing.{Succeeds, Fails};
+
+use crate::print::print_steps;
+use crate::steps::read_steps;
+use bpaf::ParseFailure;
+use std::alloc::Global;
+use std::io::Write;
+
+/// Runs the program on its words, and gives its status.
+///
+/// Status 0 comes only where the steps were read and all their lines written on `out`, and then
+/// nothing is written on `err`. A refusal is told on `err`, as `Error: ` and the message, and
+/// nothing is written on `out`; its status is 1, as is that of a write that fails.
+pub fn run<W: Write, E: Write>(alloc: Global, words: &[String], out: &mut W, err: &mut E) -> u8
+    ensures succeeds { result ≡ 0 →
+        Succeeds (map string_bytes words.now) (W.contents out.old) (W.contents out.new)
+        (E.contents err.old) (E.contents err.new) }
+    ensures fails { result ≡ 1 →
+        Fails (map string_bytes words.now) (W.contents out.old) (W.contents out.new) }
+    ensures status { (result ≡ 0) ⊎ (result ≡ 1) }
+{
+    match read_steps(alloc, words) {
+        Ok(steps) => match print_steps(steps.as_slice(), out) {
+            Ok(()) => 0,
+            Err(_) => 1,
+        },
+        Err(failure) => refuse(failure, err),
+    }
+}
+
+/// Tells why there are no steps: the message, or else that memory was wanted. The status is 1.
+pub fn refuse<E: Write>(failure: ParseFailure, err: &mut E) -> u8
+    ensures { result ≡ 1 }
+{
+    match failure.unwrap_stderr() {
+        Ok(Some(text)) => {
+            let _ = writeln!(err, "Error: {text}");
+        }
+        Ok(None) | Err(_) => {
+            let _ = writeln!(err, "Error: out of memory");
+        }
+    }
+    1
+}

@@ -1,0 +1,8 @@
+use Rattle.bpaf_core.proofs.Attempting.{attempt_marks}
+use Rattle.bpaf_core.proofs.options.OptionParser.attempt.Goals as goal
+
+pub returns-clause-marks : goal.returns-clause-marks
+returns-clause-marks g c =
+    attempt_marks (g.met.P.Parser.lawful c.args.self.now.inner) c.args.state.now
+    c.set_scope.new.self c.run_from.new.state c.args.from c.args.end c.run_from.result
+    c.set_scope.ensures.scope c.run_from.ensures

@@ -1,0 +1,111 @@
+-- What a command answers that may be adjacent, and then reads the items behind its word without a
+-- gap.
+use Rattle.std.specs.Prelude.{◌≡◌, ◌⊎◌, ℕ, ◌+◌, Bool, true, false, List, None, Result, Ok, Err}
+use Rattle.bpaf_doc.specs.Shape.{Part}
+use Rattle.bpaf_line.specs.declared.error.Error.{Error}
+use Rattle.bpaf_line.specs.declared.error.Message.TheVariants as message
+use Rattle.bpaf_line.specs.declared.failure.ParseFailure.{ParseFailure}
+use Rattle.bpaf_line.specs.declared.failure.ParseFailure.TheVariants as failure
+use Rattle.bpaf_line.specs.Messages.{is_memory}
+use Rattle.bpaf_line.specs.Runs.{IsRunFrom}
+use Rattle.bpaf_line.specs.Situation.{Situation, with_current, with_scope}
+use Rattle.bpaf_laws.specs.AdjacentCommand.{AdjacentReads, AllTaken, IsFirstLeft}
+use Rattle.bpaf_laws.specs.Command.{Called, CommandReads, IsNotOpened, IsOpenedAt, inside, opened}
+use Rattle.bpaf_laws.specs.Command.{opening_words}
+use Rattle.bpaf_laws.specs.Reading.{Outcome, Readings}
+use Rattle.bpaf_core.specs.Command.{CommandOutcome, IsMissingPart, end_message}
+use Rattle.bpaf_core.specs.Run.{Runs}
+
+-- an end of a run that isn't want of memory
+abbrev pub IsTold : ParseFailure → Type 0
+IsTold f = is_memory (end_message f) ≡ false
+
+-- an attempt: a run over the places from one up to another
+abbrev pub Attempt : (T : Type 0) → Outcome T → Situation → ℕ → ℕ → Result T ParseFailure
+    → Situation → Type 0
+Attempt T inner s from end = Runs T inner (with_scope s from end)
+
+-- what follows a first attempt that failed: nothing, where it left none of its places present; else
+-- a second one, over those before the first that it left. Where this fails too the first failure
+-- counts, with its situation. Want of memory is the answer at once
+pub data Retry (T : Type 0) (inner : Outcome T) (s : Situation) (from end : ℕ) (f : ParseFailure)
+    (t : Situation) : Result T ParseFailure → Situation → Type 0 where
+  nothing_left : IsTold f → AllTaken t from end → Retry T inner s from end f t (Err f) t
+  second_counts : (v : T) (stop : ℕ) (u : Situation) → IsTold f → IsFirstLeft t from end stop
+      → Attempt T inner s from stop (Ok v) u → Retry T inner s from end f t (Ok v) u
+  second_fails : (g : ParseFailure) (stop : ℕ) (u : Situation) → IsTold f
+      → IsFirstLeft t from end stop → Attempt T inner s from stop (Err g) u → IsTold g
+      → Retry T inner s from end f t (Err f) t
+  wants_memory : Retry T inner s from end f t (Err failure.Memory) s
+
+-- the failure that stands where the second attempt failed too: the first one, there where the first
+-- attempt led; or want of memory, back where both began
+abbrev pub GivesBack : ParseFailure → ParseFailure → Situation → Situation → ParseFailure
+    → Situation → Type 0
+GivesBack first second back there f t =
+    (IsTold second × (f ≡ first) × (t ≡ there)) ⊎ ((f ≡ failure.Memory) × (t ≡ back))
+
+-- the attempts from a place on: one over the run of present places; where that fails, what follows
+pub data Attempts (T : Type 0) (inner : Outcome T) (s : Situation) (from : ℕ)
+    : Result T ParseFailure → Situation → Type 0 where
+  first_counts : (v : T) (end : ℕ) (t : Situation) → IsRunFrom s from end
+      → Attempt T inner s from end (Ok v) t → Attempts T inner s from (Ok v) t
+  first_fails : (f : ParseFailure) (end : ℕ) (t : Situation) (r : Result T ParseFailure)
+      (u : Situation) → IsRunFrom s from end → Attempt T inner s from end (Err f) t
+      → Retry T inner s from end f t r u → Attempts T inner s from r u
+
+-- the attempts behind a word, from which on the scope runs; so it does again after a value
+abbrev pub AdjacentRuns : (T : Type 0) → Outcome T → Situation → Result T ParseFailure → Situation
+    → Type 0
+AdjacentRuns T inner s (Ok v) t =
+    (left : Situation) × Attempts T inner s (s.start + 1) (Ok v) left
+    × (t ≡ with_scope left s.start s.end)
+AdjacentRuns T inner s (Err f) t = Attempts T inner s (s.start + 1) (Err f) t
+
+-- the word is there, and the attempts behind it answer a value, or refuse; or it isn't there, and
+-- the command's part is missing; or there is no memory for the path
+pub data AdjacentOutcome (T : Type 0) (inner : Outcome T) (called : Called)
+    (shows : Part → Type 0) (s : Situation) : Result T Error → Situation → Type 0 where
+  counted : (v : T) (p : ℕ) (t : Situation) → IsOpenedAt (opening_words called) s p
+      → AdjacentRuns T inner (inside called s p) (Ok v) t
+      → AdjacentOutcome T inner called shows s (Ok v) t
+  failed : (f : ParseFailure) (e : Error) (p : ℕ) (t : Situation)
+      → IsOpenedAt (opening_words called) s p
+      → AdjacentRuns T inner (inside called s p) (Err f) t → e.0 ≡ end_message f
+      → AdjacentOutcome T inner called shows s (Err e) t
+  unnamed : (e : Error) → IsNotOpened (opening_words called) s → IsMissingPart shows s e.0
+      → AdjacentOutcome T inner called shows s (Err e) (with_current s None)
+  no_path : (e : Error) (p : ℕ) → IsOpenedAt (opening_words called) s p → e.0 ≡ message.Memory
+      → AdjacentOutcome T inner called shows s (Err e) (opened s p)
+
+-- what a command answers, adjacent or plain
+abbrev pub EitherCommandOutcome : Bool → (T : Type 0) → Outcome T → Called → (Part → Type 0)
+    → Outcome T
+EitherCommandOutcome true T inner called shows = AdjacentOutcome T inner called shows
+EitherCommandOutcome false T inner called shows = CommandOutcome T inner called shows
+
+-- what is read of it
+abbrev pub EitherCommandReads : Bool → (T : Type 0) → List (List ℕ) → Readings T → Readings T
+EitherCommandReads true T words inner = AdjacentReads T words inner
+EitherCommandReads false T words inner = CommandReads T words inner
+
+-- what runs inside it: the attempts, or one run
+abbrev pub RunsInside : Bool → (T : Type 0) → Outcome T → Situation → Result T ParseFailure
+    → Situation → Type 0
+RunsInside true T inner s = AdjacentRuns T inner s
+RunsInside false T inner s = Runs T inner s
+
+-- not going inside: the word isn't there, and the command's part is missing; or it is, and there is
+-- no memory for the path
+abbrev pub StaysOutside : Called → (Part → Type 0) → Situation → Error → Situation → Type 0
+StaysOutside called shows s e t =
+    (IsNotOpened (opening_words called) s × IsMissingPart shows s e.0 × (t ≡ with_current s None))
+    ⊎ ((p : ℕ) × IsOpenedAt (opening_words called) s p × (e.0 ≡ message.Memory)
+    × (t ≡ opened s p))
+
+-- going inside: the word is there, and is taken
+abbrev pub Enters : {U : Type 0} → Called → (Part → Type 0) → Situation → Result U Error → Situation
+    → Type 0
+Enters called shows s (Ok u) t =
+    (p : ℕ) × IsOpenedAt (opening_words called) s p × (t ≡ inside called s p)
+Enters called shows s (Err e) t = StaysOutside called shows s e t

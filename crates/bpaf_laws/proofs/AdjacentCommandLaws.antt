@@ -1,0 +1,67 @@
+-- Behind the word of an adjacent command: what is read there is one run.
+use Rattle.std.proofs.Common.{◌≡◌, ℕ, ◌+◌, ◌<◌, ◌≤◌, ◌==◌, true, ◌&&◌, ◌||◌, nat_le, nat_lt}
+use Rattle.std.proofs.Common.{ap, ◌∙◌, arith}
+use Rattle.std.proofs.lemmas.Bool.Decides.{nat_tests}
+use Rattle.bpaf_line.specs.Situation.{Situation, is_open, open_count, with_scope}
+use Rattle.bpaf_laws.specs.Reading.{Readings}
+use Rattle.bpaf_laws.specs.Laws.{Keeps, Reads, newly}
+use Rattle.bpaf_laws.specs.AdjacentCommand.{AdjacentReads}
+use Rattle.bpaf_laws.specs.Command.{Called, IsOpenedAt, inside, opening_words}
+use Rattle.bpaf_laws.proofs.CommandLaws.{closes_inside, keeps_inside, word_is_open}
+use Rattle.bpaf_laws.proofs.Keeping.{keeps_scope, keeps_trans, newly_joins, newly_take}
+use Rattle.bpaf_laws.proofs.OneRun.{keeps_run, newly_run}
+
+-- a place and the run behind it are one run
+one_more : (p end q : ℕ) → p + 1 ≤ end
+    → (q == p || (nat_le (p + 1) q && nat_lt q end)) ≡ (nat_le p q && nat_lt q end)
+one_more p end q ordered = grind (arith, nat_tests)
+
+module _ (called : Called) (s : Situation) (p : ℕ) (at : IsOpenedAt (opening_words called) s p)
+    (end : ℕ) (ordered : p + 1 ≤ end)
+    (present : (q : ℕ) → p + 1 ≤ q → q < end → is_open (inside called s p) q ≡ true) where
+  module _ {T : Type 0} {reads : Readings T} (v : T) (t : Situation)
+      (read : Reads T reads (with_scope (inside called s p) (p + 1) end) v t)
+      (none : open_count t ≡ 0) where
+    -- what it keeps inside the command
+    kept_inside : Keeps (inside called s p) t
+    kept_inside =
+        let m : Situation = inside called s p in
+        keeps_trans m (with_scope m (p + 1) end) t (keeps_run m (p + 1) end present) read.keeps
+
+    -- all that is newly taken is the word and the run behind it
+    one_run : (q : ℕ) → newly s t q ≡ (nat_le p q && nat_lt q end)
+    one_run q =
+        let m : Situation = inside called s p in
+        let word = newly_take s p (word_is_open (opening_words called) s p at) in
+        let joins = newly_joins s m t (keeps_inside called s p at) kept_inside in
+        joins.all q
+        ∙ (ap (λ x. x || newly m t q) (word q)
+        ∙ (ap (λ x. q == p || x)
+        (newly_run m (p + 1) end present t read.keeps read.closed none q)
+        ∙ one_more p end q ordered))
+
+    -- what is read over a run of present places behind the word is a reading, with the scope from
+    -- the word on
+    pub adjacent_read : Reads T (AdjacentReads T (opening_words called) reads) s v
+        (with_scope t p s.end)
+    adjacent_read =
+        let m : Situation = inside called s p in
+        let entered = keeps_inside called s p at in
+        record {
+          keeps = keeps_scope s t p s.end (keeps_trans s m t entered kept_inside)
+              (λ q within. entered.narrows q within);
+          closed = λ q within outside.
+              kept_inside.stays q (closes_inside called s p at q within outside);
+          reading = record {
+            command = record {
+              name = p;
+              named = at.named;
+              name_share = newly s m;
+              is_name = newly_take s p (word_is_open (opening_words called) s p at);
+              inner_share = newly m t;
+              joins = newly_joins s m t entered kept_inside;
+              read = read.reading;
+            };
+            run = record { from = p; to = end; is = one_run };
+          };
+        }

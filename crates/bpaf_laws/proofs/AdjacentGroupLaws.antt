@@ -1,0 +1,242 @@
+-- Adjacent groups keep to the laws where their products do.
+use Rattle.std.specs.Prelude.{IfOk, ◌≡◌, ℕ, ◌<◌, ◌≤◌, Bool, true, false, not, ◌&&◌, nat_le, nat_lt, Result, Ok, Err, Option, Some, None, if◌then◌else◌, refl}
+use Rattle.std.proofs.Common.{sym, subst, ◌∙◌, ◌+◌, arith, true≢false}
+use Rattle.std.proofs.lemmas.Bool.Decides.{nat_tests}
+use Rattle.bpaf_doc.specs.Shape.{Part}
+use Rattle.bpaf_line.specs.declared.error.Error.{Error}
+use Rattle.bpaf_line.specs.Situation.{Situation, is_taken, is_open, in_scope, with_scope}
+use Rattle.bpaf_line.proofs.Places.{open_in_scope, open_not_taken}
+use Rattle.bpaf_laws.specs.Reading.{Readings, Outcome, Share, IsEmptyShare, HasPlace}
+use Rattle.bpaf_laws.specs.Laws.{Keeps, Reads, Lawful, newly}
+use Rattle.bpaf_laws.specs.Spared.{IsNotMemory, WithoutMemory}
+use Rattle.bpaf_laws.specs.OneRun.{IsRun}
+use Rattle.bpaf_laws.specs.AdjacentGroup.{GroupReads, Failure, longer, taken_by, Probe}
+use Rattle.bpaf_laws.specs.AdjacentGroup.{Narrowed, whole, again, Tries, answered, refused}
+use Rattle.bpaf_laws.specs.AdjacentGroup.{TriesAt, skipped, failed, found, no_memory}
+use Rattle.bpaf_laws.specs.AdjacentGroup.{Searches, over, on, value, wanted, GroupOutcome, EndsWith, width_of}
+use Rattle.bpaf_laws.specs.Counting.{taken_count}
+use Rattle.bpaf_laws.proofs.Keeping.{keeps_of, keeps_refl, keeps_same, keeps_trans, keeps_scope}
+use Rattle.bpaf_laws.proofs.Sparing.{not_both}
+
+-- a place of a range lies in it
+in_range : (a b p : ℕ) → (nat_le a p && nat_lt p b) ≡ true → (a ≤ p) × (p < b)
+in_range a b p within = grind (arith, nat_tests)
+
+-- at one place: what is present in a scope lies in it
+scope_of : (x y : Bool) → (x && not y) ≡ true → x ≡ true
+scope_of true y h = refl
+scope_of false y h = h
+
+-- at one place: what isn't present in a scope in which it lies is taken
+taken_of : (x y : Bool) → (x && not y) ≡ false → x ≡ true → y ≡ true
+taken_of true true h e = refl
+taken_of true false h e = cc
+taken_of false y h e = cc
+
+-- at one place: what is newly taken is a range, where that is taken and wasn't, and nothing else is
+-- newly taken
+new_in_range : (x y z : Bool) → (z ≡ true → (x ≡ true) × (y ≡ false))
+    → ((x && not y) ≡ true → z ≡ true) → (x && not y) ≡ z
+new_in_range true true true f g = let h : true ≡ false = (f refl).1 in cc
+new_in_range true true false f g = refl
+new_in_range true false z f g = sym (g refl)
+new_in_range false y true f g = let h : false ≡ true = (f refl).0 in cc
+new_in_range false y false f g = refl
+
+-- places that are present in scope
+abbrev AllOpen : Situation → ℕ → ℕ → Type 0
+AllOpen s a b = (p : ℕ) → a ≤ p → p < b → is_open s p ≡ true
+
+-- as a scope they keep all
+keeps_open : (s : Situation) (a b : ℕ) → AllOpen s a b → Keeps s (with_scope s a b)
+keeps_open s a b all =
+    keeps_scope s s a b (keeps_refl s)
+    (λ p within.
+    let inside = in_range a b p within in
+    scope_of (in_scope s p) (is_taken s p) (all p inside.0 inside.1))
+
+-- each place up to the end of an attempt is present before it
+pub narrowed_open : {T : Type 0} (inner : Outcome T) (s : Situation) (a b : ℕ)
+    → Narrowed T inner s a b → (a ≤ b) × AllOpen s a b
+narrowed_open inner s a b (whole stop run) = (run.ordered, run.present)
+narrowed_open inner s a b (again stop left v t before ran next) =
+    let opened = narrowed_open inner s a stop before in
+    let inside = open_in_scope (with_scope t a stop) left next.present in
+    (inside.0, λ p low high. opened.1 p low (omega (arith, inside.1)))
+
+module _ {T : Type 0} {inner : Outcome T} {reads : Readings T} (law : Lawful T inner reads)
+    (s : Situation) where
+  -- an attempt keeps all
+  attempt_keeps : (a b : ℕ) (r : Result T Error) (t : Situation) → Narrowed T inner s a b
+      → inner (with_scope s a b) r t → Keeps s t
+  attempt_keeps a b r t narrowed ran =
+      keeps_trans s (with_scope s a b) t (keeps_open s a b (narrowed_open inner s a b narrowed).1)
+      (keeps_of law (with_scope s a b) r t ran)
+
+  -- so do the attempts from a place on
+  pub tries_keep : (a : ℕ) (r : Result T Error) (t : Situation) → Tries T inner s a r t → Keeps s t
+  tries_keep a r t (answered stop v left narrowed ran none) =
+      keeps_scope s left s.start s.end (attempt_keeps a stop (Ok v) left narrowed ran)
+      (λ p within. within)
+  tries_keep a r t (refused stop e left narrowed ran) =
+      attempt_keeps a stop (Err e) left narrowed ran
+
+  -- a value of theirs is read off one run
+  tries_read : (a : ℕ) (v : T) (t : Situation) → Tries T inner s a (Ok v) t
+      → Reads T (GroupReads T reads) s v t
+  tries_read a v t (answered stop v' left narrowed ran none) =
+      let opened = narrowed_open inner s a stop narrowed in
+      let read = law.ok (with_scope s a stop) left v' ran in
+      record {
+        keeps = tries_keep a (Ok v') _ (answered stop v' left narrowed ran none);
+        closed = λ p within outside. absurd (true≢false (sym within ∙ outside));
+        reading = record {
+          read = read.reading;
+          run = record {
+            from = a;
+            to = stop;
+            is = λ p.
+                let range = nat_le a p && nat_lt p stop in
+                new_in_range (is_taken left p) (is_taken s p) range
+                (λ within.
+                let inside = in_range a stop p within in (
+                  taken_of range (is_taken left p) (none p inside.0) within,
+                  open_not_taken s p (opened.1 p inside.0 inside.1),
+                ))
+                (λ new. scope_of range (is_taken s p) (read.keeps.fresh p new));
+          };
+        };
+      }
+
+  -- a failure that is remembered keeps all
+  abbrev BestKeeps : Option Failure → Type 0
+  BestKeeps None = Unit {0}
+  BestKeeps (Some failure) = Keeps s failure.left
+
+  -- so does the one that took more
+  longer_keeps : (best : Option Failure) (other : Failure) → BestKeeps best → Keeps s other.left
+      → BestKeeps (longer s best other)
+  longer_keeps best other before now =
+      elim (nat_lt (taken_by s best) (taken_count s other.left))
+      as (λ more. BestKeeps (if more then Some other else best))
+      [ true ↦ now | false ↦ before ]
+
+  -- what is remembered after a place keeps all
+  tried_keeps : (a stop : ℕ) (best : Option Failure) (r : Result (Option T) Error)
+      (after : Option Failure) (t : Situation) → TriesAt T inner s a stop best r after t
+      → BestKeeps best → BestKeeps after
+  tried_keeps a stop best r after t (skipped probe) before = before
+  tried_keeps a stop best r after t (failed e left probe tries spared) before =
+      longer_keeps best (record { error = e; left = left }) before (tries_keep a (Err e) left tries)
+  tried_keeps a stop best r after t (found v left probe tries) before = before
+  tried_keeps a stop best r after t (no_memory e memory) before = before
+
+  -- a value that comes of a place is a reading
+  abbrev IsFound : Result (Option T) Error → Situation → Type 0
+  IsFound (Ok (Some v)) t = Reads T (GroupReads T reads) s v t
+  IsFound (Ok None) t = Unit {0}
+  IsFound (Err e) t = Unit {0}
+
+  -- it is
+  tried_reads : (a stop : ℕ) (best : Option Failure) (r : Result (Option T) Error)
+      (after : Option Failure) (t : Situation) → TriesAt T inner s a stop best r after t
+      → IsFound r t
+  tried_reads a stop best r after t (skipped probe) = tt
+  tried_reads a stop best r after t (failed e left probe tries spared) = tt
+  tried_reads a stop best r after t (found v left probe tries) = tries_read a v left tries
+  tried_reads a stop best r after t (no_memory e memory) = tt
+
+  -- what the laws say of an answer
+  abbrev IsGood : Result T Error → Situation → Type 0
+  IsGood (Ok v) t = Reads T (GroupReads T reads) s v t
+  IsGood (Err e) t = Keeps s t
+
+  -- the failure that is remembered is a good end; so is that nothing is
+  end_keeps : (first : Part) (best : Option Failure) (e : Error) (t : Situation) → BestKeeps best
+      → EndsWith s first best e t → Keeps s t
+  end_keeps first None e t before ends = keeps_same s t ends.3
+  end_keeps first (Some failure) e t before ends = subst (Keeps s) (sym ends.1) before
+
+  -- a search keeps to the laws
+  searches_good : (first : Part) (from : ℕ) (best : Option Failure) (r : Result T Error)
+      (t : Situation) → BestKeeps best → Searches T inner s first from best r t → IsGood r t
+  searches_good first from best r t before (over from' best' e t' none ends) =
+      end_keeps first best' e t' before ends
+  searches_good first from best r t before (on from' a best' after r' t' start tried rest) =
+      searches_good first (a + 1) after r' t'
+      (tried_keeps a (a + width_of first) best' (Ok None) after s tried before) rest
+  searches_good first from best r t before (value from' a best' after v t' start tried) =
+      tried_reads a (a + width_of first) best' (Ok (Some v)) after t' tried
+  searches_good first from best r t before (wanted from' best' e memory) = keeps_refl s
+
+-- adjacent groups keep to the laws
+pub group_lawful : {T : Type 0} {inner : Outcome T} {reads : Readings T} (first : Part)
+    → Lawful T inner reads → Lawful T (GroupOutcome T inner first) (GroupReads T reads)
+group_lawful first law = record {
+  ok = λ s t v o. searches_good law s first s.start None (Ok v) t tt o;
+  err = λ s t e o. searches_good law s first s.start None (Err e) t tt o;
+}
+
+-- a value of theirs newly took one run
+pub group_takes_run : {T : Type 0} {inner : Outcome T} {reads : Readings T} (first : Part)
+    → Lawful T inner reads → (s : Situation) (r : Result T Error) (t : Situation)
+    → GroupOutcome T inner first s r t → IfOk r (λ _. IsRun (newly s t))
+group_takes_run first law s (Ok v) t o = ((group_lawful first law).ok s t v o).reading.run
+group_takes_run first law s (Err e) t o = tt
+
+module _ {T : Type 0} (inner : Outcome T) (s : Situation) where
+  -- what ended an attempt with a value isn't want of memory
+  narrowed_spared : (a b : ℕ) → Narrowed T inner s a b → Narrowed T (WithoutMemory inner) s a b
+  narrowed_spared a b (whole stop run) = whole stop run
+  narrowed_spared a b (again stop left v t before ran next) =
+      again stop left v t (narrowed_spared a stop before) (ran, tt) next
+
+  -- attempts catch no want of memory
+  tries_spared : (a : ℕ) (r : Result T Error) (t : Situation) → IsNotMemory r
+      → Tries T inner s a r t → Tries T (WithoutMemory inner) s a r t
+  tries_spared a r t spared (answered stop v left narrowed ran none) =
+      answered stop v left (narrowed_spared a stop narrowed) (ran, tt) none
+  tries_spared a r t spared (refused stop e left narrowed ran) =
+      refused stop e left (narrowed_spared a stop narrowed) (ran, spared)
+
+  -- nor do probes
+  probe_spared : (a stop : ℕ) (Takes : Share → Type 0) → Probe T inner s a stop Takes
+      → Probe T (WithoutMemory inner) s a stop Takes
+  probe_spared a stop Takes probe = record {
+    answer = probe.answer;
+    left = probe.left;
+    ran = (probe.ran, probe.spared);
+    spared = probe.spared;
+    takes = probe.takes;
+  }
+
+  -- what comes of a place catches none
+  tried_spared : (a stop : ℕ) (best : Option Failure) (r : Result (Option T) Error)
+      (after : Option Failure) (t : Situation) → IsNotMemory r
+      → TriesAt T inner s a stop best r after t
+      → TriesAt T (WithoutMemory inner) s a stop best r after t
+  tried_spared a stop best r after t not_memory (skipped probe) =
+      skipped (probe_spared a stop IsEmptyShare probe)
+  tried_spared a stop best r after t not_memory (failed e left probe tries spared) =
+      failed e left (probe_spared a stop HasPlace probe)
+      (tries_spared a (Err e) left spared tries) spared
+  tried_spared a stop best r after t not_memory (found v left probe tries) =
+      found v left (probe_spared a stop HasPlace probe) (tries_spared a (Ok v) left tt tries)
+  tried_spared a stop best r after t not_memory (no_memory e memory) =
+      absurd (not_both e.0 not_memory memory)
+
+  -- so an adjacent group catches none
+  pub spared_group : (first : Part) (from : ℕ) (best : Option Failure) (r : Result T Error)
+      (t : Situation) → Searches T inner s first from best r t → IsNotMemory r
+      → Searches T (WithoutMemory inner) s first from best r t
+  spared_group first from best r t (over from' best' e t' none ends) spared =
+      over from' best' e t' none ends
+  spared_group first from best r t (on from' a best' after r' t' start tried rest) spared =
+      on from' a best' after r' t' start
+      (tried_spared a (a + width_of first) best' (Ok None) after s tt tried)
+      (spared_group first (a + 1) after r' t' rest spared)
+  spared_group first from best r t (value from' a best' after v t' start tried) spared =
+      value from' a best' after v t' start
+      (tried_spared a (a + width_of first) best' (Ok (Some v)) after t' tt tried)
+  spared_group first from best r t (wanted from' best' e memory) spared =
+      absurd (not_both e.0 spared memory)

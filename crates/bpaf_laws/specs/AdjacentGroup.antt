@@ -1,0 +1,123 @@
+-- Adjacent groups: products whose items stand next to one another.
+use Rattle.std.specs.Prelude.{◌≡◌, ℕ, ◌+◌, ◌<◌, ◌≤◌, true, false, ◌&&◌, List, Result, Ok, Err}
+use Rattle.std.specs.Prelude.{Option, Some, None, nat_le, nat_lt, if◌then◌else◌}
+use Rattle.bpaf_doc.specs.Shape.{Shape, Part, Argument, Adjacent}
+use Rattle.bpaf_line.specs.declared.error.Error.{Error}
+use Rattle.bpaf_line.specs.declared.error.Message.TheVariants as message
+use Rattle.bpaf_line.specs.declared.missing.MissingItem.{MissingItem}
+use Rattle.bpaf_line.specs.Messages.{is_memory}
+use Rattle.bpaf_line.specs.MissingIn.{IsMissingIn}
+use Rattle.bpaf_line.specs.Runs.{IsRunFrom}
+use Rattle.bpaf_line.specs.Situation.{Situation, Context, with_scope, HasNoneOpen, IsNextOpen}
+use Rattle.bpaf_laws.specs.Counting.{taken_count}
+use Rattle.bpaf_laws.specs.Laws.{newly}
+use Rattle.bpaf_laws.specs.OneRun.{IsRun}
+use Rattle.bpaf_laws.specs.Reading.{Share, Readings, Outcome, IsEmptyShare, HasPlace}
+use Rattle.bpaf_laws.specs.Spared.{IsNotMemory}
+
+-- a reading of the product, off one run
+pub record GroupReads (T : Type 0) (inner : Readings T) (context : Context) (share : Share)
+    (v : T) : Type 0 where
+  pub read : inner context share v
+  pub run : IsRun share
+
+-- how many places the first item of a group has: an argument two, each other one
+abbrev pub width_of : Part → ℕ
+width_of (Argument name shorts metavar env help) = 2
+width_of _ = 1
+
+-- how an attempt failed: its error, and the situation that it left
+pub record Failure : Type 0 where
+  pub error : Error
+  pub left : Situation
+
+-- how many places a failure took; without one, none
+abbrev pub taken_by : Situation → Option Failure → ℕ
+taken_by s None = 0
+taken_by s (Some failure) = taken_count s failure.left
+
+-- of the failure that is remembered and another one that which took more places; of equals the
+-- former
+abbrev pub longer : Situation → Option Failure → Failure → Option Failure
+longer s best other = if nat_lt (taken_by s best)
+    (taken_count s other.left) then Some other else best
+
+-- at the end the failure that is remembered; without one the first item is missing, and all is as
+-- before
+abbrev pub EndsWith : Situation → Part → Option Failure → Error → Situation → Type 0
+EndsWith s first (Some failure) e t = (e ≡ failure.error) × (t ≡ failure.left)
+EndsWith s first None e t =
+    (items : List MissingItem) × (e.0 ≡ message.Missing items) × IsMissingIn s (Some first) items
+    × (t ≡ s)
+
+-- the next place to try: the first present one, where so many places of the scope begin with it
+pub record IsStart (s : Situation) (width from place : ℕ) : Type 0 where
+  pub next : IsNextOpen s from place
+  pub fits : place + width ≤ s.end
+
+-- there is none
+abbrev pub HasNoStart : Situation → ℕ → ℕ → Type 0
+HasNoStart s width from = (p : ℕ) → IsNextOpen s from p → s.end < p + width
+
+module _ (T : Type 0) (inner : Outcome T) (s : Situation) where
+  -- the places of a first item alone are the scope, and what is then taken of them
+  pub record Probe (place stop : ℕ) (Takes : Share → Type 0) : Type 0 where
+    pub answer : Result T Error
+    pub left : Situation
+    pub ran : inner (with_scope s place stop) answer left
+    pub spared : IsNotMemory answer
+    pub takes : Takes (newly s left)
+
+  -- where the scope of an attempt ends: at the end of the run of present places, or at the first
+  -- place that an attempt with a value left present in its scope
+  pub data Narrowed (place : ℕ) : ℕ → Type 0 where
+    whole : (stop : ℕ) → IsRunFrom s place stop → Narrowed place stop
+    again : (stop left : ℕ) (v : T) (t : Situation) → Narrowed place stop
+        → inner (with_scope s place stop) (Ok v) t → IsNextOpen (with_scope t place stop) place left
+        → Narrowed place left
+
+  -- the last attempt from a place on: it answered a value and left nothing present in its scope, so
+  -- that the scope is the group's again; or it failed
+  pub data Tries (place : ℕ) : Result T Error → Situation → Type 0 where
+    answered : (stop : ℕ) (v : T) (t : Situation) → Narrowed place stop
+        → inner (with_scope s place stop) (Ok v) t → HasNoneOpen (with_scope t place stop) place
+        → Tries place (Ok v) (with_scope t s.start s.end)
+    refused : (stop : ℕ) (e : Error) (t : Situation) → Narrowed place stop
+        → inner (with_scope s place stop) (Err e) t → Tries place (Err e) t
+
+  -- what comes of a place: None, where no item is taken or the attempts fail, which may be
+  -- remembered; a value; or want of memory
+  pub data TriesAt (place stop : ℕ) (best : Option Failure) : Result (Option T) Error
+      → Option Failure → Situation → Type 0 where
+    skipped : Probe place stop IsEmptyShare → TriesAt place stop best (Ok None) best s
+    failed : (e : Error) (t : Situation) → Probe place stop HasPlace → Tries place (Err e) t
+        → is_memory e.0 ≡ false
+        → TriesAt place stop best (Ok None) (longer s best (record { error = e; left = t })) s
+    found : (v : T) (t : Situation) → Probe place stop HasPlace → Tries place (Ok v) t
+        → TriesAt place stop best (Ok (Some v)) best t
+    no_memory : (e : Error) → is_memory e.0 ≡ true → TriesAt place stop best (Err e) best s
+
+  -- the places are tried one after the other, until one gives a value
+  pub data Searches (first : Part) : ℕ → Option Failure → Result T Error → Situation → Type 0 where
+    over : (from : ℕ) (best : Option Failure) (e : Error) (t : Situation)
+        → HasNoStart s (width_of first) from → EndsWith s first best e t
+        → Searches first from best (Err e) t
+    on : (from place : ℕ) (best after : Option Failure) (r : Result T Error) (t : Situation)
+        → IsStart s (width_of first) from place
+        → TriesAt place (place + width_of first) best (Ok None) after s
+        → Searches first (place + 1) after r t → Searches first from best r t
+    value : (from place : ℕ) (best after : Option Failure) (v : T) (t : Situation)
+        → IsStart s (width_of first) from place
+        → TriesAt place (place + width_of first) best (Ok (Some v)) after t
+        → Searches first from best (Ok v) t
+    wanted : (from : ℕ) (best : Option Failure) (e : Error) → is_memory e.0 ≡ true
+        → Searches first from best (Err e) s
+
+-- a group, from the start of its scope on
+abbrev pub GroupOutcome : (T : Type 0) → Outcome T → Part → Outcome T
+GroupOutcome T inner first s r t = Searches T inner s first s.start None r t
+
+-- a group shows its product, as what stands together
+abbrev pub GroupDescribes : (Shape → Type 0) → Shape → Type 0
+GroupDescribes product shape =
+    (within : Shape) × product within × (shape ≡ Adjacent within)
