@@ -19,6 +19,8 @@ use Rattle.bpaf_core.specs.Adjacent.{first_fails, second_counts, second_fails}
 use Rattle.bpaf_core.specs.Adjacent.{wants_memory}
 use Rattle.bpaf_core.specs.Command.{end_message}
 use Rattle.bpaf_core.specs.CommandLaws.{runs_keeps}
+use Rattle.bpaf_core.specs.Ending.{Ending}
+use Rattle.bpaf_core.specs.EndingLaws.{LawfulEnding}
 use Rattle.bpaf_core.specs.Run.{Runs}
 
 -- an end that is told as want of memory is want of memory
@@ -43,69 +45,70 @@ module _ (mark : Mark) (t m u : Situation) (back : m ≡ undone mark t) (fits : 
       → redone steps (undone mark u) ≡ t
   led_again steps led = ap (redone steps) back_again ∙ led
 
-module _ {T : Type 0} {inner : Outcome T} {reads : Readings T} (law : Lawful T inner reads)
+module _ {T : Type 0} {inner : Outcome T} {ending : Ending} {reads : Readings T} (law : Lawful T inner reads)
+    (ends : LawfulEnding ending)
     (s w t : Situation) (from end : ℕ) (r : Result T ParseFailure) (is : w ≡ with_scope s from end)
-    (ran : Runs T inner w r t) where
+    (ran : Runs T inner ending w r t) where
   -- a run over another scope is an attempt
-  pub is_attempt : Attempt T inner s from end r t
-  is_attempt = subst (λ x. Runs T inner x r t) is ran
+  pub is_attempt : Attempt T inner ending s from end r t
+  is_attempt = subst (λ x. Runs T inner ending x r t) is ran
 
   -- it leaves the context
   pub attempt_context : t.context ≡ s.context
-  attempt_context = (runs_keeps law (with_scope s from end) r t is_attempt).context
+  attempt_context = (runs_keeps law ends (with_scope s from end) r t is_attempt).context
 
   -- and keeps the marks
   pub attempt_marks : KeepsMarks s t
   attempt_marks =
       keeps_marks_trans s (with_scope s from end) t
       (keeps_marks_scope s s from end (keeps_marks_refl s))
-      (runs_keeps law (with_scope s from end) r t is_attempt).marks
+      (runs_keeps law ends (with_scope s from end) r t is_attempt).marks
 
-module _ {T : Type 0} (inner : Outcome T) (s : Situation) (from end : ℕ) (f : ParseFailure)
+module _ {T : Type 0} (inner : Outcome T) (ending : Ending) (s : Situation) (from end : ℕ) (f : ParseFailure)
     (t : Situation) where
   -- memory is wanted, and all is as before the first attempt
   pub memory_wanted : (g : ParseFailure) (u : Situation) → g ≡ failure.Memory → u ≡ s
-      → Retry T inner s from end f t (Err g) u
+      → Retry T inner ending s from end f t (Err g) u
   memory_wanted g u is back =
-      subst (λ x. Retry T inner s from end f t (Err x) u) (sym is)
-      (subst (λ x. Retry T inner s from end f t (Err failure.Memory) x) (sym back) wants_memory)
+      subst (λ x. Retry T inner ending s from end f t (Err x) u) (sym is)
+      (subst (λ x. Retry T inner ending s from end f t (Err failure.Memory) x) (sym back) wants_memory)
 
   -- so it is where a call refused that wants memory alone
   pub memory_refused : (r : Result T ParseFailure) (u : Situation)
-      → IsErr r × IsErrAnd r (λ g. g ≡ failure.Memory) → u ≡ s → Retry T inner s from end f t r u
+      → IsErr r × IsErrAnd r (λ g. g ≡ failure.Memory) → u ≡ s → Retry T inner ending s from end f t r u
   memory_refused (Err g) u wanted back = memory_wanted g u wanted.1 back
   memory_refused (Ok v) u wanted back = absurd wanted.1
 
   module _ (stop : ℕ) (m u : Situation) (told : IsTold f) (left : IsFirstLeft t from end stop)
       (back : m ≡ s) where
     -- the second attempt answers a value
-    pub second_answers : (v : T) → Attempt T inner m from stop (Ok v) u
-        → Retry T inner s from end f t (Ok v) u
+    pub second_answers : (v : T) → Attempt T inner ending m from stop (Ok v) u
+        → Retry T inner ending s from end f t (Ok v) u
     second_answers v ran =
         second_counts v stop u told left
-        (subst (λ x. Attempt T inner x from stop (Ok v) u) back ran)
+        (subst (λ x. Attempt T inner ending x from stop (Ok v) u) back ran)
 
     -- the second attempt fails too
-    pub second_refuses : (g : ParseFailure) → Attempt T inner m from stop (Err g) u
+    pub second_refuses : (g : ParseFailure) → Attempt T inner ending m from stop (Err g) u
         → (there : Situation) (h : ParseFailure) (o w : Situation) → there ≡ t → o ≡ s
-        → GivesBack f g o there h w → Retry T inner s from end f t (Err h) w
+        → GivesBack f g o there h w → Retry T inner ending s from end f t (Err h) w
     second_refuses g ran there h o w led again gives = ⊎_elim
         (λ (both : IsTold g × (h ≡ f) × (w ≡ there)).
-        subst (λ x. Retry T inner s from end f t (Err x) w) (sym both.1)
-        (subst (λ x. Retry T inner s from end f t (Err f) x) (sym (both.2 ∙ led))
+        subst (λ x. Retry T inner ending s from end f t (Err x) w) (sym both.1)
+        (subst (λ x. Retry T inner ending s from end f t (Err f) x) (sym (both.2 ∙ led))
         (second_fails g stop u told left
-        (subst (λ x. Attempt T inner x from stop (Err g) u) back ran) both.0)))
+        (subst (λ x. Attempt T inner ending x from stop (Err g) u) back ran) both.0)))
         (λ (wanted : (h ≡ failure.Memory) × (w ≡ o)).
         memory_wanted h w wanted.0 (wanted.1 ∙ again))
         gives
 
 -- the first attempt fails, and what follows begins where it did
-pub then_retried : {T : Type 0} {inner : Outcome T} (s : Situation) (from end : ℕ)
+pub then_retried : {T : Type 0} {inner : Outcome T} {ending : Ending} (s : Situation) (from end : ℕ)
     (f : ParseFailure) (t o : Situation) (r : Result T ParseFailure) (u : Situation)
-    → IsRunFrom s from end → Attempt T inner s from end (Err f) t → o ≡ s
-    → Retry T inner o from end f t r u → Attempts T inner s from r u
-then_retried {T} {inner} s from end f t o r u run ran back retry =
-    first_fails f end t r u run ran (subst (λ x. Retry T inner x from end f t r u) back retry)
+    → IsRunFrom s from end → Attempt T inner ending s from end (Err f) t → o ≡ s
+    → Retry T inner ending o from end f t r u → Attempts T inner ending s from r u
+then_retried {T} {inner} {ending} s from end f t o r u run ran back retry =
+    first_fails f end t r u run ran (subst (λ x. Retry T inner ending x from end f t r u) back retry)
 
 -- the old scope lies in the line still
 pub still_inside : (s u : Situation) (end : ℕ) → u.context ≡ s.context

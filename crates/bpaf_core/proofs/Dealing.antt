@@ -12,6 +12,7 @@ use Rattle.bpaf_line.proofs.Beginning.{taken_at_beginning}
 use Rattle.bpaf_laws.specs.Reading.{Readings, Outcome, Share}
 use Rattle.bpaf_laws.specs.Laws.{Lawful, Keeps, Closes, newly}
 use Rattle.bpaf_laws.proofs.CountingLaws.{none_below}
+use Rattle.bpaf_core.specs.Ending.{EndsRun}
 use Rattle.bpaf_core.specs.Run.{Runs, RunsWords, value, ran}
 use Rattle.bpaf_core.specs.Dealt.{IsDealtOut}
 
@@ -52,7 +53,7 @@ all_newly context t keeps closed none = fun_ext (λ p. dealt_at (is_taken t p) (
 module _ {T : Type 0} {inner : Outcome T} {reads : Readings T} {describes : Shape → Type 0} {info : RunInfo} (given : Given) (law : Lawful T inner reads) where
   -- a value that a run over the words' line answers is dealt out of the words
   dealt_from : (context : Context) (v : T) (t : Situation)
-      → IsLineContext describes info given context → Runs T inner (beginning context) (Ok v) t
+      → IsLineContext describes info given context → Runs T inner (EndsRun describes info) (beginning context) (Ok v) t
       → IsDealtOut T reads describes info given v
   dealt_from context v t is_context (value w left answered none) =
       let read = law.ok (beginning context) left w answered in

@@ -14,6 +14,7 @@ use Rattle.bpaf_laws.specs.Command.{Called, CommandReads, IsNotOpened, IsOpenedA
 use Rattle.bpaf_laws.specs.Command.{opening_words}
 use Rattle.bpaf_laws.specs.Reading.{Outcome, Readings}
 use Rattle.bpaf_core.specs.Command.{CommandOutcome, IsMissingPart, end_message}
+use Rattle.bpaf_core.specs.Ending.{Ending}
 use Rattle.bpaf_core.specs.Run.{Runs}
 
 -- an end of a run that isn't want of memory
@@ -21,22 +22,22 @@ abbrev pub IsTold : ParseFailure → Type 0
 IsTold f = is_memory (end_message f) ≡ false
 
 -- an attempt: a run over the places from one up to another
-abbrev pub Attempt : (T : Type 0) → Outcome T → Situation → ℕ → ℕ → Result T ParseFailure
+abbrev pub Attempt : (T : Type 0) → Outcome T → Ending → Situation → ℕ → ℕ → Result T ParseFailure
     → Situation → Type 0
-Attempt T inner s from end = Runs T inner (with_scope s from end)
+Attempt T inner ending s from end = Runs T inner ending (with_scope s from end)
 
 -- what follows a first attempt that failed: nothing, where it left none of its places present; else
 -- a second one, over those before the first that it left. Where this fails too the first failure
 -- counts, with its situation. Want of memory is the answer at once
-pub data Retry (T : Type 0) (inner : Outcome T) (s : Situation) (from end : ℕ) (f : ParseFailure)
+pub data Retry (T : Type 0) (inner : Outcome T) (ending : Ending) (s : Situation) (from end : ℕ) (f : ParseFailure)
     (t : Situation) : Result T ParseFailure → Situation → Type 0 where
-  nothing_left : IsTold f → AllTaken t from end → Retry T inner s from end f t (Err f) t
+  nothing_left : IsTold f → AllTaken t from end → Retry T inner ending s from end f t (Err f) t
   second_counts : (v : T) (stop : ℕ) (u : Situation) → IsTold f → IsFirstLeft t from end stop
-      → Attempt T inner s from stop (Ok v) u → Retry T inner s from end f t (Ok v) u
+      → Attempt T inner ending s from stop (Ok v) u → Retry T inner ending s from end f t (Ok v) u
   second_fails : (g : ParseFailure) (stop : ℕ) (u : Situation) → IsTold f
-      → IsFirstLeft t from end stop → Attempt T inner s from stop (Err g) u → IsTold g
-      → Retry T inner s from end f t (Err f) t
-  wants_memory : Retry T inner s from end f t (Err failure.Memory) s
+      → IsFirstLeft t from end stop → Attempt T inner ending s from stop (Err g) u → IsTold g
+      → Retry T inner ending s from end f t (Err f) t
+  wants_memory : Retry T inner ending s from end f t (Err failure.Memory) s
 
 -- the failure that stands where the second attempt failed too: the first one, there where the first
 -- attempt led; or want of memory, back where both began
@@ -46,43 +47,43 @@ GivesBack first second back there f t =
     (IsTold second × (f ≡ first) × (t ≡ there)) ⊎ ((f ≡ failure.Memory) × (t ≡ back))
 
 -- the attempts from a place on: one over the run of present places; where that fails, what follows
-pub data Attempts (T : Type 0) (inner : Outcome T) (s : Situation) (from : ℕ)
+pub data Attempts (T : Type 0) (inner : Outcome T) (ending : Ending) (s : Situation) (from : ℕ)
     : Result T ParseFailure → Situation → Type 0 where
   first_counts : (v : T) (end : ℕ) (t : Situation) → IsRunFrom s from end
-      → Attempt T inner s from end (Ok v) t → Attempts T inner s from (Ok v) t
+      → Attempt T inner ending s from end (Ok v) t → Attempts T inner ending s from (Ok v) t
   first_fails : (f : ParseFailure) (end : ℕ) (t : Situation) (r : Result T ParseFailure)
-      (u : Situation) → IsRunFrom s from end → Attempt T inner s from end (Err f) t
-      → Retry T inner s from end f t r u → Attempts T inner s from r u
+      (u : Situation) → IsRunFrom s from end → Attempt T inner ending s from end (Err f) t
+      → Retry T inner ending s from end f t r u → Attempts T inner ending s from r u
 
 -- the attempts behind a word, from which on the scope runs; so it does again after a value
-abbrev pub AdjacentRuns : (T : Type 0) → Outcome T → Situation → Result T ParseFailure → Situation
+abbrev pub AdjacentRuns : (T : Type 0) → Outcome T → Ending → Situation → Result T ParseFailure → Situation
     → Type 0
-AdjacentRuns T inner s (Ok v) t =
-    (left : Situation) × Attempts T inner s (s.start + 1) (Ok v) left
+AdjacentRuns T inner ending s (Ok v) t =
+    (left : Situation) × Attempts T inner ending s (s.start + 1) (Ok v) left
     × (t ≡ with_scope left s.start s.end)
-AdjacentRuns T inner s (Err f) t = Attempts T inner s (s.start + 1) (Err f) t
+AdjacentRuns T inner ending s (Err f) t = Attempts T inner ending s (s.start + 1) (Err f) t
 
 -- the word is there, and the attempts behind it answer a value, or refuse; or it isn't there, and
 -- the command's part is missing; or there is no memory for the path
-pub data AdjacentOutcome (T : Type 0) (inner : Outcome T) (called : Called)
+pub data AdjacentOutcome (T : Type 0) (inner : Outcome T) (ending : Ending) (called : Called)
     (shows : Part → Type 0) (s : Situation) : Result T Error → Situation → Type 0 where
   counted : (v : T) (p : ℕ) (t : Situation) → IsOpenedAt (opening_words called) s p
-      → AdjacentRuns T inner (inside called s p) (Ok v) t
-      → AdjacentOutcome T inner called shows s (Ok v) t
+      → AdjacentRuns T inner ending (inside called s p) (Ok v) t
+      → AdjacentOutcome T inner ending called shows s (Ok v) t
   failed : (f : ParseFailure) (e : Error) (p : ℕ) (t : Situation)
       → IsOpenedAt (opening_words called) s p
-      → AdjacentRuns T inner (inside called s p) (Err f) t → e.0 ≡ end_message f
-      → AdjacentOutcome T inner called shows s (Err e) t
+      → AdjacentRuns T inner ending (inside called s p) (Err f) t → e.0 ≡ end_message f
+      → AdjacentOutcome T inner ending called shows s (Err e) t
   unnamed : (e : Error) → IsNotOpened (opening_words called) s → IsMissingPart shows s e.0
-      → AdjacentOutcome T inner called shows s (Err e) (with_current s None)
+      → AdjacentOutcome T inner ending called shows s (Err e) (with_current s None)
   no_path : (e : Error) (p : ℕ) → IsOpenedAt (opening_words called) s p → e.0 ≡ message.Memory
-      → AdjacentOutcome T inner called shows s (Err e) (opened s p)
+      → AdjacentOutcome T inner ending called shows s (Err e) (opened s p)
 
 -- what a command answers, adjacent or plain
-abbrev pub EitherCommandOutcome : Bool → (T : Type 0) → Outcome T → Called → (Part → Type 0)
+abbrev pub EitherCommandOutcome : Bool → (T : Type 0) → Outcome T → Ending → Called → (Part → Type 0)
     → Outcome T
-EitherCommandOutcome true T inner called shows = AdjacentOutcome T inner called shows
-EitherCommandOutcome false T inner called shows = CommandOutcome T inner called shows
+EitherCommandOutcome true T inner ending called shows = AdjacentOutcome T inner ending called shows
+EitherCommandOutcome false T inner ending called shows = CommandOutcome T inner ending called shows
 
 -- what is read of it
 abbrev pub EitherCommandReads : Bool → (T : Type 0) → List (List ℕ) → Readings T → Readings T
@@ -90,10 +91,10 @@ EitherCommandReads true T words inner = AdjacentReads T words inner
 EitherCommandReads false T words inner = CommandReads T words inner
 
 -- what runs inside it: the attempts, or one run
-abbrev pub RunsInside : Bool → (T : Type 0) → Outcome T → Situation → Result T ParseFailure
+abbrev pub RunsInside : Bool → (T : Type 0) → Outcome T → Ending → Situation → Result T ParseFailure
     → Situation → Type 0
-RunsInside true T inner s = AdjacentRuns T inner s
-RunsInside false T inner s = Runs T inner s
+RunsInside true T inner ending s = AdjacentRuns T inner ending s
+RunsInside false T inner ending s = Runs T inner ending s
 
 -- not going inside: the word isn't there, and the command's part is missing; or it is, and there is
 -- no memory for the path

@@ -11,6 +11,7 @@ use Rattle.bpaf_line.specs.MissingIn.{IsMissingIn}
 use Rattle.bpaf_line.specs.Situation.{Situation, with_current}
 use Rattle.bpaf_laws.specs.Reading.{Outcome}
 use Rattle.bpaf_laws.specs.Command.{Called, IsNotOpened, IsOpenedAt, inside, opened, opening_words}
+use Rattle.bpaf_core.specs.Ending.{Ending}
 use Rattle.bpaf_core.specs.Run.{Runs}
 
 -- the end of an inner run as a refusal, which nothing but `catch` catches; want of memory stays
@@ -29,14 +30,14 @@ IsMissingPart shows s m =
 
 -- the word is there, and the inner run, from behind it on, answers a value, or refuses; or it isn't
 -- there, and the command's part is missing; or there is no memory for the path
-pub data CommandOutcome (T : Type 0) (inner : Outcome T) (called : Called) (shows : Part → Type 0)
+pub data CommandOutcome (T : Type 0) (inner : Outcome T) (ending : Ending) (called : Called) (shows : Part → Type 0)
     (s : Situation) : Result T Error → Situation → Type 0 where
   value : (v : T) (p : ℕ) (t : Situation) → IsOpenedAt (opening_words called) s p
-      → Runs T inner (inside called s p) (Ok v) t → CommandOutcome T inner called shows s (Ok v) t
+      → Runs T inner ending (inside called s p) (Ok v) t → CommandOutcome T inner ending called shows s (Ok v) t
   ended : (f : ParseFailure) (e : Error) (p : ℕ) (t : Situation)
-      → IsOpenedAt (opening_words called) s p → Runs T inner (inside called s p) (Err f) t
-      → e.0 ≡ end_message f → CommandOutcome T inner called shows s (Err e) t
+      → IsOpenedAt (opening_words called) s p → Runs T inner ending (inside called s p) (Err f) t
+      → e.0 ≡ end_message f → CommandOutcome T inner ending called shows s (Err e) t
   missing : (e : Error) → IsNotOpened (opening_words called) s → IsMissingPart shows s e.0
-      → CommandOutcome T inner called shows s (Err e) (with_current s None)
+      → CommandOutcome T inner ending called shows s (Err e) (with_current s None)
   no_memory : (e : Error) (p : ℕ) → IsOpenedAt (opening_words called) s p → e.0 ≡ message.Memory
-      → CommandOutcome T inner called shows s (Err e) (opened s p)
+      → CommandOutcome T inner ending called shows s (Err e) (opened s p)

@@ -1,8 +1,7 @@
 -- Commands keep to the laws where their inner parsers do, leave nothing in their scope and catch no
 -- want of memory.
-use Rattle.std.specs.Prelude.{◌≡◌, true, false, None, Result, Ok, Err, refl}
-use Rattle.std.proofs.Common.{sym, subst, ◌∙◌, ap, true≢false, ⊎_elim}
-use Rattle.std.proofs.lemmas.Bool.{cases_Bool}
+use Rattle.std.specs.Prelude.{◌≡◌, true, false, Some, None, Result, Ok, Err, refl}
+use Rattle.std.proofs.Common.{subst}
 use Rattle.bpaf_doc.specs.Shape.{Part}
 use Rattle.bpaf_line.specs.declared.error.Error.{Error}
 use Rattle.bpaf_line.specs.declared.error.Message.{Message}
@@ -17,7 +16,9 @@ use Rattle.bpaf_laws.specs.Command.{Called, CommandReads, LeavesNothing, inside,
 use Rattle.bpaf_laws.specs.Spared.{IsNotMemory, WithoutMemory}
 use Rattle.bpaf_laws.proofs.CommandLaws.{inside_read, keeps_inside, keeps_opened, leaves_nothing}
 use Rattle.bpaf_laws.proofs.Keeping.{keeps_trans, keeps_unset}
-use Rattle.bpaf_core.specs.Run.{Runs, Tells, leftover, refused}
+use Rattle.bpaf_core.specs.Ending.{Ending}
+use Rattle.bpaf_core.specs.EndingLaws.{LawfulEnding}
+use Rattle.bpaf_core.specs.Run.{Runs, leftover, refused}
 use Rattle.bpaf_core.specs.Run.{value as run_value}
 use Rattle.bpaf_core.specs.Command.{CommandOutcome, ended, end_message, missing, no_memory, value}
 
@@ -26,80 +27,71 @@ abbrev pub IsNotWant : {T : Type 0} → Result T ParseFailure → Type 0
 IsNotWant (Ok v) = Unit {0}
 IsNotWant (Err f) = is_memory (end_message f) ≡ false
 
--- a run's answer that is told of want of memory is want of memory
-told_memory : (m : Message) (f : ParseFailure) → Tells m f → is_memory m ≡ true
-    → f ≡ failure.Memory
-told_memory message.Memory f told memory = told
-told_memory (message.ParseFailure failure.Memory) f told memory = told
-told_memory other f told memory = absurd (true≢false (sym memory))
-
--- a message of which something else is told isn't want of memory
-spared_message : (m : Message) (f : ParseFailure) → Tells m f
-    → is_memory (end_message f) ≡ false → is_memory m ≡ false
-spared_message m f told spared = ⊎_elim
-    (λ (memory : is_memory m ≡ true). absurd (true≢false
-    (sym (ap (λ x. is_memory (end_message x)) (told_memory m f told memory)) ∙ spared)))
-    (λ (other : is_memory m ≡ false). other)
-    (cases_Bool (is_memory m))
-
 -- after a value of a run nothing is present
-pub run_empty : {T : Type 0} {inner : Outcome T} (s : Situation) (v : T) (t : Situation)
-    → Runs T inner s (Ok v) t → open_count t ≡ 0
+pub run_empty : {T : Type 0} {inner : Outcome T} {ending : Ending} (s : Situation) (v : T) (t : Situation)
+    → Runs T inner ending s (Ok v) t → open_count t ≡ 0
 run_empty s v t (run_value w left answered none) = none
 
 -- a run that isn't told as want of memory had no inner want of memory
-pub spared_run : {T : Type 0} {inner : Outcome T} (s : Situation) (r : Result T ParseFailure)
-    (t : Situation) → Runs T inner s r t → IsNotWant r → Runs T (WithoutMemory inner) s r t
-spared_run s r t (run_value v left answered none) spared = run_value v left (answered, tt) none
-spared_run s r t (leftover v left f answered some told) spared =
-    leftover v left f (answered, tt) some told
-spared_run s r t (refused e left f answered told) spared =
-    refused e left f (answered, spared_message e.0 f told spared) told
+pub spared_run : {T : Type 0} {inner : Outcome T} {ending : Ending} → LawfulEnding ending
+    → (s : Situation) (r : Result T ParseFailure) (t : Situation) → Runs T inner ending s r t
+    → IsNotWant r → Runs T (WithoutMemory inner) ending s r t
+spared_run ends s r t (run_value v left answered none) spared =
+    run_value v left (answered, tt) none
+spared_run ends s r t (leftover v left f u answered tells) spared =
+    leftover v left f u (answered, tt) tells
+spared_run ends s r t (refused e left f u answered tells) spared =
+    refused e left f u (answered, ends.spared e.0 s left f u tells spared) tells
 
 -- a command catches no want of memory
-pub spared_command : {T : Type 0} {inner : Outcome T} (called : Called) (shows : Part → Type 0)
-    (s t : Situation) (r : Result T Error) → CommandOutcome T inner called shows s r t
-    → IsNotMemory r → CommandOutcome T (WithoutMemory inner) called shows s r t
-spared_command called shows s t r (value v p left at run) spared =
-    value v p left at (spared_run (inside called s p) (Ok v) left run tt)
-spared_command called shows s t r (ended f e p left at run is) spared =
+pub spared_command : {T : Type 0} {inner : Outcome T} {ending : Ending} → LawfulEnding ending
+    → (called : Called) (shows : Part → Type 0) (s t : Situation) (r : Result T Error)
+    → CommandOutcome T inner ending called shows s r t → IsNotMemory r
+    → CommandOutcome T (WithoutMemory inner) ending called shows s r t
+spared_command ends called shows s t r (value v p left at run) spared =
+    value v p left at (spared_run ends (inside called s p) (Ok v) left run tt)
+spared_command ends called shows s t r (ended f e p left at run is) spared =
     ended f e p left at
-    (spared_run (inside called s p) (Err f) left run
+    (spared_run ends (inside called s p) (Err f) left run
     (subst (λ m. is_memory m ≡ false) is spared))
     is
-spared_command called shows s t r (missing e none is) spared = missing e none is
-spared_command called shows s t r (no_memory e p at is) spared = no_memory e p at is
+spared_command ends called shows s t r (missing e none is) spared = missing e none is
+spared_command ends called shows s t r (no_memory e p at is) spared = no_memory e p at is
 
-module _ {T : Type 0} {inner : Outcome T} {reads : Readings T} (law : Lawful T inner reads) where
+module _ {T : Type 0} {inner : Outcome T} {ending : Ending} {reads : Readings T} (law : Lawful T inner reads)
+    (ends : LawfulEnding ending) where
   -- what a run from a situation on keeps, whatever it answers
   pub runs_keeps : (s : Situation) (r : Result T ParseFailure) (t : Situation)
-      → Runs T inner s r t → Keeps s t
+      → Runs T inner ending s r t → Keeps s t
   runs_keeps s r t (run_value v left answered none) = (law.ok s left v answered).keeps
-  runs_keeps s r t (leftover v left f answered some told) = (law.ok s left v answered).keeps
-  runs_keeps s r t (refused e left f answered told) = law.err s left e answered
+  runs_keeps s r t (leftover v left f u answered tells) =
+      keeps_trans s left t (law.ok s left v answered).keeps
+      (ends.keeps None s left f t tells)
+  runs_keeps s r t (refused e left f u answered tells) =
+      keeps_trans s left t (law.err s left e answered) (ends.keeps (Some e.0) s left f t tells)
 
   -- a value that a run from a situation on answers is read there
-  pub run_read : (s : Situation) (v : T) (t : Situation) → Runs T inner s (Ok v) t
+  pub run_read : (s : Situation) (v : T) (t : Situation) → Runs T inner ending s (Ok v) t
       → Reads T reads s v t
   run_read s v t (run_value w left answered none) = law.ok s left w answered
 
   module _ (called : Called) (shows : Part → Type 0) where
     -- what a command answers is a reading
-    command_read : (s t : Situation) (v : T) → CommandOutcome T inner called shows s (Ok v) t
+    command_read : (s t : Situation) (v : T) → CommandOutcome T inner ending called shows s (Ok v) t
         → Reads T (CommandReads T (opening_words called) reads) s v t
     command_read s t v (value w p left at run) =
         inside_read called s p at w left (run_read (inside called s p) w left run)
 
     -- and leaves nothing in the scope that the command was given
     pub command_leaves_nothing : (s t : Situation) (v : T)
-        → CommandOutcome T inner called shows s (Ok v) t → LeavesNothing s t
+        → CommandOutcome T inner ending called shows s (Ok v) t → LeavesNothing s t
     command_leaves_nothing s t v (value w p left at run) =
         leaves_nothing s left (command_read s left w (value w p left at run)).closed
         (run_empty (inside called s p) w left run)
 
     -- what a command's refusal keeps
     command_refused : (s t : Situation) (e : Error)
-        → CommandOutcome T inner called shows s (Err e) t → Keeps s t
+        → CommandOutcome T inner ending called shows s (Err e) t → Keeps s t
     command_refused s t e (ended f told p left at run is) =
         keeps_trans s (inside called s p) left (keeps_inside called s p at)
         (runs_keeps (inside called s p) (Err f) left run)
@@ -107,7 +99,7 @@ module _ {T : Type 0} {inner : Outcome T} {reads : Readings T} (law : Lawful T i
     command_refused s t e (no_memory told p at is) = keeps_opened (opening_words called) s p at
 
     -- commands keep to the laws
-    pub command_lawful : Lawful T (CommandOutcome T inner called shows)
+    pub command_lawful : Lawful T (CommandOutcome T inner ending called shows)
         (CommandReads T (opening_words called) reads)
     command_lawful = record {
       ok = λ s t v o. command_read s t v o;

@@ -1,8 +1,12 @@
 pub mod Info
 pub mod Known
+pub mod Extra
+pub mod ExtraLaws
+pub mod Ending
 pub mod Run
 pub mod Dealt
 pub mod Command
+pub mod EndingLaws
 pub mod CommandLaws
 pub mod Adjacent
 pub mod AdjacentLaws

@@ -3,6 +3,7 @@ ghost use Rattle.std.specs.Prelude.{◌≡◌, ◌<◌, ◌≤◌, length, Match
 ghost use Rattle.bpaf_line.specs.Marks.{CanRedo, Fits, KeepsMarks, redone, undone};
 ghost use Rattle.bpaf_line.specs.Messages.{is_memory};
 ghost use Rattle.bpaf_laws.specs.AdjacentCommand.{AllTaken, IsFirstLeft};
+ghost use Rattle.bpaf_core.specs.Ending.{EndsRun};
 ghost use Rattle.bpaf_core.specs.Adjacent.{AdjacentRuns, Attempt, Attempts, GivesBack, Retry};
 ghost use Rattle.bpaf_core.specs.Command.{end_message};
 
@@ -62,7 +63,8 @@ impl<T: Drop, P: Parser<T>> OptionParser<T, P> {
         requires can { P.can_eval self.now.inner }
         requires ordered { from ≤ end }
         requires inside { end ≤ length state.old.context.line }
-        ensures runs { Attempt T (P.outcome self.now.inner) state.old from end result state.new }
+        ensures runs { Attempt T (P.outcome self.now.inner)
+            (EndsRun (P.describes self.now.inner) self.now.info) state.old from end result state.new }
         ensures context { state.new.context ≡ state.old.context }
         ensures marks { KeepsMarks state.old state.new }
     {
@@ -84,7 +86,8 @@ impl<T: Drop, P: Parser<T>> OptionParser<T, P> {
         requires can { P.can_eval self.now.inner }
         requires fits { Fits mark state.old }
         requires inside { end ≤ length state.old.context.line }
-        ensures { Retry T (P.outcome self.now.inner) (undone mark state.old) from end failure
+        ensures { Retry T (P.outcome self.now.inner)
+            (EndsRun (P.describes self.now.inner) self.now.info) (undone mark state.old) from end failure
             state.old result state.new }
     {
         if is_want(&failure) {
@@ -108,7 +111,8 @@ impl<T: Drop, P: Parser<T>> OptionParser<T, P> {
     fn attempts(&self, state: &mut State, from: usize) -> Result<T, ParseFailure>
         requires can { P.can_eval self.now.inner }
         requires inside { from ≤ length state.old.context.line }
-        ensures { Attempts T (P.outcome self.now.inner) state.old from result state.new }
+        ensures { Attempts T (P.outcome self.now.inner)
+            (EndsRun (P.describes self.now.inner) self.now.info) state.old from result state.new }
     {
         let mark = state.mark();
         let end = state.adjacently_available_from(from).end;
@@ -123,7 +127,8 @@ impl<T: Drop, P: Parser<T>> OptionParser<T, P> {
     pub(crate) fn run_adjacent(&self, state: &mut State) -> Result<T, ParseFailure>
         requires can { P.can_eval self.now.inner }
         requires word { state.old.start < state.old.end }
-        ensures { AdjacentRuns T (P.outcome self.now.inner) state.old result state.new }
+        ensures { AdjacentRuns T (P.outcome self.now.inner)
+            (EndsRun (P.describes self.now.inner) self.now.info) state.old result state.new }
     {
         let scope = state.scope();
         match self.attempts(state, scope.start + 1) {

@@ -6,6 +6,7 @@ ghost use Rattle.bpaf_laws.specs.Command.{CommandPart, OpensScope, TakesOpening}
 ghost use Rattle.bpaf_laws.specs.Command.{named_only, opening_words, with_long_name, with_short_name};
 ghost use Rattle.bpaf_core.specs.Adjacent.{Enters, RunsInside};
 ghost use Rattle.bpaf_core.specs.Command.{IsMissingPart, end_message};
+ghost use Rattle.bpaf_core.specs.Ending.{EndsRun};
 ghost use Rattle.bpaf_core.specs.Info.{short_descr};
 
 use crate::options::OptionParser;
@@ -335,6 +336,7 @@ impl<T: Drop, P: Parser<T>> ParseCommand<T, P> {
         requires can { P.can_eval self.now.subparser.inner }
         requires word { state.old.start < state.old.end }
         ensures { RunsInside self.now.adjacent T (P.outcome self.now.subparser.inner)
+            (EndsRun (P.describes self.now.subparser.inner) self.now.subparser.info)
             state.old result state.new }
     {
         if self.adjacent {
@@ -370,6 +372,8 @@ impl<T: Drop, P: Parser<T>> Parser<T> for ParseCommand<T, P> {
     ghost use Rattle.bpaf_laws.specs.OneRun.{IsRun};
     ghost use Rattle.bpaf_laws.specs.Spared.{IsNotMemory, WithoutMemory};
     ghost use Rattle.bpaf_core.specs.Adjacent.{EitherCommandOutcome, EitherCommandReads};
+    ghost use Rattle.bpaf_core.specs.Ending.{EndsRun};
+    ghost use Rattle.bpaf_core.specs.EndingLaws.{run_ending};
     ghost use Rattle.bpaf_core.specs.AdjacentLaws.{either_lawful};
 
     ghost can_eval = { λ p. P.can_eval p.subparser.inner };
@@ -379,13 +383,15 @@ impl<T: Drop, P: Parser<T>> Parser<T> for ParseCommand<T, P> {
     ghost reads = { λ p.
         EitherCommandReads p.adjacent T (opening_words p.names) (P.reads p.subparser.inner) };
 
-    ghost outcome = { λ p. EitherCommandOutcome p.adjacent T (P.outcome p.subparser.inner) p.names
+    ghost outcome = { λ p. EitherCommandOutcome p.adjacent T (P.outcome p.subparser.inner)
+        (EndsRun (P.describes p.subparser.inner) p.subparser.info) p.names
         (CommandPart p.names p.help (P.describes p.subparser.inner)) };
 
     fn eval(&self, state: &mut State) -> Result<T, Error>
         requires { P.can_eval self.now.subparser.inner }
         ensures outcome { EitherCommandOutcome self.now.adjacent T
-            (P.outcome self.now.subparser.inner) self.now.names
+            (P.outcome self.now.subparser.inner)
+            (EndsRun (P.describes self.now.subparser.inner) self.now.subparser.info) self.now.names
             (CommandPart self.now.names self.now.help (P.describes self.now.subparser.inner))
             state.old result state.new }
         ensures command_leaves_nothing { self.now.adjacent ≡ false →
@@ -394,7 +400,8 @@ impl<T: Drop, P: Parser<T>> Parser<T> for ParseCommand<T, P> {
             IfOk result (λ _. IsRun (newly state.old state.new)) }
         ensures memory_is_never_caught { IsNotMemory result →
             EitherCommandOutcome self.now.adjacent T
-            (WithoutMemory (P.outcome self.now.subparser.inner)) self.now.names
+            (WithoutMemory (P.outcome self.now.subparser.inner))
+            (EndsRun (P.describes self.now.subparser.inner) self.now.subparser.info) self.now.names
             (CommandPart self.now.names self.now.help (P.describes self.now.subparser.inner))
             state.old result state.new }
     {
@@ -409,6 +416,7 @@ impl<T: Drop, P: Parser<T>> Parser<T> for ParseCommand<T, P> {
         Ok(Meta::Item(self.item(alloc)?))
     }
 
-    ghost lawful = { λ p. either_lawful (P.lawful p.subparser.inner) p.names
+    ghost lawful = { λ p. either_lawful (P.lawful p.subparser.inner)
+        (run_ending (P.describes p.subparser.inner) p.subparser.info) p.names
         (CommandPart p.names p.help (P.describes p.subparser.inner)) p.adjacent };
 }

@@ -1,36 +1,72 @@
 ghost use Rattle.std.specs.Prelude.{◌≡◌, ◌++◌, ◌∷◌, [], IfOk, OnOk};
-ghost use Rattle.bpaf_doc.specs.Names.{Names};
-ghost use Rattle.bpaf_core.specs.Info.{key_or_usual, plain_info, short_descr};
+ghost use Rattle.bpaf_doc.specs.Joined.{Prints};
+ghost use Rattle.bpaf_text.specs.Named.{Named};
+ghost use Rattle.bpaf_doc.specs.Shape.{shape_of};
+ghost use Rattle.bpaf_core.specs.Extra.{IsNotAsked, LooksForVersion, key_shape};
+ghost use Rattle.bpaf_core.specs.Ending.{ShowsVersion, version_text};
+ghost use Rattle.bpaf_core.specs.Info.{help_key, key_or, plain_info, short_descr, usual_key, version_key};
 
-use bpaf_doc::Doc;
-use bpaf_text::NamedArg;
-use std::alloc::AllocError;
+use crate::flag::is_present;
+use crate::parser::Parser;
+use bpaf_doc::{Doc, Meta, Style, Text};
+use bpaf_line::{Error, Message, ParseFailure, State};
+use bpaf_text::{NamedArg, short};
+use std::alloc::{AllocError, Global};
 use std::marker::Model;
 
 /// What a run knows beside its parser (bpaf's `Info`, in `info.rs`): the keys that ask for help and
-/// for the version, and a description. Both keys are known flags in joined words, also where no
-/// version is set.
+/// for the version, and the texts of the help page. Both keys are known flags in joined words, also
+/// where no version is set.
+///
+/// It is a parser too, of what a run may be asked for beside its value.
 #[derive(Debug, Drop)]
 pub struct Info {
+    /// The version; where none is set its key isn't looked for.
+    pub version: Option<Doc>,
+    /// What the parser is for, before the usage.
+    pub descr: Option<Doc>,
+    /// What stands behind the usage.
+    pub header: Option<Doc>,
+    /// What stands at the end.
+    pub footer: Option<Doc>,
+    /// The whole usage paragraph, in place of the one that is made.
+    pub usage: Option<Doc>,
     /// The key that asks for help; where none is set, `-h` and `--help`.
     pub help_arg: Option<NamedArg>,
     /// The key that asks for the version; where none is set, `-V` and `--version`.
     pub version_arg: Option<NamedArg>,
-    /// What the parser is for; none is set at first.
-    pub descr: Option<Doc>,
+    /// Whether help is shown where nothing is there to read and the parser refuses.
+    pub help_if_no_args: bool,
+    /// How many columns a page may have. It is kept, and not used.
+    pub max_width: usize,
 }
 
 impl Model for Info {
-    ghost use Rattle.bpaf_core.specs.Info.{RunInfo, key_or_usual, help_names, version_names};
+    ghost use Rattle.bpaf_core.specs.Info.{RunInfo, help_key, key_or, version_key};
 
     ghost Value = { RunInfo };
 
     ghost view = { λ info.
         record {
-          help_arg = key_or_usual help_names info.help_arg;
-          version_arg = key_or_usual version_names info.version_arg;
+          version = info.version;
           descr = info.descr;
+          header = info.header;
+          footer = info.footer;
+          usage = info.usage;
+          help_arg = key_or help_key info.help_arg;
+          version_arg = key_or version_key info.version_arg;
+          help_if_no_args = info.help_if_no_args;
+          max_width = info.max_width;
         } };
+}
+
+/// What a run was asked for beside its value (bpaf's `ExtraParams`, in `info.rs`).
+#[derive(Debug, Drop)]
+pub enum ExtraParams {
+    /// Help, and whether it was asked for more than once, which shows all of it.
+    Help(bool),
+    /// The version, with its text.
+    Version(Doc),
 }
 
 /// An equal key; refused only for want of memory.
@@ -45,8 +81,8 @@ fn copy_of(key: &Option<NamedArg>) -> Result<Option<NamedArg>, AllocError>
 
 /// Appends the short names of a key, or the usual one where none is set; refused for want of memory.
 fn push_shorts(key: &Option<NamedArg>, usual: char, names: &mut Vec<char>) -> Result<(), AllocError>
-    ensures { OnOk result ((longs : _) → names.new.items ≡ names.old.items
-        ++ (key_or_usual (record { shorts = usual ∷ []; longs = longs }) key.now).names.shorts) }
+    ensures { OnOk result ((name : _) (help : _) → names.new.items ≡ names.old.items
+        ++ (key_or (usual_key usual name help) key.now).names.shorts) }
 {
     match key {
         Some(key) => names.extend_from_slice(key.shorts()),
@@ -54,15 +90,75 @@ fn push_shorts(key: &Option<NamedArg>, usual: char, names: &mut Vec<char>) -> Re
     }
 }
 
+/// A key of one short and one long name, with a help of one line; refused only for want of memory.
+fn usual_key(alloc: Global, name: char, long_name: &str, help: &str) -> Result<NamedArg, AllocError>
+    ensures { IfOk result (λ key. key ≡ usual_key name long_name.now help.now) }
+{
+    let help = Doc::from_pieces(alloc, &[(help, Style::Text)])?;
+    Ok(short(alloc, name)?.long(long_name)?.help(help))
+}
+
+/// The usual key for help; refused only for want of memory.
+fn usual_help(alloc: Global) -> Result<NamedArg, AllocError>
+    ensures { IfOk result (λ key. key ≡ help_key) }
+{
+    usual_key(alloc, 'h', "help", "Prints help information")
+}
+
+/// The usual key for the version; refused only for want of memory.
+fn usual_version(alloc: Global) -> Result<NamedArg, AllocError>
+    ensures { IfOk result (λ key. key ≡ version_key) }
+{
+    usual_key(alloc, 'V', "version", "Prints version information")
+}
+
+/// What a key shows that must be there; refused only for want of memory.
+fn key_meta(alloc: Global, key: &NamedArg) -> Result<Meta, AllocError>
+    ensures { IfOk result (λ meta. shape_of meta ≡ key_shape key.now) }
+{
+    match key.flag_item(alloc)? {
+        Some(item) => Ok(Meta::Item(item)),
+        None => Ok(Meta::Skip),
+    }
+}
+
+/// The text of a version, as a run shows it; or want of memory for that.
+pub(crate) fn version_page(alloc: Global, version: &Doc) -> ParseFailure
+    ensures { ShowsVersion version.now result }
+{
+    match version_doc(alloc, version) {
+        Ok(doc) => ParseFailure::Stdout(doc, false),
+        Err(_) => ParseFailure::Memory,
+    }
+}
+
+/// That text; refused only for want of memory.
+fn version_doc(alloc: Global, version: &Doc) -> Result<Doc, AllocError>
+    ensures { IfOk result (Prints (version_text version.now)) }
+{
+    let mut doc = Doc::new(alloc);
+    doc.literal("Version: ")?;
+    doc.doc(version)?;
+    doc.literal("\n")?;
+    Ok(doc)
+}
+
 impl Info {
-    /// The keys `-h`, `--help` and `-V`, `--version`, and no description. It takes no memory.
+    /// The keys `-h`, `--help` and `-V`, `--version`, no version, no texts, and 100 columns (bpaf's
+    /// `Info::default`). It takes no memory.
     pub fn new() -> Info
         ensures { result ≡ plain_info }
     {
         Info {
+            version: None,
+            descr: None,
+            header: None,
+            footer: None,
+            usage: None,
             help_arg: None,
             version_arg: None,
-            descr: None,
+            help_if_no_args: false,
+            max_width: 100,
         }
     }
 
@@ -71,9 +167,15 @@ impl Info {
         ensures { IfOk result (λ info. info ≡ self.now) }
     {
         Ok(Info {
+            version: Doc::copy_of(&self.version)?,
+            descr: Doc::copy_of(&self.descr)?,
+            header: Doc::copy_of(&self.header)?,
+            footer: Doc::copy_of(&self.footer)?,
+            usage: Doc::copy_of(&self.usage)?,
             help_arg: copy_of(&self.help_arg)?,
             version_arg: copy_of(&self.version_arg)?,
-            descr: Doc::copy_of(&self.descr)?,
+            help_if_no_args: self.help_if_no_args,
+            max_width: self.max_width,
         })
     }
 
@@ -94,5 +196,93 @@ impl Info {
     {
         push_shorts(&self.help_arg, 'h', names)?;
         push_shorts(&self.version_arg, 'V', names)
+    }
+
+    /// The key that asks for help; refused only for want of memory.
+    fn help_key(&self, alloc: Global) -> Result<NamedArg, AllocError>
+        ensures { IfOk result (λ key. key ≡ self.now.help_arg) }
+    {
+        match &self.help_arg {
+            Some(key) => key.copy(),
+            None => usual_help(alloc),
+        }
+    }
+
+    /// The key that asks for the version; refused only for want of memory.
+    fn version_key(&self, alloc: Global) -> Result<NamedArg, AllocError>
+        ensures { IfOk result (λ key. key ≡ self.now.version_arg) }
+    {
+        match &self.version_arg {
+            Some(key) => key.copy(),
+            None => usual_version(alloc),
+        }
+    }
+
+    /// The version, where one is set and its key is present, which is then taken; refused only for
+    /// want of memory.
+    fn version(&self, state: &mut State) -> Result<Option<Doc>, Error>
+        ensures { LooksForVersion self.now state.old result state.new }
+    {
+        let Some(version) = &self.version else {
+            return Ok(None);
+        };
+        let key = self.version_key(state.alloc())?;
+        if is_present(&key, state) {
+            return Ok(Some(version.copy()?));
+        }
+        Ok(None)
+    }
+}
+
+/// What the run is asked for beside its value: help, where its key is present, which is then taken,
+/// and once more where it is present again; else the version, where one is set and its key is
+/// present (bpaf's `Info`, in `info.rs`).
+///
+/// Refused with ParseFail, where neither is there; and for want of memory.
+impl Parser<ExtraParams> for Info {
+    ghost use Rattle.std.specs.Prelude.{◌≡◌};
+    ghost use Rattle.bpaf_core.specs.Extra.{ExtraOutcome, ExtraReads, extra_shape};
+    ghost use Rattle.bpaf_core.specs.ExtraLaws.{extra_lawful};
+
+    ghost can_eval = { λ info. Unit {0} };
+
+    ghost describes = { λ info shape. shape ≡ extra_shape info };
+
+    ghost reads = { λ info. ExtraReads info };
+
+    ghost outcome = { λ info. ExtraOutcome info };
+
+    fn eval(&self, state: &mut State) -> Result<ExtraParams, Error> {
+        let help = self.help_key(state.alloc())?;
+        if is_present(&help, state) {
+            return Ok(ExtraParams::Help(is_present(&help, state)));
+        }
+        match self.version(state)? {
+            Some(version) => Ok(ExtraParams::Version(version)),
+            None => Err(not_asked(state.alloc())),
+        }
+    }
+
+    fn meta(&self, alloc: Global) -> Result<Meta, AllocError> {
+        let help = key_meta(alloc, &self.help_key(alloc)?)?;
+        if self.version.is_none() {
+            return Ok(help);
+        }
+        let mut all = Vec::new(alloc);
+        all.push(help)?;
+        all.push(key_meta(alloc, &self.version_key(alloc)?)?)?;
+        Ok(Meta::And(all))
+    }
+
+    ghost lawful = { λ info. extra_lawful info };
+}
+
+/// That neither is asked for; or want of memory for the text.
+fn not_asked(alloc: Global) -> Error
+    ensures { IsNotAsked result.0 }
+{
+    match Text::new(alloc, "not a version or help") {
+        Ok(text) => Error(Message::ParseFail(text)),
+        Err(refused) => Error::from(refused),
     }
 }

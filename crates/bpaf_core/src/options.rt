@@ -1,14 +1,18 @@
 //! A run of a parser over words.
-ghost use Rattle.std.specs.Prelude.{◌≡◌, IfOk, Some};
-ghost use Rattle.bpaf_words.specs.Arguments.{given_of, words_of};
+ghost use Rattle.std.specs.Prelude.{◌≡◌, ◌==◌, ◌&&◌, not, IfOk, None, Some, option_map, true};
+ghost use Rattle.bpaf_line.specs.Situation.{open_count};
+ghost use Rattle.bpaf_words.specs.Arguments.{given_of, name_of, words_of};
 ghost use Rattle.bpaf_core.specs.Known.{ReadsNames, ShowsNames};
-ghost use Rattle.bpaf_core.specs.Run.{Runs, RunsWords, IsRefusal, Tells};
 ghost use Rattle.bpaf_core.specs.Dealt.{IsDealtOut};
+ghost use Rattle.bpaf_core.specs.Ending.{EndsRefused, EndsRun, IsHelp, ShowsHelp, Tells};
+ghost use Rattle.bpaf_core.specs.Run.{Runs, RunsWords};
+ghost use Rattle.bpaf_core.specs.Ending.{PassesOrTells, TellsFault, is_shown};
 
-use crate::info::Info;
+use crate::info::{ExtraParams, Info, version_page};
 use crate::parser::Parser;
-use bpaf_doc::Doc;
+use bpaf_doc::{Doc, HelpTexts, MetaInfo};
 use bpaf_line::{Message, ParseFailure, State};
+use bpaf_text::NamedArg;
 use bpaf_words::{Args, any_joined};
 use std::alloc::{AllocError, Global};
 use std::marker::PhantomData;
@@ -20,40 +24,6 @@ pub struct OptionParser<T, P> {
     pub info: Info,
     pub alloc: Global,
     pub of: PhantomData<T>,
-}
-
-/// The text of a refusal, as long as messages have no texts of their own.
-fn refusal(alloc: Global) -> ParseFailure
-    ensures { IsRefusal result }
-{
-    match refused(alloc) {
-        Ok(doc) => ParseFailure::Stderr(doc),
-        Err(_) => ParseFailure::Memory,
-    }
-}
-
-/// That text as a document; refused only for want of memory.
-fn refused(alloc: Global) -> Result<Doc, AllocError>
-    ensures { IfOk result (λ doc. IsRefusal (ParseFailure.Stderr doc)) }
-{
-    let mut doc = Doc::new(alloc);
-    doc.literal("refused")?;
-    Ok(doc)
-}
-
-/// What a run ends with where a parser, or the line, refuses: want of memory stays that, and the
-/// answer of an inner run is passed on.
-fn failure_of(alloc: Global, message: Message) -> ParseFailure
-    ensures { Tells message result }
-{
-    match message {
-        Message::Memory => ParseFailure::Memory,
-        Message::ParseFailure(failure) => failure,
-        refused => {
-            drop(refused);
-            refusal(alloc)
-        }
-    }
 }
 
 impl<T, P> OptionParser<T, P> {
@@ -69,6 +39,87 @@ impl<T, P> OptionParser<T, P> {
         ensures { result ≡ record self { info = record self.info { descr = Some descr } } }
     {
         self.info.descr = Some(descr);
+        self
+    }
+
+    /// The parser with this version, which its key shows (bpaf's `OptionParser::version`). It takes
+    /// no memory. Without one the key is an item like others.
+    ///
+    /// ```text
+    /// num.to_options(alloc)?.version(Doc::from_text(alloc, "1.2")?)
+    /// ```
+    pub fn version(mut self, version: Doc) -> OptionParser<T, P>
+        ensures { result ≡ record self { info = record self.info { version = Some version } } }
+    {
+        self.info.version = Some(version);
+        self
+    }
+
+    /// The parser with this text behind the usage (bpaf's `OptionParser::header`). It takes no
+    /// memory.
+    pub fn header(mut self, header: Doc) -> OptionParser<T, P>
+        ensures { result ≡ record self { info = record self.info { header = Some header } } }
+    {
+        self.info.header = Some(header);
+        self
+    }
+
+    /// The parser with this text at the end of the help page (bpaf's `OptionParser::footer`). It
+    /// takes no memory.
+    pub fn footer(mut self, footer: Doc) -> OptionParser<T, P>
+        ensures { result ≡ record self { info = record self.info { footer = Some footer } } }
+    {
+        self.info.footer = Some(footer);
+        self
+    }
+
+    /// The parser with this text as the whole usage paragraph, in place of the one that is made
+    /// (bpaf's `OptionParser::usage`). It takes no memory.
+    pub fn usage(mut self, usage: Doc) -> OptionParser<T, P>
+        ensures { result ≡ record self { info = record self.info { usage = Some usage } } }
+    {
+        self.info.usage = Some(usage);
+        self
+    }
+
+    /// The parser with this key for help, in place of `-h`, `--help` (bpaf's
+    /// `OptionParser::help_parser`). It takes no memory.
+    ///
+    /// ```text
+    /// let key = long(alloc, "usage")?.help(Doc::from_text(alloc, "Tells how")?);
+    /// num.to_options(alloc)?.help_parser(key)
+    /// ```
+    pub fn help_parser(mut self, key: NamedArg) -> OptionParser<T, P>
+        ensures { result ≡ record self { info = record self.info { help_arg = key } } }
+    {
+        self.info.help_arg = Some(key);
+        self
+    }
+
+    /// The parser with this key for the version, in place of `-V`, `--version` (bpaf's
+    /// `OptionParser::version_parser`). It takes no memory.
+    pub fn version_parser(mut self, key: NamedArg) -> OptionParser<T, P>
+        ensures { result ≡ record self { info = record self.info { version_arg = key } } }
+    {
+        self.info.version_arg = Some(key);
+        self
+    }
+
+    /// The parser which shows help, where there is nothing to read and it would refuse (bpaf's
+    /// `OptionParser::fallback_to_usage`). It takes no memory.
+    pub fn fallback_to_usage(mut self) -> OptionParser<T, P>
+        ensures { result ≡ record self { info = record self.info { help_if_no_args = true } } }
+    {
+        self.info.help_if_no_args = true;
+        self
+    }
+
+    /// The parser with this many columns for a page, which are kept and not used: nothing is
+    /// wrapped (bpaf's `OptionParser::max_width`). It takes no memory.
+    pub fn max_width(mut self, width: usize) -> OptionParser<T, P>
+        ensures { result ≡ record self { info = record self.info { max_width = width } } }
+    {
+        self.info.max_width = width;
         self
     }
 }
@@ -91,7 +142,7 @@ impl<T: Drop, P: Parser<T>> OptionParser<T, P> {
         };
         match State::construct(self.alloc, args, &flags, &arguments) {
             Ok(mut state) => self.run_from(&mut state),
-            Err(message) => Err(failure_of(self.alloc, message)),
+            Err(message) => Err(tell_fault(self.alloc, args, message)),
         }
     }
 
@@ -126,18 +177,153 @@ impl<T: Drop, P: Parser<T>> OptionParser<T, P> {
     /// A run from a state on.
     pub(crate) fn run_from(&self, state: &mut State) -> Result<T, ParseFailure>
         requires { P.can_eval self.now.inner }
-        ensures { Runs T (P.outcome self.now.inner) state.old result state.new }
+        ensures { Runs T (P.outcome self.now.inner)
+            (EndsRun (P.describes self.now.inner) self.now.info) state.old result state.new }
     {
+        let usage = self.wants_usage(state);
         match self.inner.eval(state) {
             Ok(value) => {
-                if state.is_empty() {
+                let Some(message) = state.leftover() else {
                     return Ok(value);
-                }
+                };
                 drop(value);
-                Err(refusal(self.alloc))
+                Err(self.tell(message, state))
             }
-            Err(error) => Err(failure_of(self.alloc, error.0)),
+            Err(error) => Err(self.end_refused(usage, error.0, state)),
         }
+    }
+
+    /// Whether help is shown in place of a message: the program wants it so, and there is nothing to
+    /// read.
+    fn wants_usage(&self, state: &State) -> bool
+        ensures { result ≡ (self.now.info.help_if_no_args && (open_count state.now == 0)) }
+    {
+        self.info.help_if_no_args && state.is_empty()
+    }
+
+    /// How a run ends whose parser refused; the flag tells whether help is shown in place of a
+    /// message.
+    fn end_refused(&self, usage: bool, message: Message, state: &mut State) -> ParseFailure
+        requires { P.can_eval self.now.inner }
+        ensures { EndsRefused (P.describes self.now.inner) self.now.info usage message
+            state.old result state.new }
+    {
+        if message.is_memory() {
+            drop(message);
+            return ParseFailure::Memory;
+        }
+        if stands_in(usage, &message) {
+            drop(message);
+            return self.help(state, false);
+        }
+        self.answer(message, state)
+    }
+
+    /// The answer of an inner run as it is, and what is told of any other message.
+    fn answer(&self, message: Message, state: &mut State) -> ParseFailure
+        requires { P.can_eval self.now.inner }
+        ensures { PassesOrTells (P.describes self.now.inner) self.now.info message
+            state.old result state.new }
+    {
+        match message {
+            Message::ParseFailure(failure) => failure,
+            message => self.tell(message, state),
+        }
+    }
+
+    /// What is told of a message: help, or the version, where it is asked for; else the message.
+    fn tell(&self, message: Message, state: &mut State) -> ParseFailure
+        requires { P.can_eval self.now.inner }
+        ensures { Tells (P.describes self.now.inner) self.now.info message
+            state.old result state.new }
+    {
+        match self.info.eval(state) {
+            Ok(ExtraParams::Help(full)) => {
+                drop(message);
+                self.help(state, full)
+            }
+            Ok(ExtraParams::Version(version)) => {
+                drop(message);
+                version_page(self.alloc, &version)
+            }
+            Err(error) => {
+                if error.is_memory() {
+                    drop(message);
+                    return ParseFailure::Memory;
+                }
+                drop(error);
+                message.render(state)
+            }
+        }
+    }
+
+    /// The help page, in full or not; or want of memory for it.
+    fn help(&self, state: &State, full: bool) -> ParseFailure
+        requires { P.can_eval self.now.inner }
+        ensures { ShowsHelp (P.describes self.now.inner) self.now.info full state.now result }
+    {
+        match self.help_page(state) {
+            Ok(doc) => ParseFailure::Stdout(doc, full),
+            Err(_) => ParseFailure::Memory,
+        }
+    }
+
+    /// The help page at the path of a state; refused only for want of memory.
+    fn help_page(&self, state: &State) -> Result<Doc, AllocError>
+        requires { P.can_eval self.now.inner }
+        ensures { IfOk result (IsHelp (P.describes self.now.inner) self.now.info state.now) }
+    {
+        let meta = self.inner.meta(self.alloc)?;
+        let extra = self.info.meta(self.alloc)?;
+        let texts = HelpTexts {
+            usage: self.info.usage.as_ref(),
+            descr: self.info.descr.as_ref(),
+            header: self.info.header.as_ref(),
+            footer: self.info.footer.as_ref(),
+        };
+        MetaInfo::new(&meta).render_help(self.alloc, state.path(), texts, MetaInfo::new(&extra))
+    }
+}
+
+/// Whether help, where it is wanted, stands in for a message: for each but one that shows something.
+fn stands_in(usage: bool, message: &Message) -> bool
+    ensures { result ≡ (usage && not (is_shown message.now)) }
+{
+    usage && !is_shown(message)
+}
+
+/// Whether it is the answer of an inner run that shows what was asked for.
+fn is_shown(message: &Message) -> bool
+    ensures { result ≡ is_shown message.now }
+{
+    matches!(message, Message::ParseFailure(ParseFailure::Stdout(..)))
+}
+
+/// What is told of words that have no line: there is no state, so one without words stands for it,
+/// of the same set name. Or want of memory for that.
+fn tell_fault(alloc: Global, args: Args<'_>, message: Message) -> ParseFailure
+    ensures { TellsFault (name_of args.entry) message result }
+{
+    let words: [&str; 0] = [];
+    match State::construct(alloc, renamed(Args::from(&words), args.name()), &[], &[]) {
+        Ok(state) => message.render(&state),
+        Err(fault) => {
+            drop(fault);
+            drop(message);
+            ParseFailure::Memory
+        }
+    }
+}
+
+/// The same with a name, where there is one.
+fn renamed<'a>(args: Args<'a>, name: Option<&'a str>) -> Args<'a>
+    requires { name_of args ≡ None }
+    ensures words { words_of result ≡ words_of args.entry }
+    ensures name { name_of result ≡ option_map (λ n. n.now) name.entry }
+{
+    match name {
+        Some(name) => args.set_name(name),
+        None => args,
     }
 }
 

@@ -17,3 +17,4 @@ pub mod Conflicts
 pub mod Constructing
 pub mod TakenPlaces
 pub mod Runs
+pub mod Leftover

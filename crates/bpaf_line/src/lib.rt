@@ -35,6 +35,7 @@ mod error;
 mod failure;
 mod find;
 mod iter;
+mod leftover;
 mod mark;
 mod missing;
 mod state;

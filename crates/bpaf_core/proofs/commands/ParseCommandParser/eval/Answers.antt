@@ -1,5 +1,7 @@
 use Rattle.std.proofs.Common.{Ok, Err}
 use Rattle.bpaf_laws.specs.Command.{CommandPart}
+use Rattle.bpaf_core.specs.Ending.{EndsRun}
+use Rattle.bpaf_core.specs.EndingLaws.{run_ending}
 use Rattle.bpaf_core.specs.AdjacentLaws.{plain_leaves_nothing, spared_either, takes_one_run}
 use Rattle.bpaf_core.proofs.Commanding.{inside_answers, inside_refuses, refused_inside}
 use Rattle.bpaf_core.proofs.commands.ParseCommandParser.eval.Goals as goal
@@ -7,7 +9,7 @@ use Rattle.bpaf_core.proofs.commands.ParseCommandParser.eval.Goals as goal
 pub returns-in_err-enter-clause-outcome : goal.returns-in_err-enter-clause-outcome
 returns-in_err-enter-clause-outcome g c =
     let p = c.args.self.now in
-    refused_inside (g.P.Parser.outcome p.subparser.inner) p.names
+    refused_inside (g.P.Parser.outcome p.subparser.inner) (EndsRun (g.P.Parser.describes p.subparser.inner) p.subparser.info) p.names
     (CommandPart p.names p.help (g.P.Parser.describes p.subparser.inner)) c.args.state.now
     p.adjacent c.in_err-enter.field-0.0 c.from_residual.result c.enter.new.state
     c.from_residual.ensures c.in_err-enter.ensures
@@ -16,14 +18,15 @@ pub returns-in_err-enter-clause-memory_is_never_caught :
     goal.returns-in_err-enter-clause-memory_is_never_caught
 returns-in_err-enter-clause-memory_is_never_caught g c = λ spared.
     let p = c.args.self.now in
-    spared_either (g.P.Parser.outcome p.subparser.inner) p.adjacent p.names
+    spared_either (g.P.Parser.outcome p.subparser.inner) (EndsRun (g.P.Parser.describes p.subparser.inner) p.subparser.info)
+    (run_ending (g.P.Parser.describes p.subparser.inner) p.subparser.info) p.adjacent p.names
     (CommandPart p.names p.help (g.P.Parser.describes p.subparser.inner)) c.args.state.now
     c.enter.new.state c.from_residual.result (returns-in_err-enter-clause-outcome g c) spared
 
 pub returns-in-Ok-clause-outcome : goal.returns-in-Ok-clause-outcome
 returns-in-Ok-clause-outcome g c =
     let p = c.args.self.now in
-    inside_answers (g.P.Parser.outcome p.subparser.inner) p.names
+    inside_answers (g.P.Parser.outcome p.subparser.inner) (EndsRun (g.P.Parser.describes p.subparser.inner) p.subparser.info) p.names
     (CommandPart p.names p.help (g.P.Parser.describes p.subparser.inner)) c.args.state.now
     c.in_ok-enter.field-0 c.enter.new.state c.run_inside.new.state c.in_ok-enter.ensures
     p.adjacent c.in-Ok.value c.in-Ok.ensures
@@ -31,28 +34,31 @@ returns-in-Ok-clause-outcome g c =
 pub returns-in-Ok-clause-command_leaves_nothing : goal.returns-in-Ok-clause-command_leaves_nothing
 returns-in-Ok-clause-command_leaves_nothing g c =
     let p = c.args.self.now in
-    plain_leaves_nothing (g.met.P.Parser.lawful p.subparser.inner) p.names
+    plain_leaves_nothing (g.met.P.Parser.lawful p.subparser.inner)
+    (run_ending (g.P.Parser.describes p.subparser.inner) p.subparser.info) p.names
     (CommandPart p.names p.help (g.P.Parser.describes p.subparser.inner)) p.adjacent
     c.args.state.now c.run_inside.new.state c.in-Ok.value (returns-in-Ok-clause-outcome g c)
 
 pub returns-in-Ok-clause-takes_one_run : goal.returns-in-Ok-clause-takes_one_run
 returns-in-Ok-clause-takes_one_run g c =
     let p = c.args.self.now in
-    takes_one_run (g.met.P.Parser.lawful p.subparser.inner) p.names
+    takes_one_run (g.met.P.Parser.lawful p.subparser.inner)
+    (run_ending (g.P.Parser.describes p.subparser.inner) p.subparser.info) p.names
     (CommandPart p.names p.help (g.P.Parser.describes p.subparser.inner)) p.adjacent
     c.args.state.now c.run_inside.new.state c.in-Ok.value (returns-in-Ok-clause-outcome g c)
 
 pub returns-in-Ok-clause-memory_is_never_caught : goal.returns-in-Ok-clause-memory_is_never_caught
 returns-in-Ok-clause-memory_is_never_caught g c = λ spared.
     let p = c.args.self.now in
-    spared_either (g.P.Parser.outcome p.subparser.inner) p.adjacent p.names
+    spared_either (g.P.Parser.outcome p.subparser.inner) (EndsRun (g.P.Parser.describes p.subparser.inner) p.subparser.info)
+    (run_ending (g.P.Parser.describes p.subparser.inner) p.subparser.info) p.adjacent p.names
     (CommandPart p.names p.help (g.P.Parser.describes p.subparser.inner)) c.args.state.now
     c.run_inside.new.state (Ok c.in-Ok.value) (returns-in-Ok-clause-outcome g c) spared
 
 pub returns-in-Err-clause-outcome : goal.returns-in-Err-clause-outcome
 returns-in-Err-clause-outcome g c =
     let p = c.args.self.now in
-    inside_refuses (g.P.Parser.outcome p.subparser.inner) p.names
+    inside_refuses (g.P.Parser.outcome p.subparser.inner) (EndsRun (g.P.Parser.describes p.subparser.inner) p.subparser.info) p.names
     (CommandPart p.names p.help (g.P.Parser.describes p.subparser.inner)) c.args.state.now
     c.in_ok-enter.field-0 c.enter.new.state c.run_inside.new.state c.in_ok-enter.ensures
     p.adjacent c.in-Err.failure (record { 0 = c.end_message.result }) c.in-Err.ensures
@@ -62,7 +68,8 @@ pub returns-in-Err-clause-memory_is_never_caught :
     goal.returns-in-Err-clause-memory_is_never_caught
 returns-in-Err-clause-memory_is_never_caught g c = λ spared.
     let p = c.args.self.now in
-    spared_either (g.P.Parser.outcome p.subparser.inner) p.adjacent p.names
+    spared_either (g.P.Parser.outcome p.subparser.inner) (EndsRun (g.P.Parser.describes p.subparser.inner) p.subparser.info)
+    (run_ending (g.P.Parser.describes p.subparser.inner) p.subparser.info) p.adjacent p.names
     (CommandPart p.names p.help (g.P.Parser.describes p.subparser.inner)) c.args.state.now
     c.run_inside.new.state (Err (record { 0 = c.end_message.result }))
     (returns-in-Err-clause-outcome g c) spared

@@ -1,12 +1,16 @@
-use Rattle.bpaf_core.specs.Run.{value, leftover, refused}
-use Rattle.bpaf_core.proofs.Running.{nothing_left, something_left}
+use Rattle.bpaf_core.specs.Ending.{leftover}
+use Rattle.bpaf_core.specs.Run.{refused, value}
+use Rattle.bpaf_core.specs.Run.{leftover as left_over}
 use Rattle.bpaf_core.proofs.options.OptionParser.run_from.Goals as goal
 
-pub returns-then-is_empty : goal.returns-then-is_empty
-returns-then-is_empty g c = value _ _ c.in-Ok.ensures (nothing_left _ _ c.is_empty.ensures c.if-is_empty.true)
+pub returns-in_default : goal.returns-in_default
+returns-in_default g c = value _ _ c.in-Ok.ensures c.in_default.ensures
 
-pub returns-else-is_empty : goal.returns-else-is_empty
-returns-else-is_empty g c = leftover _ _ _ c.in-Ok.ensures (something_left _ _ c.is_empty.ensures c.if-is_empty.false) c.refusal.ensures
+pub returns-in-Some : goal.returns-in-Some
+returns-in-Some g c =
+    left_over _ _ _ _ c.in-Ok.ensures (leftover _ _ _ _ _ c.in-Some.ensures c.tell.ensures)
 
 pub returns-in-Err : goal.returns-in-Err
-returns-in-Err g c = refused _ _ _ c.in-Err.ensures c.failure_of.ensures
+returns-in-Err g c =
+    refused _ _ _ _ c.in-Err.ensures
+    (c.end_refused.ensures c.args.state.now c.wants_usage-usage.ensures)

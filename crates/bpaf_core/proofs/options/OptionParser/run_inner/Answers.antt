@@ -18,4 +18,4 @@ returns-in-Ok-construct-clause-dealt g c =
 
 pub returns-clause-outcome : goal.returns-clause-outcome
 returns-clause-outcome g c =
-    line_refused (given_of c.args.args) _ _ _ _ c.in-Ok.ensures (rw (c.deref.ensures.value, c.deref-2.ensures.value) at c.in-Err.ensures.answer) c.failure_of.ensures
+    line_refused (given_of c.args.args) _ _ _ _ c.in-Ok.ensures (rw (c.deref.ensures.value, c.deref-2.ensures.value) at c.in-Err.ensures.answer) c.tell_fault.ensures

@@ -1,0 +1,120 @@
+-- How a run ends that has no value.
+use Rattle.std.specs.Prelude.{◌≡◌, ◌⊎◌, ℕ, ◌==◌, Bool, true, false, not, ◌&&◌, List, [], ◌++◌, Option, Some}
+use Rattle.std.specs.Prelude.{None, Ok, Err, codes, ⊤}
+use Rattle.bpaf_doc.specs.declared.doc.Piece.{Piece}
+use Rattle.bpaf_doc.specs.Help.{help_text}
+use Rattle.bpaf_doc.specs.Joined.{Print, Prints}
+use Rattle.bpaf_doc.specs.Print.{printed}
+use Rattle.bpaf_doc.specs.Shape.{Shape}
+use Rattle.bpaf_line.specs.declared.error.Error.{Error}
+use Rattle.bpaf_line.specs.declared.error.Message.{Message}
+use Rattle.bpaf_line.specs.declared.error.Message.TheVariants as message
+use Rattle.bpaf_line.specs.declared.failure.ParseFailure.{ParseFailure}
+use Rattle.bpaf_line.specs.declared.failure.ParseFailure.TheVariants as failure
+use Rattle.bpaf_line.specs.Leftover.{IsLeftover}
+use Rattle.bpaf_line.specs.Messages.{is_memory}
+use Rattle.bpaf_line.specs.Rendering.{Renders}
+use Rattle.bpaf_line.specs.Situation.{Context, Situation, beginning, open_count}
+use Rattle.bpaf_core.specs.declared.info.ExtraParams.{ExtraParams}
+use Rattle.bpaf_core.specs.declared.info.ExtraParams.TheVariants as extra
+use Rattle.bpaf_core.specs.Extra.{ExtraOutcome, extra_shape}
+use Rattle.bpaf_core.specs.Info.{RunInfo, page_texts}
+
+-- what a run ends with that has no value, and the situation that it leaves: the message of its
+-- parser, or none where that left items; the situation before the parser, and the one that it left
+abbrev pub Ending : Type 1
+Ending = Option Message → Situation → Situation → ParseFailure → Situation → Type 0
+
+-- the help page of a shape that the parser may show, at the path of a situation
+abbrev pub IsHelp : (Shape → Type 0) → RunInfo → Situation → List Piece → Type 0
+IsHelp describes info s doc =
+    (shape : Shape) × describes shape
+    × Prints (help_text s.path (page_texts info) shape (extra_shape info)) doc
+
+-- help is shown, in full or not; or memory for it is wanted
+abbrev pub ShowsHelp : (Shape → Type 0) → RunInfo → Bool → Situation → ParseFailure → Type 0
+ShowsHelp describes info more s (failure.Stdout doc full) =
+    IsHelp describes info s doc × (full ≡ more)
+ShowsHelp describes info more s (failure.Stderr doc) = ⊥
+ShowsHelp describes info more s failure.Memory = ⊤
+
+-- the text of a version
+abbrev pub version_text : List Piece → Print
+version_text version full = codes "Version: " ++ printed full version ++ codes "\n"
+
+-- a version is shown; or memory for it is wanted
+abbrev pub ShowsVersion : List Piece → ParseFailure → Type 0
+ShowsVersion version (failure.Stdout doc full) = Prints (version_text version) doc × (full ≡ false)
+ShowsVersion version (failure.Stderr doc) = ⊥
+ShowsVersion version failure.Memory = ⊤
+
+-- what was asked for is shown
+abbrev pub Shows : (Shape → Type 0) → RunInfo → ExtraParams → Situation → ParseFailure → Type 0
+Shows describes info (extra.Help more) s f = ShowsHelp describes info more s f
+Shows describes info (extra.Version version) s f = ShowsVersion version f
+
+-- a message: help or the version is shown where it is asked for, help first; else the message is
+-- told; or memory is wanted
+pub data Tells (describes : Shape → Type 0) (info : RunInfo) (m : Message) (s : Situation)
+    : ParseFailure → Situation → Type 0 where
+  shown : (asked : ExtraParams) (f : ParseFailure) (t : Situation)
+      → ExtraOutcome info s (Ok asked) t → Shows describes info asked t f
+      → Tells describes info m s f t
+  told : (e : Error) (f : ParseFailure) (t : Situation) → ExtraOutcome info s (Err e) t
+      → is_memory e.0 ≡ false → Renders m t f → Tells describes info m s f t
+  wanting : (e : Error) (t : Situation) → ExtraOutcome info s (Err e) t → is_memory e.0 ≡ true
+      → Tells describes info m s failure.Memory t
+
+-- the answer of an inner run that shows what was asked for
+abbrev pub is_shown : Message → Bool
+is_shown (message.ParseFailure (failure.Stdout doc full)) = true
+is_shown _ = false
+
+-- the answer of an inner run
+abbrev pub is_answer : Message → Bool
+is_answer (message.ParseFailure f) = true
+is_answer _ = false
+
+-- help is shown in place of a refusal: nothing was there to read, the program wants it so then, and
+-- nothing else is shown
+abbrev pub shows_usage : RunInfo → Message → Situation → Bool
+shows_usage info m s = (info.help_if_no_args && (open_count s == 0)) && not (is_shown m)
+
+-- how a run ends that has no value
+pub data EndsRun (describes : Shape → Type 0) (info : RunInfo) : Option Message → Situation
+    → Situation → ParseFailure → Situation → Type 0 where
+  memory : (m : Message) (s t : Situation) → is_memory m ≡ true
+      → EndsRun describes info (Some m) s t failure.Memory t
+  usage : (m : Message) (s : Situation) (f : ParseFailure) (t : Situation) → is_memory m ≡ false
+      → shows_usage info m s ≡ true → ShowsHelp describes info false t f
+      → EndsRun describes info (Some m) s t f t
+  passed_on : (f : ParseFailure) (s t : Situation) → is_memory (message.ParseFailure f) ≡ false
+      → shows_usage info (message.ParseFailure f) s ≡ false
+      → EndsRun describes info (Some (message.ParseFailure f)) s t f t
+  refused : (m : Message) (s left : Situation) (f : ParseFailure) (t : Situation)
+      → is_memory m ≡ false → shows_usage info m s ≡ false → is_answer m ≡ false
+      → Tells describes info m left f t → EndsRun describes info (Some m) s left f t
+  leftover : (m : Message) (s left : Situation) (f : ParseFailure) (t : Situation)
+      → IsLeftover left m → Tells describes info m left f t
+      → EndsRun describes info None s left f t
+
+-- how a run ends whose parser refused, where it is known whether help stands in for a message
+abbrev pub EndsRefused : (Shape → Type 0) → RunInfo → Bool → Message → Situation → ParseFailure
+    → Situation → Type 0
+EndsRefused describes info wanted m left f t =
+    (s : Situation) → wanted ≡ (info.help_if_no_args && (open_count s == 0))
+    → EndsRun describes info (Some m) s left f t
+
+-- the answer of an inner run as it is, and what is told of any other message
+abbrev pub PassesOrTells : (Shape → Type 0) → RunInfo → Message → Situation → ParseFailure
+    → Situation → Type 0
+PassesOrTells describes info (message.ParseFailure inner) s f t = (f ≡ inner) × (t ≡ s)
+PassesOrTells describes info m s f t = Tells describes info m s f t
+
+-- what is told of words without a line: the message, where nothing is known but the set name; or
+-- want of memory
+abbrev pub TellsFault : Option (List ℕ) → Message → ParseFailure → Type 0
+TellsFault name m f =
+    (f ≡ failure.Memory)
+    ⊎ ((context : Context) × (context.line ≡ []) × (context.name ≡ name)
+    × Renders m (beginning context) f)

@@ -1,0 +1,10 @@
+use Rattle.std.proofs.Common.{sym, ◌∙◌}
+use Rattle.bpaf_line.specs.Leftover.{conflict, not_expected, only_once}
+use Rattle.bpaf_line.proofs.state.State.message_of.Goals as goal
+
+pub returns-in-Some : goal.returns-in-Some
+returns-in-Some c = conflict _ _ c.requires (sym c.conflict_at.ensures ∙ c.in-Some.is)
+
+pub returns-in-None : goal.returns-in-None
+returns-in-None c =
+    not_expected _ c.requires (sym c.conflict_at.ensures ∙ c.in_default.is) c.in-None.ensures
