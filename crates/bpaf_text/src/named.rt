@@ -22,7 +22,7 @@ use std::marker::Model;
 /// may type all the same.
 ///
 /// Unlike in bpaf the names are copies, so they need not live for the whole program.
-#[derive(Debug, Drop)]
+#[derive(Debug)]
 pub struct NamedArg {
     shorts: Vec<char>,
     longs: Vec<Text>,
@@ -41,6 +41,22 @@ impl Model for NamedArg {
           envs = named.envs.items;
           help = named.help;
         } };
+}
+
+/// One call, so that a function that drops many keys isn't checked for each way to keep one.
+impl Drop for NamedArg {
+    fn drop(self) {
+        let NamedArg {
+            shorts,
+            longs,
+            envs,
+            help,
+        } = self;
+        drop(shorts);
+        drop(longs);
+        drop(envs);
+        drop(help);
+    }
 }
 
 /// A key that holds nothing, which no public call makes. It takes no memory.
