@@ -1,7 +1,7 @@
-ghost use Rattle.std.specs.Prelude.{◌≡◌, ◌==◌, Bool, IfOk, OnOk, OnErr, List, [], ◌∷◌, ◌++◌, map, string_bytes};
+ghost use Rattle.std.specs.Prelude.{◌≡◌, ◌==◌, Bool, true, IfOk, OnOk, OnErr, List, [], ◌∷◌, ◌++◌, map, string_bytes};
 ghost use Rattle.std.specs.List.{before_first};
 ghost use Rattle.bpaf_doc.specs.Print.{printed, shown_as, in_backticks, first_line};
-ghost use Rattle.bpaf_doc.specs.Fold.{TextPieces};
+ghost use Rattle.bpaf_doc.specs.Fold.{TextPieces, folded_whole};
 
 use crate::fold::text_pieces;
 use crate::text::Text;
@@ -145,6 +145,15 @@ impl Doc {
         }
     }
 
+    /// Appends pieces; refused only for want of memory.
+    fn append(&mut self, more: Vec<Piece>) -> Result<(), AllocError>
+        ensures ok { OnOk result (self.new ≡ self.old ++ more.items) }
+        ensures err { OnErr result (self.new ≡ self.old) }
+    {
+        let mut more = more;
+        self.pieces.append(&mut more)
+    }
+
     /// Appends one piece that is no detail; refused only for want of memory.
     fn push(&mut self, style: Style, text: Text) -> Result<(), AllocError>
         ensures ok { OnOk result (self.new ≡ self.old ++ shown_as style text ∷ []) }
@@ -174,10 +183,12 @@ impl Doc {
         ensures ok { OnOk result ((more : List Piece)
             × TextPieces text.now more
             × (self.new ≡ self.old ++ more)) }
+        ensures printed { OnOk result (
+            printed true self.new ≡ printed true self.old ++ folded_whole text.now) }
         ensures err { OnErr result (self.new ≡ self.old) }
     {
-        let mut more = text_pieces(*self.pieces.allocator(), text)?;
-        self.pieces.append(&mut more)
+        let more = text_pieces(*self.pieces.allocator(), text)?;
+        self.append(more)
     }
 
     /// Appends one piece, the text as it is (bpaf's `Doc::write`); refused only for want of memory.
@@ -221,8 +232,8 @@ impl Doc {
             printed full self.new ≡ printed full self.old ++ printed full other.now) }
         ensures err { OnErr result (self.new ≡ self.old) }
     {
-        let mut more = copy_pieces(*self.pieces.allocator(), &other.pieces)?;
-        self.pieces.append(&mut more)
+        let more = copy_pieces(*self.pieces.allocator(), &other.pieces)?;
+        self.append(more)
     }
 
     /// What is printed without detail, up to its first line break, as one plain piece; `None` where
