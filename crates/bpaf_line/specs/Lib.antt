@@ -17,3 +17,7 @@ pub mod Conflicts
 pub mod Constructing
 pub mod TakenPlaces
 pub mod Runs
+pub mod Shown
+pub mod MissingText
+pub mod Rendering
+pub mod EarlierKey
