@@ -1,2 +1,3 @@
+pub mod Cutting
 pub mod Folding
 pub mod Gathering

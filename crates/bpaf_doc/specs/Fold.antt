@@ -1,6 +1,7 @@
 -- Texts with their line breaks folded.
 use Rattle.std.specs.Prelude.{◌≡◌, ◌≢◌, ℕ, ◌<◌, ◌≤◌, Bool, true, false, not, ◌&&◌, ◌||◌, ◌==◌, List}
-use Rattle.std.specs.Prelude.{[], ◌∷◌, ◌++◌, length, slice_index, if◌then◌else◌}
+use Rattle.std.specs.Prelude.{[], ◌∷◌, ◌++◌, length, slice_index, if◌then◌else◌, drop}
+use Rattle.std.specs.Prelude.{Option, Some, None, option_map}
 use Rattle.std.specs.Str.Pattern.{LacksTextAt}
 use Rattle.bpaf_doc.specs.declared.doc.Piece.{Piece}
 use Rattle.bpaf_doc.specs.declared.doc.Style.TheVariants as style
@@ -64,3 +65,25 @@ pub data TextPieces (text : List ℕ) : List Piece → Type 0 where
       → text ≡ before ++ (empty_line ++ after)
       → ((i : ℕ) → i < length before → LacksTextAt empty_line text i)
       → TextPieces text (cut_pieces before after)
+
+-- two line breaks stand first in a text
+abbrev pub begins_with_empty_line : List ℕ → Bool
+begins_with_empty_line [] = false
+begins_with_empty_line (c ∷ []) = false
+begins_with_empty_line (c ∷ d ∷ rest) = c == 10 && d == 10
+
+-- a text cut at its first empty line, where it has one: what stands before it, and what after it
+abbrev pub cut_at_empty_line : List ℕ → Option (List ℕ × List ℕ)
+cut_at_empty_line [] = None
+cut_at_empty_line (c ∷ rest) =
+    if begins_with_empty_line (c ∷ rest) then Some ([], drop 1 rest)
+    else option_map (λ parts. (c ∷ parts.0, parts.1)) (cut_at_empty_line rest)
+
+-- the parts of a text that was cut, each folded, with one line break between them; or all of it
+abbrev pub folded_parts : List ℕ → Option (List ℕ × List ℕ) → List ℕ
+folded_parts text None = folded text
+folded_parts text (Some parts) = folded parts.0 ++ 10 ∷ folded parts.1
+
+-- what a full print shows of a text: all of it, folded, and one line break for its first empty line
+abbrev pub folded_whole : List ℕ → List ℕ
+folded_whole text = folded_parts text (cut_at_empty_line text)

@@ -1,7 +1,7 @@
-ghost use Rattle.std.specs.Prelude.{◌≡◌, ◌==◌, IfOk, OnOk, OnErr, List, [], ◌∷◌, ◌++◌, map, string_bytes};
+ghost use Rattle.std.specs.Prelude.{◌≡◌, ◌==◌, Bool, true, IfOk, OnOk, OnErr, List, [], ◌∷◌, ◌++◌, map, string_bytes};
 ghost use Rattle.std.specs.List.{before_first};
 ghost use Rattle.bpaf_doc.specs.Print.{printed, shown_as, in_backticks, first_line};
-ghost use Rattle.bpaf_doc.specs.Fold.{TextPieces};
+ghost use Rattle.bpaf_doc.specs.Fold.{TextPieces, folded_whole};
 
 use crate::fold::text_pieces;
 use crate::text::Text;
@@ -85,6 +85,11 @@ fn line_of(text: &str) -> &str
 }
 
 impl Doc {
+    /// The allocator that it keeps.
+    pub fn alloc(&self) -> Global {
+        *self.pieces.allocator()
+    }
+
     /// A document without pieces. It takes no memory.
     pub fn new(alloc: Global) -> Doc
         ensures { result ≡ [] }
@@ -140,6 +145,15 @@ impl Doc {
         }
     }
 
+    /// Appends pieces; refused only for want of memory.
+    fn append(&mut self, more: Vec<Piece>) -> Result<(), AllocError>
+        ensures ok { OnOk result (self.new ≡ self.old ++ more.items) }
+        ensures err { OnErr result (self.new ≡ self.old) }
+    {
+        let mut more = more;
+        self.pieces.append(&mut more)
+    }
+
     /// Appends one piece that is no detail; refused only for want of memory.
     fn push(&mut self, style: Style, text: Text) -> Result<(), AllocError>
         ensures ok { OnOk result (self.new ≡ self.old ++ shown_as style text ∷ []) }
@@ -169,10 +183,23 @@ impl Doc {
         ensures ok { OnOk result ((more : List Piece)
             × TextPieces text.now more
             × (self.new ≡ self.old ++ more)) }
+        ensures printed { OnOk result (
+            printed true self.new ≡ printed true self.old ++ folded_whole text.now) }
         ensures err { OnErr result (self.new ≡ self.old) }
     {
-        let mut more = text_pieces(*self.pieces.allocator(), text)?;
-        self.pieces.append(&mut more)
+        let more = text_pieces(*self.pieces.allocator(), text)?;
+        self.append(more)
+    }
+
+    /// Appends one piece, the text as it is (bpaf's `Doc::write`); refused only for want of memory.
+    pub fn write(&mut self, style: Style, text: &str) -> Result<(), AllocError>
+        ensures ok { OnOk result (self.new ≡ self.old ++ shown_as style text.now ∷ []) }
+        ensures printed { OnOk result ((full : Bool) →
+            printed full self.new ≡ printed full self.old ++ text.now) }
+        ensures err { OnErr result (self.new ≡ self.old) }
+    {
+        let text = Text::new(*self.pieces.allocator(), text)?;
+        self.push(style, text)
     }
 
     /// Appends one literal piece, the text as it is; refused only for want of memory.
@@ -180,14 +207,15 @@ impl Doc {
         ensures ok { OnOk result (self.new ≡ self.old ++ shown_as Style.Literal text.now ∷ []) }
         ensures err { OnErr result (self.new ≡ self.old) }
     {
-        let text = Text::new(*self.pieces.allocator(), text)?;
-        self.push(Style::Literal, text)
+        self.write(Style::Literal, text)
     }
 
     /// Appends one piece: the text between two backticks; refused only for want of memory.
     pub fn term(&mut self, style: Style, text: &str) -> Result<(), AllocError>
         ensures ok { OnOk result (
             self.new ≡ self.old ++ shown_as style (in_backticks text.now) ∷ []) }
+        ensures printed { OnOk result ((full : Bool) →
+            printed full self.new ≡ printed full self.old ++ in_backticks text.now) }
         ensures err { OnErr result (self.new ≡ self.old) }
     {
         let mut quoted = String::new(*self.pieces.allocator());
@@ -200,10 +228,12 @@ impl Doc {
     /// Appends the pieces of another document; refused only for want of memory.
     pub fn doc(&mut self, other: &Doc) -> Result<(), AllocError>
         ensures ok { OnOk result (self.new ≡ self.old ++ other.now) }
+        ensures printed { OnOk result ((full : Bool) →
+            printed full self.new ≡ printed full self.old ++ printed full other.now) }
         ensures err { OnErr result (self.new ≡ self.old) }
     {
-        let mut more = copy_pieces(*self.pieces.allocator(), &other.pieces)?;
-        self.pieces.append(&mut more)
+        let more = copy_pieces(*self.pieces.allocator(), &other.pieces)?;
+        self.append(more)
     }
 
     /// What is printed without detail, up to its first line break, as one plain piece; `None` where

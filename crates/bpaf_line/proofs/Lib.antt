@@ -1,9 +1,11 @@
+pub mod Appended
 pub mod Counts
 pub mod BitLemmas
 pub mod Chained
 pub mod Places
 pub mod Matches
 pub mod Finding
+pub mod FirstPresent
 pub mod Sound
 pub mod OpenItems
 pub mod Conflicts

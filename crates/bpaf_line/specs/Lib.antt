@@ -18,3 +18,7 @@ pub mod Constructing
 pub mod TakenPlaces
 pub mod Runs
 pub mod Leftover
+pub mod Shown
+pub mod MissingText
+pub mod Rendering
+pub mod EarlierKey

@@ -1,0 +1,47 @@
+//! The last earlier key of the same name.
+ghost use Rattle.std.specs.Prelude.{◌≡◌, MatchOption, Some};
+ghost use Rattle.bpaf_line.specs.Shown.{line_item};
+ghost use Rattle.bpaf_line.specs.EarlierKey.{have_one_name, repeats, IsEarlierKey, HasNoEarlierKey};
+
+use crate::state::State;
+use bpaf_words::Arg;
+
+/// Whether two items are keys of one kind and name.
+fn have_one_name(item: &Arg, other: &Arg) -> bool
+    ensures { result ≡ have_one_name item.now other.now }
+{
+    match (item, other) {
+        (Arg::Short(c, _, _), Arg::Short(d, _, _)) => *c == *d,
+        (Arg::Long(name, _, _), Arg::Long(same, _, _)) => name.as_str() == same.as_str(),
+        _ => false,
+    }
+}
+
+impl State {
+    /// Where the item at a place of the line is a key, the last place before it whose item is a key
+    /// of the same kind and name, taken or not, attached or not; else None. It takes no memory.
+    pub fn earlier_key(&self, place: usize) -> Option<usize>
+        ensures { MatchOption result
+            (HasNoEarlierKey self.now place) (IsEarlierKey self.now place) }
+    {
+        let item = self.line_item(place)?;
+        let mut later = place;
+        while later > 0 {
+            later -= 1;
+            if self.has_name_of(later, item) {
+                return Some(later);
+            }
+        }
+        None
+    }
+
+    /// Whether the item at a place of the line is a key of the same kind and name as an item.
+    fn has_name_of(&self, place: usize, item: &Arg) -> bool
+        ensures { result ≡ repeats (Some item.now) (line_item self.now place) }
+    {
+        match self.line_item(place) {
+            Some(other) => have_one_name(item, other),
+            None => false,
+        }
+    }
+}
