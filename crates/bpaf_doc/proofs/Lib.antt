@@ -1,2 +1,3 @@
 pub mod Folding
 pub mod Gathering
+pub mod Joining

@@ -22,10 +22,13 @@ mod doc;
 mod fold;
 mod item;
 mod item_text;
+mod joined;
+mod lines;
 mod meta;
 mod order;
 mod short;
 mod text;
+mod usage;
 mod walks;
 
 pub use doc::{Doc, Piece, Style};
