@@ -1,3 +1,4 @@
 pub mod Folding
 pub mod Gathering
 pub mod Joining
+pub mod Listing
