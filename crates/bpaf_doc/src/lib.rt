@@ -26,6 +26,7 @@ mod joined;
 mod lines;
 mod meta;
 mod order;
+mod rows;
 mod short;
 mod text;
 mod usage;
