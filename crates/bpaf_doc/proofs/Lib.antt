@@ -2,3 +2,4 @@ pub mod Folding
 pub mod Gathering
 pub mod Joining
 pub mod Listing
+pub mod Paging

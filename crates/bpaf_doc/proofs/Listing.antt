@@ -1,5 +1,5 @@
 -- The lines that a walk gathers.
-use Rattle.std.proofs.Common.{◌≡◌, ℕ, zero, suc, ◌+◌, ◌-◌, ◌<◌, Bool, true, false, ◌||◌, if◌then◌else◌, List, [], ◌∷◌, ◌++◌, Option, Some, map, ap, sym, ◌∙◌, append_assoc, append-nil, drop, length, get_or, drop-cons, add-one, refl, subst, arith}
+use Rattle.std.proofs.Common.{◌≡◌, ℕ, zero, suc, ◌+◌, ◌<◌, Bool, true, false, ◌||◌, if◌then◌else◌, List, [], ◌∷◌, ◌++◌, Option, map, ap, sym, ◌∙◌, append-nil, drop, length, get_or, drop-cons, refl, arith}
 use Rattle.std.proofs.lemmas.List.{length-map, map-append, get_or-map}
 use denote.Bor.{Bor}
 use Rattle.bpaf_doc.specs.declared.doc.Doc.{Doc}
@@ -11,7 +11,7 @@ use Rattle.bpaf_doc.specs.declared.lines.Told.TheVariants as told
 use Rattle.bpaf_doc.specs.InsideLine.{line_of, place_of}
 use Rattle.bpaf_doc.specs.declared.meta.Meta.{Meta}
 use Rattle.bpaf_doc.specs.Shape.{Shape, Shapes, And, Or, Optional, Required, Adjacent, Many, Strict, Subsection, Suffix, CustomUsage, Shown, Skip, none, ◌then◌, shape_of, members_of, part_of}
-use Rattle.bpaf_doc.specs.Lines.{Line, Listed, Below, place_in, lines, lines_of_all, titles, titles_of_all, shows_item, any_shows_item, below_last}
+use Rattle.bpaf_doc.specs.Lines.{Line, Listed, Below, place_in, lines, lines_of_all, titles, shows_item, any_shows_item, below_last}
 
 -- neither of two tests holds where one of both doesn't
 neither : (a b : Bool) → (a || b) ≡ false → (a ≡ false) × (b ≡ false)

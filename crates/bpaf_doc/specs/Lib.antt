@@ -11,3 +11,4 @@ pub mod Usage
 pub mod Lines
 pub mod Help
 pub mod InsideLine
+pub mod InsideHelp

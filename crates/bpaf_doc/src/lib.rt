@@ -20,6 +20,7 @@
 mod copies;
 mod doc;
 mod fold;
+mod help;
 mod item;
 mod item_text;
 mod joined;
@@ -33,6 +34,7 @@ mod usage;
 mod walks;
 
 pub use doc::{Doc, Piece, Style};
+pub use help::HelpTexts;
 pub use item::{Item, Metavar, ShortLong};
 pub use meta::{Meta, MetaInfo};
 pub use text::Text;

@@ -195,7 +195,7 @@ impl<'a> Lines<'a> {
         ensures all { OnOk result (map line_of self.new.all.items
             ≡ map line_of self.old.all.items
             ++ lines (Subsection (shape_of inner.now) title.now) home
-                (length self.old.titles.items)) }
+            (length self.old.titles.items)) }
         ensures titles { OnOk result (self.new.titles.items
             ≡ self.old.titles.items ++ titles (Subsection (shape_of inner.now) title.now)) }
     {
@@ -218,7 +218,7 @@ impl<'a> Lines<'a> {
         ensures all { OnOk result (map line_of self.new.all.items
             ≡ map line_of self.old.all.items
             ++ lines (Suffix (shape_of inner.now) text.now) home
-                (length self.old.titles.items)) }
+            (length self.old.titles.items)) }
         ensures titles { OnOk result (self.new.titles.items
             ≡ self.old.titles.items ++ titles (Suffix (shape_of inner.now) text.now)) }
     {
@@ -231,11 +231,7 @@ impl<'a> Lines<'a> {
     /// Appends the lines of a tree, which stands in the section of a number or outside, and the
     /// titles of its sections.
     #[cycle(lines)]
-    pub(crate) fn collect(
-        &mut self,
-        meta: &'a Meta,
-        home: Option<usize>,
-    ) -> Result<(), AllocError>
+    pub(crate) fn collect(&mut self, meta: &'a Meta, home: Option<usize>) -> Result<(), AllocError>
         ensures all { OnOk result (map line_of self.new.all.items
             ≡ map line_of self.old.all.items
             ++ lines (shape_of meta.now) home (length self.old.titles.items)) }

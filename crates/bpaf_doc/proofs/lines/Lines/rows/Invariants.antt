@@ -1,4 +1,4 @@
-use Rattle.std.proofs.Common.{◌≡◌, ℕ, Bool, ◌++◌, drop, map}
+use Rattle.std.proofs.Common.{◌≡◌, Bool, ◌++◌, drop, map}
 use Rattle.bpaf_doc.specs.Print.{printed}
 use Rattle.bpaf_doc.specs.Lines.{lines_at}
 use Rattle.bpaf_doc.specs.Help.{rows}
