@@ -98,8 +98,8 @@ list_below heading list = around (heading ++ codes "\n") [] list
 -- the path and the usage text behind the word `Usage:`
 abbrev pub usage_line : List (List ℕ) → Print → Print
 usage_line path usage full =
-    codes "Usage:" ++ flat_map (λ entry. codes " " ++ entry) path ++ around (codes " ") [] usage full
-    ++ codes "\n"
+    codes "Usage:" ++ flat_map (λ entry. codes " " ++ entry) path
+    ++ around (codes " ") [] usage full ++ codes "\n"
 
 -- the usage paragraph: the text that is given, or the line of the path and the usage text
 abbrev pub usage_paragraph : List (List ℕ) → Option (List Piece) → Print → Print

@@ -40,4 +40,6 @@ pub use meta::{Meta, MetaInfo};
 pub use text::Text;
 
 #[cfg(test)]
+mod page_tests;
+#[cfg(test)]
 mod tests;

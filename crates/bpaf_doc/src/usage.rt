@@ -13,7 +13,8 @@ use std::alloc::{AllocError, Global};
 fn usage_of_all(alloc: Global, between: &str, all: &[Meta]) -> Result<(Doc, usize), AllocError>
     ensures prints { IfOk result (λ (doc, shown).
         Prints (joined between.now (usage_texts (members_of all.now))) doc) }
-    ensures count { IfOk result (λ (doc, shown). shown ≡ how_many (usage_texts (members_of all.now))) }
+    ensures count { IfOk result (λ (doc, shown).
+        shown ≡ how_many (usage_texts (members_of all.now))) }
 {
     let mut doc = Doc::new(alloc);
     let mut shown = 0;
@@ -80,9 +81,9 @@ impl<'a> MetaInfo<'a> {
     /// How what the tree shows may be written on a line, without the path before it (bpaf's
     /// `Doc::write_meta`); refused only for want of memory.
     ///
-    /// Members that are all wanted stand in order, members to choose from as `(a | b)`; what may be
-    /// left out stands in square brackets, and what may be repeated before `...`. What shows nothing
-    /// is left out.
+    /// Members that are all wanted stand in order, members to choose from as `(a | b)`; what may
+    /// be left out stands in square brackets, and what may be repeated before `...`. What shows
+    /// nothing is left out.
     ///
     /// ```text
     /// [--verbose] --num=NUM [FILE]...
