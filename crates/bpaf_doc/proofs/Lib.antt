@@ -1,3 +1,6 @@
 pub mod Cutting
 pub mod Folding
 pub mod Gathering
+pub mod Joining
+pub mod Listing
+pub mod Paging

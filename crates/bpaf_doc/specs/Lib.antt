@@ -6,3 +6,9 @@ pub mod Shape
 pub mod ItemText
 pub mod Walks
 pub mod InsideText
+pub mod Joined
+pub mod Usage
+pub mod Lines
+pub mod Help
+pub mod InsideLine
+pub mod InsideHelp

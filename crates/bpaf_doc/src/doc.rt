@@ -2,6 +2,7 @@ ghost use Rattle.std.specs.Prelude.{◌≡◌, ◌==◌, Bool, true, IfOk, OnOk,
 ghost use Rattle.std.specs.List.{before_first};
 ghost use Rattle.bpaf_doc.specs.Print.{printed, shown_as, in_backticks, first_line};
 ghost use Rattle.bpaf_doc.specs.Fold.{TextPieces, folded_whole};
+ghost use Rattle.bpaf_doc.specs.Joined.{prints, is_empty};
 
 use crate::fold::text_pieces;
 use crate::text::Text;
@@ -250,6 +251,18 @@ impl Doc {
         let mut doc = Doc::new(alloc);
         doc.push(Style::Text, Text::new(alloc, line)?)?;
         Ok(Some(doc))
+    }
+
+    /// Whether it prints nothing, also in full.
+    pub(crate) fn is_empty(&self) -> bool
+        ensures { result ≡ is_empty (prints self.now) }
+    {
+        for piece in &self.pieces {
+            if !piece.text.as_str().is_empty() {
+                return false;
+            }
+        }
+        true
     }
 
     /// The texts of all pieces in order, of the detail pieces only where `full` is true; refused

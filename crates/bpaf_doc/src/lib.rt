@@ -20,18 +20,26 @@
 mod copies;
 mod doc;
 mod fold;
+mod help;
 mod item;
 mod item_text;
+mod joined;
+mod lines;
 mod meta;
 mod order;
+mod rows;
 mod short;
 mod text;
+mod usage;
 mod walks;
 
 pub use doc::{Doc, Piece, Style};
+pub use help::HelpTexts;
 pub use item::{Item, Metavar, ShortLong};
 pub use meta::{Meta, MetaInfo};
 pub use text::Text;
 
+#[cfg(test)]
+mod page_tests;
 #[cfg(test)]
 mod tests;

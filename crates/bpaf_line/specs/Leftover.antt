@@ -11,6 +11,6 @@ pub data IsLeftover (s : Situation) : Message → Type 0 where
   conflict : (p winner : ℕ) → IsNextOpen s 0 p → conflict_at s p ≡ Some winner
       → IsLeftover s (message.Conflict winner p)
   only_once : (p earlier : ℕ) → IsNextOpen s 0 p → conflict_at s p ≡ None
-      → IsEarlierKey s.context p earlier → IsLeftover s (message.OnlyOnce earlier p)
+      → IsEarlierKey s p earlier → IsLeftover s (message.OnlyOnce earlier p)
   not_expected : (p : ℕ) → IsNextOpen s 0 p → conflict_at s p ≡ None
-      → HasNoEarlierKey s.context p → IsLeftover s (message.Unconsumed p)
+      → HasNoEarlierKey s p → IsLeftover s (message.Unconsumed p)
