@@ -29,8 +29,8 @@ pub mod parsers;
 mod product;
 
 pub use adjacent::{AdjacentError, ParseAdjacent};
-pub use bpaf_core::{Info, OptionParser, Parser, command, count_falls, read_text};
-pub use bpaf_doc::{Doc, Item, Meta, MetaInfo, Metavar, Piece, ShortLong, Style, Text};
+pub use bpaf_core::{ExtraParams, Info, OptionParser, Parser, command, count_falls, read_text};
+pub use bpaf_doc::{Doc, HelpTexts, Item, Meta, MetaInfo, Metavar, Piece, ShortLong, Style, Text};
 pub use bpaf_line::{
     ArgsIter, Error, Mark, Message, MissingItem, MissingItems, ParseFailure, State, Steps,
 };

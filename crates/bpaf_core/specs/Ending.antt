@@ -26,10 +26,11 @@ abbrev pub Ending : Type 1
 Ending = Option Message → Situation → Situation → ParseFailure → Situation → Type 0
 
 -- the help page of a shape that the parser may show, at the path of a situation
-abbrev pub IsHelp : (Shape → Type 0) → RunInfo → Situation → List Piece → Type 0
-IsHelp describes info s doc =
-    (shape : Shape) × describes shape
-    × Prints (help_text s.path (page_texts info) shape (extra_shape info)) doc
+pub record IsHelp (describes : Shape → Type 0) (info : RunInfo) (s : Situation) (doc : List Piece)
+    : Type 0 where
+  pub shape : Shape
+  pub shown : describes shape
+  pub prints : Prints (help_text s.path (page_texts info) shape (extra_shape info)) doc
 
 -- help is shown, in full or not; or memory for it is wanted
 abbrev pub ShowsHelp : (Shape → Type 0) → RunInfo → Bool → Situation → ParseFailure → Type 0

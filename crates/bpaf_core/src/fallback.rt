@@ -1,11 +1,16 @@
-ghost use Rattle.bpaf_laws.specs.Default.{AttemptOutcome};
+ghost use Rattle.std.specs.Prelude.{◌≡◌, IfOk};
+ghost use Rattle.std.specs.Fn.{FnReturnsAt};
+ghost use Rattle.bpaf_doc.specs.Fold.{TextPieces};
+ghost use Rattle.bpaf_doc.specs.Shape.{shape_of};
+ghost use Rattle.bpaf_laws.specs.Default.{AttemptOutcome, DefaultDescribes, ShowsAnswer, ShowsDefault};
+ghost use Rattle.bpaf_laws.specs.Default.{IsDefault, IsFormatted, ShowsFormatted, default_text};
 
 use crate::optional::optional_meta;
 use crate::parser::Parser;
-use bpaf_doc::{Meta, Text};
+use bpaf_doc::{Doc, Meta, Text};
 use bpaf_line::{Error, Message, State};
 use std::alloc::{AllocError, Global};
-use std::fmt::Display;
+use std::fmt::{Debug, Display};
 use std::marker::PhantomData;
 
 /// Some of the parser's value; None where the parser answers an error that can be caught. After all
@@ -28,11 +33,124 @@ fn attempt<T: Drop, P: Parser<T>>(parser: &P, state: &mut State) -> Result<Optio
     }
 }
 
+/// What a parser with a default shows; refused only for want of memory.
+fn default_meta<T, P: Parser<T>>(
+    parser: &P,
+    shown: &Option<Doc>,
+    alloc: Global,
+) -> Result<Meta, AllocError>
+    requires { P.can_eval parser.now }
+    ensures { IfOk result (λ meta. DefaultDescribes (P.describes parser.now) shown.now (shape_of meta)) }
+{
+    let meta = optional_meta(parser, alloc)?;
+    match shown {
+        Some(shown) => Ok(Meta::Suffix(Box::new(alloc, meta)?, shown.copy()?)),
+        None => Ok(meta),
+    }
+}
+
+/// The text of a default, as it is shown; refused only for want of memory.
+fn shown_default(alloc: Global, value: &str) -> Result<Doc, AllocError>
+    ensures { IfOk result (TextPieces (default_text value.now)) }
+{
+    let mut text = String::from_str(alloc, "[default: ")?;
+    text.push_str(value)?;
+    text.push(']')?;
+    Doc::from_text(alloc, text.as_str())
+}
+
+/// That of a value, as Display prints it; refused only for want of memory.
+fn displayed<T: Display>(alloc: Global, value: &T) -> Result<Doc, AllocError>
+    ensures { IfOk result (IsDefault (T.output value.now)) }
+{
+    let text = value.to_string(alloc)?;
+    shown_default(alloc, text.as_str())
+}
+
+/// That of a value, as Debug prints it; refused only for want of memory.
+fn debugged<T: Debug>(alloc: Global, value: &T) -> Result<Doc, AllocError>
+    ensures { IfOk result (IsDefault (T.debug_output value.now)) }
+{
+    let text = format!(in alloc; "{value:?}")?;
+    shown_default(alloc, text.as_str())
+}
+
+/// That of a value, as a closure writes it; refused only for want of memory.
+fn formatted<T, F: Fn(&T) -> Result<String, AllocError>>(
+    alloc: Global,
+    format: &F,
+    value: &T,
+) -> Result<Doc, AllocError>
+    requires callable { F.IsAlwaysCallable format.now }
+    ensures { IfOk result (IsFormatted (FnReturnsAt F.Fn format.now) value.now) }
+{
+    let text = format(value)?;
+    Ok(shown_default(alloc, text.as_str())?)
+}
+
 /// A kept value where the inner parser has none (bpaf's `ParseFallback`, in `structs.rs`).
 #[derive(Drop)]
 pub struct ParseFallback<P, T> {
     pub inner: P,
     pub value: T,
+    /// The value as it is shown in the help page; none is at first.
+    pub shown: Option<Doc>,
+}
+
+impl<T: Display + Drop, P: Drop> ParseFallback<P, T> {
+    /// The value is shown in the help page, as Display prints it (bpaf's `display_fallback`).
+    /// Refused only for want of memory, and then the parser is gone.
+    ///
+    /// ```text
+    /// num.fallback(7).display_fallback(alloc)?     shows `[default: 7]`
+    /// ```
+    pub fn display_fallback(mut self, alloc: Global) -> Result<ParseFallback<P, T>, AllocError>
+        ensures inner { IfOk result (λ parser. parser.inner ≡ self.inner) }
+        ensures value { IfOk result (λ parser. parser.value ≡ self.value) }
+        ensures shown { IfOk result (λ parser.
+            ShowsDefault (T.output self.value) parser.shown) }
+    {
+        self.shown = Some(displayed(alloc, &self.value)?);
+        Ok(self)
+    }
+}
+
+impl<T: Debug + Drop, P: Drop> ParseFallback<P, T> {
+    /// The value is shown in the help page, as Debug prints it (bpaf's `debug_fallback`). Refused
+    /// only for want of memory, and then the parser is gone.
+    pub fn debug_fallback(mut self, alloc: Global) -> Result<ParseFallback<P, T>, AllocError>
+        ensures inner { IfOk result (λ parser. parser.inner ≡ self.inner) }
+        ensures value { IfOk result (λ parser. parser.value ≡ self.value) }
+        ensures shown { IfOk result (λ parser.
+            ShowsDefault (T.debug_output self.value) parser.shown) }
+    {
+        self.shown = Some(debugged(alloc, &self.value)?);
+        Ok(self)
+    }
+}
+
+impl<T: Drop, P: Drop> ParseFallback<P, T> {
+    /// The value is shown in the help page, as a closure writes it (bpaf's `format_fallback`, whose
+    /// closure writes to a formatter). Refused only for want of memory, which the closure may want
+    /// too, and then the parser is gone.
+    ///
+    /// ```text
+    /// num.fallback(7).format_fallback(alloc, |n| String::from_str(alloc, "seven"))?
+    /// ```
+    pub fn format_fallback<F: Fn(&T) -> Result<String, AllocError>>(
+        mut self,
+        alloc: Global,
+        format: F,
+    ) -> Result<ParseFallback<P, T>, AllocError>
+        requires callable { F.IsAlwaysCallable format }
+        ensures inner { IfOk result (λ parser. parser.inner ≡ self.inner) }
+        ensures value { IfOk result (λ parser. parser.value ≡ self.value) }
+        ensures shown { IfOk result (λ parser.
+            ShowsFormatted (FnReturnsAt F.Fn format) self.value parser.shown) }
+    {
+        self.shown = Some(formatted(alloc, &format, &self.value)?);
+        Ok(self)
+    }
 }
 
 /// The inner value; or a clone of the kept one where the inner parser answers an error that can be
@@ -40,13 +158,13 @@ pub struct ParseFallback<P, T> {
 /// state is as before.
 impl<T: Clone + Drop, P: Parser<T>> Parser<T> for ParseFallback<P, T> {
     ghost use Rattle.bpaf_laws.specs.Default.{FallbackOutcome, FallbackReads, GivesClone};
-    ghost use Rattle.bpaf_laws.specs.Default.{OptionalDescribes};
+    ghost use Rattle.bpaf_laws.specs.Default.{DefaultDescribes};
     ghost use Rattle.bpaf_laws.proofs.DefaultLaws.{fallback_lawful};
     ghost use Rattle.bpaf_laws.specs.Spared.{IsNotMemory, WithoutMemory, DefaultTakesNothing};
 
     ghost can_eval = { λ p. P.can_eval p.inner };
 
-    ghost describes = { λ p. OptionalDescribes (P.describes p.inner) };
+    ghost describes = { λ p. DefaultDescribes (P.describes p.inner) p.shown };
 
     ghost reads = { λ p. FallbackReads (P.reads p.inner) (GivesClone T.is_clone p.value) };
 
@@ -71,7 +189,7 @@ impl<T: Clone + Drop, P: Parser<T>> Parser<T> for ParseFallback<P, T> {
     }
 
     fn meta(&self, alloc: Global) -> Result<Meta, AllocError> {
-        optional_meta(&self.inner, alloc)
+        default_meta(&self.inner, &self.shown, alloc)
     }
 
     ghost lawful = { λ p. fallback_lawful (P.lawful p.inner) (GivesClone T.is_clone p.value) };
@@ -82,8 +200,88 @@ impl<T: Clone + Drop, P: Parser<T>> Parser<T> for ParseFallback<P, T> {
 pub struct ParseFallbackWith<T, P, F, E> {
     pub inner: P,
     pub fallback: F,
+    /// The value as it is shown in the help page; none is at first.
+    pub shown: Option<Doc>,
     pub inner_res: PhantomData<T>,
     pub err: PhantomData<E>,
+}
+
+impl<T: Display + Drop, P: Drop, F: Fn() -> Result<T, E> + Drop, E: Drop> ParseFallbackWith<
+    T,
+    P,
+    F,
+    E,
+> {
+    /// The closure's value is shown in the help page, as Display prints it; the closure is called
+    /// once, and where it has none what was shown stays (bpaf's `display_fallback`). Refused only
+    /// for want of memory, and then the parser is gone.
+    pub fn display_fallback(
+        mut self,
+        alloc: Global,
+    ) -> Result<ParseFallbackWith<T, P, F, E>, AllocError>
+        requires callable { F.IsAlwaysCallable self.fallback }
+        ensures inner { IfOk result (λ parser. parser.inner ≡ self.inner) }
+        ensures fallback { IfOk result (λ parser. parser.fallback ≡ self.fallback) }
+        ensures shown { IfOk result (λ parser. ShowsAnswer (λ r. F.post self.fallback r)
+            (λ v. ShowsDefault (T.output v)) self.shown parser.shown) }
+    {
+        match (self.fallback)() {
+            Ok(value) => self.shown = Some(displayed(alloc, &value)?),
+            Err(fault) => drop(fault),
+        }
+        Ok(self)
+    }
+}
+
+impl<T: Debug + Drop, P: Drop, F: Fn() -> Result<T, E> + Drop, E: Drop> ParseFallbackWith<
+    T,
+    P,
+    F,
+    E,
+> {
+    /// The closure's value is shown in the help page, as Debug prints it; the closure is called
+    /// once, and where it has none what was shown stays (bpaf's `debug_fallback`). Refused only for
+    /// want of memory, and then the parser is gone.
+    pub fn debug_fallback(
+        mut self,
+        alloc: Global,
+    ) -> Result<ParseFallbackWith<T, P, F, E>, AllocError>
+        requires callable { F.IsAlwaysCallable self.fallback }
+        ensures inner { IfOk result (λ parser. parser.inner ≡ self.inner) }
+        ensures fallback { IfOk result (λ parser. parser.fallback ≡ self.fallback) }
+        ensures shown { IfOk result (λ parser. ShowsAnswer (λ r. F.post self.fallback r)
+            (λ v. ShowsDefault (T.debug_output v)) self.shown parser.shown) }
+    {
+        match (self.fallback)() {
+            Ok(value) => self.shown = Some(debugged(alloc, &value)?),
+            Err(fault) => drop(fault),
+        }
+        Ok(self)
+    }
+}
+
+impl<T: Drop, P: Drop, F: Fn() -> Result<T, E> + Drop, E: Drop> ParseFallbackWith<T, P, F, E> {
+    /// The closure's value is shown in the help page, as another closure writes it; the first one is
+    /// called once, and where it has none what was shown stays (bpaf's `format_fallback`). Refused
+    /// only for want of memory, and then the parser is gone.
+    pub fn format_fallback<G: Fn(&T) -> Result<String, AllocError>>(
+        mut self,
+        alloc: Global,
+        format: G,
+    ) -> Result<ParseFallbackWith<T, P, F, E>, AllocError>
+        requires callable { F.IsAlwaysCallable self.fallback }
+        requires writes { G.IsAlwaysCallable format }
+        ensures inner { IfOk result (λ parser. parser.inner ≡ self.inner) }
+        ensures fallback { IfOk result (λ parser. parser.fallback ≡ self.fallback) }
+        ensures shown { IfOk result (λ parser. ShowsAnswer (λ r. F.post self.fallback r)
+            (ShowsFormatted (FnReturnsAt G.Fn format)) self.shown parser.shown) }
+    {
+        match (self.fallback)() {
+            Ok(value) => self.shown = Some(formatted(alloc, &format, &value)?),
+            Err(fault) => drop(fault),
+        }
+        Ok(self)
+    }
 }
 
 /// The inner value; or the closure's where the inner parser answers an error that can be caught.
@@ -92,13 +290,13 @@ pub struct ParseFallbackWith<T, P, F, E> {
 impl<T: Drop, E: Display + Drop, P: Parser<T>, F: Fn() -> Result<T, E>> Parser<T>
     for ParseFallbackWith<T, P, F, E> {
     ghost use Rattle.bpaf_laws.specs.Default.{FallbackOutcome, FallbackReads, GivesAnswer};
-    ghost use Rattle.bpaf_laws.specs.Default.{OptionalDescribes};
+    ghost use Rattle.bpaf_laws.specs.Default.{DefaultDescribes};
     ghost use Rattle.bpaf_laws.proofs.DefaultLaws.{fallback_lawful};
     ghost use Rattle.bpaf_laws.specs.Spared.{IsNotMemory, WithoutMemory, DefaultTakesNothing};
 
     ghost can_eval = { λ p. P.can_eval p.inner × F.IsAlwaysCallable p.fallback };
 
-    ghost describes = { λ p. OptionalDescribes (P.describes p.inner) };
+    ghost describes = { λ p. DefaultDescribes (P.describes p.inner) p.shown };
 
     ghost reads = { λ p.
         FallbackReads (P.reads p.inner) (GivesAnswer (λ r. F.post p.fallback r) E.output) };
@@ -132,7 +330,7 @@ impl<T: Drop, E: Display + Drop, P: Parser<T>, F: Fn() -> Result<T, E>> Parser<T
     }
 
     fn meta(&self, alloc: Global) -> Result<Meta, AllocError> {
-        optional_meta(&self.inner, alloc)
+        default_meta(&self.inner, &self.shown, alloc)
     }
 
     ghost lawful = { λ p.

@@ -1,14 +1,18 @@
 ghost use Rattle.std.specs.Prelude.{◌≡◌, ◌++◌, ◌∷◌, [], IfOk, OnOk};
 ghost use Rattle.bpaf_doc.specs.Joined.{Prints};
 ghost use Rattle.bpaf_text.specs.Named.{Named};
-ghost use Rattle.bpaf_doc.specs.Shape.{shape_of};
-ghost use Rattle.bpaf_core.specs.Extra.{IsNotAsked, LooksForVersion, key_shape};
+ghost use Rattle.std.specs.Prelude.{map, string_bytes};
+ghost use Rattle.bpaf_doc.specs.Help.{help_text};
+ghost use Rattle.bpaf_doc.specs.InsideHelp.{given_by};
+ghost use Rattle.bpaf_doc.specs.Shape.{And, members, shape_of};
+ghost use Rattle.bpaf_core.specs.Extra.{IsNotAsked, LooksForVersion, extra_shape, key_shape};
 ghost use Rattle.bpaf_core.specs.Ending.{ShowsVersion, version_text};
-ghost use Rattle.bpaf_core.specs.Info.{help_key, key_or, plain_info, short_descr, usual_key, version_key};
+ghost use Rattle.bpaf_core.specs.Info.{help_key, key_or, page_texts, plain_info, short_descr, usual_key};
+ghost use Rattle.bpaf_core.specs.Info.{version_key};
 
 use crate::flag::is_present;
 use crate::parser::Parser;
-use bpaf_doc::{Doc, Meta, Style, Text};
+use bpaf_doc::{Doc, HelpTexts, Meta, MetaInfo, Style, Text};
 use bpaf_line::{Error, Message, ParseFailure, State};
 use bpaf_text::{NamedArg, short};
 use std::alloc::{AllocError, Global};
@@ -122,6 +126,17 @@ fn key_meta(alloc: Global, key: &NamedArg) -> Result<Meta, AllocError>
     }
 }
 
+/// What two keys show; refused only for want of memory.
+fn both_metas(alloc: Global, first: Meta, second: Meta) -> Result<Meta, AllocError>
+    ensures { IfOk result (λ meta.
+        shape_of meta ≡ And (members (shape_of first ∷ shape_of second ∷ []))) }
+{
+    let mut all = Vec::new(alloc);
+    all.push(first)?;
+    all.push(second)?;
+    Ok(Meta::And(all))
+}
+
 /// The text of a version, as a run shows it; or want of memory for that.
 pub(crate) fn version_page(alloc: Global, version: &Doc) -> ParseFailure
     ensures { ShowsVersion version.now result }
@@ -198,6 +213,32 @@ impl Info {
         push_shorts(&self.version_arg, 'V', names)
     }
 
+    /// The help page of what a parser shows, at a path; refused only for want of memory.
+    pub(crate) fn page(
+        &self,
+        alloc: Global,
+        path: &[String],
+        meta: &Meta,
+    ) -> Result<Doc, AllocError>
+        ensures { IfOk result (Prints (help_text (map string_bytes path.now)
+            (page_texts self.now) (shape_of meta.now) (extra_shape self.now))) }
+    {
+        let extra = self.meta(alloc)?;
+        MetaInfo::new(meta).render_help(alloc, path, self.texts(), MetaInfo::new(&extra))
+    }
+
+    /// The texts around the help page. It takes no memory.
+    fn texts(&self) -> HelpTexts<'_>
+        ensures { given_by result ≡ page_texts self.now }
+    {
+        HelpTexts {
+            usage: self.usage.as_ref(),
+            descr: self.descr.as_ref(),
+            header: self.header.as_ref(),
+            footer: self.footer.as_ref(),
+        }
+    }
+
     /// The key that asks for help; refused only for want of memory.
     fn help_key(&self, alloc: Global) -> Result<NamedArg, AllocError>
         ensures { IfOk result (λ key. key ≡ self.now.help_arg) }
@@ -265,13 +306,10 @@ impl Parser<ExtraParams> for Info {
 
     fn meta(&self, alloc: Global) -> Result<Meta, AllocError> {
         let help = key_meta(alloc, &self.help_key(alloc)?)?;
-        if self.version.is_none() {
-            return Ok(help);
+        match &self.version {
+            Some(_) => both_metas(alloc, help, key_meta(alloc, &self.version_key(alloc)?)?),
+            None => Ok(help),
         }
-        let mut all = Vec::new(alloc);
-        all.push(help)?;
-        all.push(key_meta(alloc, &self.version_key(alloc)?)?)?;
-        Ok(Meta::And(all))
     }
 
     ghost lawful = { λ info. extra_lawful info };

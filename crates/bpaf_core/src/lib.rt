@@ -68,7 +68,7 @@ pub use commands::{CommandNames, ParseCommand, command};
 pub use count::{ParseCount, ParseLast};
 pub use fallback::{ParseFallback, ParseFallbackWith};
 pub use hide::ParseHide;
-pub use info::Info;
+pub use info::{ExtraParams, Info};
 pub use laws::count_falls;
 pub use optional::ParseOptional;
 pub use options::OptionParser;

@@ -1,5 +1,9 @@
 //! A run of a parser over words.
-ghost use Rattle.std.specs.Prelude.{◌≡◌, ◌==◌, ◌&&◌, not, IfOk, None, Some, option_map, true};
+ghost use Rattle.std.specs.Prelude.{◌≡◌, ◌==◌, ◌&&◌, not, IfOk, List, None, Ok, Some, option_map, true};
+ghost use Rattle.bpaf_doc.specs.declared.doc.Piece.{Piece};
+ghost use Rattle.bpaf_doc.specs.Joined.{Prints};
+ghost use Rattle.bpaf_doc.specs.Shape.{Shape};
+ghost use Rattle.bpaf_doc.specs.Usage.{usage_text};
 ghost use Rattle.bpaf_line.specs.Situation.{open_count};
 ghost use Rattle.bpaf_words.specs.Arguments.{given_of, name_of, words_of};
 ghost use Rattle.bpaf_core.specs.Known.{ReadsNames, ShowsNames};
@@ -10,7 +14,7 @@ ghost use Rattle.bpaf_core.specs.Ending.{PassesOrTells, TellsFault, is_shown};
 
 use crate::info::{ExtraParams, Info, version_page};
 use crate::parser::Parser;
-use bpaf_doc::{Doc, HelpTexts, MetaInfo};
+use bpaf_doc::{Doc, MetaInfo};
 use bpaf_line::{Message, ParseFailure, State};
 use bpaf_text::NamedArg;
 use bpaf_words::{Args, any_joined};
@@ -125,6 +129,37 @@ impl<T, P> OptionParser<T, P> {
 }
 
 impl<T: Drop, P: Parser<T>> OptionParser<T, P> {
+    /// The parser with what a closure makes of the usage text as the whole usage paragraph (bpaf's
+    /// `OptionParser::with_usage`). The closure gets the text that the parser shows, without the
+    /// path; an Err of it is want of memory.
+    ///
+    /// Refused only for want of memory, and then the parser is gone.
+    ///
+    /// ```text
+    /// num.to_options(alloc)?.with_usage(|usage| {
+    ///     let mut text = Doc::from_text(alloc, "Use it so: ")?;
+    ///     text.doc(&usage)?;
+    ///     Ok(text)
+    /// })?
+    /// ```
+    pub fn with_usage<F: Fn(Doc) -> Result<Doc, AllocError>>(
+        self,
+        f: F,
+    ) -> Result<OptionParser<T, P>, AllocError>
+    where
+        P: Drop,
+        requires can { P.can_eval self.inner }
+        requires callable { F.IsAlwaysCallable f }
+        ensures { IfOk result (λ parser. (shape : Shape) × P.describes self.inner shape
+            × (shown usage : List Piece) × Prints (usage_text shape) shown
+            × F.post f shown (Ok usage)
+            × (parser ≡ record self { info = record self.info { usage = Some usage } })) }
+    {
+        let meta = self.inner.meta(self.alloc)?;
+        let usage = f(MetaInfo::new(&meta).usage(self.alloc)?)?;
+        Ok(self.usage(usage))
+    }
+
     /// The value that the words give (bpaf's `run_inner`).
     ///
     /// Ok(v) comes only where v is dealt out of the words: read off all items of their line but the
@@ -274,14 +309,7 @@ impl<T: Drop, P: Parser<T>> OptionParser<T, P> {
         ensures { IfOk result (IsHelp (P.describes self.now.inner) self.now.info state.now) }
     {
         let meta = self.inner.meta(self.alloc)?;
-        let extra = self.info.meta(self.alloc)?;
-        let texts = HelpTexts {
-            usage: self.info.usage.as_ref(),
-            descr: self.info.descr.as_ref(),
-            header: self.info.header.as_ref(),
-            footer: self.info.footer.as_ref(),
-        };
-        MetaInfo::new(&meta).render_help(self.alloc, state.path(), texts, MetaInfo::new(&extra))
+        Ok(self.info.page(self.alloc, state.path(), &meta)?)
     }
 }
 

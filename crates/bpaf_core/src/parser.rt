@@ -145,8 +145,13 @@ pub trait Parser<T>: Sized {
     final fn fallback(self, value: T) -> ParseFallback<Self, T>
         ensures inner { result.inner ≡ self }
         ensures value { result.value ≡ value }
+        ensures shown { result.shown ≡ None }
     {
-        ParseFallback { inner: self, value }
+        ParseFallback {
+            inner: self,
+            value,
+            shown: None,
+        }
     }
 
     /// The closure's value where there is nothing to read, or its fault as a refusal (bpaf's
@@ -164,10 +169,12 @@ pub trait Parser<T>: Sized {
         requires callable { F.IsAlwaysCallable fallback }
         ensures inner { result.inner ≡ self }
         ensures fallback { result.fallback ≡ fallback }
+        ensures shown { result.shown ≡ None }
     {
         ParseFallbackWith {
             inner: self,
             fallback,
+            shown: None,
             inner_res: PhantomData,
             err: PhantomData,
         }

@@ -170,7 +170,11 @@ fn fallback<P: Parser<Value>>(inner: &P, number: u64, state: &mut State) -> Resu
 {
     let inner = Lent { inner };
     let value = Value::Number(number);
-    let parser: ParseFallback<Lent<'_, P>, Value> = ParseFallback { inner, value };
+    let parser: ParseFallback<Lent<'_, P>, Value> = ParseFallback {
+        inner,
+        value,
+        shown: None,
+    };
     parser.eval(state)
 }
 
@@ -187,6 +191,7 @@ fn fallback_with<P: Parser<Value>>(
     let parser = ParseFallbackWith {
         inner: Lent { inner },
         fallback: || give(number, "none"),
+        shown: None,
         inner_res: PhantomData,
         err: PhantomData,
     };

@@ -1,6 +1,11 @@
 -- What stands for a value that isn't there: None, a kept value, or a closure's answer.
-use Rattle.std.specs.Prelude.{◌≡◌, ◌⊎◌, ℕ, false, true, List, Result, Ok, Err, Option, Some, None}
-use Rattle.bpaf_doc.specs.Shape.{Shape, Optional}
+use Rattle.std.specs.Prelude.{◌≡◌, ◌⊎◌, ℕ, false, true, List, ◌++◌, Result, Ok, Err, Option, Some}
+use Rattle.std.specs.Prelude.{None, String, codes, string_bytes}
+use Rattle.std.specs.declared.alloc.Global.{Global}
+use Rattle.std.specs.declared.alloc.AllocError.{AllocError}
+use Rattle.bpaf_doc.specs.declared.doc.Piece.{Piece}
+use Rattle.bpaf_doc.specs.Fold.{TextPieces}
+use Rattle.bpaf_doc.specs.Shape.{Shape, Optional, Suffix}
 use Rattle.bpaf_line.specs.Messages.{is_memory, can_catch}
 use Rattle.bpaf_line.specs.Situation.{Situation}
 use Rattle.bpaf_line.specs.declared.error.Error.{Error}
@@ -56,3 +61,40 @@ FallbackOutcome inner gives s (Err e) t =
 -- what may be left out is shown so
 abbrev pub OptionalDescribes : (Shape → Type 0) → Shape → Type 0
 OptionalDescribes inner shape = (inside : Shape) × inner inside × (shape ≡ Optional inside)
+
+-- what may be left out is shown so, and behind it the default, where one is shown
+abbrev pub DefaultDescribes : (Shape → Type 0) → Option (List Piece) → Shape → Type 0
+DefaultDescribes inner None shape = OptionalDescribes inner shape
+DefaultDescribes inner (Some text) shape =
+    (inside : Shape) × inner inside × (shape ≡ Suffix (Optional inside) text)
+
+-- the text of a default behind what it stands for
+abbrev pub default_text : List ℕ → List ℕ
+default_text value = codes "[default: " ++ value ++ codes "]"
+
+-- a document of the default that prints this text; of any, where it isn't known what it prints
+abbrev pub IsDefault : Option (List ℕ) → List Piece → Type 0
+IsDefault (Some text) doc = TextPieces (default_text text) doc
+IsDefault None doc = (text : List ℕ) × TextPieces (default_text text) doc
+
+-- such a document is shown
+abbrev pub ShowsDefault : Option (List ℕ) → Option (List Piece) → Type 0
+ShowsDefault text shown = (doc : List Piece) × IsDefault text doc × (shown ≡ Some doc)
+
+-- a document of the default as a closure writes it
+abbrev pub IsFormatted : {T : Type 0} → (T → Result (String Global) AllocError → Type 0) → T
+    → List Piece → Type 0
+IsFormatted writes v doc =
+    (text : String Global) × writes v (Ok text) × TextPieces (default_text (string_bytes text)) doc
+
+-- such a document is shown
+abbrev pub ShowsFormatted : {T : Type 0} → (T → Result (String Global) AllocError → Type 0) → T
+    → Option (List Piece) → Type 0
+ShowsFormatted writes v shown =
+    (doc : List Piece) × IsFormatted writes v doc × (shown ≡ Some doc)
+
+-- a closure's value is shown as the default; where it gives none, what was shown stays
+abbrev pub ShowsAnswer : {T E : Type 0} → (Result T E → Type 0)
+    → (T → Option (List Piece) → Type 0) → Option (List Piece) → Option (List Piece) → Type 0
+ShowsAnswer {T} {E} answers shows before after =
+    ((v : T) × answers (Ok v) × shows v after) ⊎ ((fault : E) × answers (Err fault) × (after ≡ before))

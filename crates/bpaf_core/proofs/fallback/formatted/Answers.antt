@@ -1,0 +1,12 @@
+use Rattle.std.proofs.Common.{refl, subst}
+use Rattle.bpaf_doc.specs.Fold.{TextPieces}
+use Rattle.bpaf_laws.specs.Default.{default_text}
+use Rattle.bpaf_core.proofs.fallback.formatted.Goals as goal
+
+pub returns : goal.returns
+returns g c = (
+  c.in_ok-text.text,
+  record { shown = _; shows = refl; says = record { met = c.in_ok-text.ensures } },
+  subst (λ text. TextPieces (default_text text) c.in_ok-shown_default.field-0)
+      c.as_str.ensures.value c.in_ok-shown_default.ensures,
+)
