@@ -118,7 +118,8 @@ module _ (go turn repeat : Called) (go_adjacent turn_adjacent repeat_adjacent : 
   abbrev pub ProgramReads : Readings (Vec Step)
   ProgramReads =
       ManyReads (ChoiceReads (ChoiceReads (CalledReads go_adjacent go move_inner)
-      (CalledReads turn_adjacent turn turn_inner)) (CalledReads repeat_adjacent repeat repeat_inner))
+      (CalledReads turn_adjacent turn turn_inner))
+      (CalledReads repeat_adjacent repeat repeat_inner))
 
   -- they are those of the program, over these parsers
   pub record AreCommands (move_reads turn_reads repeat_reads : Readings Step) : Type 1 where
@@ -127,8 +128,8 @@ module _ (go turn repeat : Called) (go_adjacent turn_adjacent repeat_adjacent : 
     pub repeat_is : IsChained (codes "repeat") repeat_reads repeat_adjacent repeat repeat_inner
 
   module _ (move_reads turn_reads repeat_reads : Readings Step)
-      (are : AreCommands move_reads turn_reads repeat_reads) (describes : Shape → Type 0) (info : RunInfo)
-      (words : List (List ℕ)) where
+      (are : AreCommands move_reads turn_reads repeat_reads) (describes : Shape → Type 0)
+      (info : RunInfo) (words : List (List ℕ)) where
     -- steps that such a repeat deals out
     steps_dealt : (steps : Vec Step)
         → IsDealtOut (Vec Step) ProgramReads describes info (program_given words) steps

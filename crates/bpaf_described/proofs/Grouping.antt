@@ -1,5 +1,6 @@
 -- A group by what its constructor makes of the values: here the values themselves.
-use Rattle.std.proofs.Common.{◌≡◌, ◌+◌, ℕ, ◌⊎◌, Result, Ok, Err, Option, Some, None, ⊎_elim, inl, inr}
+use Rattle.std.proofs.Common.{◌≡◌, ◌+◌, ℕ, Result, Ok, Err, Option, Some, None, ⊎_elim}
+use Rattle.std.proofs.Common.{inl, inr}
 use Rattle.bpaf_doc.specs.Shape.{Part}
 use Rattle.bpaf_line.specs.Situation.{Situation}
 use Rattle.bpaf_line.specs.declared.error.Error.{Error}
@@ -57,7 +58,8 @@ module _ {T : Type 0} (inner more : Outcome T) (allows : Allows inner more) (s :
 
   -- so is each answer of a group over the one that of a group over the other
   group_more : (first : Part) (from : ℕ) (best : Option Failure) (r : Result T Error)
-      (t : Situation) → Searches T inner s first from best r t → Searches T more s first from best r t
+      (t : Situation) → Searches T inner s first from best r t
+      → Searches T more s first from best r t
   group_more first from best r t (over from' best' e t' none ends) = over from' best' e t' none ends
   group_more first from best r t (on from' a best' after r' t' start tried rest) =
       on from' a best' after r' t' start
@@ -93,7 +95,7 @@ begun_by {V} fast makes told first s t (Ok v) ran same =
     )
 begun_by {V} fast makes told first s t (Err e) ran same =
     let more = same_product fast makes same in
-    let by = group_more (ProductOutcome fast makes) (ProductOutcome fast (λ x y. y ≡ x)) more s first
-    s.start None in
+    let by = group_more (ProductOutcome fast makes) (ProductOutcome fast (λ x y. y ≡ x)) more s
+    first s.start None in
     ⊎_elim (λ refusal. inl (by (Err e) t refusal))
     (λ short. inr (short.0, by (Ok short.0) t short.1, short.2)) ran

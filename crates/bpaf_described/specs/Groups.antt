@@ -1,6 +1,5 @@
 -- Adjacent groups of parsers of one type.
-use Rattle.std.specs.Prelude.{◌≡◌, ◌⊎◌, List, [], ◌∷◌, ℕ, Result, Ok, Err, codes}
-use Rattle.std.proofs.Common.{⊎_elim, sym, subst}
+use Rattle.std.specs.Prelude.{◌≡◌, List, [], ◌∷◌, ℕ, Result, Ok, Err, codes}
 use Rattle.bpaf_doc.specs.Shape.{Shape, Part, part_of}
 use Rattle.bpaf_line.specs.Situation.{Situation}
 use Rattle.bpaf_line.specs.declared.error.Error.{Error}

@@ -9,9 +9,10 @@
 //! For the layers above: [`Leaf`] and [`Level`] are lawful parsers, each from its inner parsers' laws
 //! alone, and so is any type that is [`Described`], which may always be evaluated. What a described
 //! parser answers is dealt out of the words as for any parser; a level's outcome is the one of the
-//! `bpaf` parser that its kind names (specs/Levels.antt, specs/Several.antt, specs/Commands.antt), but for what the checks
-//! of `guard` and `parse` answer and for the texts of faults, of which nothing is said. A [`Fault`]
-//! tells which token of a description stands at which place, and why it can't.
+//! `bpaf` parser that its kind names (specs/Levels.antt, specs/Several.antt, specs/Groups.antt,
+//! specs/Commands.antt), but for what the checks of `guard` and `parse` answer and for the texts of
+//! faults, of which nothing is said. A [`Fault`] tells which token of a description stands at which
+//! place, and why it can't.
 #![tactic(auto)]
 
 mod as_value;
