@@ -46,7 +46,7 @@ IntegerReads = PositionalReads ℤ (SpellsSigned w64) Unrestricted
 abbrev pub LeftReads : Readings Bool
 LeftReads = FlagReads Bool IsKept (key_named left_names) true (Some false)
 
--- what a step is made of
+-- a step, by what it is made of
 abbrev pub PartsRead : {V : Type 0} → Readings V → (V → Step) → Readings Step
 PartsRead {V} parts make = ProductReads V Step parts (λ x step. step ≡ make x)
 
@@ -81,7 +81,7 @@ pub record AreDealt (move turn repeat : Readings Step) (words : List (List ℕ))
   pub is_context : IsContext known (program_given words) context
   pub read : ManyReads (StepReads move turn repeat) context (is_dealt_place context) steps
 
--- the steps of the program are
+-- so are the steps of the program, each made of its own parts
 abbrev pub AreDealtSteps : List (List ℕ) → Vec Step → Type 0
 AreDealtSteps words steps = AreDealt MoveReads TurnReads RepeatReads words steps
 

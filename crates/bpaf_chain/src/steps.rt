@@ -67,7 +67,6 @@ fn chained<P: Parser<Step> + Drop>(
     name: &str,
     parser: P,
 ) -> Result<ParseCommand<Step, P>, AllocError>
-    requires { P.can_eval parser }
     ensures inner { IfOk result (λ command. command.subparser.inner ≡ parser) }
     ensures names { IfOk result (λ command. command.names ≡ named_only name.now) }
     ensures adjacent { IfOk result (λ command. command.adjacent ≡ true) }
