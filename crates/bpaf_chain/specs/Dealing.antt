@@ -46,35 +46,44 @@ IntegerReads = PositionalReads ℤ (SpellsSigned w64) Unrestricted
 abbrev pub LeftReads : Readings Bool
 LeftReads = FlagReads Bool IsKept (key_named left_names) true (Some false)
 
--- one run of words: this name, and what the step is made of
-abbrev pub StepReads : {V : Type 0} → List ℕ → Readings V → (V → Step) → Readings Step
-StepReads {V} word parts make =
-    AdjacentReads Step (word ∷ []) (ProductReads V Step parts (λ x step. step ≡ make x))
+-- a step, by what it is made of
+abbrev pub PartsRead : {V : Type 0} → Readings V → (V → Step) → Readings Step
+PartsRead {V} parts make = ProductReads V Step parts (λ x step. step ≡ make x)
 
--- `move DX DY`
+-- `DX DY`
 abbrev pub MoveReads : Readings Step
-MoveReads =
-    StepReads {V = ℤ × ℤ} (codes "move") (BothReads ℤ ℤ IntegerReads IntegerReads)
-    (λ x. Move x.0 x.1)
+MoveReads = PartsRead {V = ℤ × ℤ} (BothReads ℤ ℤ IntegerReads IntegerReads) (λ x. Move x.0 x.1)
 
--- `turn [--left] DEGREES`
+-- `[--left] DEGREES`
 abbrev pub TurnReads : Readings Step
-TurnReads =
-    StepReads {V = Bool × ℕ} (codes "turn") (BothReads Bool ℕ LeftReads NumberReads)
-    (λ x. Turn x.0 x.1)
+TurnReads = PartsRead {V = Bool × ℕ} (BothReads Bool ℕ LeftReads NumberReads) (λ x. Turn x.0 x.1)
 
--- `repeat N`
+-- `N`
 abbrev pub RepeatReads : Readings Step
-RepeatReads = StepReads {V = ℕ} (codes "repeat") NumberReads (λ n. Repeat n)
+RepeatReads = PartsRead {V = ℕ} NumberReads (λ n. Repeat n)
+
+-- one run of words: this name, and what is read behind it
+abbrev pub ChainedReads : List ℕ → Readings Step → Readings Step
+ChainedReads word inner = AdjacentReads Step (word ∷ []) inner
+
+-- one of the three commands, by what is read behind their names
+abbrev pub StepReads : (move turn repeat : Readings Step) → Readings Step
+StepReads move turn repeat =
+    ChoiceReads (ChoiceReads (ChainedReads (codes "move") move)
+    (ChainedReads (codes "turn") turn)) (ChainedReads (codes "repeat") repeat)
 
 -- all places of the words' line but the first `--`, by some known short names, are dealt out to the
 -- steps, each used once
-pub record AreDealtSteps (words : List (List ℕ)) (steps : Vec Step) : Type 0 where
+pub record AreDealt (move turn repeat : Readings Step) (words : List (List ℕ))
+    (steps : Vec Step) : Type 0 where
   pub known : Known
   pub context : Context
   pub is_context : IsContext known (program_given words) context
-  pub read : ManyReads (ChoiceReads (ChoiceReads MoveReads TurnReads) RepeatReads)
-      context (is_dealt_place context) steps
+  pub read : ManyReads (StepReads move turn repeat) context (is_dealt_place context) steps
+
+-- so are the steps of the program, each made of its own parts
+abbrev pub AreDealtSteps : List (List ℕ) → Vec Step → Type 0
+AreDealtSteps words steps = AreDealt MoveReads TurnReads RepeatReads words steps
 
 -- status 0: nothing on the error writer, and on the other exactly the lines of steps that are dealt
 -- out of the words

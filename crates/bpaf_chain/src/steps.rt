@@ -1,8 +1,10 @@
-ghost use Rattle.std.specs.Prelude.{IfOk, map, string_bytes};
-ghost use Rattle.bpaf_chain.specs.Dealing.{AreDealtSteps};
+ghost use Rattle.std.specs.Prelude.{◌≡◌, IfOk, map, string_bytes, true};
+ghost use Rattle.bpaf_laws.specs.Command.{named_only};
+ghost use Rattle.bpaf_chain.specs.Dealing.{AreDealt, AreDealtSteps};
 
+use bpaf::parsers::ParseCommand;
 use bpaf::{Args, ParseFailure, Parser, construct, long, positional};
-use std::alloc::Global;
+use std::alloc::{AllocError, Global};
 
 /// One step.
 #[derive(Drop)]
@@ -20,19 +22,54 @@ pub enum Step {
 pub fn read_steps(alloc: Global, words: &[String]) -> Result<Vec<Step>, ParseFailure>
     ensures { IfOk result (λ steps. AreDealtSteps (map string_bytes words.now) steps) }
 {
-    let dx = positional::<i64>("DX");
-    let dy = positional::<i64>("DY");
-    let go = construct!(Step::Move { dx, dy });
-    let go = go.to_options(alloc)?.command("move")?.adjacent();
     let left = long(alloc, "left")?.switch();
     let degrees = positional::<u64>("DEGREES");
     let turn = construct!(Step::Turn { left, degrees });
-    let turn = turn.to_options(alloc)?.command("turn")?.adjacent();
+    let dx = positional::<i64>("DX");
+    let dy = positional::<i64>("DY");
+    let go = construct!(Step::Move { dx, dy });
     let times = positional::<u64>("N");
     let repeat = construct!(Step::Repeat { times });
-    let repeat = repeat.to_options(alloc)?.command("repeat")?.adjacent();
+    read_chain(alloc, go, turn, repeat, words)
+}
+
+/// The steps that the words ask for by three commands; refused where they ask for none, or for want
+/// of memory.
+fn read_chain<M, T, R>(
+    alloc: Global,
+    go: M,
+    turn: T,
+    repeat: R,
+    words: &[String],
+) -> Result<Vec<Step>, ParseFailure>
+where
+    M: Parser<Step> + Drop,
+    T: Parser<Step> + Drop,
+    R: Parser<Step> + Drop,
+    requires go { M.can_eval go }
+    requires turn { T.can_eval turn }
+    requires repeat { R.can_eval repeat }
+    ensures { IfOk result (λ steps. AreDealt (M.reads go) (T.reads turn) (R.reads repeat)
+        (map string_bytes words.now) steps) }
+{
+    let go = chained(alloc, "move", go)?;
+    let turn = chained(alloc, "turn", turn)?;
+    let repeat = chained(alloc, "repeat", repeat)?;
     construct!([go, turn, repeat])
         .many()
         .to_options(alloc)?
         .run_once(Args::from(words).set_name("chain"))
+}
+
+/// The adjacent command of this name over a parser; refused only for want of memory.
+fn chained<P: Parser<Step> + Drop>(
+    alloc: Global,
+    name: &str,
+    parser: P,
+) -> Result<ParseCommand<Step, P>, AllocError>
+    ensures inner { IfOk result (λ command. command.subparser.inner ≡ parser) }
+    ensures names { IfOk result (λ command. command.names ≡ named_only name.now) }
+    ensures adjacent { IfOk result (λ command. command.adjacent ≡ true) }
+{
+    Ok(parser.to_options(alloc)?.command(name)?.adjacent())
 }

@@ -24,6 +24,8 @@ use Rattle.bpaf_laws.specs.Choices.{ChoicesOutcome, ChoicesReads, ChoicesDescrib
 use Rattle.bpaf_laws.proofs.ChoicesLaws.{choices_lawful}
 use Rattle.bpaf_laws.specs.Command.{CommandDescribes}
 use Rattle.bpaf_described.specs.Commands.{CalledOutcome, CalledReads, called_lawful}
+use Rattle.bpaf_laws.specs.AdjacentGroup.{GroupDescribes}
+use Rattle.bpaf_described.specs.Groups.{TogetherOutcome, TogetherReads, together_lawful}
 use Rattle.bpaf_described.specs.Told.{ToldOutcome, told_lawful}
 use Rattle.bpaf_described.specs.Values.{ToldOption, ToldQueue}
 use Rattle.bpaf_described.specs.Closures.{IsHalf, Accepts, Checks, Given, untold}
@@ -154,6 +156,7 @@ abbrev pub LevelOutcome : {P : Type 0} → (P → Outcome Value) → (P → Shap
 LevelOutcome outcome describes clones (kind.Over m) ps =
     OverOutcome clones m (ChoicesOutcome outcome ps)
 LevelOutcome outcome describes clones kind.Product ps = TupleOutcome outcome ps
+LevelOutcome outcome describes clones kind.Group ps = TogetherOutcome outcome describes ps
 LevelOutcome outcome describes clones kind.OrElse ps = OrElseOutcome outcome ps
 LevelOutcome outcome describes clones (kind.Command called adjacent) ps =
     CalledOutcome adjacent called (ChoicesOutcome outcome ps) (ChoicesDescribes describes ps)
@@ -163,6 +166,7 @@ abbrev pub LevelReads : {P : Type 0} → (P → Readings Value) → Clones → K
     → Readings Value
 LevelReads reads clones (kind.Over m) ps = OverReads clones m (ChoicesReads reads ps)
 LevelReads reads clones kind.Product ps = TupleReads reads ps
+LevelReads reads clones kind.Group ps = TogetherReads reads ps
 LevelReads reads clones kind.OrElse ps = OrElseReads reads ps
 LevelReads reads clones (kind.Command called adjacent) ps =
     CalledReads adjacent called (ChoicesReads reads ps)
@@ -172,6 +176,7 @@ abbrev pub LevelDescribes : {P : Type 0} → (P → Shape → Type 0) → Kind �
 LevelDescribes describes (kind.Over m) ps shape =
     OverDescribes m (ChoicesDescribes describes ps) shape
 LevelDescribes describes kind.Product ps shape = TupleDescribes describes ps shape
+LevelDescribes describes kind.Group ps shape = GroupDescribes (TupleDescribes describes ps) shape
 LevelDescribes describes kind.OrElse ps shape = OrElseDescribes describes ps shape
 LevelDescribes describes (kind.Command called adjacent) ps shape =
     CommandDescribes called None (ChoicesDescribes describes ps) shape
@@ -184,6 +189,8 @@ pub level_lawful : {P : Type 0} (outcome : P → Outcome Value) (reads : P → R
 level_lawful outcome reads describes clones (kind.Over m) ps each =
     over_lawful clones m (choices_lawful outcome reads ps each)
 level_lawful outcome reads describes clones kind.Product ps each = tuple_lawful outcome reads ps each
+level_lawful outcome reads describes clones kind.Group ps each =
+    together_lawful outcome reads describes ps each
 level_lawful outcome reads describes clones kind.OrElse ps each = or_else_lawful outcome reads ps each
 level_lawful outcome reads describes clones (kind.Command called adjacent) ps each =
     called_lawful adjacent called (ChoicesDescribes describes ps)

@@ -38,6 +38,8 @@ pub enum Kind {
     Over(Modifier),
     /// The product of two, three or four.
     Product,
+    /// The adjacent group of two or three.
+    Group,
     /// The choice of two or three, as `or_else` writes it.
     OrElse,
     /// A command of these names over the choice of all of them; true is an adjacent one.

@@ -4,20 +4,22 @@
 //! is written. [`read_parser`] makes a parser of it. That is a [`Level`] over levels over a [`Leaf`]:
 //! a leaf is one option or word, told as a [`Value`], and a level holds its inner parsers once, beside
 //! a [`Kind`], and makes the parser of that kind over lent ones at each evaluation. So a level more
-//! costs a proof nothing, and [`FourLevels`] is enough for the combinations of this repository's rows.
+//! costs a proof nothing, and [`SixLevels`] is enough for the combinations of this repository's rows.
 //!
 //! For the layers above: [`Leaf`] and [`Level`] are lawful parsers, each from its inner parsers' laws
 //! alone, and so is any type that is [`Described`], which may always be evaluated. What a described
 //! parser answers is dealt out of the words as for any parser; a level's outcome is the one of the
-//! `bpaf` parser that its kind names (specs/Levels.antt, specs/Several.antt, specs/Commands.antt), but for what the checks
-//! of `guard` and `parse` answer and for the texts of faults, of which nothing is said. A [`Fault`]
-//! tells which token of a description stands at which place, and why it can't.
+//! `bpaf` parser that its kind names (specs/Levels.antt, specs/Several.antt, specs/Groups.antt,
+//! specs/Commands.antt), but for what the checks of `guard` and `parse` answer and for the texts of
+//! faults, of which nothing is said. A [`Fault`] tells which token of a description stands at which
+//! place, and why it can't.
 #![tactic(auto)]
 
 mod as_value;
 mod closures;
 mod commands;
 mod described;
+mod groups;
 mod kind;
 mod leaf;
 mod lent;
@@ -39,5 +41,5 @@ pub use one_text::OneText;
 pub use tokens::{Description, Fault, Place, Problem, Token, Tokens};
 pub use value::{Told, Value};
 
-/// A described parser: four combinations may stand in one another over a leaf.
-pub type FourLevels = Level<Level<Level<Level<Leaf>>>>;
+/// A described parser: six combinations may stand in one another over a leaf.
+pub type SixLevels = Level<Level<Level<Level<Level<Level<Leaf>>>>>>;

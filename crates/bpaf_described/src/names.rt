@@ -145,6 +145,8 @@ pub fn several_kind(token: &str) -> Option<(Kind, u64)> {
         "prod2" | "product2" => Some((Kind::Product, 2)),
         "prod3" | "product3" => Some((Kind::Product, 3)),
         "prod4" | "product4" => Some((Kind::Product, 4)),
+        "adj2" | "adjacent2" => Some((Kind::Group, 2)),
+        "adj3" | "adjacent3" => Some((Kind::Group, 3)),
         "alt2" | "or_else2" => Some((Kind::OrElse, 2)),
         "alt3" | "or_else3" => Some((Kind::OrElse, 3)),
         _ => None,

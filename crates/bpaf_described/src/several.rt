@@ -15,19 +15,19 @@ use std::alloc::{AllocError, Global};
 use std::marker::PhantomData;
 
 /// Two values.
-type Two = (Value, Value);
+pub type Two = (Value, Value);
 
 /// Three values.
-type Three = (Value, Two);
+pub type Three = (Value, Two);
 
 /// Four values.
 type Four = (Value, Three);
 
 /// The fields of two parsers.
-type TwoFields<'p, P> = Both<Lent<'p, P>, Last<Lent<'p, P>>>;
+pub type TwoFields<'p, P> = Both<Lent<'p, P>, Last<Lent<'p, P>>>;
 
 /// The fields of three parsers.
-type ThreeFields<'p, P> = Both<Lent<'p, P>, TwoFields<'p, P>>;
+pub type ThreeFields<'p, P> = Both<Lent<'p, P>, TwoFields<'p, P>>;
 
 /// The fields of four parsers.
 type FourFields<'p, P> = Both<Lent<'p, P>, ThreeFields<'p, P>>;
@@ -60,7 +60,7 @@ fn nested_meta<V: Drop, F: Fields<V> + Drop>(fields: F, alloc: Global) -> Result
 }
 
 /// The fields of two lent parsers.
-fn two_fields<'p, P>(a: &'p P, b: &'p P) -> TwoFields<'p, P>
+pub fn two_fields<'p, P>(a: &'p P, b: &'p P) -> TwoFields<'p, P>
     ensures a { result.first.inner.now ≡ a.now }
     ensures b { result.rest.last.inner.now ≡ b.now }
 {
@@ -71,7 +71,7 @@ fn two_fields<'p, P>(a: &'p P, b: &'p P) -> TwoFields<'p, P>
 }
 
 /// The fields of three lent parsers.
-fn three_fields<'p, P>(a: &'p P, b: &'p P, c: &'p P) -> ThreeFields<'p, P>
+pub fn three_fields<'p, P>(a: &'p P, b: &'p P, c: &'p P) -> ThreeFields<'p, P>
     ensures a { result.first.inner.now ≡ a.now }
     ensures b { result.rest.first.inner.now ≡ b.now }
     ensures c { result.rest.rest.last.inner.now ≡ c.now }

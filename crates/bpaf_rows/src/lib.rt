@@ -7,8 +7,6 @@
 #![tactic(auto)]
 
 #[cfg(test)]
-mod adjacent;
-#[cfg(test)]
 mod calls;
 #[cfg(test)]
 mod combinators;
