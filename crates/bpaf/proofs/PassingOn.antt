@@ -34,6 +34,7 @@ use Rattle.bpaf_laws.specs.Product.{BothOutcome, ProductOutcome, joined}
 use Rattle.bpaf_laws.specs.Repeat.{Steps, ManyOutcome, is_nil}
 use Rattle.bpaf_laws.specs.Step.{StepOutcome}
 use Rattle.bpaf_laws.proofs.CountingLaws.{none_below, same_took_none}
+use Rattle.bpaf_core.specs.Ending.{Ending}
 use Rattle.bpaf_core.specs.Info.{RunInfo}
 use Rattle.bpaf_core.specs.Run.{Runs, RunsWords, value, ran}
 use Rattle.bpaf.specs.declared.leaves.positional.Position.TheVariants.{Strict, NonStrict}
@@ -496,8 +497,8 @@ none_open s none p = ⊎_elim
 module _ {T X : Type 0} {inner : Outcome T} (means : List ℕ → X → Type 0) (values : T → List X)
     (passes : PassesOn inner means values) (given : Given) where
   -- a value of a run over the line reads all words behind the first `--`, in order
-  line_passed : (known : Known) (context : Context) (v : T) (t : Situation)
-      → IsContext known given context → Runs T inner (beginning context) (Ok v) t
+  line_passed : {ending : Ending} (known : Known) (context : Context) (v : T) (t : Situation)
+      → IsContext known given context → Runs T inner ending (beginning context) (Ok v) t
       → AllZip means (words_behind given.words) (values v)
   line_passed known context v t is (value w left answered none) =
       let waits = line_waits known given.words context.line context.marker context refl refl
