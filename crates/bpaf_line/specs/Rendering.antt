@@ -48,6 +48,12 @@ no_argument_text key metavar (Some next) =
     ++ codes ", try " ++ in_backticks (key ++ codes "=" ++ next)
     ++ codes " to use it as an argument"
 
+-- the key at a place stands there once more
+abbrev pub only_once_text : Situation → ℕ → List ℕ
+only_once_text s place =
+    codes "argument " ++ in_backticks (shown_item s place)
+    ++ codes " cannot be used multiple times in this context"
+
 -- the character of a number with a dash before it; the dash alone, where there is none
 abbrev pub dashed : List ℕ → ℕ → List ℕ
 dashed letters number =
@@ -139,9 +145,7 @@ message_text (Conflict winner loser) s =
     in_backticks (shown_item s loser) ++ codes " cannot be used at the same time as "
     ++ in_backticks (shown_item s winner)
 message_text (Expected items got) s = expected_text s (map part_of items.items) got
-message_text (OnlyOnce earlier place) s =
-    codes "argument " ++ in_backticks (shown_item s place)
-    ++ codes " cannot be used multiple times in this context"
+message_text (OnlyOnce earlier place) s = only_once_text s place
 
 -- a refusal of this text; or want of memory for it
 abbrev pub IsRefusal : List ℕ → Failure → Type 0

@@ -21,7 +21,9 @@
 //! - [`Message`], [`Error`] and [`ParseFailure`] say why a parser, or a whole run, gives no value. A
 //!   [`Message`] is want of memory (`is_memory`), one past which an optional parser goes on
 //!   (`can_catch`), one for which the words are at fault (`is_wrong_input`; specs/Messages.antt), or
-//!   none of these. Of two there is one by `Combines` (specs/Combining.antt).
+//!   none of these. Of two there is one by `Combines` (specs/Combining.antt). [`Message::render`]
+//!   tells one: its text is `message_text` (specs/Rendering.antt).
+//! - [`State::earlier_key`] is the last key of the same name before a place (specs/EarlierKey.antt).
 //!
 //! The source of the design is bpaf's `args.rs` and `error.rs`.
 #![tactic(auto)]

@@ -2,7 +2,7 @@
 ghost use Rattle.std.specs.Prelude.{◌≡◌, ◌++◌, true, IfOk, Some, None, codes, map, option_and_then, option_copied, option_map, string_bytes};
 ghost use Rattle.bpaf_doc.specs.Fold.{folded_whole};
 ghost use Rattle.bpaf_doc.specs.Print.{printed};
-ghost use Rattle.bpaf_line.specs.Rendering.{message_text, side_text, parse_failed_text, guard_failed_text, no_argument_text, IsRefusal, Renders};
+ghost use Rattle.bpaf_line.specs.Rendering.{message_text, side_text, parse_failed_text, guard_failed_text, no_argument_text, only_once_text, IsRefusal, Renders};
 ghost use Rattle.bpaf_line.specs.Shown.{shown_item, word_at, quoted_word, key_behind};
 
 use crate::error::Message;
@@ -143,9 +143,8 @@ fn conflict(state: &State, winner: usize, loser: usize) -> Result<Doc, AllocErro
 }
 
 /// Which key stands there once more.
-fn only_once(state: &State, earlier: usize, place: usize) -> Result<Doc, AllocError>
-    ensures { IfOk result (λ doc.
-        printed true doc ≡ message_text (Message.OnlyOnce earlier place) state.now) }
+fn only_once(state: &State, place: usize) -> Result<Doc, AllocError>
+    ensures { IfOk result (λ doc. printed true doc ≡ only_once_text state.now place) }
 {
     let mut doc = Doc::new(state.alloc());
     doc.write(Style::Text, "argument ")?;
@@ -215,7 +214,7 @@ impl Message {
             Message::Ambiguity(word, number) => ambiguity(state, word, *number),
             Message::Conflict(winner, loser) => conflict(state, *winner, *loser),
             Message::Expected(items, got) => expected_items(state, items, *got),
-            Message::OnlyOnce(earlier, place) => only_once(state, *earlier, *place),
+            Message::OnlyOnce(_, place) => only_once(state, *place),
         }
     }
 

@@ -25,6 +25,8 @@ mod laws;
 #[cfg(test)]
 mod lines;
 #[cfg(test)]
+mod messages;
+#[cfg(test)]
 mod shared;
 #[cfg(test)]
 mod sources;

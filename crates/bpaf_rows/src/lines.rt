@@ -483,6 +483,23 @@ const SCOPED: &[Row<'static>] = &[
         ],
         wanted: "0..3;true;Some(1);None;Some(true);Some(false);Some(true);None;2 c,;",
     },
+    // a key is looked for before a place, of one kind and name, taken or not
+    Row {
+        words: &["-n", "--n", "-n=3", "--n=3", "-m", "n", "-n"],
+        flags: &[],
+        arguments: &[],
+        calls: &[
+            Call::Remove(2),
+            Call::EarlierKey(8),
+            Call::EarlierKey(4),
+            Call::EarlierKey(2),
+            Call::EarlierKey(0),
+            Call::EarlierKey(6),
+            Call::EarlierKey(7),
+            Call::EarlierKey(9),
+        ],
+        wanted: "Some(2);Some(1);Some(0);None;None;None;None;",
+    },
     // names are put on the path
     Row {
         words: &["x"],
