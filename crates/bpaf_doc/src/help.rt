@@ -86,8 +86,8 @@ fn usage_paragraph(
 
 /// Appends the paragraphs before the lists.
 fn push_opening(
-    page: &mut Doc,
     alloc: Global,
+    page: &mut Doc,
     path: &[String],
     texts: HelpTexts<'_>,
     meta: &Meta,
@@ -139,7 +139,7 @@ impl<'a> Lines<'a> {
     }
 
     /// Appends all sections.
-    fn push_sections(&self, page: &mut Doc, alloc: Global, width: usize) -> Result<(), AllocError>
+    fn push_sections(&self, alloc: Global, page: &mut Doc, width: usize) -> Result<(), AllocError>
         ensures { OnOk result (Prints
             (joined_behind (codes "\n") (prints page.old)
             (sections width (map line_of self.now.all.items) 0 self.now.titles.items))
@@ -168,7 +168,7 @@ impl<'a> Lines<'a> {
     }
 
     /// Appends the lists of all lines outside of sections.
-    fn push_lists(&self, page: &mut Doc, alloc: Global, width: usize) -> Result<(), AllocError>
+    fn push_lists(&self, alloc: Global, page: &mut Doc, width: usize) -> Result<(), AllocError>
         ensures { OnOk result (Prints
             (joined_behind (codes "\n") (prints page.old)
             (lists width (map line_of self.now.all.items)))
@@ -204,9 +204,9 @@ fn render(
     let lines = Lines::of_both(alloc, meta, extra)?;
     let width = lines.widest(alloc)?;
     let mut page = Doc::new(alloc);
-    push_opening(&mut page, alloc, path, texts, meta)?;
-    lines.push_sections(&mut page, alloc, width)?;
-    lines.push_lists(&mut page, alloc, width)?;
+    push_opening(alloc, &mut page, path, texts, meta)?;
+    lines.push_sections(alloc, &mut page, width)?;
+    lines.push_lists(alloc, &mut page, width)?;
     let footer = given_paragraph(alloc, texts.footer)?;
     page.glue("\n", &footer)?;
     Ok(page)
