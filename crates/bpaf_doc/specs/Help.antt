@@ -146,7 +146,7 @@ abbrev pub page : List Print → Print
 page all = joined (codes "\n") all
 
 -- the page of a shape at this path; what `extra` shows, help and the version, stands behind it
-abbrev pub help_text : List (List ℕ) → Given → Shape → Shape → Print
+unfoldable pub help_text : List (List ℕ) → Given → Shape → Shape → Print
 help_text path given shape extra =
     let whole = And (shape then extra then none) in
     page (paragraphs path given (usage_text shape) (lines whole None 0) (titles whole))

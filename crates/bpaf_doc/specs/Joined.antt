@@ -16,10 +16,6 @@ prints doc full = printed full doc
 abbrev pub Prints : Print → List Piece → Type 0
 Prints text doc = (full : Bool) → printed full doc ≡ text full
 
--- a document prints this text behind what it printed before
-abbrev pub Puts : Print → List Piece → List Piece → Type 0
-Puts text old new = (full : Bool) → printed full new ≡ printed full old ++ text full
-
 -- no text
 abbrev pub nothing : Print
 nothing full = []

@@ -1,8 +1,8 @@
 ghost use Rattle.std.specs.Prelude.{◌≡◌, ◌==◌, Bool, true, IfOk, OnOk, OnErr, List, [], ◌∷◌, ◌++◌, map, string_bytes};
 ghost use Rattle.std.specs.List.{before_first};
+ghost use Rattle.bpaf_doc.specs.Joined.{prints, is_empty};
 ghost use Rattle.bpaf_doc.specs.Print.{printed, shown_as, in_backticks, first_line};
 ghost use Rattle.bpaf_doc.specs.Fold.{TextPieces, folded_whole};
-ghost use Rattle.bpaf_doc.specs.Joined.{prints, is_empty};
 
 use crate::fold::text_pieces;
 use crate::text::Text;

@@ -1,12 +1,12 @@
 //! The help page of what a parser shows.
 ghost use Rattle.std.specs.Prelude.{◌≡◌, ◌++◌, ◌∷◌, [], None, IfOk, OnOk, codes, flat_map};
-ghost use Rattle.std.specs.Prelude.{map, string_bytes};
+ghost use Rattle.std.specs.Prelude.{map, option_copied, string_bytes};
 ghost use Rattle.bpaf_doc.specs.Shape.{shape_of, And, none, ◌then◌};
 ghost use Rattle.bpaf_doc.specs.Joined.{Prints, prints, around, joined_behind};
 ghost use Rattle.bpaf_doc.specs.Usage.{usage_text};
 ghost use Rattle.bpaf_doc.specs.Lines.{lines, titles, lines_at};
 ghost use Rattle.bpaf_doc.specs.InsideLine.{place_of, line_of};
-ghost use Rattle.bpaf_doc.specs.InsideHelp.{lent, given_by};
+ghost use Rattle.bpaf_doc.specs.InsideHelp.{given_by};
 ghost use Rattle.bpaf_doc.specs.Help.{paragraph, prints_of, usage_line, usage_paragraph, rows};
 ghost use Rattle.bpaf_doc.specs.Help.{section, sections, opening, lists, help_text};
 
@@ -30,7 +30,7 @@ pub struct HelpTexts<'a> {
 
 /// A text that a program gives as a paragraph, nothing where it is missing or empty.
 fn given_paragraph(alloc: Global, text: Option<&Doc>) -> Result<Doc, AllocError>
-    ensures { IfOk result (Prints (paragraph (prints_of (lent text.entry)))) }
+    ensures { IfOk result (Prints (paragraph (prints_of (option_copied text.entry)))) }
 {
     match text {
         None => Ok(Doc::new(alloc)),
@@ -73,7 +73,7 @@ fn usage_paragraph(
     meta: &Meta,
 ) -> Result<Doc, AllocError>
     ensures { IfOk result (Prints (usage_paragraph
-        (map string_bytes path.now) (lent given.entry) (usage_text (shape_of meta.now)))) }
+        (map string_bytes path.now) (option_copied given.entry) (usage_text (shape_of meta.now)))) }
 {
     match given {
         Some(given) => given.around(alloc, "", "\n"),
@@ -86,8 +86,8 @@ fn usage_paragraph(
 
 /// Appends the paragraphs before the lists.
 fn push_opening(
-    page: &mut Doc,
     alloc: Global,
+    page: &mut Doc,
     path: &[String],
     texts: HelpTexts<'_>,
     meta: &Meta,
@@ -139,7 +139,7 @@ impl<'a> Lines<'a> {
     }
 
     /// Appends all sections.
-    fn push_sections(&self, page: &mut Doc, alloc: Global, width: usize) -> Result<(), AllocError>
+    fn push_sections(&self, alloc: Global, page: &mut Doc, width: usize) -> Result<(), AllocError>
         ensures { OnOk result (Prints
             (joined_behind (codes "\n") (prints page.old)
             (sections width (map line_of self.now.all.items) 0 self.now.titles.items))
@@ -168,7 +168,7 @@ impl<'a> Lines<'a> {
     }
 
     /// Appends the lists of all lines outside of sections.
-    fn push_lists(&self, page: &mut Doc, alloc: Global, width: usize) -> Result<(), AllocError>
+    fn push_lists(&self, alloc: Global, page: &mut Doc, width: usize) -> Result<(), AllocError>
         ensures { OnOk result (Prints
             (joined_behind (codes "\n") (prints page.old)
             (lists width (map line_of self.now.all.items)))
@@ -204,9 +204,9 @@ fn render(
     let lines = Lines::of_both(alloc, meta, extra)?;
     let width = lines.widest(alloc)?;
     let mut page = Doc::new(alloc);
-    push_opening(&mut page, alloc, path, texts, meta)?;
-    lines.push_sections(&mut page, alloc, width)?;
-    lines.push_lists(&mut page, alloc, width)?;
+    push_opening(alloc, &mut page, path, texts, meta)?;
+    lines.push_sections(alloc, &mut page, width)?;
+    lines.push_lists(alloc, &mut page, width)?;
     let footer = given_paragraph(alloc, texts.footer)?;
     page.glue("\n", &footer)?;
     Ok(page)

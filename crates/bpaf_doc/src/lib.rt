@@ -10,9 +10,14 @@
 //! - [`Item`] is one flag, argument, word or command as it is shown, and [`Meta`] the tree of them
 //!   that a parser shows; [`MetaInfo`] lends one. Contracts see both through `part_of` and
 //!   `shape_of` (specs/Shape.antt), data in which neither addresses nor capacities stand. What is
-//!   written for an item inside messages and usage is its `item_text` (specs/ItemText.antt). The walks
-//!   over a tree, and over one that is lent, gather short names and find the first item
+//!   written for an item inside messages and usage is its `item_text` (specs/ItemText.antt). The
+//!   walks over a tree, and over one that is lent, gather short names and find the first item
 //!   (specs/Walks.antt), and tell whether words stand behind keys (specs/Order.antt).
+//! - A lent tree has a usage text (specs/Usage.antt) and a help page (specs/Help.antt), for which a
+//!   program gives [`HelpTexts`]. Both are said as texts in two prints, with the detail and without
+//!   it; whether a text is empty, and so left out, is told by its full print (specs/Joined.antt).
+//!   The lines of a page are those of the items that a tree shows, in order, each with the place
+//!   where it stands (specs/Lines.antt).
 //!
 //! The source of the design is bpaf's `buffer.rs`, `item.rs` and `meta.rs`.
 #![tactic(auto)]

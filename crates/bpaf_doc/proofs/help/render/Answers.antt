@@ -1,4 +1,5 @@
 use Rattle.std.proofs.Common.{map, string_bytes}
+use Rattle.bpaf_doc.specs.Help.{help_text}
 use Rattle.bpaf_doc.specs.InsideHelp.{given_by}
 use Rattle.bpaf_doc.specs.Shape.{shape_of}
 use Rattle.bpaf_doc.specs.Usage.{usage_text}
@@ -6,6 +7,7 @@ use Rattle.bpaf_doc.proofs.Paging.{page_put}
 use Rattle.bpaf_doc.proofs.help.render.Goals as goal
 
 pub returns : goal.returns
+unfolding help_text
 returns c =
     let path = map string_bytes c.args.path.now in
     let given = given_by c.args.texts in
