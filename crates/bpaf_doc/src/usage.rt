@@ -1,7 +1,7 @@
 //! The usage text of what a parser shows.
-ghost use Rattle.std.specs.Prelude.{◌≡◌, IfOk};
+ghost use Rattle.std.specs.Prelude.{◌≡◌, ◌++◌, IfOk, codes};
 ghost use Rattle.bpaf_doc.specs.Shape.{shape_of, members_of};
-ghost use Rattle.bpaf_doc.specs.Joined.{Prints, joined};
+ghost use Rattle.bpaf_doc.specs.Joined.{Prints, joined, prints};
 ghost use Rattle.bpaf_doc.specs.Usage.{usage_text, usage_texts, how_many};
 
 use crate::doc::{Doc, Style};
@@ -26,6 +26,16 @@ fn usage_of_all(alloc: Global, between: &str, all: &[Meta]) -> Result<(Doc, usiz
         doc.glue(between, &text)?;
     }
     Ok((doc, shown))
+}
+
+/// The usage text of what stands behind `--`.
+fn behind_marker(alloc: Global, inner: &Doc) -> Result<Doc, AllocError>
+    ensures { IfOk result (Prints (λ full. codes "-- " ++ prints inner.now full)) }
+{
+    let mut doc = Doc::new(alloc);
+    doc.write(Style::Literal, "-- ")?;
+    doc.doc(inner)?;
+    Ok(doc)
 }
 
 impl Meta {
@@ -58,11 +68,8 @@ impl Meta {
                 doc.around(alloc, "", "...")
             }
             Meta::Strict(inner) => {
-                let inner = inner.usage(alloc)?;
-                let mut doc = Doc::new(alloc);
-                doc.write(Style::Literal, "-- ")?;
-                doc.doc(&inner)?;
-                Ok(doc)
+                let doc = inner.usage(alloc)?;
+                behind_marker(alloc, &doc)
             }
             Meta::Subsection(inner, _) => inner.usage(alloc),
             Meta::Suffix(inner, _) => inner.usage(alloc),

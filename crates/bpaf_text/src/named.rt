@@ -47,15 +47,11 @@ impl Model for NamedArg {
 impl Drop for NamedArg {
     fn drop(self) {
         let NamedArg {
-            shorts,
-            longs,
-            envs,
-            help,
+            shorts: _shorts,
+            longs: _longs,
+            envs: _envs,
+            help: _help,
         } = self;
-        drop(shorts);
-        drop(longs);
-        drop(envs);
-        drop(help);
     }
 }
 
