@@ -35,8 +35,19 @@ fn push_break(out: &mut String, after_break: bool, line: &str, more: &str) -> Re
     }
 }
 
-/// The text with its line breaks folded; refused only for want of memory.
+/// The text with its line breaks folded; refused only for want of memory. One without line breaks is
+/// copied as it is.
 fn folded(alloc: Global, text: &str) -> Result<Text, AllocError>
+    ensures { IfOk result (λ t. t ≡ folded text.now) }
+{
+    match cut_line(text) {
+        None => Ok(Text::new(alloc, text)?),
+        Some(_) => folded_lines(alloc, text),
+    }
+}
+
+/// That of a text of several lines.
+fn folded_lines(alloc: Global, text: &str) -> Result<Text, AllocError>
     ensures { IfOk result (λ t. t ≡ folded text.now) }
 {
     let mut out = String::new(alloc);

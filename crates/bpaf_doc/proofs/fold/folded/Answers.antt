@@ -1,16 +1,7 @@
-use Rattle.std.proofs.Common.{rules, ◌∙◌}
-use Rattle.bpaf_doc.proofs.Folding.{folded_more, folded_end}
+use Rattle.std.proofs.Common.{false, sym, ◌∙◌}
+use Rattle.bpaf_doc.proofs.Folding.{folded_plain}
 use Rattle.bpaf_doc.proofs.fold.folded.Goals as goal
 
-pub loop-line-preserved : goal.loop-line-preserved
-loop-line-preserved c =
-    let kept = c.loop-line.invariant.0 in
-    let is_cut = c.in-Some.ensures in
-    let put = c.in_ok-push_str.ensures.bytes in
-    let put_break = c.in_ok-push_break.ensures in
-    (folded_more _ _ _ _ _ _ _ _ kept is_cut.0 is_cut.1 put put_break, search rules)
-
-pub returns : goal.returns
-returns c =
-    let put = c.from.ensures ∙ c.in_ok-push_str-2.ensures.bytes in
-    folded_end _ _ _ _ _ c.loop-line.invariant.0 c.in_default.ensures put
+pub returns-in_ok-new-in-None : goal.returns-in_ok-new-in-None
+returns-in_ok-new-in-None c =
+    c.in_ok-new-in-None.ensures ∙ sym (folded_plain false c.args.text.now c.in-None.ensures)
