@@ -1,6 +1,7 @@
 pub mod PositionalAnswers
 pub mod Looking
 pub mod Sides
+pub mod Asking
 pub mod PassingOn
 pub mod Searching
 pub mod Attempting

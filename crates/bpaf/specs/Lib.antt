@@ -1,5 +1,6 @@
 pub mod Positional
 pub mod PositionalLaws
 pub mod Matching
+pub mod Asked
 pub mod Marker
 pub mod Remembering

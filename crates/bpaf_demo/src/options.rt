@@ -16,8 +16,14 @@ pub struct Options {
 pub fn read_options(alloc: Global, words: &[String]) -> Result<Options, ParseFailure>
     ensures { IfOk result (λ v. IsDealtOptions (map string_bytes words.now) v) }
 {
-    let verbose = short(alloc, 'v')?.long("verbose")?.switch();
-    let num = short(alloc, 'n')?.long("num")?.argument::<u64>("NUM");
+    let verbose = short(alloc, 'v')?
+        .long("verbose")?
+        .help(Doc::from_text(alloc, "Print more")?)
+        .switch();
+    let num = short(alloc, 'n')?
+        .long("num")?
+        .help(Doc::from_text(alloc, "A number")?)
+        .argument::<u64>("NUM");
     let files = positional::<String>("FILE")
         .help(Doc::from_text(alloc, "Files to read")?)
         .many();

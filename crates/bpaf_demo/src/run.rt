@@ -25,11 +25,44 @@ pub fn run<W: Write, E: Write>(alloc: Global, words: &[String], out: &mut W, err
             Ok(()) => 0,
             Err(_) => 1,
         },
-        Err(failure) => refuse(failure, err),
+        Err(failure) => tell(failure, out, err),
     }
 }
 
-/// Tells why there are no options: the message, or else that memory was wanted. The status is 1.
+/// Tells how a run ended that gives no options, and gives its status: what was asked for is shown on
+/// `out`, else the refusal is told on `err`.
+fn tell<W: Write, E: Write>(failure: ParseFailure, out: &mut W, err: &mut E) -> u8
+    ensures succeeds { result ≡ 0 → WritesShown failure (W.contents out.old) (W.contents out.new)
+        (E.contents err.old) (E.contents err.new) }
+    ensures fails { result ≡ 1 →
+        FailsToShow failure (W.contents out.old) (W.contents out.new) }
+    ensures status { (result ≡ 0) ⊎ (result ≡ 1) }
+{
+    if failure.exit_code() == 0 {
+        show(failure, out, err)
+    } else {
+        refuse(failure, err)
+    }
+}
+
+/// Shows what was asked for, as it stands, and gives the status.
+fn show<W: Write, E: Write>(failure: ParseFailure, out: &mut W, err: &mut E) -> u8
+    ensures succeeds { result ≡ 0 → WritesShown failure (W.contents out.old) (W.contents out.new)
+        (E.contents err.old) (E.contents err.new) }
+    ensures fails { result ≡ 1 →
+        FailsToShow failure (W.contents out.old) (W.contents out.new) }
+    ensures status { (result ≡ 0) ⊎ (result ≡ 1) }
+{
+    let Ok(Some(text)) = failure.unwrap_stdout() else {
+        return refuse(ParseFailure::Memory, err);
+    };
+    match write!(out, "{text}") {
+        Ok(()) => 0,
+        Err(_) => 1,
+    }
+}
+
+/// Tells a refusal: its message, or else that memory was wanted. The status is 1.
 pub fn refuse<E: Write>(failure: ParseFailure, err: &mut E) -> u8
     ensures { result ≡ 1 }
 {

@@ -23,7 +23,7 @@ pub fn run<W: Write, E: Write>(alloc: Global, words: &[String], out: &mut W, err
 {
     let launch = match read_launch(alloc, words) {
         Ok(launch) => launch,
-        Err(failure) => return refuse(failure, err),
+        Err(failure) => return tell(failure, out, err),
     };
     let Ok(lines) = lines_of(alloc, &launch) else {
         return refuse(ParseFailure::Memory, err);
@@ -34,7 +34,40 @@ pub fn run<W: Write, E: Write>(alloc: Global, words: &[String], out: &mut W, err
     }
 }
 
-/// Tells why there is no launch: the message, or else that memory was wanted. The status is 1.
+/// Tells how a run ended that gives no launch, and gives its status: what was asked for is shown on
+/// `out`, else the refusal is told on `err`.
+fn tell<W: Write, E: Write>(failure: ParseFailure, out: &mut W, err: &mut E) -> u8
+    ensures succeeds { result ≡ 0 → WritesShown failure (W.contents out.old) (W.contents out.new)
+        (E.contents err.old) (E.contents err.new) }
+    ensures fails { result ≡ 1 →
+        FailsToShow failure (W.contents out.old) (W.contents out.new) }
+    ensures status { (result ≡ 0) ⊎ (result ≡ 1) }
+{
+    if failure.exit_code() == 0 {
+        show(failure, out, err)
+    } else {
+        refuse(failure, err)
+    }
+}
+
+/// Shows what was asked for, as it stands, and gives the status.
+fn show<W: Write, E: Write>(failure: ParseFailure, out: &mut W, err: &mut E) -> u8
+    ensures succeeds { result ≡ 0 → WritesShown failure (W.contents out.old) (W.contents out.new)
+        (E.contents err.old) (E.contents err.new) }
+    ensures fails { result ≡ 1 →
+        FailsToShow failure (W.contents out.old) (W.contents out.new) }
+    ensures status { (result ≡ 0) ⊎ (result ≡ 1) }
+{
+    let Ok(Some(text)) = failure.unwrap_stdout() else {
+        return refuse(ParseFailure::Memory, err);
+    };
+    match write_text(text.as_str().as_bytes(), out) {
+        Ok(()) => 0,
+        Err(_) => 1,
+    }
+}
+
+/// Tells a refusal: its message, or else that memory was wanted. The status is 1.
 pub fn refuse<E: Write>(failure: ParseFailure, err: &mut E) -> u8
     ensures { result ≡ 1 }
 {
