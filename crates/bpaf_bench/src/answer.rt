@@ -3,9 +3,9 @@ use bpaf_described::Value;
 use std::alloc::{AllocError, Global};
 use std::collections::BTreeMap;
 
-/// Appends a message on one line: a line break is `\n`, and a backslash stands twice.
-fn push_message(message: &str, out: &mut String) -> Result<(), AllocError> {
-    for letter in message.chars() {
+/// Appends a text on one line: a line break is `\n`, and a backslash stands twice.
+fn push_text(text: &str, out: &mut String) -> Result<(), AllocError> {
+    for letter in text.chars() {
         match letter {
             '\\' => out.push_str("\\\\")?,
             '\n' => out.push_str("\\n")?,
@@ -15,7 +15,8 @@ fn push_message(message: &str, out: &mut String) -> Result<(), AllocError> {
     Ok(())
 }
 
-/// What a parser answers to words, as one line: `ok` and the value, or `err` and the message.
+/// What a parser answers to words, as one line: `ok` and the value, `err` and the message, `out` and a
+/// text that was asked for, or `full` and one that was asked for in full.
 pub fn answer<P: Parser<Value> + Drop>(
     alloc: Global,
     options: &OptionParser<Value, P>,
@@ -31,26 +32,39 @@ pub fn answer<P: Parser<Value> + Drop>(
             value.print(&mut out)?;
         }
         Err(ParseFailure::Memory) => return Err(AllocError),
-        Err(failure) => {
+        Err(ParseFailure::Stdout(doc, full)) => {
+            out.push_str(if full { "full " } else { "out " })?;
+            push_text(doc.monochrome(full)?.as_str(), &mut out)?;
+        }
+        Err(ParseFailure::Stderr(doc)) => {
             out.push_str("err ")?;
-            let message = failure.unwrap_stderr()?;
-            push_message(message.as_deref().unwrap_or(""), &mut out)?;
+            push_text(doc.monochrome(true)?.as_str(), &mut out)?;
         }
     }
     Ok(out)
 }
 
-/// Whether a text is an answer: of a value, or of a refusal.
+/// Whether a text is an answer: of a value, of a message, or of a text that was asked for.
 pub fn is_answer(text: &str) -> bool {
-    text.starts_with("ok ") || text == "err" || text.starts_with("err ")
+    text == "err"
+        || text.starts_with("ok ")
+        || text.starts_with("err ")
+        || text.starts_with("err^")
+        || text.starts_with("out ")
+        || text.starts_with("full ")
 }
 
-/// Whether an answer is the wanted one; `err` alone wants any refusal. Until messages have texts
-/// all refusals are the same.
+/// Whether an answer is the wanted one. `err` alone wants any refusal, and `err^` one with a
+/// message that begins so.
 pub fn is_wanted(wanted: &str, answer: &str) -> bool {
-    if wanted.starts_with("err") {
-        answer.starts_with("err")
-    } else {
-        wanted == answer
+    if wanted == "err" {
+        return !answer.starts_with("ok ");
+    }
+    match wanted.strip_prefix("err^") {
+        Some(beginning) => {
+            let message = answer.strip_prefix("err ");
+            message.is_some_and(|message| message.starts_with(beginning))
+        }
+        None => wanted == answer,
     }
 }

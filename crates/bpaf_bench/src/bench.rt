@@ -259,7 +259,7 @@ impl<P: Described> Bench<P> {
         };
         let wanted = wanted.filter(|wanted| !wanted.is_empty());
         if !wanted.is_none_or(is_answer) {
-            return self.tell("an answer begins with `ok ` or `err`", out);
+            return self.tell("an answer begins with `ok`, `err`, `out` or `full`", out);
         }
         let got = match &self.parser {
             Standing::Missing => return self.tell("no parser stands above this row", out),
