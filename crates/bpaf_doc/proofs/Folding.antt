@@ -1,5 +1,5 @@
 -- Folded texts, line by line.
-use Rattle.std.proofs.Common.{◌≡◌, ◌≢◌, ℕ, suc, ◌<◌, ◌≤◌, Bool, true, false, not, ◌&&◌, ◌||◌, ◌==◌, List, [], ◌∷◌, ◌++◌, length, if◌then◌else◌, refl, ap, sym, ◌∙◌, arith, append_assoc, subst}
+use Rattle.std.proofs.Common.{◌≡◌, ◌≢◌, ℕ, suc, ◌<◌, ◌≤◌, Bool, true, false, not, ◌&&◌, ◌||◌, ◌==◌, List, [], ◌∷◌, ◌++◌, length, slice_index, zero, if◌then◌else◌, refl, ap, sym, ◌∙◌, arith, append_assoc, subst}
 use Rattle.std.proofs.lemmas.Bool.Decides.{nat_tests}
 use Rattle.std.specs.Str.Pattern.{LacksTextAt}
 use Rattle.bpaf_doc.specs.declared.doc.Piece.{Piece}
@@ -112,6 +112,23 @@ pub folded_end :
     → new ≡ full
 folded_end out new full after rest kept free put =
     put ∙ ap (λ x. out ++ x) (sym (folded_plain after rest free)) ∙ kept
+
+-- a text without line breaks has no empty line
+no_empty_line : (text : List ℕ) → HasNoBreak text → (i : ℕ) → LacksTextAt empty_line text i
+no_empty_line [] free zero rest is = cc
+no_empty_line [] free (suc i) rest is = cc
+no_empty_line (c ∷ text) free zero rest is =
+    free 0 (omega arith) (ap (λ all. slice_index all 0) is)
+no_empty_line (c ∷ text) free (suc i) rest is =
+    no_empty_line text (no_break_tail c text free) i rest is
+
+-- the one piece of a text without line breaks
+pub text_plain : (text : List ℕ) (pieces : List Piece) → HasNoBreak text
+    → pieces ≡ shown_as style.Text text ∷ [] → TextPieces text pieces
+text_plain text pieces free are =
+    subst (TextPieces text)
+    (ap (λ x. shown_as style.Text x ∷ []) (folded_plain false text free) ∙ sym are)
+    (whole (λ i within. no_empty_line text free i))
 
 -- the one piece of a text without an empty line, put into an empty list
 pub text_whole :

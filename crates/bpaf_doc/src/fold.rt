@@ -1,4 +1,5 @@
 ghost use Rattle.std.specs.Prelude.{◌≡◌, ◌++◌, ◌∷◌, [], IfOk, OnOk, MatchOption, string_bytes};
+ghost use Rattle.bpaf_doc.specs.Print.{shown_as};
 ghost use Rattle.bpaf_doc.specs.Fold.{folded, keeps_break, break_between, HasNoBreak, TextPieces};
 
 use crate::doc::{Piece, Style};
@@ -74,8 +75,31 @@ fn folded_below(alloc: Global, text: &str) -> Result<Text, AllocError>
     Ok(Text::from(whole))
 }
 
-/// The pieces that a text gives; refused only for want of memory.
+/// The pieces that a text gives; refused only for want of memory. A text without line breaks is one.
 pub(crate) fn text_pieces(alloc: Global, text: &str) -> Result<Vec<Piece>, AllocError>
+    ensures { IfOk result (λ all. TextPieces text.now all.items) }
+{
+    match cut_line(text) {
+        None => Ok(one_piece(alloc, text)?),
+        Some(_) => pieces_of_lines(alloc, text),
+    }
+}
+
+/// A text as one piece, as it is; refused only for want of memory.
+fn one_piece(alloc: Global, text: &str) -> Result<Vec<Piece>, AllocError>
+    ensures { IfOk result (λ all. all.items ≡ shown_as Style.Text text.now ∷ []) }
+{
+    let mut all = Vec::with_capacity(alloc, 1)?;
+    all.push(Piece {
+        text: Text::new(alloc, text)?,
+        style: Style::Text,
+        detail: false,
+    })?;
+    Ok(all)
+}
+
+/// The pieces of a text of several lines.
+fn pieces_of_lines(alloc: Global, text: &str) -> Result<Vec<Piece>, AllocError>
     ensures { IfOk result (λ all. TextPieces text.now all.items) }
 {
     let mut all = Vec::with_capacity(alloc, 2)?;
