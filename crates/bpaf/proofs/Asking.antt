@@ -1,9 +1,8 @@
 -- What a run shows it was asked for, where its parser shows nothing by itself.
-use Rattle.std.proofs.Common.{◌≡◌, ◌⊎◌, Bool, true, false, List, [], Option, Some, None, Result, Ok}
-use Rattle.std.proofs.Common.{Err, refl, sym, subst, ap, ◌∙◌, ⊎_elim, true≢false, if◌then◌else◌}
+use Rattle.std.proofs.Common.{◌≡◌, Bool, true, false, List, [], Option, Some, None, Result, Ok}
+use Rattle.std.proofs.Common.{inl, inr, Err, refl, sym, subst, ap, ◌∙◌, ⊎_elim, true≢false, if◌then◌else◌}
 use Rattle.std.specs.Prelude.{ℕ, ◌∷◌, ⊤}
 use Rattle.std.specs.Result.{IfErr}
-use Rattle.std.specs.Global.{Vec}
 use Rattle.bpaf_doc.specs.declared.doc.Piece.{Piece}
 use Rattle.bpaf_doc.specs.Shape.{Part, Shape}
 use Rattle.bpaf_text.specs.Named.{Named, KeyWithValue, flag_part, argument_part}
@@ -24,8 +23,10 @@ use Rattle.bpaf_laws.specs.Laws.{Keeps, Lawful}
 use Rattle.bpaf_laws.specs.Product.{BothOutcome, ProductOutcome, joined}
 use Rattle.bpaf_laws.specs.Reading.{Readings, Outcome}
 use Rattle.bpaf_laws.specs.Repeat.{ManyOutcome, Steps}
+use Rattle.bpaf_core.specs.declared.info.ExtraParams.{ExtraParams}
+use Rattle.bpaf_core.specs.declared.info.ExtraParams.TheVariants as extra
 use Rattle.bpaf_core.specs.Ending.{EndsRun, Tells, leftover, memory, passed_on, refused, shown}
-use Rattle.bpaf_core.specs.Ending.{told, usage, wanting, Shows, ShowsHelp, shows_usage, is_answer}
+use Rattle.bpaf_core.specs.Ending.{told, usage, wanting, Shows, shows_usage, is_answer}
 use Rattle.bpaf_core.specs.Info.{RunInfo}
 use Rattle.bpaf_core.specs.Known.{IsLineContext}
 use Rattle.bpaf_core.specs.Run as run
@@ -270,3 +271,25 @@ module _ (describes : Shape → Type 0) (info : RunInfo) (given : Given) {T : Ty
       words_asked (Err (failure.Stdout doc full)) (failure.Stdout doc full) doc full runs refl refl
   answer_asked (Err (failure.Stderr doc)) runs = tt
   answer_asked (Err failure.Memory) runs = tt
+
+-- what was asked of a parser was asked of each whose shapes are among those of another
+pub asked_also : (describes others : Shape → Type 0) (info : RunInfo) (given : Given)
+    (doc : List Piece) (full : Bool) → ((shape : Shape) → describes shape → others shape)
+    → WasAsked describes info given doc full → WasAsked others info given doc full
+asked_also describes others info given doc full also was = record {
+  before = was.before;
+  after = was.after;
+  on_line = ⊎_elim (λ line. inl (line.0, also line.0 line.1, line.2)) (λ any. inr any) was.on_line;
+  asked = was.asked;
+  looked = was.looked;
+  shows = shows_also was.asked was.shows;
+}
+  where
+    shows_also : (asked : ExtraParams)
+        → Shows describes info asked was.after (failure.Stdout doc full)
+        → Shows others info asked was.after (failure.Stdout doc full)
+    shows_also (extra.Help more) shows = (
+      record { shape = shows.0.shape; shown = also _ shows.0.shown; prints = shows.0.prints },
+      shows.1,
+    )
+    shows_also (extra.Version version) shows = shows

@@ -1,26 +1,49 @@
--- From what a run says of the record's parser to options that are dealt out of the words.
-use Rattle.std.proofs.Common.{◌≡◌, ℕ, Bool, true, false, List, [], ◌∷◌, Option, Some, Result, Ok, Err, IfOk, sym, subst, ap, ◌∙◌, ⊎_elim}
+-- From what a run says of the record's parser to options that are dealt out of the words, or help that
+-- these ask for.
+use Rattle.std.proofs.Common.{◌≡◌, ℕ, Bool, true, false, List, [], ◌∷◌, Some, Result, Ok}
+use Rattle.std.proofs.Common.{Err, IfOk, codes, sym, subst, ap, ◌∙◌, ⊎_elim}
 use Rattle.std.specs.Global.{Vec}
+use Rattle.std.specs.Result.{IfErr}
 use Rattle.bpaf_doc.specs.declared.doc.Piece.{Piece}
+use Rattle.bpaf_doc.specs.Fold.{TextPieces}
 use Rattle.bpaf_doc.specs.Shape.{Shape, And, Many, Optional, members}
-use Rattle.bpaf_text.specs.Named.{Named, KeyWithValue, key_named}
+use Rattle.bpaf_text.specs.declared.params.ParseFlag.{ParseFlag}
+use Rattle.bpaf_text.specs.Named.{KeyWithValue, key_named}
 use Rattle.bpaf_text.specs.Meaning.{SpellsUnsigned}
 use Rattle.bpaf_words.specs.Arguments.{Given}
 use Rattle.bpaf_line.specs.Constructing.{IsContext}
 use Rattle.bpaf_line.specs.declared.failure.ParseFailure.{ParseFailure}
-use Rattle.bpaf_laws.specs.Reading.{Readings}
-use Rattle.bpaf_laws.specs.Argument.{ArgumentReads, argument_shape}
-use Rattle.bpaf_laws.specs.Flag.{FlagReads, flag_shape}
-use Rattle.bpaf_laws.specs.Repeat.{ManyReads, ManyDescribes}
-use Rattle.bpaf_laws.specs.Product.{BothReads, ProductReads, BothDescribes, LastDescribes, ProductDescribes}
+use Rattle.bpaf_line.specs.declared.failure.ParseFailure.TheVariants as failure
+use Rattle.bpaf_line.specs.Situation.{Context}
+use Rattle.bpaf_laws.specs.Reading.{Readings, Outcome}
+use Rattle.bpaf_laws.specs.Laws.{Lawful}
+use Rattle.bpaf_laws.specs.Argument.{ArgumentReads, ArgumentOutcome, argument_shape}
+use Rattle.bpaf_laws.specs.Flag.{FlagReads, FlagOutcome, flag_shape}
+use Rattle.bpaf_laws.specs.Repeat.{ManyReads, ManyOutcome, ManyDescribes}
+use Rattle.bpaf_laws.specs.Product.{BothReads, ProductReads, BothOutcome, ProductOutcome}
+use Rattle.bpaf_laws.specs.Product.{BothDescribes, LastDescribes, ProductDescribes}
+use Rattle.bpaf_laws.proofs.ArgumentLaws.{argument_lawful}
+use Rattle.bpaf_laws.proofs.FlagLaws.{flag_lawful}
+use Rattle.bpaf_laws.proofs.ProductLaws.{both_lawful, product_lawful}
+use Rattle.bpaf_laws.proofs.RepeatLaws.{many_lawful}
+use Rattle.bpaf_core.specs.declared.repeat.ParseMany.{ParseMany}
 use Rattle.bpaf_core.specs.Info.{RunInfo, plain_info}
 use Rattle.bpaf_core.specs.Known.{known_names}
 use Rattle.bpaf_core.specs.Dealt.{IsDealtOut}
-use Rattle.bpaf.specs.declared.leaves.positional.Position.{Position}
+use Rattle.bpaf_core.specs.Run.{RunsWords}
+use Rattle.bpaf.specs.declared.leaves.positional.ParsePositional.{ParsePositional}
 use Rattle.bpaf.specs.declared.leaves.positional.Position.TheVariants.{Unrestricted}
-use Rattle.bpaf.specs.Positional.{PositionalReads, positional_shape}
+use Rattle.bpaf.specs.Asked.{WasAsked}
+use Rattle.bpaf.specs.Positional.{PositionalReads, PositionalOutcome, positional_shape}
+use Rattle.bpaf.specs.PositionalLaws.{positional_lawful}
+use Rattle.bpaf.proofs.Asking.{ShowsNothing, answer_asked, asked_also, both_hands_on, product_hands_on}
+use Rattle.bpaf.proofs.Asking.{flag_hands_on, argument_hands_on, many_hands_on, positional_hands_on}
+use Rattle.bpaf.proofs.Helps.{flag_without_help, argument_without_help}
 use Rattle.bpaf_demo.specs.declared.options.Options.{Options}
-use Rattle.bpaf_demo.specs.Record.{IsDealtOptions, IsKept, MeansText, String, verbose_names, number_key, program_given, program_known}
+use Rattle.bpaf_demo.specs.Record.{IsDealtOptions, IsKept, MeansText, String, verbose_names}
+use Rattle.bpaf_demo.specs.Record.{number_key, program_given, program_known}
+use Rattle.bpaf_demo.specs.Shown.{IsProgramShape, ShowsHelpAsked, number_shown}
+use Rattle.bpaf_demo.specs.Shown.{verbose_shown}
 
 -- the values of the record's fields
 abbrev pub FieldValues : Type 0
@@ -30,46 +53,29 @@ FieldValues = Bool × (ℕ × Vec String)
 abbrev pub record_of : FieldValues → Options
 record_of x = record { verbose = x.0; num = x.1.0; files = x.1.1 }
 
--- what the record's parser is made of: its keys, its word, and what it knows beside them
+-- what the record's parser is made of, and what it knows beside that
 pub record Parts : Type 0 where
-  pub verbose : Named
-  pub present : Bool
-  pub absent : Option Bool
+  pub verbose : ParseFlag Bool
   pub num : KeyWithValue
-  pub position : Position
+  pub files : ParseMany (ParsePositional String)
   pub info : RunInfo
 
--- those of the program, where nothing else is set
-abbrev pub program_parts : Parts
-program_parts = record {
-  verbose = key_named verbose_names;
-  present = true;
-  absent = Some false;
-  num = number_key;
-  position = Unrestricted;
-  info = plain_info;
-}
-
--- these parts together
-abbrev pub parts_of : Named → Bool → Option Bool → KeyWithValue → Position → RunInfo → Parts
-parts_of verbose present absent num position info = record {
-  verbose = verbose;
-  present = present;
-  absent = absent;
-  num = num;
-  position = position;
-  info = info;
-}
-
--- each is that of the program
-pub record AreProgramParts (verbose : Named) (present : Bool) (absent : Option Bool)
-    (num : KeyWithValue) (position : Position) (info : RunInfo) : Type 0 where
-  pub verbose_is : verbose ≡ program_parts.verbose
-  pub present_is : present ≡ program_parts.present
-  pub absent_is : absent ≡ program_parts.absent
-  pub num_is : num ≡ program_parts.num
-  pub position_is : position ≡ program_parts.position
-  pub info_is : info ≡ program_parts.info
+-- parts that are those of the program
+pub record AreProgramParts (parts : Parts) : Type 0 where
+  pub verbose_help : List Piece
+  pub num_help : List Piece
+  pub file_help : List Piece
+  pub verbose_told : TextPieces (codes "Print more") verbose_help
+  pub num_told : TextPieces (codes "A number") num_help
+  pub file_told : TextPieces (codes "Files to read") file_help
+  pub verbose : parts.verbose.named ≡ verbose_shown verbose_help
+  pub present : parts.verbose.present ≡ true
+  pub absent : parts.verbose.absent ≡ Some false
+  pub num : parts.num ≡ number_shown num_help
+  pub position : parts.files.inner.position ≡ Unrestricted
+  pub metavar : parts.files.inner.metavar.0.now ≡ codes "FILE"
+  pub file : parts.files.inner.help ≡ Some file_help
+  pub info : parts.info ≡ plain_info
 
 -- which records a constructor makes of the fields' values
 abbrev pub Makes : Type 1
@@ -79,96 +85,184 @@ Makes = FieldValues → Options → Type 0
 abbrev pub MakesRecord : Makes → Type 0
 MakesRecord makes = (x : FieldValues) (v : Options) → makes x v → v ≡ record_of x
 
--- what the files read
-abbrev pub FilesRead : Position → Readings (Vec String)
-FilesRead position = ManyReads (PositionalReads String MeansText position)
+module _ (makes : Makes) (parts : Parts) where
+  -- what the switch reads
+  abbrev pub VerboseReads : Readings Bool
+  VerboseReads = FlagReads Bool IsKept parts.verbose.named parts.verbose.present parts.verbose.absent
 
--- what the record's parser reads
-abbrev pub RecordReads : Makes → Parts → Readings Options
-RecordReads makes parts =
-    ProductReads FieldValues Options
-    (BothReads Bool (ℕ × Vec String) (FlagReads Bool IsKept parts.verbose parts.present parts.absent)
-    (BothReads ℕ (Vec String) (ArgumentReads ℕ (SpellsUnsigned 64) parts.num)
-    (FilesRead parts.position)))
-    makes
+  -- what it answers
+  abbrev pub VerboseOutcome : Outcome Bool
+  VerboseOutcome = FlagOutcome IsKept parts.verbose.named parts.verbose.present parts.verbose.absent
 
--- what the record's parser shows, where words have this metavar and this help
-abbrev pub RecordDescribes : Parts → List ℕ → Option (List Piece) → Shape → Type 0
-RecordDescribes parts file help =
-    ProductDescribes (BothDescribes (λ shape. shape ≡ flag_shape parts.verbose parts.absent)
-    (BothDescribes (λ shape. shape ≡ argument_shape parts.num)
-    (LastDescribes (ManyDescribes (λ shape. shape ≡ positional_shape parts.position file help)))))
+  -- what a file reads
+  abbrev pub FileReads : Readings String
+  FileReads = PositionalReads String MeansText parts.files.inner.position
 
--- the record's parser deals a value out of what is given
-abbrev pub RecordDealsOut : Makes → Parts → List ℕ → Option (List Piece) → Given → Options → Type 0
-RecordDealsOut makes parts file help given v =
-    IsDealtOut Options (RecordReads makes parts) (RecordDescribes parts file help) parts.info given v
+  -- what it answers
+  abbrev pub FileOutcome : Outcome String
+  FileOutcome =
+      PositionalOutcome MeansText parts.files.inner.position parts.files.inner.metavar.0.now
 
--- what the files show
-abbrev files_shape : List ℕ → Option (List Piece) → Shape
-files_shape file help = Many (Optional (positional_shape Unrestricted file help))
+  -- what the record's parser reads
+  abbrev pub RecordReads : Readings Options
+  RecordReads =
+      ProductReads FieldValues Options
+      (BothReads Bool (ℕ × Vec String) VerboseReads
+      (BothReads ℕ (Vec String) (ArgumentReads ℕ (SpellsUnsigned 64) parts.num)
+      (ManyReads FileReads)))
+      makes
 
--- what the switch shows
-abbrev switch_shape : Shape
-switch_shape = flag_shape (key_named verbose_names) (Some false)
+  -- what it answers
+  abbrev pub RecordOutcome : Outcome Options
+  RecordOutcome =
+      ProductOutcome
+      (BothOutcome VerboseOutcome
+      (BothOutcome (ArgumentOutcome (SpellsUnsigned 64) parts.num)
+      (ManyOutcome FileOutcome parts.files.catch)))
+      makes
 
--- what the number shows
-abbrev number_shape : Shape
-number_shape = argument_shape number_key
+  -- a shape is that of a file
+  abbrev pub IsFileShape : Shape → Type 0
+  IsFileShape shape =
+      shape ≡ positional_shape parts.files.inner.position parts.files.inner.metavar.0.now
+      parts.files.inner.help
 
-module _ (file : List ℕ) (help : Option (List Piece)) where
-  -- the known names of what the program's parser shows
-  known_shown : (shape : Shape) → RecordDescribes program_parts file help shape
-      → known_names plain_info shape ≡ program_known
-  known_shown shape shown =
-      let switch = shown.1 in
-      let number = switch.3 in
-      let files = number.3 in
-      let many : files.0 ≡ files_shape file help =
-      files.1.2 ∙ ap (λ x. Many (Optional x)) files.1.1 in
-      let last : number.1 ≡ files_shape file help ∷ [] = files.2 ∙ ap (λ x. x ∷ []) many in
-      let later : switch.1 ≡ number_shape ∷ files_shape file help ∷ [] =
-      number.4 ∙ (ap (λ x. x ∷ number.1) number.2 ∙ ap (λ x. number_shape ∷ x) last) in
-      let are : shown.0 ≡ switch_shape ∷ number_shape ∷ files_shape file help ∷ [] =
-      switch.4 ∙ (ap (λ x. x ∷ switch.1) switch.2 ∙ ap (λ x. switch_shape ∷ x) later) in
-      ap (known_names plain_info) (shown.2 ∙ ap (λ x. And (members x)) are)
+  -- what the record's parser shows
+  abbrev pub RecordDescribes : Shape → Type 0
+  RecordDescribes =
+      ProductDescribes
+      (BothDescribes (λ shape. shape ≡ flag_shape parts.verbose.named parts.verbose.absent)
+      (BothDescribes (λ shape. shape ≡ argument_shape parts.num)
+      (LastDescribes (ManyDescribes IsFileShape))))
 
-  module _ (makes : Makes) (words : List (List ℕ)) where
-    -- what the record's parser deals out are options dealt out of the words
-    options_dealt : MakesRecord makes → (v : Options)
-        → RecordDealsOut makes program_parts file help (program_given words) v
-        → IsDealtOptions words v
-    options_dealt made v dealt =
-        let read = dealt.read.read in
-        let values = dealt.read.values in
-        let others = read.rest_read in
-        subst (IsDealtOptions words) (sym (made values v dealt.read.made)) (record {
-          context = dealt.context;
-          is_context = ⊎_elim
-              (λ shown. subst (λ known. IsContext known (program_given words) dealt.context)
-              (known_shown shown.0 shown.1) shown.2)
-              (λ any. any program_known)
-              dealt.is_context;
-          verbose_share = read.first_share;
-          num_share = others.first_share;
-          files_share = others.rest_share;
-          other_share = read.rest_share;
-          joins = read.joins;
-          others_join = others.joins;
-          verbose = read.first_read;
-          num = others.first_read;
-          files = others.rest_read;
-        })
+  -- the record's parser deals a value out of what is given
+  abbrev pub RecordDealsOut : Given → Options → Type 0
+  RecordDealsOut given v =
+      IsDealtOut Options RecordReads RecordDescribes parts.info given v
 
-    -- an answer of the record's parser on the program's words
-    pub answer_dealt : (verbose : Named) (present : Bool) (absent : Option Bool)
-        (num : KeyWithValue) (position : Position) (info : RunInfo) (given : Given)
-        → MakesRecord makes → AreProgramParts verbose present absent num position info
-        → given ≡ program_given words → (r : Result Options ParseFailure)
-        → IfOk r (RecordDealsOut makes (parts_of verbose present absent num position info)
-        file help given)
-        → IfOk r (IsDealtOptions words)
-    answer_dealt verbose present absent num position info given made parts is_given (Ok v) dealt =
-        options_dealt made v
-        (rw (parts.verbose_is, parts.present_is, parts.absent_is, parts.num_is, parts.position_is, parts.info_is, is_given) at dealt)
-    answer_dealt verbose present absent num position info given made parts is_given (Err f) dealt = tt
+  -- a run of the record's parser
+  abbrev pub RecordRuns : Given → Result Options ParseFailure → Type 0
+  RecordRuns given r =
+      RunsWords Options RecordOutcome RecordDescribes parts.info given r
+
+  -- a file keeps to the laws
+  file_lawful : Lawful String FileOutcome FileReads
+  file_lawful =
+      positional_lawful String MeansText parts.files.inner.position
+      parts.files.inner.metavar.0.now
+
+  -- the record's parser keeps to the laws
+  record_lawful : Lawful Options RecordOutcome RecordReads
+  record_lawful =
+      product_lawful makes
+      (both_lawful
+      (flag_lawful Bool IsKept parts.verbose.named parts.verbose.present parts.verbose.absent)
+      (both_lawful (argument_lawful ℕ (SpellsUnsigned 64) parts.num)
+      (many_lawful file_lawful parts.files.catch)))
+
+  -- it shows nothing by itself
+  record_shows_nothing : ShowsNothing RecordOutcome
+  record_shows_nothing =
+      let none : Context → List Piece → Bool → Type 0 = λ context doc full. ⊥ in
+      product_hands_on none makes
+      (both_hands_on none
+      (flag_lawful Bool IsKept parts.verbose.named parts.verbose.present parts.verbose.absent)
+      (flag_hands_on none IsKept parts.verbose.named parts.verbose.present parts.verbose.absent)
+      (both_hands_on none (argument_lawful ℕ (SpellsUnsigned 64) parts.num)
+      (argument_hands_on none (SpellsUnsigned 64) parts.num)
+      (many_hands_on none file_lawful
+      (positional_hands_on none MeansText parts.files.inner.position
+      parts.files.inner.metavar.0.now) parts.files.catch)))
+
+  module _ (program : AreProgramParts parts) where
+    -- it shows what the program does
+    program_shown : (shape : Shape) → RecordDescribes shape → IsProgramShape shape
+    program_shown shape shown =
+        let verbose = shown.1 in
+        let num = verbose.3 in
+        let files = num.3 in
+        let first : verbose.0 ≡ flag_shape (verbose_shown program.verbose_help) (Some false) =
+        rw (program.verbose, program.absent) at verbose.2 in
+        let second : num.0 ≡ argument_shape (number_shown program.num_help) =
+        rw program.num at num.2 in
+        let third : files.0
+        ≡ Many (Optional (positional_shape Unrestricted (codes "FILE") (Some program.file_help))) =
+        files.1.2 ∙ ap (λ inside. Many (Optional inside))
+        (rw (program.position, program.metavar, program.file) at files.1.1) in
+        let are : shown.0
+        ≡ flag_shape (verbose_shown program.verbose_help) (Some false)
+        ∷ argument_shape (number_shown program.num_help)
+        ∷ Many (Optional (positional_shape Unrestricted (codes "FILE") (Some program.file_help)))
+        ∷ [] =
+        verbose.4 ∙ (ap (λ x. x ∷ verbose.1) first
+        ∙ ap (λ xs. flag_shape (verbose_shown program.verbose_help) (Some false) ∷ xs)
+        (num.4 ∙ (ap (λ x. x ∷ num.1) second
+        ∙ ap (λ xs. argument_shape (number_shown program.num_help) ∷ xs)
+        (files.2 ∙ ap (λ x. x ∷ []) third)))) in
+        record {
+          verbose = program.verbose_help;
+          num = program.num_help;
+          file = program.file_help;
+          verbose_help = program.verbose_told;
+          num_help = program.num_told;
+          file_help = program.file_told;
+          is = shown.2 ∙ ap (λ shapes. And (members shapes)) are;
+        }
+
+    -- the known names of what the program shows
+    known_shown : (shape : Shape) → IsProgramShape shape
+        → known_names plain_info shape ≡ program_known
+    known_shown shape is = ap (known_names plain_info) is.is
+
+    module _ (words : List (List ℕ)) where
+      -- what the record's parser deals out are options dealt out of the words
+      options_dealt : MakesRecord makes → (v : Options)
+          → RecordDealsOut (program_given words) v → IsDealtOptions words v
+      options_dealt made v dealt =
+          let read = dealt.read.read in
+          let values = dealt.read.values in
+          let others = read.rest_read in
+          subst (IsDealtOptions words) (sym (made values v dealt.read.made)) (record {
+            context = dealt.context;
+            is_context = ⊎_elim
+                (λ shown. subst (λ known. IsContext known (program_given words) dealt.context)
+                (ap (λ info. known_names info shown.0) program.info
+                ∙ known_shown shown.0 (program_shown shown.0 shown.1)) shown.2)
+                (λ any. any program_known)
+                dealt.is_context;
+            verbose_share = read.first_share;
+            num_share = others.first_share;
+            files_share = others.rest_share;
+            other_share = read.rest_share;
+            joins = read.joins;
+            others_join = others.joins;
+            verbose = flag_without_help Bool IsKept (key_named verbose_names)
+                program.verbose_help true (Some false) dealt.context read.first_share values.0
+                (rw (program.verbose, program.present, program.absent) at read.first_read);
+            num = argument_without_help ℕ (SpellsUnsigned 64) number_key program.num_help
+                dealt.context others.first_share values.1.0
+                (rw program.num at others.first_read);
+            files = rw program.position at others.rest_read;
+          })
+
+      -- an answer of the record's parser on the program's words
+      pub answer_dealt : (given : Given) → MakesRecord makes → given ≡ program_given words
+          → (r : Result Options ParseFailure) → IfOk r (RecordDealsOut given)
+          → IfOk r (IsDealtOptions words)
+      answer_dealt given made is (Ok v) dealt =
+          options_dealt made v (subst (λ g. RecordDealsOut g v) is dealt)
+      answer_dealt given made is (Err f) dealt = tt
+
+      -- what it shows in place of one is help that the words ask for
+      pub help_asked : (given : Given) → given ≡ program_given words
+          → (r : Result Options ParseFailure) → RecordRuns given r
+          → IfErr r (ShowsHelpAsked words)
+      help_asked given is (Ok v) runs = tt
+      help_asked given is (Err (failure.Stdout doc full)) runs =
+          let was : WasAsked RecordDescribes parts.info given doc full =
+          answer_asked RecordDescribes parts.info given record_lawful record_shows_nothing
+          (ap (λ info. info.help_if_no_args) program.info) (Err (failure.Stdout doc full)) runs in
+          asked_also RecordDescribes IsProgramShape plain_info (program_given words) doc full
+          program_shown (rw (program.info, is) at was)
+      help_asked given is (Err (failure.Stderr doc)) runs = tt
+      help_asked given is (Err failure.Memory) runs = tt

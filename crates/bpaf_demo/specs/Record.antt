@@ -1,8 +1,7 @@
 -- Options that are dealt out of the words, and what a run of the program does.
-use Rattle.std.specs.Prelude.{◌≡◌, ◌⊎◌, ℕ, Bool, true, false, List, [], ◌∷◌, Option, Some, codes}
+use Rattle.std.specs.Prelude.{◌≡◌, ℕ, Bool, true, false, List, [], ◌∷◌, Some, codes}
 use Rattle.std.specs.Prelude.{string_bytes, String as StringIn}
 use Rattle.std.specs.declared.alloc.Global.{Global}
-use Rattle.std.specs.Io.KnownBytes.{Keeps, Appends}
 use Rattle.bpaf_doc.specs.Names.{Names}
 use Rattle.bpaf_text.specs.Meaning.{SpellsUnsigned}
 use Rattle.bpaf_text.specs.Named.{KeyWithValue, key_named}
@@ -17,7 +16,6 @@ use Rattle.bpaf_laws.specs.Repeat.{ManyReads}
 use Rattle.bpaf.specs.declared.leaves.positional.Position.TheVariants.{Unrestricted}
 use Rattle.bpaf.specs.Positional.{PositionalReads}
 use Rattle.bpaf_demo.specs.declared.options.Options.{Options}
-use Rattle.bpaf_demo.specs.Lines.{lines}
 
 -- the names of the switch
 abbrev pub verbose_names : Names
@@ -68,16 +66,3 @@ pub record IsDealtOptions (words : List (List ℕ)) (v : Options) : Type 0 where
   pub num : ArgumentReads ℕ (SpellsUnsigned 64) number_key context num_share v.num
   pub files : ManyReads (PositionalReads String MeansText Unrestricted)
       context files_share v.files
-
--- status 0: nothing on the error writer, and on the other exactly the lines of options that are
--- dealt out of the words
-pub record Succeeds (words : List (List ℕ)) (out out_after err err_after : Option (List ℕ)) : Type 0
-  where
-    pub quiet : Keeps err err_after
-    pub options : Options
-    pub dealt : IsDealtOptions words options
-    pub printed : Appends out out_after (lines options)
-
--- status 1: nothing on the writer, or there are such options
-abbrev pub Fails : List (List ℕ) → Option (List ℕ) → Option (List ℕ) → Type 0
-Fails words out out_after = Keeps out out_after ⊎ ((v : Options) × IsDealtOptions words v)

@@ -8,11 +8,13 @@
 //! bpaf_demo -v -n 3      verbose: true, num: 3, a line each, status 0
 //! bpaf_demo --num=3      verbose: false, num: 3
 //! bpaf_demo -n 3 a b     verbose: false, num: 3, file: a, file: b
-//! bpaf_demo -n           Error: refused, on standard error, status 1
+//! bpaf_demo --help       the help page, status 0
+//! bpaf_demo -n           Error: `-n` requires an argument `NUM`, on standard error, status 1
 //! ```
 //!
 //! What is proved of it: where the writers tell their bytes, status 0 comes only where the value that
-//! was printed is dealt out of the words (specs/Record.antt, specs/Lines.antt).
+//! was printed is dealt out of the words (specs/Record.antt, specs/Lines.antt), or where the words ask
+//! for help and its page was printed (specs/Shown.antt, specs/Running.antt).
 #![tactic(auto)]
 
 mod options;

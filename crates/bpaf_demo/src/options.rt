@@ -1,5 +1,7 @@
 ghost use Rattle.std.specs.Prelude.{IfOk, map, string_bytes};
+ghost use Rattle.std.specs.Result.{IfErr};
 ghost use Rattle.bpaf_demo.specs.Record.{IsDealtOptions};
+ghost use Rattle.bpaf_demo.specs.Shown.{ShowsHelpAsked};
 
 use bpaf::{Args, Doc, ParseFailure, Parser, construct, positional, short};
 use std::alloc::Global;
@@ -12,9 +14,11 @@ pub struct Options {
     pub files: Vec<String>,
 }
 
-/// The options that the words give; refused where they give none, or for want of memory.
+/// The options that the words give; refused where they give none, or for want of memory. Help is
+/// answered as a refusal that shows it, and only where the words ask for it.
 pub fn read_options(alloc: Global, words: &[String]) -> Result<Options, ParseFailure>
-    ensures { IfOk result (λ v. IsDealtOptions (map string_bytes words.now) v) }
+    ensures dealt { IfOk result (λ v. IsDealtOptions (map string_bytes words.now) v) }
+    ensures asked { IfErr result (λ f. ShowsHelpAsked (map string_bytes words.now) f) }
 {
     let verbose = short(alloc, 'v')?
         .long("verbose")?

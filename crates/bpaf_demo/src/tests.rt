@@ -34,10 +34,12 @@ fn ran(alloc: Global, words: &[&str]) -> Result<Written, Fail> {
     })
 }
 
-/// Whether these words are refused as they should be: a message on the one writer, nothing on the other.
-fn is_refused(alloc: Global, words: &[&str]) -> Result<bool, Fail> {
+/// Whether these words are refused as they should be: this message on the one writer, nothing on the
+/// other.
+fn is_refused(alloc: Global, words: &[&str], message: &str) -> Result<bool, Fail> {
     let Written { out, err, status } = ran(alloc, words)?;
-    Ok(out.is_empty() && err.as_str() == "Error: refused\n" && status == 1)
+    let told = format!(in alloc; "Error: {message}\n")?;
+    Ok(out.is_empty() && err.as_str() == told.as_str() && status == 1)
 }
 
 /// Whether these words give options, and these lines alone are written.
@@ -69,10 +71,31 @@ fn files_are_printed(rt: HostRuntime) -> Result<(), Fail> {
 #[test]
 fn refusals_print_no_options(rt: HostRuntime) -> Result<(), Fail> {
     let a = rt.alloc();
-    assert!(rt; is_refused(a, &[])?);
-    assert!(rt; is_refused(a, &["-n"])?);
-    assert!(rt; is_refused(a, &["-n", "3", "-n", "4"])?);
-    assert!(rt; is_refused(a, &["x"])?);
-    assert!(rt; is_refused(a, &["--verbose=yes", "-n", "3"])?);
+    let missing = "expected `--num=NUM`, pass `--help` for usage information";
+    assert!(rt; is_refused(a, &[], missing)?);
+    assert!(rt; is_refused(a, &["-n"], "`-n` requires an argument `NUM`")?);
+    let twice = "argument `-n` cannot be used multiple times in this context";
+    assert!(rt; is_refused(a, &["-n", "3", "-n", "4"], twice)?);
+    assert!(rt; is_refused(a, &["x"], missing)?);
+    let words = ["--verbos", "-n", "3"];
+    assert!(rt; is_refused(a, &words, "`--verbos` is not expected in this context")?);
+    Ok(())
+}
+
+#[test]
+fn help_is_printed(rt: HostRuntime) -> Result<(), Fail> {
+    let page = "Usage: bpaf_demo [--verbose] --num=NUM [FILE]...
+
+Available positional items:
+    FILE           Files to read
+
+Available options:
+    -v, --verbose  Print more
+    -n, --num=NUM  A number
+    -h, --help     Prints help information
+";
+    let a = rt.alloc();
+    assert!(rt; prints(a, &["--help"], page)?);
+    assert!(rt; prints(a, &["-n", "3", "-v", "-h"], page)?);
     Ok(())
 }

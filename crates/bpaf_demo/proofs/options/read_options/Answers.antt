@@ -1,19 +1,39 @@
 use Rattle.std.proofs.Common.{rules}
 use Rattle.bpaf_words.specs.Arguments.{given_of}
-use Rattle.bpaf_demo.proofs.Dealing.{answer_dealt}
+use Rattle.bpaf_demo.proofs.Dealing.{Parts, AreProgramParts, answer_dealt, help_asked}
 use Rattle.bpaf_demo.proofs.options.read_options.Goals as goal
 
 pub returns : goal.returns
 returns c =
-    answer_dealt _ _ _ _ _ _ _ _ _ _ (given_of c.set_name.result)
-    (λ x v e. search rules)
-    (record {
-      verbose_is = search rules;
-      present_is = search rules;
-      absent_is = search rules;
-      num_is = search rules;
-      position_is = search rules;
-      info_is = search rules;
-    })
-    (search rules)
-    _ c.run_once.ensures.dealt
+    let options = c.in_ok-to_options.field-0 in
+    let fields = options.inner.fields in
+    let parts : Parts =
+    record {
+      verbose = fields.first;
+      num = fields.rest.first;
+      files = fields.rest.rest.last;
+      info = options.info;
+    } in
+    let program : AreProgramParts parts =
+    record {
+      verbose_help = c.in_ok-from_text.field-0;
+      num_help = c.in_ok-from_text-2.field-0;
+      file_help = c.in_ok-from_text-3.field-0;
+      verbose_told = search rules;
+      num_told = search rules;
+      file_told = search rules;
+      verbose = search rules;
+      present = search rules;
+      absent = search rules;
+      num = search rules;
+      position = search rules;
+      metavar = search rules;
+      file = search rules;
+      info = search rules;
+    } in
+    record {
+      dealt = answer_dealt _ parts program _ (given_of c.set_name.result) (λ x v e. search rules)
+          (search rules) _ c.run_once.ensures.dealt;
+      asked = help_asked _ parts program _ (given_of c.set_name.result) (search rules) _
+          c.run_once.ensures.outcome;
+    }
