@@ -30,6 +30,8 @@ pub(crate) enum Call<'a> {
     Path,
     Env(&'a str),
     Present(usize),
+    EarlierKey(usize),
+    Leftover,
     Items,
     Spelled,
 }
@@ -132,6 +134,8 @@ fn look(state: &State, call: Call<'_>, answers: &mut String) -> Result<(), Alloc
         Call::Path => tell(state.path(), answers),
         Call::Env(name) => tell(state.env(name), answers),
         Call::Present(place) => tell(state.present(place), answers),
+        Call::EarlierKey(place) => tell(state.earlier_key(place), answers),
+        Call::Leftover => tell(state.leftover(), answers),
         Call::Items => list(state, answers),
         _ => spell(state, answers),
     }
