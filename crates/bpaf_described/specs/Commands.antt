@@ -9,12 +9,20 @@ use Rattle.bpaf_laws.specs.Command.{Called, CommandPart, opening_words}
 use Rattle.bpaf_laws.proofs.Keeping.{keeps_same}
 use Rattle.bpaf_core.specs.Adjacent.{EitherCommandOutcome, EitherCommandReads}
 use Rattle.bpaf_core.specs.AdjacentLaws.{either_lawful}
+use Rattle.bpaf_core.specs.Ending.{Ending, EndsRun}
+use Rattle.bpaf_core.specs.EndingLaws.{run_ending}
+use Rattle.bpaf_core.specs.Info.{plain_info}
 use Rattle.bpaf_described.specs.declared.value.Value.{Value}
+
+-- how the run of such a command ends: nothing is set beside its parser
+abbrev pub PlainEnding : (Shape → Type 0) → Ending
+PlainEnding describes = EndsRun describes plain_info
 
 -- what a command of these names answers, adjacent or plain, without a help
 abbrev pub HelplessOutcome : Bool → Called → Outcome Value → (Shape → Type 0) → Outcome Value
 HelplessOutcome adjacent called inner describes =
-    EitherCommandOutcome adjacent Value inner called (CommandPart called None describes)
+    EitherCommandOutcome adjacent Value inner (PlainEnding describes) called
+    (CommandPart called None describes)
 
 -- that; or want of memory for a copy of its names
 abbrev pub CalledOutcome : Bool → Called → Outcome Value → (Shape → Type 0) → Outcome Value
@@ -34,7 +42,8 @@ pub called_lawful : {inner : Outcome Value} {reads : Readings Value} (adjacent :
     → Lawful Value (CalledOutcome adjacent called inner describes)
     (CalledReads adjacent called reads)
 called_lawful adjacent called describes law =
-    let command = either_lawful law called (CommandPart called None describes) adjacent in
+    let command = either_lawful law (run_ending describes plain_info) called
+        (CommandPart called None describes) adjacent in
     record {
       ok = λ s t v o. command.ok s t v o;
       err = λ s t e o.

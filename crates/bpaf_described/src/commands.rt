@@ -1,6 +1,7 @@
 ghost use Rattle.std.specs.Prelude.{◌≡◌, IfOk, None};
 ghost use Rattle.bpaf_doc.specs.Shape.{shape_of};
 ghost use Rattle.bpaf_laws.specs.Command.{CommandDescribes};
+ghost use Rattle.bpaf_core.specs.Info.{plain_info};
 ghost use Rattle.bpaf_described.specs.Commands.{CalledOutcome};
 
 use crate::lent::Lent;
@@ -12,7 +13,8 @@ use std::marker::PhantomData;
 
 /// The run of a parser that is lent.
 fn run_of<'p, P>(inner: &'p P, alloc: Global) -> OptionParser<Value, Lent<'p, P>>
-    ensures { result.inner.inner.now ≡ inner.now }
+    ensures inner { result.inner.inner.now ≡ inner.now }
+    ensures info { result.info ≡ plain_info }
 {
     OptionParser {
         inner: Lent { inner },

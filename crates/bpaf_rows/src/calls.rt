@@ -31,6 +31,7 @@ pub(crate) enum Call<'a> {
     Env(&'a str),
     Present(usize),
     EarlierKey(usize),
+    Leftover,
     Items,
     Spelled,
 }
@@ -134,6 +135,7 @@ fn look(state: &State, call: Call<'_>, answers: &mut String) -> Result<(), Alloc
         Call::Env(name) => tell(state.env(name), answers),
         Call::Present(place) => tell(state.present(place), answers),
         Call::EarlierKey(place) => tell(state.earlier_key(place), answers),
+        Call::Leftover => tell(state.leftover(), answers),
         Call::Items => list(state, answers),
         _ => spell(state, answers),
     }

@@ -7,6 +7,8 @@
 #![tactic(auto)]
 
 #[cfg(test)]
+mod asked;
+#[cfg(test)]
 mod calls;
 #[cfg(test)]
 mod combinators;
@@ -14,6 +16,8 @@ mod combinators;
 mod commands;
 #[cfg(test)]
 mod counting;
+#[cfg(test)]
+mod defaults;
 #[cfg(test)]
 mod failures;
 #[cfg(test)]
@@ -27,8 +31,12 @@ mod lines;
 #[cfg(test)]
 mod messages;
 #[cfg(test)]
+mod pages;
+#[cfg(test)]
 mod shared;
 #[cfg(test)]
 mod sources;
+#[cfg(test)]
+mod texts;
 #[cfg(test)]
 mod wrappers;

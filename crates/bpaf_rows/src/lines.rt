@@ -516,6 +516,40 @@ const SCOPED: &[Row<'static>] = &[
     },
 ];
 
+/// What is told of items that no parser took.
+const LEFT: &[Row<'static>] = &[
+    // a key is told with the last earlier one of its kind and name
+    Row {
+        words: &["-v", "--v", "-v", "v", "-v"],
+        flags: &[],
+        arguments: &[],
+        calls: &[
+            Call::Leftover,
+            Call::TakeFlag(&['v'], &["v"]),
+            Call::Leftover,
+            Call::TakeFlag(&['v'], &["v"]),
+            Call::Leftover,
+            Call::EarlierKey(0),
+            Call::EarlierKey(1),
+            Call::EarlierKey(3),
+            Call::EarlierKey(4),
+            Call::EarlierKey(5),
+            Call::Remove(2),
+            Call::Leftover,
+            Call::Remove(3),
+            Call::Remove(4),
+            Call::Leftover,
+        ],
+        wanted: "Some(Unconsumed(0));true;Some(Unconsumed(1));true;Some(OnlyOnce(0, 2));\
+            None;None;None;Some(2);None;Some(Unconsumed(3));None;",
+    },
+];
+
+#[test]
+fn leftovers_are_told(rt: HostRuntime) -> Result<(), Fail> {
+    walk(&rt, LEFT)
+}
+
 #[test]
 fn scope_and_path_are_changed(rt: HostRuntime) -> Result<(), Fail> {
     walk(&rt, SCOPED)

@@ -3,7 +3,7 @@
 //! A comparison stands here and not in the tests: the proof of a function grows faster than its
 //! steps.
 use bpaf::params::{ParseArgument, ParseFlag, ParsePositional};
-use bpaf::{Args, Parser, positional, short};
+use bpaf::{Args, OptionParser, ParseFailure, Parser, positional, short};
 use std::alloc::{AllocError, Global};
 use std::fmt::Debug;
 use std::process::Abort;
@@ -63,4 +63,40 @@ pub(crate) fn prints<T: Debug + Drop>(
     wanted: &str,
 ) -> Result<(), Fail> {
     reads(rt, printed(rt.alloc(), found), wanted)
+}
+
+/// What a run answers, as a line: `ok` and the value, `err` and the message, `out` and a text that
+/// was asked for, or `full` and one that was asked for in full.
+fn push_answer<T: Debug + Drop>(
+    answer: Result<T, ParseFailure>,
+    out: &mut String,
+) -> Result<(), AllocError> {
+    match answer {
+        Ok(value) => writeln!(out, "ok {value:?}"),
+        Err(ParseFailure::Memory) => Err(AllocError),
+        Err(ParseFailure::Stderr(doc)) => {
+            let text = doc.monochrome(true)?;
+            writeln!(out, "err {text}")
+        }
+        Err(ParseFailure::Stdout(doc, full)) => {
+            let text = doc.monochrome(full)?;
+            let kind = if full { "full" } else { "out" };
+            writeln!(out, "{kind} {text}")
+        }
+    }
+}
+
+/// What a parser answers to lines of words, one after the other.
+pub(crate) fn answers<T: Debug + Drop, P: Parser<T> + Drop>(
+    alloc: Global,
+    options: OptionParser<T, P>,
+    lines: &[&[&str]],
+) -> Result<String, AllocError>
+    requires { P.can_eval options.inner }
+{
+    let mut out = String::new(alloc);
+    for words in lines {
+        push_answer(options.run_inner(Args::from(*words)), &mut out)?;
+    }
+    Ok(out)
 }

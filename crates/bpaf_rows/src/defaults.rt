@@ -1,0 +1,77 @@
+//! Defaults that a help page shows.
+use crate::shared::{answers, file, num, reads};
+use bpaf::Parser;
+use std::alloc::{AllocError, Global};
+use std::test::Fail;
+
+/// A number with a default as Display prints it.
+fn displayed(alloc: Global) -> Result<String, AllocError> {
+    let n = num(alloc)?.fallback(7).display_fallback(alloc)?;
+    answers(alloc, n.to_options(alloc)?, &[&["--help"], &[]])
+}
+
+/// A number with a default as Debug prints it.
+fn debugged(alloc: Global) -> Result<String, AllocError> {
+    let n = num(alloc)?.fallback(7).debug_fallback(alloc)?;
+    answers(alloc, n.to_options(alloc)?, &[&["--help"]])
+}
+
+/// A number with a default as a closure writes it.
+fn formatted(alloc: Global) -> Result<String, AllocError> {
+    let n = num(alloc)?.fallback(7);
+    let n = n.format_fallback(alloc, |n| format!(in alloc; "{n} or so"))?;
+    answers(alloc, n.to_options(alloc)?, &[&["--help"]])
+}
+
+/// The page of a number and its default, and the default.
+const PAGE: &str = "out Usage: [-n=NUM]\n\n\
+    Available options:\n    \
+    -n=NUM\n                \
+    [default: 7]\n    \
+    -h, --help  Prints help information\n\n";
+
+const PAGE_AND_VALUE: &str = "out Usage: [-n=NUM]\n\n\
+    Available options:\n    \
+    -n=NUM\n                \
+    [default: 7]\n    \
+    -h, --help  Prints help information\n\n\
+    ok 7\n";
+
+const FORMATTED: &str = "out Usage: [-n=NUM]\n\n\
+    Available options:\n    \
+    -n=NUM\n                \
+    [default: 7 or so]\n    \
+    -h, --help  Prints help information\n\n";
+
+#[test]
+fn defaults_are_shown(rt: HostRuntime) -> Result<(), Fail> {
+    reads(&rt, displayed(rt.alloc()), PAGE_AND_VALUE)?;
+    reads(&rt, debugged(rt.alloc()), PAGE)?;
+    reads(&rt, formatted(rt.alloc()), FORMATTED)
+}
+
+/// The same of the value of a closure.
+fn displayed_answer(alloc: Global) -> Result<String, AllocError> {
+    let n = num(alloc)?.fallback_with(|| Ok::<u64, &str>(7));
+    let n = n.display_fallback(alloc)?;
+    answers(alloc, n.to_options(alloc)?, &[&["--help"], &[]])
+}
+
+fn debugged_answer(alloc: Global) -> Result<String, AllocError> {
+    let n = num(alloc)?.fallback_with(|| Ok::<u64, &str>(7));
+    let n = n.debug_fallback(alloc)?;
+    answers(alloc, n.to_options(alloc)?, &[&["--help"]])
+}
+
+fn formatted_answer(alloc: Global) -> Result<String, AllocError> {
+    let n = num(alloc)?.fallback_with(|| Ok::<u64, &str>(7));
+    let n = n.format_fallback(alloc, |n| format!(in alloc; "{n} or so"))?;
+    answers(alloc, n.to_options(alloc)?, &[&["--help"]])
+}
+
+#[test]
+fn answers_of_closures_are_shown(rt: HostRuntime) -> Result<(), Fail> {
+    reads(&rt, displayed_answer(rt.alloc()), PAGE_AND_VALUE)?;
+    reads(&rt, debugged_answer(rt.alloc()), PAGE)?;
+    reads(&rt, formatted_answer(rt.alloc()), FORMATTED)
+}
