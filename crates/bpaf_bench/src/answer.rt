@@ -15,8 +15,8 @@ fn push_text(text: &str, out: &mut String) -> Result<(), AllocError> {
     Ok(())
 }
 
-/// What a parser answers to words, as one line: `ok` and the value, `err` and the message, `out` and a
-/// text that was asked for, or `full` and one that was asked for in full.
+/// What a parser answers to words, as one line: `ok` and the value, `err` and the message, `out`
+/// and a text that was asked for, or `full` and one that was asked for in full.
 pub fn answer<P: Parser<Value> + Drop>(
     alloc: Global,
     options: &OptionParser<Value, P>,
