@@ -43,7 +43,7 @@ pub called_lawful : {inner : Outcome Value} {reads : Readings Value} (adjacent :
     (CalledReads adjacent called reads)
 called_lawful adjacent called describes law =
     let command = either_lawful law (run_ending describes plain_info) called
-        (CommandPart called None describes) adjacent in
+    (CommandPart called None describes) adjacent in
     record {
       ok = λ s t v o. command.ok s t v o;
       err = λ s t e o.
