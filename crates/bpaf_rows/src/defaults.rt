@@ -23,13 +23,14 @@ fn formatted(alloc: Global) -> Result<String, AllocError> {
     answers(alloc, n.to_options(alloc)?, &[&["--help"]])
 }
 
-/// The page of a number and its default, and the default.
+/// The page of a number and its default.
 const PAGE: &str = "out Usage: [-n=NUM]\n\n\
     Available options:\n    \
     -n=NUM\n                \
     [default: 7]\n    \
     -h, --help  Prints help information\n\n";
 
+/// The same, and the default as the answer of the empty line.
 const PAGE_AND_VALUE: &str = "out Usage: [-n=NUM]\n\n\
     Available options:\n    \
     -n=NUM\n                \
@@ -37,6 +38,7 @@ const PAGE_AND_VALUE: &str = "out Usage: [-n=NUM]\n\n\
     -h, --help  Prints help information\n\n\
     ok 7\n";
 
+/// The page with the default as the closure writes it.
 const FORMATTED: &str = "out Usage: [-n=NUM]\n\n\
     Available options:\n    \
     -n=NUM\n                \
@@ -50,19 +52,21 @@ fn defaults_are_shown(rt: HostRuntime) -> Result<(), Fail> {
     reads(&rt, formatted(rt.alloc()), FORMATTED)
 }
 
-/// The same of the value of a closure.
+/// A number with the answer of a closure as its default, as Display prints it.
 fn displayed_answer(alloc: Global) -> Result<String, AllocError> {
     let n = num(alloc)?.fallback_with(|| Ok::<u64, &str>(7));
     let n = n.display_fallback(alloc)?;
     answers(alloc, n.to_options(alloc)?, &[&["--help"], &[]])
 }
 
+/// The same as Debug prints it.
 fn debugged_answer(alloc: Global) -> Result<String, AllocError> {
     let n = num(alloc)?.fallback_with(|| Ok::<u64, &str>(7));
     let n = n.debug_fallback(alloc)?;
     answers(alloc, n.to_options(alloc)?, &[&["--help"]])
 }
 
+/// The same as another closure writes it.
 fn formatted_answer(alloc: Global) -> Result<String, AllocError> {
     let n = num(alloc)?.fallback_with(|| Ok::<u64, &str>(7));
     let n = n.format_fallback(alloc, |n| format!(in alloc; "{n} or so"))?;

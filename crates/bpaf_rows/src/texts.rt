@@ -2,6 +2,7 @@
 use crate::shared::{answers, file, num, reads, verbose};
 use bpaf::{Parser, construct, fail, long, positional};
 use std::alloc::{AllocError, Global};
+use std::cell::Cell;
 use std::test::Fail;
 
 /// A word that has to stand behind the marker.
@@ -56,6 +57,21 @@ fn authors_say_why(rt: HostRuntime) -> Result<(), Fail> {
     reads(&rt, must_be_set(rt.alloc()), set)?;
     let accept = "err You must accept\nok ()\n";
     reads(&rt, must_accept(rt.alloc()), accept)
+}
+
+/// Numbers of which a check accepts the first alone.
+fn first_alone(alloc: Global) -> Result<String, AllocError> {
+    let later = Cell::new(false);
+    let options = num(alloc)?
+        .guard(|_| !later.replace(true), "no")
+        .many()
+        .to_options(alloc)?;
+    answers(alloc, options, &[&["-n", "1", "-n", "2"]])
+}
+
+#[test]
+fn check_that_changes_tells_the_word(rt: HostRuntime) -> Result<(), Fail> {
+    reads(&rt, first_alone(rt.alloc()), "err `2`: no\n")
 }
 
 /// A switch, and an adjacent group of a flag and two numbers; empty where the group can't be made.
