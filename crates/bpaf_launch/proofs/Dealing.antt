@@ -1,6 +1,6 @@
--- From what a run says of the record's parser to a launch that the words ask for.
-use Rattle.std.proofs.Common.{◌≡◌, ℕ, Bool, true, false, List, [], ◌∷◌, Option, Some, Result}
-use Rattle.std.proofs.Common.{Ok, Err, IfOk, refl, sym, subst, ap, ◌∙◌, ⊎_elim}
+-- From what a run says of the record's parser to a launch that the words ask for, or help.
+use Rattle.std.proofs.Common.{◌≡◌, ℕ, Bool, true, false, List, [], ◌∷◌, Some, Result}
+use Rattle.std.proofs.Common.{codes, Ok, Err, IfOk, sym, subst, ap, ◌∙◌, ⊎_elim}
 use Rattle.std.specs.Global.{Vec}
 use Rattle.std.specs.List.{Contains}
 use Rattle.bpaf_doc.specs.declared.doc.Piece.{Piece}
@@ -8,7 +8,7 @@ use Rattle.bpaf_doc.specs.Names.{Names}
 use Rattle.bpaf_doc.specs.Shape.{Shape, And, Many, Optional, members}
 use Rattle.bpaf_text.specs.declared.params.ParseFlag.{ParseFlag}
 use Rattle.bpaf_core.specs.declared.repeat.ParseMany.{ParseMany}
-use Rattle.bpaf_text.specs.Named.{key_named}
+use Rattle.bpaf_text.specs.Named.{key_named, with_help}
 use Rattle.bpaf_words.specs.Arguments.{Given}
 use Rattle.bpaf_line.specs.Constructing.{IsContext}
 use Rattle.bpaf_line.specs.Situation.{Context}
@@ -31,6 +31,19 @@ use Rattle.bpaf.specs.Positional.{PositionalReads, PositionalOutcome, positional
 use Rattle.bpaf.specs.PositionalLaws.{positional_lawful}
 use Rattle.bpaf.proofs.PassingOn.{PassesOn, ReadsBefore, both_passes, many_passes, product_passes}
 use Rattle.bpaf.proofs.PassingOn.{flag_reads_before, word_reads_before, texts_passed}
+use Rattle.bpaf.specs.Asked.{WasAsked}
+use Rattle.bpaf.proofs.Asking.{HandsOn, ShowsNothing, answer_asked as answer_shown, asked_also}
+use Rattle.bpaf.proofs.Asking.{both_hands_on, flag_hands_on, many_hands_on, positional_hands_on}
+use Rattle.bpaf.proofs.Asking.{product_hands_on}
+use Rattle.bpaf.proofs.Helps.{flag_without_help}
+use Rattle.bpaf_laws.proofs.ProductLaws.{both_lawful, product_lawful}
+use Rattle.bpaf_laws.proofs.RepeatLaws.{many_lawful}
+use Rattle.bpaf_line.specs.declared.failure.ParseFailure.TheVariants as failure
+use Rattle.bpaf.specs.declared.leaves.positional.Position.{Position}
+use Rattle.std.specs.Result.{IfErr}
+use Rattle.bpaf_doc.specs.Fold.{TextPieces}
+use Rattle.bpaf_launch.specs.Shown.{IsProgramShape, ShowsHelpAsked, name_shape, switch_shape}
+use Rattle.bpaf_launch.specs.Shown.{words_shape}
 use Rattle.bpaf_launch.specs.declared.options.Launch.{Launch}
 use Rattle.bpaf_launch.specs.Dealing.{IsDealtLaunch, IsLaunchOf, IsKept, MeansText, String}
 use Rattle.bpaf_launch.specs.Dealing.{verbose_names, dry_run_names, program_given, program_known}
@@ -60,18 +73,28 @@ pub record Parts : Type 0 where
   pub words : ParseMany Word
   pub info : RunInfo
 
--- a switch with these names
-pub record IsSwitch (names : Names) (switch : Switch) : Type 0 where
-  pub named : switch.named ≡ key_named names
+-- a switch with these names, and a help of this text
+pub record IsSwitch (names : Names) (text : List ℕ) (switch : Switch) : Type 0 where
+  pub help : List Piece
+  pub told : TextPieces text help
+  pub named : switch.named ≡ with_help (key_named names) help
   pub present : switch.present ≡ true
   pub absent : switch.absent ≡ Some false
 
+-- a word at this position, of this metavar, and a help of this text
+pub record IsWord (position : Position) (metavar text : List ℕ) (word : Word) : Type 0 where
+  pub help : List Piece
+  pub told : TextPieces text help
+  pub position_is : word.position ≡ position
+  pub metavar_is : word.metavar.0.now ≡ metavar
+  pub help_is : word.help ≡ Some help
+
 -- parts that are those of the program
 pub record AreProgramParts (parts : Parts) : Type 0 where
-  pub verbose : IsSwitch verbose_names parts.verbose
-  pub dry_run : IsSwitch dry_run_names parts.dry_run
-  pub name : parts.name.position ≡ NonStrict
-  pub words : parts.words.inner.position ≡ Strict
+  pub verbose : IsSwitch verbose_names (codes "Print more") parts.verbose
+  pub dry_run : IsSwitch dry_run_names (codes "Start nothing") parts.dry_run
+  pub name : IsWord NonStrict (codes "NAME") (codes "Program to start") parts.name
+  pub words : IsWord Strict (codes "WORD") (codes "Words to pass on") parts.words.inner
   pub info : parts.info ≡ plain_info
 
 -- which records a constructor makes of the fields' values
@@ -144,29 +167,26 @@ abbrev pub RecordRuns : Makes → Parts → Given → Result Launch ParseFailure
 RecordRuns makes parts given r =
     RunsWords Launch (RecordOutcome makes parts) (RecordDescribes parts) parts.info given r
 
--- the shape of a switch with these names
-abbrev switch_shape : Names → Shape
-switch_shape names = flag_shape (key_named names) (Some false)
-
--- the known names of a shape whose members are these are those of the program
-known_of : (verbose dry_run name words : Shape) (metavar passed : List ℕ)
-    (help passed_help : Option (List Piece))
-    → verbose ≡ switch_shape verbose_names → dry_run ≡ switch_shape dry_run_names
-    → name ≡ positional_shape NonStrict metavar help
-    → words ≡ Many (Optional (positional_shape Strict passed passed_help))
-    → known_names plain_info (And (members (verbose ∷ dry_run ∷ name ∷ words ∷ []))) ≡ program_known
-known_of verbose dry_run name words metavar passed help passed_help a b c d = rw (a, b, c, d) refl
-
 -- a switch with these names has their shape
-switch_shown : (names : Names) (switch : Switch) (shape : Shape) → IsSwitch names switch
-    → IsSwitchShape switch shape → shape ≡ switch_shape names
-switch_shown names switch shape is shown = rw (is.named, is.absent) at shown
+switch_shown : (names : Names) (text : List ℕ) (switch : Switch) (is : IsSwitch names text switch)
+    (shape : Shape) → IsSwitchShape switch shape → shape ≡ switch_shape names is.help
+switch_shown names text switch is shape shown = rw (is.named, is.absent) at shown
+
+-- so has a word
+word_shown : (position : Position) (metavar text : List ℕ) (word : Word)
+    (is : IsWord position metavar text word) (shape : Shape) → IsWordShape word shape
+    → shape ≡ positional_shape position metavar (Some is.help)
+word_shown position metavar text word is shape shown =
+    rw (is.position_is, is.metavar_is, is.help_is) at shown
+
+-- the known names of what the program shows
+known_shown : (shape : Shape) → IsProgramShape shape → known_names plain_info shape ≡ program_known
+known_shown shape is = ap (known_names plain_info) is.is
 
 module _ (parts : Parts) (program : AreProgramParts parts) where
-  -- the known names of what the program's parser shows
-  known_shown : (shape : Shape) → RecordDescribes parts shape
-      → known_names parts.info shape ≡ program_known
-  known_shown shape shown =
+  -- what the record's parser shows is what the program does
+  program_shown : (shape : Shape) → RecordDescribes parts shape → IsProgramShape shape
+  program_shown shape shown =
       let verbose = shown.1 in
       let dry_run = verbose.3 in
       let name = dry_run.3 in
@@ -176,13 +196,34 @@ module _ (parts : Parts) (program : AreProgramParts parts) where
       dry_run.4 ∙ ap (λ xs. dry_run.0 ∷ xs) two in
       let all : shown.0 ≡ verbose.0 ∷ dry_run.0 ∷ name.0 ∷ words.0 ∷ [] =
       verbose.4 ∙ ap (λ xs. verbose.0 ∷ xs) three in
-      ap (λ info. known_names info shape) program.info
-      ∙ (ap (known_names plain_info) (shown.2 ∙ ap (λ xs. And (members xs)) all)
-      ∙ known_of verbose.0 dry_run.0 name.0 words.0 _ _ _ _
-      (switch_shown verbose_names parts.verbose verbose.0 program.verbose verbose.2)
-      (switch_shown dry_run_names parts.dry_run dry_run.0 program.dry_run dry_run.2)
-      (rw program.name at name.2)
-      (words.1.2 ∙ ap (λ inside. Many (Optional inside)) (rw program.words at words.1.1)))
+      let first : verbose.0 ≡ switch_shape verbose_names program.verbose.help =
+      switch_shown _ _ parts.verbose program.verbose verbose.0 verbose.2 in
+      let second : dry_run.0 ≡ switch_shape dry_run_names program.dry_run.help =
+      switch_shown _ _ parts.dry_run program.dry_run dry_run.0 dry_run.2 in
+      let third : name.0 ≡ name_shape program.name.help =
+      word_shown _ _ _ parts.name program.name name.0 name.2 in
+      let fourth : words.0 ≡ words_shape program.words.help =
+      words.1.2 ∙ ap (λ inside. Many (Optional inside))
+      (word_shown _ _ _ parts.words.inner program.words words.1.0 words.1.1) in
+      record {
+        verbose = program.verbose.help;
+        dry_run = program.dry_run.help;
+        name = program.name.help;
+        words = program.words.help;
+        verbose_help = program.verbose.told;
+        dry_run_help = program.dry_run.told;
+        name_help = program.name.told;
+        words_help = program.words.told;
+        is = shown.2 ∙ ap (λ xs. And (members xs)) all
+            ∙ (ap (λ x. And (members (x ∷ dry_run.0 ∷ name.0 ∷ words.0 ∷ []))) first
+            ∙ (ap (λ x. And (members (switch_shape verbose_names program.verbose.help
+            ∷ x ∷ name.0 ∷ words.0 ∷ []))) second
+            ∙ (ap (λ x. And (members (switch_shape verbose_names program.verbose.help
+            ∷ switch_shape dry_run_names program.dry_run.help ∷ x ∷ words.0 ∷ []))) third
+            ∙ ap (λ x. And (members (switch_shape verbose_names program.verbose.help
+            ∷ switch_shape dry_run_names program.dry_run.help
+            ∷ name_shape program.name.help ∷ x ∷ []))) fourth)));
+      }
 
   -- the record's parser passes on all words behind the first `--`
   record_passes : (makes : Makes) → MakesRecord makes
@@ -209,7 +250,7 @@ module _ (parts : Parts) (program : AreProgramParts parts) where
 
       name_reads_before : ReadsBefore (WordReads parts.name)
       name_reads_before =
-          subst (λ p. ReadsBefore (PositionalReads String MeansText p)) (sym program.name)
+          subst (λ p. ReadsBefore (PositionalReads String MeansText p)) (sym program.name.position_is)
           (word_reads_before String MeansText)
 
       words_pass : PassesOn (ManyOutcome (WordOutcome parts.words.inner) parts.words.catch)
@@ -217,7 +258,7 @@ module _ (parts : Parts) (program : AreProgramParts parts) where
       words_pass =
           let metavar = parts.words.inner.metavar.0.now in
           subst (λ p. PassesOn (ManyOutcome (PositionalOutcome MeansText p metavar)
-          parts.words.catch) MeansText (λ words. words.items)) (sym program.words)
+          parts.words.catch) MeansText (λ words. words.items)) (sym program.words.position_is)
           (many_passes MeansText metavar parts.words.catch)
 
 module _ (makes : Makes) (made : MakesRecord makes) (parts : Parts)
@@ -233,7 +274,8 @@ module _ (makes : Makes) (made : MakesRecord makes) (parts : Parts)
         context = dealt.context;
         is_context = ⊎_elim
             (λ shown. subst (λ known. IsContext known (program_given words) dealt.context)
-            (known_shown parts program shown.0 shown.1) shown.2)
+            (ap (λ info. known_names info shown.0) program.info
+            ∙ known_shown shown.0 (program_shown parts program shown.0 shown.1)) shown.2)
             (λ any. any program_known)
             dealt.is_context;
         verbose_share = read.first_share;
@@ -245,16 +287,21 @@ module _ (makes : Makes) (made : MakesRecord makes) (parts : Parts)
         joins = read.joins;
         others_join = others.joins;
         positionals_join = positionals.joins;
-        verbose = switch_reads verbose_names parts.verbose program.verbose read.first_read;
-        dry_run = switch_reads dry_run_names parts.dry_run program.dry_run others.first_read;
-        name = rw program.name at positionals.first_read;
-        words = rw program.words at positionals.rest_read;
+        verbose = switch_reads verbose_names (codes "Print more") parts.verbose program.verbose
+            read.first_read;
+        dry_run = switch_reads dry_run_names (codes "Start nothing") parts.dry_run program.dry_run
+            others.first_read;
+        name = rw program.name.position_is at positionals.first_read;
+        words = rw program.words.position_is at positionals.rest_read;
       })
     where
       switch_reads : {context : Context} {share : Share} {value : Bool} (names : Names)
-          (switch : Switch) → IsSwitch names switch → SwitchReads switch context share value
+          (text : List ℕ) (switch : Switch) → IsSwitch names text switch
+          → SwitchReads switch context share value
           → FlagReads Bool IsKept (key_named names) true (Some false) context share value
-      switch_reads names switch is read = rw (is.named, is.present, is.absent) at read
+      switch_reads {context} {share} {value} names text switch is read =
+          flag_without_help Bool IsKept (key_named names) is.help true (Some false) context share
+          value (rw (is.named, is.present, is.absent) at read)
 
   -- it is a launch that the words ask for, where a run answers it
   launch_asked : RecordDealsOut makes parts (program_given words) v
@@ -280,3 +327,58 @@ answer_asked makes parts given words made program is (Ok v) dealt run =
     (subst (λ g. RecordDealsOut makes parts g v) is dealt)
     (subst (λ g. RecordRuns makes parts g (Ok v)) is run)
 answer_asked makes parts given words made program is (Err f) dealt run = tt
+
+module _ (makes : Makes) (parts : Parts) where
+  -- a switch keeps to the laws
+  kept_switch : (switch : Switch) → Lawful Bool (SwitchOutcome switch) (SwitchReads switch)
+  kept_switch switch = flag_lawful Bool IsKept switch.named switch.present switch.absent
+
+  -- so does a word
+  kept_word : (word : Word) → Lawful String (WordOutcome word) (WordReads word)
+  kept_word word = positional_lawful String MeansText word.position word.metavar.0.now
+
+  -- so does the record's parser
+  record_lawful : Lawful Launch (RecordOutcome makes parts) (RecordReads makes parts)
+  record_lawful =
+      product_lawful makes
+      (both_lawful (kept_switch parts.verbose)
+      (both_lawful (kept_switch parts.dry_run)
+      (both_lawful (kept_word parts.name)
+      (many_lawful (kept_word parts.words.inner) parts.words.catch))))
+
+  -- what is never shown
+  abbrev never : Context → List Piece → Bool → Type 0
+  never context doc full = ⊥
+
+  -- a switch shows nothing by itself
+  switch_hands_on : (switch : Switch) → HandsOn never (SwitchOutcome switch)
+  switch_hands_on switch =
+      flag_hands_on never IsKept switch.named switch.present switch.absent
+
+  -- nor does a word
+  word_hands_on : (word : Word) → HandsOn never (WordOutcome word)
+  word_hands_on word = positional_hands_on never MeansText word.position word.metavar.0.now
+
+  -- nor does the record's parser
+  record_shows_nothing : ShowsNothing (RecordOutcome makes parts)
+  record_shows_nothing =
+      product_hands_on never makes
+      (both_hands_on never (kept_switch parts.verbose) (switch_hands_on parts.verbose)
+      (both_hands_on never (kept_switch parts.dry_run) (switch_hands_on parts.dry_run)
+      (both_hands_on never (kept_word parts.name) (word_hands_on parts.name)
+      (many_hands_on never (kept_word parts.words.inner) (word_hands_on parts.words.inner)
+      parts.words.catch))))
+
+  -- what it shows in place of a launch is help that the words ask for
+  pub help_asked : (program : AreProgramParts parts) (words : List (List ℕ)) (given : Given)
+      → given ≡ program_given words → (r : Result Launch ParseFailure)
+      → RecordRuns makes parts given r → IfErr r (ShowsHelpAsked words)
+  help_asked program words given is (Ok v) runs = tt
+  help_asked program words given is (Err (failure.Stdout doc full)) runs =
+      let was : WasAsked (RecordDescribes parts) parts.info given doc full =
+      answer_shown (RecordDescribes parts) parts.info given record_lawful record_shows_nothing
+      (ap (λ info. info.help_if_no_args) program.info) (Err (failure.Stdout doc full)) runs in
+      asked_also (RecordDescribes parts) IsProgramShape plain_info (program_given words) doc full
+      (program_shown parts program) (rw (program.info, is) at was)
+  help_asked program words given is (Err (failure.Stderr doc)) runs = tt
+  help_asked program words given is (Err failure.Memory) runs = tt

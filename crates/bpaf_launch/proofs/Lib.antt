@@ -1,3 +1,4 @@
 pub mod Dealing
+pub mod Ending
 pub mod Naming
 pub mod Printing

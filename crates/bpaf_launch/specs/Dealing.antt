@@ -1,8 +1,7 @@
 -- A launch that words ask for, and what a run of the program does.
-use Rattle.std.specs.Prelude.{◌≡◌, ◌⊎◌, ℕ, Bool, true, false, List, [], ◌∷◌, Option, Some, codes}
+use Rattle.std.specs.Prelude.{◌≡◌, ℕ, Bool, true, false, List, [], ◌∷◌, Some, codes}
 use Rattle.std.specs.Prelude.{map, string_bytes, Contains, String as StringIn}
 use Rattle.std.specs.declared.alloc.Global.{Global}
-use Rattle.std.specs.Io.KnownBytes.{Keeps, Appends}
 use Rattle.bpaf_doc.specs.Names.{Names}
 use Rattle.bpaf_text.specs.Named.{key_named}
 use Rattle.bpaf_words.specs.Arguments.{Given}
@@ -16,7 +15,6 @@ use Rattle.bpaf.specs.declared.leaves.positional.Position.TheVariants.{Strict, N
 use Rattle.bpaf.specs.Marker.{words_before, words_behind}
 use Rattle.bpaf.specs.Positional.{PositionalReads}
 use Rattle.bpaf_launch.specs.declared.options.Launch.{Launch}
-use Rattle.bpaf_launch.specs.Lines.{lines, AppendsFront}
 
 -- the names of the switch by which more is told
 abbrev pub verbose_names : Names
@@ -75,18 +73,3 @@ pub record IsLaunchOf (words : List (List ℕ)) (launch : Launch) : Type 0 where
   pub dealt : IsDealtLaunch words launch
   pub named : Contains (words_before words) (string_bytes launch.name)
   pub passed : map string_bytes launch.words.items ≡ words_behind words
-
--- status 0: nothing on the error writer, and on the other exactly the lines of a launch that the
--- words ask for
-pub record Succeeds (words : List (List ℕ)) (out out_after err err_after : Option (List ℕ)) : Type 0
-  where
-    pub quiet : Keeps err err_after
-    pub launch : Launch
-    pub asked : IsLaunchOf words launch
-    pub printed : Appends out out_after (lines launch)
-
--- status 1: nothing on the writer, or the beginning of the lines of such a launch
-abbrev pub Fails : List (List ℕ) → Option (List ℕ) → Option (List ℕ) → Type 0
-Fails words out out_after =
-    Keeps out out_after
-    ⊎ ((launch : Launch) × IsLaunchOf words launch × AppendsFront out out_after (lines launch))

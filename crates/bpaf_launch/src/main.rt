@@ -10,14 +10,16 @@
 //! launch -v ls -- -l -- x    verbose: true, dry run: false, name: ls, word: -l, word: --, word: x,
 //!                            a line each, status 0
 //! launch ls --dry-run        verbose: false, dry run: true, name: ls
-//! launch ls -l               Error: refused, on standard error, status 1
-//! launch ls x                the same, since a word is passed on only behind `--`
+//! launch --help              the help page, status 0
+//! launch ls -l               Error: `-l` is not expected in this context, on standard error, status 1
+//! launch ls x                Error: expected `WORD` to be on the right side of `--`, likewise
 //! ```
 //!
 //! What is proved of it: where the writers tell their bytes, status 0 comes only where the launch
 //! that was printed is dealt out of the words, its name stands before the first `--`, and its words
-//! are all words behind that, in order, byte for byte (specs/Dealing.antt, specs/Lines.antt). Where
-//! the status is 1, nothing was printed, or a beginning of the lines of such a launch.
+//! are all words behind that, in order, byte for byte (specs/Dealing.antt, specs/Lines.antt); or where
+//! the words ask for help and its page was printed (specs/Shown.antt, specs/Running.antt). Where the
+//! status is 1, nothing was printed, or a beginning of the lines of such a launch or of that page.
 #![tactic(auto)]
 
 mod options;

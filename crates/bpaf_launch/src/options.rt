@@ -1,7 +1,9 @@
 ghost use Rattle.std.specs.Prelude.{IfOk, map, string_bytes};
+ghost use Rattle.std.specs.Result.{IfErr};
 ghost use Rattle.bpaf_launch.specs.Dealing.{IsLaunchOf};
+ghost use Rattle.bpaf_launch.specs.Shown.{ShowsHelpAsked};
 
-use bpaf::{Args, ParseFailure, Parser, construct, long, positional, short};
+use bpaf::{Args, Doc, ParseFailure, Parser, construct, long, positional, short};
 use std::alloc::Global;
 
 /// What is to be started, and how.
@@ -17,14 +19,26 @@ pub struct Launch {
     pub words: Vec<String>,
 }
 
-/// The launch that the words ask for; refused where they ask for none, or for want of memory.
+/// The launch that the words ask for; refused where they ask for none, or for want of memory. Help
+/// is answered as a refusal that shows it, and only where the words ask for it.
 pub fn read_launch(alloc: Global, words: &[String]) -> Result<Launch, ParseFailure>
-    ensures { IfOk result (λ launch. IsLaunchOf (map string_bytes words.now) launch) }
+    ensures launch { IfOk result (λ launch. IsLaunchOf (map string_bytes words.now) launch) }
+    ensures asked { IfErr result (λ f. ShowsHelpAsked (map string_bytes words.now) f) }
 {
-    let verbose = short(alloc, 'v')?.long("verbose")?.switch();
-    let dry_run = long(alloc, "dry-run")?.switch();
-    let name = positional::<String>("NAME").non_strict();
-    let passed = positional::<String>("WORD").strict().many();
+    let verbose = short(alloc, 'v')?
+        .long("verbose")?
+        .help(Doc::from_text(alloc, "Print more")?)
+        .switch();
+    let dry_run = long(alloc, "dry-run")?
+        .help(Doc::from_text(alloc, "Start nothing")?)
+        .switch();
+    let name = positional::<String>("NAME")
+        .non_strict()
+        .help(Doc::from_text(alloc, "Program to start")?);
+    let passed = positional::<String>("WORD")
+        .strict()
+        .help(Doc::from_text(alloc, "Words to pass on")?)
+        .many();
     let launch = construct!(Launch {
         verbose,
         dry_run,

@@ -1,5 +1,5 @@
 ghost use Rattle.std.specs.Prelude.{◌≡◌, ◌⊎◌, map, string_bytes};
-ghost use Rattle.bpaf_launch.specs.Dealing.{Succeeds, Fails};
+ghost use Rattle.bpaf_launch.specs.Running.{Fails, FailsToShow, Succeeds, WritesShown};
 
 use crate::options::read_launch;
 use crate::print::{lines_of, write_text};
@@ -9,10 +9,10 @@ use std::io::Write;
 
 /// Runs the program on its words, and gives its status.
 ///
-/// Status 0 comes only where a launch was read and all its lines written on `out`, and then nothing
-/// is written on `err`. A refusal is told on `err`, as `Error: ` and the message, and nothing is
-/// written on `out`; its status is 1, as is that of a write that fails, after a beginning of the
-/// lines.
+/// Status 0 comes only where a launch was read and all its lines written on `out`, or where help was
+/// asked for and written there; and then nothing is written on `err`. A refusal is told on `err`, as
+/// `Error: ` and the message, and nothing is written on `out`; its status is 1, as is that of a write
+/// that fails, after a beginning of the text.
 pub fn run<W: Write, E: Write>(alloc: Global, words: &[String], out: &mut W, err: &mut E) -> u8
     ensures succeeds { result ≡ 0 →
         Succeeds (map string_bytes words.now) (W.contents out.old) (W.contents out.new)

@@ -39,11 +39,12 @@ fn ran(alloc: Global, words: &str) -> Result<Written, Fail> {
     })
 }
 
-/// Whether these words are refused as they should be: a message on the one writer, nothing on the
+/// Whether these words are refused as they should be: this message on the one writer, nothing on the
 /// other.
-fn is_refused(alloc: Global, words: &str) -> Result<bool, Fail> {
+fn is_refused(alloc: Global, words: &str, message: &str) -> Result<bool, Fail> {
     let Written { out, err, status } = ran(alloc, words)?;
-    Ok(out.is_empty() && err.as_str() == "Error: refused\n" && status == 1)
+    let told = format!(in alloc; "Error: {message}\n")?;
+    Ok(out.is_empty() && err.as_str() == told.as_str() && status == 1)
 }
 
 /// Whether these words ask for a launch, and these lines alone are written, here with `, ` between
@@ -92,20 +93,34 @@ fn words_are_passed_on_unread(rt: HostRuntime) -> Result<(), Fail> {
 
 #[test]
 fn refusals_print_no_launch(rt: HostRuntime) -> Result<(), Fail> {
+    let none = "expected `NAME`, pass `--help` for usage information";
+    let side = "expected `NAME` to be on the left side of `--`";
+    let word = "expected `WORD` to be on the right side of `--`";
+    let twice = "argument `-v` cannot be used multiple times in this context";
     let rows = [
-        "",
-        "--",
-        "-- ls",
-        "a b",
-        "a b -- c",
-        "-x ls",
-        "ls -l",
-        "-v -v ls",
-        "--verbose=1 ls",
+        ("", none),
+        ("--", none),
+        ("-- ls", side),
+        ("a b", word),
+        ("a b -- c", word),
+        ("-x ls", "`-x` is not expected in this context"),
+        ("ls -l", "`-l` is not expected in this context"),
+        ("-v -v ls", twice),
+        ("--verbose=1 ls", "`1` is not expected in this context"),
     ];
-    for words in rows {
-        assert!(rt; is_refused(rt.alloc(), words)?);
+    for (words, message) in rows {
+        assert!(rt; is_refused(rt.alloc(), words, message)?);
     }
+    Ok(())
+}
+
+#[test]
+fn help_is_printed(rt: HostRuntime) -> Result<(), Fail> {
+    let Written { out, err, status } = ran(rt.alloc(), "ls --help")?;
+    assert!(rt;
+        out.as_str().starts_with("Usage: launch [--verbose] [--dry-run] NAME [-- WORD]...\n")
+    );
+    assert!(rt; err.is_empty() && status == 0);
     Ok(())
 }
 
