@@ -1,7 +1,6 @@
 -- Steps that are dealt out of the words, and what a run of the program does.
-use Rattle.std.specs.Prelude.{◌≡◌, ◌⊎◌, ℕ, ℤ, Bool, true, false, List, [], ◌∷◌, Option, Some, codes}
+use Rattle.std.specs.Prelude.{◌≡◌, ℕ, ℤ, Bool, true, false, List, [], ◌∷◌, Some, codes}
 use Rattle.std.specs.Global.{Vec}
-use Rattle.std.specs.Io.KnownBytes.{Keeps, Appends}
 use mir.Syntax.{w64}
 use Rattle.bpaf_doc.specs.Names.{Names}
 use Rattle.bpaf_text.specs.Meaning.{SpellsSigned, SpellsUnsigned}
@@ -20,7 +19,6 @@ use Rattle.bpaf.specs.declared.leaves.positional.Position.TheVariants.{Unrestric
 use Rattle.bpaf.specs.Positional.{PositionalReads}
 use Rattle.bpaf_chain.specs.declared.steps.Step.{Step}
 use Rattle.bpaf_chain.specs.declared.steps.Step.TheVariants.{Move, Turn, Repeat}
-use Rattle.bpaf_chain.specs.Lines.{step_lines}
 
 -- what the program is given
 abbrev pub program_given : List (List ℕ) → Given
@@ -84,17 +82,3 @@ pub record AreDealt (move turn repeat : Readings Step) (words : List (List ℕ))
 -- so are the steps of the program, each made of its own parts
 abbrev pub AreDealtSteps : List (List ℕ) → Vec Step → Type 0
 AreDealtSteps words steps = AreDealt MoveReads TurnReads RepeatReads words steps
-
--- status 0: nothing on the error writer, and on the other exactly the lines of steps that are dealt
--- out of the words
-pub record Succeeds (words : List (List ℕ)) (out out_after err err_after : Option (List ℕ)) : Type 0
-  where
-    pub quiet : Keeps err err_after
-    pub steps : Vec Step
-    pub dealt : AreDealtSteps words steps
-    pub printed : Appends out out_after (step_lines steps.items)
-
--- status 1: nothing on the writer, or there are such steps
-abbrev pub Fails : List (List ℕ) → Option (List ℕ) → Option (List ℕ) → Type 0
-Fails words out out_after =
-    Keeps out out_after ⊎ ((steps : Vec Step) × AreDealtSteps words steps)

@@ -10,8 +10,10 @@
 //! chain move 1 2 turn --left 90 repeat 3    move 1 2, turn left 90, repeat 3, a line each
 //! chain turn 90 --left                      turn left 90
 //! chain                                     nothing, status 0
-//! chain move 1 turn 90                      Error: refused, on standard error, status 1
-//! chain move -1 2                           Error: refused: `-1` is a key
+//! chain --help, chain move --help           the help page, of the program or of a command, status 0
+//! chain move 1                              Error: expected `DY`, pass `--help` for usage information,
+//!                                           on standard error, status 1
+//! chain move -1 2                           a refusal as well: `-1` is a key
 //! ```
 //!
 //! Each command is adjacent: it reads the words behind its name without a gap, and leaves what
@@ -19,7 +21,8 @@
 //!
 //! What is proved of it: where the writers tell their bytes, status 0 comes only where the steps
 //! that were printed are dealt out of the words, and each step is read off one run of them
-//! (specs/Dealing.antt, specs/Lines.antt).
+//! (specs/Dealing.antt, specs/Lines.antt), or where one document was printed (specs/Running.antt). That
+//! this is the page of a command, or of the program, and was asked for, is only tested.
 #![tactic(auto)]
 
 mod print;

@@ -1,5 +1,5 @@
 ghost use Rattle.std.specs.Prelude.{◌≡◌, ◌⊎◌, map, string_bytes};
-ghost use Rattle.bpaf_chain.specs.Dealing.{Succeeds, Fails};
+ghost use Rattle.bpaf_chain.specs.Running.{Fails, FailsToShow, Succeeds, WritesShown};
 
 use crate::print::print_steps;
 use crate::steps::read_steps;
@@ -9,9 +9,10 @@ use std::io::Write;
 
 /// Runs the program on its words, and gives its status.
 ///
-/// Status 0 comes only where the steps were read and all their lines written on `out`, and then
-/// nothing is written on `err`. A refusal is told on `err`, as `Error: ` and the message, and
-/// nothing is written on `out`; its status is 1, as is that of a write that fails.
+/// Status 0 comes only where the steps were read and all their lines written on `out`, or where help
+/// was asked for and written there; and then nothing is written on `err`. A refusal is told on `err`,
+/// as `Error: ` and the message, and nothing is written on `out`; its status is 1, as is that of a
+/// write that fails.
 pub fn run<W: Write, E: Write>(alloc: Global, words: &[String], out: &mut W, err: &mut E) -> u8
     ensures succeeds { result ≡ 0 →
         Succeeds (map string_bytes words.now) (W.contents out.old) (W.contents out.new)

@@ -3,7 +3,7 @@ ghost use Rattle.bpaf_laws.specs.Command.{named_only};
 ghost use Rattle.bpaf_chain.specs.Dealing.{AreDealt, AreDealtSteps};
 
 use bpaf::parsers::ParseCommand;
-use bpaf::{Args, ParseFailure, Parser, construct, long, positional};
+use bpaf::{Args, Doc, ParseFailure, Parser, construct, long, positional};
 use std::alloc::{AllocError, Global};
 
 /// One step.
@@ -23,12 +23,12 @@ pub fn read_steps(alloc: Global, words: &[String]) -> Result<Vec<Step>, ParseFai
     ensures { IfOk result (λ steps. AreDealtSteps (map string_bytes words.now) steps) }
 {
     let left = long(alloc, "left")?.switch();
-    let degrees = positional::<u64>("DEGREES");
+    let degrees = positional::<u64>("DEGREES").help(Doc::from_text(alloc, "How far to turn")?);
     let turn = construct!(Step::Turn { left, degrees });
-    let dx = positional::<i64>("DX");
-    let dy = positional::<i64>("DY");
+    let dx = positional::<i64>("DX").help(Doc::from_text(alloc, "How far to the right")?);
+    let dy = positional::<i64>("DY").help(Doc::from_text(alloc, "How far up")?);
     let go = construct!(Step::Move { dx, dy });
-    let times = positional::<u64>("N");
+    let times = positional::<u64>("N").help(Doc::from_text(alloc, "How many times")?);
     let repeat = construct!(Step::Repeat { times });
     read_chain(alloc, go, turn, repeat, words)
 }
@@ -52,24 +52,27 @@ where
     ensures { IfOk result (λ steps. AreDealt (M.reads go) (T.reads turn) (R.reads repeat)
         (map string_bytes words.now) steps) }
 {
-    let go = chained(alloc, "move", go)?;
-    let turn = chained(alloc, "turn", turn)?;
-    let repeat = chained(alloc, "repeat", repeat)?;
+    let go = chained(alloc, "move", "Moves by so far", go)?;
+    let turn = chained(alloc, "turn", "Turns where it stands", turn)?;
+    let repeat = chained(alloc, "repeat", "Repeats all before it", repeat)?;
     construct!([go, turn, repeat])
         .many()
         .to_options(alloc)?
         .run_once(Args::from(words).set_name("chain"))
 }
 
-/// The adjacent command of this name over a parser; refused only for want of memory.
+/// The adjacent command of this name and description over a parser; refused only for want of memory.
 fn chained<P: Parser<Step> + Drop>(
     alloc: Global,
     name: &str,
+    descr: &str,
     parser: P,
 ) -> Result<ParseCommand<Step, P>, AllocError>
     ensures inner { IfOk result (λ command. command.subparser.inner ≡ parser) }
     ensures names { IfOk result (λ command. command.names ≡ named_only name.now) }
     ensures adjacent { IfOk result (λ command. command.adjacent ≡ true) }
 {
-    Ok(parser.to_options(alloc)?.command(name)?.adjacent())
+    let descr = Doc::from_text(alloc, descr)?;
+    let options = parser.to_options(alloc)?.descr(descr);
+    Ok(options.command(name)?.adjacent())
 }

@@ -49,19 +49,52 @@ fn steps_are_printed_in_order(rt: HostRuntime) -> Result<(), Fail> {
 #[test]
 fn refusals_print_no_steps(rt: HostRuntime) -> Result<(), Fail> {
     let rows = [
-        "go",
-        "move 1",
+        ("go", "`go` is not expected in this context"),
+        (
+            "move 1",
+            "expected `DY`, pass `--help` for usage information",
+        ),
+        (
+            "turn --lefty 90",
+            "`--lefty` is not expected in this context",
+        ),
+        (
+            "turn --left 90 --left",
+            "argument `--left` cannot be used multiple times in this context",
+        ),
+    ];
+    for (words, message) in rows {
+        let (written, status) = ran(rt.alloc(), words)?;
+        let told = format!(in rt.alloc(); "Error: {message}\n")?;
+        assert!(rt; written.as_str() == told.as_str() && status == 1);
+    }
+    for words in [
         "move 1 turn 90",
         "move -1 2",
         "move 1 2 3",
         "turn",
-        "turn --left 90 --left",
         "--left turn 90",
-        "repeat -- 3",
-    ];
-    for words in rows {
+    ] {
         let (written, status) = ran(rt.alloc(), words)?;
-        assert!(rt; written.as_str() == "Error: refused\n" && status == 1);
+        assert!(rt; written.as_str().starts_with("Error: ") && status == 1);
     }
+    Ok(())
+}
+
+#[test]
+fn help_is_printed(rt: HostRuntime) -> Result<(), Fail> {
+    let page = "Moves by so far
+
+Usage: chain move DX DY
+
+Available positional items:
+    DX          How far to the right
+    DY          How far up
+
+Available options:
+    -h, --help  Prints help information
+";
+    let (written, status) = ran(rt.alloc(), "move --help")?;
+    assert!(rt; written.as_str() == page && status == 0);
     Ok(())
 }

@@ -54,7 +54,7 @@ fn tell(rt: &HostRuntime, failure: ParseFailure) -> io::Result<ExitCode> {
     match failure {
         ParseFailure::Stdout(doc, full) => {
             let text = doc.monochrome(full)?;
-            println!(rt; "{text}")?;
+            print!(rt; "{text}")?;
         }
         ParseFailure::Stderr(doc) => {
             let text = doc.monochrome(true)?;
