@@ -1,48 +1,55 @@
--- What a run of the program does.
-use Rattle.std.specs.Prelude.{◌≡◌, ◌⊎◌, ℕ, Bool, List, Option}
+-- What a run of the program writes, by how it ended.
+use Rattle.std.specs.Prelude.{ℕ, Bool, List, Option, ⊤}
 use Rattle.std.specs.Global.{Vec}
 use Rattle.std.specs.Io.KnownBytes.{Keeps, Appends}
 use Rattle.bpaf_doc.specs.declared.doc.Piece.{Piece}
 use Rattle.bpaf_doc.specs.Print.{printed}
-use Rattle.bpaf_line.specs.declared.failure.ParseFailure.{ParseFailure}
-use Rattle.bpaf_line.specs.declared.failure.ParseFailure.TheVariants as failure
+use Rattle.bpaf_chain.specs.declared.run.Ending.{Ending}
+use Rattle.bpaf_chain.specs.declared.run.Ending.TheVariants as ending
 use Rattle.bpaf_chain.specs.declared.steps.Step.{Step}
 use Rattle.bpaf_chain.specs.Dealing.{AreDealtSteps}
 use Rattle.bpaf_chain.specs.Lines.{step_lines}
 
 -- exactly the lines of steps are written that are dealt out of the words
-abbrev pub WritesSteps : List (List ℕ) → Option (List ℕ) → Option (List ℕ) → Type 0
-WritesSteps words out out_after =
-    (steps : Vec Step) × AreDealtSteps words steps × Appends out out_after (step_lines steps.items)
+pub record WritesSteps (words : List (List ℕ)) (out out_after : Option (List ℕ)) : Type 0 where
+  pub steps : Vec Step
+  pub dealt : AreDealtSteps words steps
+  pub written : Appends out out_after (step_lines steps.items)
 
 -- exactly the text of a document is written
-abbrev pub WritesDocument : Option (List ℕ) → Option (List ℕ) → Type 0
-WritesDocument out out_after =
-    (doc : List Piece) × (full : Bool) × Appends out out_after (printed full doc)
+pub record WritesDocument (out out_after : Option (List ℕ)) : Type 0 where
+  pub doc : List Piece
+  pub full : Bool
+  pub written : Appends out out_after (printed full doc)
 
--- status 0: nothing on the error writer, and on the other the lines of steps, or one document
-pub record Succeeds (words : List (List ℕ)) (out out_after err err_after : Option (List ℕ)) : Type 0
-  where
-    pub quiet : Keeps err err_after
-    pub written : WritesSteps words out out_after ⊎ WritesDocument out out_after
+-- the words have steps
+abbrev pub HaveSteps : List (List ℕ) → Type 0
+HaveSteps words = (steps : Vec Step) × AreDealtSteps words steps
 
--- status 1: nothing on the writer, or there are such steps, or such a document
-abbrev pub Fails : List (List ℕ) → Option (List ℕ) → Option (List ℕ) → Type 0
-Fails words out out_after =
-    Keeps out out_after
-    ⊎ (((steps : Vec Step) × AreDealtSteps words steps)
-    ⊎ (List Piece × Bool))
+-- what is written on the two writers: where the steps were printed, their lines and nothing on the
+-- error writer; where a text was shown, that and nothing on the error writer; after a refusal nothing
+-- on the first one; where the steps couldn't be written the words have steps
+abbrev pub Writes : List (List ℕ) → Ending → (out out_after err err_after : Option (List ℕ)) → Type 0
+Writes words ending.Printed out out_after err err_after =
+    WritesSteps words out out_after × Keeps err err_after
+Writes words ending.Shown out out_after err err_after =
+    WritesDocument out out_after × Keeps err err_after
+Writes words ending.Refused out out_after err err_after = Keeps out out_after
+Writes words ending.Unprinted out out_after err err_after = HaveSteps words
+Writes words ending.Unshown out out_after err err_after = ⊤
 
--- what was asked for is written as it is, and nothing on the error writer
-pub record WritesShown (f : ParseFailure) (out out_after err err_after : Option (List ℕ)) : Type 0
-  where
-    pub doc : List Piece
-    pub full : Bool
-    pub shown : f ≡ failure.Stdout doc full
-    pub quiet : Keeps err err_after
-    pub written : Appends out out_after (printed full doc)
+-- what is written where there are no steps
+abbrev pub Tells : Ending → (out out_after err err_after : Option (List ℕ)) → Type 0
+Tells ending.Printed out out_after err err_after = ⊥
+Tells ending.Shown out out_after err err_after = WritesDocument out out_after × Keeps err err_after
+Tells ending.Refused out out_after err err_after = Keeps out out_after
+Tells ending.Unprinted out out_after err err_after = ⊥
+Tells ending.Unshown out out_after err err_after = ⊤
 
--- nothing is written, or something was asked for
-abbrev pub FailsToShow : ParseFailure → Option (List ℕ) → Option (List ℕ) → Type 0
-FailsToShow f out out_after =
-    Keeps out out_after ⊎ ((doc : List Piece) × (full : Bool) × (f ≡ failure.Stdout doc full))
+-- the status that the program ends with
+abbrev pub status_of : Ending → ℕ
+status_of ending.Printed = 0
+status_of ending.Shown = 0
+status_of ending.Refused = 1
+status_of ending.Unprinted = 1
+status_of ending.Unshown = 1

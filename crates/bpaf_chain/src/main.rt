@@ -19,10 +19,11 @@
 //! Each command is adjacent: it reads the words behind its name without a gap, and leaves what
 //! follows to the next one.
 //!
-//! What is proved of it: where the writers tell their bytes, status 0 comes only where the steps
-//! that were printed are dealt out of the words, and each step is read off one run of them
-//! (specs/Dealing.antt, specs/Lines.antt), or where one document was printed (specs/Running.antt). That
-//! this is the page of a command, or of the program, and was asked for, is only tested.
+//! What is proved of it: where the writers tell their bytes, the program ends as `Printed` only where
+//! exactly the lines of steps were written that are dealt out of the words, each step read off one run
+//! of them (specs/Dealing.antt, specs/Lines.antt); as `Shown` only where exactly the text of one
+//! document was written (specs/Running.antt). That this is the page of a command, or of the program,
+//! and was asked for, is only tested.
 #![tactic(auto)]
 
 mod print;
@@ -40,7 +41,7 @@ mod tests;
 fn main(rt: HostRuntime) -> io::Result<ExitCode> {
     let mut out = rt.stdout();
     let mut err = rt.stderr();
-    let status = match words_of(&rt) {
+    let ending = match words_of(&rt) {
         Ok(words) => run(rt.alloc(), words.as_slice(), &mut out, &mut err),
         Err(error) => {
             if error.kind() != io::ErrorKind::OutOfMemory {
@@ -49,7 +50,7 @@ fn main(rt: HostRuntime) -> io::Result<ExitCode> {
             refuse(ParseFailure::Memory, &mut err)
         }
     };
-    Ok(ExitCode::from(status))
+    Ok(ExitCode::from(ending.status()))
 }
 
 /// The words that the program is called with, without its own name; refused for want of memory, and

@@ -1,5 +1,6 @@
-ghost use Rattle.std.specs.Prelude.{◌≡◌, ◌⊎◌, map, string_bytes};
-ghost use Rattle.bpaf_chain.specs.Running.{Fails, FailsToShow, Succeeds, WritesShown};
+ghost use Rattle.std.specs.Prelude.{◌≡◌, map, string_bytes};
+ghost use Rattle.bpaf_chain.specs.Running.{Tells, Writes, status_of};
+ghost use Rattle.bpaf_chain.specs.declared.run.Ending.TheVariants.{Refused};
 
 use crate::print::print_steps;
 use crate::steps::read_steps;
@@ -7,37 +8,57 @@ use bpaf::ParseFailure;
 use std::alloc::Global;
 use std::io::Write;
 
-/// Runs the program on its words, and gives its status.
+/// How the program ended.
+#[derive(Clone, Copy, Debug)]
+pub enum Ending {
+    /// The steps were printed.
+    Printed,
+    /// What was asked for, such as help, was shown.
+    Shown,
+    /// There are no steps, which was told on the error writer.
+    Refused,
+    /// There are steps, and they couldn't be written.
+    Unprinted,
+    /// What was asked for couldn't be written.
+    Unshown,
+}
+
+impl Ending {
+    /// The status of the program: 0 where the steps were printed, or what was asked for was shown,
+    /// else 1.
+    pub fn status(self) -> u8
+        ensures { result ≡ status_of self }
+    {
+        match self {
+            Ending::Printed | Ending::Shown => 0,
+            Ending::Refused | Ending::Unprinted | Ending::Unshown => 1,
+        }
+    }
+}
+
+/// Runs the program on its words, and says how it ended.
 ///
-/// Status 0 comes only where the steps were read and all their lines written on `out`, or where help
-/// was asked for and written there; and then nothing is written on `err`. A refusal is told on `err`,
-/// as `Error: ` and the message, and nothing is written on `out`; its status is 1, as is that of a
-/// write that fails.
-pub fn run<W: Write, E: Write>(alloc: Global, words: &[String], out: &mut W, err: &mut E) -> u8
-    ensures succeeds { result ≡ 0 →
-        Succeeds (map string_bytes words.now) (W.contents out.old) (W.contents out.new)
-        (E.contents err.old) (E.contents err.new) }
-    ensures fails { result ≡ 1 →
-        Fails (map string_bytes words.now) (W.contents out.old) (W.contents out.new) }
-    ensures status { (result ≡ 0) ⊎ (result ≡ 1) }
+/// Where the steps were read all their lines are written on `out`, and nothing on `err`; so it is with
+/// help, where that was asked for. A refusal is told on `err`, as `Error: ` and the message, and
+/// nothing is written on `out`.
+pub fn run<W: Write, E: Write>(alloc: Global, words: &[String], out: &mut W, err: &mut E) -> Ending
+    ensures { Writes (map string_bytes words.now) result
+        (W.contents out.old) (W.contents out.new) (E.contents err.old) (E.contents err.new) }
 {
     match read_steps(alloc, words) {
         Ok(steps) => match print_steps(steps.as_slice(), out) {
-            Ok(()) => 0,
-            Err(_) => 1,
+            Ok(()) => Ending::Printed,
+            Err(_) => Ending::Unprinted,
         },
         Err(failure) => tell(failure, out, err),
     }
 }
 
-/// Tells how a run ended that gives no steps, and gives its status: what was asked for is shown on
-/// `out`, else the refusal is told on `err`.
-fn tell<W: Write, E: Write>(failure: ParseFailure, out: &mut W, err: &mut E) -> u8
-    ensures succeeds { result ≡ 0 → WritesShown failure (W.contents out.old) (W.contents out.new)
-        (E.contents err.old) (E.contents err.new) }
-    ensures fails { result ≡ 1 →
-        FailsToShow failure (W.contents out.old) (W.contents out.new) }
-    ensures status { (result ≡ 0) ⊎ (result ≡ 1) }
+/// Tells how a run ended that gives no steps: what was asked for is shown on `out`, else the refusal
+/// is told on `err`.
+fn tell<W: Write, E: Write>(failure: ParseFailure, out: &mut W, err: &mut E) -> Ending
+    ensures { Tells result
+        (W.contents out.old) (W.contents out.new) (E.contents err.old) (E.contents err.new) }
 {
     if failure.exit_code() == 0 {
         show(failure, out, err)
@@ -46,26 +67,23 @@ fn tell<W: Write, E: Write>(failure: ParseFailure, out: &mut W, err: &mut E) -> 
     }
 }
 
-/// Shows what was asked for, as it stands, and gives the status.
-fn show<W: Write, E: Write>(failure: ParseFailure, out: &mut W, err: &mut E) -> u8
-    ensures succeeds { result ≡ 0 → WritesShown failure (W.contents out.old) (W.contents out.new)
-        (E.contents err.old) (E.contents err.new) }
-    ensures fails { result ≡ 1 →
-        FailsToShow failure (W.contents out.old) (W.contents out.new) }
-    ensures status { (result ≡ 0) ⊎ (result ≡ 1) }
+/// Shows what was asked for, as it stands.
+fn show<W: Write, E: Write>(failure: ParseFailure, out: &mut W, err: &mut E) -> Ending
+    ensures { Tells result
+        (W.contents out.old) (W.contents out.new) (E.contents err.old) (E.contents err.new) }
 {
     let Ok(Some(text)) = failure.unwrap_stdout() else {
         return refuse(ParseFailure::Memory, err);
     };
     match write!(out, "{text}") {
-        Ok(()) => 0,
-        Err(_) => 1,
+        Ok(()) => Ending::Shown,
+        Err(_) => Ending::Unshown,
     }
 }
 
-/// Tells a refusal: its message, or else that memory was wanted. The status is 1.
-pub fn refuse<E: Write>(failure: ParseFailure, err: &mut E) -> u8
-    ensures { result ≡ 1 }
+/// Tells a refusal: its message, or else that memory was wanted.
+pub fn refuse<E: Write>(failure: ParseFailure, err: &mut E) -> Ending
+    ensures { result ≡ Refused }
 {
     match failure.unwrap_stderr() {
         Ok(Some(text)) => {
@@ -75,5 +93,5 @@ pub fn refuse<E: Write>(failure: ParseFailure, err: &mut E) -> u8
             let _ = writeln!(err, "Error: out of memory");
         }
     }
-    1
+    Ending::Refused
 }
