@@ -5,3 +5,4 @@ pub mod Branching
 pub mod Opening
 pub mod Commanding
 pub mod Attempting
+pub mod Refusing

@@ -4,6 +4,7 @@ pub mod Extra
 pub mod ExtraLaws
 pub mod Ending
 pub mod Run
+pub mod Refusals
 pub mod Dealt
 pub mod Command
 pub mod EndingLaws

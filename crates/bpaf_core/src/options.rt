@@ -11,6 +11,8 @@ ghost use Rattle.bpaf_core.specs.Dealt.{IsDealtOut};
 ghost use Rattle.bpaf_core.specs.Ending.{EndsRefused, EndsRun, IsHelp, ShowsHelp, Tells};
 ghost use Rattle.bpaf_core.specs.Run.{Runs, RunsWords};
 ghost use Rattle.bpaf_core.specs.Ending.{PassesOrTells, TellsFault, is_shown};
+ghost use Rattle.bpaf_core.specs.Refusals.{IsOneOfTwelve};
+ghost use Rattle.std.specs.Result.{IfErr};
 
 use crate::info::{ExtraParams, Info, version_page};
 use crate::parser::Parser;
@@ -163,12 +165,19 @@ impl<T: Drop, P: Parser<T>> OptionParser<T, P> {
     /// The value that the words give (bpaf's `run_inner`).
     ///
     /// Ok(v) comes only where v is dealt out of the words: read off all items of their line but the
-    /// first `--`, each used once. Else the answer is a message, or want of memory. The parser is
-    /// unchanged, and may run again.
+    /// first `--`, each used once. The parser is unchanged, and may run again.
+    ///
+    /// Each refusal has one of twelve names (specs/Refusals.antt): want of memory; a word of letters
+    /// with two readings; help or the version, which is shown; nothing there of what a parser looks
+    /// for; a key without its value; a word on the wrong side of `--`; a text that means no value; a
+    /// value that a check refused; no value of what looks at no item, or of a repeat that wants one;
+    /// an item that another excludes; a key once more than it may stand; an item that no parser took.
+    /// Or the parser hands on that of a run inside it, as commands do.
     pub fn run_inner(&self, args: Args<'_>) -> Result<T, ParseFailure>
         requires { P.can_eval self.now.inner }
         ensures outcome { RunsWords T (P.outcome self.now.inner) (P.describes self.now.inner)
             self.now.info (given_of args.entry) result }
+        ensures named { IfErr result (IsOneOfTwelve (P.outcome self.now.inner)) }
         ensures dealt { IfOk result (λ v. IsDealtOut T (P.reads self.now.inner)
             (P.describes self.now.inner) self.now.info (given_of args.entry) v) }
     {
@@ -368,6 +377,7 @@ impl<T: Drop, P: Parser<T> + Drop> OptionParser<T, P> {
         requires { P.can_eval self.inner }
         ensures outcome { RunsWords T (P.outcome self.inner) (P.describes self.inner)
             self.info (given_of args.entry) result }
+        ensures named { IfErr result (IsOneOfTwelve (P.outcome self.inner)) }
         ensures dealt { IfOk result (λ v. IsDealtOut T (P.reads self.inner)
             (P.describes self.inner) self.info (given_of args.entry) v) }
     {

@@ -2,6 +2,7 @@ use Rattle.bpaf_words.specs.Arguments.{given_of}
 use Rattle.bpaf_core.specs.Run.{no_memory}
 use Rattle.bpaf_core.proofs.Running.{started, line_refused}
 use Rattle.bpaf_core.proofs.Dealing.{if_dealt}
+use Rattle.bpaf_core.proofs.Refusing.{memory_is_named, words_are_named}
 use Rattle.bpaf_core.proofs.options.OptionParser.run_inner.Goals as goal
 
 pub returns-in_default-clause-outcome : goal.returns-in_default-clause-outcome
@@ -19,3 +20,15 @@ returns-in-Ok-construct-clause-dealt g c =
 pub returns-clause-outcome : goal.returns-clause-outcome
 returns-clause-outcome g c =
     line_refused (given_of c.args.args) _ _ _ _ c.in-Ok.ensures (rw (c.deref.ensures.value, c.deref-2.ensures.value) at c.in-Err.ensures.answer) c.tell_fault.ensures
+
+pub returns-in_default-clause-named : goal.returns-in_default-clause-named
+returns-in_default-clause-named g c =
+    memory_is_named _
+
+pub returns-in-Ok-construct-clause-named : goal.returns-in-Ok-construct-clause-named
+returns-in-Ok-construct-clause-named g c =
+    words_are_named _ _ _ (given_of c.args.args) _ (started (given_of c.args.args) _ _ _ _ _ c.in-Ok.ensures (rw (c.deref.ensures.value, c.deref-2.ensures.value) at c.in-Ok-construct.ensures.answer) c.run_from.ensures)
+
+pub returns-clause-named : goal.returns-clause-named
+returns-clause-named g c =
+    words_are_named _ _ _ (given_of c.args.args) _ (line_refused (given_of c.args.args) _ _ _ _ c.in-Ok.ensures (rw (c.deref.ensures.value, c.deref-2.ensures.value) at c.in-Err.ensures.answer) c.tell_fault.ensures)
