@@ -62,21 +62,25 @@ fn refusals_print_no_steps(rt: HostRuntime) -> Result<(), Fail> {
             "turn --left 90 --left",
             "argument `--left` cannot be used multiple times in this context",
         ),
+        (
+            "move 1 turn 90",
+            "couldn't parse `turn`: not a whole number in range",
+        ),
+        (
+            "move -1 2",
+            "expected `DY`, got `-1`. Pass `--help` for usage information",
+        ),
+        ("move 1 2 3", "`3` is not expected in this context"),
+        (
+            "turn",
+            "expected `DEGREES`, pass `--help` for usage information",
+        ),
+        ("--left turn 90", "`--left` is not expected in this context"),
     ];
     for (words, message) in rows {
         let (written, status) = ran(rt.alloc(), words)?;
         let told = format!(in rt.alloc(); "Error: {message}\n")?;
         assert!(rt; written.as_str() == told.as_str() && status == 1);
-    }
-    for words in [
-        "move 1 turn 90",
-        "move -1 2",
-        "move 1 2 3",
-        "turn",
-        "--left turn 90",
-    ] {
-        let (written, status) = ran(rt.alloc(), words)?;
-        assert!(rt; written.as_str().starts_with("Error: ") && status == 1);
     }
     Ok(())
 }
