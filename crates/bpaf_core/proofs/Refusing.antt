@@ -109,7 +109,8 @@ module _ (describes : Shape → Type 0) (info : RunInfo) where
         → EndsRun describes info (Some m) s left f t → IsOneOfTwelve inner f
     refused_is_named m e s left f t ran is (ending.memory other before after wanting) =
         inl (name.no_memory, name.wanting)
-    refused_is_named m e s left f t ran is (ending.usage other before given after spared wanted shows) =
+    refused_is_named m e s left f t ran is
+        (ending.usage other before given after spared wanted shows) =
         inl (help_is_named false left f shows)
     refused_is_named m e s left f t ran is (ending.passed_on given before after spared none) =
         inr (record { before = s; after = left; error = e; ran = ran; is_answer = is })
@@ -137,6 +138,7 @@ module _ (describes : Shape → Type 0) (info : RunInfo) where
         → RunsWords T inner describes info given r → IfErr r (IsOneOfTwelve inner)
     words_are_named given r (run.ran context answer t is_context runs) =
         run_is_named (beginning context) r t runs
-    words_are_named given (Err f) (run.no_line shape word number context told shown lacks empty named tells) =
+    words_are_named given (Err f)
+        (run.no_line shape word number context told shown lacks empty named tells) =
         inl (told_is_named (message.Ambiguity word number) (beginning context) f refl tells)
     words_are_named given (Err f) run.no_memory = inl (name.no_memory, name.wanting)
