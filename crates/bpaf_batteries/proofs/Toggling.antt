@@ -343,7 +343,7 @@ module _ {T : Type 0} (clones : T → T → Type 0) (one other : ParseFlag T)
       (key_ran clones other keys.other_stands s ran.sb ran.b ran.second_ran ran.second_spared))
 
   -- a value of the choice is that of the leftmost key, which is taken
-  choice_took : (s t : Situation) (v : T) → (EitherOutcome clones one other) s (Ok v) t
+  choice_took : (s t : Situation) (v : T) → EitherOutcome clones one other s (Ok v) t
       → TookKey clones one other s v t
   choice_took s t v ran =
       equal_took clones one other s keys.apart ran.a ran.sa ran.b ran.sb v t
@@ -352,7 +352,7 @@ module _ {T : Type 0} (clones : T → T → Type 0) (one other : ParseFlag T)
       (equal_depths s ran.a ran.sa ran.b ran.sb (Ok v) t (same_depth s t (Ok v) ran) ran.chosen)
 
   -- a refusal that isn't want of memory comes where there is no key
-  choice_none : (s t : Situation) (e : Error) → (EitherOutcome clones one other) s (Err e) t → is_memory e.0 ≡ false
+  choice_none : (s t : Situation) (e : Error) → EitherOutcome clones one other s (Err e) t → is_memory e.0 ≡ false
       → HasNone (is_either one other) s
   choice_none s t e o spared = ⊎_elim
       (λ ran.
@@ -364,7 +364,7 @@ module _ {T : Type 0} (clones : T → T → Type 0) (one other : ParseFlag T)
       o
 
   -- a value of the choice took an item
-  not_dropped : (s t : Situation) (v : T) → (EitherOutcome clones one other) s (Ok v) t
+  not_dropped : (s t : Situation) (v : T) → EitherOutcome clones one other s (Ok v) t
       → open_count s ≤ open_count t → ⊥
   not_dropped s t v ran same =
       let took = choice_took s t v ran in

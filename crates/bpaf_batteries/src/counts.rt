@@ -13,7 +13,8 @@ pub struct KeyCounts {
     pub ghost apart: { AreKeysApart fields.first.inner fields.rest.last.inner },
 }
 
-/// How often a key of these names and this help stands on the line; refused only for want of memory.
+/// How often a key of these names and this help stands on the line; refused only for want of
+/// memory.
 fn counted(
     alloc: Global,
     name: char,

@@ -13,8 +13,9 @@ pub struct ToggleFlag<T> {
     pub toggles: ParseMany<ParseOrElse<ParseFlag<T>, ParseFlag<T>>>,
 }
 
-/// The value of the last of two keys on the line, None where neither is there (bpaf's `toggle_flag`,
-/// in `batteries.rs`): the last value of a repeat over a choice of two required flags.
+/// The value of the last of two keys on the line, None where neither is there (bpaf's
+/// `toggle_flag`, in `batteries.rs`): the last value of a repeat over a choice of two required
+/// flags.
 ///
 /// It takes no memory. bpaf wants values that are `Copy`; here they are cloned when they are given
 /// out.

@@ -5,8 +5,8 @@ ghost use Rattle.bpaf_batteries.specs.Usage.{TellsUsage, ShowsText, help_asked};
 use bpaf::{Args, OptionParser, ParseFailure, Parser};
 use std::alloc::AllocError;
 
-/// The text that a parser shows where help is asked for by `--help`, None where that gives a value or
-/// a message (bpaf's `get_usage`, in `batteries.rs`, which panics in place of None).
+/// The text that a parser shows where help is asked for by `--help`, None where that gives a value
+/// or a message (bpaf's `get_usage`, in `batteries.rs`, which panics in place of None).
 ///
 /// Refused only for want of memory.
 ///

@@ -21,9 +21,9 @@ pub struct VerboseQuiet {
     pub ghost in_order: { min ≤ℤ max },
 }
 
-/// A level that `-v`, `--verbose` raises and `-q`, `--quiet` lowers, each as often as it stands there
-/// (bpaf's `verbose_and_quiet_by_number`, in `batteries.rs`): the offset plus the first count minus the
-/// second, kept between the bounds. It can't overflow, where bpaf's may.
+/// A level that `-v`, `--verbose` raises and `-q`, `--quiet` lowers, each as often as it stands
+/// there (bpaf's `verbose_and_quiet_by_number`, in `batteries.rs`): the offset plus the first count
+/// minus the second, kept between the bounds. It can't overflow, where bpaf's may.
 ///
 /// Refused only for want of memory.
 ///
@@ -117,8 +117,8 @@ pub struct VerboseSlice<T, const N: usize> {
 }
 
 /// The item of an array at a level that `-v`, `--verbose` raises and `-q`, `--quiet` lowers (bpaf's
-/// `verbose_by_slice`, in `batteries.rs`), from the first to the last item. It can't overflow, where
-/// bpaf's may.
+/// `verbose_by_slice`, in `batteries.rs`), from the first to the last item. It can't overflow,
+/// where bpaf's may.
 ///
 /// Refused only for want of memory. bpaf wants items that are `Copy`; here the item is cloned when
 /// it is given out.
