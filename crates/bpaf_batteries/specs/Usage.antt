@@ -12,12 +12,17 @@ use Rattle.bpaf_words.specs.Arguments.{Given}
 abbrev pub help_asked : Given
 help_asked = record { words = codes "--help" ∷ []; env = []; name = None }
 
--- the text that a run's answer shows on standard output: of a value and of a message none
+-- the text that a run without a value shows on standard output: of a message none; want of memory
+-- has no answer
+abbrev pub TellsText : ParseFailure → Option (List ℕ) → Type 0
+TellsText (Stdout doc full) text = text ≡ Some (printed full doc)
+TellsText (Stderr doc) text = text ≡ None
+TellsText Memory text = ⊥
+
+-- that of a run's answer: of a value none
 abbrev pub ShowsText : {T : Type 0} → Result T ParseFailure → Option (List ℕ) → Type 0
 ShowsText (Ok v) text = text ≡ None
-ShowsText (Err (Stdout doc full)) text = text ≡ Some (printed full doc)
-ShowsText (Err (Stderr doc)) text = text ≡ None
-ShowsText (Err Memory) text = ⊥
+ShowsText (Err failure) text = TellsText failure text
 
 -- the text of an answer that the run may give; refused only for want of memory
 abbrev pub TellsUsage : {T : Type 0} → (Result T ParseFailure → Type 0)

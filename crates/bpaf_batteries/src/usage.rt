@@ -1,6 +1,6 @@
-ghost use Rattle.std.specs.Prelude.{IfOk, ◌≡◌, option_map, string_bytes};
+ghost use Rattle.std.specs.Prelude.{IfOk, option_map, string_bytes};
 ghost use Rattle.bpaf_core.specs.Run.{RunsWords};
-ghost use Rattle.bpaf_batteries.specs.Usage.{TellsUsage, ShowsText, help_asked};
+ghost use Rattle.bpaf_batteries.specs.Usage.{TellsText, TellsUsage, help_asked};
 
 use bpaf::{Args, OptionParser, ParseFailure, Parser};
 use std::alloc::AllocError;
@@ -26,7 +26,17 @@ pub fn get_usage<T: Drop, P: Parser<T> + Drop>(
             drop(value);
             Ok(None)
         }
-        Err(ParseFailure::Memory) => Err(AllocError),
-        Err(failure) => failure.unwrap_stdout(),
+        Err(failure) => text_of(failure),
+    }
+}
+
+/// The text that a run without a value shows on standard output, None where that is a message;
+/// refused only for want of memory.
+fn text_of(failure: ParseFailure) -> Result<Option<String>, AllocError>
+    ensures { IfOk result (λ text. TellsText failure (option_map string_bytes text)) }
+{
+    match failure {
+        ParseFailure::Memory => Err(AllocError),
+        other => other.unwrap_stdout(),
     }
 }
