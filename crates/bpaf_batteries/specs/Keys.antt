@@ -1,5 +1,5 @@
 -- Required flags as the batteries have them, of which only keys on the line count.
-use Rattle.std.specs.Prelude.{◌≡◌, ℕ, List, [], Bool, false, ◌&&◌, ◌||◌, None}
+use Rattle.std.specs.Prelude.{◌≡◌, ℕ, List, [], Bool, false, ◌&&◌, ◌||◌, None, codes}
 use Rattle.bpaf_doc.specs.Fold.{TextPieces}
 use Rattle.bpaf_doc.specs.declared.doc.Piece.{Piece}
 use Rattle.bpaf_text.specs.Named.{nothing_named, with_help, with_long, with_short}
@@ -46,3 +46,11 @@ IsCountedKey name long help flag =
       absent = None;
       named = with_help (with_long (with_short nothing_named name) long) doc;
     })
+
+-- the keys `-v`, `--verbose` and `-q`, `--quiet`
+abbrev pub AreVerboseAndQuiet : ParseFlag (Unit {0}) → ParseFlag (Unit {0}) → Type 0
+AreVerboseAndQuiet more fewer =
+    IsCountedKey 118 (codes "verbose")
+    (codes "Increase output verbosity, can be used several times") more
+    × IsCountedKey 113 (codes "quiet")
+    (codes "Decrease output verbosity, can be used several times") fewer

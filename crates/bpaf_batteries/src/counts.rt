@@ -1,5 +1,5 @@
 ghost use Rattle.std.specs.Prelude.{◌≡◌, ◌∷◌, [], IfOk, IsTrue, None};
-ghost use Rattle.bpaf_batteries.specs.Keys.{AreKeysApart, IsCountedKey};
+ghost use Rattle.bpaf_batteries.specs.Keys.{AreKeysApart, AreVerboseAndQuiet, IsCountedKey};
 
 use bpaf::parsers::{ParseCount, ParseFlag};
 use bpaf::{Both, Doc, Error, Fields, Last, Meta, Parser, State, short};
@@ -34,7 +34,9 @@ fn counted(
 }
 
 /// The keys `-v`, `--verbose` and `-q`, `--quiet`; refused only for want of memory.
-pub(crate) fn verbose_and_quiet(alloc: Global) -> Result<KeyCounts, AllocError> {
+pub(crate) fn verbose_and_quiet(alloc: Global) -> Result<KeyCounts, AllocError>
+    ensures { IfOk result (λ p. AreVerboseAndQuiet p.fields.first.inner p.fields.rest.last.inner) }
+{
     let help = "Increase output verbosity, can be used several times";
     let first = counted(alloc, 'v', "verbose", help)?;
     let help = "Decrease output verbosity, can be used several times";

@@ -1,4 +1,5 @@
 ghost use Rattle.std.specs.Prelude.{◌≡◌, ◌<◌, ◌≤◌, ◌≤ℤ◌, ◌-ℤ◌, IfOk, length, pos};
+ghost use Rattle.bpaf_batteries.specs.Keys.{AreVerboseAndQuiet};
 ghost use Rattle.bpaf_batteries.specs.Level.{level};
 ghost use Rattle.bpaf_batteries.specs.Verbosity.{PicksItem};
 
@@ -37,6 +38,8 @@ pub fn verbose_and_quiet_by_number(
     max: isize,
 ) -> Result<VerboseQuiet, AllocError>
     requires { min ≤ℤ max }
+    ensures keys { IfOk result (λ p. AreVerboseAndQuiet p.counts.fields.first.inner
+        p.counts.fields.rest.last.inner) }
     ensures offset { IfOk result (λ p. p.offset ≡ offset) }
     ensures min { IfOk result (λ p. p.min ≡ min) }
     ensures max { IfOk result (λ p. p.max ≡ max) }
@@ -132,6 +135,8 @@ pub fn verbose_by_slice<T: Drop, const N: usize>(
     items: [T; N],
 ) -> Result<VerboseSlice<T, N>, AllocError>
     requires { 1 ≤ N }
+    ensures keys { IfOk result (λ p. AreVerboseAndQuiet p.counts.fields.first.inner
+        p.counts.fields.rest.last.inner) }
     ensures offset { IfOk result (λ p. p.offset ≡ offset) }
     ensures items { IfOk result (λ p. p.items ≡ items) }
 {
