@@ -156,11 +156,17 @@ fn a_word_in_front_is_passed_over(rt: HostRuntime) -> Result<(), Fail> {
     reads(&rt, found, "Some(3) Some(3) None ")
 }
 
-/// The help page of a word, or nothing.
+/// The help page of a parser, or nothing.
+fn page<T: Drop, P: Parser<T> + Drop>(alloc: Global, parser: P) -> Result<String, AllocError>
+    requires { P.can_eval parser }
+{
+    Ok(get_usage(parser.to_options(alloc)?)?.unwrap_or(String::new(alloc)))
+}
+
+/// The help page of a word.
 fn help_of_word(alloc: Global) -> Result<String, AllocError> {
     let help = Doc::from_text(alloc, "File to process")?;
-    let file = positional::<String>("FILE").help(help);
-    Ok(get_usage(file.to_options(alloc)?)?.unwrap_or(String::new(alloc)))
+    page(alloc, positional::<String>("FILE").help(help))
 }
 
 /// The help page of a word.
@@ -170,15 +176,14 @@ const PAGE: &str = "Usage: FILE\n\n\
     Available options:\n    \
     -h, --help  Prints help information\n";
 
-/// Whether a switch that is named as the key for help shows a page.
-fn is_shown_by_switch(alloc: Global) -> Result<bool, AllocError> {
-    Ok(get_usage(long(alloc, "help")?.switch().to_options(alloc)?)?.is_some())
+/// Nothing, since the switch is named as the key for help.
+fn help_of_switch(alloc: Global) -> Result<String, AllocError> {
+    page(alloc, long(alloc, "help")?.switch())
 }
 
-/// The help page of a level, or nothing.
+/// The help page of a level.
 fn help_of_level(alloc: Global) -> Result<String, AllocError> {
-    let level = verbose_and_quiet_by_number(alloc, 0, 0, 1)?;
-    Ok(get_usage(level.to_options(alloc)?)?.unwrap_or(String::new(alloc)))
+    page(alloc, verbose_and_quiet_by_number(alloc, 0, 0, 1)?)
 }
 
 /// The help page of a level.
@@ -192,35 +197,35 @@ const LEVEL_PAGE: &str = "Usage: [--verbose]... [--quiet]...\n\n\
 fn usage_is_told_where_help_is_shown(rt: HostRuntime) -> Result<(), Fail> {
     let a = rt.alloc();
     reads(&rt, help_of_word(a), PAGE)?;
-    assert!(rt; !is_shown_by_switch(a)?);
+    reads(&rt, help_of_switch(a), "")?;
     reads(&rt, help_of_level(a), LEVEL_PAGE)
 }
 
-/// Whether no key stands behind a word: a word and then a switch, and the switch first.
-fn orders(alloc: Global) -> Result<(bool, bool), AllocError> {
-    Ok((word_first(alloc)?, switch_first(alloc)?))
+/// Whether no key stands behind a word in what a parser shows.
+fn is_in_order<T: Drop, P: Parser<T> + Drop>(alloc: Global, parser: P) -> Result<bool, AllocError>
+    requires { P.can_eval parser }
+{
+    parser.to_options(alloc)?.check_invariants(false)
 }
 
-/// Whether it is in order: a word and then a switch.
+/// Whether it is so of a word and then a switch.
 fn word_first(alloc: Global) -> Result<bool, AllocError> {
     let word = positional::<String>("FILE");
     let switch = short(alloc, 'v')?.switch();
-    construct!(word, switch)
-        .to_options(alloc)?
-        .check_invariants(false)
+    is_in_order(alloc, construct!(word, switch))
 }
 
-/// Whether it is in order: a switch and then a word.
+/// Whether it is so of a switch and then a word.
 fn switch_first(alloc: Global) -> Result<bool, AllocError> {
     let word = positional::<String>("FILE");
     let switch = short(alloc, 'v')?.switch();
-    construct!(switch, word)
-        .to_options(alloc)?
-        .check_invariants(false)
+    is_in_order(alloc, construct!(switch, word))
 }
 
 #[test]
 fn words_stand_behind_keys(rt: HostRuntime) -> Result<(), Fail> {
-    assert_eq!(rt; orders(rt.alloc())?, (false, true));
+    let a = rt.alloc();
+    assert!(rt; !word_first(a)?);
+    assert!(rt; switch_first(a)?);
     Ok(())
 }
