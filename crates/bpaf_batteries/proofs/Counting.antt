@@ -1,5 +1,7 @@
 -- Counted keys: what two counts read are as many keys of each flag.
-use Rattle.std.proofs.Common.{◌≡◌, ◌≢◌, ℕ, ◌+◌, ◌<◌, ◌==◌, ◌&&◌, ◌||◌, Bool, true, false, List, [], ◌∷◌, length, slice_get, Result, Ok, Err, IfOk, ℤ, pos, Option, Some, None, refl, sym, ◌∙◌, subst, arith, ⊎_elim, true≢false, if◌then◌else◌}
+use Rattle.std.proofs.Common.{◌≡◌, ◌≢◌, ℕ, ◌+◌, ◌<◌, ◌==◌, ◌&&◌, ◌||◌, Bool, true, false, List, []}
+use Rattle.std.proofs.Common.{◌∷◌, length, slice_get, Result, Ok, Err, IfOk, ℤ, pos, Option, Some}
+use Rattle.std.proofs.Common.{None, refl, sym, ◌∙◌, subst, arith, ⊎_elim, true≢false, if◌then◌else◌}
 use Rattle.std.proofs.lemmas.Bool.{cases_eq, eq-eqb, ne_eqb}
 use Rattle.std.proofs.lemmas.Option.{slice_get_within}
 use Rattle.std.specs.Option.{option_map_or}
@@ -7,7 +9,8 @@ use Rattle.bpaf_line.specs.declared.error.Error.{Error}
 use Rattle.bpaf_text.specs.declared.params.ParseFlag.{ParseFlag}
 use Rattle.bpaf_words.specs.declared.arg.Arg.{Arg}
 use Rattle.bpaf_line.proofs.Counts.{count_below-same, count_below-fewer, count_below-none}
-use Rattle.bpaf_line.specs.Situation.{Situation, Context, item_in, is_marker, count_below, with_current}
+use Rattle.bpaf_line.specs.Situation.{Situation, Context, item_in, is_marker, count_below}
+use Rattle.bpaf_line.specs.Situation.{with_current}
 use Rattle.bpaf_laws.proofs.CountingLaws.{count_below-joined}
 use Rattle.bpaf_laws.specs.Environment.{is_set}
 use Rattle.bpaf_laws.specs.Flag.{FlagReads, IsAbsentValue, at_key, in_environment, nowhere}
@@ -18,7 +21,9 @@ use Rattle.bpaf_laws.specs.Repeat.{EachReads, ListReads, CountOutcome, CountRead
 use Rattle.bpaf_batteries.proofs.Keys.{not_both}
 use Rattle.bpaf_batteries.specs.Keys.{is_key, MustStand, AreKeysApart, KeyOutcome, KeyReads}
 use Rattle.bpaf_batteries.specs.Level.{level}
-use Rattle.bpaf_batteries.specs.Verbosity.{CountsOutcome, IsItemAt, IsLevelOf, keys_in, keys_taken, KeysAreCounted, last_place, PicksItem, VerbosityCounts, VerbosityPicks}
+use Rattle.bpaf_batteries.specs.Verbosity.{CountsOutcome, IsItemAt, IsLevelOf, keys_in, keys_taken}
+use Rattle.bpaf_batteries.specs.Verbosity.{KeysAreCounted, last_place, PicksItem, VerbosityCounts}
+use Rattle.bpaf_batteries.specs.Verbosity.{VerbosityPicks}
 use Rattle.bpaf_batteries.specs.VerbosityLaws.{counts_lawful}
 
 -- a share of so many places, each with a key of a flag

@@ -1,5 +1,6 @@
 -- What a flag whose key must stand on the line answers, and what it reads.
-use Rattle.std.proofs.Common.{◌≡◌, ℕ, ◌&&◌, Bool, true, false, Result, Ok, Err, Option, Some, None, refl, sym, ◌∙◌, subst, ⊎_elim, true≢false}
+use Rattle.std.proofs.Common.{◌≡◌, ℕ, ◌&&◌, Bool, true, false, Result, Ok, Err, Option, Some, None}
+use Rattle.std.proofs.Common.{refl, sym, ◌∙◌, subst, ⊎_elim, true≢false}
 use Rattle.std.specs.Option.{option_map_or}
 use Rattle.bpaf_text.specs.declared.params.ParseFlag.{ParseFlag}
 use Rattle.bpaf_words.specs.declared.arg.Arg.{Arg}

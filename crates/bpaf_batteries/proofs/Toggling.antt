@@ -1,6 +1,8 @@
 -- Two keys under a choice and a repeat: each step takes the leftmost key, so the last value is that
 -- of the rightmost.
-use Rattle.std.proofs.Common.{◌≡◌, ◌≢◌, ℕ, ◌+◌, ◌<◌, ◌≤◌, ◌&&◌, ◌||◌, Bool, true, false, not, List, [], ◌∷◌, ◌++◌, Result, Ok, Err, Option, Some, None, refl, sym, ◌∙◌, ap, subst, arith, inl, inr, ⊎_elim, true≢false, if◌then◌else◌}
+use Rattle.std.proofs.Common.{◌≡◌, ◌≢◌, ℕ, ◌+◌, ◌<◌, ◌≤◌, ◌&&◌, ◌||◌, Bool, true, false, not, List}
+use Rattle.std.proofs.Common.{[], ◌∷◌, ◌++◌, Result, Ok, Err, Option, Some, None, refl, sym, ◌∙◌}
+use Rattle.std.proofs.Common.{ap, subst, arith, inl, inr, ⊎_elim, true≢false, if◌then◌else◌}
 use Rattle.std.proofs.lemmas.Bool.{cases_eq, cases_lt}
 use Rattle.std.proofs.lemmas.Bool.Decides.{nat_tests}
 use Rattle.std.specs.Option.{option_map_or}
@@ -8,10 +10,12 @@ use Rattle.bpaf_text.specs.declared.params.ParseFlag.{ParseFlag}
 use Rattle.bpaf_words.specs.declared.arg.Arg.{Arg}
 use Rattle.bpaf_line.proofs.Matches.{match_is_open}
 use Rattle.std.specs.Int.{from_bool}
-use Rattle.bpaf_line.proofs.Places.{open_count-put, open_not_taken, taken_here, taken_other, taken_stays}
+use Rattle.bpaf_line.proofs.Places.{open_count-put, open_not_taken, taken_here, taken_other}
+use Rattle.bpaf_line.proofs.Places.{taken_stays}
 use Rattle.bpaf_line.specs.Conflicts.{ConflictsSaved, IsWinner}
 use Rattle.bpaf_line.specs.Messages.{is_memory}
-use Rattle.bpaf_line.specs.Situation.{Situation, is_taken, in_scope, is_open, item_at, item_in, open_count, take_place}
+use Rattle.bpaf_line.specs.Situation.{Situation, is_taken, in_scope, is_open, item_at, item_in}
+use Rattle.bpaf_line.specs.Situation.{open_count, take_place}
 use Rattle.bpaf_line.specs.Taking.{IsFirst, HasNone, is_match, open_item}
 use Rattle.bpaf_line.specs.declared.error.Error.{Error}
 use Rattle.bpaf_laws.proofs.ChoiceLaws.{choice_lawful}
@@ -22,7 +26,8 @@ use Rattle.bpaf_laws.specs.Repeat.{Steps, UntilStop, is_nil}
 use Rattle.bpaf_laws.specs.Step.{StepOutcome, stops_step, stops_spared, is_untouched}
 use Rattle.bpaf_batteries.proofs.Keys.{KeyRan, key_ran, not_both}
 use Rattle.bpaf_batteries.specs.Keys.{is_key, is_either, AreKeysApart, KeyOutcome}
-use Rattle.bpaf_batteries.specs.Toggle.{EitherOutcome, GivesValue, IsLastOf, IsRightmost, LastToggleWins, RightmostGives, ToggleOutcome}
+use Rattle.bpaf_batteries.specs.Toggle.{EitherOutcome, GivesValue, IsLastOf, IsRightmost}
+use Rattle.bpaf_batteries.specs.Toggle.{LastToggleWins, RightmostGives, ToggleOutcome}
 
 -- an error is no value
 no_value : {T : Type 0} (v : T) (e : Error) → ◌≡◌ {A = Result T Error} (Ok v) (Err e) → ⊥
