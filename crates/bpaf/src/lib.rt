@@ -5,7 +5,8 @@
 //! [`any`]), leaves that look at no item ([`pure`], [`pure_with`], [`fail`], [`appname`]) and
 //! products: [`ParseCon`] over [`Both`] and [`Last`] evaluates fields in order and gives their values
 //! to a constructor; the macro [`construct!`] writes one down, or a choice. [`choice`] is one of any
-//! number of parsers of one type.
+//! number of parsers of one type. [`cargo_helper`] is the product of a word that may stand in front
+//! and a parser.
 //!
 //! For the layers above: each type here proves the laws of `Parser` from the laws of its inner
 //! parsers alone, and its `outcome`, `reads` and `describes` are definitions over theirs
@@ -20,6 +21,7 @@
 #![tactic(auto)]
 
 mod adjacent;
+mod cargo;
 mod choices;
 mod construct;
 pub mod doc;
@@ -36,6 +38,7 @@ pub use bpaf_line::{
 };
 pub use bpaf_text::{FromList, FromText, NamedArg, TextFault, env, long, short};
 pub use bpaf_words::{Arg, Args, LentWord, Words, lines_are_unique, spellings_are_unique};
+pub use cargo::{CargoHelper, cargo_helper};
 pub use choices::{ParseChoice, choice};
 pub use leaves::any::{ParseAny, any};
 pub use leaves::appname::appname;

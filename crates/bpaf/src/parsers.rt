@@ -1,5 +1,6 @@
 //! The parser types (bpaf's module `parsers`).
 pub use crate::adjacent::ParseAdjacent;
+pub use crate::cargo::CargoHelper;
 pub use crate::choices::ParseChoice;
 pub use crate::leaves::any::ParseAny;
 pub use crate::leaves::appname::ParseAppname;

@@ -1,5 +1,6 @@
--- The known short names of a run, by which joined words are read.
-use Rattle.std.specs.Prelude.{◌≡◌, ◌⊎◌, ℕ, List, [], ◌∷◌, ◌++◌, codes}
+-- The known short names of a run, by which joined words are read, and the order of what is shown.
+use Rattle.std.specs.Prelude.{◌≡◌, ◌⊎◌, ℕ, Bool, false, List, [], ◌∷◌, ◌++◌, codes}
+use Rattle.bpaf_doc.specs.Order.{in_order}
 use Rattle.bpaf_doc.specs.Shape.{Shape}
 use Rattle.bpaf_doc.specs.Walks.{flag_shorts, argument_shorts}
 use Rattle.bpaf_words.specs.Arguments.{Given}
@@ -35,3 +36,7 @@ abbrev pub IsLineContext : (Shape → Type 0) → RunInfo → Given → Context 
 IsLineContext describes info given context =
     ((shape : Shape) × describes shape × IsContext (known_names info shape) given context)
     ⊎ ((known : Known) → IsContext known given context)
+
+-- whether no key stands behind a word, in a shape that the parser may show
+abbrev pub TellsOrder : (Shape → Type 0) → Bool → Type 0
+TellsOrder describes good = (shape : Shape) × describes shape × (good ≡ in_order shape false)

@@ -6,7 +6,7 @@ ghost use Rattle.bpaf_doc.specs.Shape.{Shape};
 ghost use Rattle.bpaf_doc.specs.Usage.{usage_text};
 ghost use Rattle.bpaf_line.specs.Situation.{open_count};
 ghost use Rattle.bpaf_words.specs.Arguments.{given_of, name_of, words_of};
-ghost use Rattle.bpaf_core.specs.Known.{ReadsNames, ShowsNames};
+ghost use Rattle.bpaf_core.specs.Known.{ReadsNames, ShowsNames, TellsOrder};
 ghost use Rattle.bpaf_core.specs.Dealt.{IsDealtOut};
 ghost use Rattle.bpaf_core.specs.Ending.{EndsRefused, EndsRun, IsHelp, ShowsHelp, Tells};
 ghost use Rattle.bpaf_core.specs.Run.{Runs, RunsWords};
@@ -160,6 +160,22 @@ impl<T: Drop, P: Parser<T>> OptionParser<T, P> {
         let meta = self.inner.meta(self.alloc)?;
         let usage = f(MetaInfo::new(&meta).usage(self.alloc)?)?;
         Ok(self.usage(usage))
+    }
+
+    /// Whether no key stands behind a word or a command in what the parser shows (bpaf's
+    /// `OptionParser::check_invariants`, which panics in place of the answer `false`).
+    ///
+    /// The flag isn't used, nor is it in bpaf. Refused only for want of memory.
+    ///
+    /// ```text
+    /// construct!(switch, word)      true
+    /// construct!(word, switch)      false
+    /// ```
+    pub fn check_invariants(&self, _cosmetic: bool) -> Result<bool, AllocError>
+        requires { P.can_eval self.now.inner }
+        ensures { IfOk result (λ good. TellsOrder (P.describes self.now.inner) good) }
+    {
+        Ok(self.inner.meta(self.alloc)?.positional_order())
     }
 
     /// The value that the words give (bpaf's `run_inner`).

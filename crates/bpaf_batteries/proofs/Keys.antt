@@ -1,0 +1,70 @@
+-- What a flag whose key must stand on the line answers, and what it reads.
+use Rattle.std.proofs.Common.{◌≡◌, ℕ, ◌&&◌, Bool, true, false, Result, Ok, Err, Option, Some, None}
+use Rattle.std.proofs.Common.{refl, sym, ◌∙◌, subst, ⊎_elim, true≢false}
+use Rattle.std.specs.Option.{option_map_or}
+use Rattle.bpaf_text.specs.declared.params.ParseFlag.{ParseFlag}
+use Rattle.bpaf_words.specs.declared.arg.Arg.{Arg}
+use Rattle.bpaf_line.specs.Messages.{is_memory}
+use Rattle.bpaf_line.specs.Situation.{Situation, take_place}
+use Rattle.bpaf_line.specs.Taking.{IsFirst, HasNone}
+use Rattle.bpaf_line.specs.declared.error.Error.{Error}
+use Rattle.bpaf_line.specs.declared.error.Message.{Message}
+use Rattle.bpaf_line.specs.declared.error.Message.TheVariants.{Memory}
+use Rattle.bpaf_laws.specs.Environment.{is_set}
+use Rattle.bpaf_laws.specs.Flag.{FlagOutcome, FlagFails, IsAbsentValue, IsFlagPresent}
+use Rattle.bpaf_laws.specs.Spared.{IsNotMemory}
+use Rattle.bpaf_batteries.specs.Keys.{is_key, MustStand}
+
+-- of two tests that no item passes both, an item passes not both
+pub not_both : (one other : Arg → Bool) (at : Option Arg)
+    → ((item : Arg) → (one item && other item) ≡ false) → option_map_or one at false ≡ true
+    → option_map_or other at false ≡ true → ⊥
+not_both one other None apart e f = true≢false (sym e)
+not_both one other (Some item) apart e f = true≢false (sym (both (one item) (other item) e f) ∙ apart item)
+  where
+    both : (a b : Bool) → a ≡ true → b ≡ true → (a && b) ≡ true
+    both a b e f = rw (e, f) refl
+
+-- what such a flag answers but want of memory: a value for its first key, which is taken; or there
+-- is no key, and nothing changes
+abbrev pub KeyRan : {T : Type 0} → (T → T → Type 0) → ParseFlag T → Situation → Result T Error
+    → Situation → Type 0
+KeyRan clones flag s (Ok v) t =
+    (p : ℕ) × IsFirst (is_key flag) s p × (t ≡ take_place s p) × clones flag.present v
+KeyRan clones flag s (Err e) t = HasNone (is_key flag) s × (t ≡ s)
+
+module _ {T : Type 0} (clones : T → T → Type 0) (flag : ParseFlag T) (stands : MustStand flag)
+    (s t : Situation) where
+  -- no variable of the environment counts
+  not_set : is_set s.context.env flag.named.envs ≡ true → ⊥
+  not_set set =
+      true≢false (sym (subst (λ envs. is_set s.context.env envs ≡ true) stands.on_the_line set))
+
+  -- nor is there an absent value
+  not_absent : (v : T) → IsAbsentValue clones flag.absent v → ⊥
+  not_absent v value =
+      subst (λ absent. IsAbsentValue clones absent v) stands.required value
+
+  -- a flag that is present took its first key
+  key_taken : (v : T) → IsFlagPresent flag.named s t → clones flag.present v
+      → KeyRan clones flag s (Ok v) t
+  key_taken v present value = ⊎_elim
+      (λ takes. (takes.0, takes.1, takes.2, value))
+      (λ set. absurd (not_set set.1))
+      present
+
+  -- a refusal that isn't want of memory comes where there is no key
+  key_missed : (m : Message) → FlagFails flag.named flag.absent s m t → is_memory m ≡ false
+      → HasNone (is_key flag) s × (t ≡ s)
+  key_missed Memory fails spared = absurd (true≢false spared)
+  key_missed other fails spared = (fails.0.0.0, fails.0.0.1)
+
+  -- so a flag answers
+  pub key_ran : (r : Result T Error)
+      → FlagOutcome clones flag.named flag.present flag.absent s r t → IsNotMemory r
+      → KeyRan clones flag s r t
+  key_ran (Ok v) o spared = ⊎_elim
+      (λ here. key_taken v here.0 here.1)
+      (λ none. absurd (not_absent v none.1))
+      o
+  key_ran (Err e) o spared = key_missed e.0 o spared

@@ -1,0 +1,19 @@
+use Rattle.std.specs.contracts.prelude.UnitClone.TheImpl.{is_clone-value}
+use Rattle.bpaf_batteries.proofs.Counting.{counts_ran, keys_counted}
+use Rattle.bpaf_batteries.proofs.counts.KeyCountsParserTuple2UsizeUsize.eval.Goals as goal
+
+pub returns-clause-outcome : goal.returns-clause-outcome
+returns-clause-outcome c =
+    let p = c.args.self.now in
+    counts_ran is_clone-value.it p.fields.first.inner p.fields.rest.last.inner c.args.state.now
+    c.eval_fields-counts.new.state c.set_current.new.self c.set_current.ensures.current
+    c.eval_fields-counts.result c.eval_fields-counts.ensures.outcome
+
+pub returns-clause-keys_are_counted : goal.returns-clause-keys_are_counted
+returns-clause-keys_are_counted c =
+    let p = c.args.self.now in
+    keys_counted is_clone-value.it p.fields.first.inner p.fields.rest.last.inner p.apart
+    c.args.state.now c.set_current.new.self c.eval_fields-counts.result
+    (counts_ran is_clone-value.it p.fields.first.inner p.fields.rest.last.inner c.args.state.now
+    c.eval_fields-counts.new.state c.set_current.new.self c.set_current.ensures.current
+    c.eval_fields-counts.result c.eval_fields-counts.ensures.outcome)

@@ -1,0 +1,6 @@
+use Rattle.std.proofs.Common.{arith}
+use Rattle.std.proofs.lemmas.Int.{ints, clamps}
+use Rattle.bpaf_batteries.proofs.verbosity.place.Goals as goal
+
+pub returns-clause-level : goal.returns-clause-level
+returns-clause-level c = omega (arith, ints, clamps)

@@ -1,0 +1,56 @@
+-- Required flags as the batteries have them, of which only keys on the line count.
+use Rattle.std.specs.Prelude.{◌≡◌, ℕ, List, [], Bool, false, ◌&&◌, ◌||◌, None, codes}
+use Rattle.bpaf_doc.specs.Fold.{TextPieces}
+use Rattle.bpaf_doc.specs.declared.doc.Piece.{Piece}
+use Rattle.bpaf_text.specs.Named.{nothing_named, with_help, with_long, with_short}
+use Rattle.bpaf_text.specs.declared.params.ParseFlag.{ParseFlag}
+use Rattle.bpaf_words.specs.declared.arg.Arg.{Arg}
+use Rattle.bpaf_words.specs.Items.{is_key_of}
+use Rattle.bpaf_laws.specs.Flag.{FlagOutcome, FlagReads}
+use Rattle.bpaf_laws.specs.Reading.{Outcome, Readings}
+
+-- an item is a key of a flag
+abbrev pub is_key : {T : Type 0} → ParseFlag T → Arg → Bool
+is_key flag item = is_key_of flag.named.names item
+
+-- an item is a key of one of two flags
+abbrev pub is_either : {T : Type 0} → ParseFlag T → ParseFlag T → Arg → Bool
+is_either one other item = is_key one item || is_key other item
+
+-- a key of a flag must stand on the line: the flag has no absent value, and no names in the
+-- environment
+pub record MustStand {T : Type 0} (flag : ParseFlag T) : Type 0 where
+  pub required : flag.absent ≡ None
+  pub on_the_line : flag.named.envs ≡ []
+
+-- two such flags, and no item is a key of both
+pub record AreKeysApart {T : Type 0} (one other : ParseFlag T) : Type 0 where
+  pub one_stands : MustStand one
+  pub other_stands : MustStand other
+  pub apart : (item : Arg) → (is_key one item && is_key other item) ≡ false
+
+-- what a flag answers
+abbrev pub KeyOutcome : {T : Type 0} → (T → T → Type 0) → ParseFlag T → Outcome T
+KeyOutcome clones flag = FlagOutcome clones flag.named flag.present flag.absent
+
+-- what it reads
+abbrev pub KeyReads : {T : Type 0} → (T → T → Type 0) → ParseFlag T → Readings T
+KeyReads {T} clones flag = FlagReads T clones flag.named flag.present flag.absent
+
+-- a flag that must stand on the line, of one short and one long name, with this help
+abbrev pub IsCountedKey : ℕ → List ℕ → List ℕ → ParseFlag (Unit {0}) → Type 0
+IsCountedKey name long help flag =
+    (doc : List Piece) × TextPieces help doc
+    × (flag ≡ record {
+      present = tt;
+      absent = None;
+      named = with_help (with_long (with_short nothing_named name) long) doc;
+    })
+
+-- the keys `-v`, `--verbose` and `-q`, `--quiet`
+abbrev pub AreVerboseAndQuiet : ParseFlag (Unit {0}) → ParseFlag (Unit {0}) → Type 0
+AreVerboseAndQuiet more fewer =
+    IsCountedKey 118 (codes "verbose")
+    (codes "Increase output verbosity, can be used several times") more
+    × IsCountedKey 113 (codes "quiet")
+    (codes "Decrease output verbosity, can be used several times") fewer

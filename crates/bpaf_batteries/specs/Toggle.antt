@@ -1,0 +1,72 @@
+-- A toggle: the last value of two keys that may each stand any number of times.
+use Rattle.std.specs.Prelude.{◌≡◌, ◌⊎◌, ◌<◌, ◌++◌, ◌∷◌, [], ℕ, Bool, true, false, List, Option}
+use Rattle.std.specs.Prelude.{Some, None}
+use Rattle.std.specs.Global.{Vec}
+use Rattle.bpaf_doc.specs.Shape.{Shape}
+use Rattle.bpaf_text.specs.declared.params.ParseFlag.{ParseFlag}
+use Rattle.bpaf_words.specs.declared.arg.Arg.{Arg}
+use Rattle.bpaf_line.specs.Situation.{Situation}
+use Rattle.bpaf_line.specs.Taking.{HasNone, is_match}
+use Rattle.bpaf_laws.specs.Choice.{ChoiceDescribes, ChoiceOutcome, ChoiceReads}
+use Rattle.bpaf_laws.specs.Flag.{flag_shape}
+use Rattle.bpaf_laws.specs.Reading.{Outcome, Readings}
+use Rattle.bpaf_laws.specs.Repeat.{ManyDescribes, ManyOutcome, ManyReads}
+use Rattle.bpaf_laws.specs.Transform.{MapOutcome, MapReads}
+use Rattle.bpaf_batteries.specs.Keys.{is_key, is_either, AreKeysApart, KeyOutcome, KeyReads}
+
+-- the last of some values; none where there is none
+abbrev pub IsLastOf : {T : Type 0} → List T → Option T → Type 0
+IsLastOf {T} values (Some v) = (before : List T) × (values ≡ before ++ v ∷ [])
+IsLastOf values None = values ≡ []
+
+-- the rightmost place with a match
+pub record IsRightmost (test : Arg → Bool) (s : Situation) (p : ℕ) : Type 0 where
+  pub matches : is_match test s p ≡ true
+  pub last : (q : ℕ) → p < q → is_match test s q ≡ false
+
+-- a value of the key at a place: a clone of that of its flag
+abbrev pub GivesValue : {T : Type 0} → (T → T → Type 0) → ParseFlag T → ParseFlag T → Situation → ℕ
+    → T → Type 0
+GivesValue clones one other s p v =
+    ((is_match (is_key one) s p ≡ true) × clones one.present v)
+    ⊎ ((is_match (is_key other) s p ≡ true) × clones other.present v)
+
+-- a value of the rightmost key of either flag that is present in scope; none where there is no key
+abbrev pub RightmostGives : {T : Type 0} → (T → T → Type 0) → ParseFlag T → ParseFlag T → Situation
+    → Option T → Type 0
+RightmostGives clones one other s (Some v) =
+    (p : ℕ) × IsRightmost (is_either one other) s p × GivesValue clones one other s p v
+RightmostGives clones one other s None = HasNone (is_either one other) s
+
+-- so it is for keys that must stand on the line, whose names are apart
+abbrev pub LastToggleWins : {T : Type 0} → (T → T → Type 0) → ParseFlag T → ParseFlag T → Situation
+    → Option T → Type 0
+LastToggleWins clones one other s v = AreKeysApart one other → RightmostGives clones one other s v
+
+-- what a choice of two keys answers
+abbrev pub EitherOutcome : {T : Type 0} → (T → T → Type 0) → ParseFlag T → ParseFlag T → Outcome T
+EitherOutcome clones one other = ChoiceOutcome (KeyOutcome clones one) (KeyOutcome clones other)
+
+-- what it reads
+abbrev pub EitherReads : {T : Type 0} → (T → T → Type 0) → ParseFlag T → ParseFlag T → Readings T
+EitherReads clones one other = ChoiceReads (KeyReads clones one) (KeyReads clones other)
+
+-- what a toggle answers: the last value of a repeat of the choice
+abbrev pub ToggleOutcome : {T : Type 0} → (T → T → Type 0) → ParseFlag T → ParseFlag T → Bool
+    → Outcome (Option T)
+ToggleOutcome clones one other catches =
+    MapOutcome (ManyOutcome (EitherOutcome clones one other) catches)
+    (λ values v. IsLastOf values.items v)
+
+-- what it reads
+abbrev pub ToggleReads : {T : Type 0} → (T → T → Type 0) → ParseFlag T → ParseFlag T
+    → Readings (Option T)
+ToggleReads {T} clones one other =
+    MapReads (Vec T) (Option T) (ManyReads (EitherReads clones one other))
+    (λ values v. IsLastOf values.items v)
+
+-- what it shows
+abbrev pub ToggleDescribes : {T : Type 0} → ParseFlag T → ParseFlag T → Shape → Type 0
+ToggleDescribes one other =
+    ManyDescribes (ChoiceDescribes (λ shape. shape ≡ flag_shape one.named one.absent)
+    (λ shape. shape ≡ flag_shape other.named other.absent))

@@ -1,0 +1,19 @@
+-- Toggles keep to the laws.
+use Rattle.std.specs.Prelude.{Bool, Option}
+use Rattle.bpaf_text.specs.declared.params.ParseFlag.{ParseFlag}
+use Rattle.bpaf_laws.proofs.ChoiceLaws.{choice_lawful}
+use Rattle.bpaf_laws.proofs.FlagLaws.{flag_lawful}
+use Rattle.bpaf_laws.proofs.RepeatLaws.{many_lawful}
+use Rattle.bpaf_laws.proofs.TransformLaws.{map_lawful}
+use Rattle.bpaf_laws.specs.Laws.{Lawful}
+use Rattle.bpaf_batteries.specs.Toggle.{IsLastOf, ToggleOutcome, ToggleReads}
+
+-- toggles keep to the laws
+pub toggle_lawful : {T : Type 0} (clones : T → T → Type 0) (one other : ParseFlag T)
+    (catches : Bool)
+    → Lawful (Option T) (ToggleOutcome clones one other catches) (ToggleReads clones one other)
+toggle_lawful {T} clones one other catches =
+    map_lawful
+    (many_lawful (choice_lawful (flag_lawful T clones one.named one.present one.absent)
+    (flag_lawful T clones other.named other.present other.absent)) catches)
+    (λ values v. IsLastOf values.items v)

@@ -1,0 +1,35 @@
+-- Levels keep to the laws.
+use Rattle.std.specs.Prelude.{◌≡◌, ℕ}
+use Rattle.std.proofs.Common.{⊎_elim}
+use Rattle.bpaf_text.specs.declared.params.ParseFlag.{ParseFlag}
+use Rattle.bpaf_laws.proofs.FlagLaws.{flag_lawful}
+use Rattle.bpaf_laws.proofs.ProductLaws.{both_lawful, product_lawful}
+use Rattle.bpaf_laws.proofs.RepeatLaws.{count_lawful}
+use Rattle.bpaf_laws.proofs.TransformLaws.{map_lawful}
+use Rattle.bpaf_laws.specs.Laws.{Lawful}
+use Rattle.bpaf_laws.specs.Reading.{Outcome, Readings}
+use Rattle.bpaf_laws.specs.Repeat.{CountOutcome, CountReads}
+use Rattle.bpaf_laws.specs.Transform.{MapReads}
+use Rattle.bpaf_batteries.specs.Keys.{KeyOutcome, KeyReads}
+use Rattle.bpaf_batteries.specs.Verbosity.{CountsOutcome, CountsReads, PickOutcome}
+
+-- a parser that picks by the value of an inner one keeps to the laws where that does
+pub pick_lawful : {C T : Type 0} {inner : Outcome C} {reads : Readings C} → Lawful C inner reads
+    → (picks : C → T → Type 0)
+    → Lawful T (PickOutcome inner picks) (MapReads C T reads picks)
+pick_lawful law picks = record {
+  ok = λ s t v o. (map_lawful law picks).ok s t v o;
+  err = λ s t e o. ⊎_elim (λ refused. law.err s t e refused)
+      (λ wanted. (law.ok s t wanted.0 wanted.1).keeps) o;
+}
+
+module _ {T : Type 0} (clones : T → T → Type 0) (more fewer : ParseFlag T) where
+  -- a counted key keeps to the laws
+  count_key_lawful : (flag : ParseFlag T)
+      → Lawful ℕ (CountOutcome (KeyOutcome clones flag)) (CountReads (KeyReads clones flag))
+  count_key_lawful flag = count_lawful (flag_lawful T clones flag.named flag.present flag.absent)
+
+  -- so do two
+  pub counts_lawful : Lawful (ℕ × ℕ) (CountsOutcome clones more fewer) (CountsReads clones more fewer)
+  counts_lawful = product_lawful (λ counts v. v ≡ counts)
+      (both_lawful (count_key_lawful more) (count_key_lawful fewer))

@@ -1,0 +1,88 @@
+ghost use Rattle.std.specs.Prelude.{◌≡◌, ◌∷◌, [], IfOk, IsTrue, None};
+ghost use Rattle.bpaf_batteries.specs.Keys.{AreKeysApart, AreVerboseAndQuiet, IsCountedKey};
+
+use bpaf::parsers::{ParseCount, ParseFlag};
+use bpaf::{Both, Doc, Error, Fields, Last, Meta, Parser, State, short};
+use std::alloc::{AllocError, Global};
+
+/// Two keys that may each stand any number of times, counted.
+#[derive(Drop)]
+pub struct KeyCounts {
+    /// The counts of the two keys.
+    pub fields: Both<ParseCount<ParseFlag<()>, ()>, Last<ParseCount<ParseFlag<()>, ()>>>,
+    pub ghost apart: { AreKeysApart fields.first.inner fields.rest.last.inner },
+}
+
+/// How often a key of these names and this help stands on the line; refused only for want of
+/// memory.
+fn counted(
+    alloc: Global,
+    name: char,
+    long: &str,
+    help: &str,
+) -> Result<ParseCount<ParseFlag<()>, ()>, AllocError>
+    ensures { IfOk result (λ p. IsCountedKey name long.now help.now p.inner) }
+{
+    let help = Doc::from_text(alloc, help)?;
+    Ok(
+        short(alloc, name)?
+            .long(long)?
+            .help(help)
+            .req_flag(())
+            .count(),
+    )
+}
+
+/// The keys `-v`, `--verbose` and `-q`, `--quiet`; refused only for want of memory.
+pub(crate) fn verbose_and_quiet(alloc: Global) -> Result<KeyCounts, AllocError>
+    ensures { IfOk result (λ p. AreVerboseAndQuiet p.fields.first.inner p.fields.rest.last.inner) }
+{
+    let help = "Increase output verbosity, can be used several times";
+    let first = counted(alloc, 'v', "verbose", help)?;
+    let help = "Decrease output verbosity, can be used several times";
+    let last = counted(alloc, 'q', "quiet", help)?;
+    Ok(KeyCounts {
+        fields: Both {
+            first,
+            rest: Last { last },
+        },
+    })
+}
+
+/// Both counts; then no word is current.
+impl Parser<(usize, usize)> for KeyCounts {
+    ghost use Rattle.std.specs.Prelude.{IfOk};
+    ghost use Rattle.bpaf_batteries.specs.Verbosity.{CountsDescribe, CountsOutcome, CountsReads};
+    ghost use Rattle.bpaf_batteries.specs.Verbosity.{KeysAreCounted};
+    ghost use Rattle.bpaf_batteries.specs.VerbosityLaws.{counts_lawful};
+
+    ghost can_eval = { λ p. Unit {0} };
+
+    ghost describes = { λ p. CountsDescribe p.fields.first.inner p.fields.rest.last.inner };
+
+    ghost reads = { λ p.
+        CountsReads ⟦<() as Clone>⟧.is_clone p.fields.first.inner p.fields.rest.last.inner };
+
+    ghost outcome = { λ p.
+        CountsOutcome ⟦<() as Clone>⟧.is_clone p.fields.first.inner p.fields.rest.last.inner };
+
+    fn eval(&self, state: &mut State) -> Result<(usize, usize), Error>
+        ensures outcome { CountsOutcome ⟦<() as Clone>⟧.is_clone self.now.fields.first.inner
+            self.now.fields.rest.last.inner state.old result state.new }
+        ensures keys_are_counted { IfOk result (KeysAreCounted self.now.fields.first.inner
+            self.now.fields.rest.last.inner state.old state.new) }
+    {
+        let counts = self.fields.eval_fields(state);
+        state.set_current(None);
+        counts
+    }
+
+    fn meta(&self, alloc: Global) -> Result<Meta, AllocError> {
+        let mut metas = Vec::new(alloc);
+        self.fields.push_metas(alloc, &mut metas)?;
+        Ok(Meta::And(metas))
+    }
+
+    ghost lawful = { λ p.
+        counts_lawful ⟦<() as Clone>⟧.is_clone p.fields.first.inner p.fields.rest.last.inner };
+}
