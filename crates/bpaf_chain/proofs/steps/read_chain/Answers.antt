@@ -1,10 +1,13 @@
-use Rattle.std.proofs.Common.{rules}
+use Rattle.std.proofs.Common.{◌≡◌, ◌∙◌, ap, rules, subst, sym}
 use Rattle.bpaf_words.specs.Arguments.{given_of}
 use Rattle.bpaf_chain.proofs.Dealing.{answer_dealt}
+use Rattle.bpaf_chain.proofs.Showing.{Command, IsTitled, program_asked}
+use Rattle.bpaf_chain.specs.Shown.{IsDescribed, IsMoveShape, IsRepeatShape, IsTurnShape, ShowsAs}
+use Rattle.bpaf_chain.specs.Shown.{move_title, repeat_title, turn_title}
 use Rattle.bpaf_chain.proofs.steps.read_chain.Goals as goal
 
-pub returns : goal.returns
-returns g c =
+pub returns-clause-dealt : goal.returns-clause-dealt
+returns-clause-dealt g c =
     answer_dealt _ _ _ _ _ _ _ _ _ _ _ _
     (record {
       move_is = record {
@@ -24,3 +27,78 @@ returns g c =
       };
     })
     _ _ _ (given_of c.set_name.result) (search rules) _ c.run_once.ensures.dealt
+
+pub returns-clause-asked : goal.returns-clause-asked
+returns-clause-asked g c =
+    let options = c.in_ok-to_options.field-0 in
+    let the_go = options.inner.inner.this.this in
+    let the_turn = options.inner.inner.this.that in
+    let the_repeat = options.inner.inner.that in
+    let same_go : the_go ≡ c.in_ok-go.go = search rules in
+    let same_turn : the_turn ≡ c.in_ok-turn.turn = search rules in
+    let same_repeat : the_repeat ≡ c.in_ok-repeat.repeat = search rules in
+    let go : Command =
+    record {
+      adjacent = the_go.adjacent;
+      called = the_go.names;
+      help = the_go.help;
+      info = the_go.subparser.info;
+      describes = g.M.Parser.describes the_go.subparser.inner;
+      outcome = g.M.Parser.outcome the_go.subparser.inner;
+      reads = g.M.Parser.reads the_go.subparser.inner;
+    } in
+    let turn : Command =
+    record {
+      adjacent = the_turn.adjacent;
+      called = the_turn.names;
+      help = the_turn.help;
+      info = the_turn.subparser.info;
+      describes = g.T.Parser.describes the_turn.subparser.inner;
+      outcome = g.T.Parser.outcome the_turn.subparser.inner;
+      reads = g.T.Parser.reads the_turn.subparser.inner;
+    } in
+    let repeat : Command =
+    record {
+      adjacent = the_repeat.adjacent;
+      called = the_repeat.names;
+      help = the_repeat.help;
+      info = the_repeat.subparser.info;
+      describes = g.R.Parser.describes the_repeat.subparser.inner;
+      outcome = g.R.Parser.outcome the_repeat.subparser.inner;
+      reads = g.R.Parser.reads the_repeat.subparser.inner;
+    } in
+    let go_is : IsTitled move_title go =
+    record {
+      called_is = ap (λ p. p.names) same_go ∙ c.in_ok-go.ensures.names;
+      help_is = search rules;
+      described = subst (IsDescribed _) (sym (ap (λ p. p.subparser.info) same_go))
+          c.in_ok-go.ensures.described;
+      law = g.met.M.Parser.lawful the_go.subparser.inner;
+      shown = subst (λ p. ShowsAs IsMoveShape (g.M.Parser.describes p) (g.M.Parser.outcome p))
+          (sym (ap (λ p. p.subparser.inner) same_go ∙ c.in_ok-go.ensures.inner))
+          c.requires.go_shows;
+    } in
+    let turn_is : IsTitled turn_title turn =
+    record {
+      called_is = ap (λ p. p.names) same_turn ∙ c.in_ok-turn.ensures.names;
+      help_is = search rules;
+      described = subst (IsDescribed _) (sym (ap (λ p. p.subparser.info) same_turn))
+          c.in_ok-turn.ensures.described;
+      law = g.met.T.Parser.lawful the_turn.subparser.inner;
+      shown = subst (λ p. ShowsAs IsTurnShape (g.T.Parser.describes p) (g.T.Parser.outcome p))
+          (sym (ap (λ p. p.subparser.inner) same_turn ∙ c.in_ok-turn.ensures.inner))
+          c.requires.turn_shows;
+    } in
+    let repeat_is : IsTitled repeat_title repeat =
+    record {
+      called_is = ap (λ p. p.names) same_repeat ∙ c.in_ok-repeat.ensures.names;
+      help_is = search rules;
+      described = subst (IsDescribed _) (sym (ap (λ p. p.subparser.info) same_repeat))
+          c.in_ok-repeat.ensures.described;
+      law = g.met.R.Parser.lawful the_repeat.subparser.inner;
+      shown = subst (λ p. ShowsAs IsRepeatShape (g.R.Parser.describes p) (g.R.Parser.outcome p))
+          (sym (ap (λ p. p.subparser.inner) same_repeat ∙ c.in_ok-repeat.ensures.inner))
+          c.requires.repeat_shows;
+    } in
+    program_asked go turn repeat go_is turn_is repeat_is options.inner.catch options.info
+    (search rules) (given_of c.set_name.result) _ (search rules) _ c.run_once.ensures.outcome
