@@ -1,35 +1,15 @@
 use Rattle.std.proofs.Common.{◌≡◌, ◌∙◌, ap, rules, subst, sym}
 use Rattle.bpaf_words.specs.Arguments.{given_of}
-use Rattle.bpaf_chain.proofs.Dealing.{answer_dealt}
-use Rattle.bpaf_chain.proofs.Showing.{Command, IsTitled, program_asked}
+use Rattle.bpaf_laws.specs.Command.{named_only}
+use Rattle.bpaf_core.specs.Info.{short_descr}
 use Rattle.bpaf_chain.specs.Shown.{IsDescribed, IsMoveShape, IsRepeatShape, IsTurnShape, ShowsAs}
 use Rattle.bpaf_chain.specs.Shown.{move_title, repeat_title, turn_title}
+use Rattle.bpaf_chain.proofs.Dealing.{answer_dealt}
+use Rattle.bpaf_chain.proofs.Showing.{Command, IsTitled, program_asked}
 use Rattle.bpaf_chain.proofs.steps.read_chain.Goals as goal
 
-pub returns-clause-dealt : goal.returns-clause-dealt
-returns-clause-dealt g c =
-    answer_dealt _ _ _ _ _ _ _ _ _ _ _ _
-    (record {
-      move_is = record {
-        adjacent_is = search rules;
-        called_is = search rules;
-        inner_is = search rules;
-      };
-      turn_is = record {
-        adjacent_is = search rules;
-        called_is = search rules;
-        inner_is = search rules;
-      };
-      repeat_is = record {
-        adjacent_is = search rules;
-        called_is = search rules;
-        inner_is = search rules;
-      };
-    })
-    _ _ _ (given_of c.set_name.result) (search rules) _ c.run_once.ensures.dealt
-
-pub returns-clause-asked : goal.returns-clause-asked
-returns-clause-asked g c =
+pub returns : goal.returns
+returns g c =
     let options = c.in_ok-to_options.field-0 in
     let the_go = options.inner.inner.this.this in
     let the_turn = options.inner.inner.this.that in
@@ -37,6 +17,18 @@ returns-clause-asked g c =
     let same_go : the_go ≡ c.in_ok-go.go = search rules in
     let same_turn : the_turn ≡ c.in_ok-turn.turn = search rules in
     let same_repeat : the_repeat ≡ c.in_ok-repeat.repeat = search rules in
+    let inside_go : the_go.subparser.inner ≡ c.args.go =
+    ap (λ p. p.subparser.inner) same_go ∙ c.in_ok-go.ensures.inner in
+    let called_go : the_go.names ≡ named_only move_title.name =
+    ap (λ p. p.names) same_go ∙ c.in_ok-go.ensures.names in
+    let inside_turn : the_turn.subparser.inner ≡ c.args.turn =
+    ap (λ p. p.subparser.inner) same_turn ∙ c.in_ok-turn.ensures.inner in
+    let called_turn : the_turn.names ≡ named_only turn_title.name =
+    ap (λ p. p.names) same_turn ∙ c.in_ok-turn.ensures.names in
+    let inside_repeat : the_repeat.subparser.inner ≡ c.args.repeat =
+    ap (λ p. p.subparser.inner) same_repeat ∙ c.in_ok-repeat.ensures.inner in
+    let called_repeat : the_repeat.names ≡ named_only repeat_title.name =
+    ap (λ p. p.names) same_repeat ∙ c.in_ok-repeat.ensures.names in
     let go : Command =
     record {
       adjacent = the_go.adjacent;
@@ -69,36 +61,61 @@ returns-clause-asked g c =
     } in
     let go_is : IsTitled move_title go =
     record {
-      called_is = ap (λ p. p.names) same_go ∙ c.in_ok-go.ensures.names;
-      help_is = search rules;
+      called_is = called_go;
+      help_is = ap (λ p. p.help) same_go
+          ∙ (c.in_ok-go.ensures.help ∙ ap (λ p. short_descr p.subparser.info) (sym same_go));
       described = subst (IsDescribed _) (sym (ap (λ p. p.subparser.info) same_go))
           c.in_ok-go.ensures.described;
       law = g.met.M.Parser.lawful the_go.subparser.inner;
-      shown = subst (λ p. ShowsAs IsMoveShape (g.M.Parser.describes p) (g.M.Parser.outcome p))
-          (sym (ap (λ p. p.subparser.inner) same_go ∙ c.in_ok-go.ensures.inner))
-          c.requires.go_shows;
+      shown = subst
+          (λ p. ShowsAs IsMoveShape (g.M.Parser.describes p) (g.M.Parser.outcome p))
+          (sym inside_go) c.requires.go_shows;
     } in
     let turn_is : IsTitled turn_title turn =
     record {
-      called_is = ap (λ p. p.names) same_turn ∙ c.in_ok-turn.ensures.names;
-      help_is = search rules;
+      called_is = called_turn;
+      help_is = ap (λ p. p.help) same_turn
+          ∙ (c.in_ok-turn.ensures.help ∙ ap (λ p. short_descr p.subparser.info) (sym same_turn));
       described = subst (IsDescribed _) (sym (ap (λ p. p.subparser.info) same_turn))
           c.in_ok-turn.ensures.described;
       law = g.met.T.Parser.lawful the_turn.subparser.inner;
-      shown = subst (λ p. ShowsAs IsTurnShape (g.T.Parser.describes p) (g.T.Parser.outcome p))
-          (sym (ap (λ p. p.subparser.inner) same_turn ∙ c.in_ok-turn.ensures.inner))
-          c.requires.turn_shows;
+      shown = subst
+          (λ p. ShowsAs IsTurnShape (g.T.Parser.describes p) (g.T.Parser.outcome p))
+          (sym inside_turn) c.requires.turn_shows;
     } in
     let repeat_is : IsTitled repeat_title repeat =
     record {
-      called_is = ap (λ p. p.names) same_repeat ∙ c.in_ok-repeat.ensures.names;
-      help_is = search rules;
+      called_is = called_repeat;
+      help_is = ap (λ p. p.help) same_repeat
+          ∙ (c.in_ok-repeat.ensures.help ∙ ap (λ p. short_descr p.subparser.info) (sym same_repeat));
       described = subst (IsDescribed _) (sym (ap (λ p. p.subparser.info) same_repeat))
           c.in_ok-repeat.ensures.described;
       law = g.met.R.Parser.lawful the_repeat.subparser.inner;
-      shown = subst (λ p. ShowsAs IsRepeatShape (g.R.Parser.describes p) (g.R.Parser.outcome p))
-          (sym (ap (λ p. p.subparser.inner) same_repeat ∙ c.in_ok-repeat.ensures.inner))
-          c.requires.repeat_shows;
+      shown = subst
+          (λ p. ShowsAs IsRepeatShape (g.R.Parser.describes p) (g.R.Parser.outcome p))
+          (sym inside_repeat) c.requires.repeat_shows;
     } in
-    program_asked go turn repeat go_is turn_is repeat_is options.inner.catch options.info
-    (search rules) (given_of c.set_name.result) _ (search rules) _ c.run_once.ensures.outcome
+    record {
+      dealt = answer_dealt _ _ _ _ _ _ _ _ _ _ _ _
+          (record {
+            move_is = record {
+              adjacent_is = ap (λ p. p.adjacent) same_go ∙ c.in_ok-go.ensures.adjacent;
+              called_is = called_go;
+              inner_is = ap g.M.Parser.reads inside_go;
+            };
+            turn_is = record {
+              adjacent_is = ap (λ p. p.adjacent) same_turn ∙ c.in_ok-turn.ensures.adjacent;
+              called_is = called_turn;
+              inner_is = ap g.T.Parser.reads inside_turn;
+            };
+            repeat_is = record {
+              adjacent_is = ap (λ p. p.adjacent) same_repeat ∙ c.in_ok-repeat.ensures.adjacent;
+              called_is = called_repeat;
+              inner_is = ap g.R.Parser.reads inside_repeat;
+            };
+          })
+          _ _ _ (given_of c.set_name.result) (search rules) _ c.run_once.ensures.dealt;
+      asked = program_asked go turn repeat go_is turn_is repeat_is options.inner.catch options.info
+          (search rules) (given_of c.set_name.result) _ (search rules) _
+          c.run_once.ensures.outcome;
+    }
