@@ -1,7 +1,7 @@
--- What a run shows it was asked for, where its parser shows nothing by itself.
+-- What a run shows it was asked for, or its parser hands it on.
 use Rattle.std.proofs.Common.{◌≡◌, Bool, true, false, List, [], Option, Some, None, Result, Ok}
 use Rattle.std.proofs.Common.{inl, inr, Err, refl, sym, subst, ap, ◌∙◌, ⊎_elim, true≢false, if◌then◌else◌}
-use Rattle.std.specs.Prelude.{ℕ, ◌∷◌, ⊤}
+use Rattle.std.specs.Prelude.{ℕ, ◌∷◌}
 use Rattle.std.specs.Result.{IfErr}
 use Rattle.bpaf_doc.specs.declared.doc.Piece.{Piece}
 use Rattle.bpaf_doc.specs.Shape.{Part, Shape}
@@ -15,7 +15,7 @@ use Rattle.bpaf_line.specs.declared.failure.ParseFailure.TheVariants as failure
 use Rattle.bpaf_line.specs.Leftover.{IsLeftover, conflict, only_once, not_expected}
 use Rattle.bpaf_line.specs.Messages.{is_memory}
 use Rattle.bpaf_line.specs.Rendering.{Renders}
-use Rattle.bpaf_line.specs.Situation.{Situation, Context, beginning}
+use Rattle.bpaf_line.specs.Situation.{Situation, beginning}
 use Rattle.bpaf_laws.specs.Argument.{ArgumentOutcome}
 use Rattle.bpaf_laws.specs.Environment.{IsAbsence}
 use Rattle.bpaf_laws.specs.Flag.{FlagOutcome}
@@ -23,31 +23,49 @@ use Rattle.bpaf_laws.specs.Laws.{Keeps, Lawful}
 use Rattle.bpaf_laws.specs.Product.{BothOutcome, ProductOutcome, joined}
 use Rattle.bpaf_laws.specs.Reading.{Readings, Outcome}
 use Rattle.bpaf_laws.specs.Repeat.{ManyOutcome, Steps}
+use Rattle.bpaf_laws.proofs.Keeping.{keeps_same, keeps_trans}
 use Rattle.bpaf_core.specs.declared.info.ExtraParams.{ExtraParams}
 use Rattle.bpaf_core.specs.declared.info.ExtraParams.TheVariants as extra
 use Rattle.bpaf_core.specs.Ending.{EndsRun, Tells, leftover, memory, passed_on, refused, shown}
 use Rattle.bpaf_core.specs.Ending.{told, usage, wanting, Shows, shows_usage, is_answer}
 use Rattle.bpaf_core.specs.Info.{RunInfo}
-use Rattle.bpaf_core.specs.Known.{IsLineContext}
 use Rattle.bpaf_core.specs.Run as run
 use Rattle.bpaf_core.specs.Run.{Runs, RunsWords}
-use Rattle.bpaf.specs.Asked.{WasAsked}
+use Rattle.bpaf.specs.Asked.{CameTo, HandsOn, IfShown, IsAskedAt, RunShows, Showing, ShowsNothing}
+use Rattle.bpaf.specs.Asked.{WasAsked, WordsShow, inner_answer, nothing_shown}
 use Rattle.bpaf.specs.declared.leaves.positional.Position.{Position}
 use Rattle.bpaf.specs.Positional.{PositionalOutcome}
 
--- what is shown of a run inside a parser
-abbrev pub inner_answer : List Piece → Bool → Message
-inner_answer doc full = message.ParseFailure (failure.Stdout doc full)
+-- what was come to from a later situation was come to from the first one too
+pub came_from : (showing : Showing) (s m : Situation) (doc : List Piece) (full : Bool) → Keeps s m
+    → CameTo showing m doc full → CameTo showing s doc full
+came_from showing s m doc full keeps came = record {
+  there = came.there;
+  keeps = keeps_trans s m came.there keeps came.keeps;
+  shown = came.shown;
+}
 
--- all that an evaluation shows of a run inside it is like this, over the context of the line
-pub record HandsOn {T : Type 0} (allowed : Context → List Piece → Bool → Type 0)
-    (inner : Outcome T) : Type 0 where
-  pub all : (s : Situation) (e : Error) (t : Situation) (doc : List Piece) (full : Bool)
-      → inner s (Err e) t → e.0 ≡ inner_answer doc full → allowed s.context doc full
+-- what may be shown by the one may be shown by the other
+abbrev pub IsAlsoShown : Showing → Showing → Type 0
+IsAlsoShown showing other =
+    (s : Situation) (doc : List Piece) (full : Bool) → showing s doc full → other s doc full
 
--- a parser shows nothing by itself
-abbrev pub ShowsNothing : {T : Type 0} → Outcome T → Type 0
-ShowsNothing inner = HandsOn (λ context doc full. ⊥) inner
+-- so it is where that was come to
+pub came_also : (showing other : Showing) → IsAlsoShown showing other → (s : Situation)
+    (doc : List Piece) (full : Bool) → CameTo showing s doc full → CameTo other s doc full
+came_also showing other also s doc full came = record {
+  there = came.there;
+  keeps = came.keeps;
+  shown = also came.there doc full came.shown;
+}
+
+-- so it is of what a parser hands on
+pub hands_also : {T : Type 0} {inner : Outcome T} (showing other : Showing)
+    → IsAlsoShown showing other → HandsOn showing inner → HandsOn other inner
+hands_also showing other also inside = record {
+  all = λ s e t doc full o is.
+      came_also showing other also s doc full (inside.all s e t doc full o is);
+}
 
 -- that a key is nowhere shows nothing
 absence_hands_on : (s : Situation) (part : Option Part) (envs : List (List ℕ)) (m : Message)
@@ -56,10 +74,10 @@ absence_hands_on s (Some part) envs m doc full is absent = rw is at absent
 absence_hands_on s None [] m doc full is absent = rw is at absent
 absence_hands_on s None (name ∷ names) m doc full is absent = rw is at absent
 
-module _ (allowed : Context → List Piece → Bool → Type 0) where
+module _ (showing : Showing) where
   -- a flag shows nothing
   pub flag_hands_on : {T : Type 0} (clones : T → T → Type 0) (named : Named) (present : T)
-      (absent : Option T) → HandsOn allowed (FlagOutcome clones named present absent)
+      (absent : Option T) → HandsOn showing (FlagOutcome clones named present absent)
   flag_hands_on clones named present absent = record {
     all = λ s e t doc full o is. absurd (absence_hands_on s (flag_part named) named.envs
         (inner_answer doc full) doc full refl (rw is at o).2);
@@ -67,7 +85,7 @@ module _ (allowed : Context → List Piece → Bool → Type 0) where
 
   -- nor does an argument
   pub argument_hands_on : {T : Type 0} (means : List ℕ → T → Type 0) (argument : KeyWithValue)
-      → HandsOn allowed (ArgumentOutcome means argument)
+      → HandsOn showing (ArgumentOutcome means argument)
   argument_hands_on means argument = record {
     all = λ s e t doc full o is. absurd (absence_hands_on s (argument_part argument)
         argument.named.envs (inner_answer doc full) doc full refl (rw is at o).1.1);
@@ -75,24 +93,24 @@ module _ (allowed : Context → List Piece → Bool → Type 0) where
 
   -- nor does a positional word
   pub positional_hands_on : {T : Type 0} (means : List ℕ → T → Type 0) (position : Position)
-      (metavar : List ℕ) → HandsOn allowed (PositionalOutcome means position metavar)
+      (metavar : List ℕ) → HandsOn showing (PositionalOutcome means position metavar)
   positional_hands_on means position metavar = record {
     all = λ s e t doc full o is. absurd (rw is at o);
   }
 
   module _ {A B : Type 0} {first : Outcome A} {rest : Outcome B} {reads : Readings A}
-      (law : Lawful A first reads) (one : HandsOn allowed first) (others : HandsOn allowed rest)
+      (law : Lawful A first reads) (one : HandsOn showing first) (others : HandsOn showing rest)
       (s m t : Situation) (e : Error) (doc : List Piece) (full : Bool)
       (is : e.0 ≡ inner_answer doc full) where
-    -- what the fields behind the first one show is over the same line
-    rest_hands_on : Keeps s m → rest m (Err e) t → allowed s.context doc full
+    -- what the fields behind the first one show was come to from the start
+    rest_hands_on : Keeps s m → rest m (Err e) t → CameTo showing s doc full
     rest_hands_on keeps o =
-        subst (λ context. allowed context doc full) keeps.context (others.all m e t doc full o is)
+        came_from showing s m doc full keeps (others.all m e t doc full o is)
 
     -- fields that were all evaluated, and of which two failed, show what one of these does
     errors_hand_on : (second : Bool) (f g : Error) → first s (Err f) m → rest m (Err g) t
         → (r : Result (A × B) Error) → r ≡ Err e → r ≡ (if second then Err g else Err f)
-        → allowed s.context doc full
+        → CameTo showing s doc full
     errors_hand_on true f g o later r failed same =
         let that : g ≡ e = cc in
         rest_hands_on (law.err s m f o) (subst (λ x. rest m (Err x) t) that later)
@@ -102,7 +120,7 @@ module _ (allowed : Context → List Piece → Bool → Type 0) where
 
     -- fields that were all evaluated show what one of them does
     fields_hand_on : (a : Result A Error) (b : Result B Error) → first s a m → rest m b t
-        → Err e ≡ joined a b → allowed s.context doc full
+        → Err e ≡ joined a b → CameTo showing s doc full
     fields_hand_on (Ok x) (Ok y) o later same = cc
     fields_hand_on (Ok x) (Err f) o later same =
         let that : f ≡ e = cc in
@@ -115,8 +133,8 @@ module _ (allowed : Context → List Piece → Bool → Type 0) where
 
   -- fields show what one of them does
   pub both_hands_on : {A B : Type 0} {first : Outcome A} {rest : Outcome B} {reads : Readings A}
-      → Lawful A first reads → HandsOn allowed first → HandsOn allowed rest
-      → HandsOn allowed (BothOutcome first rest)
+      → Lawful A first reads → HandsOn showing first → HandsOn showing rest
+      → HandsOn showing (BothOutcome first rest)
   both_hands_on law one others = record {
     all = λ s e t doc full o is. ⊎_elim
         (λ each.
@@ -128,38 +146,32 @@ module _ (allowed : Context → List Piece → Bool → Type 0) where
 
   -- a product shows what its fields do
   pub product_hands_on : {V T : Type 0} {fields : Outcome V} (makes : V → T → Type 0)
-      → HandsOn allowed fields → HandsOn allowed (ProductOutcome fields makes)
+      → HandsOn showing fields → HandsOn showing (ProductOutcome fields makes)
   product_hands_on makes inside = record {
     all = λ s e t doc full o is. inside.all s e o.0 doc full o.1 is;
   }
 
   module _ {T : Type 0} {inner : Outcome T} {reads : Readings T} (law : Lawful T inner reads)
-      (inside : HandsOn allowed inner) (catches : Bool) where
-    -- steps leave the line as it is
-    steps_on_line : (first : Bool) (s : Situation) (vs : List T) (t : Situation)
-        → Steps inner catches first s vs t → t.context ≡ s.context
-    steps_on_line first s [] t o = ap (λ x. x.context) (sym o)
-    steps_on_line first s (v ∷ vs) t o =
-        steps_on_line false o.0 vs t o.2 ∙ (law.ok s o.0 v o.1.0).keeps.context
+      (inside : HandsOn showing inner) (catches : Bool) where
+    -- what steps that answered values keep
+    steps_keep : (first : Bool) (s : Situation) (vs : List T) (t : Situation)
+        → Steps inner catches first s vs t → Keeps s t
+    steps_keep first s [] t o = keeps_same s t (sym o)
+    steps_keep first s (v ∷ vs) t o =
+        keeps_trans s o.0 t (law.ok s o.0 v o.1.0).keeps (steps_keep false o.0 vs t o.2)
 
     -- a repeat shows what one of its steps does
-    pub many_hands_on : HandsOn allowed (ManyOutcome inner catches)
+    pub many_hands_on : HandsOn showing (ManyOutcome inner catches)
     many_hands_on = record {
       all = λ s e t doc full o is. ⊎_elim
           (λ failed.
-          subst (λ context. allowed context doc full)
-          (steps_on_line true s o.values o.last o.steps)
+          came_from showing s o.last doc full (steps_keep true s o.values o.last o.steps)
           (inside.all o.last e t doc full failed.0 is))
           (λ want. absurd (true≢false (sym want.0 ∙ ap is_memory is)))
           o.fails;
     }
 
-module _ (describes : Shape → Type 0) (info : RunInfo) (given : Given) where
-  -- help, or a version, that is shown was asked for
-  abbrev pub IsAsked : ParseFailure → Type 0
-  IsAsked (failure.Stdout doc full) = WasAsked describes info given doc full
-  IsAsked f = ⊤
-
+module _ (describes : Shape → Type 0) (info : RunInfo) where
   -- what is told of a message, other than help or a version, shows nothing
   renders_nothing : (m : Message) (s : Situation) (doc : List Piece) (full : Bool)
       → is_answer m ≡ false → ¬ (Renders m s (failure.Stdout doc full))
@@ -183,20 +195,17 @@ module _ (describes : Shape → Type 0) (info : RunInfo) (given : Given) where
 
   -- what is told of a message was asked for, if it shows anything
   tells_asked : (m : Message) (s t : Situation) (doc : List Piece) (full : Bool)
-      → is_answer m ≡ false → IsLineContext describes info given s.context → (f : ParseFailure)
-      → Tells describes info m s f t → f ≡ failure.Stdout doc full
-      → WasAsked describes info given doc full
-  tells_asked m s t doc full plain line f (shown asked g u looked shows) is = record {
-    before = s;
+      → is_answer m ≡ false → (f : ParseFailure) → Tells describes info m s f t
+      → f ≡ failure.Stdout doc full → IsAskedAt describes info s doc full
+  tells_asked m s t doc full plain f (shown asked g u looked shows) is = record {
     after = t;
-    on_line = line;
     asked = asked;
     looked = looked;
     shows = rw is at shows;
   }
-  tells_asked m s t doc full plain line f (told e g u looked other renders) is =
+  tells_asked m s t doc full plain f (told e g u looked other renders) is =
       absurd (renders_nothing m t doc full plain (rw is at renders))
-  tells_asked m s t doc full plain line f (wanting e u looked wants) is = cc
+  tells_asked m s t doc full plain f (wanting e u looked wants) is = cc
 
   -- the message of an item that is left is none of an inner run
   leftover_plain : (s : Situation) (m : Message) → IsLeftover s m → is_answer m ≡ false
@@ -204,92 +213,132 @@ module _ (describes : Shape → Type 0) (info : RunInfo) (given : Given) where
   leftover_plain s m (only_once p earlier next unmarked found) = refl
   leftover_plain s m (not_expected p next unmarked none) = refl
 
--- the failure of an answer, or this one
-abbrev failure_or : {T : Type 0} → ParseFailure → Result T ParseFailure → ParseFailure
-failure_or other (Ok v) = other
-failure_or other (Err f) = f
+  module _ {T : Type 0} {inner : Outcome T} {reads : Readings T} (law : Lawful T inner reads)
+      (showing : Showing) (inside : HandsOn showing inner)
+      (plain : info.help_if_no_args ≡ false) where
+    -- what a run shows or hands on
+    abbrev pub Either : Showing
+    Either = RunShows describes info showing
 
-module _ (describes : Shape → Type 0) (info : RunInfo) (given : Given) {T : Type 0}
-    {inner : Outcome T} {reads : Readings T} (law : Lawful T inner reads)
-    (nothing : ShowsNothing inner) (plain : info.help_if_no_args ≡ false) where
-  -- what the end of a run shows was asked for
-  end_asked : (m : Option Message) (s left t : Situation) (f : ParseFailure) (doc : List Piece)
-      (full : Bool)
-      → ((inside : Message) → m ≡ Some inside → ¬ (inside ≡ inner_answer doc full))
-      → IsLineContext describes info given left.context
-      → EndsRun describes info m s left f t → f ≡ failure.Stdout doc full
-      → WasAsked describes info given doc full
-  end_asked m s left t f doc full other line (memory n before u wants) is = cc
-  end_asked m s left t f doc full other line (usage n before g u spared wanted shows) is =
-      absurd (no_usage n before wanted)
-    where
-      no_usage : (n : Message) (before : Situation) → ¬ (shows_usage info n before ≡ true)
-      no_usage n before wanted = cc
-  end_asked m s left t f doc full other line (passed_on g before u spared unwanted) is =
-      absurd (other (message.ParseFailure g) refl (ap message.ParseFailure is))
-  end_asked m s left t f doc full other line (refused n before from g u spared unwanted plainly tells)
-      is =
-      tells_asked describes info given n left t doc full plainly line f tells is
-  end_asked m s left t f doc full other line (leftover n before from g u is_left tells) is =
-      tells_asked describes info given n left t doc full (leftover_plain describes info given left n is_left)
-      line f tells is
+    -- what is told where a parser led to was asked for, if it shows anything
+    told_asked : (m : Message) (s left t : Situation) (doc : List Piece) (full : Bool)
+        → Keeps s left → is_answer m ≡ false → (f : ParseFailure) → Tells describes info m left f t
+        → f ≡ failure.Stdout doc full → CameTo Either s doc full
+    told_asked m s left t doc full keeps other f tells is = record {
+      there = left;
+      keeps = keeps;
+      shown = inl (tells_asked m left t doc full other f tells is);
+    }
 
-  -- what a run shows was asked for
-  run_asked : (context : Context) (s t : Situation) (r : Result T ParseFailure) (f : ParseFailure)
-      (doc : List Piece) (full : Bool) → IsLineContext describes info given s.context
-      → Runs T inner (EndsRun describes info) s r t → r ≡ Err f → f ≡ failure.Stdout doc full
-      → WasAsked describes info given doc full
-  run_asked context s t r f doc full line (run.value v u answered none) is shows = cc
-  run_asked context s t r f doc full line (run.leftover v left g u answered ends) is shows =
-      end_asked None s left t g doc full (λ inside same. cc)
-      (subst (IsLineContext describes info given) (sym (law.ok s left v answered).keeps.context) line)
-      ends (ap (failure_or g) is ∙ shows)
-  run_asked context s t r f doc full line (run.refused e left g u answered ends) is shows =
-      end_asked (Some e.0) s left t g doc full
-      (λ inside same answer. nothing.all s e left doc full answered cc)
-      (subst (IsLineContext describes info given) (sym (law.err s left e answered).context) line)
-      ends (ap (failure_or g) is ∙ shows)
+    -- the end of a run shows what it was asked for, or what its parser does
+    end_shows : (m : Option Message) (s left t : Situation) (f : ParseFailure) (doc : List Piece)
+        (full : Bool) → Keeps s left
+        → ((said : Message) → m ≡ Some said → said ≡ inner_answer doc full
+        → CameTo showing s doc full)
+        → EndsRun describes info m s left f t → f ≡ failure.Stdout doc full
+        → CameTo Either s doc full
+    end_shows m s left t f doc full keeps handed (memory n before u wants) is = cc
+    end_shows m s left t f doc full keeps handed (usage n before g u spared wanted shows) is =
+        absurd (no_usage n before wanted)
+      where
+        no_usage : (n : Message) (before : Situation) → ¬ (shows_usage info n before ≡ true)
+        no_usage n before wanted = cc
+    end_shows m s left t f doc full keeps handed (passed_on g before u spared unwanted) is =
+        came_also showing Either (λ x d u shown. inr shown) s doc full
+        (handed (message.ParseFailure g) refl (ap message.ParseFailure is))
+    end_shows m s left t f doc full keeps handed
+        (refused n before from g u spared unwanted other tells) is =
+        told_asked n s left t doc full keeps other f tells is
+    end_shows m s left t f doc full keeps handed (leftover n before from g u is_left tells) is =
+        told_asked n s left t doc full keeps (leftover_plain left n is_left) f tells is
 
-  -- so is what a run over words shows
-  words_asked : (r : Result T ParseFailure) (f : ParseFailure) (doc : List Piece) (full : Bool)
-      → RunsWords T inner describes info given r → r ≡ Err f → f ≡ failure.Stdout doc full
-      → WasAsked describes info given doc full
-  words_asked r f doc full (run.ran context q t line runs) is shows =
-      run_asked context (beginning context) t r f doc full line runs is shows
-  words_asked r f doc full (run.no_line shape word number context g can lacks empty name renders)
-      is shows =
-      absurd (renders_nothing describes info given (message.Ambiguity word number)
-      (beginning context) doc full refl (subst (λ h. Renders (message.Ambiguity word number)
-      (beginning context) h) (ap (failure_or g) is ∙ shows) renders))
-  words_asked r f doc full run.no_memory is shows = cc
+    -- so does a run
+    pub run_shows : (s t : Situation) (f : ParseFailure) (doc : List Piece) (full : Bool)
+        → Runs T inner (EndsRun describes info) s (Err f) t → f ≡ failure.Stdout doc full
+        → CameTo Either s doc full
+    run_shows s t f doc full (run.leftover v left g u answered ends) is =
+        end_shows None s left t f doc full (law.ok s left v answered).keeps
+        (λ said same. cc) ends is
+    run_shows s t f doc full (run.refused e left g u answered ends) is =
+        end_shows (Some e.0) s left t f doc full (law.err s left e answered)
+        (λ said same answer. inside.all s e left doc full answered cc) ends is
 
-  -- what a run over words answers that has no value was asked for, if it shows something
-  pub answer_asked : (r : Result T ParseFailure) → RunsWords T inner describes info given r
-      → IfErr r (IsAsked describes info given)
-  answer_asked (Ok v) runs = tt
-  answer_asked (Err (failure.Stdout doc full)) runs =
-      words_asked (Err (failure.Stdout doc full)) (failure.Stdout doc full) doc full runs refl refl
-  answer_asked (Err (failure.Stderr doc)) runs = tt
-  answer_asked (Err failure.Memory) runs = tt
+    -- so does a run over words
+    words_show : (given : Given) (f : ParseFailure) (doc : List Piece) (full : Bool)
+        → RunsWords T inner describes info given (Err f) → f ≡ failure.Stdout doc full
+        → WordsShow describes info given Either doc full
+    words_show given f doc full (run.ran context q t line runs) is = record {
+      context = context;
+      on_line = line;
+      run = run_shows (beginning context) t f doc full runs is;
+    }
+    words_show given f doc full
+        (run.no_line shape word number context g can lacks empty name renders) is =
+        absurd (renders_nothing (message.Ambiguity word number) (beginning context) doc full refl
+        (subst (λ h. Renders (message.Ambiguity word number) (beginning context) h) is renders))
+    words_show given f doc full run.no_memory is = cc
 
--- what was asked of a parser was asked of each whose shapes are among those of another
-pub asked_also : (describes others : Shape → Type 0) (info : RunInfo) (given : Given)
-    (doc : List Piece) (full : Bool) → ((shape : Shape) → describes shape → others shape)
-    → WasAsked describes info given doc full → WasAsked others info given doc full
-asked_also describes others info given doc full also was = record {
-  before = was.before;
-  after = was.after;
-  on_line = ⊎_elim (λ line. inl (line.0, also line.0 line.1, line.2)) (λ any. inr any) was.on_line;
-  asked = was.asked;
-  looked = was.looked;
-  shows = shows_also was.asked was.shows;
+    -- so does an answer without a value
+    pub answer_shows : (given : Given) (r : Result T ParseFailure)
+        → RunsWords T inner describes info given r
+        → IfErr r (IfShown (WordsShow describes info given Either))
+    answer_shows given (Ok v) runs = tt
+    answer_shows given (Err (failure.Stdout doc full)) runs =
+        words_show given (failure.Stdout doc full) doc full runs refl
+    answer_shows given (Err (failure.Stderr doc)) runs = tt
+    answer_shows given (Err failure.Memory) runs = tt
+
+-- what is asked of a parser is asked of each whose shapes are among those of another
+pub asked_at_also : (describes others : Shape → Type 0) (info : RunInfo)
+    → ((shape : Shape) → describes shape → others shape)
+    → IsAlsoShown (IsAskedAt describes info) (IsAskedAt others info)
+asked_at_also describes others info also s doc full at = record {
+  after = at.after;
+  asked = at.asked;
+  looked = at.looked;
+  shows = shows_also at.asked at.shows;
 }
   where
     shows_also : (asked : ExtraParams)
-        → Shows describes info asked was.after (failure.Stdout doc full)
-        → Shows others info asked was.after (failure.Stdout doc full)
+        → Shows describes info asked at.after (failure.Stdout doc full)
+        → Shows others info asked at.after (failure.Stdout doc full)
     shows_also (extra.Help more) shows = (
       record { shape = shows.0.shape; shown = also _ shows.0.shown; prints = shows.0.prints },
       shows.1,
     )
     shows_also (extra.Version version) shows = shows
+
+-- so it is of a run over words, of which more may be shown
+pub words_also : (describes others : Shape → Type 0) (info : RunInfo) (given : Given)
+    (showing wider : Showing) → ((shape : Shape) → describes shape → others shape)
+    → IsAlsoShown showing wider → (doc : List Piece) (full : Bool)
+    → WordsShow describes info given showing doc full → WordsShow others info given wider doc full
+words_also describes others info given showing wider also more doc full was = record {
+  context = was.context;
+  on_line = ⊎_elim (λ line. inl (line.0, also line.0 line.1, line.2)) (λ any. inr any) was.on_line;
+  run = came_also showing wider more (beginning was.context) doc full was.run;
+}
+
+-- a run over words of a parser that shows nothing by itself was asked for what it shows
+pub answer_asked : (describes : Shape → Type 0) (info : RunInfo) (given : Given) {T : Type 0}
+    {inner : Outcome T} {reads : Readings T} → Lawful T inner reads → ShowsNothing inner
+    → info.help_if_no_args ≡ false → (r : Result T ParseFailure)
+    → RunsWords T inner describes info given r
+    → IfErr r (IfShown (WasAsked describes info given))
+answer_asked describes info given law nothing plain (Ok v) runs = tt
+answer_asked describes info given law nothing plain (Err (failure.Stdout doc full)) runs =
+    words_also describes describes info given (RunShows describes info nothing_shown)
+    (IsAskedAt describes info) (λ shape shown. shown)
+    (λ s d u. ⊎_elim (λ at. at) (λ none. absurd none)) doc full
+    (answer_shows describes info law nothing_shown nothing plain given
+    (Err (failure.Stdout doc full)) runs)
+answer_asked describes info given law nothing plain (Err (failure.Stderr doc)) runs = tt
+answer_asked describes info given law nothing plain (Err failure.Memory) runs = tt
+
+-- what was asked of a parser was asked of each whose shapes are among those of another
+pub asked_also : (describes others : Shape → Type 0) (info : RunInfo) (given : Given)
+    (doc : List Piece) (full : Bool) → ((shape : Shape) → describes shape → others shape)
+    → WasAsked describes info given doc full → WasAsked others info given doc full
+asked_also describes others info given doc full also was =
+    words_also describes others info given (IsAskedAt describes info) (IsAskedAt others info) also
+    (asked_at_also describes others info also) doc full was

@@ -2,6 +2,7 @@ pub mod PositionalAnswers
 pub mod Looking
 pub mod Sides
 pub mod Asking
+pub mod Handing
 pub mod Helps
 pub mod PassingOn
 pub mod Searching

@@ -1,23 +1,84 @@
 -- Help, or a version, that a run was asked for and shows.
-use Rattle.std.specs.Prelude.{Bool, List, Ok}
+use Rattle.std.specs.Prelude.{◌≡◌, ◌⊎◌, ℕ, Bool, List, Err, Ok, ⊤}
 use Rattle.bpaf_doc.specs.declared.doc.Piece.{Piece}
 use Rattle.bpaf_doc.specs.Shape.{Shape}
 use Rattle.bpaf_words.specs.Arguments.{Given}
+use Rattle.bpaf_line.specs.declared.error.Error.{Error}
+use Rattle.bpaf_line.specs.declared.error.Message.{Message}
+use Rattle.bpaf_line.specs.declared.error.Message.TheVariants as message
+use Rattle.bpaf_line.specs.declared.failure.ParseFailure.{ParseFailure}
 use Rattle.bpaf_line.specs.declared.failure.ParseFailure.TheVariants as failure
-use Rattle.bpaf_line.specs.Situation.{Situation}
+use Rattle.bpaf_line.specs.Situation.{Context, Situation, beginning}
+use Rattle.bpaf_laws.specs.Command.{Called, IsOpenedAt, inside, opening_words}
+use Rattle.bpaf_laws.specs.Laws.{Keeps}
+use Rattle.bpaf_laws.specs.Reading.{Outcome}
 use Rattle.bpaf_core.specs.declared.info.ExtraParams.{ExtraParams}
 use Rattle.bpaf_core.specs.Ending.{Shows}
 use Rattle.bpaf_core.specs.Extra.{ExtraOutcome}
 use Rattle.bpaf_core.specs.Info.{RunInfo}
 use Rattle.bpaf_core.specs.Known.{IsLineContext}
 
--- the key of help, or of the version, was there in a situation of the words' line; and this is the
--- help page of a shape that the parser may show, or the version
-pub record WasAsked (describes : Shape → Type 0) (info : RunInfo) (given : Given) (doc : List Piece)
-    (full : Bool) : Type 0 where
-  pub before : Situation
+-- what may be shown in a situation, in full or not
+abbrev pub Showing : Type 1
+Showing = Situation → List Piece → Bool → Type 0
+
+-- the key of help, or of the version, is there; and this is the help page of a shape that the parser
+-- may show, or the version
+pub record IsAskedAt (describes : Shape → Type 0) (info : RunInfo) (before : Situation)
+    (doc : List Piece) (full : Bool) : Type 0 where
   pub after : Situation
-  pub on_line : IsLineContext describes info given before.context
   pub asked : ExtraParams
   pub looked : ExtraOutcome info before (Ok asked) after
   pub shows : Shows describes info asked after (failure.Stdout doc full)
+
+-- what began in a situation came to one in which this may be shown
+pub record CameTo (showing : Showing) (s : Situation) (doc : List Piece) (full : Bool) : Type 0
+  where
+    pub there : Situation
+    pub keeps : Keeps s there
+    pub shown : showing there doc full
+
+-- the word of a command is there, and what runs behind it came to where this may be shown
+pub record BehindWord (called : Called) (showing : Showing) (s : Situation) (doc : List Piece)
+    (full : Bool) : Type 0 where
+  pub place : ℕ
+  pub word : IsOpenedAt (opening_words called) s place
+  pub run : CameTo showing (inside called s place) doc full
+
+-- a run shows what it was asked for itself, or what its parser shows of runs inside it
+abbrev pub RunShows : (Shape → Type 0) → RunInfo → Showing → Showing
+RunShows describes info inner s doc full = IsAskedAt describes info s doc full ⊎ inner s doc full
+
+-- a run over words came to where this may be shown
+pub record WordsShow (describes : Shape → Type 0) (info : RunInfo) (given : Given)
+    (showing : Showing) (doc : List Piece) (full : Bool) : Type 0 where
+  pub context : Context
+  pub on_line : IsLineContext describes info given context
+  pub run : CameTo showing (beginning context) doc full
+
+-- a run over words was asked itself for what it shows
+abbrev pub WasAsked : (Shape → Type 0) → RunInfo → Given → List Piece → Bool → Type 0
+WasAsked describes info given doc full =
+    WordsShow describes info given (IsAskedAt describes info) doc full
+
+-- what a run answers that has no value is this, if it shows something
+abbrev pub IfShown : (List Piece → Bool → Type 0) → ParseFailure → Type 0
+IfShown shown (failure.Stdout doc full) = shown doc full
+IfShown shown f = ⊤
+
+-- what is shown of a run inside a parser
+abbrev pub inner_answer : List Piece → Bool → Message
+inner_answer doc full = message.ParseFailure (failure.Stdout doc full)
+
+-- all that an evaluation shows of a run inside it may be shown where it came to
+pub record HandsOn {T : Type 0} (showing : Showing) (inner : Outcome T) : Type 0 where
+  pub all : (s : Situation) (e : Error) (t : Situation) (doc : List Piece) (full : Bool)
+      → inner s (Err e) t → e.0 ≡ inner_answer doc full → CameTo showing s doc full
+
+-- nothing may be shown
+abbrev pub nothing_shown : Showing
+nothing_shown s doc full = ⊥
+
+-- a parser shows nothing by itself
+abbrev pub ShowsNothing : {T : Type 0} → Outcome T → Type 0
+ShowsNothing inner = HandsOn nothing_shown inner

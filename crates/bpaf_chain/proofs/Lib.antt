@@ -1,2 +1,4 @@
 pub mod Dealing
+pub mod Ending
 pub mod Printing
+pub mod Showing

@@ -1,3 +1,4 @@
 pub mod Dealing
 pub mod Lines
 pub mod Running
+pub mod Shown

@@ -21,9 +21,9 @@
 //!
 //! What is proved of it: where the writers tell their bytes, the program ends as `Printed` only where
 //! exactly the lines of steps were written that are dealt out of the words, each step read off one run
-//! of them (specs/Dealing.antt, specs/Lines.antt); as `Shown` only where exactly the text of one
-//! document was written (specs/Running.antt). That this is the page of a command, or of the program,
-//! and was asked for, is only tested.
+//! of them (specs/Dealing.antt, specs/Lines.antt); as `Shown` only where exactly a help page was
+//! written that the words ask for: that of the program, or that of a command, the key of help behind
+//! the command's name (specs/Shown.antt, specs/Running.antt).
 #![tactic(auto)]
 
 mod print;

@@ -13,13 +13,13 @@ use std::io::Write;
 pub enum Ending {
     /// The steps were printed.
     Printed,
-    /// What was asked for, such as help, was shown.
+    /// The help page that was asked for was shown.
     Shown,
     /// There are no steps, which was told on the error writer.
     Refused,
     /// There are steps, and they couldn't be written.
     Unprinted,
-    /// What was asked for couldn't be written.
+    /// The help page that was asked for couldn't be written.
     Unshown,
 }
 
@@ -39,8 +39,8 @@ impl Ending {
 /// Runs the program on its words, and says how it ended.
 ///
 /// Where the steps were read all their lines are written on `out`, and nothing on `err`; so it is with
-/// help, where that was asked for. A refusal is told on `err`, as `Error: ` and the message, and
-/// nothing is written on `out`.
+/// the help page of the program, or of a command, where that was asked for. A refusal is told on
+/// `err`, as `Error: ` and the message, and nothing is written on `out`.
 pub fn run<W: Write, E: Write>(alloc: Global, words: &[String], out: &mut W, err: &mut E) -> Ending
     ensures { Writes (map string_bytes words.now) result
         (W.contents out.old) (W.contents out.new) (E.contents err.old) (E.contents err.new) }
@@ -57,7 +57,7 @@ pub fn run<W: Write, E: Write>(alloc: Global, words: &[String], out: &mut W, err
 /// Tells how a run ended that gives no steps: what was asked for is shown on `out`, else the refusal
 /// is told on `err`.
 fn tell<W: Write, E: Write>(failure: ParseFailure, out: &mut W, err: &mut E) -> Ending
-    ensures { Tells result
+    ensures { Tells failure result
         (W.contents out.old) (W.contents out.new) (E.contents err.old) (E.contents err.new) }
 {
     if failure.exit_code() == 0 {
@@ -69,7 +69,7 @@ fn tell<W: Write, E: Write>(failure: ParseFailure, out: &mut W, err: &mut E) -> 
 
 /// Shows what was asked for, as it stands.
 fn show<W: Write, E: Write>(failure: ParseFailure, out: &mut W, err: &mut E) -> Ending
-    ensures { Tells result
+    ensures { Tells failure result
         (W.contents out.old) (W.contents out.new) (E.contents err.old) (E.contents err.new) }
 {
     let Ok(Some(text)) = failure.unwrap_stdout() else {

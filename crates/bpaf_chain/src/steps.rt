@@ -1,6 +1,11 @@
 ghost use Rattle.std.specs.Prelude.{◌≡◌, IfOk, map, string_bytes, true};
+ghost use Rattle.std.specs.Result.{IfErr};
 ghost use Rattle.bpaf_laws.specs.Command.{named_only};
+ghost use Rattle.bpaf_core.specs.Info.{short_descr};
+ghost use Rattle.bpaf.specs.Asked.{IfShown};
 ghost use Rattle.bpaf_chain.specs.Dealing.{AreDealt, AreDealtSteps};
+ghost use Rattle.bpaf_chain.specs.Shown.{IsDescribed, IsHelpAsked, IsMoveShape, IsRepeatShape};
+ghost use Rattle.bpaf_chain.specs.Shown.{IsTurnShape, ShowsAs};
 
 use bpaf::parsers::ParseCommand;
 use bpaf::{Args, Doc, ParseFailure, Parser, construct, long, positional};
@@ -18,9 +23,10 @@ pub enum Step {
 }
 
 /// The steps that the words ask for, in order; refused where they ask for none, or for want of
-/// memory.
+/// memory. Help is answered as a refusal that shows it, and only where the words ask for it.
 pub fn read_steps(alloc: Global, words: &[String]) -> Result<Vec<Step>, ParseFailure>
-    ensures { IfOk result (λ steps. AreDealtSteps (map string_bytes words.now) steps) }
+    ensures dealt { IfOk result (λ steps. AreDealtSteps (map string_bytes words.now) steps) }
+    ensures asked { IfErr result (IfShown (IsHelpAsked (map string_bytes words.now))) }
 {
     let left = long(alloc, "left")?.switch();
     let degrees = positional::<u64>("DEGREES").help(Doc::from_text(alloc, "How far to turn")?);
@@ -34,7 +40,7 @@ pub fn read_steps(alloc: Global, words: &[String]) -> Result<Vec<Step>, ParseFai
 }
 
 /// The steps that the words ask for by three commands; refused where they ask for none, or for want
-/// of memory.
+/// of memory. What a refusal shows is a help page that the words ask for.
 fn read_chain<M, T, R>(
     alloc: Global,
     go: M,
@@ -49,8 +55,12 @@ where
     requires go { M.can_eval go }
     requires turn { T.can_eval turn }
     requires repeat { R.can_eval repeat }
-    ensures { IfOk result (λ steps. AreDealt (M.reads go) (T.reads turn) (R.reads repeat)
+    requires go_shows { ShowsAs IsMoveShape (M.describes go) (M.outcome go) }
+    requires turn_shows { ShowsAs IsTurnShape (T.describes turn) (T.outcome turn) }
+    requires repeat_shows { ShowsAs IsRepeatShape (R.describes repeat) (R.outcome repeat) }
+    ensures dealt { IfOk result (λ steps. AreDealt (M.reads go) (T.reads turn) (R.reads repeat)
         (map string_bytes words.now) steps) }
+    ensures asked { IfErr result (IfShown (IsHelpAsked (map string_bytes words.now))) }
 {
     let go = chained(alloc, "move", "Moves by so far", go)?;
     let turn = chained(alloc, "turn", "Turns where it stands", turn)?;
@@ -71,6 +81,8 @@ fn chained<P: Parser<Step> + Drop>(
     ensures inner { IfOk result (λ command. command.subparser.inner ≡ parser) }
     ensures names { IfOk result (λ command. command.names ≡ named_only name.now) }
     ensures adjacent { IfOk result (λ command. command.adjacent ≡ true) }
+    ensures help { IfOk result (λ command. command.help ≡ short_descr command.subparser.info) }
+    ensures described { IfOk result (λ command. IsDescribed descr.now command.subparser.info) }
 {
     let descr = Doc::from_text(alloc, descr)?;
     let options = parser.to_options(alloc)?.descr(descr);

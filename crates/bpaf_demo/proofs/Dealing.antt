@@ -33,10 +33,10 @@ use Rattle.bpaf_core.specs.Dealt.{IsDealtOut}
 use Rattle.bpaf_core.specs.Run.{RunsWords}
 use Rattle.bpaf.specs.declared.leaves.positional.ParsePositional.{ParsePositional}
 use Rattle.bpaf.specs.declared.leaves.positional.Position.TheVariants.{Unrestricted}
-use Rattle.bpaf.specs.Asked.{WasAsked}
+use Rattle.bpaf.specs.Asked.{ShowsNothing, WasAsked, nothing_shown}
 use Rattle.bpaf.specs.Positional.{PositionalReads, PositionalOutcome, positional_shape}
 use Rattle.bpaf.specs.PositionalLaws.{positional_lawful}
-use Rattle.bpaf.proofs.Asking.{ShowsNothing, answer_asked, asked_also, both_hands_on, product_hands_on}
+use Rattle.bpaf.proofs.Asking.{answer_asked, asked_also, both_hands_on, product_hands_on}
 use Rattle.bpaf.proofs.Asking.{flag_hands_on, argument_hands_on, many_hands_on, positional_hands_on}
 use Rattle.bpaf.proofs.Helps.{flag_without_help, argument_without_help}
 use Rattle.bpaf_demo.specs.declared.options.Options.{Options}
@@ -163,15 +163,14 @@ module _ (makes : Makes) (parts : Parts) where
   -- it shows nothing by itself
   record_shows_nothing : ShowsNothing RecordOutcome
   record_shows_nothing =
-      let none : Context → List Piece → Bool → Type 0 = λ context doc full. ⊥ in
-      product_hands_on none makes
-      (both_hands_on none
+      product_hands_on nothing_shown makes
+      (both_hands_on nothing_shown
       (flag_lawful Bool IsKept parts.verbose.named parts.verbose.present parts.verbose.absent)
-      (flag_hands_on none IsKept parts.verbose.named parts.verbose.present parts.verbose.absent)
-      (both_hands_on none (argument_lawful ℕ (SpellsUnsigned 64) parts.num)
-      (argument_hands_on none (SpellsUnsigned 64) parts.num)
-      (many_hands_on none file_lawful
-      (positional_hands_on none MeansText parts.files.inner.position
+      (flag_hands_on nothing_shown IsKept parts.verbose.named parts.verbose.present parts.verbose.absent)
+      (both_hands_on nothing_shown (argument_lawful ℕ (SpellsUnsigned 64) parts.num)
+      (argument_hands_on nothing_shown (SpellsUnsigned 64) parts.num)
+      (many_hands_on nothing_shown file_lawful
+      (positional_hands_on nothing_shown MeansText parts.files.inner.position
       parts.files.inner.metavar.0.now) parts.files.catch)))
 
   module _ (program : AreProgramParts parts) where

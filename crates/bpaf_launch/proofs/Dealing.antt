@@ -31,8 +31,8 @@ use Rattle.bpaf.specs.Positional.{PositionalReads, PositionalOutcome, positional
 use Rattle.bpaf.specs.PositionalLaws.{positional_lawful}
 use Rattle.bpaf.proofs.PassingOn.{PassesOn, ReadsBefore, both_passes, many_passes, product_passes}
 use Rattle.bpaf.proofs.PassingOn.{flag_reads_before, word_reads_before, texts_passed}
-use Rattle.bpaf.specs.Asked.{WasAsked}
-use Rattle.bpaf.proofs.Asking.{HandsOn, ShowsNothing, answer_asked as answer_shown, asked_also}
+use Rattle.bpaf.specs.Asked.{HandsOn, ShowsNothing, WasAsked, nothing_shown}
+use Rattle.bpaf.proofs.Asking.{answer_asked as answer_shown, asked_also}
 use Rattle.bpaf.proofs.Asking.{both_hands_on, flag_hands_on, many_hands_on, positional_hands_on}
 use Rattle.bpaf.proofs.Asking.{product_hands_on}
 use Rattle.bpaf.proofs.Helps.{flag_without_help}
@@ -346,27 +346,23 @@ module _ (makes : Makes) (parts : Parts) where
       (both_lawful (kept_word parts.name)
       (many_lawful (kept_word parts.words.inner) parts.words.catch))))
 
-  -- what is never shown
-  abbrev never : Context → List Piece → Bool → Type 0
-  never context doc full = ⊥
-
   -- a switch shows nothing by itself
-  switch_hands_on : (switch : Switch) → HandsOn never (SwitchOutcome switch)
+  switch_hands_on : (switch : Switch) → HandsOn nothing_shown (SwitchOutcome switch)
   switch_hands_on switch =
-      flag_hands_on never IsKept switch.named switch.present switch.absent
+      flag_hands_on nothing_shown IsKept switch.named switch.present switch.absent
 
   -- nor does a word
-  word_hands_on : (word : Word) → HandsOn never (WordOutcome word)
-  word_hands_on word = positional_hands_on never MeansText word.position word.metavar.0.now
+  word_hands_on : (word : Word) → HandsOn nothing_shown (WordOutcome word)
+  word_hands_on word = positional_hands_on nothing_shown MeansText word.position word.metavar.0.now
 
   -- nor does the record's parser
   record_shows_nothing : ShowsNothing (RecordOutcome makes parts)
   record_shows_nothing =
-      product_hands_on never makes
-      (both_hands_on never (kept_switch parts.verbose) (switch_hands_on parts.verbose)
-      (both_hands_on never (kept_switch parts.dry_run) (switch_hands_on parts.dry_run)
-      (both_hands_on never (kept_word parts.name) (word_hands_on parts.name)
-      (many_hands_on never (kept_word parts.words.inner) (word_hands_on parts.words.inner)
+      product_hands_on nothing_shown makes
+      (both_hands_on nothing_shown (kept_switch parts.verbose) (switch_hands_on parts.verbose)
+      (both_hands_on nothing_shown (kept_switch parts.dry_run) (switch_hands_on parts.dry_run)
+      (both_hands_on nothing_shown (kept_word parts.name) (word_hands_on parts.name)
+      (many_hands_on nothing_shown (kept_word parts.words.inner) (word_hands_on parts.words.inner)
       parts.words.catch))))
 
   -- what it shows in place of a launch is help that the words ask for

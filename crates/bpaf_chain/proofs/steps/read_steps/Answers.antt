@@ -2,8 +2,8 @@ use Rattle.std.proofs.Common.{rules}
 use Rattle.bpaf_chain.proofs.Dealing.{program_dealt}
 use Rattle.bpaf_chain.proofs.steps.read_steps.Goals as goal
 
-pub returns : goal.returns
-returns c =
+pub returns-clause-dealt : goal.returns-clause-dealt
+returns-clause-dealt c =
     program_dealt _ _ _ _ _ _ _ _ _ _
     (record {
       moves = λ x step e. search rules;
@@ -17,4 +17,4 @@ returns c =
       degrees_is = search rules;
       times_is = search rules;
     })
-    _ _ c.read_chain.ensures
+    _ _ c.read_chain.ensures.dealt

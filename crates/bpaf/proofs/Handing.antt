@@ -1,0 +1,227 @@
+-- What choices and commands show is what their parsers do.
+use Rattle.std.proofs.Common.{◌≡◌, ◌⊎◌, Bool, true, false, ℕ, ◌+◌, List, Option, Some, None, Result, Ok}
+use Rattle.std.proofs.Common.{inl, inr, Err, refl, sym, subst, ap, ◌∙◌, ⊎_elim, true≢false, if◌then◌else◌}
+use Rattle.bpaf_doc.specs.declared.doc.Piece.{Piece}
+use Rattle.bpaf_doc.specs.Shape.{Part, Shape}
+use Rattle.bpaf_line.specs.declared.error.Error.{Error}
+use Rattle.bpaf_line.specs.declared.error.Message.{Message}
+use Rattle.bpaf_line.specs.declared.error.Message.TheVariants.{Missing, ParseFailure}
+use Rattle.bpaf_line.specs.declared.failure.ParseFailure.{ParseFailure as Failure}
+use Rattle.bpaf_line.specs.declared.failure.ParseFailure.TheVariants as failure
+use Rattle.bpaf_line.specs.Combining.{Combines, CombinesSpared}
+use Rattle.bpaf_line.specs.Messages.{can_catch, is_memory}
+use Rattle.bpaf_line.specs.Runs.{IsRunFrom}
+use Rattle.bpaf_line.specs.Situation.{Situation, with_scope}
+use Rattle.bpaf_laws.specs.Choice.{ChoiceOutcome, Chosen, EqualDepths, Winner}
+use Rattle.bpaf_laws.specs.Command.{Called, IsOpenedAt, inside, opening_words}
+use Rattle.bpaf_laws.specs.Laws.{Lawful}
+use Rattle.bpaf_laws.specs.Reading.{Outcome, Readings}
+use Rattle.bpaf_laws.proofs.Keeping.{keeps_refl}
+use Rattle.bpaf_laws.proofs.OneRun.{keeps_run}
+use Rattle.bpaf_core.specs.Adjacent.{AdjacentOutcome, Attempt, Attempts, EitherCommandOutcome, Retry}
+use Rattle.bpaf_core.specs.Adjacent.{failed, first_fails, no_path, nothing_left, second_fails}
+use Rattle.bpaf_core.specs.Adjacent.{unnamed, wants_memory}
+use Rattle.bpaf_core.specs.Command.{CommandOutcome, IsMissingPart, ended, end_message, missing, no_memory}
+use Rattle.bpaf_core.specs.Ending.{Ending, EndsRun}
+use Rattle.bpaf_core.specs.Info.{RunInfo}
+use Rattle.bpaf.specs.Asked.{BehindWord, CameTo, HandsOn, RunShows, Showing, inner_answer}
+use Rattle.bpaf.proofs.Asking.{IsAlsoShown, came_also, came_from, run_shows}
+
+-- of two refusals combined one is the answer that both are
+spared_shows : (first second both answer : Message) → CombinesSpared first second both
+    → both ≡ answer → (doc : List Piece) (full : Bool) → answer ≡ inner_answer doc full
+    → (first ≡ answer) ⊎ (second ≡ answer)
+spared_shows (ParseFailure f) second both answer o is doc full shown = inl (sym o ∙ is)
+spared_shows first (ParseFailure f) both answer o is doc full shown = inr (sym o ∙ is)
+spared_shows (Missing items) (Missing others) both answer o is doc full shown =
+    ⊎_elim (λ all. absurd cc) (λ want. absurd cc) o
+spared_shows first second both answer o is doc full shown =
+    of_either (can_catch first) first second (sym o ∙ is)
+  where
+    of_either : (caught : Bool) (one other : Message)
+        → (if caught then other else one) ≡ answer → (one ≡ answer) ⊎ (other ≡ answer)
+    of_either true one other same = inr same
+    of_either false one other same = inl same
+
+-- so it is where one may be want of memory
+combined_shows : (first second both : Message) (doc : List Piece) (full : Bool)
+    → Combines first second both → both ≡ inner_answer doc full
+    → (first ≡ inner_answer doc full) ⊎ (second ≡ inner_answer doc full)
+combined_shows first second both doc full o is =
+    ⊎_elim (λ want. absurd cc)
+    (λ spared. spared_shows first second both (inner_answer doc full) spared.1 is doc full refl) o
+
+-- the value of a branch that won is no error
+no_winner : {T : Type 0} (x : T) (sa : Situation) (y : T) (sb : Situation) (one : Bool)
+    (place : Option ℕ) (e : Error) (t : Situation) → ¬ (Winner x sa y sb one place (Err e) t)
+no_winner x sa y sb one None e t won = cc
+no_winner x sa y sb true (Some place) e t won = cc
+no_winner x sa y sb false (Some place) e t won = cc
+
+module _ (showing : Showing) {T : Type 0} {first second : Outcome T}
+    (one : HandsOn showing first) (other : HandsOn showing second) where
+  module _ (s t : Situation) (e : Error) (doc : List Piece) (full : Bool)
+      (is : e.0 ≡ inner_answer doc full) where
+    -- a choice that answers what the first branch does shows what that does
+    of_first : (a : Result T Error) (sa : Situation) → first s a sa → Err e ≡ a
+        → CameTo showing s doc full
+    of_first a sa ran same =
+        one.all s e sa doc full (subst (λ r. first s r sa) (sym same) ran) is
+
+    -- so it is of the second
+    of_second : (b : Result T Error) (sb : Situation) → second s b sb → Err e ≡ b
+        → CameTo showing s doc full
+    of_second b sb ran same =
+        other.all s e sb doc full (subst (λ r. second s r sb) (sym same) ran) is
+
+    -- of two branches that both failed one shows what both do
+    of_both : (f g both : Error) (sa sb : Situation) → first s (Err f) sa → second s (Err g) sb
+        → Combines f.0 g.0 both.0 → both.0 ≡ inner_answer doc full → CameTo showing s doc full
+    of_both f g both sa sb ran ran' combines same =
+        ⊎_elim (λ here. one.all s f sa doc full ran here)
+        (λ there. other.all s g sb doc full ran' there)
+        (combined_shows f.0 g.0 both.0 doc full combines same)
+
+    -- branches of equal depth show what one of them does
+    equal_show : (a : Result T Error) (sa : Situation) (b : Result T Error) (sb : Situation)
+        → first s a sa → second s b sb → EqualDepths s a sa b sb (Err e) t
+        → CameTo showing s doc full
+    equal_show (Ok x) sa (Ok y) sb f g o =
+        ⊎_elim (λ neither. absurd (no_value x neither.1))
+        (λ won. absurd (no_winner x sa y sb won.1.0 won.1.1 e t won.1.3)) o
+      where
+        no_value : (v : T) → ¬ (◌≡◌ {A = Result T Error} (Err e) (Ok v))
+        no_value v same = cc
+    equal_show (Ok x) sa (Err d) sb f g o =
+        ⊎_elim (λ wrong. of_second (Err d) sb g wrong.1) (λ right. absurd (no_value x right.1)) o
+      where
+        no_value : (v : T) → ¬ (◌≡◌ {A = Result T Error} (Err e) (Ok v))
+        no_value v same = cc
+    equal_show (Err d) sa (Ok y) sb f g o =
+        ⊎_elim (λ wrong. of_first (Err d) sa f wrong.1) (λ right. absurd (no_value y right.1)) o
+      where
+        no_value : (v : T) → ¬ (◌≡◌ {A = Result T Error} (Err e) (Ok v))
+        no_value v same = cc
+    equal_show (Err d) sa (Err c) sb f g o =
+        of_both d c o.0.0 sa sb f g o.0.1 cc
+
+    -- so do branches of any depths
+    chosen_shows : (a : Result T Error) (sa : Situation) (b : Result T Error) (sb : Situation)
+        → first s a sa → second s b sb → Chosen s a sa b sb (Err e) t → CameTo showing s doc full
+    chosen_shows a sa b sb f g o =
+        ⊎_elim (λ deeper. of_first a sa f deeper.1)
+        (⊎_elim (λ deeper. of_second b sb g deeper.1)
+        (λ equal. equal_show a sa b sb f g equal.1)) o
+
+  -- a choice of two shows what one of them does
+  pub choice_hands_on : HandsOn showing (ChoiceOutcome first second)
+  choice_hands_on = record {
+    all = λ s e t doc full o is. ⊎_elim
+        (λ ran.
+        chosen_shows s t e doc full is ran.a ran.sa ran.b ran.sb ran.first_ran ran.second_ran
+        ran.chosen)
+        (λ want. absurd (true≢false (sym want.0 ∙ ap is_memory is)))
+        o;
+  }
+
+-- an end of a run that is handed on as what is shown shows it
+end_is_shown : (f : Failure) (doc : List Piece) (full : Bool)
+    → end_message f ≡ inner_answer doc full → f ≡ failure.Stdout doc full
+end_is_shown failure.Memory doc full is = cc
+end_is_shown (failure.Stdout text more) doc full is = cc
+end_is_shown (failure.Stderr text) doc full is = cc
+
+-- that a command's part is missing shows nothing
+missing_shows_nothing : (shows : Part → Type 0) (s : Situation) (m : Message) (doc : List Piece)
+    (full : Bool) → IsMissingPart shows s m → ¬ (m ≡ inner_answer doc full)
+missing_shows_nothing shows s m doc full lacks is =
+    ⊎_elim (λ want. absurd cc)
+    (λ part. let other : m ≡ Missing part.1 = part.3 in absurd cc) lacks
+
+module _ (describes : Shape → Type 0) (info : RunInfo) {T : Type 0} {inner : Outcome T}
+    {reads : Readings T} (law : Lawful T inner reads) (showing : Showing)
+    (handed : HandsOn showing inner) (plain : info.help_if_no_args ≡ false) where
+  -- what runs behind the word shows or hands on
+  abbrev pub Behind : Showing
+  Behind = RunShows describes info showing
+
+  -- how it ends
+  abbrev pub Ends : Ending
+  Ends = EndsRun describes info
+
+  module _ (s : Situation) (from : ℕ) (doc : List Piece) (full : Bool) where
+    -- an attempt shows what it was asked for, or what the parser does
+    attempt_shows : (end : ℕ) (f : Failure) (t : Situation) → IsRunFrom s from end
+        → Attempt T inner Ends s from end (Err f) t → f ≡ failure.Stdout doc full
+        → CameTo Behind s doc full
+    attempt_shows end f t run ran is =
+        came_from Behind s (with_scope s from end) doc full (keeps_run s from end run.present)
+        (run_shows describes info law showing handed plain (with_scope s from end) t f doc full ran is)
+
+    -- so does what follows it
+    retry_shows : (end : ℕ) (f g : Failure) (t u : Situation) → IsRunFrom s from end
+        → Attempt T inner Ends s from end (Err f) t
+        → Retry T inner Ends s from end f t (Err g) u → g ≡ failure.Stdout doc full
+        → CameTo Behind s doc full
+    retry_shows end f g t u run ran (nothing_left told taken) is =
+        attempt_shows end f t run ran is
+    retry_shows end f g t u run ran (second_fails h stop w told left again other) is =
+        attempt_shows end f t run ran is
+    retry_shows end f g t u run ran wants_memory is = cc
+
+    -- so do attempts
+    attempts_show : (g : Failure) (u : Situation) → Attempts T inner Ends s from (Err g) u
+        → g ≡ failure.Stdout doc full → CameTo Behind s doc full
+    attempts_show g u (first_fails f end t r w run ran retry) is =
+        retry_shows end f g t w run ran retry is
+
+  module _ (called : Called) (shows : Part → Type 0) where
+    -- what is shown behind the word
+    behind : (s : Situation) (p : ℕ) (doc : List Piece) (full : Bool)
+        → IsOpenedAt (opening_words called) s p → CameTo Behind (inside called s p) doc full
+        → CameTo (BehindWord called Behind) s doc full
+    behind s p doc full at came = record {
+      there = s;
+      keeps = keeps_refl s;
+      shown = record { place = p; word = at; run = came };
+    }
+
+    -- a plain command shows what its own run was asked for, or hands on
+    plain_shows : (s : Situation) (e : Error) (t : Situation) (doc : List Piece) (full : Bool)
+        → CommandOutcome T inner Ends called shows s (Err e) t → e.0 ≡ inner_answer doc full
+        → CameTo (BehindWord called Behind) s doc full
+    plain_shows s e t doc full (ended f told p left at ran same) is =
+        behind s p doc full at
+        (run_shows describes info law showing handed plain (inside called s p) left f doc full ran
+        (end_is_shown f doc full (sym same ∙ is)))
+    plain_shows s e t doc full (missing told none same) is =
+        absurd (missing_shows_nothing shows s e.0 doc full same is)
+    plain_shows s e t doc full (no_memory told p at same) is = cc
+
+    -- so does an adjacent one
+    adjacent_shows : (s : Situation) (e : Error) (t : Situation) (doc : List Piece) (full : Bool)
+        → AdjacentOutcome T inner Ends called shows s (Err e) t → e.0 ≡ inner_answer doc full
+        → CameTo (BehindWord called Behind) s doc full
+    adjacent_shows s e t doc full (failed f told p left at ran same) is =
+        behind s p doc full at
+        (attempts_show (inside called s p) (p + 1) doc full f left ran
+        (end_is_shown f doc full (sym same ∙ is)))
+    adjacent_shows s e t doc full (unnamed told none same) is =
+        absurd (missing_shows_nothing shows s e.0 doc full same is)
+    adjacent_shows s e t doc full (no_path told p at same) is = cc
+
+    -- so does each command
+    pub command_hands_on : (adjacent : Bool)
+        → HandsOn (BehindWord called Behind)
+        (EitherCommandOutcome adjacent T inner Ends called shows)
+    command_hands_on true = record { all = λ s e t doc full o is. adjacent_shows s e t doc full o is }
+    command_hands_on false = record { all = λ s e t doc full o is. plain_shows s e t doc full o is }
+
+-- what is shown behind a word may be shown there by what may show more
+pub behind_also : (called : Called) (showing other : Showing) → IsAlsoShown showing other
+    → IsAlsoShown (BehindWord called showing) (BehindWord called other)
+behind_also called showing other also s doc full behind = record {
+  place = behind.place;
+  word = behind.word;
+  run = came_also showing other also (inside called s behind.place) doc full behind.run;
+}
