@@ -11,7 +11,7 @@ use Rattle.bpaf_exact.specs.Flat.{ErrorClass, Refused, Kind, Named, OneWord, Eac
 use Rattle.bpaf_exact.specs.Single.{StepsRan, repeated}
 use Rattle.bpaf_exact.specs.Wrappers.{Closure, Decides, map_closure, ClosedRan, OptionalRan, FallbackRan}
 use Rattle.bpaf_exact.specs.Derived.{some_closure, LastRan}
-use Rattle.bpaf_exact.specs.Shape.{Shape, not_flat, alternative, single, complete, product, ShapeLaw, Agrees, only_if, closed_shape, either_shape, choice_shape, choices_rest, alternative_only, choices_shape, repeat_shape, last_shape, optional_shape, fallback_shape, field_shape, may_follow, both_shape, alone_shape, con_shape, record_shape, is_record, product_roles, product_value}
+use Rattle.bpaf_exact.specs.Shape.{EachAgrees, Shape, not_flat, alternative, single, complete, product, ShapeLaw, Agrees, only_if, closed_shape, either_shape, choice_shape, choices_rest, alternative_only, choices_shape, repeat_shape, last_shape, optional_shape, fallback_shape, field_shape, may_follow, both_shape, alone_shape, con_shape, record_shape, is_record, product_roles, product_value}
 use Rattle.bpaf_exact.proofs.Names.{apart_of_names, either_owns}
 use Rattle.bpaf_exact.proofs.Alternative.{alternative_single, closed_alternative, closed_single}
 use Rattle.bpaf_exact.proofs.Choice.{choice_law}
@@ -71,12 +71,15 @@ keys_of_all : {P : Type 0} (keys : P → List Names) (own : List Names) (ps : Li
 keys_of_all keys own [] = sym (append-nil own)
 keys_of_all keys own (p ∷ ps) = keys_of_all keys (own ++ keys p) ps ∙ append_assoc own (keys p) (flat_map keys ps)
 
-choices_rest_law : (P T : Type 0) (outcome : P → Outcome T) (keys : P → List Names) (shape : P → Shape T) (law : (p : P) → ShapeLaw (outcome p) (keys p) (shape p)) (ps : List P)
-    (first : Outcome T) (own : List Names) (s : Shape T) → ShapeLaw first own s → ShapeLaw (Nested ChoiceOutcome outcome first ps) (keys_behind keys own ps) (choices_rest keys shape own s ps)
-choices_rest_law P T outcome keys shape law [] first own s l = l
-choices_rest_law P T outcome keys shape law (p ∷ ps) first own s l =
-    choices_rest_law P T outcome keys shape law ps (ChoiceOutcome first (outcome p)) (own ++ keys p) (choice_shape own (keys p) s (shape p))
-    (choice_shape_law T first (outcome p) own (keys p) s (shape p) l (law p))
+-- a choice of what stands before and of parsers
+choices_rest_law : (P T : Type 0) (outcome : P → Outcome T) (keys : P → List Names) (shape : P → Shape T) (agrees : P → Type 0)
+    → ((p : P) → agrees p → ShapeLaw (outcome p) (keys p) (shape p)) → (ps : List P) → EachAgrees agrees ps
+    → (first : Outcome T) (own : List Names) (s : Shape T) → ShapeLaw first own s
+    → ShapeLaw (Nested ChoiceOutcome outcome first ps) (keys_behind keys own ps) (choices_rest keys shape own s ps)
+choices_rest_law P T outcome keys shape agrees law [] each first own s l = l
+choices_rest_law P T outcome keys shape agrees law (p ∷ ps) each first own s l =
+    choices_rest_law P T outcome keys shape agrees law ps each.1 (ChoiceOutcome first (outcome p)) (own ++ keys p) (choice_shape own (keys p) s (shape p))
+    (choice_shape_law T first (outcome p) own (keys p) s (shape p) l (law p each.0))
 
 only_law : (T : Type 0) (outcome : Outcome T) (names : List Names) (s : Shape T) → ShapeLaw outcome names s → ShapeLaw outcome names (alternative_only s)
 only_law T outcome names not_flat l = tt
@@ -86,12 +89,14 @@ only_law T outcome names (complete k q value) l = tt
 only_law T outcome names (product q value) l = tt
 
 -- a choice of any number of parsers
-pub choices_shape_law : (P T : Type 0) (outcome : P → Outcome T) (keys : P → List Names) (shape : P → Shape T) → ((p : P) → ShapeLaw (outcome p) (keys p) (shape p)) → (ps : List P)
+pub choices_shape_law : (P T : Type 0) (outcome : P → Outcome T) (keys : P → List Names) (shape : P → Shape T) (agrees : P → Type 0)
+    → ((p : P) → agrees p → ShapeLaw (outcome p) (keys p) (shape p)) → (ps : List P) → EachAgrees agrees ps
     → ShapeLaw (ChoicesOutcome outcome ps) (flat_map keys ps) (choices_shape keys shape ps)
-choices_shape_law P T outcome keys shape law [] = tt
-choices_shape_law P T outcome keys shape law (p ∷ ps) =
+choices_shape_law P T outcome keys shape agrees law [] each = tt
+choices_shape_law P T outcome keys shape agrees law (p ∷ ps) each =
     subst (λ names. ShapeLaw (ChoicesOutcome outcome (p ∷ ps)) names (choices_shape keys shape (p ∷ ps))) (keys_of_all keys (keys p) ps)
-    (choices_rest_law P T outcome keys shape law ps (outcome p) (keys p) (alternative_only (shape p)) (only_law T (outcome p) (keys p) (shape p) (law p)))
+    (choices_rest_law P T outcome keys shape agrees law ps each.1 (outcome p) (keys p) (alternative_only (shape p))
+    (only_law T (outcome p) (keys p) (shape p) (law p each.0)))
 
 repeated_keys : (k : Kind) (q : Roles) (names : List Names) → Owns (keys k q) names → Owns (keys (repeated k) q) names
 repeated_keys Named q names o = o

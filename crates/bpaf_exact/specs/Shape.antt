@@ -46,6 +46,11 @@ Agrees f (single k q group gap) =
 Agrees f (complete k q value) = (os : List Piece) → AgreesOn (value os) f
 Agrees f (product q value) = (os : List Piece) → AgreesOn (value os) f
 
+-- the premises of all parsers of a list
+abbrev pub EachAgrees : {P : Type 0} → (P → Type 0) → List P → Type 0
+EachAgrees agrees [] = Unit {0}
+EachAgrees agrees (p ∷ ps) = agrees p × EachAgrees agrees ps
+
 -- a shape where a test holds
 abbrev pub only_if : {T : Type 0} → Bool → Shape T → Shape T
 only_if true s = s

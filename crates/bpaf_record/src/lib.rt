@@ -1,0 +1,15 @@
+//! Flat records: options whose fields are read off the line each by itself.
+#![tactic(auto)]
+
+mod closures;
+mod defaults;
+mod field;
+mod form;
+mod keys;
+mod leaves;
+mod repeats;
+mod shown;
+
+pub use field::{FlatField, FlatFields};
+pub use form::Form;
+pub use keys::{HasKeys, KeyTest};
