@@ -1,9 +1,9 @@
 -- What the combinators make of a form.
 use Rattle.std.proofs.Common.{◌≡◌, Bool, true, false, List, Option, ◌&&◌, if◌then◌else◌, refl}
 use Rattle.bpaf_exact.specs.Flat.{Kind, Named, OneWord, EachWord}
-use Rattle.bpaf_exact.specs.Shape.{Shape, not_flat, alternative, single, complete, product, closed_shape, repeat_shape, last_shape, optional_shape, fallback_shape, unless}
+use Rattle.bpaf_exact.specs.Shape.{Shape, not_flat, alternative, single, complete, product, closed_shape, repeat_shape, last_shape, optional_shape, fallback_shape, unless, is_record}
 use Rattle.bpaf_exact.specs.Wrappers.{Closure}
-use Rattle.bpaf_record.specs.Form.{form_of, closed_form, completed_form}
+use Rattle.bpaf_record.specs.Form.{form_of, closed_form, completed_form, is_record_form}
 use Rattle.bpaf_record.specs.declared.form.Form.TheVariants.{NotFlat}
 
 -- a closure
@@ -75,3 +75,15 @@ caught_is false s = refl
 pub and_true : (b : Bool) → b ≡ (b && true)
 and_true true = refl
 and_true false = refl
+
+-- a flat record
+pub record_is : {T : Type 0} (s : Shape T) → is_record_form (form_of s) ≡ is_record s
+record_is not_flat = refl
+record_is (alternative q value) = refl
+record_is (single Named q group gap) = refl
+record_is (single OneWord q group gap) = refl
+record_is (single EachWord q group gap) = refl
+record_is (complete Named q value) = refl
+record_is (complete OneWord q value) = refl
+record_is (complete EachWord q value) = refl
+record_is (product q value) = refl

@@ -1,6 +1,6 @@
 ghost use Rattle.std.specs.Prelude.{◌≡◌};
-ghost use Rattle.bpaf_record.specs.Form.{closed_form, either_form, completed_form, field_form};
-ghost use Rattle.bpaf_record.specs.Form.{alternative_form, is_record_form};
+ghost use Rattle.bpaf_record.specs.Form.{closed_form, joined_form, completed_form, field_form};
+ghost use Rattle.bpaf_record.specs.Form.{alternative_form, alone_form, before_form, made_form, is_record_form};
 
 /// What a parser is to a flat record.
 #[derive(Clone, Copy)]
@@ -32,12 +32,12 @@ impl Form {
         }
     }
 
-    /// The choice of two.
-    pub(crate) fn or_else(self, other: Form) -> Form
-        ensures { result ≡ either_form self other }
+    /// The choice of two, whose keys are apart or not.
+    pub(crate) fn or_else(self, other: Form, apart: bool) -> Form
+        ensures { result ≡ joined_form apart self other }
     {
-        match (self, other) {
-            (Form::Alternative, Form::Alternative) => Form::Alternative,
+        match (apart, self, other) {
+            (true, Form::Alternative, Form::Alternative) => Form::Alternative,
             _ => Form::NotFlat,
         }
     }
@@ -72,6 +72,38 @@ impl Form {
             Form::Alternative | Form::Named | Form::NamedComplete => Form::NamedComplete,
             Form::Word | Form::WordComplete => Form::WordComplete,
             Form::NotFlat | Form::Product => Form::NotFlat,
+        }
+    }
+
+    /// As the last field of a product.
+    pub(crate) fn alone(self) -> Form
+        ensures { result ≡ alone_form self }
+    {
+        match self {
+            Form::NamedComplete | Form::WordComplete => Form::Product,
+            _ => Form::NotFlat,
+        }
+    }
+
+    /// As a field before others, whose keys are apart from its own or not; after a positional word no
+    /// key may stand.
+    pub(crate) fn before(self, rest: Form, apart: bool, no_key_behind: bool) -> Form
+        ensures { result ≡ before_form self rest apart no_key_behind }
+    {
+        match (self, rest) {
+            (Form::NamedComplete, Form::Product) if apart => Form::Product,
+            (Form::WordComplete, Form::Product) if no_key_behind => Form::Product,
+            _ => Form::NotFlat,
+        }
+    }
+
+    /// With a constructor.
+    pub(crate) fn made(self) -> Form
+        ensures { result ≡ made_form self }
+    {
+        match self {
+            Form::Product => Form::Product,
+            _ => Form::NotFlat,
         }
     }
 

@@ -108,3 +108,24 @@ impl KeyTest for NoKey {
         false
     }
 }
+
+/// The test for no name of a key of one short and one long name.
+#[derive(Drop)]
+pub(crate) struct ApartFromUsual<'a> {
+    pub short: char,
+    pub long: &'a str,
+}
+
+impl KeyTest for ApartFromUsual<'_> {
+    ghost use Rattle.std.specs.Prelude.{[], ◌∷◌};
+
+    ghost accepts = { λ t names.
+        are_apart (record { shorts = t.short ∷ []; longs = t.long.now ∷ [] }) names };
+
+    #[tactic(auto, using(crate::proofs::Forms::and_true))]
+    fn test(&self, key: &NamedArg) -> bool {
+        let short = lacks_short(key.shorts(), self.short);
+        let long = is_text_among(key.longs(), self.long);
+        short && !long
+    }
+}
