@@ -25,6 +25,7 @@ impl<A: HasKeys, B: HasKeys> HasKeys for ParseOrElse<A, B> {
 impl<T: Drop, A: FlatField<T>, B: FlatField<T>> FlatField<T> for ParseOrElse<A, B> {
     ghost use Rattle.bpaf_exact.specs.Shape.{choice_shape};
     ghost use Rattle.bpaf_exact.proofs.Shape.{choice_shape_law};
+    ghost use Rattle.bpaf_exact.proofs.SameParts.{choice_shows};
 
     ghost shape = { λ p.
         choice_shape (A.keys p.this) (B.keys p.that) (A.shape p.this) (B.shape p.that) };
@@ -40,6 +41,8 @@ impl<T: Drop, A: FlatField<T>, B: FlatField<T>> FlatField<T> for ParseOrElse<A, 
     ghost flat = { λ p a. choice_shape_law T (A.outcome p.this) (B.outcome p.that)
         (A.keys p.this) (B.keys p.that) (A.shape p.this) (B.shape p.that)
         (A.flat p.this a.0) (B.flat p.that a.1) };
+
+    ghost shows = { λ p. choice_shows (A.shows p.this) (B.shows p.that) };
 }
 
 /// Whether each key of each of these parsers passes a test.
@@ -94,6 +97,7 @@ impl<P: HasKeys> HasKeys for ParseChoice<P> {
 impl<T: Drop, P: FlatField<T> + Drop> FlatField<T> for ParseChoice<P> {
     ghost use Rattle.bpaf_exact.specs.Shape.{EachAgrees};
     ghost use Rattle.bpaf_exact.proofs.Shape.{choices_shape_law};
+    ghost use Rattle.bpaf_exact.proofs.SameParts.{choices_show};
 
     ghost shape = { λ p. choices_shape P.keys P.shape p.parsers.items };
 
@@ -105,4 +109,6 @@ impl<T: Drop, P: FlatField<T> + Drop> FlatField<T> for ParseChoice<P> {
 
     ghost flat = { λ p a. choices_shape_law _ T P.outcome P.keys P.shape P.agrees P.flat
         p.parsers.items a };
+
+    ghost shows = { λ p. choices_show P.describes P.shows p.parsers.items };
 }

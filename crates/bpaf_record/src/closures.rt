@@ -31,6 +31,8 @@ impl<T: Drop, R: Drop, P: FlatField<T>, F: Fn(T) -> R> FlatField<R> for ParseMap
 
     ghost flat = { λ p a. map_field_law T R (P.outcome p.inner) (λ x y. F.post p.map_fn x y)
         (P.keys p.inner) (P.shape p.inner) (P.flat p.inner a) };
+
+    ghost shows = { λ p. P.shows p.inner };
 }
 
 impl<T, P: HasKeys, F, E, R> HasKeys for ParseWith<T, P, F, E, R> {
@@ -60,6 +62,8 @@ impl<T: Drop, R: Drop, E: Display + Drop, P: FlatField<T>, F: Fn(T) -> Result<R,
 
     ghost flat = { λ p a. parse_field_law T R _ (P.outcome p.inner) (λ x y. F.post p.parse_fn x y)
         E.output (P.keys p.inner) (P.shape p.inner) a.1 (P.flat p.inner a.0) };
+
+    ghost shows = { λ p. P.shows p.inner };
 }
 
 impl<'m, P: HasKeys, F> HasKeys for ParseGuard<'m, P, F> {
@@ -89,4 +93,6 @@ impl<'m, T: Drop, P: FlatField<T>, F: Fn(&T) -> bool> FlatField<T> for ParseGuar
 
     ghost flat = { λ p a. guard_field_law T (P.outcome p.inner) (FnReturnsAt F.Fn p.check)
         p.message.now (P.keys p.inner) (P.shape p.inner) a.1 (P.flat p.inner a.0) };
+
+    ghost shows = { λ p. P.shows p.inner };
 }

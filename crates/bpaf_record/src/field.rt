@@ -6,6 +6,7 @@ use bpaf::{Fields, Parser};
 
 /// A parser that may be a field of a flat record, or a flat record itself.
 pub trait FlatField<T>: Parser<T> + HasKeys {
+    ghost use Rattle.bpaf_exact.specs.SameParts.{ShowsTheSame};
     ghost use Rattle.bpaf_exact.specs.Shape.{Shape, ShapeLaw};
     ghost use Rattle.bpaf_record.specs.Form.{form_of};
 
@@ -21,10 +22,14 @@ pub trait FlatField<T>: Parser<T> + HasKeys {
 
     /// What it answers and takes depends on its own pieces alone, as its shape says.
     ghost flat: { (p : Self) → agrees p → ShapeLaw (Self.Parser.outcome p) (Self.HasKeys.keys p) (shape p) };
+
+    /// It shows the same parts, whichever shape it shows, so that words have one line.
+    ghost shows: { (p : Self) → ShowsTheSame (Self.Parser.describes p) };
 }
 
 /// The fields of a flat record.
 pub trait FlatFields<V>: Fields<V> + HasKeys {
+    ghost use Rattle.bpaf_exact.specs.SameParts.{FieldsShowTheSame};
     ghost use Rattle.bpaf_exact.specs.Shape.{Shape, ShapeLaw};
     ghost use Rattle.bpaf_record.specs.Form.{form_of};
 
@@ -40,4 +45,7 @@ pub trait FlatFields<V>: Fields<V> + HasKeys {
 
     /// What they answer and take depends on the pieces of the line alone, as their shape says.
     ghost flat: { (p : Self) → agrees p → ShapeLaw (Self.Fields.outcome p) (Self.HasKeys.keys p) (shape p) };
+
+    /// They show the same parts, whichever shapes they show.
+    ghost shows: { (p : Self) → FieldsShowTheSame (Self.Fields.describes p) };
 }

@@ -21,6 +21,8 @@ impl<T> HasKeys for ParseFlag<T> {
 impl<T: Clone + Drop> FlatField<T> for ParseFlag<T> {
     ghost use Rattle.bpaf_exact.specs.Leaves.{flag_field};
     ghost use Rattle.bpaf_exact.proofs.Flags.{flag_field_law};
+    ghost use Rattle.bpaf_exact.proofs.SameParts.{one_shape};
+    ghost use Rattle.bpaf_laws.specs.Flag.{flag_shape};
 
     ghost shape = { λ p. flag_field T.is_clone p.named p.present p.absent };
 
@@ -35,6 +37,8 @@ impl<T: Clone + Drop> FlatField<T> for ParseFlag<T> {
     }
 
     ghost flat = { λ p a. flag_field_law T T.is_clone p.named p.present p.absent };
+
+    ghost shows = { λ p. one_shape (flag_shape p.named p.absent) };
 }
 
 impl<T> HasKeys for ParseArgument<T> {
@@ -52,6 +56,8 @@ impl<T> HasKeys for ParseArgument<T> {
 impl<T: FromText + Drop> FlatField<T> for ParseArgument<T> {
     ghost use Rattle.bpaf_exact.specs.Leaves.{argument_field};
     ghost use Rattle.bpaf_exact.proofs.Arguments.{argument_field_law};
+    ghost use Rattle.bpaf_exact.proofs.SameParts.{one_shape};
+    ghost use Rattle.bpaf_laws.specs.Argument.{argument_shape};
 
     ghost shape = { λ p. argument_field T.means p };
 
@@ -65,6 +71,8 @@ impl<T: FromText + Drop> FlatField<T> for ParseArgument<T> {
     }
 
     ghost flat = { λ p a. argument_field_law T T.means p };
+
+    ghost shows = { λ p. one_shape (argument_shape p) };
 }
 
 /// It has no key.
@@ -81,6 +89,8 @@ impl<T> HasKeys for ParsePositional<T> {
 /// With `strict` or `non_strict` it is no flat field.
 impl<T: FromText + Drop> FlatField<T> for ParsePositional<T> {
     ghost use Rattle.bpaf_record.specs.Positional.{positional_field, positional_field_law};
+    ghost use Rattle.bpaf_exact.proofs.SameParts.{one_shape};
+    ghost use Rattle.bpaf.specs.Positional.{positional_shape};
 
     ghost shape = { λ p. positional_field T.means p.position };
 
@@ -94,4 +104,6 @@ impl<T: FromText + Drop> FlatField<T> for ParsePositional<T> {
     }
 
     ghost flat = { λ p a. positional_field_law T T.means p.position p.metavar.0.now };
+
+    ghost shows = { λ p. one_shape (positional_shape p.position p.metavar.0.now p.help) };
 }

@@ -17,6 +17,7 @@ impl<A: HasKeys> HasKeys for Last<A> {
 impl<T: Drop, A: FlatField<T>> FlatFields<T> for Last<A> {
     ghost use Rattle.bpaf_exact.specs.Shape.{alone_shape, field_shape};
     ghost use Rattle.bpaf_exact.proofs.Shape.{alone_shape_law, field_shape_law};
+    ghost use Rattle.bpaf_exact.proofs.SameParts.{last_shows};
 
     ghost shape = { λ p. alone_shape (field_shape (A.shape p.last)) };
 
@@ -30,6 +31,8 @@ impl<T: Drop, A: FlatField<T>> FlatFields<T> for Last<A> {
     ghost flat = { λ p a. alone_shape_law T (A.outcome p.last) (A.keys p.last)
         (field_shape (A.shape p.last))
         (field_shape_law T (A.outcome p.last) (A.keys p.last) (A.shape p.last) (A.flat p.last a)) };
+
+    ghost shows = { λ p. last_shows (A.shows p.last) };
 }
 
 impl<A: HasKeys, R: HasKeys> HasKeys for Both<A, R> {
@@ -49,6 +52,7 @@ impl<A: HasKeys, R: HasKeys> HasKeys for Both<A, R> {
 impl<T: Drop, V: Drop, A: FlatField<T>, R: FlatFields<V>> FlatFields<(T, V)> for Both<A, R> {
     ghost use Rattle.bpaf_exact.specs.Shape.{both_shape, field_shape};
     ghost use Rattle.bpaf_exact.proofs.Shape.{both_shape_law, field_shape_law};
+    ghost use Rattle.bpaf_exact.proofs.SameParts.{both_show};
 
     ghost shape = { λ p.
         both_shape (A.keys p.first) (R.keys p.rest) (field_shape (A.shape p.first)) (R.shape p.rest) };
@@ -67,6 +71,8 @@ impl<T: Drop, V: Drop, A: FlatField<T>, R: FlatFields<V>> FlatFields<(T, V)> for
         (A.keys p.first) (R.keys p.rest) (field_shape (A.shape p.first)) (R.shape p.rest)
         (field_shape_law T (A.outcome p.first) (A.keys p.first) (A.shape p.first)
         (A.flat p.first a.0)) (R.flat p.rest a.1) };
+
+    ghost shows = { λ p. both_show (A.shows p.first) (R.shows p.rest) };
 }
 
 impl<V, P: HasKeys, F> HasKeys for ParseCon<V, P, F> {
@@ -81,6 +87,7 @@ impl<V: Drop, T: Drop, P: FlatFields<V>, F: Fn(V) -> T> FlatField<T> for ParseCo
     ghost use Rattle.bpaf_exact.specs.Shape.{con_shape};
     ghost use Rattle.bpaf_exact.specs.Wrappers.{map_closure};
     ghost use Rattle.bpaf_exact.proofs.Shape.{con_shape_law};
+    ghost use Rattle.bpaf_exact.proofs.SameParts.{product_shows};
 
     ghost shape = { λ p. con_shape (map_closure (λ x y. F.post p.make x y)) (P.shape p.fields) };
 
@@ -93,4 +100,6 @@ impl<V: Drop, T: Drop, P: FlatFields<V>, F: Fn(V) -> T> FlatField<T> for ParseCo
 
     ghost flat = { λ p a. con_shape_law V T (P.outcome p.fields) (λ x y. F.post p.make x y)
         (P.keys p.fields) (P.shape p.fields) (P.flat p.fields a) };
+
+    ghost shows = { λ p. product_shows (P.shows p.fields) };
 }

@@ -18,6 +18,7 @@ impl<P: HasKeys> HasKeys for ParseMany<P> {
 impl<T: Drop, P: FlatField<T>> FlatField<Vec<T>> for ParseMany<P> {
     ghost use Rattle.bpaf_exact.specs.Shape.{many_shape, unless};
     ghost use Rattle.bpaf_exact.proofs.Twins.{many_field_law};
+    ghost use Rattle.bpaf_exact.proofs.SameParts.{many_shows};
 
     ghost shape = { λ p. unless p.catch (many_shape (P.shape p.inner)) };
 
@@ -33,6 +34,8 @@ impl<T: Drop, P: FlatField<T>> FlatField<Vec<T>> for ParseMany<P> {
 
     ghost flat = { λ p a. many_field_law T (P.outcome p.inner) p.catch (P.keys p.inner)
         (P.shape p.inner) (P.flat p.inner a) };
+
+    ghost shows = { λ p. many_shows (P.shows p.inner) };
 }
 
 impl<'m, P: HasKeys> HasKeys for ParseSome<'m, P> {
@@ -47,6 +50,7 @@ impl<'m, P: HasKeys> HasKeys for ParseSome<'m, P> {
 impl<'m, T: Drop, P: FlatField<T>> FlatField<Vec<T>> for ParseSome<'m, P> {
     ghost use Rattle.bpaf_exact.specs.Shape.{some_shape, unless};
     ghost use Rattle.bpaf_exact.proofs.Twins.{some_field_law};
+    ghost use Rattle.bpaf_exact.proofs.SameParts.{some_shows};
 
     ghost shape = { λ p. unless p.catch (some_shape (P.shape p.inner)) };
 
@@ -62,6 +66,8 @@ impl<'m, T: Drop, P: FlatField<T>> FlatField<Vec<T>> for ParseSome<'m, P> {
 
     ghost flat = { λ p a. some_field_law T (P.outcome p.inner) p.catch p.message.now
         (P.keys p.inner) (P.shape p.inner) (P.flat p.inner a) };
+
+    ghost shows = { λ p. some_shows (P.shows p.inner) };
 }
 
 impl<P: HasKeys, C, T> HasKeys for ParseCollect<P, C, T> {
@@ -76,6 +82,7 @@ impl<P: HasKeys, C, T> HasKeys for ParseCollect<P, C, T> {
 impl<T: Drop, C: FromList<T> + Drop, P: FlatField<T>> FlatField<C> for ParseCollect<P, C, T> {
     ghost use Rattle.bpaf_exact.specs.Shape.{collect_shape, unless};
     ghost use Rattle.bpaf_exact.proofs.Twins.{collect_field_law};
+    ghost use Rattle.bpaf_exact.proofs.SameParts.{many_shows};
 
     ghost shape = { λ p. unless p.catch (collect_shape C.fills (P.shape p.inner)) };
 
@@ -91,6 +98,8 @@ impl<T: Drop, C: FromList<T> + Drop, P: FlatField<T>> FlatField<C> for ParseColl
 
     ghost flat = { λ p a. collect_field_law T C (P.outcome p.inner) p.catch C.fills
         (P.keys p.inner) (P.shape p.inner) (P.flat p.inner a) };
+
+    ghost shows = { λ p. many_shows (P.shows p.inner) };
 }
 
 impl<P: HasKeys, T> HasKeys for ParseCount<P, T> {
@@ -104,6 +113,7 @@ impl<P: HasKeys, T> HasKeys for ParseCount<P, T> {
 impl<T: Drop, P: FlatField<T>> FlatField<usize> for ParseCount<P, T> {
     ghost use Rattle.bpaf_exact.specs.Shape.{count_shape};
     ghost use Rattle.bpaf_exact.proofs.Twins.{count_field_law};
+    ghost use Rattle.bpaf_exact.proofs.SameParts.{many_shows};
 
     ghost shape = { λ p. count_shape (P.shape p.inner) };
 
@@ -116,6 +126,8 @@ impl<T: Drop, P: FlatField<T>> FlatField<usize> for ParseCount<P, T> {
 
     ghost flat = { λ p a.
         count_field_law T (P.outcome p.inner) (P.keys p.inner) (P.shape p.inner) (P.flat p.inner a) };
+
+    ghost shows = { λ p. many_shows (P.shows p.inner) };
 }
 
 impl<P: HasKeys> HasKeys for ParseLast<P> {
@@ -129,6 +141,7 @@ impl<P: HasKeys> HasKeys for ParseLast<P> {
 impl<T: Drop, P: FlatField<T>> FlatField<T> for ParseLast<P> {
     ghost use Rattle.bpaf_exact.specs.Shape.{last_shape};
     ghost use Rattle.bpaf_exact.proofs.Twins.{last_field_law};
+    ghost use Rattle.bpaf_exact.proofs.SameParts.{some_shows};
 
     ghost shape = { λ p. last_shape (P.shape p.inner) };
 
@@ -141,4 +154,6 @@ impl<T: Drop, P: FlatField<T>> FlatField<T> for ParseLast<P> {
 
     ghost flat = { λ p a.
         last_field_law T (P.outcome p.inner) (P.keys p.inner) (P.shape p.inner) (P.flat p.inner a) };
+
+    ghost shows = { λ p. some_shows (P.shows p.inner) };
 }

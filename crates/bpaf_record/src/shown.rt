@@ -17,6 +17,8 @@ impl<P: HasKeys> HasKeys for ParseUsage<P> {
 }
 
 impl<T, P: FlatField<T>> FlatField<T> for ParseUsage<P> {
+    ghost use Rattle.bpaf_exact.proofs.SameParts.{usage_shows};
+
     ghost shape = { λ p. P.shape p.inner };
 
     ghost agrees = { λ p. P.agrees p.inner };
@@ -26,6 +28,8 @@ impl<T, P: FlatField<T>> FlatField<T> for ParseUsage<P> {
     }
 
     ghost flat = { λ p a. P.flat p.inner a };
+
+    ghost shows = { λ p. usage_shows (P.shows p.inner) p.usage };
 }
 
 impl<P: HasKeys> HasKeys for ParseGroupHelp<P> {
@@ -37,6 +41,8 @@ impl<P: HasKeys> HasKeys for ParseGroupHelp<P> {
 }
 
 impl<T, P: FlatField<T>> FlatField<T> for ParseGroupHelp<P> {
+    ghost use Rattle.bpaf_exact.proofs.SameParts.{section_shows};
+
     ghost shape = { λ p. P.shape p.inner };
 
     ghost agrees = { λ p. P.agrees p.inner };
@@ -46,6 +52,8 @@ impl<T, P: FlatField<T>> FlatField<T> for ParseGroupHelp<P> {
     }
 
     ghost flat = { λ p a. P.flat p.inner a };
+
+    ghost shows = { λ p. section_shows (P.shows p.inner) p.message };
 }
 
 impl<P: HasKeys, F> HasKeys for ParseWithGroupHelp<P, F> {
@@ -58,6 +66,8 @@ impl<P: HasKeys, F> HasKeys for ParseWithGroupHelp<P, F> {
 
 impl<T, P: FlatField<T>, F: Fn(MetaInfo<'_>) -> Result<Doc, AllocError>> FlatField<T>
     for ParseWithGroupHelp<P, F> {
+    ghost use Rattle.bpaf_exact.proofs.SameParts.{titled_shows};
+
     ghost shape = { λ p. P.shape p.inner };
 
     ghost agrees = { λ p. P.agrees p.inner };
@@ -67,4 +77,6 @@ impl<T, P: FlatField<T>, F: Fn(MetaInfo<'_>) -> Result<Doc, AllocError>> FlatFie
     }
 
     ghost flat = { λ p a. P.flat p.inner a };
+
+    ghost shows = { λ p. titled_shows (P.shows p.inner) (λ info title. F.post p.f info title) };
 }
