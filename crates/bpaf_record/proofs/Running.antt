@@ -1,5 +1,5 @@
 -- Each answer that the table of a run allows to a flat record is exact.
-use Rattle.std.proofs.Common.{◌≡◌, ℕ, ◌<◌, ◌≤◌, Bool, true, false, ◌&&◌, List, Option, Some, None, Result, Ok, Err, refl, sym, ◌∙◌, arith}
+use Rattle.std.proofs.Common.{◌≡◌, ℕ, ◌<◌, ◌≤◌, Bool, true, false, ◌&&◌, List, Option, Some, None, Result, Ok, Err, IfOk, All, IsUtf8, refl, sym, subst, ◌∙◌, arith}
 use Rattle.std.specs.List.{list_all}
 use Rattle.bpaf_doc.specs.Names.{Names}
 use Rattle.bpaf_doc.specs.Shape.{Shape as ShownShape}
@@ -16,13 +16,18 @@ use Rattle.bpaf_line.proofs.Places.{open_in_line}
 use Rattle.bpaf_laws.specs.Reading.{Outcome}
 use Rattle.bpaf_core.specs.Ending.{EndsRun, memory, usage, passed_on, refused as told_refusal, leftover as told_leftover}
 use Rattle.bpaf_core.specs.Info.{RunInfo}
+use Rattle.bpaf_core.specs.Known.{IsLineContext}
 use Rattle.bpaf_core.specs.Run.{Runs, RunsWords, value, leftover, refused, ran, no_line as none_there, no_memory as wanted}
 use Rattle.bpaf_exact.specs.Names.{are_apart}
 use Rattle.bpaf_exact.specs.Record.{Answer, RunRan, run_value, run_leftover, run_memory, run_refusal, IsNoValue}
-use Rattle.bpaf_exact.specs.Shape.{Shape, ShapeLaw, is_record}
+use Rattle.bpaf_exact.specs.Record.{IsAnswer, IsExact, RecordValue}
+use Rattle.bpaf_exact.specs.Shape.{Shape, ShapeLaw, is_record, product_roles, product_value, record_shape}
 use Rattle.bpaf_exact.proofs.Classes.{memory_class, not_memory}
 use Rattle.bpaf_exact.proofs.Exact.{runs_exactly}
-use Rattle.bpaf_record.specs.Record.{is_flat_record, answer_of, AnswersExactly, on_line, no_line, no_memory, EachAnswersExactly}
+use Rattle.bpaf_exact.specs.SameParts.{ShowsTheSame}
+use Rattle.bpaf_record.specs.Record.{is_flat_record, answer_of, AnswersExactly, EachAnswersExactly}
+use Rattle.bpaf_record.specs.Record.{IsValueOf, IsValueOrWant}
+use Rattle.bpaf_record.proofs.OneLine.{never_without, one_context}
 
 -- an open place is counted
 open_counted : (s : Situation) (p : ℕ) → is_open s p ≡ true → open_count s ≡ 0 → ⊥
@@ -60,12 +65,58 @@ module _ (T : Type 0) (outcome : Outcome T) (describes : ShownShape → Type 0) 
   run_ran s t r (leftover v left f after o ends) = leftover_ran s left after v f o ends
   run_ran s t r (refused e left f after o ends) = refused_ran s left after e f o ends
 
-  module _ (names : List Names) (shape : Shape T) (law : ShapeLaw outcome names shape) (flat : is_record shape ≡ true) where
+  module _ (names : List Names) (shape : Shape T) (law : ShapeLaw outcome names shape)
+      (flat : is_record shape ≡ true) (shows : ShowsTheSame describes) (given : Given) where
+    -- a value of the record on words
+    abbrev IsValue : T → Type 0
+    IsValue = IsValueOf describes info shape given
+
+    -- one on a line of the words
+    abbrev ValueOn : Context → T → Type 0
+    ValueOn context v = RecordValue (product_roles (record_shape shape))
+        (product_value (record_shape shape)) context v
+
+    -- what is exact on the words' line is a value only where that is one of the record's
+    sound_on : (context : Context) → IsLineContext describes info given context
+        → (r : Result T ParseFailure)
+        → IsExact T (product_roles (record_shape shape)) (product_value (record_shape shape)) context
+        (answer_of r) → IfOk r IsValue
+    sound_on context is (Ok v) exact =
+        record { context = context; on_line = is; read = exact.sound v refl }
+    sound_on context is (Err f) exact = tt
+
+    -- an answer on the words' line that is one of the record's values there, or want of memory
+    answer_on : (context : Context) → IsLineContext describes info given context
+        → (r : Result T ParseFailure) → IsAnswer (ValueOn context) (answer_of r)
+        → IsValueOrWant IsValue r
+    answer_on context is (Ok v) given_value =
+        record { context = context; on_line = is; read = given_value }
+    answer_on context is (Err (failure.Stdout doc full)) none = absurd none
+    answer_on context is (Err (failure.Stderr doc)) none = absurd none
+    answer_on context is (Err failure.Memory) none = refl
+
+    -- where the record has a value on the words, what is exact on their line is one, or want of memory
+    complete_on : (context : Context) → IsLineContext describes info given context
+        → (r : Result T ParseFailure)
+        → IsExact T (product_roles (record_shape shape)) (product_value (record_shape shape)) context
+        (answer_of r) → All IsUtf8 given.words → (v : T) → IsValue v → IsValueOrWant IsValue r
+    complete_on context is r exact texts v there = answer_on context is r
+        (exact.complete v (subst (λ line. ValueOn line v)
+        (one_context given texts shows info there.context context there.on_line is) there.read))
+
     -- each answer to words is exact
-    pub answers_exactly : (given : Given) → EachAnswersExactly outcome describes info shape given
-    answers_exactly given r (ran context u t is run) = on_line context r is (runs_exactly T outcome names shape flat law context (answer_of r) (run_ran (beginning context) t r run))
-    answers_exactly given r (none_there shown word number context f is none line name renders) = no_line shown word number f is none
-    answers_exactly given r wanted = no_memory
+    pub answers_exactly : EachAnswersExactly outcome describes info shape given
+    answers_exactly r (ran context answer t is run) =
+        let exact = runs_exactly T outcome names shape flat law context (answer_of r)
+        (run_ran (beginning context) t r run) in
+        record { sound = sound_on context is r exact; complete = complete_on context is r exact }
+    answers_exactly (Err f) (none_there shown word number context told is none line name renders) =
+        record {
+          sound = tt;
+          complete = λ texts v there. absurd (never_without given texts shows info there.context shown
+              word number there.on_line is none);
+        }
+    answers_exactly (Err f) wanted = record { sound = tt; complete = λ texts v there. refl }
 
 -- options that are a flat record have a parser that is one
 pub is_flat_shape : {T : Type 0} (shape : Shape T) (names : List Names) (info : RunInfo) → is_flat_record shape names info ≡ true → is_record shape ≡ true

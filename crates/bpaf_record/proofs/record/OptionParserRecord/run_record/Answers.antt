@@ -8,4 +8,4 @@ returns-clause-exact g c agrees r o =
     answers_exactly g.row.T.Denot (g.P.Parser.outcome parser) (g.P.Parser.describes parser) c.args.self.now.info (g.P.HasKeys.keys parser)
     (g.P.FlatField.shape parser) (g.met.P.FlatField.flat parser agrees)
     (is_flat_shape (g.P.FlatField.shape parser) (g.P.HasKeys.keys parser) c.args.self.now.info c.requires.record)
-    (given_of c.args.args) r o
+    (g.met.P.FlatField.shows parser) (given_of c.args.args) r o
