@@ -1,0 +1,142 @@
+-- Each flat type shows the same parts, whichever shape it shows, where its inner parsers do.
+use Rattle.std.proofs.Common.{◌≡◌, List, [], ◌∷◌, ◌++◌, Option, Some, None, Result, Ok, All}
+use Rattle.std.proofs.Common.{refl, sym, ap, ◌∙◌, append_assoc, append-nil}
+use Rattle.std.specs.declared.alloc.AllocError.{AllocError}
+use Rattle.bpaf_doc.specs.declared.doc.Piece.{Piece}
+use Rattle.bpaf_doc.specs.declared.meta.MetaInfo.{MetaInfo}
+use Rattle.bpaf_doc.specs.Shape.{Shape, Shapes, Part, And, Or, Optional, Required, Many, Suffix}
+use Rattle.bpaf_doc.specs.Shape.{Subsection, CustomUsage, Skip, none, ◌then◌, members, shape_of}
+use Rattle.bpaf_doc.specs.Walks.{parts, parts_of_all}
+use Rattle.bpaf_laws.specs.Choice.{ChoiceDescribes, alternatives, either, shapes_of}
+use Rattle.bpaf_laws.specs.Choices.{ChoicesDescribes, Nested}
+use Rattle.bpaf_laws.specs.Default.{DefaultDescribes, OptionalDescribes}
+use Rattle.bpaf_laws.specs.Hide.{SectionDescribes, TitledDescribes, UsageDescribes, usage_pieces}
+use Rattle.bpaf_laws.specs.Product.{BothDescribes, LastDescribes, ProductDescribes}
+use Rattle.bpaf_laws.specs.Repeat.{ManyDescribes, SomeDescribes}
+use Rattle.bpaf_exact.specs.SameParts.{FieldsShowTheSame, ShowsTheSame}
+
+-- a parser of one shape
+pub one_shape : (shape : Shape) → ShowsTheSame (λ shown. shown ≡ shape)
+one_shape shape = record { same = λ a b first second. ap parts (first ∙ sym second) }
+
+module _ {inner : Shape → Type 0} (inside : ShowsTheSame inner) where
+  -- a wrapper whose parts are those inside it
+  pub around : (wrap : Shape → Shape) → ((shape : Shape) → parts (wrap shape) ≡ parts shape)
+      → ShowsTheSame (λ shape. (within : Shape) × inner within × (shape ≡ wrap within))
+  around wrap as_inside = record {
+    same = λ a b first second.
+        ap parts first.2 ∙ (as_inside first.0 ∙ (inside.same first.0 second.0 first.1 second.1
+        ∙ (sym (as_inside second.0) ∙ sym (ap parts second.2))));
+  }
+
+  -- what may be left out
+  pub optional_shows : ShowsTheSame (OptionalDescribes inner)
+  optional_shows = around (λ shape. Optional shape) (λ shape. refl)
+
+  -- what may stand any number of times
+  pub many_shows : ShowsTheSame (ManyDescribes inner)
+  many_shows = around (λ shape. Many (Optional shape)) (λ shape. refl)
+
+  -- what stands once at least
+  pub some_shows : ShowsTheSame (SomeDescribes inner)
+  some_shows = around (λ shape. Many (Required shape)) (λ shape. refl)
+
+  -- what has a default
+  pub default_shows : (shown : Option (List Piece)) → ShowsTheSame (DefaultDescribes inner shown)
+  default_shows None = optional_shows
+  default_shows (Some text) = around (λ shape. Suffix (Optional shape) text) (λ shape. refl)
+
+  -- what has a usage text of its own
+  pub usage_shows : (usage : Option (List Piece)) → ShowsTheSame (UsageDescribes inner usage)
+  usage_shows usage = around (λ shape. CustomUsage shape (usage_pieces usage)) (λ shape. refl)
+
+  -- what stands in a section
+  pub section_shows : (title : List Piece) → ShowsTheSame (SectionDescribes inner title)
+  section_shows title = around (λ shape. Subsection shape title) (λ shape. refl)
+
+  -- what stands in a section, below a title that a closure makes
+  pub titled_shows : (answers : MetaInfo → Result (List Piece) AllocError → Type 0)
+      → ShowsTheSame (TitledDescribes inner answers)
+  titled_shows answers = record {
+    same = λ a b first second.
+        ap parts first.4 ∙ (inside.same (shape_of first.0.0.now) (shape_of second.0.0.now)
+        first.2 second.2 ∙ sym (ap parts second.4));
+  }
+
+-- the parts of two lists of members, one after the other
+parts_joined : (xs ys : List Shape)
+    → parts_of_all (members (xs ++ ys)) ≡ parts_of_all (members xs) ++ parts_of_all (members ys)
+parts_joined [] ys = refl
+parts_joined (x ∷ xs) ys =
+    ap (λ rest. parts x ++ rest) (parts_joined xs ys)
+    ∙ sym (append_assoc (parts x) (parts_of_all (members xs)) (parts_of_all (members ys)))
+
+-- the members as a list have the same parts
+listed : (all : Shapes) → parts_of_all (members (shapes_of all)) ≡ parts_of_all all
+listed none = refl
+listed (first then rest) = ap (λ others. parts first ++ others) (listed rest)
+
+-- what a shape adds to a choice has its parts
+added : (shape : Shape) → parts_of_all (members (alternatives shape)) ≡ parts shape
+added (Or all) = listed all
+added shape = append-nil (parts shape)
+
+-- the parts of a choice are those of both
+either_parts : (a b : Shape) → parts (either a b) ≡ parts a ++ parts b
+either_parts a b =
+    parts_joined (alternatives a) (alternatives b)
+    ∙ (ap (λ first. first ++ parts_of_all (members (alternatives b))) (added a)
+    ∙ ap (λ second. parts a ++ second) (added b))
+
+-- a choice of two
+pub choice_shows : {first second : Shape → Type 0} → ShowsTheSame first → ShowsTheSame second
+    → ShowsTheSame (ChoiceDescribes first second)
+choice_shows one other = record {
+  same = λ a b shown also.
+      ap parts shown.4 ∙ (either_parts shown.0 shown.1
+      ∙ (ap (λ left. left ++ parts shown.1) (one.same shown.0 also.0 shown.2 also.2)
+      ∙ (ap (λ right. parts also.0 ++ right) (other.same shown.1 also.1 shown.3 also.3)
+      ∙ (sym (either_parts also.0 also.1) ∙ sym (ap parts also.4)))));
+}
+
+module _ {P : Type 0} (describes : P → Shape → Type 0)
+    (each : (p : P) → ShowsTheSame (describes p)) where
+  -- a choice, and others after it
+  nested_shows : (before : Shape → Type 0) → ShowsTheSame before → (ps : List P)
+      → ShowsTheSame (Nested ChoiceDescribes describes before ps)
+  nested_shows before first [] = first
+  nested_shows before first (p ∷ ps) =
+      nested_shows (ChoiceDescribes before (describes p)) (choice_shows first (each p)) ps
+
+  -- a choice of any number
+  pub choices_show : (ps : List P) → ShowsTheSame (ChoicesDescribes describes ps)
+  choices_show [] = one_shape Skip
+  choices_show (p ∷ ps) = nested_shows (describes p) (each p) ps
+
+-- the last field
+pub last_shows : {last : Shape → Type 0} → ShowsTheSame last → FieldsShowTheSame (LastDescribes last)
+last_shows one = record {
+  same = λ all others first second.
+      ap (λ shapes. parts_of_all (members shapes)) first.2
+      ∙ (ap (λ own. own ++ []) (one.same first.0 second.0 first.1 second.1)
+      ∙ sym (ap (λ shapes. parts_of_all (members shapes)) second.2));
+}
+
+-- a field and those after it
+pub both_show : {first : Shape → Type 0} {rest : List Shape → Type 0} → ShowsTheSame first
+    → FieldsShowTheSame rest → FieldsShowTheSame (BothDescribes first rest)
+both_show one more = record {
+  same = λ all others shown also.
+      ap (λ shapes. parts_of_all (members shapes)) shown.4
+      ∙ (ap (λ own. own ++ parts_of_all (members shown.1)) (one.same shown.0 also.0 shown.2 also.2)
+      ∙ (ap (λ rest. parts also.0 ++ rest) (more.same shown.1 also.1 shown.3 also.3)
+      ∙ sym (ap (λ shapes. parts_of_all (members shapes)) also.4)));
+}
+
+-- a product
+pub product_shows : {fields : List Shape → Type 0} → FieldsShowTheSame fields
+    → ShowsTheSame (ProductDescribes fields)
+product_shows all = record {
+  same = λ a b first second.
+      ap parts first.2 ∙ (all.same first.0 second.0 first.1 second.1 ∙ sym (ap parts second.2));
+}

@@ -1,0 +1,160 @@
+-- What a flat field keeps to when it is evaluated: its answer and what it takes depend on its own pieces alone.
+use Rattle.std.specs.Prelude.{◌≡◌, ℕ, zero, suc, Bool, true, false, List, [], ◌∷◌, length, Option, None, Result, Ok, Err}
+use Rattle.bpaf_words.specs.declared.arg.Arg.{Arg}
+use Rattle.bpaf_line.specs.declared.error.Error.{Error}
+use Rattle.bpaf_line.specs.declared.error.Message.{Message}
+use Rattle.bpaf_line.specs.declared.error.Message.TheVariants.{Missing}
+use Rattle.bpaf_line.specs.Messages.{is_memory, can_catch}
+use Rattle.bpaf_line.specs.Situation.{Situation}
+use Rattle.bpaf_line.specs.Taking.{open_item}
+use Rattle.bpaf_laws.specs.Reading.{Outcome}
+use Rattle.bpaf_exact.specs.Pieces.{Cells, Roles, Foreign, Piece, mine, others, no_roles, word_roles, IsNamed, Apart, Cut, pieces, TakesSome}
+
+-- the classes of refusals
+pub data ErrorClass : Type 0 where
+  OfMemory OfMissing Caught Refused : ErrorClass
+
+-- it says that items are missing
+abbrev pub is_missing : Message → Bool
+is_missing (Missing items) = true
+is_missing _ = false
+
+-- the class by three tests: want of memory, a missing item, and whether it can be caught
+abbrev pub class_by : Bool → Bool → Bool → ErrorClass
+class_by true missing caught = OfMemory
+class_by false true caught = OfMissing
+class_by false false true = Caught
+class_by false false false = Refused
+
+-- the class of a message
+abbrev pub class_of : Message → ErrorClass
+class_of m = class_by (is_memory m) (is_missing m) (can_catch m)
+
+-- the class of a refusal
+abbrev pub class : Error → ErrorClass
+class e = class_of e.0
+
+-- what is at the first places, as many as a number says
+abbrev pub first_cells : (ℕ → Option Arg) → ℕ → Cells
+first_cells at zero = []
+first_cells at (suc n) = at zero ∷ first_cells (λ p. at (suc p)) n
+
+-- what is present at each place of the line
+unfoldable pub cells : Situation → Cells
+cells s = first_cells (open_item s) (length s.context.line)
+
+-- nothing is present
+pub data NonePresent : Cells → Type 0 where
+  no_place : NonePresent []
+  none_here : {cs : Cells} → NonePresent cs → NonePresent (None ∷ cs)
+
+-- the scope is the whole line
+pub record IsWhole (s : Situation) : Type 0 where
+  pub start : s.start ≡ 0
+  pub end : s.end ≡ length s.context.line
+
+-- nothing but what is taken, the conflicts and the current place has changed
+pub record Steady (s t : Situation) : Type 0 where
+  pub context : t.context ≡ s.context
+  pub start : t.start ≡ s.start
+  pub end : t.end ≡ s.end
+  pub path : t.path ≡ s.path
+
+-- a named field; a positional field without a repeat; a positional field with one
+pub data Kind : Type 0 where
+  Named OneWord EachWord : Kind
+
+-- Of its own pieces a field takes all; a positional field without a repeat takes the first, if there is one.
+abbrev pub front : Kind → List Piece → List Piece
+front Named os = os
+front EachWord os = os
+front OneWord [] = []
+front OneWord (o ∷ os) = o ∷ []
+
+abbrev pub back : Kind → List Piece → List Piece
+back Named os = []
+back EachWord os = []
+back OneWord [] = []
+back OneWord (o ∷ os) = os
+
+-- Of the pieces that the fields before it left, a field's share: for a named field those that begin with one of its
+-- names; for a positional field one while any is left, or with a repeat all.
+abbrev pub share : Kind → Roles → List Piece → List Piece
+share Named q os = mine q os
+share EachWord q os = os
+share OneWord q os = front OneWord os
+
+-- what it leaves to the fields after it
+abbrev pub left : Kind → Roles → List Piece → List Piece
+left Named q os = others q os
+left EachWord q os = []
+left OneWord q os = back OneWord os
+
+-- the keys of a field
+abbrev pub keys : Kind → Roles → Roles
+keys Named q = q
+keys OneWord q = no_roles
+keys EachWord q = no_roles
+
+pub record IsWords (q : Roles) : Type 0 where
+  pub words : (k : Arg) → q k ≡ word_roles k
+
+-- a field's own items are keys; a positional field's are the words
+abbrev pub OwnItems : Kind → Roles → Type 0
+OwnItems Named q = IsNamed q
+OwnItems OneWord q = IsWords q
+OwnItems EachWord q = IsWords q
+
+-- a named field leaves none of its own keys
+abbrev pub LeavesNone : Kind → Roles → Cells → Type 0
+LeavesNone Named q cs = pieces q cs ≡ []
+LeavesNone OneWord q cs = Unit {0}
+LeavesNone EachWord q cs = Unit {0}
+
+-- An answer of a field: it takes pieces of its own alone, and if none of a named field's is left over, the answer is a value of its share.
+pub record FieldTook (T : Type 0) (k : Kind) (q : Roles) (value : List Piece → T → Type 0) (s : Situation) (v : T) (t : Situation) : Type 0 where
+  pub steady : Steady s t
+  pub takes : TakesSome q (cells s) (cells t)
+  pub read : LeavesNone k q (cells t) → value (front k (pieces q (cells s))) v
+  pub rest : LeavesNone k q (cells t) → pieces q (cells t) ≡ back k (pieces q (cells s))
+
+-- the answer is one of these values, with these pieces left, or it is want of memory
+abbrev pub Gives : {T : Type 0} → Roles → (T → Type 0) → List Piece → Result T Error → Situation → Type 0
+Gives q value rest (Ok v) t = value v × (pieces q (cells t) ≡ rest)
+Gives q value rest (Err e) t = class e ≡ OfMemory
+
+-- the laws of a flat field; where its share has a value, each answer is one, or want of memory
+pub record FieldLaw (T : Type 0) (outcome : Outcome T) (k : Kind) (q : Roles) (value : List Piece → T → Type 0) : Type 0 where
+  pub own : OwnItems k q
+  pub ok : (s t : Situation) (v : T) → IsWhole s → outcome s (Ok v) t → FieldTook T k q value s v t
+  pub answers : (s t : Situation) (r : Result T Error) (w : T) → IsWhole s → outcome s r t → value (front k (pieces q (cells s))) w
+      → Gives q (value (front k (pieces q (cells s)))) (back k (pieces q (cells s))) r t
+
+-- the values of a list of fields are read off the pieces that a line is cut into
+pub record ReadOff (V : Type 0) (r : Roles) (value : List Piece → V → Type 0) (cs : Cells) (v : V) : Type 0 where
+  pub cut_into : List Piece
+  pub cut : Cut r cs cut_into
+  pub read : value cut_into v
+
+-- the answer is one of these values, with nothing left, or it is want of memory
+abbrev pub GivesAll : {V : Type 0} → (V → Type 0) → Result V Error → Situation → Type 0
+GivesAll value (Ok v) t = value v × NonePresent (cells t)
+GivesAll value (Err e) t = class e ≡ OfMemory
+
+-- the laws of a list of flat fields
+pub record FieldsLaw (V : Type 0) (outcome : Outcome V) (r : Roles) (value : List Piece → V → Type 0) : Type 0 where
+  pub named : IsNamed r
+  pub steady : (s t : Situation) (v : V) → IsWhole s → outcome s (Ok v) t → Steady s t
+  pub ok : (s t : Situation) (v : V) → IsWhole s → outcome s (Ok v) t → NonePresent (cells t) → ReadOff V r value (cells s) v
+  pub answers : (s t : Situation) (a : Result V Error) (os : List Piece) (w : V) → IsWhole s → outcome s a t
+      → Cut r (cells s) os → value os w → GivesAll (value os) a t
+
+-- a field before others: their keys are apart, and after a positional field no named one stands
+abbrev pub Before : Kind → Roles → Roles → Type 0
+Before Named q r = Apart q r
+Before OneWord q r = (k : Arg) → r k ≡ Foreign
+Before EachWord q r = (k : Arg) → r k ≡ Foreign
+
+-- the values of a field and of those after it
+abbrev pub BothValue : {A B : Type 0} → Kind → Roles → (List Piece → A → Type 0) → (List Piece → B → Type 0) → List Piece → A × B → Type 0
+BothValue k q first rest os v = first (share k q os) v.0 × rest (left k q os) v.1

@@ -1,0 +1,12 @@
+pub mod Pieces
+pub mod Flat
+pub mod Names
+pub mod Single
+pub mod Wrappers
+pub mod Alternative
+pub mod Record
+pub mod Derived
+pub mod Shape
+pub mod Leaves
+pub mod Theorem
+pub mod SameParts

@@ -1,0 +1,122 @@
+-- How a flat record sees a line: its places, cut into pieces, which the fields share out.
+use Rattle.std.specs.Prelude.{◌≡◌, Bool, true, false, List, [], ◌∷◌, Option, Some, None, if◌then◌else◌}
+use Rattle.std.specs.Option.{is_some}
+use Rattle.bpaf_words.specs.Items.{value_text, is_positional}
+use Rattle.bpaf_words.specs.declared.arg.Arg.{Arg}
+use Rattle.bpaf_words.specs.declared.arg.Arg.TheVariants.{Short, Long, ArgWord, Word, PosWord}
+
+-- the places of a line, each with the item that is present there, if one is
+abbrev pub Cells : Type 0
+Cells = List (Option Arg)
+
+-- what an item is to a field: nothing of its own, a piece by itself, or the key of a piece of two items
+pub data Role : Type 0 where
+  Foreign Alone WithNext : Role
+
+-- the items that are a field's own
+abbrev pub Roles : Type 0
+Roles = Arg → Role
+
+-- an item by itself, or a key and its value
+pub data Piece : Type 0 where
+  One : Arg → Piece
+  Two : Arg → Arg → Piece
+
+-- a key may take it as its value
+abbrev pub is_value : Arg → Bool
+is_value item = is_some (value_text item)
+
+-- the key of a flag or an argument
+abbrev pub is_key : Arg → Bool
+is_key (Short c a t) = true
+is_key (Long n a t) = true
+is_key (ArgWord t) = false
+is_key (Word t) = false
+is_key (PosWord t) = false
+
+-- an item of the field's own
+abbrev pub is_own_role : Role → Bool
+is_own_role Foreign = false
+is_own_role Alone = true
+is_own_role WithNext = true
+
+-- a piece that begins with an item of the field's own
+abbrev pub is_own : Roles → Piece → Bool
+is_own r (One k) = is_own_role (r k)
+is_own r (Two k w) = is_own_role (r k)
+
+-- the pieces of a field's own
+abbrev pub mine : Roles → List Piece → List Piece
+mine r [] = []
+mine r (o ∷ os) = if is_own r o then (o ∷ mine r os) else mine r os
+
+-- those of others
+abbrev pub others : Roles → List Piece → List Piece
+others r [] = []
+others r (o ∷ os) = if is_own r o then others r os else (o ∷ others r os)
+
+-- what an item is to two fields that share none
+abbrev pub either_role : Role → Role → Role
+either_role Foreign b = b
+either_role Alone b = Alone
+either_role WithNext b = WithNext
+
+-- the items of either
+abbrev pub either : Roles → Roles → Roles
+either q r k = either_role (q k) (r k)
+
+-- no item at all
+abbrev pub no_roles : Roles
+no_roles k = Foreign
+
+-- all positional words
+abbrev pub word_roles : Roles
+word_roles k = if is_positional k then Alone else Foreign
+
+-- only keys are a named field's own
+pub record IsNamed (r : Roles) : Type 0 where
+  pub only_keys : (k : Arg) → is_key k ≡ false → r k ≡ Foreign
+
+-- no item belongs to both
+pub record Apart (q r : Roles) : Type 0 where
+  pub left : (k : Arg) → is_own_role (q k) ≡ true → r k ≡ Foreign
+  pub right : (k : Arg) → is_own_role (r k) ≡ true → q k ≡ Foreign
+
+-- the line cut from front to back into pieces: the key of a flag; the key of an argument with the
+-- next item, which is a Word or ArgWord; a Word or PosWord by itself; the marker is passed by
+pub data Cut (r : Roles) : Cells → List Piece → Type 0 where
+  at_end : Cut r [] []
+  passed : {cs : Cells} {os : List Piece} → Cut r cs os → Cut r (None ∷ cs) os
+  flag : {k : Arg} {cs : Cells} {os : List Piece} → r k ≡ Alone → Cut r cs os → Cut r (Some k ∷ cs) (One k ∷ os)
+  argument : {k w : Arg} {cs : Cells} {os : List Piece} → r k ≡ WithNext → is_value w ≡ true → Cut r cs os
+      → Cut r (Some k ∷ (Some w ∷ cs)) (Two k w ∷ os)
+  word : {w : Arg} {cs : Cells} {os : List Piece} → is_positional w ≡ true → Cut r cs os → Cut r (Some w ∷ cs) (One w ∷ os)
+
+-- what an own key makes with the place after it: a piece of two where a value is present there
+abbrev pub with_next : Arg → Cells → Piece
+with_next k [] = One k
+with_next k (None ∷ cs) = One k
+with_next k (Some w ∷ cs) = if is_value w then Two k w else One k
+
+-- the pieces from an item on, where those behind it are known
+abbrev pub begin_piece : Role → Arg → Cells → List Piece → List Piece
+begin_piece Foreign k cs os = os
+begin_piece Alone k cs os = One k ∷ os
+begin_piece WithNext k cs os = with_next k cs ∷ os
+
+-- a field's own keys or words that are present, in line order, each with its value where one is present
+abbrev pub pieces : Roles → Cells → List Piece
+pieces r [] = []
+pieces r (None ∷ cs) = pieces r cs
+pieces r (Some k ∷ cs) = begin_piece (r k) k cs (pieces r cs)
+
+-- one piece of a field's own taken
+pub data Takes (r : Roles) : Cells → Piece → Cells → Type 0 where
+  takes_one : {k : Arg} {cs : Cells} → r k ≡ Alone → Takes r (Some k ∷ cs) (One k) (None ∷ cs)
+  takes_two : {k w : Arg} {cs : Cells} → r k ≡ WithNext → is_value w ≡ true → Takes r (Some k ∷ (Some w ∷ cs)) (Two k w) (None ∷ (None ∷ cs))
+  takes_later : {c : Option Arg} {cs ds : Cells} {o : Piece} → Takes r cs o ds → Takes r (c ∷ cs) o (c ∷ ds)
+
+-- some pieces of a field's own taken, in any order
+pub data TakesSome (r : Roles) : Cells → Cells → Type 0 where
+  takes_none : {cs : Cells} → TakesSome r cs cs
+  takes_more : {cs ds es : Cells} {o : Piece} → Takes r cs o ds → TakesSome r ds es → TakesSome r cs es

@@ -1,0 +1,23 @@
+//! What a flat record is, and that a run of one is exact: definitions and lemmas alone, no function
+//! stands here.
+//!
+//! It stands on `bpaf_doc`, `bpaf_words`, `bpaf_line`, `bpaf_text` and `bpaf_laws`, whose types and
+//! tables it speaks of. For the layers above:
+//!
+//! - A line is a list of cells, each with the item that is present there. A field has items of its
+//!   own; they begin its pieces, and the whole line is cut into pieces (specs/Pieces.antt).
+//! - What one evaluation of a field answers and takes depends on its own pieces alone, whatever fields
+//!   before it took: `FieldLaw`; so does that of a list of fields: `FieldsLaw` (specs/Flat.antt).
+//!   Single evaluations, which repeats and defaults build on, keep to `SingleLaw`
+//!   (specs/Single.antt), required flags, arguments and choices of them to `AlternativeLaw`
+//!   (specs/Alternative.antt).
+//! - What a parser is to a flat record is its `Shape`: how it reads its pieces. Each combinator is a
+//!   function on shapes; what isn't flat computes to `not_flat` (specs/Shape.antt, specs/Leaves.antt,
+//!   specs/Wrappers.antt, specs/Derived.antt). Keys are kept apart by their names (specs/Names.antt).
+//! - The value of a record on a line is read off the pieces of its cut (specs/Record.antt), and each
+//!   answer of a run is exact (specs/Theorem.antt).
+//!
+//! Proofs that closures, repeats, choices and products keep to these laws by their tables stand in
+//! proofs/: proofs/Twins.antt and proofs/Shape.antt have one lemma for each type of parser,
+//! proofs/Exact.antt the theorem.
+#![tactic(auto)]

@@ -1,0 +1,4 @@
+pub mod Forms
+pub mod Products
+pub mod OneLine
+pub mod Running

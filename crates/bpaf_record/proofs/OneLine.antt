@@ -1,0 +1,73 @@
+-- The words of a flat record have one line, since it shows the same parts each time.
+use Rattle.std.proofs.Common.{◌≡◌, ℕ, [], ◌++◌, All, IsUtf8, List, Option, ⊎_elim, inl, inr, refl, sym, ap, subst, ◌∙◌}
+use Rattle.bpaf_doc.specs.Shape.{Part, Shape}
+use Rattle.bpaf_doc.specs.Walks.{parts, shorts_of_arguments, shorts_of_flags}
+use Rattle.bpaf_words.specs.declared.arg.Arg.{Arg}
+use Rattle.bpaf_words.specs.Arguments.{Given}
+use Rattle.bpaf_words.specs.Line.{HasNoLine}
+use Rattle.bpaf_words.specs.Spelling.{Known, knowing}
+use Rattle.bpaf_words.proofs.OneLine.{one_lines}
+use Rattle.bpaf_line.specs.Constructing.{IsContext}
+use Rattle.bpaf_line.specs.Situation.{Context}
+use Rattle.bpaf_core.specs.Info.{RunInfo}
+use Rattle.bpaf_core.specs.Known.{IsLineContext, known_names}
+use Rattle.bpaf_exact.specs.SameParts.{ShowsTheSame}
+
+-- contexts of the same line, marker, environment and name are one
+same_fields : (l m : List Arg) (p q : Option ℕ) (e f : List (List ℕ × List ℕ))
+    (n o : Option (List ℕ)) → l ≡ m → p ≡ q → e ≡ f → n ≡ o → (a b : Context)
+    → a ≡ record { line = l; marker = p; env = e; name = n }
+    → b ≡ record { line = m; marker = q; env = f; name = o } → a ≡ b
+same_fields l m p q e f n o lines markers envs names a b is also = cc
+
+module _ (given : Given) (texts : All IsUtf8 given.words) where
+  -- by the same names words have one context
+  same_context : (known : Known) (a b : Context) → IsContext known given a
+      → IsContext known given b → a ≡ b
+  same_context known a b first second =
+      let lines = (one_lines known given.words texts).one_line a.line b.line a.marker b.marker
+      first.is_line second.is_line in
+      same_fields a.line b.line a.marker b.marker a.env b.env a.name b.name lines.0 lines.1
+      (first.env ∙ sym second.env) (first.name ∙ sym second.name) a b refl refl
+
+  module _ {describes : Shape → Type 0} (shows : ShowsTheSame describes) (info : RunInfo) where
+    -- the names that words are read by, of the parts that are shown
+    abbrev names_of : List Part → Known
+    names_of shown = knowing (record {
+      flags = shorts_of_flags shown ++ info.help_arg.names.shorts ++ info.version_arg.names.shorts;
+      arguments = shorts_of_arguments shown;
+    })
+
+    -- whichever shape is shown, the known names are the same
+    same_names : (a b : Shape) → describes a → describes b → known_names info a ≡ known_names info b
+    same_names a b first second = ap names_of (shows.same a b first second)
+
+    -- words have one context
+    pub one_context : (a b : Context) → IsLineContext describes info given a
+        → IsLineContext describes info given b → a ≡ b
+    one_context a b first second = ⊎_elim
+        (λ one. ⊎_elim
+        (λ other. same_context (known_names info other.0) a b
+        (subst (λ known. IsContext known given a) (same_names one.0 other.0 one.1 other.1) one.2)
+        other.2)
+        (λ any. same_context (known_names info one.0) a b one.2 (any (known_names info one.0)))
+        second)
+        (λ any. ⊎_elim
+        (λ other. same_context (known_names info other.0) a b (any (known_names info other.0)) other.2)
+        (λ also. let no_names = knowing (record { flags = []; arguments = [] }) in
+        same_context no_names a b (any no_names) (also no_names))
+        second)
+        first
+
+    -- words with a context aren't without a line
+    pub never_without : (a : Context) (shape : Shape) (word : List ℕ) (number : ℕ)
+        → IsLineContext describes info given a → describes shape
+        → ¬ (HasNoLine (known_names info shape) given.words word number)
+    never_without a shape word number first shown none = ⊎_elim
+        (λ one. (one_lines (known_names info shape) given.words texts).not_both a.line a.marker word
+        number
+        (subst (λ known. IsContext known given a) (same_names one.0 shape one.1 shown) one.2).is_line
+        none)
+        (λ any. (one_lines (known_names info shape) given.words texts).not_both a.line a.marker word
+        number (any (known_names info shape)).is_line none)
+        first

@@ -1,0 +1,4 @@
+pub mod Form
+pub mod Keys
+pub mod Positional
+pub mod Record

@@ -1,0 +1,58 @@
+-- Flat records.
+use Rattle.std.specs.Prelude.{◌≡◌, All, Bool, ◌&&◌, IfOk, IsUtf8, List, Result, Ok, Err}
+use Rattle.std.specs.List.{list_all}
+use Rattle.bpaf_doc.specs.Names.{Names}
+use Rattle.bpaf_doc.specs.Shape.{Shape as ShownShape}
+use Rattle.bpaf_words.specs.Arguments.{Given}
+use Rattle.bpaf_line.specs.declared.failure.ParseFailure.{ParseFailure}
+use Rattle.bpaf_line.specs.declared.failure.ParseFailure.TheVariants as failure
+use Rattle.bpaf_line.specs.Situation.{Context}
+use Rattle.bpaf_laws.specs.Reading.{Outcome}
+use Rattle.bpaf_core.specs.Info.{RunInfo}
+use Rattle.bpaf_core.specs.Known.{IsLineContext}
+use Rattle.bpaf_core.specs.Run.{RunsWords}
+use Rattle.bpaf_exact.specs.Names.{are_apart}
+use Rattle.bpaf_exact.specs.Record.{Answer, Accepted, NoMemory, Refusal, RecordValue}
+use Rattle.bpaf_exact.specs.Shape.{Shape, is_record, product_roles, product_value, record_shape}
+
+-- a flat record none of whose keys shares a name with those of help and version
+abbrev pub is_flat_record : {T : Type 0} → Shape T → List Names → RunInfo → Bool
+is_flat_record shape keys info =
+    is_record shape
+    && (list_all (are_apart info.help_arg.names) keys
+    && list_all (are_apart info.version_arg.names) keys)
+
+-- the answer of a run, as exactness sees it: a text that was asked for is no value
+abbrev pub answer_of : {T : Type 0} → Result T ParseFailure → Answer T
+answer_of (Ok v) = Accepted v
+answer_of (Err (failure.Stdout doc full)) = Refusal
+answer_of (Err (failure.Stderr doc)) = Refusal
+answer_of (Err failure.Memory) = NoMemory
+
+-- v is a value of the record on words: on their line
+pub record IsValueOf {T : Type 0} (describes : ShownShape → Type 0) (info : RunInfo)
+    (shape : Shape T) (given : Given) (v : T) : Type 0 where
+  pub context : Context
+  pub on_line : IsLineContext describes info given context
+  pub read : RecordValue (product_roles (record_shape shape)) (product_value (record_shape shape))
+      context v
+
+-- an answer is one of these values, or want of memory
+abbrev pub IsValueOrWant : {T : Type 0} → (T → Type 0) → Result T ParseFailure → Type 0
+IsValueOrWant value (Ok v) = value v
+IsValueOrWant value (Err f) = f ≡ failure.Memory
+
+-- an answer to words is exact: it is a value only where that is one of the record's; and where the
+-- record has a value on the words, which are texts, it is one, or want of memory
+pub record AnswersExactly (T : Type 0) (describes : ShownShape → Type 0) (info : RunInfo)
+    (shape : Shape T) (given : Given) (r : Result T ParseFailure) : Type 0 where
+  pub sound : IfOk r (IsValueOf describes info shape given)
+  pub complete : All IsUtf8 given.words → (v : T) → IsValueOf describes info shape given v
+      → IsValueOrWant (IsValueOf describes info shape given) r
+
+-- each answer that the table of a run allows on the words is exact
+abbrev pub EachAnswersExactly : {T : Type 0} → Outcome T → (ShownShape → Type 0) → RunInfo
+    → Shape T → Given → Type 0
+EachAnswersExactly {T = T} outcome describes info shape given =
+    (r : Result T ParseFailure) → RunsWords T outcome describes info given r
+    → AnswersExactly T describes info shape given r

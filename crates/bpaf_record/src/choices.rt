@@ -1,0 +1,114 @@
+ghost use Rattle.std.specs.Prelude.{◌≡◌, ◌≤◌, length, take, drop, flat_map};
+ghost use Rattle.std.specs.List.{list_all};
+ghost use Rattle.bpaf_exact.specs.Shape.{choices_shape};
+ghost use Rattle.bpaf_record.specs.Form.{form_of, forms_rest};
+
+use crate::field::FlatField;
+use crate::form::Form;
+use crate::keys::{ApartFromAll, HasKeys, KeyTest};
+use bpaf::parsers::{ParseChoice, ParseOrElse};
+
+impl<A: HasKeys, B: HasKeys> HasKeys for ParseOrElse<A, B> {
+    ghost use Rattle.std.specs.Prelude.{◌++◌};
+
+    ghost keys = { λ p. A.keys p.this ++ B.keys p.that };
+
+    #[tactic(auto, using(crate::proofs::Products::all_joined))]
+    fn all_keys<N: KeyTest>(&self, test: &N) -> bool {
+        let this = self.this.all_keys(test);
+        let that = self.that.all_keys(test);
+        this && that
+    }
+}
+
+/// Of required flags and arguments alone, whose names are apart.
+impl<T: Drop, A: FlatField<T>, B: FlatField<T>> FlatField<T> for ParseOrElse<A, B> {
+    ghost use Rattle.bpaf_exact.specs.Shape.{choice_shape};
+    ghost use Rattle.bpaf_exact.proofs.Shape.{choice_shape_law};
+    ghost use Rattle.bpaf_exact.proofs.SameParts.{choice_shows};
+
+    ghost shape = { λ p.
+        choice_shape (A.keys p.this) (B.keys p.that) (A.shape p.this) (B.shape p.that) };
+
+    ghost agrees = { λ p. A.agrees p.this × B.agrees p.that };
+
+    #[tactic(auto, using(crate::proofs::Products::choice_is))]
+    fn form(&self) -> Form {
+        let apart = self.this.all_keys(&ApartFromAll { others: &self.that });
+        self.this.form().or_else(self.that.form(), apart)
+    }
+
+    ghost flat = { λ p a. choice_shape_law T (A.outcome p.this) (B.outcome p.that)
+        (A.keys p.this) (B.keys p.that) (A.shape p.this) (B.shape p.that)
+        (A.flat p.this a.0) (B.flat p.that a.1) };
+
+    ghost shows = { λ p. choice_shows (A.shows p.this) (B.shows p.that) };
+}
+
+/// Whether each key of each of these parsers passes a test.
+#[tactic(auto, using(crate::proofs::Products::all_joined))]
+fn all_of<P: HasKeys, N: KeyTest>(parsers: &[P], test: &N) -> bool
+    ensures { result ≡ list_all (N.accepts test.now) (flat_map P.keys parsers.now) }
+{
+    match parsers {
+        [] => true,
+        [first, rest @ ..] => {
+            let here = first.all_keys(test);
+            let behind = all_of(rest, test);
+            here && behind
+        }
+    }
+}
+
+/// The choice of what the first of these parsers is with all others.
+fn join_rest<T, P: FlatField<T>>(parsers: &[P], first: Form) -> Form
+    requires { 1 ≤ length parsers.now }
+    ensures { result ≡ forms_rest P.keys (λ p. form_of (P.shape p))
+        (flat_map P.keys (take 1 parsers.now)) first (drop 1 parsers.now) }
+{
+    let mut form = first;
+    for index in 1..parsers.len() {
+        let parser = &parsers[index];
+        let apart = all_of(&parsers[..index], &ApartFromAll { others: parser });
+        form = form.or_else(parser.form(), apart);
+    }
+    form
+}
+
+/// The choice of these parsers; of none it isn't flat.
+fn join_all<T, P: FlatField<T>>(parsers: &[P]) -> Form
+    ensures { result ≡ form_of (choices_shape P.keys P.shape parsers.now) }
+{
+    match parsers {
+        [] => Form::NotFlat,
+        [first, ..] => join_rest(parsers, first.form().alternative()),
+    }
+}
+
+impl<P: HasKeys> HasKeys for ParseChoice<P> {
+    ghost keys = { λ p. flat_map P.keys p.parsers.items };
+
+    fn all_keys<N: KeyTest>(&self, test: &N) -> bool {
+        all_of(self.parsers.as_slice(), test)
+    }
+}
+
+/// Of required flags and arguments alone, whose names are apart; a choice of none isn't flat.
+impl<T: Drop, P: FlatField<T> + Drop> FlatField<T> for ParseChoice<P> {
+    ghost use Rattle.bpaf_exact.specs.Shape.{EachAgrees};
+    ghost use Rattle.bpaf_exact.proofs.Shape.{choices_shape_law};
+    ghost use Rattle.bpaf_exact.proofs.SameParts.{choices_show};
+
+    ghost shape = { λ p. choices_shape P.keys P.shape p.parsers.items };
+
+    ghost agrees = { λ p. EachAgrees P.agrees p.parsers.items };
+
+    fn form(&self) -> Form {
+        join_all(self.parsers.as_slice())
+    }
+
+    ghost flat = { λ p a. choices_shape_law _ T P.outcome P.keys P.shape P.agrees P.flat
+        p.parsers.items a };
+
+    ghost shows = { λ p. choices_show P.describes P.shows p.parsers.items };
+}

@@ -1,0 +1,100 @@
+ghost use Rattle.std.specs.Prelude.{◌≡◌};
+
+use crate::field::FlatField;
+use crate::form::Form;
+use crate::keys::{HasKeys, KeyTest};
+use bpaf::parsers::{ParseFallback, ParseFallbackWith, ParseOptional};
+use std::fmt::Display;
+
+impl<P: HasKeys> HasKeys for ParseOptional<P> {
+    ghost keys = { λ p. P.keys p.inner };
+
+    fn all_keys<N: KeyTest>(&self, test: &N) -> bool {
+        self.inner.all_keys(test)
+    }
+}
+
+/// With `catch` it is no flat field.
+impl<T: Drop, P: FlatField<T>> FlatField<Option<T>> for ParseOptional<P> {
+    ghost use Rattle.bpaf_exact.specs.Shape.{optional_shape, unless};
+    ghost use Rattle.bpaf_exact.proofs.Twins.{optional_field_law};
+    ghost use Rattle.bpaf_exact.proofs.SameParts.{optional_shows};
+
+    ghost shape = { λ p. unless p.catch (optional_shape (P.shape p.inner)) };
+
+    ghost agrees = { λ p. P.agrees p.inner };
+
+    #[tactic(auto, using(crate::proofs::Forms::optional_is, crate::proofs::Forms::caught_is))]
+    fn form(&self) -> Form {
+        if self.catch {
+            return Form::NotFlat;
+        }
+        self.inner.form().completed()
+    }
+
+    ghost flat = { λ p a. optional_field_law T (P.outcome p.inner) p.catch (P.keys p.inner)
+        (P.shape p.inner) (P.flat p.inner a) };
+
+    ghost shows = { λ p. optional_shows (P.shows p.inner) };
+}
+
+impl<P: HasKeys, T> HasKeys for ParseFallback<P, T> {
+    ghost keys = { λ p. P.keys p.inner };
+
+    fn all_keys<N: KeyTest>(&self, test: &N) -> bool {
+        self.inner.all_keys(test)
+    }
+}
+
+impl<T: Clone + Drop, P: FlatField<T>> FlatField<T> for ParseFallback<P, T> {
+    ghost use Rattle.bpaf_exact.specs.Shape.{fallback_shape};
+    ghost use Rattle.bpaf_exact.specs.Wrappers.{kept_closure};
+    ghost use Rattle.bpaf_exact.proofs.Twins.{fallback_field_law};
+    ghost use Rattle.bpaf_exact.proofs.SameParts.{default_shows};
+
+    ghost shape = { λ p. fallback_shape (kept_closure (T.is_clone p.value)) (P.shape p.inner) };
+
+    ghost agrees = { λ p. P.agrees p.inner };
+
+    #[tactic(auto, using(crate::proofs::Forms::fallback_is))]
+    fn form(&self) -> Form {
+        self.inner.form().completed()
+    }
+
+    ghost flat = { λ p a. fallback_field_law T (P.outcome p.inner) T.is_clone p.value
+        (P.keys p.inner) (P.shape p.inner) (P.flat p.inner a) };
+
+    ghost shows = { λ p. default_shows (P.shows p.inner) p.shown };
+}
+
+impl<T, P: HasKeys, F, E> HasKeys for ParseFallbackWith<T, P, F, E> {
+    ghost keys = { λ p. P.keys p.inner };
+
+    fn all_keys<N: KeyTest>(&self, test: &N) -> bool {
+        self.inner.all_keys(test)
+    }
+}
+
+/// The closure must not refuse where it may give a value.
+impl<T: Drop, E: Display + Drop, P: FlatField<T>, F: Fn() -> Result<T, E>> FlatField<T>
+    for ParseFallbackWith<T, P, F, E> {
+    ghost use Rattle.bpaf_exact.specs.Shape.{fallback_shape};
+    ghost use Rattle.bpaf_exact.specs.Wrappers.{Decides, answer_closure};
+    ghost use Rattle.bpaf_exact.proofs.Twins.{fallback_with_field_law};
+    ghost use Rattle.bpaf_exact.proofs.SameParts.{default_shows};
+
+    ghost shape = { λ p.
+        fallback_shape (answer_closure (λ r. F.post p.fallback r)) (P.shape p.inner) };
+
+    ghost agrees = { λ p. P.agrees p.inner × Decides (answer_closure (λ r. F.post p.fallback r)) };
+
+    #[tactic(auto, using(crate::proofs::Forms::fallback_is))]
+    fn form(&self) -> Form {
+        self.inner.form().completed()
+    }
+
+    ghost flat = { λ p a. fallback_with_field_law T _ (P.outcome p.inner) (λ r. F.post p.fallback r)
+        E.output (P.keys p.inner) (P.shape p.inner) a.1 (P.flat p.inner a.0) };
+
+    ghost shows = { λ p. default_shows (P.shows p.inner) p.shown };
+}

@@ -1,0 +1,131 @@
+ghost use Rattle.std.specs.Prelude.{◌≡◌, not, ◌&&◌};
+ghost use Rattle.std.specs.List.{list_all};
+ghost use Rattle.bpaf_words.specs.Items.{is_among, is_text_among};
+ghost use Rattle.bpaf_exact.specs.Names.{are_apart};
+ghost use Rattle.bpaf_record.specs.Keys.{has_no_short, has_no_long};
+
+use bpaf::{NamedArg, Text};
+
+/// A test of the names of a key.
+pub trait KeyTest {
+    ghost use Rattle.std.specs.Prelude.{Bool};
+    ghost use Rattle.bpaf_doc.specs.Names.{Names};
+
+    /// Whether a key with these names passes.
+    ghost accepts: { Self → Names → Bool };
+
+    /// Whether the key passes. It takes no memory.
+    fn test(&self, key: &NamedArg) -> bool
+        ensures { result ≡ accepts self.now key.now.names };
+}
+
+/// A parser whose keys can be looked over.
+pub trait HasKeys: Sized {
+    ghost use Rattle.std.specs.Prelude.{List};
+    ghost use Rattle.bpaf_doc.specs.Names.{Names};
+
+    /// The names of its flags and arguments, one after the other.
+    ghost keys: { Self → List Names };
+
+    /// Whether each of its keys passes a test. It takes no memory.
+    fn all_keys<N: KeyTest>(&self, test: &N) -> bool
+        ensures { result ≡ list_all (N.accepts test.now) (keys self.now) };
+}
+
+/// Whether a short name is none of these.
+fn lacks_short(shorts: &[char], name: char) -> bool
+    ensures { result ≡ not (is_among shorts.now name) }
+{
+    !shorts.contains(&name)
+}
+
+/// Whether a long name is one of these.
+fn is_text_among(longs: &[Text], name: &str) -> bool
+    ensures { result ≡ is_text_among longs.now name.now }
+{
+    longs.iter().any(|other| other.as_str() == name)
+}
+
+/// Whether none of these short names is one of the others.
+fn shorts_apart(own: &[char], others: &[char]) -> bool
+    ensures { result ≡ has_no_short others.now own.now }
+{
+    own.iter().all(|name| lacks_short(others, *name))
+}
+
+/// Whether none of these long names is one of the others.
+fn longs_apart(own: &[Text], others: &[Text]) -> bool
+    ensures { result ≡ has_no_long others.now own.now }
+{
+    own.iter().all(|name| !is_text_among(others, name.as_str()))
+}
+
+/// Whether two keys have no name in common.
+fn are_apart(own: &NamedArg, other: &NamedArg) -> bool
+    ensures { result ≡ are_apart own.now.names other.now.names }
+{
+    shorts_apart(own.shorts(), other.shorts()) && longs_apart(own.longs(), other.longs())
+}
+
+/// The test for no name of a key.
+#[derive(Drop)]
+pub(crate) struct ApartFrom<'a> {
+    pub key: &'a NamedArg,
+}
+
+impl KeyTest for ApartFrom<'_> {
+    ghost accepts = { λ t names. are_apart t.key.now.names names };
+
+    fn test(&self, key: &NamedArg) -> bool {
+        are_apart(self.key, key)
+    }
+}
+
+/// The test for no name of any key of another parser.
+#[derive(Drop)]
+pub(crate) struct ApartFromAll<'a, P> {
+    pub others: &'a P,
+}
+
+impl<P: HasKeys> KeyTest for ApartFromAll<'_, P> {
+    ghost accepts = { λ t names. list_all (are_apart names) (P.keys t.others.now) };
+
+    fn test(&self, key: &NamedArg) -> bool {
+        self.others.all_keys(&ApartFrom { key })
+    }
+}
+
+/// The test that no key passes.
+#[derive(Drop)]
+pub(crate) struct NoKey {}
+
+impl KeyTest for NoKey {
+    ghost use Rattle.std.specs.Prelude.{false};
+
+    ghost accepts = { λ t names. false };
+
+    fn test(&self, _key: &NamedArg) -> bool {
+        false
+    }
+}
+
+/// The test for no name of a key of one short and one long name.
+#[derive(Drop)]
+pub(crate) struct ApartFromUsual<'a> {
+    pub short: char,
+    pub long: &'a str,
+}
+
+impl KeyTest for ApartFromUsual<'_> {
+    ghost use Rattle.std.specs.Prelude.{[], ◌∷◌};
+
+    ghost accepts = { λ t names.
+        are_apart (record { shorts = t.short ∷ []; longs = t.long.now ∷ [] }) names };
+
+    #[tactic(auto, using(crate::proofs::Forms::and_true))]
+    fn test(&self, key: &NamedArg) -> bool {
+        let short = lacks_short(key.shorts(), self.short);
+        let long = is_text_among(key.longs(), self.long);
+        short && !long
+    }
+}

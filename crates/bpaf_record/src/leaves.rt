@@ -1,0 +1,109 @@
+ghost use Rattle.std.specs.Prelude.{◌≡◌};
+
+use crate::field::FlatField;
+use crate::form::Form;
+use crate::keys::{HasKeys, KeyTest};
+use bpaf::parsers::{ParseArgument, ParseFlag};
+use bpaf::{FromText, ParsePositional, Position};
+
+impl<T> HasKeys for ParseFlag<T> {
+    ghost use Rattle.std.specs.Prelude.{[], ◌∷◌};
+
+    ghost keys = { λ p. p.named.names ∷ [] };
+
+    #[tactic(auto, using(crate::proofs::Forms::and_true))]
+    fn all_keys<N: KeyTest>(&self, test: &N) -> bool {
+        test.test(&self.named)
+    }
+}
+
+/// With a name in the environment it is no flat field.
+impl<T: Clone + Drop> FlatField<T> for ParseFlag<T> {
+    ghost use Rattle.bpaf_exact.specs.Leaves.{flag_field};
+    ghost use Rattle.bpaf_exact.proofs.Flags.{flag_field_law};
+    ghost use Rattle.bpaf_exact.proofs.SameParts.{one_shape};
+    ghost use Rattle.bpaf_laws.specs.Flag.{flag_shape};
+
+    ghost shape = { λ p. flag_field T.is_clone p.named p.present p.absent };
+
+    ghost agrees = { λ p. Unit {0} };
+
+    fn form(&self) -> Form {
+        match (self.named.envs(), &self.absent) {
+            ([_, ..], _) => Form::NotFlat,
+            ([], Some(_)) => Form::Named,
+            ([], None) => Form::Alternative,
+        }
+    }
+
+    ghost flat = { λ p a. flag_field_law T T.is_clone p.named p.present p.absent };
+
+    ghost shows = { λ p. one_shape (flag_shape p.named p.absent) };
+}
+
+impl<T> HasKeys for ParseArgument<T> {
+    ghost use Rattle.std.specs.Prelude.{[], ◌∷◌};
+
+    ghost keys = { λ p. p.named.names ∷ [] };
+
+    #[tactic(auto, using(crate::proofs::Forms::and_true))]
+    fn all_keys<N: KeyTest>(&self, test: &N) -> bool {
+        test.test(&self.named)
+    }
+}
+
+/// With a name in the environment, or with `adjacent`, it is no flat field.
+impl<T: FromText + Drop> FlatField<T> for ParseArgument<T> {
+    ghost use Rattle.bpaf_exact.specs.Leaves.{argument_field};
+    ghost use Rattle.bpaf_exact.proofs.Arguments.{argument_field_law};
+    ghost use Rattle.bpaf_exact.proofs.SameParts.{one_shape};
+    ghost use Rattle.bpaf_laws.specs.Argument.{argument_shape};
+
+    ghost shape = { λ p. argument_field T.means p };
+
+    ghost agrees = { λ p. Unit {0} };
+
+    fn form(&self) -> Form {
+        match (self.named.envs(), self.adjacent) {
+            ([], false) => Form::Alternative,
+            _ => Form::NotFlat,
+        }
+    }
+
+    ghost flat = { λ p a. argument_field_law T T.means p };
+
+    ghost shows = { λ p. one_shape (argument_shape p) };
+}
+
+/// It has no key.
+impl<T> HasKeys for ParsePositional<T> {
+    ghost use Rattle.std.specs.Prelude.{[]};
+
+    ghost keys = { λ p. [] };
+
+    fn all_keys<N: KeyTest>(&self, _test: &N) -> bool {
+        true
+    }
+}
+
+/// With `strict` or `non_strict` it is no flat field.
+impl<T: FromText + Drop> FlatField<T> for ParsePositional<T> {
+    ghost use Rattle.bpaf_record.specs.Positional.{positional_field, positional_field_law};
+    ghost use Rattle.bpaf_exact.proofs.SameParts.{one_shape};
+    ghost use Rattle.bpaf.specs.Positional.{positional_shape};
+
+    ghost shape = { λ p. positional_field T.means p.position };
+
+    ghost agrees = { λ p. Unit {0} };
+
+    fn form(&self) -> Form {
+        match self.position {
+            Position::Unrestricted => Form::Word,
+            Position::Strict | Position::NonStrict => Form::NotFlat,
+        }
+    }
+
+    ghost flat = { λ p a. positional_field_law T T.means p.position p.metavar.0.now };
+
+    ghost shows = { λ p. one_shape (positional_shape p.position p.metavar.0.now p.help) };
+}

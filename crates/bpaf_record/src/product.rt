@@ -1,0 +1,105 @@
+ghost use Rattle.std.specs.Prelude.{◌≡◌};
+
+use crate::field::{FlatField, FlatFields};
+use crate::form::Form;
+use crate::keys::{ApartFromAll, HasKeys, KeyTest, NoKey};
+use bpaf::parsers::ParseCon;
+use bpaf::{Both, Last};
+
+impl<A: HasKeys> HasKeys for Last<A> {
+    ghost keys = { λ p. A.keys p.last };
+
+    fn all_keys<N: KeyTest>(&self, test: &N) -> bool {
+        self.last.all_keys(test)
+    }
+}
+
+impl<T: Drop, A: FlatField<T>> FlatFields<T> for Last<A> {
+    ghost use Rattle.bpaf_exact.specs.Shape.{alone_shape, field_shape};
+    ghost use Rattle.bpaf_exact.proofs.Shape.{alone_shape_law, field_shape_law};
+    ghost use Rattle.bpaf_exact.proofs.SameParts.{last_shows};
+
+    ghost shape = { λ p. alone_shape (field_shape (A.shape p.last)) };
+
+    ghost agrees = { λ p. A.agrees p.last };
+
+    #[tactic(auto, using(crate::proofs::Products::alone_is))]
+    fn fields_form(&self) -> Form {
+        self.last.form().field().alone()
+    }
+
+    ghost flat = { λ p a. alone_shape_law T (A.outcome p.last) (A.keys p.last)
+        (field_shape (A.shape p.last))
+        (field_shape_law T (A.outcome p.last) (A.keys p.last) (A.shape p.last) (A.flat p.last a)) };
+
+    ghost shows = { λ p. last_shows (A.shows p.last) };
+}
+
+impl<A: HasKeys, R: HasKeys> HasKeys for Both<A, R> {
+    ghost use Rattle.std.specs.Prelude.{◌++◌};
+
+    ghost keys = { λ p. A.keys p.first ++ R.keys p.rest };
+
+    #[tactic(auto, using(crate::proofs::Products::all_joined))]
+    fn all_keys<N: KeyTest>(&self, test: &N) -> bool {
+        let first = self.first.all_keys(test);
+        let rest = self.rest.all_keys(test);
+        first && rest
+    }
+}
+
+/// Where a named field stands behind a positional one, or two share a name, they aren't flat.
+impl<T: Drop, V: Drop, A: FlatField<T>, R: FlatFields<V>> FlatFields<(T, V)> for Both<A, R> {
+    ghost use Rattle.bpaf_exact.specs.Shape.{both_shape, field_shape};
+    ghost use Rattle.bpaf_exact.proofs.Shape.{both_shape_law, field_shape_law};
+    ghost use Rattle.bpaf_exact.proofs.SameParts.{both_show};
+
+    ghost shape = { λ p.
+        both_shape (A.keys p.first) (R.keys p.rest) (field_shape (A.shape p.first)) (R.shape p.rest) };
+
+    ghost agrees = { λ p. A.agrees p.first × R.agrees p.rest };
+
+    #[tactic(auto, using(crate::proofs::Products::both_is))]
+    fn fields_form(&self) -> Form {
+        let apart = self.first.all_keys(&ApartFromAll { others: &self.rest });
+        let no_key_behind = self.rest.all_keys(&NoKey {});
+        let rest = self.rest.fields_form();
+        self.first.form().field().before(rest, apart, no_key_behind)
+    }
+
+    ghost flat = { λ p a. both_shape_law T V (A.outcome p.first) (R.outcome p.rest)
+        (A.keys p.first) (R.keys p.rest) (field_shape (A.shape p.first)) (R.shape p.rest)
+        (field_shape_law T (A.outcome p.first) (A.keys p.first) (A.shape p.first)
+        (A.flat p.first a.0)) (R.flat p.rest a.1) };
+
+    ghost shows = { λ p. both_show (A.shows p.first) (R.shows p.rest) };
+}
+
+impl<V, P: HasKeys, F> HasKeys for ParseCon<V, P, F> {
+    ghost keys = { λ p. P.keys p.fields };
+
+    fn all_keys<N: KeyTest>(&self, test: &N) -> bool {
+        self.fields.all_keys(test)
+    }
+}
+
+impl<V: Drop, T: Drop, P: FlatFields<V>, F: Fn(V) -> T> FlatField<T> for ParseCon<V, P, F> {
+    ghost use Rattle.bpaf_exact.specs.Shape.{con_shape};
+    ghost use Rattle.bpaf_exact.specs.Wrappers.{map_closure};
+    ghost use Rattle.bpaf_exact.proofs.Shape.{con_shape_law};
+    ghost use Rattle.bpaf_exact.proofs.SameParts.{product_shows};
+
+    ghost shape = { λ p. con_shape (map_closure (λ x y. F.post p.make x y)) (P.shape p.fields) };
+
+    ghost agrees = { λ p. P.agrees p.fields };
+
+    #[tactic(auto, using(crate::proofs::Products::con_is))]
+    fn form(&self) -> Form {
+        self.fields.fields_form().made()
+    }
+
+    ghost flat = { λ p a. con_shape_law V T (P.outcome p.fields) (λ x y. F.post p.make x y)
+        (P.keys p.fields) (P.shape p.fields) (P.flat p.fields a) };
+
+    ghost shows = { λ p. product_shows (P.shows p.fields) };
+}

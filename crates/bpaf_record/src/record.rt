@@ -1,0 +1,112 @@
+ghost use Rattle.std.specs.Prelude.{◌≡◌, Result, true};
+ghost use Rattle.std.specs.List.{list_all};
+ghost use Rattle.bpaf_words.specs.Arguments.{given_of};
+ghost use Rattle.bpaf_exact.specs.Names.{are_apart};
+
+use crate::field::FlatField;
+use crate::keys::{ApartFrom, ApartFromUsual, HasKeys};
+use bpaf::{Args, Info, OptionParser, ParseFailure};
+
+/// Options that are a flat record, where `is_record` says so.
+pub trait Record<T> {
+    ghost use Rattle.std.specs.Prelude.{Bool, Result};
+    ghost use Rattle.bpaf_line.specs.declared.failure.ParseFailure.{ParseFailure};
+    ghost use Rattle.bpaf_words.specs.Arguments.{Given};
+
+    /// Whether they are a flat record.
+    ghost is_flat: { Self → Bool };
+
+    /// Whether they are a flat record: one flat field, or a product of such with the positional ones
+    /// last, none of which shares a name with another or with the keys of help and version. The names
+    /// of version count also where no version is set. It takes no memory.
+    fn is_record(&self) -> bool
+        ensures { result ≡ is_flat self.now };
+
+    /// Whether they may run: their closures may be called on every value.
+    ghost can_run: { Self → Type 0 };
+
+    /// The premise of exactness: whether their closures accept depends on the pieces alone.
+    ghost agrees: { Self → Type 0 };
+
+    /// What a run may answer to words, by its table.
+    ghost answers: { Self → Given → Result T ParseFailure → Type 0 };
+
+    /// What a run of a flat record answers to words.
+    ghost answers_exactly: { Self → Given → Result T ParseFailure → Type 0 };
+
+    /// The value that the words give, as `run_inner`, and exactly: Ok(v) comes only where v is a value of
+    /// the record on the words' line, and where the record has a value there the answer is one, or want
+    /// of memory.
+    ///
+    /// The record's values are read off the line by itself: it is cut into pieces, and each field has
+    /// its share of them. The second clause is of every answer that the table of a run allows.
+    ///
+    /// ```text
+    /// if !options.is_record() {
+    ///     return Err(refused);
+    /// }
+    /// options.run_record(args)
+    /// ```
+    fn run_record(&self, args: Args<'_>) -> Result<T, ParseFailure>
+        requires can { can_run self.now }
+        requires record { is_flat self.now ≡ true }
+        ensures outcome { answers self.now (given_of args.entry) result }
+        ensures exact { agrees self.now → (r : Result T ParseFailure)
+            → answers self.now (given_of args.entry) r
+            → answers_exactly self.now (given_of args.entry) r };
+}
+
+/// Whether all keys of a parser are apart from the key for help.
+fn apart_from_help<P: HasKeys>(parser: &P, info: &Info) -> bool
+    ensures { result ≡ list_all (are_apart info.now.help_arg.names) (P.keys parser.now) }
+{
+    match &info.help_arg {
+        Some(key) => parser.all_keys(&ApartFrom { key }),
+        None => parser.all_keys(&ApartFromUsual {
+            short: 'h',
+            long: "help",
+        }),
+    }
+}
+
+/// Whether they are apart from the key for the version.
+fn apart_from_version<P: HasKeys>(parser: &P, info: &Info) -> bool
+    ensures { result ≡ list_all (are_apart info.now.version_arg.names) (P.keys parser.now) }
+{
+    match &info.version_arg {
+        Some(key) => parser.all_keys(&ApartFrom { key }),
+        None => parser.all_keys(&ApartFromUsual {
+            short: 'V',
+            long: "version",
+        }),
+    }
+}
+
+impl<T: Drop, P: FlatField<T>> Record<T> for OptionParser<T, P> {
+    ghost use Rattle.bpaf_record.specs.Record.{is_flat_record, AnswersExactly};
+    ghost use Rattle.bpaf_core.specs.Run.{RunsWords};
+
+    ghost is_flat = { λ p. is_flat_record (P.shape p.inner) (P.keys p.inner) p.info };
+
+    #[tactic(auto, using(crate::proofs::Forms::record_is))]
+    fn is_record(&self) -> bool {
+        let flat = self.inner.form().is_record();
+        let help = apart_from_help(&self.inner, &self.info);
+        let version = apart_from_version(&self.inner, &self.info);
+        flat && (help && version)
+    }
+
+    ghost can_run = { λ p. P.can_eval p.inner };
+
+    ghost agrees = { λ p. P.agrees p.inner };
+
+    ghost answers = { λ p given.
+        RunsWords T (P.outcome p.inner) (P.describes p.inner) p.info given };
+
+    ghost answers_exactly = { λ p given.
+        AnswersExactly T (P.describes p.inner) p.info (P.shape p.inner) given };
+
+    fn run_record(&self, args: Args<'_>) -> Result<T, ParseFailure> {
+        self.run_inner(args)
+    }
+}

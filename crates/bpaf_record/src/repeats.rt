@@ -1,0 +1,159 @@
+ghost use Rattle.std.specs.Prelude.{◌≡◌};
+
+use crate::field::FlatField;
+use crate::form::Form;
+use crate::keys::{HasKeys, KeyTest};
+use bpaf::FromList;
+use bpaf::parsers::{ParseCollect, ParseCount, ParseLast, ParseMany, ParseSome};
+
+impl<P: HasKeys> HasKeys for ParseMany<P> {
+    ghost keys = { λ p. P.keys p.inner };
+
+    fn all_keys<N: KeyTest>(&self, test: &N) -> bool {
+        self.inner.all_keys(test)
+    }
+}
+
+/// With `catch` it is no flat field, nor round another repeat or a default.
+impl<T: Drop, P: FlatField<T>> FlatField<Vec<T>> for ParseMany<P> {
+    ghost use Rattle.bpaf_exact.specs.Shape.{many_shape, unless};
+    ghost use Rattle.bpaf_exact.proofs.Twins.{many_field_law};
+    ghost use Rattle.bpaf_exact.proofs.SameParts.{many_shows};
+
+    ghost shape = { λ p. unless p.catch (many_shape (P.shape p.inner)) };
+
+    ghost agrees = { λ p. P.agrees p.inner };
+
+    #[tactic(auto, using(crate::proofs::Forms::listed_is, crate::proofs::Forms::caught_is))]
+    fn form(&self) -> Form {
+        if self.catch {
+            return Form::NotFlat;
+        }
+        self.inner.form().completed()
+    }
+
+    ghost flat = { λ p a. many_field_law T (P.outcome p.inner) p.catch (P.keys p.inner)
+        (P.shape p.inner) (P.flat p.inner a) };
+
+    ghost shows = { λ p. many_shows (P.shows p.inner) };
+}
+
+impl<'m, P: HasKeys> HasKeys for ParseSome<'m, P> {
+    ghost keys = { λ p. P.keys p.inner };
+
+    fn all_keys<N: KeyTest>(&self, test: &N) -> bool {
+        self.inner.all_keys(test)
+    }
+}
+
+/// As `many`.
+impl<'m, T: Drop, P: FlatField<T>> FlatField<Vec<T>> for ParseSome<'m, P> {
+    ghost use Rattle.bpaf_exact.specs.Shape.{some_shape, unless};
+    ghost use Rattle.bpaf_exact.proofs.Twins.{some_field_law};
+    ghost use Rattle.bpaf_exact.proofs.SameParts.{some_shows};
+
+    ghost shape = { λ p. unless p.catch (some_shape (P.shape p.inner)) };
+
+    ghost agrees = { λ p. P.agrees p.inner };
+
+    #[tactic(auto, using(crate::proofs::Forms::listed_is, crate::proofs::Forms::caught_is))]
+    fn form(&self) -> Form {
+        if self.catch {
+            return Form::NotFlat;
+        }
+        self.inner.form().completed()
+    }
+
+    ghost flat = { λ p a. some_field_law T (P.outcome p.inner) p.catch p.message.now
+        (P.keys p.inner) (P.shape p.inner) (P.flat p.inner a) };
+
+    ghost shows = { λ p. some_shows (P.shows p.inner) };
+}
+
+impl<P: HasKeys, C, T> HasKeys for ParseCollect<P, C, T> {
+    ghost keys = { λ p. P.keys p.inner };
+
+    fn all_keys<N: KeyTest>(&self, test: &N) -> bool {
+        self.inner.all_keys(test)
+    }
+}
+
+/// As `many`.
+impl<T: Drop, C: FromList<T> + Drop, P: FlatField<T>> FlatField<C> for ParseCollect<P, C, T> {
+    ghost use Rattle.bpaf_exact.specs.Shape.{collect_shape, unless};
+    ghost use Rattle.bpaf_exact.proofs.Twins.{collect_field_law};
+    ghost use Rattle.bpaf_exact.proofs.SameParts.{many_shows};
+
+    ghost shape = { λ p. unless p.catch (collect_shape C.fills (P.shape p.inner)) };
+
+    ghost agrees = { λ p. P.agrees p.inner };
+
+    #[tactic(auto, using(crate::proofs::Forms::listed_is, crate::proofs::Forms::caught_is))]
+    fn form(&self) -> Form {
+        if self.catch {
+            return Form::NotFlat;
+        }
+        self.inner.form().completed()
+    }
+
+    ghost flat = { λ p a. collect_field_law T C (P.outcome p.inner) p.catch C.fills
+        (P.keys p.inner) (P.shape p.inner) (P.flat p.inner a) };
+
+    ghost shows = { λ p. many_shows (P.shows p.inner) };
+}
+
+impl<P: HasKeys, T> HasKeys for ParseCount<P, T> {
+    ghost keys = { λ p. P.keys p.inner };
+
+    fn all_keys<N: KeyTest>(&self, test: &N) -> bool {
+        self.inner.all_keys(test)
+    }
+}
+
+impl<T: Drop, P: FlatField<T>> FlatField<usize> for ParseCount<P, T> {
+    ghost use Rattle.bpaf_exact.specs.Shape.{count_shape};
+    ghost use Rattle.bpaf_exact.proofs.Twins.{count_field_law};
+    ghost use Rattle.bpaf_exact.proofs.SameParts.{many_shows};
+
+    ghost shape = { λ p. count_shape (P.shape p.inner) };
+
+    ghost agrees = { λ p. P.agrees p.inner };
+
+    #[tactic(auto, using(crate::proofs::Forms::listed_is))]
+    fn form(&self) -> Form {
+        self.inner.form().completed()
+    }
+
+    ghost flat = { λ p a.
+        count_field_law T (P.outcome p.inner) (P.keys p.inner) (P.shape p.inner) (P.flat p.inner a) };
+
+    ghost shows = { λ p. many_shows (P.shows p.inner) };
+}
+
+impl<P: HasKeys> HasKeys for ParseLast<P> {
+    ghost keys = { λ p. P.keys p.inner };
+
+    fn all_keys<N: KeyTest>(&self, test: &N) -> bool {
+        self.inner.all_keys(test)
+    }
+}
+
+impl<T: Drop, P: FlatField<T>> FlatField<T> for ParseLast<P> {
+    ghost use Rattle.bpaf_exact.specs.Shape.{last_shape};
+    ghost use Rattle.bpaf_exact.proofs.Twins.{last_field_law};
+    ghost use Rattle.bpaf_exact.proofs.SameParts.{some_shows};
+
+    ghost shape = { λ p. last_shape (P.shape p.inner) };
+
+    ghost agrees = { λ p. P.agrees p.inner };
+
+    #[tactic(auto, using(crate::proofs::Forms::last_is))]
+    fn form(&self) -> Form {
+        self.inner.form().completed()
+    }
+
+    ghost flat = { λ p a.
+        last_field_law T (P.outcome p.inner) (P.keys p.inner) (P.shape p.inner) (P.flat p.inner a) };
+
+    ghost shows = { λ p. some_shows (P.shows p.inner) };
+}
