@@ -22,3 +22,4 @@ pub mod Narrow
 pub mod Shape
 pub mod Exact
 pub mod Twins
+pub mod Rows

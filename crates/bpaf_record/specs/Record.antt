@@ -30,18 +30,25 @@ answer_of (Err (failure.Stdout doc full)) = Refusal
 answer_of (Err (failure.Stderr doc)) = Refusal
 answer_of (Err failure.Memory) = NoMemory
 
--- what a run of a flat record answers to words: on their line a value of the record, want of memory, or
+-- what a run of a flat record answers to words: on their line a value of the record, want of
+-- memory, or
 -- a refusal where it has none; or the words have no line, which is refused; or want of memory
-pub data AnswersExactly (T : Type 0) (describes : ShownShape → Type 0) (info : RunInfo) (shape : Shape T) (given : Given)
+pub data AnswersExactly (T : Type 0) (describes : ShownShape → Type 0) (info : RunInfo)
+    (shape : Shape T) (given : Given)
     : Result T ParseFailure → Type 0 where
-  on_line : (context : Context) (r : Result T ParseFailure) → IsLineContext describes info given context
-      → IsExact T (product_roles (record_shape shape)) (product_value (record_shape shape)) context (answer_of r)
+  on_line : (context : Context) (r : Result T ParseFailure)
+      → IsLineContext describes info given context
+      → IsExact T (product_roles (record_shape shape)) (product_value (record_shape shape)) context
+      (answer_of r)
       → AnswersExactly T describes info shape given r
   no_line : (shown : ShownShape) (word : List ℕ) (number : ℕ) (f : ParseFailure) → describes shown
-      → HasNoLine (known_names info shown) given.words word number → AnswersExactly T describes info shape given (Err f)
+      → HasNoLine (known_names info shown) given.words word number
+      → AnswersExactly T describes info shape given (Err f)
   no_memory : AnswersExactly T describes info shape given (Err failure.Memory)
 
 -- each answer that the table of a run allows on the words is such
-abbrev pub EachAnswersExactly : {T : Type 0} → Outcome T → (ShownShape → Type 0) → RunInfo → Shape T → Given → Type 0
+abbrev pub EachAnswersExactly : {T : Type 0} → Outcome T → (ShownShape → Type 0) → RunInfo → Shape T
+    → Given → Type 0
 EachAnswersExactly {T = T} outcome describes info shape given =
-    (r : Result T ParseFailure) → RunsWords T outcome describes info given r → AnswersExactly T describes info shape given r
+    (r : Result T ParseFailure) → RunsWords T outcome describes info given r
+    → AnswersExactly T describes info shape given r

@@ -5,7 +5,9 @@ use Rattle.bpaf_record.proofs.record.OptionParserRecord.run_record.Goals as goal
 pub returns-clause-exact : goal.returns-clause-exact
 returns-clause-exact g c agrees r o =
     let parser = c.args.self.now.inner in
-    answers_exactly g.row.T.Denot (g.P.Parser.outcome parser) (g.P.Parser.describes parser) c.args.self.now.info (g.P.HasKeys.keys parser)
+    answers_exactly g.row.T.Denot (g.P.Parser.outcome parser)
+    (g.P.Parser.describes parser) c.args.self.now.info (g.P.HasKeys.keys parser)
     (g.P.FlatField.shape parser) (g.met.P.FlatField.flat parser agrees)
-    (is_flat_shape (g.P.FlatField.shape parser) (g.P.HasKeys.keys parser) c.args.self.now.info c.requires.record)
+    (is_flat_shape (g.P.FlatField.shape parser)
+    (g.P.HasKeys.keys parser) c.args.self.now.info c.requires.record)
     (given_of c.args.args) r o
