@@ -5,31 +5,47 @@ use Rattle.bpaf_line.specs.Situation.{Situation}
 use Rattle.bpaf_laws.specs.Reading.{Outcome}
 use Rattle.bpaf_exact.specs.Pieces.{Roles, Piece, pieces, takes_none}
 use Rattle.bpaf_exact.specs.Flat.{Refused, class, cells, IsWhole, Kind, Named, OneWord, EachWord}
-use Rattle.bpaf_exact.specs.Single.{Groups, FrontOf, Own, own_none, own_more, Readable, Gap, no_gap, SingleOk, gave_absent, took, SingleErr, of_memory, of_missing, of_absent, of_piece, ReadsWords, SingleLaw}
-use Rattle.bpaf_exact.specs.Wrappers.{Closure, AgreesOn, ClosedRan, closed_yes, closed_no, closed_memory, closed_err, ClosedGroup, closed_gap, ClosedPiece}
-use Rattle.bpaf_exact.specs.Alternative.{TakesFirst, HasBad, bad_here, bad_later, AlternativeOk, AlternativeErr, alternative_memory, alternative_missing, alternative_refused, AlternativeLaw}
+use Rattle.bpaf_exact.specs.Single.{Groups, FrontOf, Own, own_none, own_more, Readable, Gap, no_gap}
+use Rattle.bpaf_exact.specs.Single.{SingleOk, gave_absent, took, SingleErr, of_memory, of_missing}
+use Rattle.bpaf_exact.specs.Single.{of_absent, of_piece, ReadsWords, SingleLaw}
+use Rattle.bpaf_exact.specs.Wrappers.{Closure, AgreesOn, ClosedRan, closed_yes, closed_no}
+use Rattle.bpaf_exact.specs.Wrappers.{closed_memory, closed_err, ClosedGroup, closed_gap}
+use Rattle.bpaf_exact.specs.Wrappers.{ClosedPiece}
+use Rattle.bpaf_exact.specs.Alternative.{TakesFirst, HasBad, bad_here, bad_later, AlternativeOk}
+use Rattle.bpaf_exact.specs.Alternative.{AlternativeErr, alternative_memory, alternative_missing}
+use Rattle.bpaf_exact.specs.Alternative.{alternative_refused, AlternativeLaw}
 use Rattle.bpaf_exact.proofs.First.{first_pieces, takes_nonempty, bad_given_back, bad_nonempty}
 
 -- Pieces that can't be read have no own list.
-own_bad : (T : Type 0) (value : Piece → T → Type 0) (os : List Piece) (vs : List T) → HasBad T value os → Own T (FrontOf T value) os vs → ⊥
+own_bad : (T : Type 0) (value : Piece → T → Type 0) (os : List Piece) (vs : List T)
+    → HasBad T value os → Own T (FrontOf T value) os vs → ⊥
 own_bad T value os vs h own_none = elim h [ ]
-own_bad T value os vs h (own_more {rest = rest} {v = v} {vs = us} g o) = by_bad (λ b. own_bad T value rest us b o) (subst (HasBad T value) g.is h)
+own_bad T value os vs h (own_more {rest = rest} {v = v} {vs = us} g o) =
+    by_bad (λ b. own_bad T value rest us b o) (subst (HasBad T value) g.is h)
   where
     by_bad : (HasBad T value rest → ⊥) → HasBad T value (g.piece ∷ rest) → ⊥
     by_bad i (bad_here n) = n v g.means
     by_bad i (bad_later b) = i b
 
 -- An alternative is a field without a repeat or default.
-module _ (T : Type 0) (outcome : Outcome T) (q : Roles) (value : Piece → T → Type 0) (l : AlternativeLaw T outcome q value) where
-  alternative_reads : (s t : Situation) (v : T) (a : AlternativeOk T q value s v t) → TakesFirst q (cells s) a.piece (cells t) ⊎ HasBad T value (pieces q (cells t))
-      → (vs : List T) × Own T (FrontOf T value) (pieces q (cells t)) vs → FrontOf T value (pieces q (cells s)) v (pieces q (cells t))
-  alternative_reads s t v a (inl f) o = record { piece = a.piece; is = first_pieces q l.named f; means = a.means }
+module _ (T : Type 0) (outcome : Outcome T) (q : Roles) (value : Piece → T → Type 0)
+    (l : AlternativeLaw T outcome q value) where
+  -- its value is that of the first piece, where all others can be read
+  alternative_reads : (s t : Situation) (v : T) (a : AlternativeOk T q value s v t)
+      → TakesFirst q (cells s) a.piece (cells t) ⊎ HasBad T value (pieces q (cells t))
+      → (vs : List T) × Own T (FrontOf T value) (pieces q (cells t)) vs
+      → FrontOf T value (pieces q (cells s)) v (pieces q (cells t))
+  alternative_reads s t v a (inl f) o =
+      record { piece = a.piece; is = first_pieces q l.named f; means = a.means }
   alternative_reads s t v a (inr b) o = absurd (own_bad T value _ o.0 b o.1)
 
-  alternative_ok : (s t : Situation) (v : T) → IsWhole s → outcome s (Ok v) t → SingleOk T Named q (FrontOf T value) (no_gap T) s v t
+  -- its value, as that of one evaluation
+  alternative_ok : (s t : Situation) (v : T) → IsWhole s → outcome s (Ok v) t
+      → SingleOk T Named q (FrontOf T value) (no_gap T) s v t
   alternative_ok s t v w o =
       let a = l.ok s t v w o in
-      took a.steady (record { piece = a.piece; middle = cells t; one = a.takes; more = takes_none }) (takes_nonempty q a.takes)
+      took a.steady (record { piece = a.piece; middle = cells t; one = a.takes; more = takes_none })
+      (takes_nonempty q a.takes)
       (alternative_reads s t v a a.first)
       (λ x rest g.
       let f = a.readable g.piece rest x g.is g.means in
@@ -38,11 +54,15 @@ module _ (T : Type 0) (outcome : Outcome T) (q : Roles) (value : Piece → T →
       let r : pieces q (cells t) ≡ rest = cc in
       (record { piece = a.piece; is = e ∙ ap (λ z. a.piece ∷ z) r; means = a.means }, r))
 
-  alternative_err : (s t : Situation) (e : Error) → AlternativeErr T q value s e t → SingleErr T Named q (FrontOf T value) (no_gap T) s e t
+  -- its refusal, as that of one evaluation
+  alternative_err : (s t : Situation) (e : Error) → AlternativeErr T q value s e t
+      → SingleErr T Named q (FrontOf T value) (no_gap T) s e t
   alternative_err s t e (alternative_memory c) = of_memory c
   alternative_err s t e (alternative_missing c p same st) = of_missing c refl p same st
-  alternative_err s t e (alternative_refused c p b n) = of_piece c (bad_nonempty T value _ b) (λ w rest g. n g.piece rest w g.is g.means)
+  alternative_err s t e (alternative_refused c p b n) =
+      of_piece c (bad_nonempty T value _ b) (λ w rest g. n g.piece rest w g.is g.means)
 
+  -- so it keeps to the laws of one evaluation
   pub alternative_single : SingleLaw T outcome Named q (FrontOf T value) (no_gap T)
   alternative_single = record {
     own = l.named;
@@ -54,15 +74,22 @@ module _ (T : Type 0) (outcome : Outcome T) (q : Roles) (value : Piece → T →
   }
 
 -- inner closures round an alternative
-module _ (A B : Type 0) (inner : Outcome A) (q : Roles) (value : Piece → A → Type 0) (l : AlternativeLaw A inner q value) (f : Closure A B) (agrees : (o : Piece) → AgreesOn (value o) f) where
+module _ (A B : Type 0) (inner : Outcome A) (q : Roles) (value : Piece → A → Type 0)
+    (l : AlternativeLaw A inner q value) (f : Closure A B)
+    (agrees : (o : Piece) → AgreesOn (value o) f) where
+  -- a piece that can't be read can't be read through a closure either
   closed_bad : (os : List Piece) → HasBad A value os → HasBad B (ClosedPiece A B value f) os
   closed_bad os (bad_here n) = bad_here (λ v c. n c.from c.read)
   closed_bad os (bad_later h) = bad_later (closed_bad _ h)
 
-  refused_value : (x : A) (o : Piece) → value o x → f.no x → (v : B) → ClosedPiece A B value f o v → ⊥
+  -- nor can one whose value the closure refuses
+  refused_value : (x : A) (o : Piece) → value o x → f.no x → (v : B) → ClosedPiece A B value f o v
+      → ⊥
   refused_value x o g n v c = agrees o c.from x v c.read g c.made n
 
-  closed_alternative_ok : (s t : Situation) (v : B) → IsWhole s → ClosedRan A B inner f Refused s (Ok v) t → AlternativeOk B q (ClosedPiece A B value f) s v t
+  -- a value that the closure gave
+  closed_alternative_ok : (s t : Situation) (v : B) → IsWhole s
+      → ClosedRan A B inner f Refused s (Ok v) t → AlternativeOk B q (ClosedPiece A B value f) s v t
   closed_alternative_ok s t v w (closed_yes {x = x} i y) =
       let a = l.ok s t x w i in
       record {
@@ -74,20 +101,34 @@ module _ (A B : Type 0) (inner : Outcome A) (q : Roles) (value : Piece → A →
         readable = λ o os u e c. a.readable o os c.from e c.read;
       }
     where
-      by_first : {o : Piece} → TakesFirst q (cells s) o (cells t) ⊎ HasBad A value (pieces q (cells t)) → TakesFirst q (cells s) o (cells t) ⊎ HasBad B (ClosedPiece A B value f) (pieces q (cells t))
+      by_first : {o : Piece}
+          → TakesFirst q (cells s) o (cells t) ⊎ HasBad A value (pieces q (cells t))
+          → TakesFirst q (cells s) o (cells t)
+          ⊎ HasBad B (ClosedPiece A B value f) (pieces q (cells t))
       by_first (inl h) = inl h
       by_first (inr h) = inr (closed_bad _ h)
 
-  no_bad : (s t : Situation) (x : A) (a : AlternativeOk A q value s x t) → f.no x → TakesFirst q (cells s) a.piece (cells t) ⊎ HasBad A value (pieces q (cells t)) → HasBad B (ClosedPiece A B value f) (pieces q (cells s))
-  no_bad s t x a n (inl h) = subst (HasBad B (ClosedPiece A B value f)) (sym (first_pieces q l.named h)) (bad_here (refused_value x a.piece a.means n))
+  -- a value that the closure refuses is that of a piece which can't be read through it
+  no_bad : (s t : Situation) (x : A) (a : AlternativeOk A q value s x t) → f.no x
+      → TakesFirst q (cells s) a.piece (cells t) ⊎ HasBad A value (pieces q (cells t))
+      → HasBad B (ClosedPiece A B value f) (pieces q (cells s))
+  no_bad s t x a n (inl h) =
+      subst (HasBad B (ClosedPiece A B value f)) (sym (first_pieces q l.named h))
+      (bad_here (refused_value x a.piece a.means n))
   no_bad s t x a n (inr h) = closed_bad _ (bad_given_back A value q l.named a.takes h)
 
-  err_closed : (s t : Situation) (e : Error) → AlternativeErr A q value s e t → AlternativeErr B q (ClosedPiece A B value f) s e t
+  -- an inner refusal is passed on
+  err_closed : (s t : Situation) (e : Error) → AlternativeErr A q value s e t
+      → AlternativeErr B q (ClosedPiece A B value f) s e t
   err_closed s t e (alternative_memory c) = alternative_memory c
   err_closed s t e (alternative_missing c p same st) = alternative_missing c p same st
-  err_closed s t e (alternative_refused c p b n) = alternative_refused c p (closed_bad _ b) (λ o os v h g. n o os g.from h g.read)
+  err_closed s t e (alternative_refused c p b n) =
+      alternative_refused c p (closed_bad _ b) (λ o os v h g. n o os g.from h g.read)
 
-  closed_alternative_err : (s t : Situation) (e : Error) → IsWhole s → ClosedRan A B inner f Refused s (Err e) t → AlternativeErr B q (ClosedPiece A B value f) s e t
+  -- a refusal, of the closure or from inside
+  closed_alternative_err : (s t : Situation) (e : Error) → IsWhole s
+      → ClosedRan A B inner f Refused s (Err e) t
+      → AlternativeErr B q (ClosedPiece A B value f) s e t
   closed_alternative_err s t e w (closed_no {x = x} i n c) =
       let a = l.ok s t x w i in
       alternative_refused c a.steady.path (no_bad s t x a n a.first)
@@ -99,7 +140,9 @@ module _ (A B : Type 0) (inner : Outcome A) (q : Roles) (value : Piece → A →
   closed_alternative_err s t e w (closed_memory i c) = alternative_memory c
   closed_alternative_err s t e w (closed_err i) = err_closed s t e (l.err s t e w i)
 
-  pub closed_alternative : AlternativeLaw B (ClosedRan A B inner f Refused) q (ClosedPiece A B value f)
+  -- a closure round an alternative is one
+  pub closed_alternative : AlternativeLaw B (ClosedRan A B inner f Refused) q
+      (ClosedPiece A B value f)
   closed_alternative = record {
     named = l.named;
     ok = closed_alternative_ok;
@@ -107,54 +150,89 @@ module _ (A B : Type 0) (inner : Outcome A) (q : Roles) (value : Piece → A →
   }
 
 -- inner closures round a field without a repeat or default
-module _ (A B : Type 0) (inner : Outcome A) (k : Kind) (q : Roles) (group : Groups A) (gap : Gap A) (l : SingleLaw A inner k q group gap) (f : Closure A B)
-    (agrees : (os rest : List Piece) → AgreesOn (λ v. group os v rest) f) (gap_agrees : AgreesOn gap.absent f) where
+module _ (A B : Type 0) (inner : Outcome A) (k : Kind) (q : Roles) (group : Groups A) (gap : Gap A)
+    (l : SingleLaw A inner k q group gap) (f : Closure A B)
+    (agrees : (os rest : List Piece) → AgreesOn (λ v. group os v rest) f)
+    (gap_agrees : AgreesOn gap.absent f) where
+  -- a list of inner values of the pieces
   record InnerList (os : List Piece) : Type 0 where
     list : List A
     own : Own A group os list
 
-  inner_list : (os : List Piece) (vs : List B) → Own B (ClosedGroup A B group f) os vs → InnerList os
+  -- what can be read through a closure can be read without it
+  inner_list : (os : List Piece) (vs : List B) → Own B (ClosedGroup A B group f) os vs
+      → InnerList os
   inner_list os vs own_none = record { list = []; own = own_none }
-  inner_list os vs (own_more {rest = rest} {v = v} {vs = us} g o) = let i = inner_list rest us o in record { list = g.from ∷ i.list; own = own_more g.read i.own }
+  inner_list os vs (own_more {rest = rest} {v = v} {vs = us} g o) = let i = inner_list rest us o in
+      record { list = g.from ∷ i.list; own = own_more g.read i.own }
 
-  inner_readable : (z : Kind) (os : List Piece) → Readable z (ClosedGroup A B group f) os → Readable z group os
+  -- the same, by the kind of the field
+  inner_readable : (z : Kind) (os : List Piece) → Readable z (ClosedGroup A B group f) os
+      → Readable z group os
   inner_readable Named os r = let i = inner_list os r.0 r.1 in (i.list, i.own)
   inner_readable OneWord os r = tt
   inner_readable EachWord os r = tt
 
+  -- with a closure a field reads words as before
   closed_words : (z : Kind) → ReadsWords z group → ReadsWords z (ClosedGroup A B group f)
   closed_words Named u = tt
   closed_words OneWord u = record {
-    by_front = λ os v rest g. let a = u.by_front os g.from rest g.read in (record { from = g.from; read = a.0; made = g.made }, a.1);
-    of_front = λ os v g. record { from = g.from; read = u.of_front os g.from g.read; made = g.made };
+    by_front = λ os v rest g. let a = u.by_front os g.from rest g.read in
+        (record { from = g.from; read = a.0; made = g.made }, a.1);
+    of_front = λ os v g. record {
+      from = g.from;
+      read = u.of_front os g.from g.read;
+      made =
+          g.made;
+    };
   }
   closed_words EachWord u = u
 
-  yes_single : (s t : Situation) (x : A) (v : B) → f.yes x v → SingleOk A k q group gap s x t → SingleOk B k q (ClosedGroup A B group f) (closed_gap gap f) s v t
+  -- a value that the closure gave
+  yes_single : (s t : Situation) (x : A) (v : B) → f.yes x v → SingleOk A k q group gap s x t
+      → SingleOk B k q (ClosedGroup A B group f) (closed_gap gap f) s v t
   yes_single s t x v y (gave_absent h p ab same st) = gave_absent h p (x, ab, y) same st
   yes_single s t x v y (took st ta ne up down) = took st ta ne
       (λ r. record { from = x; read = up (inner_readable k _ r); made = y })
-      (λ w rest g. let d = down g.from rest g.read in (record { from = x; read = d.0; made = y }, d.1))
+      (λ w rest g. let d = down g.from rest g.read in
+      (record { from = x; read = d.0; made = y }, d.1))
 
-  no_single : (s t : Situation) (x : A) (e : Error) → class e ≡ Refused → f.no x → SingleOk A k q group gap s x t → SingleErr B k q (ClosedGroup A B group f) (closed_gap gap f) s e t
-  no_single s t x e c n (gave_absent h p ab same st) = of_absent c h p (λ v a. gap_agrees a.0 x v a.1 ab a.2 n)
-  no_single s t x e c n (took st ta ne up down) = of_piece c ne (λ w rest g. agrees (pieces q (cells s)) rest g.from x w g.read (down g.from rest g.read).0 g.made n)
+  -- a value that the closure refused
+  no_single : (s t : Situation) (x : A) (e : Error) → class e ≡ Refused → f.no x
+      → SingleOk A k q group gap s x t
+      → SingleErr B k q (ClosedGroup A B group f) (closed_gap gap f) s e t
+  no_single s t x e c n (gave_absent h p ab same st) =
+      of_absent c h p (λ v a. gap_agrees a.0 x v a.1 ab a.2 n)
+  no_single s t x e c n (took st ta ne up down) =
+      of_piece c ne
+      (λ w rest g. agrees (pieces q (cells s)) rest g.from x w g.read
+      (down g.from rest g.read).0 g.made n)
 
-  err_single : (s t : Situation) (e : Error) → SingleErr A k q group gap s e t → SingleErr B k q (ClosedGroup A B group f) (closed_gap gap f) s e t
+  -- an inner refusal is passed on
+  err_single : (s t : Situation) (e : Error) → SingleErr A k q group gap s e t
+      → SingleErr B k q (ClosedGroup A B group f) (closed_gap gap f) s e t
   err_single s t e (of_memory c) = of_memory c
   err_single s t e (of_missing c h p same st) = of_missing c h p same st
   err_single s t e (of_absent c h p n) = of_absent c h p (λ v a. n a.0 a.1)
   err_single s t e (of_piece c ne n) = of_piece c ne (λ w rest g. n g.from rest g.read)
 
-  closed_single_ok : (s t : Situation) (v : B) → IsWhole s → ClosedRan A B inner f Refused s (Ok v) t → SingleOk B k q (ClosedGroup A B group f) (closed_gap gap f) s v t
+  -- a value of one evaluation
+  closed_single_ok : (s t : Situation) (v : B) → IsWhole s
+      → ClosedRan A B inner f Refused s (Ok v) t
+      → SingleOk B k q (ClosedGroup A B group f) (closed_gap gap f) s v t
   closed_single_ok s t v w (closed_yes {x = x} i y) = yes_single s t x v y (l.ok s t x w i)
 
-  closed_single_err : (s t : Situation) (e : Error) → IsWhole s → ClosedRan A B inner f Refused s (Err e) t → SingleErr B k q (ClosedGroup A B group f) (closed_gap gap f) s e t
+  -- a refusal of one evaluation
+  closed_single_err : (s t : Situation) (e : Error) → IsWhole s
+      → ClosedRan A B inner f Refused s (Err e) t
+      → SingleErr B k q (ClosedGroup A B group f) (closed_gap gap f) s e t
   closed_single_err s t e w (closed_no {x = x} i n c) = no_single s t x e c n (l.ok s t x w i)
   closed_single_err s t e w (closed_memory i c) = of_memory c
   closed_single_err s t e w (closed_err i) = err_single s t e (l.err s t e w i)
 
-  pub closed_single : SingleLaw B (ClosedRan A B inner f Refused) k q (ClosedGroup A B group f) (closed_gap gap f)
+  -- a closure round a single field is one
+  pub closed_single : SingleLaw B (ClosedRan A B inner f Refused) k q (ClosedGroup A B group f)
+      (closed_gap gap f)
   closed_single = record {
     own = l.own;
     words = closed_words k l.words;

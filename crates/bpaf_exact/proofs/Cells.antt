@@ -1,10 +1,17 @@
 -- What taking pieces does to the other pieces and to the cut.
-use Rattle.std.proofs.Common.{◌≡◌, true, false, List, ◌∷◌, Some, None, refl, sym, ap, ◌∙◌, if◌then◌else◌}
+use Rattle.std.proofs.Common.{◌≡◌, true, false, List, ◌∷◌, Some, None, refl, sym, ap, ◌∙◌}
+use Rattle.std.proofs.Common.{if◌then◌else◌}
 use Rattle.bpaf_words.specs.declared.arg.Arg.{Arg}
 use Rattle.bpaf_words.specs.declared.arg.Arg.TheVariants.{Short, Long, ArgWord, Word, PosWord}
 use Rattle.bpaf_words.specs.Items.{is_positional}
-use Rattle.bpaf_exact.specs.Pieces.{Cells, Role, Foreign, Alone, WithNext, Roles, Piece, One, Two, is_value, is_key, is_own_role, is_own, mine, others, either_role, either, IsNamed, Apart, Cut, at_end, passed, flag, argument, word, with_next, begin_piece, pieces, Takes, takes_one, takes_two, takes_later, TakesSome, takes_none, takes_more}
+use Rattle.bpaf_exact.specs.Pieces.{Cells, Role, Foreign, Alone, WithNext, Roles, Piece, One, Two}
+use Rattle.bpaf_exact.specs.Pieces.{is_value, is_key, is_own_role, is_own, mine, others}
+use Rattle.bpaf_exact.specs.Pieces.{either_role, either, IsNamed, Apart, Cut, at_end, passed, flag}
+use Rattle.bpaf_exact.specs.Pieces.{argument, word, with_next, begin_piece, pieces, Takes}
+use Rattle.bpaf_exact.specs.Pieces.{takes_one, takes_two, takes_later, TakesSome, takes_none}
+use Rattle.bpaf_exact.specs.Pieces.{takes_more}
 
+-- a value is no key
 pub value_not_key : (w : Arg) → is_value w ≡ true → is_key w ≡ false
 value_not_key (Short c a t) h = cc
 value_not_key (Long c a t) h = cc
@@ -12,6 +19,7 @@ value_not_key (ArgWord t) h = refl
 value_not_key (Word t) h = refl
 value_not_key (PosWord t) h = refl
 
+-- a word is no key
 pub word_not_key : (w : Arg) → is_positional w ≡ true → is_key w ≡ false
 word_not_key (Short c a t) h = cc
 word_not_key (Long c a t) h = cc
@@ -19,79 +27,114 @@ word_not_key (ArgWord t) h = refl
 word_not_key (Word t) h = refl
 word_not_key (PosWord t) h = refl
 
-pub own_not_value : (q : Roles) (k : Arg) → IsNamed q → is_own_role (q k) ≡ true → is_value k ≡ false
+-- an item of a named field is no value
+pub own_not_value : (q : Roles) (k : Arg) → IsNamed q → is_own_role (q k) ≡ true
+    → is_value k ≡ false
 own_not_value q (Short c a t) n h = refl
 own_not_value q (Long c a t) n h = refl
-own_not_value q (ArgWord t) n h = let e : is_own_role (q (ArgWord t)) ≡ false = ap is_own_role (n.only_keys (ArgWord t) refl) in cc
-own_not_value q (Word t) n h = let e : is_own_role (q (Word t)) ≡ false = ap is_own_role (n.only_keys (Word t) refl) in cc
+own_not_value q (ArgWord t) n h = let e : is_own_role (q (ArgWord t))
+    ≡ false = ap is_own_role (n.only_keys (ArgWord t) refl) in cc
+own_not_value q (Word t) n h = let e : is_own_role (q (Word t))
+    ≡ false = ap is_own_role (n.only_keys (Word t) refl) in cc
 own_not_value q (PosWord t) n h = refl
 
+-- a value belongs to no named field
 value_foreign : (q : Roles) (w : Arg) → IsNamed q → is_value w ≡ true → q w ≡ Foreign
 value_foreign q w n h = n.only_keys w (value_not_key w h)
 
+-- nor does a word
 word_foreign : (q : Roles) (w : Arg) → IsNamed q → is_positional w ≡ true → q w ≡ Foreign
 word_foreign q w n h = n.only_keys w (word_not_key w h)
 
-begin_cong : (x : Role) (k : Arg) (cs ds : Cells) {os ps : List Piece} → with_next k ds ≡ with_next k cs → ps ≡ os → begin_piece x k ds ps ≡ begin_piece x k cs os
+-- alike pieces behind an item, and alike items next to it, make alike pieces
+begin_cong : (x : Role) (k : Arg) (cs ds : Cells) {os ps : List Piece}
+    → with_next k ds ≡ with_next k cs → ps ≡ os → begin_piece x k ds ps ≡ begin_piece x k cs os
 begin_cong Foreign k cs ds h e = e
 begin_cong Alone k cs ds h e = ap (λ z. One k ∷ z) e
 begin_cong WithNext k cs ds h e = cc
 
-begin_foreign : {x : Role} (k : Arg) (cs : Cells) (os : List Piece) → x ≡ Foreign → begin_piece x k cs os ≡ os
+-- an item that isn't the field's own begins no piece
+begin_foreign : {x : Role} (k : Arg) (cs : Cells) (os : List Piece) → x ≡ Foreign
+    → begin_piece x k cs os ≡ os
 begin_foreign k cs os e = ap (λ z. begin_piece z k cs os) e
 
 -- An item that is no value makes no piece of two.
 no_value_next : (k w : Arg) (cs : Cells) → is_value w ≡ false → with_next k (Some w ∷ cs) ≡ One k
 no_value_next k w cs h = ap (λ b. if b then Two k w else One k) h
 
-pub same_next : (q : Roles) (k : Arg) {cs ds : Cells} {o : Piece} → IsNamed q → Takes q cs o ds → with_next k ds ≡ with_next k cs
-same_next q k n (takes_one {k = j} {cs = cs} e) = sym (no_value_next k j cs (own_not_value q j n (ap is_own_role e)))
-same_next q k n (takes_two {k = j} {w = w} {cs = cs} e v) = sym (no_value_next k j (Some w ∷ cs) (own_not_value q j n (ap is_own_role e)))
+-- taking a piece leaves what a key before it has next to it
+pub same_next : (q : Roles) (k : Arg) {cs ds : Cells} {o : Piece} → IsNamed q → Takes q cs o ds
+    → with_next k ds ≡ with_next k cs
+same_next q k n (takes_one {k = j} {cs = cs} e) =
+    sym (no_value_next k j cs (own_not_value q j n (ap is_own_role e)))
+same_next q k n (takes_two {k = j} {w = w} {cs = cs} e v) =
+    sym (no_value_next k j (Some w ∷ cs) (own_not_value q j n (ap is_own_role e)))
 same_next q k n (takes_later {c = None} t) = refl
 same_next q k n (takes_later {c = Some j} t) = refl
 
 -- What one takes of its own leaves the pieces of another as they are.
-pub keeps_other : (q r : Roles) {cs ds : Cells} {o : Piece} → IsNamed q → IsNamed r → Apart q r → Takes q cs o ds → pieces r ds ≡ pieces r cs
-keeps_other q r nq nr a (takes_one {k = k} {cs = cs} e) = sym (begin_foreign k cs (pieces r cs) (a.left k (ap is_own_role e)))
+pub keeps_other : (q r : Roles) {cs ds : Cells} {o : Piece} → IsNamed q → IsNamed r → Apart q r
+    → Takes q cs o ds → pieces r ds ≡ pieces r cs
+keeps_other q r nq nr a (takes_one {k = k} {cs = cs} e) =
+    sym (begin_foreign k cs (pieces r cs) (a.left k (ap is_own_role e)))
 keeps_other q r nq nr a (takes_two {k = k} {w = w} {cs = cs} e v) =
-    sym (begin_foreign k (Some w ∷ cs) (pieces r (Some w ∷ cs)) (a.left k (ap is_own_role e)) ∙ begin_foreign w cs (pieces r cs) (value_foreign r w nr v))
+    sym (begin_foreign k (Some w ∷ cs) (pieces r (Some w ∷ cs)) (a.left k (ap is_own_role e))
+    ∙ begin_foreign w cs (pieces r cs) (value_foreign r w nr v))
 keeps_other q r nq nr a (takes_later {c = None} t) = keeps_other q r nq nr a t
-keeps_other q r nq nr a (takes_later {c = Some k} {cs = cs} {ds = ds} t) = begin_cong (r k) k cs ds (same_next q k nq t) (keeps_other q r nq nr a t)
+keeps_other q r nq nr a (takes_later {c = Some k} {cs = cs} {ds = ds} t) =
+    begin_cong (r k) k cs ds (same_next q k nq t) (keeps_other q r nq nr a t)
 
-pub keeps_other_some : (q r : Roles) {cs ds : Cells} → IsNamed q → IsNamed r → Apart q r → TakesSome q cs ds → pieces r ds ≡ pieces r cs
+-- so do some pieces
+pub keeps_other_some : (q r : Roles) {cs ds : Cells} → IsNamed q → IsNamed r → Apart q r
+    → TakesSome q cs ds → pieces r ds ≡ pieces r cs
 keeps_other_some q r nq nr a takes_none = refl
-keeps_other_some q r nq nr a (takes_more t more) = keeps_other_some q r nq nr a more ∙ keeps_other q r nq nr a t
+keeps_other_some q r nq nr a (takes_more t more) = keeps_other_some q r nq nr a more
+    ∙ keeps_other q r nq nr a t
 
 -- The pieces of a field's own are those of the cut that begin with one of its keys.
 
-flag_mine : (q : Roles) (x y : Role) (k : Arg) (cs : Cells) (os ps : List Piece) → either_role x y ≡ Alone → os ≡ ps
+-- the key of a flag, as a piece of the field's own or of others
+flag_mine : (q : Roles) (x y : Role) (k : Arg) (cs : Cells) (os ps : List Piece)
+    → either_role x y ≡ Alone → os ≡ ps
     → begin_piece x k cs os ≡ (if is_own_role x then (One k ∷ ps) else ps)
 flag_mine q Foreign y k cs os ps e h = h
 flag_mine q Alone y k cs os ps e h = ap (λ z. One k ∷ z) h
 flag_mine q WithNext y k cs os ps e h = cc
 
-argument_mine : (x y : Role) (k w : Arg) (cs : Cells) (os ps : List Piece) → either_role x y ≡ WithNext → is_value w ≡ true → os ≡ ps
+-- the key of an argument, in the same way
+argument_mine : (x y : Role) (k w : Arg) (cs : Cells) (os ps : List Piece)
+    → either_role x y ≡ WithNext → is_value w ≡ true → os ≡ ps
     → begin_piece x k (Some w ∷ cs) os ≡ (if is_own_role x then (Two k w ∷ ps) else ps)
 argument_mine Foreign y k w cs os ps e v h = h
 argument_mine Alone y k w cs os ps e v h = cc
-argument_mine WithNext y k w cs os ps e v h = let n : with_next k (Some w ∷ cs) ≡ Two k w = ap (λ b. if b then Two k w else One k) v in cc
+argument_mine WithNext y k w cs os ps e v h = let n : with_next k (Some w ∷ cs)
+    ≡ Two k w = ap (λ b. if b then Two k w else One k) v in cc
 
-foreign_mine : (x : Role) (w : Arg) (cs : Cells) (o : Piece) (os ps : List Piece) → x ≡ Foreign → os ≡ ps
+-- a word, in the same way
+foreign_mine : (x : Role) (w : Arg) (cs : Cells) (o : Piece) (os ps : List Piece) → x ≡ Foreign
+    → os ≡ ps
     → begin_piece x w cs os ≡ (if is_own_role x then (o ∷ ps) else ps)
 foreign_mine Foreign w cs o os ps e h = h
 foreign_mine Alone w cs o os ps e h = cc
 foreign_mine WithNext w cs o os ps e h = cc
 
-pub pieces_of_cut : (q r : Roles) {cs : Cells} {os : List Piece} → IsNamed q → Cut (either q r) cs os → pieces q cs ≡ mine q os
+-- the pieces of a field's own are those of the cut that begin with its keys
+pub pieces_of_cut : (q r : Roles) {cs : Cells} {os : List Piece} → IsNamed q
+    → Cut (either q r) cs os → pieces q cs ≡ mine q os
 pieces_of_cut q r n at_end = refl
 pieces_of_cut q r n (passed c) = pieces_of_cut q r n c
-pieces_of_cut q r n (flag {k = k} {cs = cs} {os = os} e c) = flag_mine q (q k) (r k) k cs (pieces q cs) (mine q os) e (pieces_of_cut q r n c)
+pieces_of_cut q r n (flag {k = k} {cs = cs} {os = os} e c) =
+    flag_mine q (q k) (r k) k cs (pieces q cs) (mine q os) e (pieces_of_cut q r n c)
 pieces_of_cut q r n (argument {k = k} {w = w} {cs = cs} {os = os} e v c) =
-    argument_mine (q k) (r k) k w cs (pieces q (Some w ∷ cs)) (mine q os) e v (begin_foreign w cs (pieces q cs) (value_foreign q w n v) ∙ pieces_of_cut q r n c)
-pieces_of_cut q r n (word {w = w} {cs = cs} {os = os} h c) = foreign_mine (q w) w cs (One w) (pieces q cs) (mine q os) (word_foreign q w n h) (pieces_of_cut q r n c)
+    argument_mine (q k) (r k) k w cs (pieces q (Some w ∷ cs)) (mine q os) e v
+    (begin_foreign w cs (pieces q cs) (value_foreign q w n v) ∙ pieces_of_cut q r n c)
+pieces_of_cut q r n (word {w = w} {cs = cs} {os = os} h c) =
+    foreign_mine (q w) w cs (One w) (pieces q cs) (mine q os) (word_foreign q w n h)
+    (pieces_of_cut q r n c)
 
 -- The other way: a piece given back to its place.
 
+-- an item of the one is of the same role to both
 either_own : (x y z : Role) → x ≡ z → is_own_role z ≡ true → either_role x y ≡ z
 either_own Foreign y Foreign e h = cc
 either_own Foreign y Alone e h = cc
@@ -99,13 +142,19 @@ either_own Foreign y WithNext e h = cc
 either_own Alone y z e h = e
 either_own WithNext y z e h = e
 
-others_own : (q : Roles) (o : Piece) (os : List Piece) → is_own q o ≡ true → others q (o ∷ os) ≡ others q os
+-- a piece of the field's own isn't one of others
+others_own : (q : Roles) (o : Piece) (os : List Piece) → is_own q o ≡ true
+    → others q (o ∷ os) ≡ others q os
 others_own q o os h = ap (λ b. if b then others q os else (o ∷ others q os)) h
 
-others_foreign : (q : Roles) (o : Piece) (os : List Piece) → is_own q o ≡ false → others q (o ∷ os) ≡ o ∷ others q os
+-- a piece of others is
+others_foreign : (q : Roles) (o : Piece) (os : List Piece) → is_own q o ≡ false
+    → others q (o ∷ os) ≡ o ∷ others q os
 others_foreign q o os h = ap (λ b. if b then others q os else (o ∷ others q os)) h
 
-others_cong : (q : Roles) (o : Piece) (os ps : List Piece) → others q os ≡ others q ps → others q (o ∷ os) ≡ others q (o ∷ ps)
+-- with one piece more the others are alike where they were
+others_cong : (q : Roles) (o : Piece) (os ps : List Piece) → others q os ≡ others q ps
+    → others q (o ∷ os) ≡ others q (o ∷ ps)
 others_cong q o os ps e = ap (λ z. if is_own q o then z else (o ∷ z)) e
 
 -- a cut with the same pieces of others
@@ -114,20 +163,54 @@ pub record CutAlike (q r : Roles) (cs : Cells) (os : List Piece) : Type 0 where
   pub cut : Cut r cs now
   pub alike : others q now ≡ others q os
 
-pub put_back : (q r : Roles) {cs ds : Cells} {o : Piece} {os : List Piece} → Takes q cs o ds → Cut (either q r) ds os → CutAlike q (either q r) cs os
+-- a piece given back to its place is cut off there again
+pub put_back : (q r : Roles) {cs ds : Cells} {o : Piece} {os : List Piece} → Takes q cs o ds
+    → Cut (either q r) ds os → CutAlike q (either q r) cs os
 put_back q r (takes_one {k = k} {cs = cs} e) (passed {os = os} c) =
-    record { now = One k ∷ os; cut = flag (either_own (q k) (r k) Alone e refl) c; alike = others_own q (One k) os (ap is_own_role e) }
+    record {
+      now = One k ∷ os;
+      cut = flag (either_own (q k) (r k) Alone e refl) c;
+      alike =
+          others_own q (One k) os (ap is_own_role e);
+    }
 put_back q r (takes_two {k = k} {w = w} {cs = cs} e v) (passed (passed {os = os} c)) =
-    record { now = Two k w ∷ os; cut = argument (either_own (q k) (r k) WithNext e refl) v c; alike = others_own q (Two k w) os (ap is_own_role e) }
-put_back q r (takes_later {c = None} t) (passed c) = let i = put_back q r t c in record { now = i.now; cut = passed i.cut; alike = i.alike }
+    record {
+      now = Two k w ∷ os;
+      cut =
+          argument (either_own (q k) (r k) WithNext e refl) v c;
+      alike =
+          others_own q (Two k w) os (ap is_own_role e);
+    }
+put_back q r (takes_later {c = None} t) (passed c) = let i = put_back q r t c in
+    record { now = i.now; cut = passed i.cut; alike = i.alike }
 put_back q r (takes_later {c = Some k} t) (flag e c) =
-    let i = put_back q r t c in record { now = One k ∷ i.now; cut = flag e i.cut; alike = others_cong q (One k) _ _ i.alike }
+    let i = put_back q r t c in
+    record {
+      now = One k ∷ i.now;
+      cut = flag e i.cut;
+      alike =
+          others_cong q (One k) _ _ i.alike;
+    }
 put_back q r (takes_later {c = Some k} (takes_later {c = Some w} t)) (argument e v c) =
-    let i = put_back q r t c in record { now = Two k w ∷ i.now; cut = argument e v i.cut; alike = others_cong q (Two k w) _ _ i.alike }
+    let i = put_back q r t c in
+    record {
+      now = Two k w ∷ i.now;
+      cut = argument e v i.cut;
+      alike =
+          others_cong q (Two k w) _ _ i.alike;
+    }
 put_back q r (takes_later {c = Some k} t) (word h c) =
-    let i = put_back q r t c in record { now = One k ∷ i.now; cut = word h i.cut; alike = others_cong q (One k) _ _ i.alike }
+    let i = put_back q r t c in
+    record {
+      now = One k ∷ i.now;
+      cut = word h i.cut;
+      alike =
+          others_cong q (One k) _ _ i.alike;
+    }
 
-pub put_back_some : (q r : Roles) {cs ds : Cells} {os : List Piece} → TakesSome q cs ds → Cut (either q r) ds os → CutAlike q (either q r) cs os
+-- so are some pieces
+pub put_back_some : (q r : Roles) {cs ds : Cells} {os : List Piece} → TakesSome q cs ds
+    → Cut (either q r) ds os → CutAlike q (either q r) cs os
 put_back_some q r {os = os} takes_none c = record { now = os; cut = c; alike = refl }
 put_back_some q r (takes_more t more) c =
     let i = put_back_some q r more c in
@@ -136,27 +219,62 @@ put_back_some q r (takes_more t more) c =
 
 -- What is left of a cut when a piece is taken.
 
+-- the role of an item to both is that to the one
 either_not : (x y z u : Role) → x ≡ z → is_own_role z ≡ true → either_role x y ≡ u → z ≡ u
 either_not x y z u e h g = sym (either_own x y z e h) ∙ g
 
-pub take_from : (q r : Roles) {cs ds : Cells} {o : Piece} {os : List Piece} → IsNamed q → Takes q cs o ds → Cut (either q r) cs os → CutAlike q (either q r) ds os
-take_from q r n (takes_one {k = k} e) (flag {os = os} g c) = record { now = os; cut = passed c; alike = sym (others_own q (One k) os (ap is_own_role e)) }
-take_from q r n (takes_one {k = k} e) (argument g v c) = let h = either_not (q k) (r k) Alone WithNext e refl g in absurd cc
+-- what is left of a cut when a piece is taken
+pub take_from : (q r : Roles) {cs ds : Cells} {o : Piece} {os : List Piece} → IsNamed q
+    → Takes q cs o ds → Cut (either q r) cs os → CutAlike q (either q r) ds os
+take_from q r n (takes_one {k = k} e) (flag {os = os} g c) =
+    record { now = os; cut = passed c; alike = sym (others_own q (One k) os (ap is_own_role e)) }
+take_from q r n (takes_one {k = k} e) (argument g v c) = let h =
+    either_not (q k) (r k) Alone WithNext e refl g in absurd cc
 take_from q r n (takes_one {k = k} e) (word h c) = let g = word_foreign q k n h in absurd cc
-take_from q r n (takes_two {k = k} e v) (flag g c) = let h = either_not (q k) (r k) WithNext Alone e refl g in absurd cc
-take_from q r n (takes_two {k = k} {w = w} e v) (argument {os = os} g u c) = record { now = os; cut = passed (passed c); alike = sym (others_own q (Two k w) os (ap is_own_role e)) }
+take_from q r n (takes_two {k = k} e v) (flag g c) = let h =
+    either_not (q k) (r k) WithNext Alone e refl g in absurd cc
+take_from q r n (takes_two {k = k} {w = w} e v) (argument {os = os} g u c) =
+    record {
+      now = os;
+      cut = passed (passed c);
+      alike =
+          sym (others_own q (Two k w) os (ap is_own_role e));
+    }
 take_from q r n (takes_two {k = k} e v) (word h c) = let g = word_foreign q k n h in absurd cc
-take_from q r n (takes_later {c = None} t) (passed c) = let i = take_from q r n t c in record { now = i.now; cut = passed i.cut; alike = i.alike }
+take_from q r n (takes_later {c = None} t) (passed c) = let i = take_from q r n t c in
+    record { now = i.now; cut = passed i.cut; alike = i.alike }
 take_from q r n (takes_later {c = Some k} t) (flag e c) =
-    let i = take_from q r n t c in record { now = One k ∷ i.now; cut = flag e i.cut; alike = others_cong q (One k) _ _ i.alike }
+    let i = take_from q r n t c in
+    record {
+      now = One k ∷ i.now;
+      cut = flag e i.cut;
+      alike =
+          others_cong q (One k) _ _ i.alike;
+    }
 take_from q r n (takes_later {c = Some k} (takes_later {c = Some w} t)) (argument e v c) =
-    let i = take_from q r n t c in record { now = Two k w ∷ i.now; cut = argument e v i.cut; alike = others_cong q (Two k w) _ _ i.alike }
-take_from q r n (takes_later {c = Some k} (takes_one {k = w} e')) (argument e v c) = let g = value_foreign q w n v in absurd cc
-take_from q r n (takes_later {c = Some k} (takes_two {k = w} e' v')) (argument e v c) = let g = value_foreign q w n v in absurd cc
+    let i = take_from q r n t c in
+    record {
+      now = Two k w ∷ i.now;
+      cut = argument e v i.cut;
+      alike =
+          others_cong q (Two k w) _ _ i.alike;
+    }
+take_from q r n (takes_later {c = Some k} (takes_one {k = w} e')) (argument e v c) = let g =
+    value_foreign q w n v in absurd cc
+take_from q r n (takes_later {c = Some k} (takes_two {k = w} e' v')) (argument e v c) = let g =
+    value_foreign q w n v in absurd cc
 take_from q r n (takes_later {c = Some k} t) (word h c) =
-    let i = take_from q r n t c in record { now = One k ∷ i.now; cut = word h i.cut; alike = others_cong q (One k) _ _ i.alike }
+    let i = take_from q r n t c in
+    record {
+      now = One k ∷ i.now;
+      cut = word h i.cut;
+      alike =
+          others_cong q (One k) _ _ i.alike;
+    }
 
-pub take_some_from : (q r : Roles) {cs ds : Cells} {os : List Piece} → IsNamed q → TakesSome q cs ds → Cut (either q r) cs os → CutAlike q (either q r) ds os
+-- when some pieces are
+pub take_some_from : (q r : Roles) {cs ds : Cells} {os : List Piece} → IsNamed q → TakesSome q cs ds
+    → Cut (either q r) cs os → CutAlike q (either q r) ds os
 take_some_from q r {os = os} n takes_none c = record { now = os; cut = c; alike = refl }
 take_some_from q r n (takes_more t more) c =
     let j = take_from q r n t c in

@@ -1,5 +1,7 @@
 -- A choice of two alternatives is one.
-use Rattle.std.proofs.Common.{◌≡◌, ℕ, suc, zero, ◌<◌, Bool, true, false, not, ◌&&◌, List, [], ◌∷◌, length, Option, Some, None, Result, Ok, Err, refl, sym, ap, ap₂, ◌∙◌, subst, inl, inr, ◌⊎◌, ⊎_elim, arith, true≢false, nat_le, nat_lt}
+use Rattle.std.proofs.Common.{◌≡◌, ℕ, suc, zero, ◌<◌, Bool, true, false, not, ◌&&◌, List, [], ◌∷◌}
+use Rattle.std.proofs.Common.{length, Option, Some, None, Result, Ok, Err, refl, sym, ap, ap₂, ◌∙◌}
+use Rattle.std.proofs.Common.{subst, inl, inr, ◌⊎◌, ⊎_elim, arith, true≢false, nat_le, nat_lt}
 use Rattle.std.specs.Option.{option_map_or}
 use Rattle.std.proofs.lemmas.Bool.{eqb-true, le-leb, lt-ltb}
 use Rattle.bpaf_words.specs.declared.arg.Arg.{Arg}
@@ -16,42 +18,69 @@ use Rattle.bpaf_laws.specs.Choice.{ChoiceOutcome, EqualDepths, OneOk, Winner}
 use Rattle.bpaf_laws.specs.Reading.{Outcome}
 use Rattle.bpaf_laws.specs.Spared.{IsNotMemory}
 use Rattle.bpaf_laws.specs.Step.{is_untouched}
-use Rattle.bpaf_exact.specs.Pieces.{Cells, Roles, Piece, One, Two, is_own_role, is_own, Apart, either, pieces, Takes, takes_one, takes_two, takes_later}
-use Rattle.bpaf_exact.specs.Flat.{OfMemory, OfMissing, Refused, class, cells, first_cells, IsWhole, Steady}
-use Rattle.bpaf_exact.specs.Alternative.{TakesFirst, HasBad, AlternativeOk, AlternativeErr, alternative_memory, alternative_missing, alternative_refused, AlternativeLaw, either_value, pick_type}
+use Rattle.bpaf_exact.specs.Pieces.{Cells, Roles, Piece, One, Two, is_own_role, is_own, Apart}
+use Rattle.bpaf_exact.specs.Pieces.{either, pieces, Takes, takes_one, takes_two, takes_later}
+use Rattle.bpaf_exact.specs.Flat.{OfMemory, OfMissing, Refused, class, cells, first_cells, IsWhole}
+use Rattle.bpaf_exact.specs.Flat.{Steady}
+use Rattle.bpaf_exact.specs.Alternative.{TakesFirst, HasBad, AlternativeOk, AlternativeErr}
+use Rattle.bpaf_exact.specs.Alternative.{alternative_memory, alternative_missing}
+use Rattle.bpaf_exact.specs.Alternative.{alternative_refused, AlternativeLaw, either_value}
+use Rattle.bpaf_exact.specs.Alternative.{pick_type}
 use Rattle.bpaf_exact.proofs.Cells.{keeps_other}
 use Rattle.bpaf_exact.proofs.Classes.{memory_class, not_memory}
 use Rattle.bpaf_exact.proofs.Combining.{combined_refused, combined_missing}
 use Rattle.bpaf_exact.proofs.Counts.{open_present, takes_fewer}
 use Rattle.bpaf_exact.proofs.Places.{same_cells, same_item, closed_item}
 use Rattle.bpaf_exact.proofs.Product.{steady_refl, steady_trans, whole_after}
-use Rattle.bpaf_exact.proofs.First.{Union, swap_union, either_union, union_named, takes_left, bad_given_back, bad_left, HeadOf, owner, first_mine, first_alone, both_nil, TookLeft, left_here, left_later, first_both, not_left, never_same}
+use Rattle.bpaf_exact.proofs.First.{Union, swap_union, either_union, union_named, takes_left}
+use Rattle.bpaf_exact.proofs.First.{bad_given_back, bad_left, HeadOf, owner, first_mine}
+use Rattle.bpaf_exact.proofs.First.{first_alone, both_nil, TookLeft, left_here, left_later}
+use Rattle.bpaf_exact.proofs.First.{first_both, not_left, never_same}
 
 -- what no evaluation of a flat field changes is the same in two that began alike
 steady_both : {s m n : Situation} → Steady s m → Steady s n → Steady n m
-steady_both a b = record { context = a.context ∙ sym b.context; start = a.start ∙ sym b.start; end = a.end ∙ sym b.end; path = a.path ∙ sym b.path }
+steady_both a b =
+    record {
+      context = a.context ∙ sym b.context;
+      start = a.start ∙ sym b.start;
+      end = a.end
+          ∙ sym b.end;
+      path = a.path ∙ sym b.path;
+    }
 
 -- a place where as much is taken has the item that it had
-steady_item : (m n : Situation) → Steady m n → (p : ℕ) → is_taken n p ≡ is_taken m p → open_item n p ≡ open_item m p
+steady_item : (m n : Situation) → Steady m n → (p : ℕ) → is_taken n p ≡ is_taken m p
+    → open_item n p ≡ open_item m p
 steady_item m n st p e =
-    same_item m n p (ap₂ (λ a b. nat_le a p && nat_lt p b) st.start st.end) (ap (λ c. item_in c p) st.context) e
+    same_item m n p (ap₂ (λ a b. nat_le a p && nat_lt p b) st.start st.end)
+    (ap (λ c. item_in c p) st.context) e
 
 -- where as much is taken the cells are the same
-pub cells_same : (m n : Situation) → Steady m n → ((p : ℕ) → is_taken n p ≡ is_taken m p) → cells n ≡ cells m
+pub cells_same : (m n : Situation) → Steady m n → ((p : ℕ) → is_taken n p ≡ is_taken m p)
+    → cells n ≡ cells m
 unfolding cells
 cells_same m n st f =
     ap (λ c. first_cells (open_item n) (length c.line)) st.context
-    ∙ same_cells (open_item n) (open_item m) (length m.context.line) (λ p l. steady_item m n st p (f p))
+    ∙ same_cells (open_item n) (open_item m) (length m.context.line)
+    (λ p l. steady_item m n st p (f p))
 
-left_head : (c d : Option Arg) (x : Arg) (cs ds : Cells) → c ≡ None → d ≡ Some x → TookLeft (c ∷ cs) (d ∷ ds)
-left_head c d x cs ds e f = subst (λ z. TookLeft (z ∷ cs) (d ∷ ds)) (sym e) (subst (λ z. TookLeft (None ∷ cs) (z ∷ ds)) (sym f) left_here)
+-- two lists of cells of which the first took the first item
+left_head : (c d : Option Arg) (x : Arg) (cs ds : Cells) → c ≡ None → d ≡ Some x
+    → TookLeft (c ∷ cs) (d ∷ ds)
+left_head c d x cs ds e f =
+    subst (λ z. TookLeft (z ∷ cs) (d ∷ ds)) (sym e)
+    (subst (λ z. TookLeft (None ∷ cs) (z ∷ ds)) (sym f) left_here)
 
 -- the leftmost place at which two differ
-left_cells : (at other : ℕ → Option Arg) (n p : ℕ) (x : Arg) → p < n → at p ≡ None → other p ≡ Some x → ((q : ℕ) → q < p → at q ≡ other q) → TookLeft (first_cells at n) (first_cells other n)
+left_cells : (at other : ℕ → Option Arg) (n p : ℕ) (x : Arg) → p < n → at p ≡ None
+    → other p ≡ Some x → ((q : ℕ) → q < p → at q ≡ other q)
+    → TookLeft (first_cells at n) (first_cells other n)
 left_cells at other zero p x l e f same = absurd (omega arith)
 left_cells at other (suc n) zero x l e f same = left_head (at zero) (other zero) x _ _ e f
 left_cells at other (suc n) (suc p) x l e f same =
-    left_later (same zero (omega arith)) (left_cells (λ q. at (suc q)) (λ q. other (suc q)) n p x (omega arith) e f (λ q i. same (suc q) (omega arith)))
+    left_later (same zero (omega arith))
+    (left_cells (λ q. at (suc q)) (λ q. other (suc q)) n p x (omega arith) e f
+    (λ q i. same (suc q) (omega arith)))
 
 -- an item is there
 record HasItem (s : Situation) (p : ℕ) : Type 0 where
@@ -64,7 +93,10 @@ has_item s p w free =
     let l = present_in_line s p free in
     let a = w.start in
     let b = w.end in
-    by_item (open_item s p) refl (open_has_item s p (open_if (nat_le s.start p) (nat_lt p s.end) (is_taken s p) (le-leb s.start p (omega arith)) (lt-ltb p s.end (omega arith)) free))
+    by_item (open_item s p) refl
+    (open_has_item s p
+    (open_if (nat_le s.start p) (nat_lt p s.end) (is_taken s p) (le-leb s.start p (omega arith))
+    (lt-ltb p s.end (omega arith)) free))
   where
     open_if : (a b c : Bool) → a ≡ true → b ≡ true → c ≡ false → ((a && b) && not c) ≡ true
     open_if true true false e f g = refl
@@ -72,18 +104,24 @@ has_item s p w free =
     open_if true false c e f g = absurd cc
     open_if false b c e f g = absurd cc
 
-    by_item : (c : Option Arg) → open_item s p ≡ c → option_map_or any_item c false ≡ true → HasItem s p
+    by_item : (c : Option Arg) → open_item s p ≡ c → option_map_or any_item c false ≡ true
+        → HasItem s p
     by_item None f h = absurd cc
     by_item (Some k) f h = record { item = k; is = f }
 
 -- the one that took the leftmost place that only one took, by their cells
-left_of : (s m n : Situation) (p : ℕ) → IsWhole s → Steady s m → Steady s n → is_taken m p ≡ true → is_taken n p ≡ false → ((q : ℕ) → q < p → is_taken m q ≡ is_taken n q) → TookLeft (cells m) (cells n)
+left_of : (s m n : Situation) (p : ℕ) → IsWhole s → Steady s m → Steady s n → is_taken m p ≡ true
+    → is_taken n p ≡ false → ((q : ℕ) → q < p → is_taken m q ≡ is_taken n q)
+    → TookLeft (cells m) (cells n)
 unfolding cells
 left_of s m n p w a b took free same =
     let i = has_item n p (whole_after s n w b) free in
     let st = steady_both a b in
-    subst (λ c. TookLeft (first_cells (open_item m) (length c.line)) (first_cells (open_item n) (length n.context.line))) (sym st.context)
-    (left_cells (open_item m) (open_item n) (length n.context.line) p i.item (present_in_line n p free) (closed_item m p took) i.is (λ q l. steady_item n m st q (same q l)))
+    subst (λ c. TookLeft (first_cells (open_item m) (length c.line))
+    (first_cells (open_item n) (length n.context.line))) (sym st.context)
+    (left_cells (open_item m) (open_item n) (length n.context.line) p i.item
+    (present_in_line n p free) (closed_item m p took) i.is
+    (λ q l. steady_item n m st q (same q l)))
 
 -- of two tests that differ the second fails where the first holds
 differ : (a b : Bool) → a ≡ not b → a ≡ true → b ≡ false
@@ -97,8 +135,10 @@ differ_not a false e f = absurd (true≢false (sym e ∙ f))
 
 -- conflict marks change nothing that is taken
 saved_steady : (s other t : Situation) (place : ℕ) → ConflictsSaved s other place t → Steady s t
-saved_steady s other t place c = record { context = c.context; start = c.start; end = c.end; path = c.path }
+saved_steady s other t place c =
+    record { context = c.context; start = c.start; end = c.end; path = c.path }
 
+-- a piece that was taken is one of the field's own
 pub takes_own : (q : Roles) {cs ds : Cells} {o : Piece} → Takes q cs o ds → is_own q o ≡ true
 takes_own q (takes_one e) = ap is_own_role e
 takes_own q (takes_two e v) = ap is_own_role e
@@ -106,105 +146,158 @@ takes_own q (takes_later t) = takes_own q t
 
 -- what the other branch did
 data Other (T : Type 0) (qb : Roles) (vb : Piece → T → Type 0) (cs cm : Cells) : Type 0 where
-  other_took : {cn : Cells} {ob : Piece} → Takes qb cs ob cn → TookLeft cm cn → TakesFirst qb cs ob cn ⊎ HasBad T vb (pieces qb cn)
-      → ((o : Piece) (os : List Piece) (w : T) → pieces qb cs ≡ o ∷ os → vb o w → TakesFirst qb cs ob cn) → Other T qb vb cs cm
+  other_took : {cn : Cells} {ob : Piece} → Takes qb cs ob cn → TookLeft cm cn
+      → TakesFirst qb cs ob cn ⊎ HasBad T vb (pieces qb cn)
+      → ((o : Piece) (os : List Piece) (w : T) → pieces qb cs ≡ o ∷ os → vb o w
+      → TakesFirst qb cs ob cn) → Other T qb vb cs cm
   other_missing : pieces qb cs ≡ [] → Other T qb vb cs cm
-  other_refused : HasBad T vb (pieces qb cs) → ((o : Piece) (os : List Piece) (w : T) → pieces qb cs ≡ o ∷ os → vb o w → ⊥) → Other T qb vb cs cm
+  other_refused : HasBad T vb (pieces qb cs)
+      → ((o : Piece) (os : List Piece) (w : T) → pieces qb cs ≡ o ∷ os → vb o w → ⊥)
+      → Other T qb vb cs cm
 
 module _ (T : Type 0) (qa qb r : Roles) (u : Union qa qb r) (va vb vr : Piece → T → Type 0)
     (gives : (o : Piece) (v : T) → is_own qa o ≡ true → va o v → vr o v)
     (from_a : (o : Piece) (v : T) → is_own qa o ≡ true → vr o v → va o v)
     (from_b : (o : Piece) (v : T) → is_own qb o ≡ true → vr o v → vb o v) where
-  kept_bad : {cs cm : Cells} {oa : Piece} → Takes qa cs oa cm → HasBad T vb (pieces qb cs) → HasBad T vr (pieces r cm)
+  -- a piece of the other branch that can't be read stays one
+  kept_bad : {cs cm : Cells} {oa : Piece} → Takes qa cs oa cm → HasBad T vb (pieces qb cs)
+      → HasBad T vr (pieces r cm)
   kept_bad {cs = cs} {cm = cm} t h =
-      bad_left T vb vr qb qa r (swap_union qa qb r u) from_b cm (subst (HasBad T vb) (sym (keeps_other qa qb u.named_left u.named_right u.apart t)) h)
+      bad_left T vb vr qb qa r (swap_union qa qb r u) from_b cm
+      (subst (HasBad T vb) (sym (keeps_other qa qb u.named_left u.named_right u.apart t)) h)
 
-  won_first : {cs cm : Cells} {oa : Piece} → Takes qa cs oa cm → Other T qb vb cs cm → TakesFirst qa cs oa cm ⊎ HasBad T va (pieces qa cm) → TakesFirst r cs oa cm ⊎ HasBad T vr (pieces r cm)
+  -- the winner took the first piece of both, or one that can't be read stays
+  won_first : {cs cm : Cells} {oa : Piece} → Takes qa cs oa cm → Other T qb vb cs cm
+      → TakesFirst qa cs oa cm ⊎ HasBad T va (pieces qa cm)
+      → TakesFirst r cs oa cm ⊎ HasBad T vr (pieces r cm)
   won_first {cm = cm} t o (inr h) = inr (bad_left T va vr qa qb r u from_a cm h)
   won_first t (other_took tb l (inl f) rb) (inl h) = inl (first_both qa qb r u h f l)
-  won_first t (other_took tb l (inr f) rb) (inl h) = inr (kept_bad t (bad_given_back T vb qb u.named_right tb f))
+  won_first t (other_took tb l (inr f) rb) (inl h) =
+      inr (kept_bad t (bad_given_back T vb qb u.named_right tb f))
   won_first t (other_missing e) (inl h) = inl (first_alone qa qb r u e h)
   won_first t (other_refused b n) (inl h) = inr (kept_bad t b)
 
+  -- where the first piece of both can be read, the winner took it
   won_readable : {cs cm : Cells} {oa : Piece} → Takes qa cs oa cm → Other T qb vb cs cm
-      → ((o : Piece) (os : List Piece) (w : T) → pieces qa cs ≡ o ∷ os → va o w → TakesFirst qa cs oa cm)
-      → (o : Piece) (os : List Piece) (w : T) → pieces r cs ≡ o ∷ os → vr o w → TakesFirst r cs oa cm
-  won_readable {cs = cs} {cm = cm} {oa = oa} t other ra o os w e v = by_owner (owner qa qb r cs o os u e) other
+      → ((o : Piece) (os : List Piece) (w : T) → pieces qa cs ≡ o ∷ os → va o w
+      → TakesFirst qa cs oa cm)
+      → (o : Piece) (os : List Piece) (w : T) → pieces r cs ≡ o ∷ os → vr o w
+      → TakesFirst r cs oa cm
+  won_readable {cs = cs} {cm = cm} {oa = oa} t other ra o os w e v =
+      by_owner (owner qa qb r cs o os u e) other
     where
-      by_owner : HeadOf qa cs o × (is_own qa o ≡ true) ⊎ HeadOf qb cs o × (is_own qb o ≡ true) → Other T qb vb cs cm → TakesFirst r cs oa cm
+      by_owner : HeadOf qa cs o × (is_own qa o ≡ true) ⊎ HeadOf qb cs o × (is_own qb o ≡ true)
+          → Other T qb vb cs cm → TakesFirst r cs oa cm
       by_owner (inl h) x = first_mine qa qb r u e h.1 (ra o h.0.tail w h.0.is (from_a o w h.1 v))
-      by_owner (inr h) (other_took tb l f rb) = absurd (not_left qa qb r u e h.1 t (rb o h.0.tail w h.0.is (from_b o w h.1 v)) l)
+      by_owner (inr h) (other_took tb l f rb) =
+          absurd (not_left qa qb r u e h.1 t (rb o h.0.tail w h.0.is (from_b o w h.1 v)) l)
       by_owner (inr h) (other_missing n) = let i = h.0.is in absurd cc
       by_owner (inr h) (other_refused b n) = absurd (n o h.0.tail w h.0.is (from_b o w h.1 v))
 
-  won : (s m t : Situation) (x : T) → AlternativeOk T qa va s x m → Other T qb vb (cells s) (cells m) → Steady m t → cells t ≡ cells m → AlternativeOk T r vr s x t
+  -- the winner's value is one of the choice
+  won : (s m t : Situation) (x : T) → AlternativeOk T qa va s x m
+      → Other T qb vb (cells s) (cells m) → Steady m t → cells t ≡ cells m
+      → AlternativeOk T r vr s x t
   won s m t x a o st e = record {
     steady = steady_trans a.steady st;
     piece = a.piece;
     takes = subst (Takes r (cells s) a.piece) (sym e) (takes_left qa qb r u a.takes);
     means = gives a.piece x (takes_own qa a.takes) a.means;
-    first = subst (λ ct. TakesFirst r (cells s) a.piece ct ⊎ HasBad T vr (pieces r ct)) (sym e) (won_first a.takes o a.first);
-    readable = λ p ps w h v. subst (TakesFirst r (cells s) a.piece) (sym e) (won_readable a.takes o a.readable p ps w h v);
+    first = subst (λ ct. TakesFirst r (cells s) a.piece ct ⊎ HasBad T vr (pieces r ct)) (sym e)
+        (won_first a.takes o a.first);
+    readable = λ p ps w h v. subst (TakesFirst r (cells s) a.piece) (sym e)
+        (won_readable a.takes o a.readable p ps w h v);
   }
 
-module _ (T : Type 0) (a b : Outcome T) (qa qb : Roles) (va vb : Piece → T → Type 0) (la : AlternativeLaw T a qa va) (lb : AlternativeLaw T b qb vb) (apart : Apart qa qb) where
+module _ (T : Type 0) (a b : Outcome T) (qa qb : Roles) (va vb : Piece → T → Type 0)
+    (la : AlternativeLaw T a qa va) (lb : AlternativeLaw T b qb vb) (apart : Apart qa qb) where
+  -- the items of both
   u : Union qa qb (either qa qb)
   u = either_union qa qb la.named lb.named apart
 
+  -- what the pieces of both mean
   abbrev vr : Piece → T → Type 0
   vr = either_value qa va vb
 
+  -- a piece of the second isn't the first's
   own_role : (o : Piece) → is_own qb o ≡ true → is_own qa o ≡ false
   own_role (One k) h = ap is_own_role (apart.right k h)
   own_role (Two k w) h = ap is_own_role (apart.right k h)
 
+  -- a piece of the first means what it means to the first
   pick_first : (o : Piece) (v : T) → is_own qa o ≡ true → vr o v ≡ va o v
   pick_first o v h = ap (λ z. pick_type z (va o v) (vb o v)) h
 
+  -- one of the second what it means to the second
   pick_second : (o : Piece) (v : T) → is_own qb o ≡ true → vr o v ≡ vb o v
   pick_second o v h = ap (λ z. pick_type z (va o v) (vb o v)) (own_role o h)
 
+  -- from the first to the choice
   give_first : (o : Piece) (v : T) → is_own qa o ≡ true → va o v → vr o v
   give_first o v h g = subst (λ X. X) (sym (pick_first o v h)) g
 
+  -- and back
   from_first : (o : Piece) (v : T) → is_own qa o ≡ true → vr o v → va o v
   from_first o v h g = subst (λ X. X) (pick_first o v h) g
 
+  -- from the second to the choice
   give_second : (o : Piece) (v : T) → is_own qb o ≡ true → vb o v → vr o v
   give_second o v h g = subst (λ X. X) (sym (pick_second o v h)) g
 
+  -- and back
   from_second : (o : Piece) (v : T) → is_own qb o ≡ true → vr o v → vb o v
   from_second o v h g = subst (λ X. X) (pick_second o v h) g
 
-  first_won : (s m t : Situation) (x : T) → AlternativeOk T qa va s x m → Other T qb vb (cells s) (cells m) → Steady m t → cells t ≡ cells m → AlternativeOk T (either qa qb) vr s x t
-  first_won s m t x o h st e = won T qa qb (either qa qb) u va vb vr give_first from_first from_second s m t x o h st e
+  -- the first branch won
+  first_won : (s m t : Situation) (x : T) → AlternativeOk T qa va s x m
+      → Other T qb vb (cells s) (cells m) → Steady m t → cells t ≡ cells m
+      → AlternativeOk T (either qa qb) vr s x t
+  first_won s m t x o h st e =
+      won T qa qb (either qa qb) u va vb vr give_first from_first from_second s m t x o h st e
 
-  second_won : (s n t : Situation) (y : T) → AlternativeOk T qb vb s y n → Other T qa va (cells s) (cells n) → Steady n t → cells t ≡ cells n → AlternativeOk T (either qa qb) vr s y t
-  second_won s n t y o h st e = won T qb qa (either qa qb) (swap_union qa qb (either qa qb) u) vb va vr give_second from_second from_first s n t y o h st e
+  -- the second branch won
+  second_won : (s n t : Situation) (y : T) → AlternativeOk T qb vb s y n
+      → Other T qa va (cells s) (cells n) → Steady n t → cells t ≡ cells n
+      → AlternativeOk T (either qa qb) vr s y t
+  second_won s n t y o h st e =
+      won T qb qa (either qa qb)
+      (swap_union qa qb
+      (either qa qb) u) vb va vr give_second from_second from_first s n t y o h st e
 
-  took_other : (q : Roles) (v : Piece → T → Type 0) (s m n : Situation) (y : T) → AlternativeOk T q v s y n → TookLeft (cells m) (cells n) → Other T q v (cells s) (cells m)
+  -- the other branch took something further right
+  took_other : (q : Roles) (v : Piece → T → Type 0) (s m n : Situation) (y : T)
+      → AlternativeOk T q v s y n → TookLeft (cells m) (cells n) → Other T q v (cells s) (cells m)
   took_other q v s m n y o l = other_took o.takes l o.first o.readable
 
-  err_other : (q : Roles) (v : Piece → T → Type 0) (s n : Situation) (cm : Cells) (e : Error) → is_memory e.0 ≡ false → AlternativeErr T q v s e n → Other T q v (cells s) cm
+  -- the other branch refused
+  err_other : (q : Roles) (v : Piece → T → Type 0) (s n : Situation) (cm : Cells) (e : Error)
+      → is_memory e.0 ≡ false → AlternativeErr T q v s e n → Other T q v (cells s) cm
   err_other q v s n cm e h (alternative_memory c) = absurd (not_memory e.0 h c)
   err_other q v s n cm e h (alternative_missing c p same st) = other_missing p
   err_other q v s n cm e h (alternative_refused c p b g) = other_refused b g
 
   -- both branches leave the path as it was
-  err_path : (q : Roles) (v : Piece → T → Type 0) (s n : Situation) (e : Error) → is_memory e.0 ≡ false → AlternativeErr T q v s e n → n.path ≡ s.path
+  err_path : (q : Roles) (v : Piece → T → Type 0) (s n : Situation) (e : Error)
+      → is_memory e.0 ≡ false → AlternativeErr T q v s e n → n.path ≡ s.path
   err_path q v s n e h (alternative_memory c) = absurd (not_memory e.0 h c)
   err_path q v s n e h (alternative_missing c p same st) = st.path
   err_path q v s n e h (alternative_refused c p b g) = p
 
-  law_path : (z : Outcome T) (q : Roles) (v : Piece → T → Type 0) → AlternativeLaw T z q v → (s n : Situation) (r : Result T Error) → IsWhole s → z s r n → IsNotMemory r → n.path ≡ s.path
+  -- an alternative leaves the path as it was
+  law_path : (z : Outcome T) (q : Roles) (v : Piece → T → Type 0) → AlternativeLaw T z q v
+      → (s n : Situation) (r : Result T Error) → IsWhole s → z s r n → IsNotMemory r
+      → n.path ≡ s.path
   law_path z q v l s n (Ok x) w o h = (l.ok s n x w o).steady.path
   law_path z q v l s n (Err e) w o h = err_path q v s n e h (l.err s n e w o)
 
-  never_deeper : (s m n : Situation) → m.path ≡ s.path → n.path ≡ s.path → length n.path < length m.path → ⊥
+  -- so no branch is deeper than the other
+  never_deeper : (s m n : Situation) → m.path ≡ s.path → n.path ≡ s.path
+      → length n.path < length m.path → ⊥
   never_deeper s m n e f h = let c = ap length (e ∙ sym f) in omega arith
 
   -- an alternative that answered took something
-  never_untouched : (q : Roles) (v : Piece → T → Type 0) (s m : Situation) (x : T) → AlternativeOk T q v s x m → is_untouched s m ≡ true → ⊥
+  never_untouched : (q : Roles) (v : Piece → T → Type 0) (s m : Situation) (x : T)
+      → AlternativeOk T q v s x m → is_untouched s m ≡ true → ⊥
   never_untouched q v s m x o e =
       let same : open_count m ≡ open_count s = eqb-true (open_count m) (open_count s) e in
       let fewer = takes_fewer q o.takes in
@@ -213,39 +306,55 @@ module _ (T : Type 0) (a b : Outcome T) (qa qb : Roles) (va vb : Piece → T →
       absurd (omega arith)
 
   -- the winner's value, where both answered
-  winner_ok : (s sa sb t : Situation) (x y v : T) (first : Bool) (place : Option ℕ) → IsWhole s → AlternativeOk T qa va s x sa → AlternativeOk T qb vb s y sb
-      → IsWinner sa sb (first, place) → Winner x sa y sb first place (Ok v) t → AlternativeOk T (either qa qb) vr s v t
+  winner_ok : (s sa sb t : Situation) (x y v : T) (first : Bool) (place : Option ℕ) → IsWhole s
+      → AlternativeOk T qa va s x sa → AlternativeOk T qb vb s y sb
+      → IsWinner sa sb (first, place) → Winner x sa y sb first place (Ok v) t
+      → AlternativeOk T (either qa qb) vr s v t
   winner_ok s sa sb t x y v first None w i j win k =
-      absurd (never_same qa qb (either qa qb) u i.takes j.takes (cells_same sb sa (steady_both i.steady j.steady) win.0))
+      absurd (never_same qa qb (either qa qb) u i.takes j.takes
+      (cells_same sb sa (steady_both i.steady j.steady) win.0))
   winner_ok s sa sb t x y v true (Some p) w i j win k =
       let d : x ≡ v = cc in
       let free = differ (is_taken sa p) (is_taken sb p) win.0.differs win.1 in
       subst (λ z. AlternativeOk T (either qa qb) vr s z t) d
-      (first_won s sa t x i (took_other qb vb s sa sb y j (left_of s sa sb p w i.steady j.steady win.1 free win.0.first))
+      (first_won s sa t x i
+      (took_other qb vb s sa sb y j
+      (left_of s sa sb p w i.steady j.steady win.1 free win.0.first))
       (saved_steady sa sb t p k.1) (cells_same sa t (saved_steady sa sb t p k.1) k.1.taken))
   winner_ok s sa sb t x y v false (Some p) w i j win k =
       let d : y ≡ v = cc in
       let here = differ_not (is_taken sa p) (is_taken sb p) win.0.differs win.1 in
       subst (λ z. AlternativeOk T (either qa qb) vr s z t) d
-      (second_won s sb t y j (took_other qa va s sb sa x i (left_of s sb sa p w j.steady i.steady here win.1 (λ q l. sym (win.0.first q l))))
+      (second_won s sb t y j
+      (took_other qa va s sb sa x i
+      (left_of s sb sa p w j.steady i.steady here win.1 (λ q l. sym (win.0.first q l))))
       (saved_steady sb sa t p k.1) (cells_same sb t (saved_steady sb sa t p k.1) k.1.taken))
 
   -- the value of one, where the other refused
-  first_alone_ok : (s sa sb t : Situation) (x v : T) (e : Error) → IsWhole s → a s (Ok x) sa → b s (Err e) sb → is_memory e.0 ≡ false → OneOk s x sa e (Ok v) t → AlternativeOk T (either qa qb) vr s v t
+  first_alone_ok : (s sa sb t : Situation) (x v : T) (e : Error) → IsWhole s → a s (Ok x) sa
+      → b s (Err e) sb → is_memory e.0 ≡ false → OneOk s x sa e (Ok v) t
+      → AlternativeOk T (either qa qb) vr s v t
   first_alone_ok s sa sb t x v e w f g h (inl o) = let i = o.1 in absurd cc
   first_alone_ok s sa sb t x v e w f g h (inr o) =
       let given = o.1 in
       let d : x ≡ v = cc in
-      subst (λ z. AlternativeOk T (either qa qb) vr s v z) (sym o.2) (subst (λ z. AlternativeOk T (either qa qb) vr s z sa) d
-      (first_won s sa sa x (la.ok s sa x w f) (err_other qb vb s sb (cells sa) e h (lb.err s sb e w g)) (steady_refl sa) refl))
+      subst (λ z. AlternativeOk T (either qa qb) vr s v z) (sym o.2)
+      (subst (λ z. AlternativeOk T (either qa qb) vr s z sa) d
+      (first_won s sa sa x (la.ok s sa x w f)
+      (err_other qb vb s sb (cells sa) e h (lb.err s sb e w g)) (steady_refl sa) refl))
 
-  second_alone_ok : (s sa sb t : Situation) (y v : T) (e : Error) → IsWhole s → a s (Err e) sa → b s (Ok y) sb → is_memory e.0 ≡ false → OneOk s y sb e (Ok v) t → AlternativeOk T (either qa qb) vr s v t
+  -- the value of the second, where the first refused
+  second_alone_ok : (s sa sb t : Situation) (y v : T) (e : Error) → IsWhole s → a s (Err e) sa
+      → b s (Ok y) sb → is_memory e.0 ≡ false → OneOk s y sb e (Ok v) t
+      → AlternativeOk T (either qa qb) vr s v t
   second_alone_ok s sa sb t y v e w f g h (inl o) = let i = o.1 in absurd cc
   second_alone_ok s sa sb t y v e w f g h (inr o) =
       let given = o.1 in
       let d : y ≡ v = cc in
-      subst (λ z. AlternativeOk T (either qa qb) vr s v z) (sym o.2) (subst (λ z. AlternativeOk T (either qa qb) vr s z sb) d
-      (second_won s sb sb y (lb.ok s sb y w g) (err_other qa va s sa (cells sb) e h (la.err s sa e w f)) (steady_refl sb) refl))
+      subst (λ z. AlternativeOk T (either qa qb) vr s v z) (sym o.2)
+      (subst (λ z. AlternativeOk T (either qa qb) vr s z sb) d
+      (second_won s sb sb y (lb.ok s sb y w g)
+      (err_other qa va s sa (cells sb) e h (la.err s sa e w f)) (steady_refl sb) refl))
 
   -- one of two tests
   and_first : (x y : Bool) → (x && y) ≡ true → x ≡ true
@@ -253,110 +362,159 @@ module _ (T : Type 0) (a b : Outcome T) (qa qb : Roles) (va vb : Piece → T →
   and_first false y e = e
 
   -- the value where both paths are equally deep
-  equal_ok : (s sa sb t : Situation) (v : T) (x y : Result T Error) → IsWhole s → a s x sa → b s y sb → IsNotMemory x → IsNotMemory y → EqualDepths s x sa y sb (Ok v) t
+  equal_ok : (s sa sb t : Situation) (v : T) (x y : Result T Error) → IsWhole s → a s x sa
+      → b s y sb → IsNotMemory x → IsNotMemory y → EqualDepths s x sa y sb (Ok v) t
       → AlternativeOk T (either qa qb) vr s v t
-  equal_ok s sa sb t v (Ok x) (Ok y) w f g hf hg (inl o) = absurd (never_untouched qa va s sa x (la.ok s sa x w f) (and_first (is_untouched s sa) (is_untouched s sb) o.0))
-  equal_ok s sa sb t v (Ok x) (Ok y) w f g hf hg (inr o) = winner_ok s sa sb t x y v o.1.0 o.1.1 w (la.ok s sa x w f) (lb.ok s sb y w g) o.1.2 o.1.3
+  equal_ok s sa sb t v (Ok x) (Ok y) w f g hf hg (inl o) =
+      absurd (never_untouched qa va s sa x (la.ok s sa x w f)
+      (and_first (is_untouched s sa) (is_untouched s sb) o.0))
+  equal_ok s sa sb t v (Ok x) (Ok y) w f g hf hg (inr o) =
+      winner_ok s sa sb t x y v o.1.0 o.1.1 w (la.ok s sa x w f) (lb.ok s sb y w g) o.1.2 o.1.3
   equal_ok s sa sb t v (Ok x) (Err e) w f g hf hg o = first_alone_ok s sa sb t x v e w f g hg o
   equal_ok s sa sb t v (Err e) (Ok y) w f g hf hg o = second_alone_ok s sa sb t y v e w f g hf o
   equal_ok s sa sb t v (Err e) (Err d) w f g hf hg o = let i = o.0.2 in absurd cc
 
-  choice_ok : (s t : Situation) (v : T) → IsWhole s → ChoiceOutcome a b s (Ok v) t → AlternativeOk T (either qa qb) vr s v t
+  -- a value of the choice is that of an alternative
+  choice_ok : (s t : Situation) (v : T) → IsWhole s → ChoiceOutcome a b s (Ok v) t
+      → AlternativeOk T (either qa qb) vr s v t
   choice_ok s t v w o =
       let pa = law_path a qa va la s o.sa o.a w o.first_ran o.first_spared in
       let pb = law_path b qb vb lb s o.sb o.b w o.second_ran o.second_spared in
       ⊎_elim (λ deeper. absurd (never_deeper s o.sa o.sb pa pb deeper.0))
       (λ other. ⊎_elim (λ deeper. absurd (never_deeper s o.sb o.sa pb pa deeper.0))
-      (λ equal. equal_ok s o.sa o.sb t v o.a o.b w o.first_ran o.second_ran o.first_spared o.second_spared equal.1) other)
+      (λ equal. equal_ok s o.sa o.sb t v o.a o.b w o.first_ran o.second_ran o.first_spared
+      o.second_spared equal.1) other)
       o.chosen
 
   -- both fail
   first_bad : (cs : Cells) → HasBad T va (pieces qa cs) → HasBad T vr (pieces (either qa qb) cs)
   first_bad cs h = bad_left T va vr qa qb (either qa qb) u from_first cs h
 
+  -- a piece of the second that can't be read
   second_bad : (cs : Cells) → HasBad T vb (pieces qb cs) → HasBad T vr (pieces (either qa qb) cs)
-  second_bad cs h = bad_left T vb vr qb qa (either qa qb) (swap_union qa qb (either qa qb) u) from_second cs h
+  second_bad cs h =
+      bad_left T vb vr qb qa (either qa qb) (swap_union qa qb (either qa qb) u) from_second cs h
 
+  -- the first piece can't be read
   Unread : (q : Roles) (v : Piece → T → Type 0) (s : Situation) → Type 0
   Unread q v s = (o : Piece) (os : List Piece) (w : T) → pieces q (cells s) ≡ o ∷ os → v o w → ⊥
 
-  none_unread : (q : Roles) (v : Piece → T → Type 0) (s : Situation) → pieces q (cells s) ≡ [] → Unread q v s
+  -- where there is no piece none can
+  none_unread : (q : Roles) (v : Piece → T → Type 0) (s : Situation) → pieces q (cells s) ≡ []
+      → Unread q v s
   unfolding Unread
   none_unread q v s e o os w h g = cc
 
+  -- where neither first piece can be read, that of both can't
   both_unread : (s : Situation) → Unread qa va s → Unread qb vb s → Unread (either qa qb) vr s
   unfolding Unread
   both_unread s f g o os w h x = by_owner (owner qa qb (either qa qb) (cells s) o os u h)
     where
-      by_owner : HeadOf qa (cells s) o × (is_own qa o ≡ true) ⊎ HeadOf qb (cells s) o × (is_own qb o ≡ true) → ⊥
+      by_owner : HeadOf qa (cells s) o × (is_own qa o ≡ true) ⊎ HeadOf qb (cells s) o
+          × (is_own qb o ≡ true) → ⊥
       by_owner (inl i) = f o i.0.tail w i.0.is (from_first o w i.1 x)
       by_owner (inr i) = g o i.0.tail w i.0.is (from_second o w i.1 x)
 
-  refused_either : (s : Situation) (g : Error) → class g ≡ Refused → HasBad T vr (pieces (either qa qb) (cells s)) → Unread (either qa qb) vr s → AlternativeErr T (either qa qb) vr s g s
+  -- then the choice refuses
+  refused_either : (s : Situation) (g : Error) → class g ≡ Refused
+      → HasBad T vr (pieces (either qa qb) (cells s)) → Unread (either qa qb) vr s
+      → AlternativeErr T (either qa qb) vr s g s
   unfolding Unread
   refused_either s g c h n = alternative_refused c refl h n
 
   -- a refusal of an alternative is of one of two classes
-  err_class : (q : Roles) (v : Piece → T → Type 0) (s m : Situation) (e : Error) → is_memory e.0 ≡ false → AlternativeErr T q v s e m → (class e ≡ OfMissing) ⊎ (class e ≡ Refused)
+  err_class : (q : Roles) (v : Piece → T → Type 0) (s m : Situation) (e : Error)
+      → is_memory e.0 ≡ false → AlternativeErr T q v s e m
+      → (class e ≡ OfMissing) ⊎ (class e ≡ Refused)
   err_class q v s m e h (alternative_memory c) = absurd (not_memory e.0 h c)
   err_class q v s m e h (alternative_missing c p same st) = inl c
   err_class q v s m e h (alternative_refused c p b n) = inr c
 
-  by_class : (s : Situation) (g : Error) → (class g ≡ OfMemory) ⊎ (class g ≡ Refused) → HasBad T vr (pieces (either qa qb) (cells s)) → Unread (either qa qb) vr s → AlternativeErr T (either qa qb) vr s g s
+  -- with a refusal of either class
+  by_class : (s : Situation) (g : Error) → (class g ≡ OfMemory) ⊎ (class g ≡ Refused)
+      → HasBad T vr (pieces (either qa qb) (cells s)) → Unread (either qa qb) vr s
+      → AlternativeErr T (either qa qb) vr s g s
   by_class s g (inl c) h n = alternative_memory c
   by_class s g (inr c) h n = refused_either s g c h n
 
-  both_missing : (s : Situation) (g : Error) → (class g ≡ OfMissing) ⊎ (class g ≡ OfMemory) → pieces (either qa qb) (cells s) ≡ [] → AlternativeErr T (either qa qb) vr s g s
+  -- where neither has a piece, the choice has none
+  both_missing : (s : Situation) (g : Error) → (class g ≡ OfMissing) ⊎ (class g ≡ OfMemory)
+      → pieces (either qa qb) (cells s) ≡ [] → AlternativeErr T (either qa qb) vr s g s
   both_missing s g (inl c) h = alternative_missing c h refl (steady_refl s)
   both_missing s g (inr c) h = alternative_memory c
 
-  both_failed : (s m n : Situation) (e f g : Error) → is_memory e.0 ≡ false → is_memory f.0 ≡ false → Combines e.0 f.0 g.0 → AlternativeErr T qa va s e m → AlternativeErr T qb vb s f n → AlternativeErr T (either qa qb) vr s g s
+  -- both branches refused
+  both_failed : (s m n : Situation) (e f g : Error) → is_memory e.0 ≡ false → is_memory f.0 ≡ false
+      → Combines e.0 f.0 g.0 → AlternativeErr T qa va s e m → AlternativeErr T qb vb s f n
+      → AlternativeErr T (either qa qb) vr s g s
   unfolding Unread
   both_failed s m n e f g x y c (alternative_memory p) j = absurd (not_memory e.0 x p)
   both_failed s m n e f g x y c i (alternative_memory q) = absurd (not_memory f.0 y q)
-  both_failed s m n e f g x y c (alternative_missing p i same st) (alternative_missing q j alike steady) =
-      both_missing s g (combined_missing e.0 f.0 g.0 p q c) (both_nil qa qb (either qa qb) (cells s) u i j)
+  both_failed s m n e f g x y c (alternative_missing p i same st)
+      (alternative_missing q j alike steady) =
+      both_missing s g (combined_missing e.0 f.0 g.0 p q c)
+      (both_nil qa qb (either qa qb) (cells s) u i j)
   both_failed s m n e f g x y c (alternative_missing p i same st) (alternative_refused q path h k) =
-      by_class s g (combined_refused e.0 f.0 g.0 (inr q) (inl p) (inr q) c) (second_bad (cells s) h) (both_unread s (none_unread qa va s i) k)
+      by_class s g (combined_refused e.0 f.0 g.0 (inr q) (inl p) (inr q) c) (second_bad (cells s) h)
+      (both_unread s (none_unread qa va s i) k)
   both_failed s m n e f g x y c (alternative_refused p path h k) (alternative_missing q j same st) =
-      by_class s g (combined_refused e.0 f.0 g.0 (inl p) (inr p) (inl q) c) (first_bad (cells s) h) (both_unread s k (none_unread qb vb s j))
-  both_failed s m n e f g x y c (alternative_refused p path h k) (alternative_refused q other bad none) =
-      by_class s g (combined_refused e.0 f.0 g.0 (inl p) (inr p) (inr q) c) (first_bad (cells s) h) (both_unread s k none)
+      by_class s g (combined_refused e.0 f.0 g.0 (inl p) (inr p) (inl q) c) (first_bad (cells s) h)
+      (both_unread s k (none_unread qb vb s j))
+  both_failed s m n e f g x y c (alternative_refused p path h k)
+      (alternative_refused q other bad none) =
+      by_class s g (combined_refused e.0 f.0 g.0 (inl p) (inr p) (inr q) c) (first_bad (cells s) h)
+      (both_unread s k none)
 
   -- a value is no refusal
-  value_no_refusal : (s sa sb t : Situation) (x y : T) (e : Error) (first : Bool) (place : Option ℕ) → Winner x sa y sb first place (Err e) t → ⊥
+  value_no_refusal : (s sa sb t : Situation) (x y : T) (e : Error) (first : Bool) (place : Option ℕ)
+      → Winner x sa y sb first place (Err e) t → ⊥
   value_no_refusal s sa sb t x y e first None k = let i = k.0 in cc
   value_no_refusal s sa sb t x y e true (Some p) k = let i = k.0 in cc
   value_no_refusal s sa sb t x y e false (Some p) k = let i = k.0 in cc
 
   -- nor is the value of one, where the other refused
-  one_no_refusal : (q : Roles) (v : Piece → T → Type 0) (s m t : Situation) (x : T) (e g : Error) → AlternativeOk T q v s x m → OneOk s x m e (Err g) t → ⊥
-  one_no_refusal q v s m t x e g i (inl o) = never_untouched q v s m x i (and_first (is_untouched s m) (is_wrong_input e.0) o.0)
+  one_no_refusal : (q : Roles) (v : Piece → T → Type 0) (s m t : Situation) (x : T) (e g : Error)
+      → AlternativeOk T q v s x m → OneOk s x m e (Err g) t → ⊥
+  one_no_refusal q v s m t x e g i (inl o) =
+      never_untouched q v s m x i (and_first (is_untouched s m) (is_wrong_input e.0) o.0)
   one_no_refusal q v s m t x e g i (inr o) = let h = o.1 in cc
 
   -- the refusal where both paths are equally deep
-  equal_err : (s sa sb t : Situation) (g : Error) (x y : Result T Error) → IsWhole s → a s x sa → b s y sb → IsNotMemory x → IsNotMemory y → EqualDepths s x sa y sb (Err g) t
+  equal_err : (s sa sb t : Situation) (g : Error) (x y : Result T Error) → IsWhole s → a s x sa
+      → b s y sb → IsNotMemory x → IsNotMemory y → EqualDepths s x sa y sb (Err g) t
       → AlternativeErr T (either qa qb) vr s g t
   equal_err s sa sb t g (Ok x) (Ok y) w f h hf hg (inl o) = let i = o.1 in absurd cc
-  equal_err s sa sb t g (Ok x) (Ok y) w f h hf hg (inr o) = absurd (value_no_refusal s sa sb t x y g o.1.0 o.1.1 o.1.3)
-  equal_err s sa sb t g (Ok x) (Err e) w f h hf hg o = absurd (one_no_refusal qa va s sa t x e g (la.ok s sa x w f) o)
-  equal_err s sa sb t g (Err e) (Ok y) w f h hf hg o = absurd (one_no_refusal qb vb s sb t y e g (lb.ok s sb y w h) o)
+  equal_err s sa sb t g (Ok x) (Ok y) w f h hf hg (inr o) =
+      absurd (value_no_refusal s sa sb t x y g o.1.0 o.1.1 o.1.3)
+  equal_err s sa sb t g (Ok x) (Err e) w f h hf hg o =
+      absurd (one_no_refusal qa va s sa t x e g (la.ok s sa x w f) o)
+  equal_err s sa sb t g (Err e) (Ok y) w f h hf hg o =
+      absurd (one_no_refusal qb vb s sb t y e g (lb.ok s sb y w h) o)
   equal_err s sa sb t g (Err e) (Err d) w f h hf hg o =
       let given = o.0.2 in
       let same : o.0.0 ≡ g = cc in
-      subst (λ z. AlternativeErr T (either qa qb) vr s g z) (sym o.1) (subst (λ z. AlternativeErr T (either qa qb) vr s z s) same
+      subst (λ z. AlternativeErr T (either qa qb) vr s g z) (sym o.1)
+      (subst (λ z. AlternativeErr T (either qa qb) vr s z s) same
       (both_failed s sa sb e d o.0.0 hf hg o.0.1 (la.err s sa e w f) (lb.err s sb d w h)))
 
-  choice_err : (s t : Situation) (e : Error) → IsWhole s → ChoiceOutcome a b s (Err e) t → AlternativeErr T (either qa qb) vr s e t
+  -- a refusal of the choice is that of an alternative
+  choice_err : (s t : Situation) (e : Error) → IsWhole s → ChoiceOutcome a b s (Err e) t
+      → AlternativeErr T (either qa qb) vr s e t
   choice_err s t e w (inl o) =
       let pa = law_path a qa va la s o.sa o.a w o.first_ran o.first_spared in
       let pb = law_path b qb vb lb s o.sb o.b w o.second_ran o.second_spared in
       ⊎_elim (λ deeper. absurd (never_deeper s o.sa o.sb pa pb deeper.0))
       (λ other. ⊎_elim (λ deeper. absurd (never_deeper s o.sb o.sa pb pa deeper.0))
-      (λ equal. equal_err s o.sa o.sb t e o.a o.b w o.first_ran o.second_ran o.first_spared o.second_spared equal.1) other)
+      (λ equal. equal_err s o.sa o.sb t e o.a o.b w o.first_ran o.second_ran o.first_spared
+      o.second_spared equal.1) other)
       o.chosen
   choice_err s t e w (inr o) = alternative_memory (memory_class e.0 o.0)
 
   -- a choice of two alternatives whose keys are apart is an alternative
   pub choice_law : AlternativeLaw T (ChoiceOutcome a b) (either qa qb) (either_value qa va vb)
-  choice_law = record { named = union_named qa qb (either qa qb) u; ok = choice_ok; err = choice_err }
+  choice_law = record {
+    named = union_named qa qb (either qa qb) u;
+    ok = choice_ok;
+    err =
+        choice_err;
+  }

@@ -1,5 +1,6 @@
 -- The classes of refusals.
-use Rattle.std.proofs.Common.{◌≡◌, Bool, true, false, not, ◌&&◌, if◌then◌else◌, refl, sym, ap, ap₂, ◌∙◌, inl, inr, ◌⊎◌, true≢false}
+use Rattle.std.proofs.Common.{◌≡◌, Bool, true, false, not, ◌&&◌, if◌then◌else◌, refl, sym, ap, ap₂}
+use Rattle.std.proofs.Common.{◌∙◌, inl, inr, ◌⊎◌, true≢false}
 use Rattle.bpaf_line.specs.declared.error.Message.{Message}
 use Rattle.bpaf_line.specs.declared.error.Message.TheVariants.{Memory, Missing, ParseFailure}
 use Rattle.bpaf_line.specs.Messages.{is_memory, can_catch}
@@ -40,20 +41,25 @@ memory_kept (ParseFailure f) e = refl
 memory_kept other e = absurd cc
 
 -- of what can be caught something is missing, or it can be caught otherwise
-pub caught_class : (m : Message) → can_catch m ≡ true → (class_of m ≡ OfMissing) ⊎ (class_of m ≡ Caught)
+pub caught_class : (m : Message) → can_catch m ≡ true
+    → (class_of m ≡ OfMissing) ⊎ (class_of m ≡ Caught)
 caught_class m e = by_test (is_memory m) (is_missing m) (can_catch m) e (λ h. memory_kept m h)
   where
-    by_test : (a b c : Bool) → c ≡ true → (a ≡ true → c ≡ false) → (class_by a b c ≡ OfMissing) ⊎ (class_by a b c ≡ Caught)
+    by_test : (a b c : Bool) → c ≡ true → (a ≡ true → c ≡ false)
+        → (class_by a b c ≡ OfMissing) ⊎ (class_by a b c ≡ Caught)
     by_test true b c e f = let g = f refl in absurd cc
     by_test false true c e f = inl refl
     by_test false false true e f = inr refl
     by_test false false false e f = absurd cc
 
 -- what can't be caught is of neither class
-pub kept_class : (m : Message) → can_catch m ≡ false → (class_of m ≡ OfMissing) ⊎ (class_of m ≡ Caught) → ⊥
-kept_class m e c = by_test (is_memory m) (is_missing m) (can_catch m) e (λ h. (missing_caught m h).1) c
+pub kept_class : (m : Message) → can_catch m ≡ false
+    → (class_of m ≡ OfMissing) ⊎ (class_of m ≡ Caught) → ⊥
+kept_class m e c =
+    by_test (is_memory m) (is_missing m) (can_catch m) e (λ h. (missing_caught m h).1) c
   where
-    by_test : (a b c : Bool) → c ≡ false → (b ≡ true → c ≡ true) → (class_by a b c ≡ OfMissing) ⊎ (class_by a b c ≡ Caught) → ⊥
+    by_test : (a b c : Bool) → c ≡ false → (b ≡ true → c ≡ true)
+        → (class_by a b c ≡ OfMissing) ⊎ (class_by a b c ≡ Caught) → ⊥
     by_test true b c e f (inl h) = cc
     by_test true b c e f (inr h) = cc
     by_test false true c e f h = let g = f refl in absurd cc
@@ -62,25 +68,34 @@ kept_class m e c = by_test (is_memory m) (is_missing m) (can_catch m) e (λ h. (
     by_test false false false e f (inr h) = cc
 
 -- which refusals stop a step that doesn't catch
-stop_test : (m : Message) (untouched : Bool) → stops_spared false m untouched ≡ (if is_missing m then untouched else can_catch m)
+stop_test : (m : Message) (untouched : Bool)
+    → stops_spared false m untouched ≡ (if is_missing m then untouched else can_catch m)
 stop_test (Missing items) untouched = refl
 stop_test other untouched = refl
 
 -- a step stops at a missing item where nothing was taken, and at what can be caught otherwise
-pub stop_class : (m : Message) (untouched : Bool) → stops_step false m untouched ≡ true → ((class_of m ≡ OfMissing) × (untouched ≡ true)) ⊎ (class_of m ≡ Caught)
-stop_class m untouched e = by_tests (is_memory m) (is_missing m) (can_catch m) (sym (ap (λ b. not (is_memory m) && b) (stop_test m untouched)) ∙ e)
+pub stop_class : (m : Message) (untouched : Bool) → stops_step false m untouched ≡ true
+    → ((class_of m ≡ OfMissing) × (untouched ≡ true)) ⊎ (class_of m ≡ Caught)
+stop_class m untouched e =
+    by_tests (is_memory m) (is_missing m) (can_catch m)
+    (sym (ap (λ b. not (is_memory m) && b) (stop_test m untouched)) ∙ e)
   where
-    by_tests : (a b c : Bool) → (not a && (if b then untouched else c)) ≡ true → ((class_by a b c ≡ OfMissing) × (untouched ≡ true)) ⊎ (class_by a b c ≡ Caught)
+    by_tests : (a b c : Bool) → (not a && (if b then untouched else c)) ≡ true
+        → ((class_by a b c ≡ OfMissing) × (untouched ≡ true)) ⊎ (class_by a b c ≡ Caught)
     by_tests true b c h = absurd cc
     by_tests false true c h = inl (refl, h)
     by_tests false false true h = inr refl
     by_tests false false false h = absurd cc
 
 -- and at nothing else
-pub no_stop_class : (m : Message) (untouched : Bool) → stops_step false m untouched ≡ false → ((class_of m ≡ OfMissing) × (untouched ≡ true)) ⊎ (class_of m ≡ Caught) → ⊥
-no_stop_class m untouched e c = by_tests (is_memory m) (is_missing m) (can_catch m) (sym (ap (λ b. not (is_memory m) && b) (stop_test m untouched)) ∙ e) c
+pub no_stop_class : (m : Message) (untouched : Bool) → stops_step false m untouched ≡ false
+    → ((class_of m ≡ OfMissing) × (untouched ≡ true)) ⊎ (class_of m ≡ Caught) → ⊥
+no_stop_class m untouched e c =
+    by_tests (is_memory m) (is_missing m) (can_catch m)
+    (sym (ap (λ b. not (is_memory m) && b) (stop_test m untouched)) ∙ e) c
   where
-    by_tests : (a b c : Bool) → (not a && (if b then untouched else c)) ≡ false → ((class_by a b c ≡ OfMissing) × (untouched ≡ true)) ⊎ (class_by a b c ≡ Caught) → ⊥
+    by_tests : (a b c : Bool) → (not a && (if b then untouched else c)) ≡ false
+        → ((class_by a b c ≡ OfMissing) × (untouched ≡ true)) ⊎ (class_by a b c ≡ Caught) → ⊥
     by_tests true b c h (inl k) = let d = k.0 in cc
     by_tests true b c h (inr k) = cc
     by_tests false true c h (inl k) = true≢false (sym k.1 ∙ h)

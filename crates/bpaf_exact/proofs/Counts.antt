@@ -1,5 +1,6 @@
 -- How many items are present, before and after pieces are taken.
-use Rattle.std.proofs.Common.{◌≡◌, ℕ, zero, suc, ◌+◌, ◌<◌, ◌≤◌, Bool, true, false, ◌∷◌, length, Option, Some, None, refl, ◌∙◌, if◌then◌else◌, arith}
+use Rattle.std.proofs.Common.{◌≡◌, ℕ, zero, suc, ◌+◌, ◌<◌, ◌≤◌, Bool, true, false, ◌∷◌, length}
+use Rattle.std.proofs.Common.{Option, Some, None, refl, ◌∙◌, if◌then◌else◌, arith}
 use Rattle.std.specs.Option.{option_map_or, is_some}
 use Rattle.bpaf_words.specs.declared.arg.Arg.{Arg}
 use Rattle.bpaf_words.specs.Items.{any_item}
@@ -7,44 +8,59 @@ use Rattle.bpaf_line.specs.Situation.{Situation, open_count, count_below, is_ope
 use Rattle.bpaf_line.specs.Taking.{open_item}
 use Rattle.bpaf_line.proofs.Counts.{count_below-same}
 use Rattle.bpaf_line.proofs.Matches.{open_has_item}
-use Rattle.bpaf_exact.specs.Pieces.{Cells, Roles, Piece, Takes, takes_one, takes_two, takes_later, TakesSome, takes_none, takes_more}
+use Rattle.bpaf_exact.specs.Pieces.{Cells, Roles, Piece, Takes, takes_one, takes_two, takes_later}
+use Rattle.bpaf_exact.specs.Pieces.{TakesSome, takes_none, takes_more}
 use Rattle.bpaf_exact.specs.Flat.{cells, first_cells}
 use Rattle.bpaf_exact.specs.Single.{present_count, TakesAny}
 
 -- a piece taken leaves fewer items
-pub takes_fewer : (q : Roles) {cs ds : Cells} {o : Piece} → Takes q cs o ds → present_count ds < present_count cs
+pub takes_fewer : (q : Roles) {cs ds : Cells} {o : Piece} → Takes q cs o ds
+    → present_count ds < present_count cs
 takes_fewer q (takes_one e) = omega arith
 takes_fewer q (takes_two e v) = omega arith
 takes_fewer q (takes_later {c = None} t) = takes_fewer q t
 takes_fewer q (takes_later {c = Some x} t) = let i = takes_fewer q t in omega arith
 
 -- some pieces taken leave no more
-pub takes_some_fewer : (q : Roles) {cs ds : Cells} → TakesSome q cs ds → present_count ds ≤ present_count cs
+pub takes_some_fewer : (q : Roles) {cs ds : Cells} → TakesSome q cs ds
+    → present_count ds ≤ present_count cs
 takes_some_fewer q takes_none = omega arith
-takes_some_fewer q (takes_more t more) = let i = takes_fewer q t in let j = takes_some_fewer q more in omega arith
+takes_some_fewer q (takes_more t more) = let i = takes_fewer q t in let j =
+    takes_some_fewer q more in omega arith
 
 -- at least one piece taken leaves fewer
-pub takes_any_fewer : (q : Roles) {cs ds : Cells} → TakesAny q cs ds → present_count ds < present_count cs
-takes_any_fewer q t = let i = takes_fewer q t.one in let j = takes_some_fewer q t.more in omega arith
+pub takes_any_fewer : (q : Roles) {cs ds : Cells} → TakesAny q cs ds
+    → present_count ds < present_count cs
+takes_any_fewer q t = let i = takes_fewer q t.one in let j = takes_some_fewer q t.more in
+    omega arith
 
 -- the count of a set of places, with the first place set apart
-count_first : (set : ℕ → Bool) (n : ℕ) → count_below set (suc n) ≡ (if set zero then (count_below (λ p. set (suc p)) n + 1) else count_below (λ p. set (suc p)) n)
+count_first : (set : ℕ → Bool) (n : ℕ)
+    → count_below set (suc n)
+    ≡ (if set zero then (count_below (λ p. set (suc p)) n + 1) else count_below
+    (λ p. set (suc p)) n)
 count_first set zero = refl
-count_first set (suc n) = by_test (set (suc n)) (set zero) (count_below set (suc n)) (count_below (λ p. set (suc p)) n) (count_first set n)
+count_first set (suc n) =
+    by_test (set (suc n)) (set zero) (count_below set (suc n)) (count_below (λ p. set (suc p)) n)
+    (count_first set n)
   where
     by_test : (last first : Bool) (a b : ℕ) → a ≡ (if first then (b + 1) else b)
-        → (if last then (a + 1) else a) ≡ (if first then ((if last then (b + 1) else b) + 1) else (if last then (b + 1) else b))
+        → (if last then (a + 1) else a)
+        ≡ (if first then ((if last then (b + 1) else b) + 1) else (if last then (b + 1) else b))
     by_test true true a b e = omega arith
     by_test true false a b e = omega arith
     by_test false true a b e = e
     by_test false false a b e = e
 
 -- the places at which something stands are as many as the items there
-count_cells : (at : ℕ → Option Arg) (n : ℕ) → count_below (λ p. is_some (at p)) n ≡ present_count (first_cells at n)
+count_cells : (at : ℕ → Option Arg) (n : ℕ)
+    → count_below (λ p. is_some (at p)) n ≡ present_count (first_cells at n)
 count_cells at zero = refl
-count_cells at (suc n) = count_first (λ p. is_some (at p)) n ∙ by_head (at zero) _ (count_cells (λ p. at (suc p)) n)
+count_cells at (suc n) = count_first (λ p. is_some (at p)) n
+    ∙ by_head (at zero) _ (count_cells (λ p. at (suc p)) n)
   where
-    by_head : (c : Option Arg) {a : ℕ} (cs : Cells) → a ≡ present_count cs → (if is_some c then (a + 1) else a) ≡ present_count (c ∷ cs)
+    by_head : (c : Option Arg) {a : ℕ} (cs : Cells) → a ≡ present_count cs
+        → (if is_some c then (a + 1) else a) ≡ present_count (c ∷ cs)
     by_head None cs e = e
     by_head (Some x) cs e = omega arith
 
@@ -52,7 +68,9 @@ count_cells at (suc n) = count_first (λ p. is_some (at p)) n ∙ by_head (at ze
 open_some : (s : Situation) (p : ℕ) → is_open s p ≡ is_some (open_item s p)
 open_some s p = by_test (is_open s p) (item_at s p) (λ h. open_has_item s p h)
   where
-    by_test : (b : Bool) (at : Option Arg) → (b ≡ true → option_map_or any_item (if b then at else None) false ≡ true) → b ≡ is_some (if b then at else None)
+    by_test : (b : Bool) (at : Option Arg)
+        → (b ≡ true → option_map_or any_item (if b then at else None) false ≡ true)
+        → b ≡ is_some (if b then at else None)
     by_test false at h = refl
     by_test true (Some x) h = refl
     by_test true None h = let e = h refl in absurd cc
@@ -61,5 +79,6 @@ open_some s p = by_test (is_open s p) (item_at s p) (λ h. open_has_item s p h)
 pub open_present : (s : Situation) → open_count s ≡ present_count (cells s)
 unfolding cells
 open_present s =
-    count_below-same (is_open s) (λ p. is_some (open_item s p)) (length s.context.line) (λ p l. open_some s p)
+    count_below-same (is_open s) (λ p. is_some (open_item s p)) (length s.context.line)
+    (λ p l. open_some s p)
     ∙ count_cells (open_item s) (length s.context.line)

@@ -1,16 +1,21 @@
 -- some and last keep to the laws of a field.
-use Rattle.std.proofs.Common.{◌≡◌, true, false, List, [], ◌∷◌, ◌++◌, None, Result, Ok, Err, refl, sym, ◌∙◌}
+use Rattle.std.proofs.Common.{◌≡◌, true, false, List, [], ◌∷◌, ◌++◌, None, Result, Ok, Err, refl}
+use Rattle.std.proofs.Common.{sym, ◌∙◌}
 use Rattle.bpaf_line.specs.declared.error.Error.{Error}
 use Rattle.bpaf_line.specs.Situation.{Situation}
 use Rattle.bpaf_laws.specs.Reading.{Outcome}
 use Rattle.bpaf_exact.specs.Pieces.{Roles, Piece, pieces}
 use Rattle.bpaf_exact.specs.Flat.{cells, IsWhole, Kind, front, back, FieldTook, FieldLaw, Gives}
-use Rattle.bpaf_exact.specs.Single.{Groups, Gap, SingleOk, gave_absent, took, SingleLaw, OwnList, listed, listed_and_absent, only_absent, Own, own_none, own_more, repeated, StepsRan}
+use Rattle.bpaf_exact.specs.Single.{Groups, Gap, SingleOk, gave_absent, took, SingleLaw, OwnList}
+use Rattle.bpaf_exact.specs.Single.{listed, listed_and_absent, only_absent, Own, own_none, own_more}
+use Rattle.bpaf_exact.specs.Single.{repeated, StepsRan}
 use Rattle.bpaf_exact.specs.Wrappers.{AgreesOn}
-use Rattle.bpaf_exact.specs.Derived.{some_closure, IsLast, LastRan, last_of, last_err, last_again, LastOf}
+use Rattle.bpaf_exact.specs.Derived.{some_closure, IsLast, LastRan, last_of, last_err, last_again}
+use Rattle.bpaf_exact.specs.Derived.{LastOf}
 use Rattle.bpaf_exact.proofs.Product.{whole_after}
 use Rattle.bpaf_exact.proofs.Repeat.{repeat_law, repeat_took, own_nil}
 
+-- a list with a last value isn't empty
 no_last : (T : Type 0) (vs : List T) (v : T) → IsLast T vs v → vs ≡ [] → ⊥
 no_last T vs v l e = by_before l.before (sym l.is ∙ e)
   where
@@ -18,23 +23,29 @@ no_last T vs v l e = by_before l.before (sym l.is ∙ e)
     by_before [] h = cc
     by_before (x ∷ xs) h = cc
 
-module _ (T : Type 0) (inner : Outcome T) (k : Kind) (q : Roles) (group : Groups T) (gap : Gap T) (l : SingleLaw T inner k q group gap) where
-  rl : FieldLaw (List T) (λ s r t. StepsRan T inner true None s r t) (repeated k) q (OwnList T group gap)
+module _ (T : Type 0) (inner : Outcome T) (k : Kind) (q : Roles) (group : Groups T) (gap : Gap T)
+    (l : SingleLaw T inner k q group gap) where
+  -- the laws of the list
+  rl : FieldLaw (List T) (λ s r t. StepsRan T inner true None s r t) (repeated k) q
+      (OwnList T group gap)
   rl = repeat_law T inner k q group gap l true
 
   -- no value at all: there was no piece, and none has an absent value
   data Nothing (os : List Piece) : Type 0 where
     nothing : gap.has ≡ false → os ≡ [] → Nothing os
 
+  -- an empty own list has no pieces
   own_empty : (os : List Piece) (vs : List T) → vs ≡ [] → Own T group os vs → os ≡ []
   own_empty os vs e own_none = refl
   own_empty os vs e (own_more g o) = absurd cc
 
+  -- an empty list under a repeat comes of no piece
   empty_list : (os : List Piece) (vs : List T) → vs ≡ [] → OwnList T group gap os vs → Nothing os
   empty_list os vs e (listed h o) = nothing h (own_empty os vs e o)
   empty_list os vs e (listed_and_absent h a o) = absurd cc
   empty_list os vs e (only_absent h a) = absurd cc
 
+  -- and no piece gives an empty list
   empty_nothing : (os : List Piece) (vs : List T) → Nothing os → OwnList T group gap os vs → vs ≡ []
   empty_nothing os vs (nothing g e) (listed h o) = own_nil T inner k q group gap l true os vs e o
   empty_nothing os vs (nothing g e) (listed_and_absent h a o) = absurd cc
@@ -44,37 +55,59 @@ module _ (T : Type 0) (inner : Outcome T) (k : Kind) (q : Roles) (group : Groups
   pub some_agrees_on : (os : List Piece) → AgreesOn (OwnList T group gap os) (some_closure T)
   some_agrees_on os x y v ox oy g n = g.1 (empty_nothing os x (empty_list os y n oy) ox)
 
-  again_never : (m t : Situation) (v : T) → gap.has ≡ false → pieces q (cells m) ≡ [] → SingleOk T k q group gap m v t → ⊥
+  -- where there was nothing once more nothing is answered
+  again_never : (m t : Situation) (v : T) → gap.has ≡ false → pieces q (cells m) ≡ []
+      → SingleOk T k q group gap m v t → ⊥
   again_never m t v h p (gave_absent g p' ab same st) = cc
   again_never m t v h p (took st ta ne up down) = ne p
 
-  again_ok : (s m t : Situation) (v : T) → IsWhole s → StepsRan T inner true None s (Ok []) m → inner m (Ok v) t → ⊥
+  -- so the evaluation after an empty list answers no value
+  again_ok : (s m t : Situation) (v : T) → IsWhole s → StepsRan T inner true None s (Ok []) m
+      → inner m (Ok v) t → ⊥
   again_ok s m t v w f g =
       let i = repeat_took T inner k q group gap l true s m [] w f in
-      by_empty (empty_list (pieces q (cells s)) [] refl i.list) i.none (l.ok m t v (whole_after s m w i.steady) g)
+      by_empty (empty_list (pieces q (cells s)) [] refl i.list) i.none
+      (l.ok m t v (whole_after s m w i.steady) g)
     where
-      by_empty : Nothing (pieces q (cells s)) → pieces q (cells m) ≡ [] → SingleOk T k q group gap m v t → ⊥
+      by_empty : Nothing (pieces q (cells s)) → pieces q (cells m) ≡ []
+          → SingleOk T k q group gap m v t → ⊥
       by_empty (nothing h e) p o = again_never m t v h p o
 
-  last_took : (s t : Situation) (v : T) → IsWhole s → LastRan T inner s (Ok v) t → FieldTook T (repeated k) q (LastOf T group gap) s v t
+  -- a last value is that of the own list
+  last_took : (s t : Situation) (v : T) → IsWhole s → LastRan T inner s (Ok v) t
+      → FieldTook T (repeated k) q (LastOf T group gap) s v t
   last_took s t v w (last_of {vs = vs} f h) =
       let i = rl.ok s t vs w f in
-      record { steady = i.steady; takes = i.takes; read = λ n. record { list = vs; own = i.read n; is = h }; rest = i.rest }
+      record {
+        steady = i.steady;
+        takes = i.takes;
+        read =
+            λ n. record { list = vs; own = i.read n; is = h };
+        rest = i.rest;
+      }
   last_took s t v w (last_again {m = m} f g) = absurd (again_ok s m t v w f g)
 
-  again_gives : (s m t : Situation) (r : Result T Error) (v : T) → IsWhole s → StepsRan T inner true None s (Ok []) m → inner m r t → LastOf T group gap (front (repeated k) (pieces q (cells s))) v
-      → Gives q (LastOf T group gap (front (repeated k) (pieces q (cells s)))) (back (repeated k) (pieces q (cells s))) r t
+  -- where the list has a last value it isn't empty
+  again_gives : (s m t : Situation) (r : Result T Error) (v : T) → IsWhole s
+      → StepsRan T inner true None s (Ok []) m → inner m r t
+      → LastOf T group gap (front (repeated k) (pieces q (cells s))) v
+      → Gives q (LastOf T group gap (front (repeated k) (pieces q (cells s))))
+      (back (repeated k) (pieces q (cells s))) r t
   again_gives s m t r v w f g h =
       let j = rl.answers s m (Ok []) h.list w f h.own in
       absurd (no_last T h.list v h.is (empty_nothing _ h.list (empty_list _ [] refl j.0) h.own))
 
-  last_answers : (s t : Situation) (r : Result T Error) (v : T) → IsWhole s → LastRan T inner s r t → LastOf T group gap (front (repeated k) (pieces q (cells s))) v
-      → Gives q (LastOf T group gap (front (repeated k) (pieces q (cells s)))) (back (repeated k) (pieces q (cells s))) r t
+  -- each answer is the last of an own list, or want of memory
+  last_answers : (s t : Situation) (r : Result T Error) (v : T) → IsWhole s → LastRan T inner s r t
+      → LastOf T group gap (front (repeated k) (pieces q (cells s))) v
+      → Gives q (LastOf T group gap (front (repeated k) (pieces q (cells s))))
+      (back (repeated k) (pieces q (cells s))) r t
   last_answers s t r v w (last_of {vs = vs} {v = x} f h) g =
       let j = rl.answers s t (Ok vs) g.list w f g.own in
       (record { list = vs; own = j.0; is = h }, j.1)
   last_answers s t r v w (last_err {e = e} f) g = rl.answers s t (Err e) g.list w f g.own
   last_answers s t r v w (last_again {r = x} {m = m} f h) g = again_gives s m t x v w f h g
 
+  -- last keeps to the laws of a field
   pub last_of_law : FieldLaw T (LastRan T inner) (repeated k) q (LastOf T group gap)
   last_of_law = record { own = rl.own; ok = last_took; answers = last_answers }

@@ -1,5 +1,7 @@
 -- The exactness theorem: a run of a flat record answers the record's value, or want of memory.
-use Rattle.std.proofs.Common.{◌≡◌, ℕ, zero, ◌<◌, Bool, true, false, not, ◌&&◌, ◌||◌, List, length, Option, slice_get, None, Ok, Err, if◌then◌else◌, refl, sym, ◌∙◌, subst, arith, nat_lt, nat_le}
+use Rattle.std.proofs.Common.{◌≡◌, ℕ, zero, ◌<◌, Bool, true, false, not, ◌&&◌, ◌||◌, List, length}
+use Rattle.std.proofs.Common.{Option, slice_get, None, Ok, Err, if◌then◌else◌, refl, sym, ◌∙◌}
+use Rattle.std.proofs.Common.{subst, arith, nat_lt, nat_le}
 use Rattle.std.proofs.lemmas.Bool.{lt-ltb, le-leb}
 use Rattle.bpaf_words.specs.declared.arg.Arg.{Arg}
 use Rattle.bpaf_doc.specs.Names.{Names}
@@ -8,8 +10,11 @@ use Rattle.bpaf_line.specs.Taking.{open_item}
 use Rattle.bpaf_laws.specs.Reading.{Outcome}
 use Rattle.bpaf_exact.specs.Pieces.{Roles, Piece, Cut}
 use Rattle.bpaf_exact.specs.Flat.{cells, NonePresent, IsWhole, FieldsLaw, ReadOff}
-use Rattle.bpaf_exact.specs.Record.{line_cells, RecordValue, Answer, Accepted, NoMemory, Refusal, RunRan, run_value, run_leftover, run_memory, run_refusal, IsNoValue, IsAnswer, IsExact}
-use Rattle.bpaf_exact.specs.Shape.{Shape, ShapeLaw, is_record, product_roles, product_value, record_shape}
+use Rattle.bpaf_exact.specs.Record.{line_cells, RecordValue, Answer, Accepted, NoMemory, Refusal}
+use Rattle.bpaf_exact.specs.Record.{RunRan, run_value, run_leftover, run_memory, run_refusal}
+use Rattle.bpaf_exact.specs.Record.{IsNoValue, IsAnswer, IsExact}
+use Rattle.bpaf_exact.specs.Shape.{Shape, ShapeLaw, is_record, product_roles, product_value}
+use Rattle.bpaf_exact.specs.Shape.{record_shape}
 use Rattle.bpaf_exact.specs.Theorem.{RunsExactly}
 use Rattle.bpaf_exact.proofs.Counts.{open_present}
 use Rattle.bpaf_exact.proofs.Places.{same_cells}
@@ -17,11 +22,15 @@ use Rattle.bpaf_exact.proofs.Records.{none_counted, count_none}
 use Rattle.bpaf_exact.proofs.Shape.{record_law}
 
 -- at the beginning each item is present, but for the marker
-open_at_first : (context : Context) (p : ℕ) → p < length context.line → open_item (beginning context) p ≡ item_in context p
-open_at_first context p l = by_tests (nat_le zero p) (nat_lt p (length context.line)) (is_marker context.marker p) (le-leb zero p (omega arith)) (lt-ltb p (length context.line) l) (slice_get context.line p)
+open_at_first : (context : Context) (p : ℕ) → p < length context.line
+    → open_item (beginning context) p ≡ item_in context p
+open_at_first context p l =
+    by_tests (nat_le zero p) (nat_lt p (length context.line)) (is_marker context.marker p)
+    (le-leb zero p (omega arith)) (lt-ltb p (length context.line) l) (slice_get context.line p)
   where
     by_tests : (above inside marker : Bool) → above ≡ true → inside ≡ true → (at : Option Arg)
-        → (if ((above && inside) && not (not inside || (marker || false))) then (if marker then None else at) else None) ≡ (if marker then None else at)
+        → (if ((above && inside) && not (not inside || (marker || false))) then
+        (if marker then None else at) else None) ≡ (if marker then None else at)
     by_tests true true true e f at = refl
     by_tests true true false e f at = refl
     by_tests true false marker e f at = absurd cc
@@ -30,33 +39,47 @@ open_at_first context p l = by_tests (nat_le zero p) (nat_lt p (length context.l
 -- the cells with which parsing begins are those of the line
 first_cells_are : (context : Context) → cells (beginning context) ≡ line_cells context
 unfolding cells
-first_cells_are context = same_cells (open_item (beginning context)) (item_in context) (length context.line) (open_at_first context)
+first_cells_are context =
+    same_cells (open_item (beginning context)) (item_in context) (length context.line)
+    (open_at_first context)
 
+-- no value is none
 no_value : {V : Type 0} (a : Answer V) (v : V) → IsNoValue a → a ≡ Accepted v → ⊥
 no_value (Accepted x) v n h = n
 no_value NoMemory v n h = cc
 no_value Refusal v n h = cc
 
-module _ (V : Type 0) (outcome : Outcome V) (r : Roles) (value : List Piece → V → Type 0) (l : FieldsLaw V outcome r value) (context : Context) where
+module _ (V : Type 0) (outcome : Outcome V) (r : Roles) (value : List Piece → V → Type 0)
+    (l : FieldsLaw V outcome r value) (context : Context) where
+  -- the situation at the beginning
   abbrev s : Situation
   s = beginning context
 
+  -- the scope is the whole line
   whole : IsWhole s
   whole = record { start = refl; end = refl }
 
-  nothing_left : (t : Situation) (v : V) → outcome s (Ok v) t → open_count t ≡ 0 → NonePresent (cells t)
+  -- where no item is counted none is present
+  nothing_left : (t : Situation) (v : V) → outcome s (Ok v) t → open_count t ≡ 0
+      → NonePresent (cells t)
   nothing_left t v o e = none_counted (cells t) (sym (open_present t) ∙ e)
 
-  counts_none : (t : Situation) (v : V) → outcome s (Ok v) t → NonePresent (cells t) → open_count t ≡ 0
+  -- and the other way
+  counts_none : (t : Situation) (v : V) → outcome s (Ok v) t → NonePresent (cells t)
+      → open_count t ≡ 0
   counts_none t v o n = open_present t ∙ count_none n
 
+  -- a value of the line is one of the first cells
   from_line : (v : V) → RecordValue r value context v → ReadOff V r value (cells s) v
   from_line v h = subst (λ cs. ReadOff V r value cs v) (sym (first_cells_are context)) h
 
+  -- and the other way
   to_line : (v : V) → ReadOff V r value (cells s) v → RecordValue r value context v
   to_line v h = subst (λ cs. ReadOff V r value cs v) (first_cells_are context) h
 
-  sound : (a : Answer V) → RunRan V outcome s a → (v : V) → a ≡ Accepted v → RecordValue r value context v
+  -- a value comes only where it is one of the record's
+  sound : (a : Answer V) → RunRan V outcome s a → (v : V) → a ≡ Accepted v
+      → RecordValue r value context v
   sound a (run_value {v = x} {t = t} o e) v h =
       let d : x ≡ v = cc in
       let i = l.ok s t x whole o (nothing_left t x o e) in
@@ -65,28 +88,48 @@ module _ (V : Type 0) (outcome : Outcome V) (r : Roles) (value : List Piece → 
   sound a (run_memory o e) v h = absurd cc
   sound a (run_refusal o e n) v h = absurd (no_value a v n h)
 
-  complete : (a : Answer V) → RunRan V outcome s a → (v : V) → RecordValue r value context v → IsAnswer (λ w. RecordValue r value context w) a
+  -- where the record has a value, each answer is one, or want of memory
+  complete : (a : Answer V) → RunRan V outcome s a → (v : V) → RecordValue r value context v
+      → IsAnswer (λ w. RecordValue r value context w) a
   complete a (run_value {v = x} {t = t} o e) v h =
       let i = from_line v h in
-      to_line x (record { cut_into = i.cut_into; cut = i.cut; read = (l.answers s t (Ok x) i.cut_into v whole o i.cut i.read).0 })
-  complete a (run_leftover {v = x} {t = t} o e n) v h = let i = from_line v h in absurd (e (counts_none t x o (l.answers s t (Ok x) i.cut_into v whole o i.cut i.read).1))
+      to_line x (record {
+        cut_into = i.cut_into;
+        cut = i.cut;
+        read =
+            (l.answers s t (Ok x) i.cut_into v whole o i.cut i.read).0;
+      })
+  complete a (run_leftover {v = x} {t = t} o e n) v h = let i = from_line v h in
+      absurd (e (counts_none t x o (l.answers s t (Ok x) i.cut_into v whole o i.cut i.read).1))
   complete a (run_memory o e) v h = tt
-  complete a (run_refusal {e = x} {t = t} o e n) v h = let i = from_line v h in absurd (e (l.answers s t (Err x) i.cut_into v whole o i.cut i.read))
+  complete a (run_refusal {e = x} {t = t} o e n) v h = let i = from_line v h in
+      absurd (e (l.answers s t (Err x) i.cut_into v whole o i.cut i.read))
 
-  -- THE THEOREM: on every line each answer of a run is a value of the record, want of memory, or a refusal where the record has no value.
+  -- THE THEOREM: on every line each answer of a run is a value of the record, want of memory, or a
+  -- refusal where the record has no value.
   pub exact : (a : Answer V) → RunRan V outcome s a → IsExact V r value context a
   exact a ran = record { sound = sound a ran; complete = complete a ran }
 
--- What is left over is refused: a line without a cut gets no value, as with a foreign key, an ArgWord after a flag's key
--- or a key without its value; nor does a line whose pieces give a field no value, as with a surplus occurrence or word.
-pub uncut_refused : (V : Type 0) (r : Roles) (value : List Piece → V → Type 0) (context : Context) (a : Answer V) (v : V) → IsExact V r value context a
+-- What is left over is refused: a line without a cut gets no value, as with a foreign key, an
+-- ArgWord after a flag's key
+-- or a key without its value; nor does a line whose pieces give a field no value, as with a surplus
+-- occurrence or word.
+pub uncut_refused : (V : Type 0) (r : Roles) (value : List Piece → V → Type 0) (context : Context)
+    (a : Answer V) (v : V) → IsExact V r value context a
     → ((os : List Piece) → Cut r (line_cells context) os → ⊥) → a ≡ Accepted v → ⊥
 uncut_refused V r value context a v e n h = let i = e.sound v h in n i.cut_into i.cut
 
-pub surplus_refused : (V : Type 0) (r : Roles) (value : List Piece → V → Type 0) (context : Context) (a : Answer V) (v : V) → IsExact V r value context a
-    → ((os : List Piece) (w : V) → Cut r (line_cells context) os → value os w → ⊥) → a ≡ Accepted v → ⊥
+-- nor does a line whose pieces give a field no value, as with one occurrence or word too many
+pub surplus_refused : (V : Type 0) (r : Roles) (value : List Piece → V → Type 0) (context : Context)
+    (a : Answer V) (v : V) → IsExact V r value context a
+    → ((os : List Piece) (w : V) → Cut r (line_cells context) os → value os w → ⊥) → a ≡ Accepted v
+    → ⊥
 surplus_refused V r value context a v e n h = let i = e.sound v h in n i.cut_into v i.cut i.read
 
 -- each answer of a run of a flat record is exact
-pub runs_exactly : (V : Type 0) (outcome : Outcome V) (names : List Names) (s : Shape V) → is_record s ≡ true → ShapeLaw outcome names s → (context : Context) → RunsExactly outcome s context
-runs_exactly V outcome names s h l context a r = exact V outcome (product_roles (record_shape s)) (product_value (record_shape s)) (record_law V outcome names s h l) context a r
+pub runs_exactly : (V : Type 0) (outcome : Outcome V) (names : List Names) (s : Shape V)
+    → is_record s ≡ true → ShapeLaw outcome names s → (context : Context)
+    → RunsExactly outcome s context
+runs_exactly V outcome names s h l context a r =
+    exact V outcome (product_roles (record_shape s)) (product_value (record_shape s))
+    (record_law V outcome names s h l) context a r

@@ -1,5 +1,6 @@
 -- Flags keep to the laws.
-use Rattle.std.proofs.Common.{◌≡◌, ℕ, true, List, [], ◌∷◌, Option, Some, None, Ok, refl, sym, ap, ◌∙◌, subst, ⊎_elim, true≢false}
+use Rattle.std.proofs.Common.{◌≡◌, ℕ, true, List, [], ◌∷◌, Option, Some, None, Ok, refl, sym, ap}
+use Rattle.std.proofs.Common.{◌∙◌, subst, ⊎_elim, true≢false}
 use Rattle.bpaf_text.specs.Named.{Named as Key, flag_part}
 use Rattle.bpaf_words.specs.Items.{is_key_of}
 use Rattle.bpaf_line.specs.declared.error.Error.{Error}
@@ -11,27 +12,35 @@ use Rattle.bpaf_laws.specs.Environment.{is_set}
 use Rattle.bpaf_laws.specs.Flag.{FlagOutcome, FlagFails}
 use Rattle.bpaf_exact.specs.Pieces.{Alone, Roles, Piece, One, IsNamed, pieces, takes_none}
 use Rattle.bpaf_exact.specs.Flat.{class, class_of, cells, IsWhole, Named}
-use Rattle.bpaf_exact.specs.Single.{Groups, Gap, FrontOf, SingleOk, gave_absent, took, SingleErr, of_memory, SingleLaw}
-use Rattle.bpaf_exact.specs.Alternative.{AlternativeOk, AlternativeErr, alternative_memory, AlternativeLaw}
+use Rattle.bpaf_exact.specs.Single.{Groups, Gap, FrontOf, SingleOk, gave_absent, took, SingleErr}
+use Rattle.bpaf_exact.specs.Single.{of_memory, SingleLaw}
+use Rattle.bpaf_exact.specs.Alternative.{AlternativeOk, AlternativeErr, alternative_memory}
+use Rattle.bpaf_exact.specs.Alternative.{AlternativeLaw}
 use Rattle.bpaf_exact.specs.Leaves.{flag_roles, FlagValue, switch_gap, flag_by, flag_field}
 use Rattle.bpaf_exact.specs.Shape.{ShapeLaw}
 use Rattle.bpaf_exact.proofs.Classes.{missing_class}
 use Rattle.bpaf_exact.proofs.Product.{steady_refl}
 use Rattle.bpaf_exact.proofs.First.{first_takes, first_pieces, takes_nonempty}
 use Rattle.bpaf_exact.proofs.Places.{take_steady}
-use Rattle.bpaf_exact.proofs.Matching.{match_of, ByTest, by_test, names_named, no_pieces, one_taken, first_alternative, missing_same, absence_missing, names_own}
+use Rattle.bpaf_exact.proofs.Matching.{match_of, ByTest, by_test, names_named, no_pieces, one_taken}
+use Rattle.bpaf_exact.proofs.Matching.{first_alternative, missing_same, absence_missing, names_own}
 
 -- a flag
-module _ (T : Type 0) (clones : T → T → Type 0) (key : Key) (present : T) (no_envs : key.envs ≡ []) where
+module _ (T : Type 0) (clones : T → T → Type 0) (key : Key) (present : T)
+    (no_envs : key.envs ≡ []) where
+  -- the items of the flag
   abbrev q : Roles
   q = flag_roles key.names
 
+  -- what its pieces mean
   abbrev value : Piece → T → Type 0
   value = FlagValue (clones present)
 
+  -- they are the keys that the flag looks for
   test : ByTest (is_key_of key.names) q Alone
   test = by_test (is_key_of key.names) Alone
 
+  -- they are keys
   named : IsNamed q
   named = names_named key.names Alone
 
@@ -40,21 +49,29 @@ module _ (T : Type 0) (clones : T → T → Type 0) (key : Key) (present : T) (n
   never_set s e = true≢false (sym e ∙ ap (is_set s.context.env) no_envs)
 
   -- a taken key is an answer
-  flag_found : (s t : Situation) (v : T) → TakesFlag key.names s true t → clones present v → AlternativeOk T q value s v t
+  flag_found : (s t : Situation) (v : T) → TakesFlag key.names s true t → clones present v
+      → AlternativeOk T q value s v t
   flag_found s t v takes y =
       let m = match_of (is_key_of key.names) s takes.0 takes.1.matches in
       subst (AlternativeOk T q value s v) (sym takes.2)
-      (first_alternative T q value s (take_place s takes.0) v (One m.item) (take_steady s takes.0) y (one_taken (is_key_of key.names) q s takes.0 test takes.1 m))
+      (first_alternative T q value s (take_place s takes.0) v (One m.item) (take_steady s takes.0) y
+      (one_taken (is_key_of key.names) q s takes.0 test takes.1 m))
 
-  flag_ok : (s t : Situation) (v : T) → IsWhole s → FlagOutcome clones key present None s (Ok v) t → AlternativeOk T q value s v t
+  -- a value is that of the first piece
+  flag_ok : (s t : Situation) (v : T) → IsWhole s → FlagOutcome clones key present None s (Ok v) t
+      → AlternativeOk T q value s v t
   flag_ok s t v w o = ⊎_elim
-      (λ here. ⊎_elim (λ takes. flag_found s t v takes here.1) (λ set. absurd (never_set s set.1)) here.0)
+      (λ here. ⊎_elim (λ takes. flag_found s t v takes here.1)
+      (λ set. absurd (never_set s set.1)) here.0)
       (λ none. absurd none.1) o
 
-  flag_err : (s t : Situation) (e : Error) (m : Message) → class e ≡ class_of m → FlagFails {T = T} key None s m t → AlternativeErr T q value s e t
+  -- a refusal: there is no piece
+  flag_err : (s t : Situation) (e : Error) (m : Message) → class e ≡ class_of m
+      → FlagFails {T = T} key None s m t → AlternativeErr T q value s e t
   flag_err s t e Memory c o = alternative_memory c
   flag_err s t e other c o =
-      missing_same T q value s t e (c ∙ missing_class other (absence_missing s (flag_part key) key.envs no_envs other o.2))
+      missing_same T q value s t e
+      (c ∙ missing_class other (absence_missing s (flag_part key) key.envs no_envs other o.2))
       (no_pieces (is_key_of key.names) q Alone s test o.0.0.0) o.0.0.1
 
   -- a flag that must be there
@@ -69,31 +86,46 @@ module _ (T : Type 0) (clones : T → T → Type 0) (key : Key) (present : T) (n
     abbrev gap : Gap T
     gap = switch_gap (clones absent)
 
-    switch_found : (s t : Situation) (v : T) → TakesFlag key.names s true t → clones present v → SingleOk T Named q group gap s v t
+    switch_found : (s t : Situation) (v : T) → TakesFlag key.names s true t → clones present v
+        → SingleOk T Named q group gap s v t
     switch_found s t v takes y =
         let m = match_of (is_key_of key.names) s takes.0 takes.1.matches in
         let h = one_taken (is_key_of key.names) q s takes.0 test takes.1 m in
         let e = first_pieces q named h in
         subst (SingleOk T Named q group gap s v) (sym takes.2)
-        (took (take_steady s takes.0) (record { piece = One m.item; middle = cells (take_place s takes.0); one = first_takes q h; more = takes_none })
+        (took (take_steady s takes.0)
+        (record {
+          piece = One m.item;
+          middle = cells (take_place s takes.0);
+          one =
+              first_takes q h;
+          more = takes_none;
+        })
         (takes_nonempty q (first_takes q h))
         (λ r. record { piece = One m.item; is = e; means = y })
         (λ x rest g.
-        let d : One m.item ∷ pieces q (cells (take_place s takes.0)) ≡ g.piece ∷ rest = sym e ∙ g.is in
+        let d : One m.item ∷ pieces q (cells (take_place s takes.0)) ≡ g.piece ∷ rest = sym e
+        ∙ g.is in
         let i : pieces q (cells (take_place s takes.0)) ≡ rest = cc in
         (record { piece = One m.item; is = e ∙ ap (λ z. One m.item ∷ z) i; means = y }, i)))
 
-    switch_none : (s t : Situation) (v : T) → HasNone (is_key_of key.names) s → t ≡ s → clones absent v → SingleOk T Named q group gap s v t
+    switch_none : (s t : Situation) (v : T) → HasNone (is_key_of key.names) s → t ≡ s
+        → clones absent v → SingleOk T Named q group gap s v t
     switch_none s t v none same y =
         subst (SingleOk T Named q group gap s v) (sym same)
-        (gave_absent refl (no_pieces (is_key_of key.names) q Alone s test none) y refl (steady_refl s))
+        (gave_absent refl (no_pieces (is_key_of key.names) q Alone s test none) y refl
+        (steady_refl s))
 
-    switch_ok : (s t : Situation) (v : T) → IsWhole s → FlagOutcome clones key present (Some absent) s (Ok v) t → SingleOk T Named q group gap s v t
+    switch_ok : (s t : Situation) (v : T) → IsWhole s
+        → FlagOutcome clones key present (Some absent) s (Ok v) t
+        → SingleOk T Named q group gap s v t
     switch_ok s t v w o = ⊎_elim
-        (λ here. ⊎_elim (λ takes. switch_found s t v takes here.1) (λ set. absurd (never_set s set.1)) here.0)
+        (λ here. ⊎_elim (λ takes. switch_found s t v takes here.1)
+        (λ set. absurd (never_set s set.1)) here.0)
         (λ none. switch_none s t v none.0.0.0 none.0.0.1 none.1) o
 
-    switch_err : (s t : Situation) (e : Error) (m : Message) → class e ≡ class_of m → FlagFails key (Some absent) s m t → SingleErr T Named q group gap s e t
+    switch_err : (s t : Situation) (e : Error) (m : Message) → class e ≡ class_of m
+        → FlagFails key (Some absent) s m t → SingleErr T Named q group gap s e t
     switch_err s t e Memory c o = of_memory c
     switch_err s t e other c o = let h = o.1 in absurd cc
 
@@ -108,11 +140,16 @@ module _ (T : Type 0) (clones : T → T → Type 0) (key : Key) (present : T) (n
     }
 
 -- a flag keeps to the laws of its shape
-pub flag_field_law : (T : Type 0) (clones : T → T → Type 0) (key : Key) (present : T) (absent : Option T)
-    → ShapeLaw (FlagOutcome clones key present absent) (key.names ∷ []) (flag_field clones key present absent)
+pub flag_field_law : (T : Type 0) (clones : T → T → Type 0) (key : Key) (present : T)
+    (absent : Option T)
+    → ShapeLaw (FlagOutcome clones key present absent) (key.names ∷ [])
+    (flag_field clones key present absent)
 flag_field_law T clones key present absent = by_envs key.envs refl absent
   where
-    by_envs : (envs : List (List ℕ)) → key.envs ≡ envs → (absent : Option T) → ShapeLaw (FlagOutcome clones key present absent) (key.names ∷ []) (flag_by clones key.names present envs absent)
+    by_envs : (envs : List (List ℕ)) → key.envs ≡ envs → (absent : Option T)
+        → ShapeLaw (FlagOutcome clones key present absent) (key.names ∷ [])
+        (flag_by clones key.names present envs absent)
     by_envs (env ∷ envs) e absent = tt
     by_envs [] e None = (flag_law T clones key present e, names_own key.names Alone refl)
-    by_envs [] e (Some absent) = (switch_law T clones key present e absent, names_own key.names Alone refl)
+    by_envs [] e (Some absent) =
+        (switch_law T clones key present e absent, names_own key.names Alone refl)

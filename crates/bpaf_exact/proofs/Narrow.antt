@@ -6,14 +6,16 @@ use Rattle.bpaf_laws.specs.Reading.{Outcome}
 use Rattle.bpaf_doc.specs.Names.{Names}
 use Rattle.bpaf_exact.specs.Pieces.{Roles, Piece}
 use Rattle.bpaf_exact.specs.Flat.{FieldsLaw}
-use Rattle.bpaf_exact.specs.Shape.{Shape, not_flat, alternative, single, complete, product, ShapeLaw}
+use Rattle.bpaf_exact.specs.Shape.{Shape, not_flat, alternative, single, complete, product}
+use Rattle.bpaf_exact.specs.Shape.{ShapeLaw}
 
 -- what b allows a allows too
 pub record AllowsNoMore (T : Type 0) (a b : Outcome T) : Type 0 where
   pub within : (s t : Situation) (r : Result T Error) → b s r t → a s r t
 
 -- so does a list of fields
-pub narrower_fields : (V : Type 0) (a b : Outcome V) → AllowsNoMore V a b → (r : Roles) (value : List Piece → V → Type 0) → FieldsLaw V a r value → FieldsLaw V b r value
+pub narrower_fields : (V : Type 0) (a b : Outcome V) → AllowsNoMore V a b
+    → (r : Roles) (value : List Piece → V → Type 0) → FieldsLaw V a r value → FieldsLaw V b r value
 narrower_fields V a b n r value l = record {
   named = l.named;
   steady = λ s t v w o. l.steady s t v w (n.within s t (Ok v) o);
@@ -22,7 +24,8 @@ narrower_fields V a b n r value l = record {
 }
 
 -- and a field of any shape
-pub narrower_shape : (T : Type 0) (a b : Outcome T) → AllowsNoMore T a b → (keys : List Names) (h : Shape T) → ShapeLaw a keys h → ShapeLaw b keys h
+pub narrower_shape : (T : Type 0) (a b : Outcome T) → AllowsNoMore T a b
+    → (keys : List Names) (h : Shape T) → ShapeLaw a keys h → ShapeLaw b keys h
 narrower_shape T a b n keys not_flat l = tt
 narrower_shape T a b n keys (alternative q value) l = (
   record {

@@ -1,10 +1,13 @@
 -- From places to cells: the first place that is wanted, and what is left when it is taken.
-use Rattle.std.proofs.Common.{◌≡◌, ◌≢◌, ℕ, suc, zero, ◌<◌, Bool, true, false, not, ◌&&◌, List, [], ◌∷◌, Option, Some, None, refl, sym, ap, ap₂, ◌∙◌, subst, if◌then◌else◌, arith}
+use Rattle.std.proofs.Common.{◌≡◌, ◌≢◌, ℕ, suc, zero, ◌<◌, Bool, true, false, not, ◌&&◌, List, []}
+use Rattle.std.proofs.Common.{◌∷◌, Option, Some, None, refl, sym, ap, ap₂, ◌∙◌, subst}
+use Rattle.std.proofs.Common.{if◌then◌else◌, arith}
 use Rattle.bpaf_words.specs.declared.arg.Arg.{Arg}
 use Rattle.bpaf_line.specs.Situation.{Situation, is_open, is_taken, in_scope, item_at, take_place}
 use Rattle.bpaf_line.specs.Taking.{open_item}
 use Rattle.bpaf_line.proofs.Places.{taken_here, taken_other}
-use Rattle.bpaf_exact.specs.Pieces.{Cells, Alone, WithNext, Roles, Piece, One, Two, is_value, with_next, pieces}
+use Rattle.bpaf_exact.specs.Pieces.{Cells, Alone, WithNext, Roles, Piece, One, Two, is_value}
+use Rattle.bpaf_exact.specs.Pieces.{with_next, pieces}
 use Rattle.bpaf_exact.specs.Flat.{first_cells, Steady}
 use Rattle.bpaf_exact.specs.Alternative.{NotOwn, TakesFirst, first_one, first_two, first_later}
 use Rattle.bpaf_exact.proofs.First.{begin_at}
@@ -14,10 +17,12 @@ pub take_steady : (s : Situation) (p : ℕ) → Steady s (take_place s p)
 take_steady s p = record { context = refl; start = refl; end = refl; path = refl }
 
 -- what is at the first places decides their cells
-pub same_cells : (at other : ℕ → Option Arg) (n : ℕ) → ((p : ℕ) → p < n → at p ≡ other p) → first_cells at n ≡ first_cells other n
+pub same_cells : (at other : ℕ → Option Arg) (n : ℕ) → ((p : ℕ) → p < n → at p ≡ other p)
+    → first_cells at n ≡ first_cells other n
 same_cells at other zero same = refl
 same_cells at other (suc n) same =
-    ap₂ ◌∷◌ (same zero (omega arith)) (same_cells (λ p. at (suc p)) (λ p. other (suc p)) n (λ p l. same (suc p) (omega arith)))
+    ap₂ ◌∷◌ (same zero (omega arith))
+    (same_cells (λ p. at (suc p)) (λ p. other (suc p)) n (λ p l. same (suc p) (omega arith)))
 
 -- no own item stands before a place
 pub record NoneBefore (r : Roles) (at : ℕ → Option Arg) (p : ℕ) : Type 0 where
@@ -35,73 +40,102 @@ pub record TakenTwo (at left : ℕ → Option Arg) (p : ℕ) : Type 0 where
   pub others : (q : ℕ) → q ≢ p → q ≢ suc p → left q ≡ at q
 
 -- the same from the second place on
-tail_before : (r : Roles) (at : ℕ → Option Arg) (p : ℕ) → NoneBefore r at (suc p) → NoneBefore r (λ q. at (suc q)) p
+tail_before : (r : Roles) (at : ℕ → Option Arg) (p : ℕ) → NoneBefore r at (suc p)
+    → NoneBefore r (λ q. at (suc q)) p
 tail_before r at p none = record { before = λ q l. none.before (suc q) (omega arith) }
 
-tail_one : (at left : ℕ → Option Arg) (p : ℕ) → TakenOne at left (suc p) → TakenOne (λ q. at (suc q)) (λ q. left (suc q)) p
-tail_one at left p taken = record { gone = taken.gone; others = λ q other. taken.others (suc q) (λ e. other (omega arith)) }
+-- so is what was taken
+tail_one : (at left : ℕ → Option Arg) (p : ℕ) → TakenOne at left (suc p)
+    → TakenOne (λ q. at (suc q)) (λ q. left (suc q)) p
+tail_one at left p taken =
+    record {
+      gone = taken.gone;
+      others =
+          λ q other. taken.others (suc q) (λ e. other (omega arith));
+    }
 
-tail_two : (at left : ℕ → Option Arg) (p : ℕ) → TakenTwo at left (suc p) → TakenTwo (λ q. at (suc q)) (λ q. left (suc q)) p
+-- and what was taken with the next
+tail_two : (at left : ℕ → Option Arg) (p : ℕ) → TakenTwo at left (suc p)
+    → TakenTwo (λ q. at (suc q)) (λ q. left (suc q)) p
 tail_two at left p taken = record {
   gone = taken.gone;
   next_gone = taken.next_gone;
-  others = λ q other next. taken.others (suc q) (λ e. other (omega arith)) (λ e. next (omega arith));
+  others = λ q other next. taken.others (suc q) (λ e. other (omega arith))
+      (λ e. next (omega arith));
 }
 
 -- the first cell is taken
-head_one : (r : Roles) (c d : Option Arg) (cs ds : Cells) (k : Arg) → c ≡ Some k → d ≡ None → ds ≡ cs → r k ≡ Alone → TakesFirst r (c ∷ cs) (One k) (d ∷ ds)
+head_one : (r : Roles) (c d : Option Arg) (cs ds : Cells) (k : Arg) → c ≡ Some k → d ≡ None
+    → ds ≡ cs → r k ≡ Alone → TakesFirst r (c ∷ cs) (One k) (d ∷ ds)
 head_one r c d cs ds k e f g h =
     subst (λ z. TakesFirst r (z ∷ cs) (One k) (d ∷ ds)) (sym e)
     (subst (λ z. TakesFirst r (Some k ∷ cs) (One k) (z ∷ ds)) (sym f)
     (subst (λ z. TakesFirst r (Some k ∷ cs) (One k) (None ∷ z)) (sym g) (first_one h)))
 
 -- the first two are taken
-head_two : (r : Roles) (c d a b : Option Arg) (cs ds : Cells) (k w : Arg) → c ≡ Some k → d ≡ Some w → a ≡ None → b ≡ None → ds ≡ cs → r k ≡ WithNext → is_value w ≡ true
+head_two : (r : Roles) (c d a b : Option Arg) (cs ds : Cells) (k w : Arg) → c ≡ Some k → d ≡ Some w
+    → a ≡ None → b ≡ None → ds ≡ cs → r k ≡ WithNext → is_value w ≡ true
     → TakesFirst r (c ∷ d ∷ cs) (Two k w) (a ∷ b ∷ ds)
 head_two r c d a b cs ds k w e f g i j h v =
     subst (λ z. TakesFirst r (z ∷ d ∷ cs) (Two k w) (a ∷ b ∷ ds)) (sym e)
     (subst (λ z. TakesFirst r (Some k ∷ z ∷ cs) (Two k w) (a ∷ b ∷ ds)) (sym f)
     (subst (λ z. TakesFirst r (Some k ∷ Some w ∷ cs) (Two k w) (z ∷ b ∷ ds)) (sym g)
     (subst (λ z. TakesFirst r (Some k ∷ Some w ∷ cs) (Two k w) (None ∷ z ∷ ds)) (sym i)
-    (subst (λ z. TakesFirst r (Some k ∷ Some w ∷ cs) (Two k w) (None ∷ None ∷ z)) (sym j) (first_two h v)))))
+    (subst (λ z. TakesFirst r (Some k ∷ Some w ∷ cs) (Two k w) (None ∷ None ∷ z)) (sym j)
+    (first_two h v)))))
 
 -- a later one is
-later : (r : Roles) (c d : Option Arg) {cs ds : Cells} {o : Piece} → d ≡ c → NotOwn r c → TakesFirst r cs o ds → TakesFirst r (c ∷ cs) o (d ∷ ds)
-later r c d {cs = cs} {ds = ds} {o = o} e n t = subst (λ z. TakesFirst r (c ∷ cs) o (z ∷ ds)) (sym e) (first_later n t)
+later : (r : Roles) (c d : Option Arg) {cs ds : Cells} {o : Piece} → d ≡ c → NotOwn r c
+    → TakesFirst r cs o ds → TakesFirst r (c ∷ cs) o (d ∷ ds)
+later r c d {cs = cs} {ds = ds} {o = o} e n t =
+    subst (λ z. TakesFirst r (c ∷ cs) o (z ∷ ds)) (sym e) (first_later n t)
 
 -- the first item that is wanted, taken by itself
-pub take_one : (r : Roles) (at left : ℕ → Option Arg) (n p : ℕ) (k : Arg) → p < n → at p ≡ Some k → r k ≡ Alone → NoneBefore r at p → TakenOne at left p
+pub take_one : (r : Roles) (at left : ℕ → Option Arg) (n p : ℕ) (k : Arg) → p < n → at p ≡ Some k
+    → r k ≡ Alone → NoneBefore r at p → TakenOne at left p
     → TakesFirst r (first_cells at n) (One k) (first_cells left n)
 take_one r at left zero p k l e h none taken = absurd (omega arith)
 take_one r at left (suc n) zero k l e h none taken =
     head_one r (at zero) (left zero) _ _ k e taken.gone
-    (same_cells (λ q. left (suc q)) (λ q. at (suc q)) n (λ q i. taken.others (suc q) (λ f. absurd (omega arith)))) h
+    (same_cells (λ q. left (suc q)) (λ q. at (suc q)) n
+    (λ q i. taken.others (suc q) (λ f. absurd (omega arith)))) h
 take_one r at left (suc n) (suc p) k l e h none taken =
-    later r (at zero) (left zero) (taken.others zero (λ f. absurd (omega arith))) (none.before zero (omega arith))
-    (take_one r (λ q. at (suc q)) (λ q. left (suc q)) n p k (omega arith) e h (tail_before r at p none) (tail_one at left p taken))
+    later r (at zero) (left zero) (taken.others zero (λ f. absurd (omega arith)))
+    (none.before zero (omega arith))
+    (take_one r (λ q. at (suc q)) (λ q. left (suc q)) n p k (omega arith) e h
+    (tail_before r at p none) (tail_one at left p taken))
 
 -- with the value after it
-pub take_two : (r : Roles) (at left : ℕ → Option Arg) (n p : ℕ) (k w : Arg) → suc p < n → at p ≡ Some k → at (suc p) ≡ Some w → r k ≡ WithNext → is_value w ≡ true
-    → NoneBefore r at p → TakenTwo at left p → TakesFirst r (first_cells at n) (Two k w) (first_cells left n)
+pub take_two : (r : Roles) (at left : ℕ → Option Arg) (n p : ℕ) (k w : Arg) → suc p < n
+    → at p ≡ Some k → at (suc p) ≡ Some w → r k ≡ WithNext → is_value w ≡ true
+    → NoneBefore r at p → TakenTwo at left p
+    → TakesFirst r (first_cells at n) (Two k w) (first_cells left n)
 take_two r at left zero p k w l e f h v none taken = absurd (omega arith)
 take_two r at left (suc zero) zero k w l e f h v none taken = absurd (omega arith)
 take_two r at left (suc (suc n)) zero k w l e f h v none taken =
-    head_two r (at zero) (at (suc zero)) (left zero) (left (suc zero)) _ _ k w e f taken.gone taken.next_gone
+    head_two r (at zero) (at (suc zero)) (left zero)
+    (left (suc zero)) _ _ k w e f taken.gone taken.next_gone
     (same_cells (λ q. left (suc (suc q))) (λ q. at (suc (suc q))) n
     (λ q i. taken.others (suc (suc q)) (λ g. absurd (omega arith)) (λ g. absurd (omega arith)))) h v
 take_two r at left (suc n) (suc p) k w l e f h v none taken =
-    later r (at zero) (left zero) (taken.others zero (λ g. absurd (omega arith)) (λ g. absurd (omega arith))) (none.before zero (omega arith))
-    (take_two r (λ q. at (suc q)) (λ q. left (suc q)) n p k w (omega arith) e f h v (tail_before r at p none) (tail_two at left p taken))
+    later r (at zero) (left zero)
+    (taken.others zero (λ g. absurd (omega arith)) (λ g. absurd (omega arith)))
+    (none.before zero (omega arith))
+    (take_two r (λ q. at (suc q)) (λ q. left (suc q)) n p k w (omega arith) e f h v
+    (tail_before r at p none) (tail_two at left p taken))
 
 -- an item that isn't the field's own heads no piece
-pub pass_head : (r : Roles) (c : Option Arg) (cs : Cells) → NotOwn r c → pieces r (c ∷ cs) ≡ pieces r cs
+pub pass_head : (r : Roles) (c : Option Arg) (cs : Cells) → NotOwn r c
+    → pieces r (c ∷ cs) ≡ pieces r cs
 pass_head r None cs n = refl
 pass_head r (Some x) cs n = begin_at x cs (pieces r cs) n
 
 -- nothing of the field's own is present
-pub none_present : (r : Roles) (at : ℕ → Option Arg) (n : ℕ) → ((q : ℕ) → NotOwn r (at q)) → pieces r (first_cells at n) ≡ []
+pub none_present : (r : Roles) (at : ℕ → Option Arg) (n : ℕ) → ((q : ℕ) → NotOwn r (at q))
+    → pieces r (first_cells at n) ≡ []
 none_present r at zero none = refl
-none_present r at (suc n) none = pass_head r (at zero) _ (none zero) ∙ none_present r (λ q. at (suc q)) n (λ q. none (suc q))
+none_present r at (suc n) none = pass_head r (at zero) _ (none zero)
+    ∙ none_present r (λ q. at (suc q)) n (λ q. none (suc q))
 
 -- a key without a value heads the pieces as it stands
 pub record BareHead (r : Roles) (cs : Cells) (k : Arg) : Type 0 where
@@ -109,7 +143,9 @@ pub record BareHead (r : Roles) (cs : Cells) (k : Arg) : Type 0 where
   pub is : pieces r cs ≡ One k ∷ tail
 
 -- a key before no value is a piece by itself
-bare_next : (k : Arg) (at : ℕ → Option Arg) (n : ℕ) → ((w : Arg) → at zero ≡ Some w → is_value w ≡ true → ⊥) → with_next k (first_cells at n) ≡ One k
+bare_next : (k : Arg) (at : ℕ → Option Arg) (n : ℕ)
+    → ((w : Arg) → at zero ≡ Some w → is_value w ≡ true → ⊥)
+    → with_next k (first_cells at n) ≡ One k
 bare_next k at zero none = refl
 bare_next k at (suc n) none = by_cell (at zero) none
   where
@@ -117,22 +153,27 @@ bare_next k at (suc n) none = by_cell (at zero) none
     by_value w true f = absurd (f refl)
     by_value w false f = refl
 
-    by_cell : (c : Option Arg) → ((w : Arg) → c ≡ Some w → is_value w ≡ true → ⊥) → with_next k (c ∷ first_cells (λ q. at (suc q)) n) ≡ One k
+    by_cell : (c : Option Arg) → ((w : Arg) → c ≡ Some w → is_value w ≡ true → ⊥)
+        → with_next k (c ∷ first_cells (λ q. at (suc q)) n) ≡ One k
     by_cell None f = refl
     by_cell (Some w) f = by_value w (is_value w) (f w refl)
 
 -- a key at the front
-bare_key : (r : Roles) (c : Option Arg) (k : Arg) (cs : Cells) → c ≡ Some k → r k ≡ WithNext → with_next k cs ≡ One k → BareHead r (c ∷ cs) k
+bare_key : (r : Roles) (c : Option Arg) (k : Arg) (cs : Cells) → c ≡ Some k → r k ≡ WithNext
+    → with_next k cs ≡ One k → BareHead r (c ∷ cs) k
 bare_key r c k cs e h n = record {
   tail = pieces r cs;
-  is = ap (λ z. pieces r (z ∷ cs)) e ∙ (begin_at k cs (pieces r cs) h ∙ ap (λ z. z ∷ pieces r cs) n);
+  is = ap (λ z. pieces r (z ∷ cs)) e
+      ∙ (begin_at k cs (pieces r cs) h ∙ ap (λ z. z ∷ pieces r cs) n);
 }
 
 -- the first key that is wanted, without a value behind it
-pub bare_first : (r : Roles) (at : ℕ → Option Arg) (n p : ℕ) (k : Arg) → p < n → at p ≡ Some k → r k ≡ WithNext → NoneBefore r at p
+pub bare_first : (r : Roles) (at : ℕ → Option Arg) (n p : ℕ) (k : Arg) → p < n → at p ≡ Some k
+    → r k ≡ WithNext → NoneBefore r at p
     → ((w : Arg) → at (suc p) ≡ Some w → is_value w ≡ true → ⊥) → BareHead r (first_cells at n) k
 bare_first r at zero p k l e h none bare = absurd (omega arith)
-bare_first r at (suc n) zero k l e h none bare = bare_key r (at zero) k _ e h (bare_next k (λ q. at (suc q)) n bare)
+bare_first r at (suc n) zero k l e h none bare =
+    bare_key r (at zero) k _ e h (bare_next k (λ q. at (suc q)) n bare)
 bare_first r at (suc n) (suc p) k l e h none bare =
     let i = bare_first r (λ q. at (suc q)) n p k (omega arith) e h (tail_before r at p none) bare in
     record { tail = i.tail; is = pass_head r (at zero) _ (none.before zero (omega arith)) ∙ i.is }
@@ -141,16 +182,19 @@ bare_first r at (suc n) (suc p) k l e h none bare =
 
 -- nothing is open at a place that is taken
 pub closed_item : (s : Situation) (p : ℕ) → is_taken s p ≡ true → open_item s p ≡ None
-closed_item s p e = ap (λ b. if (in_scope s p && not b) then item_at s p else None) e ∙ by_scope (in_scope s p)
+closed_item s p e = ap (λ b. if (in_scope s p && not b) then item_at s p else None) e
+    ∙ by_scope (in_scope s p)
   where
     by_scope : (b : Bool) → (if (b && false) then item_at s p else None) ≡ None
     by_scope true = refl
     by_scope false = refl
 
 -- a place where as much is taken as before has the item that it had
-pub same_item : (s t : Situation) (p : ℕ) → in_scope t p ≡ in_scope s p → item_at t p ≡ item_at s p → is_taken t p ≡ is_taken s p → open_item t p ≡ open_item s p
+pub same_item : (s t : Situation) (p : ℕ) → in_scope t p ≡ in_scope s p → item_at t p ≡ item_at s p
+    → is_taken t p ≡ is_taken s p → open_item t p ≡ open_item s p
 same_item s t p e f g =
-    ap₂ (λ a b. if (a && not b) then item_at t p else None) e g ∙ ap (λ z. if is_open s p then z else None) f
+    ap₂ (λ a b. if (a && not b) then item_at t p else None) e g
+    ∙ ap (λ z. if is_open s p then z else None) f
 
 -- one place taken
 pub open_one : (s : Situation) (p : ℕ) → TakenOne (open_item s) (open_item (take_place s p)) p
@@ -160,11 +204,14 @@ open_one s p = record {
 }
 
 -- and the next
-pub open_two : (s : Situation) (p : ℕ) → TakenTwo (open_item s) (open_item (take_place (take_place s p) (suc p))) p
+pub open_two : (s : Situation) (p : ℕ)
+    → TakenTwo (open_item s) (open_item (take_place (take_place s p) (suc p))) p
 open_two s p =
     let m = take_place s p in
     record {
-      gone = closed_item (take_place m (suc p)) p (taken_other m (suc p) p (λ e. absurd (omega arith)) ∙ taken_here s p);
+      gone = closed_item (take_place m (suc p)) p
+          (taken_other m (suc p) p (λ e. absurd (omega arith)) ∙ taken_here s p);
       next_gone = closed_item (take_place m (suc p)) (suc p) (taken_here m (suc p));
-      others = λ q other next. same_item s (take_place m (suc p)) q refl refl (taken_other m (suc p) q next ∙ taken_other s p q other);
+      others = λ q other next. same_item s (take_place m (suc p)) q refl refl
+          (taken_other m (suc p) q next ∙ taken_other s p q other);
     }

@@ -1,5 +1,6 @@
 -- Positional words keep to the laws.
-use Rattle.std.proofs.Common.{◌≡◌, ℕ, Bool, true, false, List, [], ◌∷◌, Some, None, Ok, Err, refl, sym, ap, ◌∙◌, subst, if◌then◌else◌, option_and_then}
+use Rattle.std.proofs.Common.{◌≡◌, ℕ, Bool, true, false, List, [], ◌∷◌, Some, None, Ok, Err, refl}
+use Rattle.std.proofs.Common.{sym, ap, ◌∙◌, subst, if◌then◌else◌, option_and_then}
 use Rattle.std.specs.Option.{option_map_or}
 use Rattle.bpaf_words.specs.declared.arg.Arg.{Arg}
 use Rattle.bpaf_words.specs.declared.arg.Arg.TheVariants.{Short, Long, ArgWord, Word, PosWord}
@@ -8,11 +9,14 @@ use Rattle.bpaf_line.specs.declared.error.Error.{Error}
 use Rattle.bpaf_line.specs.Situation.{Situation}
 use Rattle.bpaf_line.specs.Taking.{TakesText}
 use Rattle.bpaf_line.proofs.Matches.{open_item_there}
-use Rattle.bpaf_exact.specs.Pieces.{Cells, Foreign, Alone, WithNext, Piece, One, word_roles, pieces, takes_none}
+use Rattle.bpaf_exact.specs.Pieces.{Cells, Foreign, Alone, WithNext, Piece, One, word_roles, pieces}
+use Rattle.bpaf_exact.specs.Pieces.{takes_none}
 use Rattle.bpaf_exact.specs.Flat.{cells, IsWhole, Steady, OneWord, front, back}
-use Rattle.bpaf_exact.specs.Single.{Groups, FrontOf, no_gap, SingleOk, took, SingleErr, of_memory, of_missing, of_piece, WordByWord, SingleLaw}
+use Rattle.bpaf_exact.specs.Single.{Groups, FrontOf, no_gap, SingleOk, took, SingleErr, of_memory}
+use Rattle.bpaf_exact.specs.Single.{of_missing, of_piece, WordByWord, SingleLaw}
 use Rattle.bpaf_exact.specs.Alternative.{TakesFirst, first_one, first_two, first_later}
-use Rattle.bpaf_exact.specs.Leaves.{WordValue, word_field, WordRan, word_read, word_fault, word_missing, word_memory}
+use Rattle.bpaf_exact.specs.Leaves.{WordValue, word_field, WordRan, word_read, word_fault}
+use Rattle.bpaf_exact.specs.Leaves.{word_missing, word_memory}
 use Rattle.bpaf_exact.specs.Shape.{ShapeLaw}
 use Rattle.bpaf_exact.proofs.Product.{steady_refl}
 use Rattle.bpaf_exact.proofs.First.{first_takes, takes_nonempty, begin_at}
@@ -20,7 +24,8 @@ use Rattle.bpaf_exact.proofs.Places.{take_steady}
 use Rattle.bpaf_exact.proofs.Matching.{match_of, ByTest, by_test, no_pieces, one_taken}
 
 -- the text of a word is that of its item
-word_is : (w : Arg) (strict : Bool) (text : List ℕ) → word_text w ≡ Some (strict, text) → item_text w ≡ text
+word_is : (w : Arg) (strict : Bool) (text : List ℕ) → word_text w ≡ Some (strict, text)
+    → item_text w ≡ text
 word_is (Short c attached word) strict text e = absurd cc
 word_is (Long name attached word) strict text e = absurd cc
 word_is (ArgWord own) strict text e = absurd cc
@@ -29,12 +34,15 @@ word_is (PosWord own) strict text e = ap (λ z. option_map_or (λ word. word.1) 
 
 -- a positional
 module _ (T : Type 0) (means : List ℕ → T → Type 0) where
+  -- the first word and its value
   abbrev group : Groups T
   group = FrontOf T (WordValue means)
 
+  -- the words are the positional items
   test : ByTest is_positional word_roles Alone
   test = by_test is_positional Alone
 
+  -- a word is a piece by itself
   never_two : (k : Arg) → word_roles k ≡ WithNext → ⊥
   never_two k e = by_word (is_positional k) e
     where
@@ -42,7 +50,9 @@ module _ (T : Type 0) (means : List ℕ → T → Type 0) where
       by_word true h = cc
       by_word false h = cc
 
-  word_pieces : {cs ds : Cells} {o : Piece} → TakesFirst word_roles cs o ds → pieces word_roles cs ≡ o ∷ pieces word_roles ds
+  -- the first word heads the pieces
+  word_pieces : {cs ds : Cells} {o : Piece} → TakesFirst word_roles cs o ds
+      → pieces word_roles cs ≡ o ∷ pieces word_roles ds
   word_pieces (first_one {k = k} {cs = cs} e) = begin_at k cs (pieces word_roles cs) e
   word_pieces (first_two {k = k} e v) = absurd (never_two k e)
   word_pieces (first_later {c = None} h t) = word_pieces t
@@ -59,7 +69,9 @@ module _ (T : Type 0) (means : List ℕ → T → Type 0) where
     takes : TakesFirst word_roles (cells s) (One word) (cells t)
     steady : Steady s t
 
-  took_word : (s t : Situation) (p : ℕ) (strict : Bool) (text : List ℕ) → TakesText s p strict text t → TookWord s t text
+  -- a word that was taken
+  took_word : (s t : Situation) (p : ℕ) (strict : Bool) (text : List ℕ)
+      → TakesText s p strict text t → TookWord s t text
   took_word s t p strict text takes =
       let m = match_of is_positional s p takes.first.matches in
       let at = (open_item_there s p m.item m.is).1 in
@@ -70,12 +82,21 @@ module _ (T : Type 0) (means : List ℕ → T → Type 0) where
         steady = take_steady s p;
       })
 
-  word_ok : (s t : Situation) (v : T) → IsWhole s → WordRan T means s (Ok v) t → SingleOk T OneWord word_roles group (no_gap T) s v t
+  -- a value is that of the first word
+  word_ok : (s t : Situation) (v : T) → IsWhole s → WordRan T means s (Ok v) t
+      → SingleOk T OneWord word_roles group (no_gap T) s v t
   word_ok s t v w (word_read {p = p} {strict = strict} {text = text} takes y) =
       let m = took_word s t p strict text takes in
       let e = word_pieces m.takes in
       let y : means (item_text m.word) v = subst (λ z. means z v) (sym m.text_is) y in
-      took m.steady (record { piece = One m.word; middle = cells t; one = first_takes word_roles m.takes; more = takes_none })
+      took m.steady
+      (record {
+        piece = One m.word;
+        middle = cells t;
+        one =
+            first_takes word_roles m.takes;
+        more = takes_none;
+      })
       (takes_nonempty word_roles (first_takes word_roles m.takes))
       (λ r. record { piece = One m.word; is = e; means = y })
       (λ x rest i.
@@ -83,7 +104,9 @@ module _ (T : Type 0) (means : List ℕ → T → Type 0) where
       let j : pieces word_roles (cells t) ≡ rest = cc in
       (record { piece = One m.word; is = e ∙ ap (λ z. One m.word ∷ z) j; means = y }, j))
 
-  word_err : (s t : Situation) (e : Error) → IsWhole s → WordRan T means s (Err e) t → SingleErr T OneWord word_roles group (no_gap T) s e t
+  -- a refusal: there is no word, or the first can't be read
+  word_err : (s t : Situation) (e : Error) → IsWhole s → WordRan T means s (Err e) t
+      → SingleErr T OneWord word_roles group (no_gap T) s e t
   word_err s t e w (word_fault {p = p} {strict = strict} {text = text} takes n c) =
       let m = took_word s t p strict text takes in
       let i = word_pieces m.takes in
@@ -92,27 +115,31 @@ module _ (T : Type 0) (means : List ℕ → T → Type 0) where
       let d : One m.word ∷ pieces word_roles (cells t) ≡ y.piece ∷ rest = sym i ∙ y.is in
       let j : y.piece ≡ One m.word = cc in
       n x (subst (λ z. means z x) m.text_is (subst (λ z. WordValue means z x) j y.means)))
-  word_err s t e w (word_missing none c) = of_missing c refl (no_pieces is_positional word_roles Alone s test none) refl (steady_refl s)
+  word_err s t e w (word_missing none c) =
+      of_missing c refl (no_pieces is_positional word_roles Alone s test none) refl (steady_refl s)
   word_err s t e w (word_memory c) = of_memory c
 
   -- the first word alone is read
   one_by_one : WordByWord T group
   one_by_one = record { by_front = fronts; of_front = heads }
     where
-      fronts : (os : List Piece) (v : T) (rest : List Piece) → FrontOf T (WordValue means) os v rest → FrontOf T (WordValue means) (front OneWord os) v [] × (rest ≡ back OneWord os)
+      fronts : (os : List Piece) (v : T) (rest : List Piece) → FrontOf T (WordValue means) os v rest
+          → FrontOf T (WordValue means) (front OneWord os) v [] × (rest ≡ back OneWord os)
       fronts [] v rest g = let e = g.is in absurd cc
       fronts (o ∷ os) v rest g =
           let e = g.is in
           let d : o ≡ g.piece = cc in
           (record { piece = g.piece; is = ap (λ z. z ∷ []) d; means = g.means }, cc)
 
-      heads : (os : List Piece) (v : T) → FrontOf T (WordValue means) (front OneWord os) v [] → FrontOf T (WordValue means) os v (back OneWord os)
+      heads : (os : List Piece) (v : T) → FrontOf T (WordValue means) (front OneWord os) v []
+          → FrontOf T (WordValue means) os v (back OneWord os)
       heads [] v g = g
       heads (o ∷ os) v g =
           let e = g.is in
           let d : o ≡ g.piece = cc in
           record { piece = g.piece; is = ap (λ z. z ∷ os) d; means = g.means }
 
+  -- a word keeps to the laws of one evaluation
   word_law : SingleLaw T (WordRan T means) OneWord word_roles group (no_gap T)
   word_law = record {
     own = record { words = λ k. refl };
@@ -124,5 +151,6 @@ module _ (T : Type 0) (means : List ℕ → T → Type 0) where
   }
 
 -- a positional keeps to the laws of its shape
-pub word_field_law : (T : Type 0) (means : List ℕ → T → Type 0) → ShapeLaw (WordRan T means) [] (word_field means)
+pub word_field_law : (T : Type 0) (means : List ℕ → T → Type 0)
+    → ShapeLaw (WordRan T means) [] (word_field means)
 word_field_law T means = (word_law T means, record { own = λ k. refl })

@@ -1,5 +1,6 @@
 -- A field before other fields: the laws of a product from those of its parts.
-use Rattle.std.proofs.Common.{◌≡◌, true, false, List, [], ◌∷◌, length, Some, Result, Ok, Err, refl, inl, inr, Bool, sym, ap, ◌∙◌, subst, if◌then◌else◌}
+use Rattle.std.proofs.Common.{◌≡◌, true, false, List, [], ◌∷◌, length, Some, Result, Ok, Err, refl}
+use Rattle.std.proofs.Common.{inl, inr, Bool, sym, ap, ◌∙◌, subst, if◌then◌else◌}
 use Rattle.bpaf_words.specs.declared.arg.Arg.{Arg}
 use Rattle.bpaf_line.specs.declared.error.Error.{Error}
 use Rattle.bpaf_line.specs.Situation.{Situation}
@@ -7,10 +8,17 @@ use Rattle.bpaf_line.specs.Messages.{is_memory}
 use Rattle.bpaf_laws.specs.Product.{BothOutcome, joined}
 use Rattle.bpaf_laws.specs.Reading.{Outcome}
 use Rattle.bpaf_laws.specs.Spared.{IsNotMemory}
-use Rattle.bpaf_exact.specs.Pieces.{Cells, Role, Foreign, Alone, WithNext, Roles, Piece, One, Two, is_own_role, is_own, others, either_role, either, IsNamed, Apart, Cut, at_end, passed, flag, argument, word, begin_piece, pieces, TakesSome}
-use Rattle.bpaf_exact.specs.Flat.{cells, NonePresent, IsWhole, Steady, Kind, Named, OneWord, EachWord, front, back, share, left, keys, IsWords, OwnItems, LeavesNone, FieldTook, FieldLaw, ReadOff, GivesAll, FieldsLaw, Before, BothValue, Gives, class, OfMemory}
+use Rattle.bpaf_exact.specs.Pieces.{Cells, Role, Foreign, Alone, WithNext, Roles, Piece, One, Two}
+use Rattle.bpaf_exact.specs.Pieces.{is_own_role, is_own, others, either_role, either, IsNamed}
+use Rattle.bpaf_exact.specs.Pieces.{Apart, Cut, at_end, passed, flag, argument, word, begin_piece}
+use Rattle.bpaf_exact.specs.Pieces.{pieces, TakesSome}
+use Rattle.bpaf_exact.specs.Flat.{cells, NonePresent, IsWhole, Steady, Kind, Named, OneWord}
+use Rattle.bpaf_exact.specs.Flat.{EachWord, front, back, share, left, keys, IsWords, OwnItems}
+use Rattle.bpaf_exact.specs.Flat.{LeavesNone, FieldTook, FieldLaw, ReadOff, GivesAll, FieldsLaw}
+use Rattle.bpaf_exact.specs.Flat.{Before, BothValue, Gives, class, OfMemory}
 use Rattle.bpaf_exact.proofs.Classes.{memory_class, not_memory}
-use Rattle.bpaf_exact.proofs.Cells.{value_not_key, word_not_key, pieces_of_cut, put_back_some, take_some_from}
+use Rattle.bpaf_exact.proofs.Cells.{value_not_key, word_not_key, pieces_of_cut, put_back_some}
+use Rattle.bpaf_exact.proofs.Cells.{take_some_from}
 use Rattle.bpaf_exact.proofs.Words.{NoKeys, put_words_back, take_words_from, words_of_cut}
 
 -- the scope stays the whole line
@@ -20,133 +28,217 @@ whole_after s t w k = record {
   end = k.end ∙ (w.end ∙ ap (λ c. length c.line) (sym k.context));
 }
 
+-- nothing has changed
 pub steady_refl : (s : Situation) → Steady s s
 steady_refl s = record { context = refl; start = refl; end = refl; path = refl }
 
+-- nor in two steps
 pub steady_trans : {s m t : Situation} → Steady s m → Steady m t → Steady s t
-steady_trans a b = record { context = b.context ∙ a.context; start = b.start ∙ a.start; end = b.end ∙ a.end; path = b.path ∙ a.path }
+steady_trans a b =
+    record {
+      context = b.context ∙ a.context;
+      start = b.start ∙ a.start;
+      end = b.end
+          ∙ a.end;
+      path = b.path ∙ a.path;
+    }
 
-begin_foreign : {x : Role} (k : Arg) (cs : Cells) (os : List Piece) → x ≡ Foreign → begin_piece x k cs os ≡ os
+-- an item that isn't the field's own begins no piece
+begin_foreign : {x : Role} (k : Arg) (cs : Cells) (os : List Piece) → x ≡ Foreign
+    → begin_piece x k cs os ≡ os
 begin_foreign k cs os e = ap (λ z. begin_piece z k cs os) e
 
 -- A cut by the keys of others holds no key of one's own.
-no_own_in_cut : (q r : Roles) {cs : Cells} {os : List Piece} → IsNamed q → Apart q r → Cut r cs os → pieces q cs ≡ []
+no_own_in_cut : (q r : Roles) {cs : Cells} {os : List Piece} → IsNamed q → Apart q r → Cut r cs os
+    → pieces q cs ≡ []
 no_own_in_cut q r n a at_end = refl
 no_own_in_cut q r n a (passed c) = no_own_in_cut q r n a c
-no_own_in_cut q r n a (flag {k = k} {cs = cs} e c) = begin_foreign k cs (pieces q cs) (a.right k (ap is_own_role e)) ∙ no_own_in_cut q r n a c
+no_own_in_cut q r n a (flag {k = k} {cs = cs} e c) =
+    begin_foreign k cs (pieces q cs) (a.right k (ap is_own_role e)) ∙ no_own_in_cut q r n a c
 no_own_in_cut q r n a (argument {k = k} {w = w} {cs = cs} e v c) =
-    begin_foreign k (Some w ∷ cs) (pieces q (Some w ∷ cs)) (a.right k (ap is_own_role e)) ∙ (begin_foreign w cs (pieces q cs) (n.only_keys w (value_not_key w v)) ∙ no_own_in_cut q r n a c)
-no_own_in_cut q r n a (word {w = w} {cs = cs} h c) = begin_foreign w cs (pieces q cs) (n.only_keys w (word_not_key w h)) ∙ no_own_in_cut q r n a c
+    begin_foreign k (Some w ∷ cs) (pieces q (Some w ∷ cs)) (a.right k (ap is_own_role e))
+    ∙ (begin_foreign w cs (pieces q cs) (n.only_keys w (value_not_key w v))
+    ∙ no_own_in_cut q r n a c)
+no_own_in_cut q r n a (word {w = w} {cs = cs} h c) =
+    begin_foreign w cs (pieces q cs) (n.only_keys w (word_not_key w h)) ∙ no_own_in_cut q r n a c
 
+-- an item that isn't the first's has the role that it has to the second
 either_foreign : (x y z : Role) → x ≡ Foreign → y ≡ z → either_role x y ≡ z
 either_foreign Foreign y z e h = h
 either_foreign Alone y z e h = cc
 either_foreign WithNext y z e h = cc
 
-others_foreign : (q : Roles) (o : Piece) (os ps : List Piece) → is_own q o ≡ false → others q os ≡ ps → others q (o ∷ os) ≡ o ∷ ps
-others_foreign q o os ps h e = ap (λ b. if b then others q os else (o ∷ others q os)) h ∙ ap (λ z. o ∷ z) e
+-- a piece of others is one of them
+others_foreign : (q : Roles) (o : Piece) (os ps : List Piece) → is_own q o ≡ false
+    → others q os ≡ ps → others q (o ∷ os) ≡ o ∷ ps
+others_foreign q o os ps h e = ap (λ b. if b then others q os else (o ∷ others q os)) h
+    ∙ ap (λ z. o ∷ z) e
 
 -- a cut whose pieces are all of others
 record Widened (q r : Roles) (cs : Cells) (os : List Piece) : Type 0 where
   cut : Cut (either q r) cs os
   all : others q os ≡ os
 
-widen : (q r : Roles) {cs : Cells} {os : List Piece} → IsNamed q → Apart q r → Cut r cs os → Widened q r cs os
+-- a cut by the others' keys is one by all
+widen : (q r : Roles) {cs : Cells} {os : List Piece} → IsNamed q → Apart q r → Cut r cs os
+    → Widened q r cs os
 widen q r n a at_end = record { cut = at_end; all = refl }
 widen q r n a (passed c) = let i = widen q r n a c in record { cut = passed i.cut; all = i.all }
 widen q r n a (flag {k = k} {os = os} e c) =
     let i = widen q r n a c in
     let f = a.right k (ap is_own_role e) in
-    record { cut = flag (either_foreign (q k) (r k) Alone f e) i.cut; all = others_foreign q (One k) os os (ap is_own_role f) i.all }
+    record {
+      cut = flag (either_foreign (q k) (r k) Alone f e) i.cut;
+      all =
+          others_foreign q (One k) os os (ap is_own_role f) i.all;
+    }
 widen q r n a (argument {k = k} {w = w} {os = os} e v c) =
     let i = widen q r n a c in
     let f = a.right k (ap is_own_role e) in
-    record { cut = argument (either_foreign (q k) (r k) WithNext f e) v i.cut; all = others_foreign q (Two k w) os os (ap is_own_role f) i.all }
+    record {
+      cut = argument (either_foreign (q k) (r k) WithNext f e) v i.cut;
+      all =
+          others_foreign q (Two k w) os os (ap is_own_role f) i.all;
+    }
 widen q r n a (word {w = w} {os = os} h c) =
     let i = widen q r n a c in
-    record { cut = word h i.cut; all = others_foreign q (One w) os os (ap is_own_role (n.only_keys w (word_not_key w h))) i.all }
+    record {
+      cut = word h i.cut;
+      all =
+          others_foreign q (One w) os os (ap is_own_role (n.only_keys w (word_not_key w h))) i.all;
+    }
 
+-- a cut by the others' keys alone
 record Narrowed (q r : Roles) (cs : Cells) (os : List Piece) : Type 0 where
   cut : Cut r cs os
   all : others q os ≡ os
 
-nil_foreign : (x : Role) (k : Arg) (cs : Cells) (os : List Piece) → begin_piece x k cs os ≡ [] → x ≡ Foreign
+-- where no piece begins the item isn't the field's own
+nil_foreign : (x : Role) (k : Arg) (cs : Cells) (os : List Piece) → begin_piece x k cs os ≡ []
+    → x ≡ Foreign
 nil_foreign Foreign k cs os e = refl
 nil_foreign Alone k cs os e = cc
 nil_foreign WithNext k cs os e = cc
 
-nil_rest : (x : Role) (k : Arg) (cs : Cells) (os : List Piece) → begin_piece x k cs os ≡ [] → os ≡ []
+-- and no piece is behind
+nil_rest : (x : Role) (k : Arg) (cs : Cells) (os : List Piece) → begin_piece x k cs os ≡ []
+    → os ≡ []
 nil_rest Foreign k cs os e = e
 nil_rest Alone k cs os e = cc
 nil_rest WithNext k cs os e = cc
 
+-- then it has its role to the others
 other_role : (x y z : Role) → x ≡ Foreign → either_role x y ≡ z → y ≡ z
 other_role Foreign y z e h = h
 other_role Alone y z e h = cc
 other_role WithNext y z e h = cc
 
-narrow : (q r : Roles) {cs : Cells} {os : List Piece} → IsNamed q → pieces q cs ≡ [] → Cut (either q r) cs os → Narrowed q r cs os
+-- where the field has no piece left the cut is one by the others' keys
+narrow : (q r : Roles) {cs : Cells} {os : List Piece} → IsNamed q → pieces q cs ≡ []
+    → Cut (either q r) cs os → Narrowed q r cs os
 narrow q r n p at_end = record { cut = at_end; all = refl }
 narrow q r n p (passed c) = let i = narrow q r n p c in record { cut = passed i.cut; all = i.all }
 narrow q r n p (flag {k = k} {cs = cs} {os = os} e c) =
     let f = nil_foreign (q k) k cs (pieces q cs) p in
     let i = narrow q r n (nil_rest (q k) k cs (pieces q cs) p) c in
-    record { cut = flag (other_role (q k) (r k) Alone f e) i.cut; all = others_foreign q (One k) os os (ap is_own_role f) i.all }
+    record {
+      cut = flag (other_role (q k) (r k) Alone f e) i.cut;
+      all =
+          others_foreign q (One k) os os (ap is_own_role f) i.all;
+    }
 narrow q r n p (argument {k = k} {w = w} {cs = cs} {os = os} e v c) =
     let f = nil_foreign (q k) k (Some w ∷ cs) (pieces q (Some w ∷ cs)) p in
-    let i = narrow q r n (nil_rest (q w) w cs (pieces q cs) (nil_rest (q k) k (Some w ∷ cs) (pieces q (Some w ∷ cs)) p)) c in
-    record { cut = argument (other_role (q k) (r k) WithNext f e) v i.cut; all = others_foreign q (Two k w) os os (ap is_own_role f) i.all }
+    let i = narrow q r n
+    (nil_rest (q w) w cs (pieces q cs)
+    (nil_rest (q k) k (Some w ∷ cs) (pieces q (Some w ∷ cs)) p)) c in
+    record {
+      cut = argument (other_role (q k) (r k) WithNext f e) v i.cut;
+      all =
+          others_foreign q (Two k w) os os (ap is_own_role f) i.all;
+    }
 narrow q r n p (word {w = w} {cs = cs} {os = os} h c) =
     let i = narrow q r n (nil_rest (q w) w cs (pieces q cs) p) c in
-    record { cut = word h i.cut; all = others_foreign q (One w) os os (ap is_own_role (n.only_keys w (word_not_key w h))) i.all }
+    record {
+      cut = word h i.cut;
+      all =
+          others_foreign q (One w) os os (ap is_own_role (n.only_keys w (word_not_key w h))) i.all;
+    }
 
 -- What is read off the pieces, seen from before a field was evaluated.
 
+-- a cut from before a field was evaluated, with its share and what it left
 pub record StepBack (k : Kind) (q r : Roles) (cs : Cells) (after : List Piece) : Type 0 where
   pub before : List Piece
   pub cut : Cut (either (keys k q) r) cs before
   pub leaves : left k q before ≡ after
   pub own : front k (pieces q cs) ≡ share k q before
 
-named_back : (q r : Roles) {cs ds : Cells} {os : List Piece} → IsNamed q → Apart q r → TakesSome q cs ds → Cut r ds os → StepBack Named q r cs os
+-- that of a named field
+named_back : (q r : Roles) {cs ds : Cells} {os : List Piece} → IsNamed q → Apart q r
+    → TakesSome q cs ds → Cut r ds os → StepBack Named q r cs os
 named_back q r n a t c =
     let w = widen q r n a c in
     let p = put_back_some q r t w.cut in
-    record { before = p.now; cut = p.cut; leaves = p.alike ∙ w.all; own = pieces_of_cut q r n p.cut }
+    record {
+      before = p.now;
+      cut = p.cut;
+      leaves = p.alike
+          ∙ w.all;
+      own = pieces_of_cut q r n p.cut;
+    }
 
-each_back : (q r : Roles) {cs ds : Cells} {os : List Piece} → IsWords q → NoKeys r → TakesSome q cs ds → pieces q ds ≡ [] → Cut r ds os → StepBack EachWord q r cs os
+-- of a positional one with a repeat
+each_back : (q r : Roles) {cs ds : Cells} {os : List Piece} → IsWords q → NoKeys r
+    → TakesSome q cs ds → pieces q ds ≡ [] → Cut r ds os → StepBack EachWord q r cs os
 each_back q r n f t e c =
     let p = put_words_back q r n f t c in
     let all = words_of_cut q r n f p.cut in
     record { before = p.words; cut = p.cut; leaves = sym e ∙ words_of_cut q r n f c; own = all }
 
-one_back : (q r : Roles) {cs ds : Cells} {os : List Piece} → IsWords q → NoKeys r → TakesSome q cs ds → pieces q ds ≡ back OneWord (pieces q cs) → Cut r ds os
+-- of one without
+one_back : (q r : Roles) {cs ds : Cells} {os : List Piece} → IsWords q → NoKeys r
+    → TakesSome q cs ds → pieces q ds ≡ back OneWord (pieces q cs) → Cut r ds os
     → StepBack OneWord q r cs os
 one_back q r {cs = cs} {os = os} n f t e c =
     let p = put_words_back q r n f t c in
     let all = words_of_cut q r n f p.cut in
     let was : back OneWord (pieces q cs) ≡ os = sym e ∙ words_of_cut q r n f c in
-    record { before = p.words; cut = p.cut; leaves = ap (back OneWord) (sym all) ∙ was; own = ap (front OneWord) all }
+    record {
+      before = p.words;
+      cut = p.cut;
+      leaves = ap (back OneWord) (sym all)
+          ∙ was;
+      own = ap (front OneWord) all;
+    }
 
-pub step_back : (k : Kind) (q r : Roles) (T : Type 0) (value : List Piece → T → Type 0) {s m : Situation} {v : T} {os : List Piece}
-    → OwnItems k q → Before k q r → FieldTook T k q value s v m → Cut r (cells m) os → StepBack k q r (cells s) os
+-- of any field
+pub step_back : (k : Kind) (q r : Roles) (T : Type 0)
+    (value : List Piece → T → Type 0) {s m : Situation} {v : T} {os : List Piece}
+    → OwnItems k q → Before k q r → FieldTook T k q value s v m → Cut r (cells m) os
+    → StepBack k q r (cells s) os
 step_back Named q r T value n b f c = named_back q r n b f.takes c
 step_back OneWord q r T value n b f c = one_back q r n (record { none = b }) f.takes (f.rest tt) c
 step_back EachWord q r T value n b f c = each_back q r n (record { none = b }) f.takes (f.rest tt) c
 
-pub none_left : (k : Kind) (q r : Roles) {cs : Cells} {os : List Piece} → OwnItems k q → Before k q r → Cut r cs os → LeavesNone k q cs
+-- a field that left nothing of its own
+pub none_left : (k : Kind) (q r : Roles) {cs : Cells} {os : List Piece} → OwnItems k q
+    → Before k q r → Cut r cs os → LeavesNone k q cs
 none_left Named q r n b c = no_own_in_cut q r n b c
 none_left OneWord q r n b c = tt
 none_left EachWord q r n b c = tt
 
 -- The cut after a field was evaluated.
 
-pub own_share : (k : Kind) (q r : Roles) {cs : Cells} {os : List Piece} → OwnItems k q → Before k q r → Cut (either (keys k q) r) cs os → front k (pieces q cs) ≡ share k q os
+-- a field's own pieces are its share of the cut
+pub own_share : (k : Kind) (q r : Roles) {cs : Cells} {os : List Piece} → OwnItems k q
+    → Before k q r → Cut (either (keys k q) r) cs os → front k (pieces q cs) ≡ share k q os
 own_share Named q r n b c = pieces_of_cut q r n c
 own_share OneWord q r n b c = ap (front OneWord) (words_of_cut q r n (record { none = b }) c)
 own_share EachWord q r n b c = words_of_cut q r n (record { none = b }) c
 
-pub step_on : (k : Kind) (q r : Roles) {cs ds : Cells} {os : List Piece} → OwnItems k q → Before k q r → TakesSome q cs ds → pieces q ds ≡ back k (pieces q cs)
+-- the cut after a field was evaluated
+pub step_on : (k : Kind) (q r : Roles) {cs ds : Cells} {os : List Piece} → OwnItems k q
+    → Before k q r → TakesSome q cs ds → pieces q ds ≡ back k (pieces q cs)
     → Cut (either (keys k q) r) cs os → Cut r ds (left k q os)
 step_on Named q r n b t e c =
     let p = take_some_from q r n t c in
@@ -155,7 +247,8 @@ step_on Named q r n b t e c =
 step_on OneWord q r {cs = cs} {os = os} n b t e c =
     let f : NoKeys r = record { none = b } in
     let p = take_words_from q r n f t c in
-    let was : back OneWord (pieces q cs) ≡ back OneWord os = ap (back OneWord) (words_of_cut q r n f c) in
+    let was : back OneWord (pieces q cs)
+    ≡ back OneWord os = ap (back OneWord) (words_of_cut q r n f c) in
     subst (Cut r _) (sym (words_of_cut q r n f p.cut) ∙ (e ∙ was)) p.cut
 step_on EachWord q r n b t e c =
     let f : NoKeys r = record { none = b } in
@@ -164,20 +257,27 @@ step_on EachWord q r n b t e c =
 
 -- Fields before others keep to the laws.
 
+-- the keys of all are keys
 both_named : (k : Kind) (q r : Roles) → OwnItems k q → IsNamed r → IsNamed (either (keys k q) r)
-both_named Named q r n m = record { only_keys = λ a h. either_foreign (q a) (r a) Foreign (n.only_keys a h) (m.only_keys a h) }
+both_named Named q r n m =
+    record {
+      only_keys =
+          λ a h. either_foreign (q a) (r a) Foreign (n.only_keys a h) (m.only_keys a h);
+    }
 both_named OneWord q r n m = m
 both_named EachWord q r n m = m
 
 -- two values of fields that were all evaluated
-record ValuesOfBoth (A B : Type 0) (first : Outcome A) (rest : Outcome B) (s : Situation) (v : A × B) (t : Situation) : Type 0 where
+record ValuesOfBoth (A B : Type 0) (first : Outcome A) (rest : Outcome B) (s : Situation)
+    (v : A × B) (t : Situation) : Type 0 where
   middle : Situation
   first_ran : first s (Ok v.0) middle
   rest_ran : rest middle (Ok v.1) t
 
 module _ (A B : Type 0) (first : Outcome A) (rest : Outcome B) where
   -- joined answers are a value where both are
-  joined_values : (s m t : Situation) (a : Result A Error) (b : Result B Error) (v : A × B) → first s a m → rest m b t → Ok v ≡ joined a b → ValuesOfBoth A B first rest s v t
+  joined_values : (s m t : Situation) (a : Result A Error) (b : Result B Error) (v : A × B)
+      → first s a m → rest m b t → Ok v ≡ joined a b → ValuesOfBoth A B first rest s v t
   joined_values s m t (Ok a) (Ok b) v f g e =
       let d : v ≡ (a, b) = cc in
       record {
@@ -194,18 +294,26 @@ module _ (A B : Type 0) (first : Outcome A) (rest : Outcome B) where
       by_test false j = absurd cc
 
   -- the values of a product are those of its fields
-  values_of_both : (s t : Situation) (v : A × B) → BothOutcome first rest s (Ok v) t → ValuesOfBoth A B first rest s v t
+  values_of_both : (s t : Situation) (v : A × B) → BothOutcome first rest s (Ok v) t
+      → ValuesOfBoth A B first rest s v t
   values_of_both s t v o = joined_values s o.middle t o.a o.b v o.first_ran o.rest_ran o.answer
 
-module _ (A B : Type 0) (first : Outcome A) (rest : Outcome B) (k : Kind) (q r : Roles) (fv : List Piece → A → Type 0) (rv : List Piece → B → Type 0)
+module _ (A B : Type 0) (first : Outcome A) (rest : Outcome B) (k : Kind) (q r : Roles)
+    (fv : List Piece → A → Type 0) (rv : List Piece → B → Type 0)
     (lf : FieldLaw A first k q fv) (lr : FieldsLaw B rest r rv) (b : Before k q r) where
-  both_steady : (s t : Situation) (v : A × B) → IsWhole s → BothOutcome first rest s (Ok v) t → Steady s t
+  -- a product changes nothing but what is taken
+  both_steady : (s t : Situation) (v : A × B) → IsWhole s → BothOutcome first rest s (Ok v) t
+      → Steady s t
   both_steady s t v w o =
       let h = values_of_both A B first rest s t v o in
       let i = lf.ok s h.middle v.0 w h.first_ran in
-      steady_trans i.steady (lr.steady h.middle t v.1 (whole_after s h.middle w i.steady) h.rest_ran)
+      steady_trans i.steady
+      (lr.steady h.middle t v.1 (whole_after s h.middle w i.steady) h.rest_ran)
 
-  both_reads : (s t : Situation) (v : A × B) → IsWhole s → BothOutcome first rest s (Ok v) t → NonePresent (cells t) → ReadOff (A × B) (either (keys k q) r) (BothValue k q fv rv) (cells s) v
+  -- its values are read off a cut
+  both_reads : (s t : Situation) (v : A × B) → IsWhole s → BothOutcome first rest s (Ok v) t
+      → NonePresent (cells t)
+      → ReadOff (A × B) (either (keys k q) r) (BothValue k q fv rv) (cells s) v
   both_reads s t v w o e =
       let h = values_of_both A B first rest s t v o in
       let i = lf.ok s h.middle v.0 w h.first_ran in
@@ -214,44 +322,70 @@ module _ (A B : Type 0) (first : Outcome A) (rest : Outcome B) (k : Kind) (q r :
       record {
         cut_into = p.before;
         cut = p.cut;
-        read = (subst (λ os. fv os v.0) p.own (i.read (none_left k q r lf.own b after.cut)), subst (λ os. rv os v.1) (sym p.leaves) after.read);
+        read = (
+          subst (λ os. fv os v.0) p.own (i.read (none_left k q r lf.own b after.cut)),
+          subst
+              (λ os. rv os v.1) (sym p.leaves) after.read,
+        );
       }
 
   -- where the cut has values, the first field answers one, or want of memory
-  first_gives : (s m : Situation) (a : Result A Error) (os : List Piece) (v : A × B) → IsWhole s → first s a m → Cut (either (keys k q) r) (cells s) os → BothValue k q fv rv os v
+  first_gives : (s m : Situation) (a : Result A Error) (os : List Piece) (v : A × B) → IsWhole s
+      → first s a m → Cut (either (keys k q) r) (cells s) os → BothValue k q fv rv os v
       → Gives q (fv (front k (pieces q (cells s)))) (back k (pieces q (cells s))) a m
-  first_gives s m a os v w f c h = lf.answers s m a v.0 w f (subst (λ z. fv z v.0) (sym (own_share k q r lf.own b c)) h.0)
+  first_gives s m a os v w f c h =
+      lf.answers s m a v.0 w f (subst (λ z. fv z v.0) (sym (own_share k q r lf.own b c)) h.0)
 
   -- and then so do the others
-  rest_gives : (s m t : Situation) (x : A) (y : Result B Error) (os : List Piece) (v : A × B) → IsWhole s → first s (Ok x) m → rest m y t → Cut (either (keys k q) r) (cells s) os
+  rest_gives : (s m t : Situation) (x : A) (y : Result B Error) (os : List Piece) (v : A × B)
+      → IsWhole s → first s (Ok x) m → rest m y t → Cut (either (keys k q) r) (cells s) os
       → BothValue k q fv rv os v → GivesAll (rv (left k q os)) y t
   rest_gives s m t x y os v w f g c h =
       let i = lf.ok s m x w f in
       let j = first_gives s m (Ok x) os v w f c h in
-      lr.answers m t y (left k q os) v.1 (whole_after s m w i.steady) g (step_on k q r lf.own b i.takes j.1 c) h.1
+      lr.answers m t y (left k q os) v.1 (whole_after s m w i.steady) g
+      (step_on k q r lf.own b i.takes j.1 c) h.1
 
-  both_values : (s t : Situation) (u : A × B) (os : List Piece) (v : A × B) → IsWhole s → BothOutcome first rest s (Ok u) t
-      → Cut (either (keys k q) r) (cells s) os → BothValue k q fv rv os v → GivesAll (BothValue k q fv rv os) (Ok u) t
+  -- where the cut has values, the values of a product are such
+  both_values : (s t : Situation) (u : A × B) (os : List Piece) (v : A × B) → IsWhole s
+      → BothOutcome first rest s (Ok u) t
+      → Cut (either (keys k q) r) (cells s) os → BothValue k q fv rv os v
+      → GivesAll (BothValue k q fv rv os) (Ok u) t
   both_values s t u os v w o c h =
       let i = values_of_both A B first rest s t u o in
       let j = first_gives s i.middle (Ok u.0) os v w i.first_ran c h in
       let l = rest_gives s i.middle t u.0 (Ok u.1) os v w i.first_ran i.rest_ran c h in
       ((subst (λ z. fv z u.0) (own_share k q r lf.own b c) j.0, l.0), l.1)
 
-  both_fails : (s m t : Situation) (x : Result A Error) (y : Result B Error) (e : Error) (os : List Piece) (v : A × B) → IsWhole s → first s x m → rest m y t → IsNotMemory x → Err e ≡ joined x y
+  -- and a refusal is want of memory
+  both_fails : (s m t : Situation) (x : Result A Error) (y : Result B Error) (e : Error)
+      (os : List Piece) (v : A × B) → IsWhole s → first s x m → rest m y t → IsNotMemory x
+      → Err e ≡ joined x y
       → Cut (either (keys k q) r) (cells s) os → BothValue k q fv rv os v → class e ≡ OfMemory
   both_fails s m t (Ok x) (Ok y) e os v w f g spared i c h = absurd cc
   both_fails s m t (Ok x) (Err y) e os v w f g spared i c h =
       let d : e ≡ y = cc in
       ap class d ∙ rest_gives s m t x (Err y) os v w f g c h
-  both_fails s m t (Err x) y e os v w f g spared i c h = absurd (not_memory x.0 spared (first_gives s m (Err x) os v w f c h))
+  both_fails s m t (Err x) y e os v w f g spared i c h =
+      absurd (not_memory x.0 spared (first_gives s m (Err x) os v w f c h))
 
-  both_answers : (s t : Situation) (a : Result (A × B) Error) (os : List Piece) (v : A × B) → IsWhole s → BothOutcome first rest s a t
-      → Cut (either (keys k q) r) (cells s) os → BothValue k q fv rv os v → GivesAll (BothValue k q fv rv os) a t
+  -- each answer
+  both_answers : (s t : Situation) (a : Result (A × B) Error) (os : List Piece) (v : A × B)
+      → IsWhole s → BothOutcome first rest s a t
+      → Cut (either (keys k q) r) (cells s) os → BothValue k q fv rv os v
+      → GivesAll (BothValue k q fv rv os) a t
   both_answers s t (Ok u) os v w o c h = both_values s t u os v w o c h
-  both_answers s t (Err e) os v w (inl o) c h = both_fails s o.middle t o.a o.b e os v w o.first_ran o.rest_ran o.spared o.answer c h
+  both_answers s t (Err e) os v w (inl o) c h =
+      both_fails s o.middle t o.a o.b e os v w o.first_ran o.rest_ran o.spared o.answer c h
   both_answers s t (Err e) os v w (inr o) c h = memory_class e.0 o.1
 
   -- a flat field before flat fields: together they keep to the laws
-  pub both_law : FieldsLaw (A × B) (BothOutcome first rest) (either (keys k q) r) (BothValue k q fv rv)
-  both_law = record { named = both_named k q r lf.own lr.named; steady = both_steady; ok = both_reads; answers = both_answers }
+  pub both_law : FieldsLaw (A × B) (BothOutcome first rest) (either (keys k q) r)
+      (BothValue k q fv rv)
+  both_law = record {
+    named = both_named k q r lf.own lr.named;
+    steady = both_steady;
+    ok =
+        both_reads;
+    answers = both_answers;
+  }

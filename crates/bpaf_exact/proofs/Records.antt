@@ -1,11 +1,15 @@
 -- The last field of a product, and its constructor.
-use Rattle.std.proofs.Common.{◌≡◌, List, [], ◌∷◌, Some, None, Result, Ok, Err, refl, sym, ap, ◌∙◌, subst, arith}
+use Rattle.std.proofs.Common.{◌≡◌, List, [], ◌∷◌, Some, None, Result, Ok, Err, refl, sym, ap, ◌∙◌}
+use Rattle.std.proofs.Common.{subst, arith}
 use Rattle.bpaf_line.specs.declared.error.Error.{Error}
 use Rattle.bpaf_line.specs.Situation.{Situation, with_current}
 use Rattle.bpaf_laws.specs.Product.{ProductOutcome}
 use Rattle.bpaf_laws.specs.Reading.{Outcome}
-use Rattle.bpaf_exact.specs.Pieces.{Cells, Roles, Role, Foreign, Alone, WithNext, Piece, IsNamed, Cut, either, either_role, no_roles}
-use Rattle.bpaf_exact.specs.Flat.{cells, NonePresent, no_place, none_here, IsWhole, Steady, Kind, Named, OneWord, EachWord, keys, OwnItems, FieldLaw, FieldsLaw, ReadOff, GivesAll, Before}
+use Rattle.bpaf_exact.specs.Pieces.{Cells, Roles, Role, Foreign, Alone, WithNext, Piece, IsNamed}
+use Rattle.bpaf_exact.specs.Pieces.{Cut, either, either_role, no_roles}
+use Rattle.bpaf_exact.specs.Flat.{cells, NonePresent, no_place, none_here, IsWhole, Steady, Kind}
+use Rattle.bpaf_exact.specs.Flat.{Named, OneWord, EachWord, keys, OwnItems, FieldLaw, FieldsLaw}
+use Rattle.bpaf_exact.specs.Flat.{ReadOff, GivesAll, Before}
 use Rattle.bpaf_exact.specs.Single.{present_count}
 use Rattle.bpaf_exact.specs.Wrappers.{map_closure, ClosedValue}
 use Rattle.bpaf_exact.specs.Record.{LastValue}
@@ -18,12 +22,15 @@ none_counted [] e = no_place
 none_counted (None ∷ cs) e = none_here (none_counted cs e)
 none_counted (Some x ∷ cs) e = absurd (omega arith)
 
+-- and the other way
 pub count_none : {cs : Cells} → NonePresent cs → present_count cs ≡ 0
 count_none no_place = refl
 count_none (none_here n) = count_none n
 
 -- The last field of a product, or a record of one field alone.
-module _ (T : Type 0) (outcome : Outcome T) (k : Kind) (q : Roles) (value : List Piece → T → Type 0) (l : FieldLaw T outcome k q value) where
+module _ (T : Type 0) (outcome : Outcome T) (k : Kind) (q : Roles) (value : List Piece → T → Type 0)
+    (l : FieldLaw T outcome k q value) where
+  -- a field may stand before none
   before_none : Before k q no_roles
   before_none = by_kind k
     where
@@ -32,6 +39,7 @@ module _ (T : Type 0) (outcome : Outcome T) (k : Kind) (q : Roles) (value : List
       by_kind OneWord = λ a. refl
       by_kind EachWord = λ a. refl
 
+  -- its keys are keys
   keys_named : IsNamed (either (keys k q) no_roles)
   keys_named = by_kind k l.own
     where
@@ -45,7 +53,9 @@ module _ (T : Type 0) (outcome : Outcome T) (k : Kind) (q : Roles) (value : List
       by_kind OneWord n = record { only_keys = λ a h. refl }
       by_kind EachWord n = record { only_keys = λ a h. refl }
 
-  last_reads : (s t : Situation) (v : T) → IsWhole s → outcome s (Ok v) t → NonePresent (cells t) → ReadOff T (either (keys k q) no_roles) (LastValue T k q value) (cells s) v
+  -- the value of a last field is read off a cut
+  last_reads : (s t : Situation) (v : T) → IsWhole s → outcome s (Ok v) t → NonePresent (cells t)
+      → ReadOff T (either (keys k q) no_roles) (LastValue T k q value) (cells s) v
   last_reads s t v w o n =
       let i = l.ok s t v w o in
       let c = empty_cut no_roles n in
@@ -53,18 +63,43 @@ module _ (T : Type 0) (outcome : Outcome T) (k : Kind) (q : Roles) (value : List
       record {
         cut_into = p.before;
         cut = p.cut;
-        read = record { read = subst (λ os. value os v) p.own (i.read (none_left k q no_roles l.own before_none c)); none_left = p.leaves };
+        read = record {
+          read = subst (λ os. value os v) p.own
+              (i.read (none_left k q no_roles l.own before_none c));
+          none_left = p.leaves;
+        };
       }
 
-  last_answers : (s t : Situation) (a : Result T Error) (os : List Piece) (v : T) → IsWhole s → outcome s a t → Cut (either (keys k q) no_roles) (cells s) os → LastValue T k q value os v → GivesAll (LastValue T k q value os) a t
+  -- where the cut has a value each answer is one
+  last_answers : (s t : Situation) (a : Result T Error) (os : List Piece) (v : T) → IsWhole s
+      → outcome s a t → Cut (either (keys k q) no_roles) (cells s) os → LastValue T k q value os v
+      → GivesAll (LastValue T k q value os) a t
   last_answers s t (Ok x) os v w o c h =
       let i = l.ok s t x w o in
-      let j = l.answers s t (Ok x) v w o (subst (λ z. value z v) (sym (own_share k q no_roles l.own before_none c)) h.read) in
-      (record { read = subst (λ z. value z x) (own_share k q no_roles l.own before_none c) j.0; none_left = h.none_left }, cut_empty no_roles (step_on k q no_roles l.own before_none i.takes j.1 c) h.none_left)
-  last_answers s t (Err e) os v w o c h = l.answers s t (Err e) v w o (subst (λ z. value z v) (sym (own_share k q no_roles l.own before_none c)) h.read)
+      let j = l.answers s t (Ok x) v w o
+      (subst (λ z. value z v) (sym (own_share k q no_roles l.own before_none c)) h.read) in (
+        record {
+          read =
+              subst (λ z. value z x) (own_share k q no_roles l.own before_none c) j.0;
+          none_left =
+              h.none_left;
+        },
+        cut_empty no_roles
+            (step_on k q no_roles l.own before_none i.takes j.1 c) h.none_left,
+      )
+  last_answers s t (Err e) os v w o c h =
+      l.answers s t (Err e) v w o
+      (subst (λ z. value z v) (sym (own_share k q no_roles l.own before_none c)) h.read)
 
+  -- a last field keeps to the laws of a list of fields
   pub last_law : FieldsLaw T outcome (either (keys k q) no_roles) (LastValue T k q value)
-  last_law = record { named = keys_named; steady = λ s t v w o. (l.ok s t v w o).steady; ok = last_reads; answers = last_answers }
+  last_law = record {
+    named = keys_named;
+    steady = λ s t v w o. (l.ok s t v w o).steady;
+    ok =
+        last_reads;
+    answers = last_answers;
+  }
 
 -- The constructor of a product.
 
@@ -73,23 +108,42 @@ current_cells : (s : Situation) → cells (with_current s None) ≡ cells s
 unfolding cells
 current_cells s = refl
 
-module _ (A B : Type 0) (fields : Outcome A) (makes : A → B → Type 0) (r : Roles) (value : List Piece → A → Type 0) (l : FieldsLaw A fields r value) where
-  con_steady : (s t : Situation) (v : B) → IsWhole s → ProductOutcome fields makes s (Ok v) t → Steady s t
+module _ (A B : Type 0) (fields : Outcome A) (makes : A → B → Type 0) (r : Roles)
+    (value : List Piece → A → Type 0) (l : FieldsLaw A fields r value) where
+  -- a constructor changes nothing
+  con_steady : (s t : Situation) (v : B) → IsWhole s → ProductOutcome fields makes s (Ok v) t
+      → Steady s t
   con_steady s t v w o =
       let a = l.steady s o.0 o.1 w o.2 in
-      subst (Steady s) (sym o.4) (record { context = a.context; start = a.start; end = a.end; path = a.path })
+      subst (Steady s) (sym o.4)
+      (record { context = a.context; start = a.start; end = a.end; path = a.path })
 
-  con_reads : (s t : Situation) (v : B) → IsWhole s → ProductOutcome fields makes s (Ok v) t → NonePresent (cells t) → ReadOff B r (ClosedValue A B value (map_closure makes)) (cells s) v
+  -- its value is made of those that are read off a cut
+  con_reads : (s t : Situation) (v : B) → IsWhole s → ProductOutcome fields makes s (Ok v) t
+      → NonePresent (cells t) → ReadOff B r (ClosedValue A B value (map_closure makes)) (cells s) v
   con_reads s t v w o n =
       let a = l.ok s o.0 o.1 w o.2 (subst NonePresent (ap cells o.4 ∙ current_cells o.0) n) in
-      record { cut_into = a.cut_into; cut = a.cut; read = record { from = o.1; read = a.read; made = o.3 } }
+      record {
+        cut_into = a.cut_into;
+        cut = a.cut;
+        read =
+            record { from = o.1; read = a.read; made = o.3 };
+      }
 
-  con_answers : (s t : Situation) (a : Result B Error) (os : List Piece) (v : B) → IsWhole s → ProductOutcome fields makes s a t → Cut r (cells s) os → ClosedValue A B value (map_closure makes) os v
+  -- where the cut has a value each answer is one
+  con_answers : (s t : Situation) (a : Result B Error) (os : List Piece) (v : B) → IsWhole s
+      → ProductOutcome fields makes s a t → Cut r (cells s) os
+      → ClosedValue A B value (map_closure makes) os v
       → GivesAll (ClosedValue A B value (map_closure makes) os) a t
   con_answers s t (Ok u) os v w o c h =
-      let j = l.answers s o.0 (Ok o.1) os h.from w o.2 c h.read in
-      (record { from = o.1; read = j.0; made = o.3 }, subst NonePresent (sym (ap cells o.4 ∙ current_cells o.0)) j.1)
+      let j = l.answers s o.0 (Ok o.1) os h.from w o.2 c h.read in (
+        record { from = o.1; read = j.0; made = o.3 },
+        subst NonePresent
+            (sym (ap cells o.4 ∙ current_cells o.0)) j.1,
+      )
   con_answers s t (Err e) os v w o c h = l.answers s o.0 (Err e) os h.from w o.1 c h.read
 
-  pub con_law : FieldsLaw B (ProductOutcome fields makes) r (ClosedValue A B value (map_closure makes))
+  -- a product with its constructor keeps to the laws of a list of fields
+  pub con_law : FieldsLaw B (ProductOutcome fields makes) r
+      (ClosedValue A B value (map_closure makes))
   con_law = record { named = l.named; steady = con_steady; ok = con_reads; answers = con_answers }

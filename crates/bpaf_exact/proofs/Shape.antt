@@ -1,17 +1,26 @@
 -- Each shape that is made of flat fields keeps to its laws.
-use Rattle.std.proofs.Common.{◌≡◌, Bool, true, false, List, [], ◌∷◌, ◌++◌, None, flat_map, refl, sym, subst, ◌∙◌, append-nil, append_assoc}
+use Rattle.std.proofs.Common.{◌≡◌, Bool, true, false, List, [], ◌∷◌, ◌++◌, None, flat_map, refl}
+use Rattle.std.proofs.Common.{sym, subst, ◌∙◌, append-nil, append_assoc}
 use Rattle.bpaf_doc.specs.Names.{Names}
 use Rattle.bpaf_laws.specs.Choice.{ChoiceOutcome}
 use Rattle.bpaf_laws.specs.Choices.{ChoicesOutcome, Nested}
 use Rattle.bpaf_laws.specs.Product.{BothOutcome, ProductOutcome}
 use Rattle.bpaf_laws.specs.Reading.{Outcome}
-use Rattle.bpaf_exact.specs.Pieces.{Role, Foreign, Alone, WithNext, Roles, is_own_role, no_roles, either}
+use Rattle.bpaf_exact.specs.Pieces.{Role, Foreign, Alone, WithNext, Roles, is_own_role, no_roles}
+use Rattle.bpaf_exact.specs.Pieces.{either}
 use Rattle.bpaf_exact.specs.Names.{Owns, are_all_apart}
-use Rattle.bpaf_exact.specs.Flat.{ErrorClass, Refused, Kind, Named, OneWord, EachWord, FieldsLaw, keys, Before}
+use Rattle.bpaf_exact.specs.Flat.{ErrorClass, Refused, Kind, Named, OneWord, EachWord, FieldsLaw}
+use Rattle.bpaf_exact.specs.Flat.{keys, Before}
 use Rattle.bpaf_exact.specs.Single.{StepsRan, repeated}
-use Rattle.bpaf_exact.specs.Wrappers.{Closure, Decides, map_closure, ClosedRan, OptionalRan, FallbackRan}
+use Rattle.bpaf_exact.specs.Wrappers.{Closure, Decides, map_closure, ClosedRan, OptionalRan}
+use Rattle.bpaf_exact.specs.Wrappers.{FallbackRan}
 use Rattle.bpaf_exact.specs.Derived.{some_closure, LastRan}
-use Rattle.bpaf_exact.specs.Shape.{EachAgrees, Shape, not_flat, alternative, single, complete, product, ShapeLaw, Agrees, only_if, closed_shape, either_shape, choice_shape, choices_rest, alternative_only, choices_shape, repeat_shape, last_shape, optional_shape, fallback_shape, field_shape, may_follow, both_shape, alone_shape, con_shape, record_shape, is_record, product_roles, product_value}
+use Rattle.bpaf_exact.specs.Shape.{EachAgrees, Shape, not_flat, alternative, single, complete}
+use Rattle.bpaf_exact.specs.Shape.{product, ShapeLaw, Agrees, only_if, closed_shape, either_shape}
+use Rattle.bpaf_exact.specs.Shape.{choice_shape, choices_rest, alternative_only, choices_shape}
+use Rattle.bpaf_exact.specs.Shape.{repeat_shape, last_shape, optional_shape, fallback_shape}
+use Rattle.bpaf_exact.specs.Shape.{field_shape, may_follow, both_shape, alone_shape, con_shape}
+use Rattle.bpaf_exact.specs.Shape.{record_shape, is_record, product_roles, product_value}
 use Rattle.bpaf_exact.proofs.Names.{apart_of_names, either_owns}
 use Rattle.bpaf_exact.proofs.Alternative.{alternative_single, closed_alternative, closed_single}
 use Rattle.bpaf_exact.proofs.Choice.{choice_law}
@@ -22,30 +31,43 @@ use Rattle.bpaf_exact.proofs.Product.{both_law}
 use Rattle.bpaf_exact.proofs.Records.{con_law, last_law}
 
 -- a closure round a field
-pub closed_shape_law : (A B : Type 0) (inner : Outcome A) (f : Closure A B) (names : List Names) (s : Shape A) → Agrees f s → ShapeLaw inner names s → ShapeLaw (ClosedRan A B inner f Refused) names (closed_shape f s)
+pub closed_shape_law : (A B : Type 0) (inner : Outcome A) (f : Closure A B) (names : List Names)
+    (s : Shape A) → Agrees f s → ShapeLaw inner names s
+    → ShapeLaw (ClosedRan A B inner f Refused) names (closed_shape f s)
 closed_shape_law A B inner f names not_flat g l = tt
-closed_shape_law A B inner f names (alternative q value) g l = (closed_alternative A B inner q value l.0 f g, l.1)
-closed_shape_law A B inner f names (single k q group gap) g l = (closed_single A B inner k q group gap l.0 f g.0 g.1, l.1)
-closed_shape_law A B inner f names (complete k q value) g l = (closed_law A B inner k q value l.0 f g Refused, l.1)
+closed_shape_law A B inner f names (alternative q value) g l =
+    (closed_alternative A B inner q value l.0 f g, l.1)
+closed_shape_law A B inner f names (single k q group gap) g l =
+    (closed_single A B inner k q group gap l.0 f g.0 g.1, l.1)
+closed_shape_law A B inner f names (complete k q value) g l =
+    (closed_law A B inner k q value l.0 f g Refused, l.1)
 closed_shape_law A B inner f names (product q value) g l = tt
 
 -- A closure that never refuses agrees with every shape: map, count, collect, a constructor.
-pub never_refuses : (A B : Type 0) (f : Closure A B) → ((x : A) → f.no x → ⊥) → (s : Shape A) → Agrees f s
+pub never_refuses : (A B : Type 0) (f : Closure A B) → ((x : A) → f.no x → ⊥) → (s : Shape A)
+    → Agrees f s
 never_refuses A B f n not_flat = tt
 never_refuses A B f n (alternative q value) = λ o x y v a b g h. n y h
-never_refuses A B f n (single k q group gap) = (λ os rest x y v a b g h. n y h, λ x y v a b g h. n y h)
+never_refuses A B f n (single k q group gap) =
+    (λ os rest x y v a b g h. n y h, λ x y v a b g h. n y h)
 never_refuses A B f n (complete k q value) = λ os x y v a b g h. n y h
 never_refuses A B f n (product q value) = λ os x y v a b g h. n y h
 
-if_law : (T : Type 0) (outcome : Outcome T) (names : List Names) (s : Shape T) (b : Bool) → (b ≡ true → ShapeLaw outcome names s) → ShapeLaw outcome names (only_if b s)
+-- where a test holds
+if_law : (T : Type 0) (outcome : Outcome T) (names : List Names) (s : Shape T) (b : Bool)
+    → (b ≡ true → ShapeLaw outcome names s) → ShapeLaw outcome names (only_if b s)
 if_law T outcome names s true f = f refl
 if_law T outcome names s false f = tt
 
 -- a choice of two alternatives
-either_shape_law : (T : Type 0) (a b : Outcome T) (own others : List Names) (s t : Shape T) → are_all_apart own others ≡ true → ShapeLaw a own s → ShapeLaw b others t
+either_shape_law : (T : Type 0) (a b : Outcome T) (own others : List Names) (s t : Shape T)
+    → are_all_apart own others ≡ true → ShapeLaw a own s → ShapeLaw b others t
     → ShapeLaw (ChoiceOutcome a b) (own ++ others) (either_shape s t)
-either_shape_law T a b own others (alternative q x) (alternative r y) h la lb =
-    (choice_law T a b q r x y la.0 lb.0 (apart_of_names q r own others la.1 lb.1 h), either_owns q r own others la.1 lb.1)
+either_shape_law T a b own others (alternative q x) (alternative r y) h la lb = (
+  choice_law T a b q r x y la.0 lb.0
+      (apart_of_names q r own others la.1 lb.1 h),
+  either_owns q r own others la.1 lb.1,
+)
 either_shape_law T a b own others (alternative q x) not_flat h la lb = tt
 either_shape_law T a b own others (alternative q x) (single k r g i) h la lb = tt
 either_shape_law T a b own others (alternative q x) (complete k r v) h la lb = tt
@@ -56,10 +78,12 @@ either_shape_law T a b own others (complete k q v) t h la lb = tt
 either_shape_law T a b own others (product q v) t h la lb = tt
 
 -- the same, where the keys are apart
-pub choice_shape_law : (T : Type 0) (a b : Outcome T) (own others : List Names) (s t : Shape T) → ShapeLaw a own s → ShapeLaw b others t
+pub choice_shape_law : (T : Type 0) (a b : Outcome T) (own others : List Names) (s t : Shape T)
+    → ShapeLaw a own s → ShapeLaw b others t
     → ShapeLaw (ChoiceOutcome a b) (own ++ others) (choice_shape own others s t)
 choice_shape_law T a b own others s t la lb =
-    if_law T (ChoiceOutcome a b) (own ++ others) (either_shape s t) (are_all_apart own others) (λ h. either_shape_law T a b own others s t h la lb)
+    if_law T (ChoiceOutcome a b) (own ++ others) (either_shape s t) (are_all_apart own others)
+    (λ h. either_shape_law T a b own others s t h la lb)
 
 -- the keys of a choice, behind those that stand before
 abbrev keys_behind : {P : Type 0} → (P → List Names) → List Names → List P → List Names
@@ -67,21 +91,29 @@ keys_behind keys own [] = own
 keys_behind keys own (p ∷ ps) = keys_behind keys (own ++ keys p) ps
 
 -- these are the keys of all
-keys_of_all : {P : Type 0} (keys : P → List Names) (own : List Names) (ps : List P) → keys_behind keys own ps ≡ own ++ flat_map keys ps
+keys_of_all : {P : Type 0} (keys : P → List Names) (own : List Names) (ps : List P)
+    → keys_behind keys own ps ≡ own ++ flat_map keys ps
 keys_of_all keys own [] = sym (append-nil own)
-keys_of_all keys own (p ∷ ps) = keys_of_all keys (own ++ keys p) ps ∙ append_assoc own (keys p) (flat_map keys ps)
+keys_of_all keys own (p ∷ ps) = keys_of_all keys (own ++ keys p) ps
+    ∙ append_assoc own (keys p) (flat_map keys ps)
 
 -- a choice of what stands before and of parsers
-choices_rest_law : (P T : Type 0) (outcome : P → Outcome T) (keys : P → List Names) (shape : P → Shape T) (agrees : P → Type 0)
-    → ((p : P) → agrees p → ShapeLaw (outcome p) (keys p) (shape p)) → (ps : List P) → EachAgrees agrees ps
+choices_rest_law : (P T : Type 0) (outcome : P → Outcome T) (keys : P → List Names)
+    (shape : P → Shape T) (agrees : P → Type 0)
+    → ((p : P) → agrees p → ShapeLaw (outcome p) (keys p) (shape p)) → (ps : List P)
+    → EachAgrees agrees ps
     → (first : Outcome T) (own : List Names) (s : Shape T) → ShapeLaw first own s
-    → ShapeLaw (Nested ChoiceOutcome outcome first ps) (keys_behind keys own ps) (choices_rest keys shape own s ps)
+    → ShapeLaw (Nested ChoiceOutcome outcome first ps) (keys_behind keys own ps)
+    (choices_rest keys shape own s ps)
 choices_rest_law P T outcome keys shape agrees law [] each first own s l = l
 choices_rest_law P T outcome keys shape agrees law (p ∷ ps) each first own s l =
-    choices_rest_law P T outcome keys shape agrees law ps each.1 (ChoiceOutcome first (outcome p)) (own ++ keys p) (choice_shape own (keys p) s (shape p))
+    choices_rest_law P T outcome keys shape agrees law ps each.1 (ChoiceOutcome first (outcome p))
+    (own ++ keys p) (choice_shape own (keys p) s (shape p))
     (choice_shape_law T first (outcome p) own (keys p) s (shape p) l (law p each.0))
 
-only_law : (T : Type 0) (outcome : Outcome T) (names : List Names) (s : Shape T) → ShapeLaw outcome names s → ShapeLaw outcome names (alternative_only s)
+-- an alternative alone
+only_law : (T : Type 0) (outcome : Outcome T) (names : List Names) (s : Shape T)
+    → ShapeLaw outcome names s → ShapeLaw outcome names (alternative_only s)
 only_law T outcome names not_flat l = tt
 only_law T outcome names (alternative q value) l = l
 only_law T outcome names (single k q group gap) l = tt
@@ -89,73 +121,106 @@ only_law T outcome names (complete k q value) l = tt
 only_law T outcome names (product q value) l = tt
 
 -- a choice of any number of parsers
-pub choices_shape_law : (P T : Type 0) (outcome : P → Outcome T) (keys : P → List Names) (shape : P → Shape T) (agrees : P → Type 0)
-    → ((p : P) → agrees p → ShapeLaw (outcome p) (keys p) (shape p)) → (ps : List P) → EachAgrees agrees ps
+pub choices_shape_law : (P T : Type 0) (outcome : P → Outcome T) (keys : P → List Names)
+    (shape : P → Shape T) (agrees : P → Type 0)
+    → ((p : P) → agrees p → ShapeLaw (outcome p) (keys p) (shape p)) → (ps : List P)
+    → EachAgrees agrees ps
     → ShapeLaw (ChoicesOutcome outcome ps) (flat_map keys ps) (choices_shape keys shape ps)
 choices_shape_law P T outcome keys shape agrees law [] each = tt
 choices_shape_law P T outcome keys shape agrees law (p ∷ ps) each =
-    subst (λ names. ShapeLaw (ChoicesOutcome outcome (p ∷ ps)) names (choices_shape keys shape (p ∷ ps))) (keys_of_all keys (keys p) ps)
-    (choices_rest_law P T outcome keys shape agrees law ps each.1 (outcome p) (keys p) (alternative_only (shape p))
+    subst (λ names. ShapeLaw (ChoicesOutcome outcome (p ∷ ps)) names
+    (choices_shape keys shape (p ∷ ps))) (keys_of_all keys (keys p) ps)
+    (choices_rest_law P T outcome keys shape agrees law ps each.1 (outcome p) (keys p)
+    (alternative_only (shape p))
     (only_law T (outcome p) (keys p) (shape p) (law p each.0)))
 
-repeated_keys : (k : Kind) (q : Roles) (names : List Names) → Owns (keys k q) names → Owns (keys (repeated k) q) names
+-- a repeat has the keys of the field
+repeated_keys : (k : Kind) (q : Roles) (names : List Names) → Owns (keys k q) names
+    → Owns (keys (repeated k) q) names
 repeated_keys Named q names o = o
 repeated_keys OneWord q names o = o
 repeated_keys EachWord q names o = o
 
 -- what some, collect and count make of the list; a refusal of theirs may be of any class
-pub listed_shape_law : (T B : Type 0) (inner : Outcome T) (idle : Bool) (f : Closure (List T) B) (c : ErrorClass) (names : List Names) (s : Shape T) → Agrees f (repeat_shape s) → ShapeLaw inner names s
-    → ShapeLaw (ClosedRan (List T) B (λ s r t. StepsRan T inner idle None s r t) f c) names (closed_shape f (repeat_shape s))
+pub listed_shape_law : (T B : Type 0) (inner : Outcome T) (idle : Bool) (f : Closure (List T) B)
+    (c : ErrorClass) (names : List Names) (s : Shape T) → Agrees f (repeat_shape s)
+    → ShapeLaw inner names s
+    → ShapeLaw (ClosedRan (List T) B (λ s r t. StepsRan T inner idle None s r t) f c) names
+    (closed_shape f (repeat_shape s))
 listed_shape_law T B inner idle f c names not_flat g l = tt
-listed_shape_law T B inner idle f c names (alternative q value) g l = let m = repeat_law T inner Named q _ _ (alternative_single T inner q value l.0) idle in (closed_law (List T) B _ Named q _ m f g c, l.1)
-listed_shape_law T B inner idle f c names (single k q group gap) g l = let m = repeat_law T inner k q group gap l.0 idle in (closed_law (List T) B _ (repeated k) q _ m f g c, repeated_keys k q names l.1)
+listed_shape_law T B inner idle f c names (alternative q value) g l = let m =
+    repeat_law T inner Named q _ _ (alternative_single T inner q value l.0) idle in
+    (closed_law (List T) B _ Named q _ m f g c, l.1)
+listed_shape_law T B inner idle f c names (single k q group gap) g l = let m =
+    repeat_law T inner k q group gap l.0 idle in
+    (closed_law (List T) B _ (repeated k) q _ m f g c, repeated_keys k q names l.1)
 listed_shape_law T B inner idle f c names (complete k q value) g l = tt
 listed_shape_law T B inner idle f c names (product q value) g l = tt
 
 -- some needs no premise: of the lists that the same pieces give, all are empty or none is
-pub some_agrees : (T : Type 0) (inner : Outcome T) (names : List Names) (s : Shape T) → ShapeLaw inner names s → Agrees (some_closure T) (repeat_shape s)
+pub some_agrees : (T : Type 0) (inner : Outcome T) (names : List Names) (s : Shape T)
+    → ShapeLaw inner names s → Agrees (some_closure T) (repeat_shape s)
 some_agrees T inner names not_flat l = tt
-some_agrees T inner names (alternative q value) l = some_agrees_on T inner Named q _ _ (alternative_single T inner q value l.0)
+some_agrees T inner names (alternative q value) l =
+    some_agrees_on T inner Named q _ _ (alternative_single T inner q value l.0)
 some_agrees T inner names (single k q group gap) l = some_agrees_on T inner k q group gap l.0
 some_agrees T inner names (complete k q value) l = tt
 some_agrees T inner names (product q value) l = tt
 
-pub last_shape_law : (T : Type 0) (inner : Outcome T) (names : List Names) (s : Shape T) → ShapeLaw inner names s → ShapeLaw (LastRan T inner) names (last_shape s)
+-- the last value
+pub last_shape_law : (T : Type 0) (inner : Outcome T) (names : List Names) (s : Shape T)
+    → ShapeLaw inner names s → ShapeLaw (LastRan T inner) names (last_shape s)
 last_shape_law T inner names not_flat l = tt
-last_shape_law T inner names (alternative q value) l = (last_of_law T inner Named q _ _ (alternative_single T inner q value l.0), l.1)
-last_shape_law T inner names (single k q group gap) l = (last_of_law T inner k q group gap l.0, repeated_keys k q names l.1)
+last_shape_law T inner names (alternative q value) l =
+    (last_of_law T inner Named q _ _ (alternative_single T inner q value l.0), l.1)
+last_shape_law T inner names (single k q group gap) l =
+    (last_of_law T inner k q group gap l.0, repeated_keys k q names l.1)
 last_shape_law T inner names (complete k q value) l = tt
 last_shape_law T inner names (product q value) l = tt
 
-pub optional_shape_law : (T : Type 0) (inner : Outcome T) (names : List Names) (s : Shape T) → ShapeLaw inner names s → ShapeLaw (OptionalRan T inner) names (optional_shape s)
+-- what may be left out
+pub optional_shape_law : (T : Type 0) (inner : Outcome T) (names : List Names) (s : Shape T)
+    → ShapeLaw inner names s → ShapeLaw (OptionalRan T inner) names (optional_shape s)
 optional_shape_law T inner names not_flat l = tt
-optional_shape_law T inner names (alternative q value) l = (optional_law T inner Named q _ _ (alternative_single T inner q value l.0), l.1)
-optional_shape_law T inner names (single k q group gap) l = (optional_law T inner k q group gap l.0, l.1)
+optional_shape_law T inner names (alternative q value) l =
+    (optional_law T inner Named q _ _ (alternative_single T inner q value l.0), l.1)
+optional_shape_law T inner names (single k q group gap) l =
+    (optional_law T inner k q group gap l.0, l.1)
 optional_shape_law T inner names (complete k q value) l = tt
 optional_shape_law T inner names (product q value) l = tt
 
-pub fallback_shape_law : (T : Type 0) (inner : Outcome T) (f : Closure (Unit {0}) T) → Decides f → (names : List Names) (s : Shape T) → ShapeLaw inner names s → ShapeLaw (FallbackRan T inner f) names (fallback_shape f s)
+-- what has a value that stands for it
+pub fallback_shape_law : (T : Type 0) (inner : Outcome T) (f : Closure (Unit {0}) T) → Decides f
+    → (names : List Names) (s : Shape T) → ShapeLaw inner names s
+    → ShapeLaw (FallbackRan T inner f) names (fallback_shape f s)
 fallback_shape_law T inner f decides names not_flat l = tt
-fallback_shape_law T inner f decides names (alternative q value) l = (fallback_law T inner Named q _ _ (alternative_single T inner q value l.0) f decides, l.1)
-fallback_shape_law T inner f decides names (single k q group gap) l = (fallback_law T inner k q group gap l.0 f decides, l.1)
+fallback_shape_law T inner f decides names (alternative q value) l =
+    (fallback_law T inner Named q _ _ (alternative_single T inner q value l.0) f decides, l.1)
+fallback_shape_law T inner f decides names (single k q group gap) l =
+    (fallback_law T inner k q group gap l.0 f decides, l.1)
 fallback_shape_law T inner f decides names (complete k q value) l = tt
 fallback_shape_law T inner f decides names (product q value) l = tt
 
 -- Each flat shape is a field of a record.
-pub field_shape_law : (T : Type 0) (outcome : Outcome T) (names : List Names) (s : Shape T) → ShapeLaw outcome names s → ShapeLaw outcome names (field_shape s)
+pub field_shape_law : (T : Type 0) (outcome : Outcome T) (names : List Names) (s : Shape T)
+    → ShapeLaw outcome names s → ShapeLaw outcome names (field_shape s)
 field_shape_law T outcome names not_flat l = tt
-field_shape_law T outcome names (alternative q value) l = (single_law T outcome Named q _ _ (alternative_single T outcome q value l.0), l.1)
-field_shape_law T outcome names (single k q group gap) l = (single_law T outcome k q group gap l.0, l.1)
+field_shape_law T outcome names (alternative q value) l =
+    (single_law T outcome Named q _ _ (alternative_single T outcome q value l.0), l.1)
+field_shape_law T outcome names (single k q group gap) l =
+    (single_law T outcome k q group gap l.0, l.1)
 field_shape_law T outcome names (complete k q value) l = l
 field_shape_law T outcome names (product q value) l = tt
 
+-- what isn't the field's own
 foreign_of : (x : Role) → is_own_role x ≡ false → x ≡ Foreign
 foreign_of Foreign e = refl
 foreign_of Alone e = cc
 foreign_of WithNext e = cc
 
 -- fields that may follow keep apart
-follows : (k : Kind) (q r : Roles) (own others : List Names) → Owns (keys k q) own → Owns r others → may_follow k own others ≡ true → Before k q r
+follows : (k : Kind) (q r : Roles) (own others : List Names) → Owns (keys k q) own → Owns r others
+    → may_follow k own others ≡ true → Before k q r
 follows Named q r own others a b h = apart_of_names q r own others a b h
 follows OneWord q r own [] a b h = λ i. foreign_of (r i) (b.own i)
 follows OneWord q r own (names ∷ others) a b h = absurd cc
@@ -163,11 +228,16 @@ follows EachWord q r own [] a b h = λ i. foreign_of (r i) (b.own i)
 follows EachWord q r own (names ∷ others) a b h = absurd cc
 
 -- a field before others
-pub both_shape_law : (A B : Type 0) (first : Outcome A) (rest : Outcome B) (own others : List Names) (s : Shape A) (t : Shape B) → ShapeLaw first own s → ShapeLaw rest others t
+pub both_shape_law : (A B : Type 0) (first : Outcome A) (rest : Outcome B) (own others : List Names)
+    (s : Shape A) (t : Shape B) → ShapeLaw first own s → ShapeLaw rest others t
     → ShapeLaw (BothOutcome first rest) (own ++ others) (both_shape own others s t)
 both_shape_law A B first rest own others (complete k q fv) (product r rv) la lb =
     if_law (A × B) (BothOutcome first rest) (own ++ others) _ (may_follow k own others)
-    (λ h. (both_law A B first rest k q r fv rv la.0 lb.0 (follows k q r own others la.1 lb.1 h), either_owns (keys k q) r own others la.1 lb.1))
+    (λ h. (
+      both_law A B first rest k q r fv rv la.0 lb.0
+          (follows k q r own others la.1 lb.1 h),
+      either_owns (keys k q) r own others la.1 lb.1,
+    ))
 both_shape_law A B first rest own others (complete k q fv) not_flat la lb = tt
 both_shape_law A B first rest own others (complete k q fv) (alternative r v) la lb = tt
 both_shape_law A B first rest own others (complete k q fv) (single j r g h) la lb = tt
@@ -177,39 +247,57 @@ both_shape_law A B first rest own others (alternative q v) t la lb = tt
 both_shape_law A B first rest own others (single k q g h) t la lb = tt
 both_shape_law A B first rest own others (product q v) t la lb = tt
 
+-- no item without a key
 no_names : Owns no_roles []
 no_names = record { own = λ k. refl }
 
 -- the last field, or one alone
-pub alone_shape_law : (T : Type 0) (outcome : Outcome T) (names : List Names) (s : Shape T) → ShapeLaw outcome names s → ShapeLaw outcome names (alone_shape s)
+pub alone_shape_law : (T : Type 0) (outcome : Outcome T) (names : List Names) (s : Shape T)
+    → ShapeLaw outcome names s → ShapeLaw outcome names (alone_shape s)
 alone_shape_law T outcome names not_flat l = tt
 alone_shape_law T outcome names (alternative q value) l = tt
 alone_shape_law T outcome names (single k q group gap) l = tt
-alone_shape_law T outcome names (complete k q value) l =
-    (last_law T outcome k q value l.0, subst (Owns (either (keys k q) no_roles)) (append-nil names) (either_owns (keys k q) no_roles names [] l.1 no_names))
+alone_shape_law T outcome names (complete k q value) l = (
+  last_law T outcome k q value l.0,
+  subst (Owns (either (keys k q) no_roles)) (append-nil names)
+      (either_owns (keys k q) no_roles names [] l.1 no_names),
+)
 alone_shape_law T outcome names (product q value) l = tt
 
 -- the constructor of a product
-pub con_shape_law : (A B : Type 0) (fields : Outcome A) (makes : A → B → Type 0) (names : List Names) (s : Shape A) → ShapeLaw fields names s
+pub con_shape_law : (A B : Type 0) (fields : Outcome A) (makes : A → B → Type 0)
+    (names : List Names) (s : Shape A) → ShapeLaw fields names s
     → ShapeLaw (ProductOutcome fields makes) names (con_shape (map_closure makes) s)
 con_shape_law A B fields makes names not_flat l = tt
 con_shape_law A B fields makes names (alternative q value) l = tt
 con_shape_law A B fields makes names (single k q group gap) l = tt
 con_shape_law A B fields makes names (complete k q value) l = tt
-con_shape_law A B fields makes names (product q value) l = (con_law A B fields makes q value l.0, l.1)
+con_shape_law A B fields makes names (product q value) l =
+    (con_law A B fields makes q value l.0, l.1)
 
 -- a flat record is a product
-pub record_shape_law : (T : Type 0) (outcome : Outcome T) (names : List Names) (s : Shape T) → ShapeLaw outcome names s → ShapeLaw outcome names (record_shape s)
+pub record_shape_law : (T : Type 0) (outcome : Outcome T) (names : List Names) (s : Shape T)
+    → ShapeLaw outcome names s → ShapeLaw outcome names (record_shape s)
 record_shape_law T outcome names not_flat l = tt
-record_shape_law T outcome names (alternative q value) l = alone_shape_law T outcome names (field_shape (alternative q value)) (field_shape_law T outcome names (alternative q value) l)
-record_shape_law T outcome names (single k q group gap) l = alone_shape_law T outcome names (field_shape (single k q group gap)) (field_shape_law T outcome names (single k q group gap) l)
-record_shape_law T outcome names (complete k q value) l = alone_shape_law T outcome names (complete k q value) l
+record_shape_law T outcome names (alternative q value) l =
+    alone_shape_law T outcome names (field_shape (alternative q value))
+    (field_shape_law T outcome names (alternative q value) l)
+record_shape_law T outcome names (single k q group gap) l =
+    alone_shape_law T outcome names (field_shape (single k q group gap))
+    (field_shape_law T outcome names (single k q group gap) l)
+record_shape_law T outcome names (complete k q value) l =
+    alone_shape_law T outcome names (complete k q value) l
 record_shape_law T outcome names (product q value) l = l
 
 -- each flat record keeps to the laws of a list of fields
-pub record_law : (T : Type 0) (outcome : Outcome T) (names : List Names) (s : Shape T) → is_record s ≡ true → ShapeLaw outcome names s → FieldsLaw T outcome (product_roles (record_shape s)) (product_value (record_shape s))
+pub record_law : (T : Type 0) (outcome : Outcome T) (names : List Names) (s : Shape T)
+    → is_record s ≡ true → ShapeLaw outcome names s
+    → FieldsLaw T outcome (product_roles (record_shape s)) (product_value (record_shape s))
 record_law T outcome names not_flat h l = absurd cc
-record_law T outcome names (alternative q value) h l = (record_shape_law T outcome names (alternative q value) l).0
-record_law T outcome names (single k q group gap) h l = (record_shape_law T outcome names (single k q group gap) l).0
-record_law T outcome names (complete k q value) h l = (record_shape_law T outcome names (complete k q value) l).0
+record_law T outcome names (alternative q value) h l =
+    (record_shape_law T outcome names (alternative q value) l).0
+record_law T outcome names (single k q group gap) h l =
+    (record_shape_law T outcome names (single k q group gap) l).0
+record_law T outcome names (complete k q value) h l =
+    (record_shape_law T outcome names (complete k q value) l).0
 record_law T outcome names (product q value) h l = l.0

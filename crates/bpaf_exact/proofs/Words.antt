@@ -1,13 +1,19 @@
 -- Cuts of what named fields left: words alone.
-use Rattle.std.proofs.Common.{◌≡◌, Bool, true, false, List, [], ◌∷◌, Some, None, refl, sym, ap, ◌∙◌, if◌then◌else◌}
+use Rattle.std.proofs.Common.{◌≡◌, Bool, true, false, List, [], ◌∷◌, Some, None, refl, sym, ap, ◌∙◌}
+use Rattle.std.proofs.Common.{if◌then◌else◌}
 use Rattle.bpaf_words.specs.declared.arg.Arg.{Arg}
 use Rattle.bpaf_words.specs.Items.{is_positional}
-use Rattle.bpaf_exact.specs.Pieces.{Cells, Role, Foreign, Alone, WithNext, Roles, Piece, One, Cut, at_end, passed, flag, argument, word, begin_piece, pieces, Takes, takes_one, takes_two, takes_later, TakesSome, takes_none, takes_more}
+use Rattle.bpaf_exact.specs.Pieces.{Cells, Role, Foreign, Alone, WithNext, Roles, Piece, One, Cut}
+use Rattle.bpaf_exact.specs.Pieces.{at_end, passed, flag, argument, word, begin_piece, pieces}
+use Rattle.bpaf_exact.specs.Pieces.{Takes, takes_one, takes_two, takes_later, TakesSome, takes_none}
+use Rattle.bpaf_exact.specs.Pieces.{takes_more}
 use Rattle.bpaf_exact.specs.Flat.{IsWords, NonePresent, no_place, none_here}
 
+-- no item is a key
 pub record NoKeys (r : Roles) : Type 0 where
   pub none : (k : Arg) → r k ≡ Foreign
 
+-- an item of a positional field is a word
 word_of : (q : Roles) (k : Arg) → IsWords q → q k ≡ Alone → is_positional k ≡ true
 word_of q k n e = by_word (is_positional k) (sym (n.words k) ∙ e)
   where
@@ -15,6 +21,7 @@ word_of q k n e = by_word (is_positional k) (sym (n.words k) ∙ e)
     by_word true h = refl
     by_word false h = cc
 
+-- and a piece by itself
 never_two : (q : Roles) (k : Arg) → IsWords q → q k ≡ WithNext → ⊥
 never_two q k n e = by_word (is_positional k) (sym (n.words k) ∙ e)
   where
@@ -22,6 +29,7 @@ never_two q k n e = by_word (is_positional k) (sym (n.words k) ∙ e)
     by_word true h = cc
     by_word false h = cc
 
+-- a word is a piece by itself
 alone_word : (q : Roles) (k : Arg) → IsWords q → is_positional k ≡ true → q k ≡ Alone
 alone_word q k n h = n.words k ∙ ap (λ b. if b then Alone else Foreign) h
 
@@ -30,48 +38,69 @@ pub record WordCut (r : Roles) (cs : Cells) : Type 0 where
   pub words : List Piece
   pub cut : Cut r cs words
 
-pub put_word_back : (q r : Roles) {cs ds : Cells} {o : Piece} {os : List Piece} → IsWords q → NoKeys r → Takes q cs o ds → Cut r ds os → WordCut r cs
-put_word_back q r n f (takes_one {k = k} {cs = cs} e) (passed {os = os} c) = record { words = One k ∷ os; cut = word (word_of q k n e) c }
+-- a word given back to its place
+pub put_word_back : (q r : Roles) {cs ds : Cells} {o : Piece} {os : List Piece} → IsWords q
+    → NoKeys r → Takes q cs o ds → Cut r ds os → WordCut r cs
+put_word_back q r n f (takes_one {k = k} {cs = cs} e) (passed {os = os} c) =
+    record { words = One k ∷ os; cut = word (word_of q k n e) c }
 put_word_back q r n f (takes_two {k = k} e v) c = absurd (never_two q k n e)
-put_word_back q r n f (takes_later {c = None} t) (passed c) = let i = put_word_back q r n f t c in record { words = i.words; cut = passed i.cut }
+put_word_back q r n f (takes_later {c = None} t) (passed c) = let i = put_word_back q r n f t c in
+    record { words = i.words; cut = passed i.cut }
 put_word_back q r n f (takes_later {c = Some k} t) (flag e c) = let g = f.none k in absurd cc
 put_word_back q r n f (takes_later {c = Some k} t) (argument e v c) = let g = f.none k in absurd cc
-put_word_back q r n f (takes_later {c = Some k} t) (word h c) = let i = put_word_back q r n f t c in record { words = One k ∷ i.words; cut = word h i.cut }
+put_word_back q r n f (takes_later {c = Some k} t) (word h c) = let i = put_word_back q r n f t c in
+    record { words = One k ∷ i.words; cut = word h i.cut }
 
-pub take_word_from : (q r : Roles) {cs ds : Cells} {o : Piece} {os : List Piece} → IsWords q → NoKeys r → Takes q cs o ds → Cut r cs os → WordCut r ds
+-- a word taken from a cut
+pub take_word_from : (q r : Roles) {cs ds : Cells} {o : Piece} {os : List Piece} → IsWords q
+    → NoKeys r → Takes q cs o ds → Cut r cs os → WordCut r ds
 take_word_from q r n f (takes_one {k = k} e) (flag g c) = record { words = _; cut = passed c }
 take_word_from q r n f (takes_one {k = k} e) (argument g v c) = let h = f.none k in absurd cc
 take_word_from q r n f (takes_one {k = k} e) (word h c) = record { words = _; cut = passed c }
 take_word_from q r n f (takes_two {k = k} e v) c = absurd (never_two q k n e)
-take_word_from q r n f (takes_later {c = None} t) (passed c) = let i = take_word_from q r n f t c in record { words = i.words; cut = passed i.cut }
+take_word_from q r n f (takes_later {c = None} t) (passed c) = let i = take_word_from q r n f t c in
+    record { words = i.words; cut = passed i.cut }
 take_word_from q r n f (takes_later {c = Some k} t) (flag e c) = let g = f.none k in absurd cc
 take_word_from q r n f (takes_later {c = Some k} t) (argument e v c) = let g = f.none k in absurd cc
-take_word_from q r n f (takes_later {c = Some k} t) (word h c) = let i = take_word_from q r n f t c in record { words = One k ∷ i.words; cut = word h i.cut }
+take_word_from q r n f (takes_later {c = Some k} t) (word h c) = let i =
+    take_word_from q r n f t c in record { words = One k ∷ i.words; cut = word h i.cut }
 
-pub put_words_back : (q r : Roles) {cs ds : Cells} {os : List Piece} → IsWords q → NoKeys r → TakesSome q cs ds → Cut r ds os → WordCut r cs
+-- some words given back
+pub put_words_back : (q r : Roles) {cs ds : Cells} {os : List Piece} → IsWords q → NoKeys r
+    → TakesSome q cs ds → Cut r ds os → WordCut r cs
 put_words_back q r n f takes_none c = record { words = _; cut = c }
-put_words_back q r n f (takes_more t more) c = put_word_back q r n f t (put_words_back q r n f more c).cut
+put_words_back q r n f (takes_more t more) c =
+    put_word_back q r n f t (put_words_back q r n f more c).cut
 
-pub take_words_from : (q r : Roles) {cs ds : Cells} {os : List Piece} → IsWords q → NoKeys r → TakesSome q cs ds → Cut r cs os → WordCut r ds
+-- some words taken
+pub take_words_from : (q r : Roles) {cs ds : Cells} {os : List Piece} → IsWords q → NoKeys r
+    → TakesSome q cs ds → Cut r cs os → WordCut r ds
 take_words_from q r n f takes_none c = record { words = _; cut = c }
-take_words_from q r n f (takes_more t more) c = take_words_from q r n f more (take_word_from q r n f t c).cut
+take_words_from q r n f (takes_more t more) c =
+    take_words_from q r n f more (take_word_from q r n f t c).cut
 
-begin_alone : {x : Role} (k : Arg) (cs : Cells) (os : List Piece) → x ≡ Alone → begin_piece x k cs os ≡ One k ∷ os
+-- an item that is a piece by itself
+begin_alone : {x : Role} (k : Arg) (cs : Cells) (os : List Piece) → x ≡ Alone
+    → begin_piece x k cs os ≡ One k ∷ os
 begin_alone k cs os e = ap (λ z. begin_piece z k cs os) e
 
 -- Where no key is cut off, the pieces are the words that are present.
-pub words_of_cut : (q r : Roles) {cs : Cells} {os : List Piece} → IsWords q → NoKeys r → Cut r cs os → pieces q cs ≡ os
+pub words_of_cut : (q r : Roles) {cs : Cells} {os : List Piece} → IsWords q → NoKeys r → Cut r cs os
+    → pieces q cs ≡ os
 words_of_cut q r n f at_end = refl
 words_of_cut q r n f (passed c) = words_of_cut q r n f c
 words_of_cut q r n f (flag {k = k} e c) = let g = f.none k in cc
 words_of_cut q r n f (argument {k = k} e v c) = let g = f.none k in cc
-words_of_cut q r n f (word {w = w} {cs = cs} {os = os} h c) = begin_alone w cs (pieces q cs) (alone_word q w n h) ∙ ap (λ z. One w ∷ z) (words_of_cut q r n f c)
+words_of_cut q r n f (word {w = w} {cs = cs} {os = os} h c) =
+    begin_alone w cs (pieces q cs) (alone_word q w n h)
+    ∙ ap (λ z. One w ∷ z) (words_of_cut q r n f c)
 
 -- Where nothing is present the cut is empty, and only there.
 pub empty_cut : (r : Roles) {cs : Cells} → NonePresent cs → Cut r cs []
 empty_cut r no_place = at_end
 empty_cut r (none_here n) = passed (empty_cut r n)
 
+-- an empty cut leaves nothing present
 pub cut_empty : (r : Roles) {cs : Cells} {os : List Piece} → Cut r cs os → os ≡ [] → NonePresent cs
 cut_empty r at_end e = no_place
 cut_empty r (passed c) e = none_here (cut_empty r c e)

@@ -1,26 +1,41 @@
 -- Closures, optional and fallback keep to the laws.
-use Rattle.std.proofs.Common.{◌≡◌, false, List, [], ◌∷◌, Option, Some, None, Result, Ok, Err, refl, sym, ap, ◌∙◌, subst}
+use Rattle.std.proofs.Common.{◌≡◌, false, List, [], ◌∷◌, Option, Some, None, Result, Ok, Err, refl}
+use Rattle.std.proofs.Common.{sym, ap, ◌∙◌, subst}
 use Rattle.bpaf_line.specs.declared.error.Error.{Error}
 use Rattle.bpaf_line.specs.Situation.{Situation, open_count}
 use Rattle.bpaf_laws.specs.Reading.{Outcome}
 use Rattle.bpaf_exact.specs.Pieces.{Roles, Piece, pieces, takes_none}
-use Rattle.bpaf_exact.specs.Flat.{ErrorClass, OfMemory, OfMissing, Caught, Refused, class, cells, IsWhole, Steady, Kind, Named, OneWord, EachWord, front, back, LeavesNone, FieldTook, FieldLaw, Gives}
-use Rattle.bpaf_exact.specs.Single.{Groups, Own, own_none, Readable, Gap, SingleOk, gave_absent, took, SingleErr, of_memory, of_missing, of_absent, of_piece, ReadsWords, SingleLaw, SingleValue, of_group, of_gap, Stops, nothing_found, caught, present_count}
-use Rattle.bpaf_exact.specs.Wrappers.{Closure, Decides, AgreesOn, ClosedRan, closed_yes, closed_no, closed_memory, closed_err, ClosedValue, OptionalRan, optional_some, optional_none, optional_err, optional_memory, OptionalValue, some_value, no_value, CanCatch, catch_missing, catch_other, FallbackRan, fallback_ok, fallback_given, fallback_no, fallback_memory, fallback_err, FallbackValue, own_value, kept_value}
+use Rattle.bpaf_exact.specs.Flat.{ErrorClass, OfMemory, OfMissing, Caught, Refused, class, cells}
+use Rattle.bpaf_exact.specs.Flat.{IsWhole, Steady, Kind, Named, OneWord, EachWord, front, back}
+use Rattle.bpaf_exact.specs.Flat.{LeavesNone, FieldTook, FieldLaw, Gives}
+use Rattle.bpaf_exact.specs.Single.{Groups, Own, own_none, Readable, Gap, SingleOk, gave_absent}
+use Rattle.bpaf_exact.specs.Single.{took, SingleErr, of_memory, of_missing, of_absent, of_piece}
+use Rattle.bpaf_exact.specs.Single.{ReadsWords, SingleLaw, SingleValue, of_group, of_gap, Stops}
+use Rattle.bpaf_exact.specs.Single.{nothing_found, caught, present_count}
+use Rattle.bpaf_exact.specs.Wrappers.{Closure, Decides, AgreesOn, ClosedRan, closed_yes, closed_no}
+use Rattle.bpaf_exact.specs.Wrappers.{closed_memory, closed_err, ClosedValue, OptionalRan}
+use Rattle.bpaf_exact.specs.Wrappers.{optional_some, optional_none, optional_err, optional_memory}
+use Rattle.bpaf_exact.specs.Wrappers.{OptionalValue, some_value, no_value, CanCatch, catch_missing}
+use Rattle.bpaf_exact.specs.Wrappers.{catch_other, FallbackRan, fallback_ok, fallback_given}
+use Rattle.bpaf_exact.specs.Wrappers.{fallback_no, fallback_memory, fallback_err, FallbackValue}
+use Rattle.bpaf_exact.specs.Wrappers.{own_value, kept_value}
 use Rattle.bpaf_exact.proofs.Product.{steady_refl}
 use Rattle.bpaf_exact.proofs.Counts.{open_present}
 use Rattle.bpaf_exact.proofs.Repeat.{any_some, same_takes}
 
+-- of no piece none is taken
 front_nil : (k : Kind) → front k [] ≡ []
 front_nil Named = refl
 front_nil OneWord = refl
 front_nil EachWord = refl
 
+-- and none left
 back_nil : (k : Kind) → back k [] ≡ []
 back_nil Named = refl
 back_nil OneWord = refl
 back_nil EachWord = refl
 
+-- where none is taken there is none
 nil_front : (k : Kind) (os : List Piece) → front k os ≡ [] → os ≡ []
 nil_front Named os e = e
 nil_front OneWord [] e = refl
@@ -28,15 +43,27 @@ nil_front OneWord (o ∷ os) e = absurd cc
 nil_front EachWord os e = e
 
 -- outer closures
-module _ (A B : Type 0) (inner : Outcome A) (k : Kind) (q : Roles) (value : List Piece → A → Type 0) (l : FieldLaw A inner k q value) (f : Closure A B)
+module _ (A B : Type 0) (inner : Outcome A) (k : Kind) (q : Roles) (value : List Piece → A → Type 0)
+    (l : FieldLaw A inner k q value) (f : Closure A B)
     (agrees : (os : List Piece) → AgreesOn (value os) f) (c : ErrorClass) where
-  closed_ok : (s t : Situation) (v : B) → IsWhole s → ClosedRan A B inner f c s (Ok v) t → FieldTook B k q (ClosedValue A B value f) s v t
+  -- a value that the closure gave
+  closed_ok : (s t : Situation) (v : B) → IsWhole s → ClosedRan A B inner f c s (Ok v) t
+      → FieldTook B k q (ClosedValue A B value f) s v t
   closed_ok s t v w (closed_yes {x = x} i y) =
       let a = l.ok s t x w i in
-      record { steady = a.steady; takes = a.takes; read = λ n. record { from = x; read = a.read n; made = y }; rest = a.rest }
+      record {
+        steady = a.steady;
+        takes = a.takes;
+        read =
+            λ n. record { from = x; read = a.read n; made = y };
+        rest = a.rest;
+      }
 
-  closed_answers : (s t : Situation) (r : Result B Error) (v : B) → IsWhole s → ClosedRan A B inner f c s r t → ClosedValue A B value f (front k (pieces q (cells s))) v
-      → Gives q (ClosedValue A B value f (front k (pieces q (cells s)))) (back k (pieces q (cells s))) r t
+  -- where the share has a value the closure gives one
+  closed_answers : (s t : Situation) (r : Result B Error) (v : B) → IsWhole s
+      → ClosedRan A B inner f c s r t → ClosedValue A B value f (front k (pieces q (cells s))) v
+      → Gives q (ClosedValue A B value f (front k (pieces q (cells s))))
+      (back k (pieces q (cells s))) r t
   closed_answers s t r v w (closed_yes {x = x} {v = u} i y) h =
       let a = l.answers s t (Ok x) h.from w i h.read in
       (record { from = x; read = a.0; made = y }, a.1)
@@ -46,33 +73,57 @@ module _ (A B : Type 0) (inner : Outcome A) (k : Kind) (q : Roles) (value : List
   closed_answers s t r v w (closed_memory i e) h = e
   closed_answers s t r v w (closed_err {e = x} i) h = l.answers s t (Err x) h.from w i h.read
 
+  -- a closure round a field is one
   pub closed_law : FieldLaw B (ClosedRan A B inner f c) k q (ClosedValue A B value f)
   closed_law = record { own = l.own; ok = closed_ok; answers = closed_answers }
 
-module _ (T : Type 0) (inner : Outcome T) (k : Kind) (q : Roles) (group : Groups T) (gap : Gap T) (l : SingleLaw T inner k q group gap) where
+module _ (T : Type 0) (inner : Outcome T) (k : Kind) (q : Roles) (group : Groups T) (gap : Gap T)
+    (l : SingleLaw T inner k q group gap) where
+  -- the value of a single field: of a group, or the absent one
   data SingleView (os : List Piece) (v : T) : Type 0 where
     view_group : group os v [] → SingleView os v
     view_gap : os ≡ [] → gap.absent v → SingleView os v
 
+  -- by its constructors
   single_view : (os : List Piece) (v : T) → SingleValue T group gap os v → SingleView os v
   single_view os v (of_group g) = view_group g
   single_view os v (of_gap a) = view_gap refl a
 
-  nothing_read : (os : List Piece) (v : T) → os ≡ [] → gap.absent v → SingleValue T group gap (front k os) v
-  nothing_read os v e a = subst (λ z. SingleValue T group gap z v) (sym (ap (front k) e ∙ front_nil k)) (of_gap a)
+  -- the absent value where there is no piece
+  nothing_read : (os : List Piece) (v : T) → os ≡ [] → gap.absent v
+      → SingleValue T group gap (front k os) v
+  nothing_read os v e a =
+      subst (λ z. SingleValue T group gap z v) (sym (ap (front k) e ∙ front_nil k)) (of_gap a)
 
+  -- and nothing is left
   nothing_left : (os ps : List Piece) → os ≡ [] → ps ≡ [] → ps ≡ back k os
   nothing_left os ps e h = h ∙ sym (ap (back k) e ∙ back_nil k)
 
-  took_read : (z : Kind) (s t : Situation) (v : T) → ReadsWords z group → LeavesNone z q (cells t) → (Readable z group (pieces q (cells t)) → group (pieces q (cells s)) v (pieces q (cells t)))
-      → group (front z (pieces q (cells s))) v [] × (pieces q (cells t) ≡ back z (pieces q (cells s)))
-  took_read Named s t v u n up = (subst (group (pieces q (cells s)) v) n (up ([], subst (λ os. Own T group os []) (sym n) own_none)), n)
+  -- what was taken is the front
+  took_read : (z : Kind) (s t : Situation) (v : T) → ReadsWords z group → LeavesNone z q (cells t)
+      → (Readable z group (pieces q (cells t)) → group (pieces q (cells s)) v (pieces q (cells t)))
+      → group (front z (pieces q (cells s))) v []
+      × (pieces q (cells t) ≡ back z (pieces q (cells s)))
+  took_read Named s t v u n up = (
+    subst (group (pieces q (cells s)) v) n
+        (up ([], subst (λ os. Own T group os []) (sym n) own_none)),
+    n,
+  )
   took_read OneWord s t v u n up = u.by_front (pieces q (cells s)) v (pieces q (cells t)) (up tt)
   took_read EachWord s t v u n up = absurd u
 
-  single_took : (s t : Situation) (v : T) → SingleOk T k q group gap s v t → FieldTook T k q (SingleValue T group gap) s v t
+  -- one evaluation, as that of a field
+  single_took : (s t : Situation) (v : T) → SingleOk T k q group gap s v t
+      → FieldTook T k q (SingleValue T group gap) s v t
   single_took s t v (gave_absent h p ab same st) =
-      record { steady = st; takes = same_takes q same; read = λ n. nothing_read (pieces q (cells s)) v p ab; rest = λ n. nothing_left _ _ p (ap (pieces q) same ∙ p) }
+      record {
+        steady = st;
+        takes = same_takes q same;
+        read =
+            λ n. nothing_read (pieces q (cells s)) v p ab;
+        rest =
+            λ n. nothing_left _ _ p (ap (pieces q) same ∙ p);
+      }
   single_took s t v (took st ta ne up down) = record {
     steady = st;
     takes = any_some q ta;
@@ -80,28 +131,39 @@ module _ (T : Type 0) (inner : Outcome T) (k : Kind) (q : Roles) (group : Groups
     rest = λ n. (took_read k s t v l.words n up).1;
   }
 
-  of_front : (z : Kind) (os : List Piece) (v : T) → ReadsWords z group → group (front z os) v [] → group os v (back z os)
+  -- what the front means the pieces mean
+  of_front : (z : Kind) (os : List Piece) (v : T) → ReadsWords z group → group (front z os) v []
+      → group os v (back z os)
   of_front Named os v u g = g
   of_front OneWord os v u g = u.of_front os v g
   of_front EachWord os v u g = absurd u
 
-  to_front : (z : Kind) (os : List Piece) (v : T) → ReadsWords z group → group os v (back z os) → group (front z os) v []
+  -- and the other way
+  to_front : (z : Kind) (os : List Piece) (v : T) → ReadsWords z group → group os v (back z os)
+      → group (front z os) v []
   to_front Named os v u g = g
   to_front OneWord os v u g = (u.by_front os v (back OneWord os) g).0
   to_front EachWord os v u g = absurd u
 
+  -- no piece is no group
   not_empty : (os : List Piece) (v : T) → os ≡ [] → group (front k os) v [] → ⊥
   not_empty os v e g = l.starts v [] (subst (λ z. group z v []) (ap (front k) e ∙ front_nil k) g)
 
-  ok_gives : (s t : Situation) (v w : T) → SingleOk T k q group gap s v t → SingleView (front k (pieces q (cells s))) w
-      → Gives q (SingleValue T group gap (front k (pieces q (cells s)))) (back k (pieces q (cells s))) (Ok v) t
+  -- where the share has a value, a value is one
+  ok_gives : (s t : Situation) (v w : T) → SingleOk T k q group gap s v t
+      → SingleView (front k (pieces q (cells s))) w
+      → Gives q (SingleValue T group gap (front k (pieces q (cells s))))
+      (back k (pieces q (cells s))) (Ok v) t
   ok_gives s t v w (gave_absent h p ab same st) (view_group g) = absurd (not_empty _ w p g)
-  ok_gives s t v w (gave_absent h p ab same st) (view_gap e a) = (nothing_read _ v p ab, nothing_left _ _ p (ap (pieces q) same ∙ p))
+  ok_gives s t v w (gave_absent h p ab same st) (view_gap e a) =
+      (nothing_read _ v p ab, nothing_left _ _ p (ap (pieces q) same ∙ p))
   ok_gives s t v w (took st ta ne up down) (view_group g) =
       let d = down w _ (of_front k _ w l.words g) in (of_group (to_front k _ v l.words d.0), d.1)
   ok_gives s t v w (took st ta ne up down) (view_gap e a) = absurd (ne (nil_front k _ e))
 
-  err_gives : (s t : Situation) (e : Error) (w : T) → SingleErr T k q group gap s e t → SingleView (front k (pieces q (cells s))) w → class e ≡ OfMemory
+  -- and a refusal is want of memory
+  err_gives : (s t : Situation) (e : Error) (w : T) → SingleErr T k q group gap s e t
+      → SingleView (front k (pieces q (cells s))) w → class e ≡ OfMemory
   err_gives s t e w (of_memory c) v = c
   err_gives s t e w (of_missing c h p same st) (view_group g) = absurd (not_empty _ w p g)
   err_gives s t e w (of_missing c h p same st) (view_gap x a) = absurd (l.no_absent w h a)
@@ -111,90 +173,148 @@ module _ (T : Type 0) (inner : Outcome T) (k : Kind) (q : Roles) (group : Groups
   err_gives s t e w (of_piece c ne n) (view_gap x a) = absurd (ne (nil_front k _ x))
 
   -- a field without a repeat or default
-  single_answers : (s t : Situation) (r : Result T Error) (w : T) → IsWhole s → inner s r t → SingleValue T group gap (front k (pieces q (cells s))) w
-      → Gives q (SingleValue T group gap (front k (pieces q (cells s)))) (back k (pieces q (cells s))) r t
+  single_answers : (s t : Situation) (r : Result T Error) (w : T) → IsWhole s → inner s r t
+      → SingleValue T group gap (front k (pieces q (cells s))) w
+      → Gives q (SingleValue T group gap (front k (pieces q (cells s))))
+      (back k (pieces q (cells s))) r t
   single_answers s t (Ok v) w h i g = ok_gives s t v w (l.ok s t v h i) (single_view _ w g)
   single_answers s t (Err e) w h i g = err_gives s t e w (l.err s t e h i) (single_view _ w g)
 
+  -- a field without a repeat or default keeps to the laws of a field
   pub single_law : FieldLaw T inner k q (SingleValue T group gap)
-  single_law = record { own = l.own; ok = λ s t v w i. single_took s t v (l.ok s t v w i); answers = single_answers }
+  single_law = record {
+    own = l.own;
+    ok = λ s t v w i. single_took s t v (l.ok s t v w i);
+    answers =
+        single_answers;
+  }
 
   -- optional
 
-  no_stop : (s m : Situation) (e : Error) (c : ErrorClass) → Stops e s m → class e ≡ c → (c ≡ OfMissing → ⊥) → (c ≡ Caught → ⊥) → ⊥
+  -- a step doesn't stop at other refusals
+  no_stop : (s m : Situation) (e : Error) (c : ErrorClass) → Stops e s m → class e ≡ c
+      → (c ≡ OfMissing → ⊥) → (c ≡ Caught → ⊥) → ⊥
   no_stop s m e c (nothing_found h n) g a b = a (sym g ∙ h)
   no_stop s m e c (caught h) g a b = b (sym g ∙ h)
 
-  stop_missing : (s m : Situation) (e : Error) → Stops e s m → SingleErr T k q group gap s e m → (gap.has ≡ false) × (pieces q (cells s) ≡ [])
+  -- where it stops there is no piece
+  stop_missing : (s m : Situation) (e : Error) → Stops e s m → SingleErr T k q group gap s e m
+      → (gap.has ≡ false) × (pieces q (cells s) ≡ [])
   stop_missing s m e h (of_memory c) = absurd (no_stop s m e OfMemory h c (λ i. cc) (λ i. cc))
   stop_missing s m e h (of_missing c g p same st) = (g, p)
   stop_missing s m e h (of_absent c g p n) = absurd (no_stop s m e Refused h c (λ i. cc) (λ i. cc))
   stop_missing s m e h (of_piece c p n) = absurd (no_stop s m e Refused h c (λ i. cc) (λ i. cc))
 
-  optional_ok : (s t : Situation) (v : Option T) → IsWhole s → OptionalRan T inner s (Ok v) t → FieldTook (Option T) k q (OptionalValue T group gap) s v t
+  -- a value that may be left out
+  optional_ok : (s t : Situation) (v : Option T) → IsWhole s → OptionalRan T inner s (Ok v) t
+      → FieldTook (Option T) k q (OptionalValue T group gap) s v t
   optional_ok s t v w (optional_some {v = x} i) =
       let a = single_took s t x (l.ok s t x w i) in
-      record { steady = a.steady; takes = a.takes; read = λ n. some_value (a.read n); rest = a.rest }
+      record {
+        steady = a.steady;
+        takes = a.takes;
+        read = λ n. some_value (a.read n);
+        rest =
+            a.rest;
+      }
   optional_ok s t v w (optional_none {e = e} {m = m} i h) =
       let a = stop_missing s m e h (l.err s m e w i) in
       record {
         steady = steady_refl s;
         takes = takes_none;
-        read = λ n. subst (λ z. OptionalValue T group gap z None) (sym (ap (front k) a.1 ∙ front_nil k)) (no_value a.0);
+        read = λ n. subst (λ z. OptionalValue T group gap z None)
+            (sym (ap (front k) a.1 ∙ front_nil k)) (no_value a.0);
         rest = λ n. nothing_left _ _ a.1 a.1;
       }
 
+  -- a value that may be left out: it is there, or not
   data OptionalView (os : List Piece) (v : Option T) : Type 0 where
     view_some : (x : T) → v ≡ Some x → SingleValue T group gap os x → OptionalView os v
     view_none : os ≡ [] → v ≡ None → gap.has ≡ false → OptionalView os v
 
-  optional_view : (os : List Piece) (v : Option T) → OptionalValue T group gap os v → OptionalView os v
+  -- by its constructors
+  optional_view : (os : List Piece) (v : Option T) → OptionalValue T group gap os v
+      → OptionalView os v
   optional_view os v (some_value {v = x} g) = view_some x refl g
   optional_view os v (no_value h) = view_none refl refl h
 
-  same_count : (s m : Situation) → IsWhole s → Steady s m → cells m ≡ cells s → open_count m ≡ open_count s
+  -- where the cells are the same as many items are present
+  same_count : (s m : Situation) → IsWhole s → Steady s m → cells m ≡ cells s
+      → open_count m ≡ open_count s
   same_count s m w st e = open_present m ∙ (ap present_count e ∙ sym (open_present s))
 
-  some_gives : (s t : Situation) (x : T) (v : Option T) → IsWhole s → inner s (Ok x) t → SingleOk T k q group gap s x t → OptionalView (front k (pieces q (cells s))) v
-      → Gives q (OptionalValue T group gap (front k (pieces q (cells s)))) (back k (pieces q (cells s))) (Ok (Some x)) t
-  some_gives s t x v w i o (view_some y e g) = let a = single_answers s t (Ok x) y w i g in (some_value a.0, a.1)
+  -- where the share has a value, Some is right
+  some_gives : (s t : Situation) (x : T) (v : Option T) → IsWhole s → inner s (Ok x) t
+      → SingleOk T k q group gap s x t → OptionalView (front k (pieces q (cells s))) v
+      → Gives q (OptionalValue T group gap (front k (pieces q (cells s))))
+      (back k (pieces q (cells s))) (Ok (Some x)) t
+  some_gives s t x v w i o (view_some y e g) = let a = single_answers s t (Ok x) y w i g in
+      (some_value a.0, a.1)
   some_gives s t x v w i (gave_absent h p ab same st) (view_none e n b) = absurd cc
   some_gives s t x v w i (took st ta ne up down) (view_none e n b) = absurd (ne (nil_front k _ e))
 
-  none_gives : (s m : Situation) (e : Error) (v : Option T) → Stops e s m → SingleErr T k q group gap s e m → OptionalView (front k (pieces q (cells s))) v
-      → Gives q (OptionalValue T group gap (front k (pieces q (cells s)))) (back k (pieces q (cells s))) (Ok None) s
-  none_gives s m e v h r (view_some y x g) = let a = stop_missing s m e h r in absurd (by_view (single_view _ y g) a)
+  -- and where it has none None is
+  none_gives : (s m : Situation) (e : Error) (v : Option T) → Stops e s m
+      → SingleErr T k q group gap s e m → OptionalView (front k (pieces q (cells s))) v
+      → Gives q (OptionalValue T group gap (front k (pieces q (cells s))))
+      (back k (pieces q (cells s))) (Ok None) s
+  none_gives s m e v h r (view_some y x g) = let a = stop_missing s m e h r in
+      absurd (by_view (single_view _ y g) a)
     where
-      by_view : SingleView (front k (pieces q (cells s))) y → (gap.has ≡ false) × (pieces q (cells s) ≡ []) → ⊥
+      by_view : SingleView (front k (pieces q (cells s))) y
+          → (gap.has ≡ false) × (pieces q (cells s) ≡ []) → ⊥
       by_view (view_group z) a = not_empty _ y a.1 z
       by_view (view_gap z ab) a = l.no_absent y a.0 ab
   none_gives s m e v h r (view_none x n b) =
-      let a = stop_missing s m e h r in (subst (λ z. OptionalValue T group gap z None) (sym x) (no_value b), nothing_left _ _ a.1 a.1)
+      let a = stop_missing s m e h r in (
+        subst (λ z. OptionalValue T group gap z None) (sym x)
+            (no_value b),
+        nothing_left _ _ a.1 a.1,
+      )
 
-  none_fails : (s t : Situation) (e : Error) → IsWhole s → (Stops e s t → ⊥) → front k (pieces q (cells s)) ≡ [] → gap.has ≡ false → SingleErr T k q group gap s e t → class e ≡ OfMemory
+  -- where nothing is there no other refusal comes
+  none_fails : (s t : Situation) (e : Error) → IsWhole s → (Stops e s t → ⊥)
+      → front k (pieces q (cells s)) ≡ [] → gap.has ≡ false → SingleErr T k q group gap s e t
+      → class e ≡ OfMemory
   none_fails s t e w n p b (of_memory c) = c
-  none_fails s t e w n p b (of_missing c g p' same st) = absurd (n (nothing_found c (same_count s t w st same)))
+  none_fails s t e w n p b (of_missing c g p' same st) =
+      absurd (n (nothing_found c (same_count s t w st same)))
   none_fails s t e w n p b (of_absent c g p' x) = absurd cc
   none_fails s t e w n p b (of_piece c ne x) = absurd (ne (nil_front k _ p))
 
-  optional_answers : (s t : Situation) (r : Result (Option T) Error) (v : Option T) → IsWhole s → OptionalRan T inner s r t → OptionalView (front k (pieces q (cells s))) v
-      → Gives q (OptionalValue T group gap (front k (pieces q (cells s)))) (back k (pieces q (cells s))) r t
+  -- each answer
+  optional_answers : (s t : Situation) (r : Result (Option T) Error) (v : Option T) → IsWhole s
+      → OptionalRan T inner s r t → OptionalView (front k (pieces q (cells s))) v
+      → Gives q (OptionalValue T group gap (front k (pieces q (cells s))))
+      (back k (pieces q (cells s))) r t
   optional_answers s t r v w (optional_some {v = x} i) g = some_gives s t x v w i (l.ok s t x w i) g
-  optional_answers s t r v w (optional_none {e = e} {m = m} i h) g = none_gives s m e v h (l.err s m e w i) g
-  optional_answers s t r v w (optional_err {e = e} i n) (view_some y x g) = single_answers s t (Err e) y w i g
+  optional_answers s t r v w (optional_none {e = e} {m = m} i h) g =
+      none_gives s m e v h (l.err s m e w i) g
+  optional_answers s t r v w (optional_err {e = e} i n) (view_some y x g) =
+      single_answers s t (Err e) y w i g
   optional_answers s t r v w (optional_memory c) g = c
-  optional_answers s t r v w (optional_err {e = e} i n) (view_none x y b) = none_fails s t e w n x b (l.err s t e w i)
+  optional_answers s t r v w (optional_err {e = e} i n) (view_none x y b) =
+      none_fails s t e w n x b (l.err s t e w i)
 
+  -- what may be left out keeps to the laws of a field
   pub optional_law : FieldLaw (Option T) (OptionalRan T inner) k q (OptionalValue T group gap)
-  optional_law = record { own = l.own; ok = optional_ok; answers = λ s t r v w i g. optional_answers s t r v w i (optional_view _ v g) }
+  optional_law =
+      record {
+        own = l.own;
+        ok = optional_ok;
+        answers =
+            λ s t r v w i g. optional_answers s t r v w i (optional_view _ v g);
+      }
 
   -- fallback
 
   module _ (f : Closure (Unit {0}) T) (decides : Decides f) where
-    catch_nothing : (s m : Situation) (e : Error) → CanCatch e → SingleErr T k q group gap s e m → (gap.has ≡ false) × (pieces q (cells s) ≡ [])
+    catch_nothing : (s m : Situation) (e : Error) → CanCatch e → SingleErr T k q group gap s e m
+        → (gap.has ≡ false) × (pieces q (cells s) ≡ [])
     catch_nothing s m e h (of_memory c) = absurd (no_catch e OfMemory h c (λ i. cc) (λ i. cc))
       where
-        no_catch : (e : Error) (c : ErrorClass) → CanCatch e → class e ≡ c → (c ≡ OfMissing → ⊥) → (c ≡ Caught → ⊥) → ⊥
+        no_catch : (e : Error) (c : ErrorClass) → CanCatch e → class e ≡ c → (c ≡ OfMissing → ⊥)
+            → (c ≡ Caught → ⊥) → ⊥
         no_catch e c (catch_missing h) g a b = a (sym g ∙ h)
         no_catch e c (catch_other h) g a b = b (sym g ∙ h)
     catch_nothing s m e h (of_missing c g p same st) = (g, p)
@@ -203,19 +323,28 @@ module _ (T : Type 0) (inner : Outcome T) (k : Kind) (q : Roles) (group : Groups
     catch_nothing s m e (catch_missing h) (of_piece c p n) = absurd cc
     catch_nothing s m e (catch_other h) (of_piece c p n) = absurd cc
 
-    fallback_took : (s t : Situation) (v : T) → IsWhole s → FallbackRan T inner f s (Ok v) t → FieldTook T k q (FallbackValue T group gap f) s v t
+    fallback_took : (s t : Situation) (v : T) → IsWhole s → FallbackRan T inner f s (Ok v) t
+        → FieldTook T k q (FallbackValue T group gap f) s v t
     fallback_took s t v w (fallback_ok i) =
         let a = single_took s t v (l.ok s t v w i) in
-        record { steady = a.steady; takes = a.takes; read = λ n. own_value (a.read n); rest = a.rest }
+        record {
+          steady = a.steady;
+          takes = a.takes;
+          read = λ n. own_value (a.read n);
+          rest =
+              a.rest;
+        }
     fallback_took s t v w (fallback_given {e = e} {m = m} i h y) =
         let a = catch_nothing s m e h (l.err s m e w i) in
         record {
           steady = steady_refl s;
           takes = takes_none;
-          read = λ n. subst (λ z. FallbackValue T group gap f z v) (sym (ap (front k) a.1 ∙ front_nil k)) (kept_value a.0 y);
+          read = λ n. subst (λ z. FallbackValue T group gap f z v)
+              (sym (ap (front k) a.1 ∙ front_nil k)) (kept_value a.0 y);
           rest = λ n. nothing_left _ _ a.1 a.1;
         }
 
+    -- a value with a default: its own, or the one that is kept
     data FallbackView (os : List Piece) (v : T) : Type 0 where
       view_own : SingleValue T group gap os v → FallbackView os v
       view_kept : os ≡ [] → gap.has ≡ false → f.yes tt v → FallbackView os v
@@ -224,34 +353,54 @@ module _ (T : Type 0) (inner : Outcome T) (k : Kind) (q : Roles) (group : Groups
     fallback_view os v (own_value g) = view_own g
     fallback_view os v (kept_value h y) = view_kept refl h y
 
-    kept_ok : (s t : Situation) (v : T) → front k (pieces q (cells s)) ≡ [] → gap.has ≡ false → SingleOk T k q group gap s v t → ⊥
+    kept_ok : (s t : Situation) (v : T) → front k (pieces q (cells s)) ≡ [] → gap.has ≡ false
+        → SingleOk T k q group gap s v t → ⊥
     kept_ok s t v e h (gave_absent g p ab same st) = cc
     kept_ok s t v e h (took st ta ne up down) = ne (nil_front k _ e)
 
-    own_missing : (s : Situation) (v : T) → (gap.has ≡ false) × (pieces q (cells s) ≡ []) → SingleView (front k (pieces q (cells s))) v → ⊥
+    own_missing : (s : Situation) (v : T) → (gap.has ≡ false) × (pieces q (cells s) ≡ [])
+        → SingleView (front k (pieces q (cells s))) v → ⊥
     own_missing s v a (view_group z) = not_empty _ v a.1 z
     own_missing s v a (view_gap z ab) = l.no_absent v a.0 ab
 
-    kept_fails : (s t : Situation) (e : Error) → (CanCatch e → ⊥) → front k (pieces q (cells s)) ≡ [] → gap.has ≡ false → SingleErr T k q group gap s e t → class e ≡ OfMemory
+    kept_fails : (s t : Situation) (e : Error) → (CanCatch e → ⊥)
+        → front k (pieces q (cells s)) ≡ [] → gap.has ≡ false → SingleErr T k q group gap s e t
+        → class e ≡ OfMemory
     kept_fails s t e n p b (of_memory c) = c
     kept_fails s t e n p b (of_missing c g p' same st) = absurd (n (catch_missing c))
     kept_fails s t e n p b (of_absent c g p' x) = absurd cc
     kept_fails s t e n p b (of_piece c ne x) = absurd (ne (nil_front k _ p))
 
-    fallback_answers : (s t : Situation) (r : Result T Error) (v : T) → IsWhole s → FallbackRan T inner f s r t → FallbackView (front k (pieces q (cells s))) v
-        → Gives q (FallbackValue T group gap f (front k (pieces q (cells s)))) (back k (pieces q (cells s))) r t
-    fallback_answers s t r v w (fallback_ok {v = x} i) (view_own g) = let a = single_answers s t (Ok x) v w i g in (own_value a.0, a.1)
-    fallback_answers s t r v w (fallback_ok {v = x} i) (view_kept e h y) = absurd (kept_ok s t x e h (l.ok s t x w i))
+    fallback_answers : (s t : Situation) (r : Result T Error) (v : T) → IsWhole s
+        → FallbackRan T inner f s r t → FallbackView (front k (pieces q (cells s))) v
+        → Gives q (FallbackValue T group gap f (front k (pieces q (cells s))))
+        (back k (pieces q (cells s))) r t
+    fallback_answers s t r v w (fallback_ok {v = x} i) (view_own g) = let a =
+        single_answers s t (Ok x) v w i g in (own_value a.0, a.1)
+    fallback_answers s t r v w (fallback_ok {v = x} i) (view_kept e h y) =
+        absurd (kept_ok s t x e h (l.ok s t x w i))
     fallback_answers s t r v w (fallback_given {v = x} {e = e} {m = m} i h y) (view_own g) =
         absurd (own_missing s v (catch_nothing s m e h (l.err s m e w i)) (single_view _ v g))
     fallback_answers s t r v w (fallback_given {v = x} {e = e} {m = m} i h y) (view_kept p b z) =
-        let a = catch_nothing s m e h (l.err s m e w i) in (subst (λ os. FallbackValue T group gap f os x) (sym p) (kept_value b y), nothing_left _ _ a.1 a.1)
+        let a = catch_nothing s m e h (l.err s m e w i) in (
+          subst (λ os. FallbackValue T group gap f os x) (sym p)
+              (kept_value b y),
+          nothing_left _ _ a.1 a.1,
+        )
     fallback_answers s t r v w (fallback_no {e = e} {m = m} i h n c) (view_own g) =
         absurd (own_missing s v (catch_nothing s m e h (l.err s m e w i)) (single_view _ v g))
     fallback_answers s t r v w (fallback_no i h n c) (view_kept p b z) = absurd (decides tt v z n)
     fallback_answers s t r v w (fallback_memory c) g = c
-    fallback_answers s t r v w (fallback_err {e = e} {m = m} i n) (view_own g) = single_answers s m (Err e) v w i g
-    fallback_answers s t r v w (fallback_err {e = e} {m = m} i n) (view_kept p b z) = kept_fails s m e n p b (l.err s m e w i)
+    fallback_answers s t r v w (fallback_err {e = e} {m = m} i n) (view_own g) =
+        single_answers s m (Err e) v w i g
+    fallback_answers s t r v w (fallback_err {e = e} {m = m} i n) (view_kept p b z) =
+        kept_fails s m e n p b (l.err s m e w i)
 
     pub fallback_law : FieldLaw T (FallbackRan T inner f) k q (FallbackValue T group gap f)
-    fallback_law = record { own = l.own; ok = fallback_took; answers = λ s t r v w i g. fallback_answers s t r v w i (fallback_view _ v g) }
+    fallback_law =
+        record {
+          own = l.own;
+          ok = fallback_took;
+          answers =
+              λ s t r v w i g. fallback_answers s t r v w i (fallback_view _ v g);
+        }

@@ -33,13 +33,18 @@ pub record IsLast (T : Type 0) (vs : List T) (v : T) : Type 0 where
   pub is : vs ≡ before ++ (v ∷ [])
 
 -- last: its last value. Without a value the inner parser is evaluated once more.
-pub data LastRan (T : Type 0) (inner : Outcome T) (s : Situation) : Result T Error → Situation → Type 0 where
-  last_of : {vs : List T} {v : T} {t : Situation} → StepsRan T inner true None s (Ok vs) t → IsLast T vs v → LastRan T inner s (Ok v) t
-  last_err : {e : Error} {t : Situation} → StepsRan T inner true None s (Err e) t → LastRan T inner s (Err e) t
-  last_again : {r : Result T Error} {m t : Situation} → StepsRan T inner true None s (Ok []) m → inner m r t → LastRan T inner s r t
+pub data LastRan (T : Type 0) (inner : Outcome T) (s : Situation) : Result T Error → Situation
+    → Type 0 where
+  last_of : {vs : List T} {v : T} {t : Situation} → StepsRan T inner true None s (Ok vs) t
+      → IsLast T vs v → LastRan T inner s (Ok v) t
+  last_err : {e : Error} {t : Situation} → StepsRan T inner true None s (Err e) t
+      → LastRan T inner s (Err e) t
+  last_again : {r : Result T Error} {m t : Situation} → StepsRan T inner true None s (Ok []) m
+      → inner m r t → LastRan T inner s r t
 
 -- the last of the own list
-pub record LastOf (T : Type 0) (group : Groups T) (gap : Gap T) (os : List Piece) (v : T) : Type 0 where
+pub record LastOf (T : Type 0) (group : Groups T) (gap : Gap T) (os : List Piece)
+    (v : T) : Type 0 where
   pub list : List T
   pub own : OwnList T group gap os list
   pub is : IsLast T list v

@@ -1,5 +1,7 @@
--- What a flat field keeps to when it is evaluated: its answer and what it takes depend on its own pieces alone.
-use Rattle.std.specs.Prelude.{◌≡◌, ℕ, zero, suc, Bool, true, false, List, [], ◌∷◌, length, Option, None, Result, Ok, Err}
+-- What a flat field keeps to when it is evaluated: its answer and what it takes depend on its own
+-- pieces alone.
+use Rattle.std.specs.Prelude.{◌≡◌, ℕ, zero, suc, Bool, true, false, List, [], ◌∷◌, length, Option}
+use Rattle.std.specs.Prelude.{None, Result, Ok, Err}
 use Rattle.bpaf_words.specs.declared.arg.Arg.{Arg}
 use Rattle.bpaf_line.specs.declared.error.Error.{Error}
 use Rattle.bpaf_line.specs.declared.error.Message.{Message}
@@ -8,7 +10,8 @@ use Rattle.bpaf_line.specs.Messages.{is_memory, can_catch}
 use Rattle.bpaf_line.specs.Situation.{Situation}
 use Rattle.bpaf_line.specs.Taking.{open_item}
 use Rattle.bpaf_laws.specs.Reading.{Outcome}
-use Rattle.bpaf_exact.specs.Pieces.{Cells, Roles, Foreign, Piece, mine, others, no_roles, word_roles, IsNamed, Apart, Cut, pieces, TakesSome}
+use Rattle.bpaf_exact.specs.Pieces.{Cells, Roles, Foreign, Piece, mine, others, no_roles}
+use Rattle.bpaf_exact.specs.Pieces.{word_roles, IsNamed, Apart, Cut, pieces, TakesSome}
 
 -- the classes of refusals
 pub data ErrorClass : Type 0 where
@@ -64,20 +67,23 @@ pub record Steady (s t : Situation) : Type 0 where
 pub data Kind : Type 0 where
   Named OneWord EachWord : Kind
 
--- Of its own pieces a field takes all; a positional field without a repeat takes the first, if there is one.
+-- Of its own pieces a field takes all; a positional field without a repeat takes the first, if
+-- there is one.
 abbrev pub front : Kind → List Piece → List Piece
 front Named os = os
 front EachWord os = os
 front OneWord [] = []
 front OneWord (o ∷ os) = o ∷ []
 
+-- and leaves the others
 abbrev pub back : Kind → List Piece → List Piece
 back Named os = []
 back EachWord os = []
 back OneWord [] = []
 back OneWord (o ∷ os) = os
 
--- Of the pieces that the fields before it left, a field's share: for a named field those that begin with one of its
+-- Of the pieces that the fields before it left, a field's share: for a named field those that begin
+-- with one of its
 -- names; for a positional field one while any is left, or with a repeat all.
 abbrev pub share : Kind → Roles → List Piece → List Piece
 share Named q os = mine q os
@@ -96,6 +102,7 @@ keys Named q = q
 keys OneWord q = no_roles
 keys EachWord q = no_roles
 
+-- the items of a positional field are the words
 pub record IsWords (q : Roles) : Type 0 where
   pub words : (k : Arg) → q k ≡ word_roles k
 
@@ -111,27 +118,33 @@ LeavesNone Named q cs = pieces q cs ≡ []
 LeavesNone OneWord q cs = Unit {0}
 LeavesNone EachWord q cs = Unit {0}
 
--- An answer of a field: it takes pieces of its own alone, and if none of a named field's is left over, the answer is a value of its share.
-pub record FieldTook (T : Type 0) (k : Kind) (q : Roles) (value : List Piece → T → Type 0) (s : Situation) (v : T) (t : Situation) : Type 0 where
+-- An answer of a field: it takes pieces of its own alone, and if none of a named field's is left
+-- over, the answer is a value of its share.
+pub record FieldTook (T : Type 0) (k : Kind) (q : Roles) (value : List Piece → T → Type 0)
+    (s : Situation) (v : T) (t : Situation) : Type 0 where
   pub steady : Steady s t
   pub takes : TakesSome q (cells s) (cells t)
   pub read : LeavesNone k q (cells t) → value (front k (pieces q (cells s))) v
   pub rest : LeavesNone k q (cells t) → pieces q (cells t) ≡ back k (pieces q (cells s))
 
 -- the answer is one of these values, with these pieces left, or it is want of memory
-abbrev pub Gives : {T : Type 0} → Roles → (T → Type 0) → List Piece → Result T Error → Situation → Type 0
+abbrev pub Gives : {T : Type 0} → Roles → (T → Type 0) → List Piece → Result T Error → Situation
+    → Type 0
 Gives q value rest (Ok v) t = value v × (pieces q (cells t) ≡ rest)
 Gives q value rest (Err e) t = class e ≡ OfMemory
 
 -- the laws of a flat field; where its share has a value, each answer is one, or want of memory
-pub record FieldLaw (T : Type 0) (outcome : Outcome T) (k : Kind) (q : Roles) (value : List Piece → T → Type 0) : Type 0 where
+pub record FieldLaw (T : Type 0) (outcome : Outcome T) (k : Kind) (q : Roles)
+    (value : List Piece → T → Type 0) : Type 0 where
   pub own : OwnItems k q
   pub ok : (s t : Situation) (v : T) → IsWhole s → outcome s (Ok v) t → FieldTook T k q value s v t
-  pub answers : (s t : Situation) (r : Result T Error) (w : T) → IsWhole s → outcome s r t → value (front k (pieces q (cells s))) w
+  pub answers : (s t : Situation) (r : Result T Error) (w : T) → IsWhole s → outcome s r t
+      → value (front k (pieces q (cells s))) w
       → Gives q (value (front k (pieces q (cells s)))) (back k (pieces q (cells s))) r t
 
 -- the values of a list of fields are read off the pieces that a line is cut into
-pub record ReadOff (V : Type 0) (r : Roles) (value : List Piece → V → Type 0) (cs : Cells) (v : V) : Type 0 where
+pub record ReadOff (V : Type 0) (r : Roles) (value : List Piece → V → Type 0) (cs : Cells)
+    (v : V) : Type 0 where
   pub cut_into : List Piece
   pub cut : Cut r cs cut_into
   pub read : value cut_into v
@@ -142,11 +155,14 @@ GivesAll value (Ok v) t = value v × NonePresent (cells t)
 GivesAll value (Err e) t = class e ≡ OfMemory
 
 -- the laws of a list of flat fields
-pub record FieldsLaw (V : Type 0) (outcome : Outcome V) (r : Roles) (value : List Piece → V → Type 0) : Type 0 where
+pub record FieldsLaw (V : Type 0) (outcome : Outcome V) (r : Roles)
+    (value : List Piece → V → Type 0) : Type 0 where
   pub named : IsNamed r
   pub steady : (s t : Situation) (v : V) → IsWhole s → outcome s (Ok v) t → Steady s t
-  pub ok : (s t : Situation) (v : V) → IsWhole s → outcome s (Ok v) t → NonePresent (cells t) → ReadOff V r value (cells s) v
-  pub answers : (s t : Situation) (a : Result V Error) (os : List Piece) (w : V) → IsWhole s → outcome s a t
+  pub ok : (s t : Situation) (v : V) → IsWhole s → outcome s (Ok v) t → NonePresent (cells t)
+      → ReadOff V r value (cells s) v
+  pub answers : (s t : Situation) (a : Result V Error) (os : List Piece) (w : V) → IsWhole s
+      → outcome s a t
       → Cut r (cells s) os → value os w → GivesAll (value os) a t
 
 -- a field before others: their keys are apart, and after a positional field no named one stands
@@ -156,5 +172,6 @@ Before OneWord q r = (k : Arg) → r k ≡ Foreign
 Before EachWord q r = (k : Arg) → r k ≡ Foreign
 
 -- the values of a field and of those after it
-abbrev pub BothValue : {A B : Type 0} → Kind → Roles → (List Piece → A → Type 0) → (List Piece → B → Type 0) → List Piece → A × B → Type 0
+abbrev pub BothValue : {A B : Type 0} → Kind → Roles → (List Piece → A → Type 0)
+    → (List Piece → B → Type 0) → List Piece → A × B → Type 0
 BothValue k q first rest os v = first (share k q os) v.0 × rest (left k q os) v.1

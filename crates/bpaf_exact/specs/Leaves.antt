@@ -1,5 +1,6 @@
 -- Flags, arguments and positionals: which items are theirs, and what their pieces mean.
-use Rattle.std.specs.Prelude.{◌≡◌, ℕ, Bool, true, false, List, [], ◌∷◌, Option, Some, None, Result, Ok, Err, if◌then◌else◌}
+use Rattle.std.specs.Prelude.{◌≡◌, ℕ, Bool, true, false, List, [], ◌∷◌, Option, Some, None, Result}
+use Rattle.std.specs.Prelude.{Ok, Err, if◌then◌else◌}
 use Rattle.bpaf_doc.specs.Names.{Names}
 use Rattle.bpaf_text.specs.Named.{Named as Key, KeyWithValue}
 use Rattle.bpaf_words.specs.Items.{is_key_of, is_positional, item_text}
@@ -39,7 +40,8 @@ abbrev pub switch_gap : {T : Type 0} → (T → Type 0) → Gap T
 switch_gap absent = record { has = true; absent = absent }
 
 -- a flag that must be there, or one with an absent value; with a name in the environment neither
-abbrev pub flag_by : {T : Type 0} → (T → T → Type 0) → Names → T → List (List ℕ) → Option T → Shape T
+abbrev pub flag_by : {T : Type 0} → (T → T → Type 0) → Names → T → List (List ℕ) → Option T
+    → Shape T
 flag_by clones names present (env ∷ envs) absent = not_flat
 flag_by clones names present [] None =
     alternative (flag_roles names) (FlagValue (clones present))
@@ -52,7 +54,8 @@ abbrev pub flag_field : {T : Type 0} → (T → T → Type 0) → Key → T → 
 flag_field clones key present absent = flag_by clones key.names present key.envs absent
 
 -- an argument, but for one with a name in the environment, and one that wants an attached value
-abbrev pub argument_by : {T : Type 0} → (List ℕ → T → Type 0) → Names → List (List ℕ) → Bool → Shape T
+abbrev pub argument_by : {T : Type 0} → (List ℕ → T → Type 0) → Names → List (List ℕ) → Bool
+    → Shape T
 argument_by means names (env ∷ envs) adjacent = not_flat
 argument_by means names [] true = not_flat
 argument_by means names [] false = alternative (argument_roles names) (ArgumentValue means)
@@ -67,8 +70,13 @@ abbrev pub word_field : {T : Type 0} → (List ℕ → T → Type 0) → Shape T
 word_field {T = T} means = single OneWord word_roles (FrontOf T (WordValue means)) (no_gap T)
 
 -- the first word taken and its value; its text means none; there is none; or want of memory
-pub data WordRan (T : Type 0) (means : List ℕ → T → Type 0) (s : Situation) : Result T Error → Situation → Type 0 where
-  word_read : {p : ℕ} {strict : Bool} {text : List ℕ} {v : T} {t : Situation} → TakesText s p strict text t → means text v → WordRan T means s (Ok v) t
-  word_fault : {p : ℕ} {strict : Bool} {text : List ℕ} {e : Error} {t : Situation} → TakesText s p strict text t → ((v : T) → means text v → ⊥) → class e ≡ Refused → WordRan T means s (Err e) t
-  word_missing : {e : Error} → HasNone is_positional s → class e ≡ OfMissing → WordRan T means s (Err e) s
+pub data WordRan (T : Type 0) (means : List ℕ → T → Type 0) (s : Situation) : Result T Error
+    → Situation → Type 0 where
+  word_read : {p : ℕ} {strict : Bool} {text : List ℕ} {v : T} {t : Situation}
+      → TakesText s p strict text t → means text v → WordRan T means s (Ok v) t
+  word_fault : {p : ℕ} {strict : Bool} {text : List ℕ} {e : Error} {t : Situation}
+      → TakesText s p strict text t → ((v : T) → means text v → ⊥) → class e ≡ Refused
+      → WordRan T means s (Err e) t
+  word_missing : {e : Error} → HasNone is_positional s → class e ≡ OfMissing
+      → WordRan T means s (Err e) s
   word_memory : {e : Error} {t : Situation} → class e ≡ OfMemory → WordRan T means s (Err e) t

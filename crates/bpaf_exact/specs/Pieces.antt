@@ -1,5 +1,6 @@
 -- How a flat record sees a line: its places, cut into pieces, which the fields share out.
-use Rattle.std.specs.Prelude.{◌≡◌, Bool, true, false, List, [], ◌∷◌, Option, Some, None, if◌then◌else◌}
+use Rattle.std.specs.Prelude.{◌≡◌, Bool, true, false, List, [], ◌∷◌, Option, Some, None}
+use Rattle.std.specs.Prelude.{if◌then◌else◌}
 use Rattle.std.specs.Option.{is_some}
 use Rattle.bpaf_words.specs.Items.{value_text, is_positional}
 use Rattle.bpaf_words.specs.declared.arg.Arg.{Arg}
@@ -9,7 +10,8 @@ use Rattle.bpaf_words.specs.declared.arg.Arg.TheVariants.{Short, Long, ArgWord, 
 abbrev pub Cells : Type 0
 Cells = List (Option Arg)
 
--- what an item is to a field: nothing of its own, a piece by itself, or the key of a piece of two items
+-- what an item is to a field: nothing of its own, a piece by itself, or the key of a piece of two
+-- items
 pub data Role : Type 0 where
   Foreign Alone WithNext : Role
 
@@ -87,10 +89,13 @@ pub record Apart (q r : Roles) : Type 0 where
 pub data Cut (r : Roles) : Cells → List Piece → Type 0 where
   at_end : Cut r [] []
   passed : {cs : Cells} {os : List Piece} → Cut r cs os → Cut r (None ∷ cs) os
-  flag : {k : Arg} {cs : Cells} {os : List Piece} → r k ≡ Alone → Cut r cs os → Cut r (Some k ∷ cs) (One k ∷ os)
-  argument : {k w : Arg} {cs : Cells} {os : List Piece} → r k ≡ WithNext → is_value w ≡ true → Cut r cs os
+  flag : {k : Arg} {cs : Cells} {os : List Piece} → r k ≡ Alone → Cut r cs os
+      → Cut r (Some k ∷ cs) (One k ∷ os)
+  argument : {k w : Arg} {cs : Cells} {os : List Piece} → r k ≡ WithNext → is_value w ≡ true
+      → Cut r cs os
       → Cut r (Some k ∷ (Some w ∷ cs)) (Two k w ∷ os)
-  word : {w : Arg} {cs : Cells} {os : List Piece} → is_positional w ≡ true → Cut r cs os → Cut r (Some w ∷ cs) (One w ∷ os)
+  word : {w : Arg} {cs : Cells} {os : List Piece} → is_positional w ≡ true → Cut r cs os
+      → Cut r (Some w ∷ cs) (One w ∷ os)
 
 -- what an own key makes with the place after it: a piece of two where a value is present there
 abbrev pub with_next : Arg → Cells → Piece
@@ -104,7 +109,8 @@ begin_piece Foreign k cs os = os
 begin_piece Alone k cs os = One k ∷ os
 begin_piece WithNext k cs os = with_next k cs ∷ os
 
--- a field's own keys or words that are present, in line order, each with its value where one is present
+-- a field's own keys or words that are present, in line order, each with its value where one is
+-- present
 abbrev pub pieces : Roles → Cells → List Piece
 pieces r [] = []
 pieces r (None ∷ cs) = pieces r cs
@@ -113,10 +119,13 @@ pieces r (Some k ∷ cs) = begin_piece (r k) k cs (pieces r cs)
 -- one piece of a field's own taken
 pub data Takes (r : Roles) : Cells → Piece → Cells → Type 0 where
   takes_one : {k : Arg} {cs : Cells} → r k ≡ Alone → Takes r (Some k ∷ cs) (One k) (None ∷ cs)
-  takes_two : {k w : Arg} {cs : Cells} → r k ≡ WithNext → is_value w ≡ true → Takes r (Some k ∷ (Some w ∷ cs)) (Two k w) (None ∷ (None ∷ cs))
-  takes_later : {c : Option Arg} {cs ds : Cells} {o : Piece} → Takes r cs o ds → Takes r (c ∷ cs) o (c ∷ ds)
+  takes_two : {k w : Arg} {cs : Cells} → r k ≡ WithNext → is_value w ≡ true
+      → Takes r (Some k ∷ (Some w ∷ cs)) (Two k w) (None ∷ (None ∷ cs))
+  takes_later : {c : Option Arg} {cs ds : Cells} {o : Piece} → Takes r cs o ds
+      → Takes r (c ∷ cs) o (c ∷ ds)
 
 -- some pieces of a field's own taken, in any order
 pub data TakesSome (r : Roles) : Cells → Cells → Type 0 where
   takes_none : {cs : Cells} → TakesSome r cs cs
-  takes_more : {cs ds es : Cells} {o : Piece} → Takes r cs o ds → TakesSome r ds es → TakesSome r cs es
+  takes_more : {cs ds es : Cells} {o : Piece} → Takes r cs o ds → TakesSome r ds es
+      → TakesSome r cs es

@@ -10,7 +10,8 @@ use Rattle.bpaf_exact.specs.Flat.{OfMemory, class, first_cells, Kind, ReadOff, s
 abbrev pub line_cells : Context → Cells
 line_cells context = first_cells (item_in context) (length context.line)
 
--- v is a value of the record on the line: the line is cut into pieces, and each field's share of them
+-- v is a value of the record on the line: the line is cut into pieces, and each field's share of
+-- them
 -- has its value
 abbrev pub RecordValue : {V : Type 0} → Roles → (List Piece → V → Type 0) → Context → V → Type 0
 RecordValue {V = V} r value context v = ReadOff V r value (line_cells context) v
@@ -27,13 +28,18 @@ IsNoValue (Accepted v) = ⊥
 IsNoValue NoMemory = Unit {0}
 IsNoValue Refusal = Unit {0}
 
--- What the steps of a run after the parser make of its answer: a value only where nothing is left present.
+-- What the steps of a run after the parser make of its answer: a value only where nothing is left
+-- present.
 -- Any other end, as a message, a help text or want of memory for it, is no value.
 pub data RunRan (V : Type 0) (outcome : Outcome V) (s : Situation) : Answer V → Type 0 where
-  run_value : {v : V} {t : Situation} → outcome s (Ok v) t → open_count t ≡ 0 → RunRan V outcome s (Accepted v)
-  run_leftover : {a : Answer V} {v : V} {t : Situation} → outcome s (Ok v) t → (open_count t ≡ 0 → ⊥) → IsNoValue a → RunRan V outcome s a
-  run_memory : {e : Error} {t : Situation} → outcome s (Err e) t → class e ≡ OfMemory → RunRan V outcome s NoMemory
-  run_refusal : {a : Answer V} {e : Error} {t : Situation} → outcome s (Err e) t → (class e ≡ OfMemory → ⊥) → IsNoValue a → RunRan V outcome s a
+  run_value : {v : V} {t : Situation} → outcome s (Ok v) t → open_count t ≡ 0
+      → RunRan V outcome s (Accepted v)
+  run_leftover : {a : Answer V} {v : V} {t : Situation} → outcome s (Ok v) t
+      → (open_count t ≡ 0 → ⊥) → IsNoValue a → RunRan V outcome s a
+  run_memory : {e : Error} {t : Situation} → outcome s (Err e) t → class e ≡ OfMemory
+      → RunRan V outcome s NoMemory
+  run_refusal : {a : Answer V} {e : Error} {t : Situation} → outcome s (Err e) t
+      → (class e ≡ OfMemory → ⊥) → IsNoValue a → RunRan V outcome s a
 
 -- an answer is one of these values, or want of memory
 abbrev pub IsAnswer : {V : Type 0} → (V → Type 0) → Answer V → Type 0
@@ -42,13 +48,16 @@ IsAnswer value NoMemory = Unit {0}
 IsAnswer value Refusal = ⊥
 
 -- an answer of a run is exact
-pub record IsExact (V : Type 0) (r : Roles) (value : List Piece → V → Type 0) (context : Context) (a : Answer V) : Type 0 where
+pub record IsExact (V : Type 0) (r : Roles) (value : List Piece → V → Type 0) (context : Context)
+    (a : Answer V) : Type 0 where
   -- a value only where it is one of the record's
   pub sound : (v : V) → a ≡ Accepted v → RecordValue r value context v
   -- where the record has a value, one of its values, or want of memory
-  pub complete : (v : V) → RecordValue r value context v → IsAnswer (λ w. RecordValue r value context w) a
+  pub complete : (v : V) → RecordValue r value context v
+      → IsAnswer (λ w. RecordValue r value context w) a
 
 -- the last field of a product, or a record of one field alone: no piece is left to others
-pub record LastValue (T : Type 0) (k : Kind) (q : Roles) (value : List Piece → T → Type 0) (os : List Piece) (v : T) : Type 0 where
+pub record LastValue (T : Type 0) (k : Kind) (q : Roles) (value : List Piece → T → Type 0)
+    (os : List Piece) (v : T) : Type 0 where
   pub read : value (share k q os) v
   pub none_left : left k q os ≡ []

@@ -5,10 +5,14 @@ use Rattle.bpaf_doc.specs.Names.{Names}
 use Rattle.bpaf_laws.specs.Reading.{Outcome}
 use Rattle.bpaf_exact.specs.Pieces.{Roles, Piece, either, no_roles}
 use Rattle.bpaf_exact.specs.Names.{Owns, are_all_apart}
-use Rattle.bpaf_exact.specs.Flat.{Kind, Named, OneWord, EachWord, FieldLaw, FieldsLaw, keys, BothValue}
-use Rattle.bpaf_exact.specs.Single.{Groups, Gap, FrontOf, no_gap, SingleLaw, SingleValue, OwnList, repeated}
-use Rattle.bpaf_exact.specs.Wrappers.{Closure, AgreesOn, ClosedPiece, ClosedGroup, closed_gap, ClosedValue, OptionalValue, FallbackValue}
-use Rattle.bpaf_exact.specs.Derived.{LastOf, list_closure, some_closure, count_closure, collect_closure}
+use Rattle.bpaf_exact.specs.Flat.{Kind, Named, OneWord, EachWord, FieldLaw, FieldsLaw, keys}
+use Rattle.bpaf_exact.specs.Flat.{BothValue}
+use Rattle.bpaf_exact.specs.Single.{Groups, Gap, FrontOf, no_gap, SingleLaw, SingleValue, OwnList}
+use Rattle.bpaf_exact.specs.Single.{repeated}
+use Rattle.bpaf_exact.specs.Wrappers.{Closure, AgreesOn, ClosedPiece, ClosedGroup, closed_gap}
+use Rattle.bpaf_exact.specs.Wrappers.{ClosedValue, OptionalValue, FallbackValue}
+use Rattle.bpaf_exact.specs.Derived.{LastOf, list_closure, some_closure, count_closure}
+use Rattle.bpaf_exact.specs.Derived.{collect_closure}
 use Rattle.bpaf_exact.specs.Alternative.{AlternativeLaw, either_value}
 use Rattle.bpaf_exact.specs.Record.{LastValue}
 
@@ -75,7 +79,8 @@ abbrev pub choice_shape : {T : Type 0} → List Names → List Names → Shape T
 choice_shape own others a b = only_if (are_all_apart own others) (either_shape a b)
 
 -- a choice of what stands before and of parsers, nested to the left
-abbrev pub choices_rest : {P T : Type 0} → (P → List Names) → (P → Shape T) → List Names → Shape T → List P
+abbrev pub choices_rest : {P T : Type 0} → (P → List Names) → (P → Shape T) → List Names → Shape T
+    → List P
     → Shape T
 choices_rest names shape own before [] = before
 choices_rest names shape own before (p ∷ ps) =

@@ -1,17 +1,21 @@
--- A flat field without a repeat or default: one evaluation, and what repeats and defaults make of it.
-use Rattle.std.specs.Prelude.{◌≡◌, ℕ, suc, ◌<◌, ◌≤◌, Bool, true, false, List, [], ◌∷◌, Option, Some, None, Result, Ok, Err}
+-- A flat field without a repeat or default: one evaluation, and what repeats and defaults make of
+-- it.
+use Rattle.std.specs.Prelude.{◌≡◌, ℕ, suc, ◌<◌, ◌≤◌, Bool, true, false, List, [], ◌∷◌, Option, Some}
+use Rattle.std.specs.Prelude.{None, Result, Ok, Err}
 use Rattle.bpaf_line.specs.declared.error.Error.{Error}
 use Rattle.bpaf_line.specs.Situation.{Situation, open_count}
 use Rattle.bpaf_laws.specs.Reading.{Outcome}
 use Rattle.bpaf_exact.specs.Pieces.{Cells, Roles, Piece, pieces, Takes, TakesSome}
-use Rattle.bpaf_exact.specs.Flat.{OfMemory, OfMissing, Caught, Refused, class, cells, IsWhole, Steady, Kind, Named, OneWord, EachWord, front, back, OwnItems}
+use Rattle.bpaf_exact.specs.Flat.{OfMemory, OfMissing, Caught, Refused, class, cells, IsWhole}
+use Rattle.bpaf_exact.specs.Flat.{Steady, Kind, Named, OneWord, EachWord, front, back, OwnItems}
 
 -- how one evaluation reads a value off the front of the own pieces, and which it leaves
 abbrev pub Groups : Type 0 → Type 1
 Groups T = List Piece → T → List Piece → Type 0
 
 -- the first piece alone, where each piece has its value by itself
-pub record FrontOf (T : Type 0) (value : Piece → T → Type 0) (os : List Piece) (v : T) (rest : List Piece) : Type 0 where
+pub record FrontOf (T : Type 0) (value : Piece → T → Type 0) (os : List Piece) (v : T)
+    (rest : List Piece) : Type 0 where
   pub piece : Piece
   pub is : os ≡ piece ∷ rest
   pub means : value piece v
@@ -19,7 +23,8 @@ pub record FrontOf (T : Type 0) (value : Piece → T → Type 0) (os : List Piec
 -- the values read off the pieces, one after the other
 pub data Own (T : Type 0) (group : Groups T) : List Piece → List T → Type 0 where
   own_none : Own T group [] []
-  own_more : {os rest : List Piece} {v : T} {vs : List T} → group os v rest → Own T group rest vs → Own T group os (v ∷ vs)
+  own_more : {os rest : List Piece} {v : T} {vs : List T} → group os v rest → Own T group rest vs
+      → Own T group os (v ∷ vs)
 
 -- at least one piece taken
 pub record TakesAny (q : Roles) (cs ds : Cells) : Type 0 where
@@ -40,30 +45,40 @@ pub record Gap (T : Type 0) : Type 1 where
   pub absent : T → Type 0
 
 -- a value of one evaluation
-pub data SingleOk (T : Type 0) (k : Kind) (q : Roles) (group : Groups T) (gap : Gap T) (s : Situation) (v : T) (t : Situation) : Type 0 where
+pub data SingleOk (T : Type 0) (k : Kind) (q : Roles) (group : Groups T) (gap : Gap T)
+    (s : Situation) (v : T) (t : Situation) : Type 0 where
   -- no piece: the absent value, and nothing is taken
-  gave_absent : gap.has ≡ true → pieces q (cells s) ≡ [] → gap.absent v → cells t ≡ cells s → Steady s t → SingleOk T k q group gap s v t
+  gave_absent : gap.has ≡ true → pieces q (cells s) ≡ [] → gap.absent v → cells t ≡ cells s
+      → Steady s t → SingleOk T k q group gap s v t
   -- a value of the first group, if the rest can be read at all
   took : Steady s t → TakesAny q (cells s) (cells t)
       → (pieces q (cells s) ≡ [] → ⊥)
       → (Readable k group (pieces q (cells t)) → group (pieces q (cells s)) v (pieces q (cells t)))
-      → ((w : T) (rest : List Piece) → group (pieces q (cells s)) w rest → group (pieces q (cells s)) v rest × (pieces q (cells t) ≡ rest))
+      → ((w : T) (rest : List Piece) → group (pieces q (cells s)) w rest
+      → group (pieces q (cells s)) v rest × (pieces q (cells t) ≡ rest))
       → SingleOk T k q group gap s v t
 
 -- a refusal of one evaluation
-pub data SingleErr (T : Type 0) (k : Kind) (q : Roles) (group : Groups T) (gap : Gap T) (s : Situation) (e : Error) (t : Situation) : Type 0 where
+pub data SingleErr (T : Type 0) (k : Kind) (q : Roles) (group : Groups T) (gap : Gap T)
+    (s : Situation) (e : Error) (t : Situation) : Type 0 where
   of_memory : class e ≡ OfMemory → SingleErr T k q group gap s e t
   -- no piece, and no value for that
-  of_missing : class e ≡ OfMissing → gap.has ≡ false → pieces q (cells s) ≡ [] → cells t ≡ cells s → Steady s t → SingleErr T k q group gap s e t
+  of_missing : class e ≡ OfMissing → gap.has ≡ false → pieces q (cells s) ≡ [] → cells t ≡ cells s
+      → Steady s t → SingleErr T k q group gap s e t
   -- no piece, and the absent value is refused
-  of_absent : class e ≡ Refused → gap.has ≡ true → pieces q (cells s) ≡ [] → ((v : T) → gap.absent v → ⊥) → SingleErr T k q group gap s e t
+  of_absent : class e ≡ Refused → gap.has ≡ true → pieces q (cells s) ≡ []
+      → ((v : T) → gap.absent v → ⊥) → SingleErr T k q group gap s e t
   -- a piece that can't be read
-  of_piece : class e ≡ Refused → (pieces q (cells s) ≡ [] → ⊥) → ((w : T) (rest : List Piece) → group (pieces q (cells s)) w rest → ⊥) → SingleErr T k q group gap s e t
+  of_piece : class e ≡ Refused → (pieces q (cells s) ≡ [] → ⊥)
+      → ((w : T) (rest : List Piece) → group (pieces q (cells s)) w rest → ⊥)
+      → SingleErr T k q group gap s e t
 
 -- a positional field without a repeat reads its first word alone
 pub record WordByWord (T : Type 0) (group : Groups T) : Type 0 where
-  pub by_front : (os : List Piece) (v : T) (rest : List Piece) → group os v rest → group (front OneWord os) v [] × (rest ≡ back OneWord os)
-  pub of_front : (os : List Piece) (v : T) → group (front OneWord os) v [] → group os v (back OneWord os)
+  pub by_front : (os : List Piece) (v : T) (rest : List Piece) → group os v rest
+      → group (front OneWord os) v [] × (rest ≡ back OneWord os)
+  pub of_front : (os : List Piece) (v : T) → group (front OneWord os) v []
+      → group os v (back OneWord os)
 
 -- how a field of a kind reads words
 abbrev pub ReadsWords : {T : Type 0} → Kind → Groups T → Type 0
@@ -72,18 +87,24 @@ ReadsWords {T = T} OneWord group = WordByWord T group
 ReadsWords EachWord group = ⊥
 
 -- the laws of a field without a repeat or default
-pub record SingleLaw (T : Type 0) (outcome : Outcome T) (k : Kind) (q : Roles) (group : Groups T) (gap : Gap T) : Type 0 where
+pub record SingleLaw (T : Type 0) (outcome : Outcome T) (k : Kind) (q : Roles) (group : Groups T)
+    (gap : Gap T) : Type 0 where
   pub own : OwnItems k q
   pub words : ReadsWords k group
   pub starts : (v : T) (rest : List Piece) → group [] v rest → ⊥
   pub no_absent : (v : T) → gap.has ≡ false → gap.absent v → ⊥
-  pub ok : (s t : Situation) (v : T) → IsWhole s → outcome s (Ok v) t → SingleOk T k q group gap s v t
-  pub err : (s t : Situation) (e : Error) → IsWhole s → outcome s (Err e) t → SingleErr T k q group gap s e t
+  pub ok : (s t : Situation) (v : T) → IsWhole s → outcome s (Ok v) t
+      → SingleOk T k q group gap s v t
+  pub err : (s t : Situation) (e : Error) → IsWhole s → outcome s (Err e) t
+      → SingleErr T k q group gap s e t
 
--- The own list under a repeat; the absent value must be there also where it isn't used: the repeat asks once more.
+-- The own list under a repeat; the absent value must be there also where it isn't used: the repeat
+-- asks once more.
 pub data OwnList (T : Type 0) (group : Groups T) (gap : Gap T) : List Piece → List T → Type 0 where
-  listed : {os : List Piece} {vs : List T} → gap.has ≡ false → Own T group os vs → OwnList T group gap os vs
-  listed_and_absent : {os : List Piece} {v a : T} {vs : List T} → gap.has ≡ true → gap.absent a → Own T group os (v ∷ vs) → OwnList T group gap os (v ∷ vs)
+  listed : {os : List Piece} {vs : List T} → gap.has ≡ false → Own T group os vs
+      → OwnList T group gap os vs
+  listed_and_absent : {os : List Piece} {v a : T} {vs : List T} → gap.has ≡ true → gap.absent a
+      → Own T group os (v ∷ vs) → OwnList T group gap os (v ∷ vs)
   only_absent : {a : T} → gap.has ≡ true → gap.absent a → OwnList T group gap [] (a ∷ [])
 
 -- the value of a field without a repeat or default
@@ -108,17 +129,27 @@ IsFewer m None = Unit {0}
 IsFewer m (Some n) = open_count m < n
 
 -- the steps of a repeat; idle says that it stops also after a value that took nothing.
-pub data StepsRan (T : Type 0) (inner : Outcome T) (idle : Bool) : Option ℕ → Situation → Result (List T) Error → Situation → Type 0 where
-  step : {last : Option ℕ} {s m t : Situation} {v : T} {vs : List T} → inner s (Ok v) m → IsFewer m last
-      → StepsRan T inner idle (Some (open_count m)) m (Ok vs) t → StepsRan T inner idle last s (Ok (v ∷ vs)) t
-  step_failed : {last : Option ℕ} {s m t : Situation} {v : T} {e : Error} → inner s (Ok v) m → IsFewer m last
-      → StepsRan T inner idle (Some (open_count m)) m (Err e) t → StepsRan T inner idle last s (Err e) t
-  idle_step : {last : Option ℕ} {s t : Situation} {v : T} → idle ≡ true → inner s (Ok v) t → IsFewer t last → open_count s ≤ open_count t
+pub data StepsRan (T : Type 0) (inner : Outcome T) (idle : Bool) : Option ℕ → Situation
+    → Result (List T) Error → Situation → Type 0 where
+  step : {last : Option ℕ} {s m t : Situation} {v : T} {vs : List T} → inner s (Ok v) m
+      → IsFewer m last
+      → StepsRan T inner idle (Some (open_count m)) m (Ok vs) t
+      → StepsRan T inner idle last s (Ok (v ∷ vs)) t
+  step_failed : {last : Option ℕ} {s m t : Situation} {v : T} {e : Error} → inner s (Ok v) m
+      → IsFewer m last
+      → StepsRan T inner idle (Some (open_count m)) m (Err e) t
+      → StepsRan T inner idle last s (Err e) t
+  idle_step : {last : Option ℕ} {s t : Situation} {v : T} → idle ≡ true → inner s (Ok v) t
+      → IsFewer t last → open_count s ≤ open_count t
       → StepsRan T inner idle last s (Ok (v ∷ [])) t
-  enough : {last : Option ℕ} {s t : Situation} {v : T} → inner s (Ok v) t → (IsFewer t last → ⊥) → StepsRan T inner idle last s (Ok []) t
-  stopped : {last : Option ℕ} {s m : Situation} {e : Error} → inner s (Err e) m → Stops e s m → StepsRan T inner idle last s (Ok []) s
-  failed : {last : Option ℕ} {s t : Situation} {e : Error} → inner s (Err e) t → (Stops e s t → ⊥) → StepsRan T inner idle last s (Err e) t
-  no_room : {last : Option ℕ} {s t : Situation} {e : Error} → class e ≡ OfMemory → StepsRan T inner idle last s (Err e) t
+  enough : {last : Option ℕ} {s t : Situation} {v : T} → inner s (Ok v) t → (IsFewer t last → ⊥)
+      → StepsRan T inner idle last s (Ok []) t
+  stopped : {last : Option ℕ} {s m : Situation} {e : Error} → inner s (Err e) m → Stops e s m
+      → StepsRan T inner idle last s (Ok []) s
+  failed : {last : Option ℕ} {s t : Situation} {e : Error} → inner s (Err e) t → (Stops e s t → ⊥)
+      → StepsRan T inner idle last s (Err e) t
+  no_room : {last : Option ℕ} {s t : Situation} {e : Error} → class e ≡ OfMemory
+      → StepsRan T inner idle last s (Err e) t
 
 -- the number of places where an item is present
 abbrev pub present_count : Cells → ℕ

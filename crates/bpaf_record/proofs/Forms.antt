@@ -1,13 +1,16 @@
 -- What the combinators make of a form.
 use Rattle.std.proofs.Common.{◌≡◌, Bool, true, false, List, Option, ◌&&◌, if◌then◌else◌, refl}
 use Rattle.bpaf_exact.specs.Flat.{Kind, Named, OneWord, EachWord}
-use Rattle.bpaf_exact.specs.Shape.{Shape, not_flat, alternative, single, complete, product, closed_shape, repeat_shape, last_shape, optional_shape, fallback_shape, unless, is_record}
+use Rattle.bpaf_exact.specs.Shape.{Shape, not_flat, alternative, single, complete, product}
+use Rattle.bpaf_exact.specs.Shape.{closed_shape, repeat_shape, last_shape, optional_shape}
+use Rattle.bpaf_exact.specs.Shape.{fallback_shape, unless, is_record}
 use Rattle.bpaf_exact.specs.Wrappers.{Closure}
 use Rattle.bpaf_record.specs.Form.{form_of, closed_form, completed_form, is_record_form}
 use Rattle.bpaf_record.specs.declared.form.Form.TheVariants.{NotFlat}
 
 -- a closure
-pub closed_is : {A B : Type 0} (f : Closure A B) (s : Shape A) → closed_form (form_of s) ≡ form_of (closed_shape f s)
+pub closed_is : {A B : Type 0} (f : Closure A B) (s : Shape A)
+    → closed_form (form_of s) ≡ form_of (closed_shape f s)
 closed_is f not_flat = refl
 closed_is f (alternative q value) = refl
 closed_is f (single Named q group gap) = refl
@@ -19,7 +22,8 @@ closed_is f (complete EachWord q value) = refl
 closed_is f (product q value) = refl
 
 -- a repeat, and what is made of its list
-pub listed_is : {T B : Type 0} (f : Closure (List T) B) (s : Shape T) → completed_form (form_of s) ≡ form_of (closed_shape f (repeat_shape s))
+pub listed_is : {T B : Type 0} (f : Closure (List T) B) (s : Shape T)
+    → completed_form (form_of s) ≡ form_of (closed_shape f (repeat_shape s))
 listed_is f not_flat = refl
 listed_is f (alternative q value) = refl
 listed_is f (single Named q group gap) = refl
@@ -43,7 +47,8 @@ last_is (complete EachWord q value) = refl
 last_is (product q value) = refl
 
 -- optional
-pub optional_is : {T : Type 0} (s : Shape T) → completed_form (form_of s) ≡ form_of (optional_shape s)
+pub optional_is : {T : Type 0} (s : Shape T)
+    → completed_form (form_of s) ≡ form_of (optional_shape s)
 optional_is not_flat = refl
 optional_is (alternative q value) = refl
 optional_is (single Named q group gap) = refl
@@ -55,7 +60,8 @@ optional_is (complete EachWord q value) = refl
 optional_is (product q value) = refl
 
 -- a default
-pub fallback_is : {T : Type 0} (f : Closure (Unit {0}) T) (s : Shape T) → completed_form (form_of s) ≡ form_of (fallback_shape f s)
+pub fallback_is : {T : Type 0} (f : Closure (Unit {0}) T) (s : Shape T)
+    → completed_form (form_of s) ≡ form_of (fallback_shape f s)
 fallback_is f not_flat = refl
 fallback_is f (alternative q value) = refl
 fallback_is f (single Named q group gap) = refl
@@ -67,7 +73,8 @@ fallback_is f (complete EachWord q value) = refl
 fallback_is f (product q value) = refl
 
 -- `catch`
-pub caught_is : {T : Type 0} (catch : Bool) (s : Shape T) → (if catch then NotFlat else form_of s) ≡ form_of (unless catch s)
+pub caught_is : {T : Type 0} (catch : Bool) (s : Shape T)
+    → (if catch then NotFlat else form_of s) ≡ form_of (unless catch s)
 caught_is true s = refl
 caught_is false s = refl
 

@@ -1,5 +1,7 @@
 -- What choices and products make of forms, and of tests of their keys.
-use Rattle.std.proofs.Common.{◌≡◌, ℕ, suc, ◌+◌, ◌<◌, Bool, true, false, ◌&&◌, List, [], ◌∷◌, ◌++◌, length, take, drop, flat_map, slice_index_or, refl, sym, ap, ◌∙◌, arith, append-nil, ◌≤◌}
+use Rattle.std.proofs.Common.{◌≡◌, ℕ, suc, ◌+◌, ◌<◌, Bool, true, false, ◌&&◌, List, [], ◌∷◌, ◌++◌}
+use Rattle.std.proofs.Common.{length, take, drop, flat_map, slice_index_or, refl, sym, ap, ◌∙◌}
+use Rattle.std.proofs.Common.{arith, append-nil, ◌≤◌}
 use Rattle.std.proofs.lemmas.List.{take_more, drop_more, drop_all}
 use Rattle.std.proofs.lemmas.List.Concat.{flat_map-append}
 use Rattle.std.specs.List.{list_all}
@@ -8,18 +10,23 @@ use Rattle.bpaf_doc.specs.Names.{Names}
 use Rattle.bpaf_exact.specs.Names.{are_apart, are_all_apart}
 use Rattle.bpaf_exact.specs.Pieces.{Roles, Piece}
 use Rattle.bpaf_exact.specs.Flat.{Kind, Named, OneWord, EachWord}
-use Rattle.bpaf_exact.specs.Shape.{Shape, not_flat, alternative, single, complete, product, only_if, either_shape, choice_shape, choices_rest, alternative_only, choices_shape, field_shape, both_shape, alone_shape, con_shape}
+use Rattle.bpaf_exact.specs.Shape.{Shape, not_flat, alternative, single, complete, product, only_if}
+use Rattle.bpaf_exact.specs.Shape.{either_shape, choice_shape, choices_rest, alternative_only}
+use Rattle.bpaf_exact.specs.Shape.{choices_shape, field_shape, both_shape, alone_shape, con_shape}
 use Rattle.bpaf_exact.specs.Wrappers.{Closure}
 use Rattle.bpaf_record.specs.declared.form.Form.{Form}
 use Rattle.bpaf_record.specs.declared.form.Form.TheVariants.{NotFlat}
-use Rattle.bpaf_record.specs.Form.{form_of, product_if, field_form, alternative_form, joined_form, alone_form, before_form, made_form, forms_rest}
+use Rattle.bpaf_record.specs.Form.{form_of, product_if, field_form, alternative_form, joined_form}
+use Rattle.bpaf_record.specs.Form.{alone_form, before_form, made_form, forms_rest}
 
 -- a test of the keys of two
-pub all_joined : {X : Type 0} (test : X → Bool) (xs ys : List X) → (list_all test xs && list_all test ys) ≡ list_all test (xs ++ ys)
+pub all_joined : {X : Type 0} (test : X → Bool) (xs ys : List X)
+    → (list_all test xs && list_all test ys) ≡ list_all test (xs ++ ys)
 all_joined test xs ys = sym (list_all-append test xs ys)
 
 -- the last field
-pub alone_is : {T : Type 0} (s : Shape T) → alone_form (field_form (form_of s)) ≡ form_of (alone_shape (field_shape s))
+pub alone_is : {T : Type 0} (s : Shape T)
+    → alone_form (field_form (form_of s)) ≡ form_of (alone_shape (field_shape s))
 alone_is not_flat = refl
 alone_is (alternative q value) = refl
 alone_is (single Named q group gap) = refl
@@ -31,7 +38,8 @@ alone_is (complete EachWord q value) = refl
 alone_is (product q value) = refl
 
 -- a constructor
-pub con_is : {A B : Type 0} (f : Closure A B) (s : Shape A) → made_form (form_of s) ≡ form_of (con_shape f s)
+pub con_is : {A B : Type 0} (f : Closure A B) (s : Shape A)
+    → made_form (form_of s) ≡ form_of (con_shape f s)
 con_is f not_flat = refl
 con_is f (alternative q value) = refl
 con_is f (single Named q group gap) = refl
@@ -55,7 +63,8 @@ only_is (complete EachWord q value) = refl
 only_is (product q value) = refl
 
 -- a choice of two whose keys are apart
-either_is : {T : Type 0} (s t : Shape T) → joined_form true (form_of s) (form_of t) ≡ form_of (either_shape s t)
+either_is : {T : Type 0} (s t : Shape T)
+    → joined_form true (form_of s) (form_of t) ≡ form_of (either_shape s t)
 either_is not_flat t = refl
 either_is (alternative q value) not_flat = refl
 either_is (alternative q value) (alternative r other) = refl
@@ -75,22 +84,27 @@ either_is (complete EachWord q value) t = refl
 either_is (product q value) t = refl
 
 -- a choice of two
-joined_is : {T : Type 0} (apart : Bool) (s t : Shape T) → joined_form apart (form_of s) (form_of t) ≡ form_of (only_if apart (either_shape s t))
+joined_is : {T : Type 0} (apart : Bool) (s t : Shape T)
+    → joined_form apart (form_of s) (form_of t) ≡ form_of (only_if apart (either_shape s t))
 joined_is true s t = either_is s t
 joined_is false s t = refl
 
 -- a choice of two, by their keys
-pub choice_is : {T : Type 0} (own others : List Names) (s t : Shape T) → joined_form (are_all_apart own others) (form_of s) (form_of t) ≡ form_of (choice_shape own others s t)
+pub choice_is : {T : Type 0} (own others : List Names) (s t : Shape T)
+    → joined_form (are_all_apart own others) (form_of s) (form_of t)
+    ≡ form_of (choice_shape own others s t)
 choice_is own others s t = joined_is (are_all_apart own others) s t
 
 -- a product, where a test holds
-named_is : {T : Type 0} (apart : Bool) (q : Roles) (value : List Piece → T → Type 0) → product_if apart ≡ form_of (only_if apart (product q value))
+named_is : {T : Type 0} (apart : Bool) (q : Roles) (value : List Piece → T → Type 0)
+    → product_if apart ≡ form_of (only_if apart (product q value))
 named_is true q value = refl
 named_is false q value = refl
 
 -- a field before others
 pub both_is : {A B : Type 0} (own others : List Names) (s : Shape A) (t : Shape B)
-    → before_form (field_form (form_of s)) (form_of t) (are_all_apart own others) (list_all (λ names. false) others) ≡ form_of (both_shape own others (field_shape s) t)
+    → before_form (field_form (form_of s)) (form_of t) (are_all_apart own others)
+    (list_all (λ names. false) others) ≡ form_of (both_shape own others (field_shape s) t)
 both_is own others not_flat t = refl
 both_is own others (alternative q value) not_flat = refl
 both_is own others (alternative q value) (alternative r other) = refl
@@ -109,7 +123,8 @@ both_is own others (single Named q group gap) (single EachWord r other rest) = r
 both_is own others (single Named q group gap) (complete Named r other) = refl
 both_is own others (single Named q group gap) (complete OneWord r other) = refl
 both_is own others (single Named q group gap) (complete EachWord r other) = refl
-both_is own others (single Named q group gap) (product r other) = named_is (are_all_apart own others) _ _
+both_is own others (single Named q group gap) (product r other) =
+    named_is (are_all_apart own others) _ _
 both_is own others (single OneWord q group gap) not_flat = refl
 both_is own others (single OneWord q group gap) (alternative r other) = refl
 both_is own others (single OneWord q group gap) (single Named r other rest) = refl
@@ -138,7 +153,8 @@ both_is own others (complete Named q value) (single EachWord r group gap) = refl
 both_is own others (complete Named q value) (complete Named r other) = refl
 both_is own others (complete Named q value) (complete OneWord r other) = refl
 both_is own others (complete Named q value) (complete EachWord r other) = refl
-both_is own others (complete Named q value) (product r other) = named_is (are_all_apart own others) _ _
+both_is own others (complete Named q value) (product r other) =
+    named_is (are_all_apart own others) _ _
 both_is own others (complete OneWord q value) not_flat = refl
 both_is own others (complete OneWord q value) (alternative r other) = refl
 both_is own others (complete OneWord q value) (single Named r group gap) = refl
@@ -162,11 +178,14 @@ both_is own (names ∷ others) (complete EachWord q value) (product r other) = r
 both_is own others (product q value) t = refl
 
 -- a choice of what stands before and of parsers
-rest_is : {P T : Type 0} (keys : P → List Names) (shape : P → Shape T) (own : List Names) (s : Shape T) (ps : List P)
-    → forms_rest keys (λ p. form_of (shape p)) own (form_of s) ps ≡ form_of (choices_rest keys shape own s ps)
+rest_is : {P T : Type 0} (keys : P → List Names) (shape : P → Shape T) (own : List Names)
+    (s : Shape T) (ps : List P)
+    → forms_rest keys (λ p. form_of (shape p)) own (form_of s) ps
+    ≡ form_of (choices_rest keys shape own s ps)
 rest_is keys shape own s [] = refl
 rest_is keys shape own s (p ∷ ps) =
-    ap (λ form. forms_rest keys (λ q. form_of (shape q)) (own ++ keys p) form ps) (choice_is own (keys p) s (shape p))
+    ap (λ form. forms_rest keys (λ q. form_of (shape q)) (own ++ keys p) form ps)
+    (choice_is own (keys p) s (shape p))
     ∙ rest_is keys shape (own ++ keys p) (choice_shape own (keys p) s (shape p)) ps
 
 -- the keys of one parser more
@@ -178,25 +197,34 @@ keys_more keys ps i d l =
     ∙ ap (λ names. flat_map keys (take i ps) ++ names) (append-nil (keys (slice_index_or ps i d))))
 
 -- one parser more is joined
-pub join_step : {P : Type 0} (keys : P → List Names) (form : P → Form) (f : Form) (ps : List P) (i : ℕ) (d : P) → i < length ps
+pub join_step : {P : Type 0} (keys : P → List Names) (form : P → Form) (f : Form) (ps : List P)
+    (i : ℕ) (d : P) → i < length ps
     → forms_rest keys form (flat_map keys (take (i + 1) ps))
-    (joined_form (are_all_apart (flat_map keys (take i ps)) (keys (slice_index_or ps i d))) f (form (slice_index_or ps i d))) (drop (i + 1) ps)
+    (joined_form (are_all_apart (flat_map keys (take i ps)) (keys (slice_index_or ps i d))) f
+    (form (slice_index_or ps i d))) (drop (i + 1) ps)
     ≡ forms_rest keys form (flat_map keys (take i ps)) f (drop i ps)
 join_step keys form f ps i d l =
-    ap (λ names. forms_rest keys form names (joined_form (are_all_apart (flat_map keys (take i ps)) (keys (slice_index_or ps i d))) f (form (slice_index_or ps i d))) (drop (i + 1) ps)) (keys_more keys ps i d l)
+    ap (λ names. forms_rest keys form names
+    (joined_form (are_all_apart (flat_map keys (take i ps)) (keys (slice_index_or ps i d))) f
+    (form (slice_index_or ps i d))) (drop (i + 1) ps)) (keys_more keys ps i d l)
     ∙ sym (ap (forms_rest keys form (flat_map keys (take i ps)) f) (drop_more ps i d l))
 
 -- when all are joined
-pub join_end : {P : Type 0} (keys : P → List Names) (form : P → Form) (f : Form) (ps : List P) (i : ℕ) → length ps ≤ i
+pub join_end : {P : Type 0} (keys : P → List Names) (form : P → Form) (f : Form) (ps : List P)
+    (i : ℕ) → length ps ≤ i
     → forms_rest keys form (flat_map keys (take i ps)) f (drop i ps) ≡ f
-join_end keys form f ps i l = ap (forms_rest keys form (flat_map keys (take i ps)) f) (drop_all i ps l)
+join_end keys form f ps i l =
+    ap (forms_rest keys form (flat_map keys (take i ps)) f) (drop_all i ps l)
 
 -- the choice of all parsers
-pub choices_is : {P T : Type 0} (keys : P → List Names) (shape : P → Shape T) (ps : List P) (d : P) → 1 ≤ length ps
-    → forms_rest keys (λ p. form_of (shape p)) (flat_map keys (take 1 ps)) (alternative_form (form_of (shape (slice_index_or ps 0 d)))) (drop 1 ps)
+pub choices_is : {P T : Type 0} (keys : P → List Names) (shape : P → Shape T) (ps : List P) (d : P)
+    → 1 ≤ length ps
+    → forms_rest keys (λ p. form_of (shape p)) (flat_map keys (take 1 ps))
+    (alternative_form (form_of (shape (slice_index_or ps 0 d)))) (drop 1 ps)
     ≡ form_of (choices_shape keys shape ps)
 choices_is keys shape [] d l = absurd (omega arith)
 choices_is keys shape (p ∷ ps) d l =
-    ap (λ names. forms_rest keys (λ q. form_of (shape q)) names (alternative_form (form_of (shape p))) ps) (append-nil (keys p))
+    ap (λ names. forms_rest keys (λ q. form_of (shape q)) names
+    (alternative_form (form_of (shape p))) ps) (append-nil (keys p))
     ∙ (ap (λ form. forms_rest keys (λ q. form_of (shape q)) (keys p) form ps) (only_is (shape p))
     ∙ rest_is keys shape (keys p) (alternative_only (shape p)) ps)

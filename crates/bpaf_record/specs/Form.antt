@@ -5,7 +5,8 @@ use Rattle.bpaf_exact.specs.Flat.{Kind, Named as NamedKind, OneWord, EachWord}
 use Rattle.bpaf_exact.specs.Names.{are_all_apart}
 use Rattle.bpaf_exact.specs.Shape.{Shape, not_flat, alternative, single, complete, product}
 use Rattle.bpaf_record.specs.declared.form.Form.{Form}
-use Rattle.bpaf_record.specs.declared.form.Form.TheVariants.{NotFlat, Alternative, Named, Word, NamedComplete, WordComplete, Product}
+use Rattle.bpaf_record.specs.declared.form.Form.TheVariants.{NotFlat, Alternative, Named, Word}
+use Rattle.bpaf_record.specs.declared.form.Form.TheVariants.{NamedComplete, WordComplete, Product}
 
 -- that of a field without a repeat or default
 abbrev pub single_form : Kind → Form
@@ -86,7 +87,8 @@ is_record_form NotFlat = false
 is_record_form _ = true
 
 -- the choice of what stands before and of parsers, by their keys and forms
-abbrev pub forms_rest : {P : Type 0} → (P → List Names) → (P → Form) → List Names → Form → List P → Form
+abbrev pub forms_rest : {P : Type 0} → (P → List Names) → (P → Form) → List Names → Form → List P
+    → Form
 forms_rest keys form own before [] = before
 forms_rest keys form own before (p ∷ ps) =
     forms_rest keys form (own ++ keys p)

@@ -59,8 +59,7 @@ impl Form {
         match self {
             Form::Alternative | Form::Named => Form::NamedComplete,
             Form::Word => Form::WordComplete,
-            Form::NotFlat | Form::NamedComplete | Form::WordComplete | Form::Product =>
-                Form::NotFlat,
+            _ => Form::NotFlat,
         }
     }
 

@@ -1,0 +1,318 @@
+-- What the definitions say of single lines: worked rows, most of them by computing.
+use Rattle.std.proofs.Common.{◌≡◌, ℕ, Bool, true, false, List, [], ◌∷◌, Some, None, refl, ap}
+use Rattle.bpaf_doc.specs.Names.{Names}
+use Rattle.bpaf_words.specs.declared.arg.Arg.{Arg}
+use Rattle.bpaf_words.specs.declared.arg.Arg.TheVariants.{Short, Long, ArgWord, Word, PosWord}
+use Rattle.bpaf_line.specs.Situation.{Context}
+use Rattle.bpaf_exact.specs.Pieces.{Cells, Foreign, Roles, Piece, One, Two, IsNamed, Cut, at_end}
+use Rattle.bpaf_exact.specs.Pieces.{passed, flag, argument, word, either, no_roles, word_roles, mine}
+use Rattle.bpaf_exact.specs.Pieces.{is_key}
+use Rattle.bpaf_exact.specs.Flat.{Named, OneWord, EachWord, BothValue, keys}
+use Rattle.bpaf_exact.specs.Single.{FrontOf, own_none, own_more, no_gap, SingleValue, of_group, of_gap}
+use Rattle.bpaf_exact.specs.Single.{OwnList, listed, listed_and_absent, only_absent}
+use Rattle.bpaf_exact.specs.Wrappers.{Closure, ClosedGroup, closed_gap}
+use Rattle.bpaf_exact.specs.Leaves.{flag_roles, argument_roles, FlagValue, ArgumentValue, WordValue}
+use Rattle.bpaf_exact.specs.Leaves.{switch_gap, flag_by, argument_by, word_field}
+use Rattle.bpaf_exact.specs.Alternative.{either_value}
+use Rattle.bpaf_exact.specs.Record.{line_cells, RecordValue, LastValue}
+use Rattle.bpaf_exact.specs.Shape.{Shape, is_record, both_shape, field_shape, alone_shape}
+use Rattle.bpaf_exact.specs.Shape.{many_shape, choice_shape, optional_shape}
+use Rattle.bpaf_exact.proofs.Cuts.{one_cut}
+
+-- a line without `--`
+abbrev line_of : List Arg → Context
+line_of items = record { line = items; marker = None; env = []; name = None }
+
+-- a key of one short name
+abbrev short : ℕ → Names
+short c = record { shorts = c ∷ []; longs = [] }
+
+-- this value alone
+abbrev exactly : {T : Type 0} → T → T → Type 0
+exactly x v = v ≡ x
+
+-- the text of one character means its number
+abbrev number : List ℕ → ℕ → Type 0
+number text n = text ≡ n ∷ []
+
+-- a text means itself
+abbrev itself : List ℕ → List ℕ → Type 0
+itself text v = v ≡ text
+
+-- the items of the switch `-v`
+abbrev v_roles : Roles
+v_roles = flag_roles (short 118)
+
+-- those of the argument `-n`
+abbrev n_roles : Roles
+n_roles = argument_roles (short 110)
+
+-- the value of the switch
+abbrev SwitchValue : List Piece → Bool → Type 0
+SwitchValue = SingleValue Bool (FrontOf Bool (FlagValue (exactly true))) (switch_gap (exactly false))
+
+-- that of the argument
+abbrev NumberValue : List Piece → ℕ → Type 0
+NumberValue = SingleValue ℕ (FrontOf ℕ (ArgumentValue number)) (no_gap ℕ)
+
+-- that of a word
+abbrev TextValue : List Piece → List ℕ → Type 0
+TextValue = SingleValue (List ℕ) (FrontOf (List ℕ) (WordValue itself)) (no_gap (List ℕ))
+
+-- the key `-v`
+abbrev v_key : Arg
+v_key = Short 118 false []
+
+-- the key `-n`
+abbrev n_key : Arg
+n_key = Short 110 true []
+
+-- a word of one character
+abbrev letter : ℕ → Arg
+letter c = Word (c ∷ [])
+
+-- the items of the switch, the argument and a word
+abbrev three_roles : Roles
+three_roles =
+    either (keys Named v_roles) (either (keys Named n_roles) (either (keys OneWord word_roles) no_roles))
+
+-- their values
+abbrev ThreeValue : List Piece → Bool × (ℕ × List ℕ) → Type 0
+ThreeValue =
+    BothValue Named v_roles SwitchValue
+    (BothValue Named n_roles NumberValue (LastValue (List ℕ) OneWord word_roles TextValue))
+
+-- a piece alone, and its value
+one_front : {T : Type 0} (value : Piece → T → Type 0) (o : Piece) (v : T) → value o v
+    → FrontOf T value (o ∷ []) v []
+one_front value o v h = record { piece = o; is = refl; means = h }
+
+-- `-vn3 x`: the switch, the number and the word
+options_first : RecordValue three_roles ThreeValue
+    (line_of (v_key ∷ n_key ∷ letter 3 ∷ letter 9 ∷ [])) (true, (3, 9 ∷ []))
+options_first = record {
+  cut_into = One v_key ∷ Two n_key (letter 3) ∷ One (letter 9) ∷ [];
+  cut = flag refl (argument refl refl (word refl at_end));
+  read = (
+    of_group (one_front (FlagValue (exactly true)) (One v_key) true refl),
+    (
+      of_group (one_front (ArgumentValue number) (Two n_key (letter 3)) 3 refl),
+      record {
+        read = of_group (one_front (WordValue itself) (One (letter 9)) (9 ∷ []) refl);
+        none_left = refl;
+      },
+    ),
+  );
+}
+
+-- `x -n 3 -v`: the same
+word_first : RecordValue three_roles ThreeValue
+    (line_of (letter 9 ∷ n_key ∷ letter 3 ∷ v_key ∷ [])) (true, (3, 9 ∷ []))
+word_first = record {
+  cut_into = One (letter 9) ∷ Two n_key (letter 3) ∷ One v_key ∷ [];
+  cut = word refl (argument refl refl (flag refl at_end));
+  read = (
+    of_group (one_front (FlagValue (exactly true)) (One v_key) true refl),
+    (
+      of_group (one_front (ArgumentValue number) (Two n_key (letter 3)) 3 refl),
+      record {
+        read = of_group (one_front (WordValue itself) (One (letter 9)) (9 ∷ []) refl);
+        none_left = refl;
+      },
+    ),
+  );
+}
+
+-- the items of the argument and a word
+abbrev two_roles : Roles
+two_roles = either (keys Named n_roles) (either (keys OneWord word_roles) no_roles)
+
+-- they are keys
+two_named : IsNamed two_roles
+two_named = record { only_keys = by_item }
+  where
+    by_item : (k : Arg) → is_key k ≡ false → two_roles k ≡ Foreign
+    by_item (Short c attached whole) h = absurd cc
+    by_item (Long name attached whole) h = absurd cc
+    by_item (ArgWord text) h = refl
+    by_item (Word text) h = refl
+    by_item (PosWord text) h = refl
+
+-- two pieces aren't one value
+two_pieces : (o p : Piece) (v : ℕ) (os : List Piece) → os ≡ o ∷ p ∷ [] → NumberValue os v → ⊥
+two_pieces o p v os e (of_group g) = let h = g.is in cc
+two_pieces o p v os e (of_gap a) = a
+
+-- `-n 3 -n 4` to an argument and a word: there is no value, since `4` belongs to its key
+value_of_a_key : (v : ℕ × List ℕ)
+    → RecordValue two_roles
+    (BothValue Named n_roles NumberValue (LastValue (List ℕ) OneWord word_roles TextValue))
+    (line_of (n_key ∷ letter 3 ∷ n_key ∷ letter 4 ∷ [])) v
+    → ⊥
+value_of_a_key v r =
+    let c : Cut two_roles (line_cells (line_of (n_key ∷ letter 3 ∷ n_key ∷ letter 4 ∷ [])))
+    (Two n_key (letter 3) ∷ Two n_key (letter 4) ∷ []) = argument refl refl (argument refl refl at_end) in
+    let e = one_cut two_roles _ _ _ two_named r.cut c in
+    two_pieces (Two n_key (letter 3)) (Two n_key (letter 4)) v.0 (mine n_roles r.cut_into)
+    (ap (mine n_roles) e) r.read.0
+
+-- the switch under `many`
+abbrev SwitchesValue : List Piece → List Bool → Type 0
+SwitchesValue =
+    LastValue (List Bool) Named v_roles
+    (OwnList Bool (FrontOf Bool (FlagValue (exactly true))) (switch_gap (exactly false)))
+
+-- the empty line gives the absent value once
+switch_repeated_absent : RecordValue (either (keys Named v_roles) no_roles) SwitchesValue
+    (line_of []) (false ∷ [])
+switch_repeated_absent = record {
+  cut_into = [];
+  cut = at_end;
+  read = record { read = only_absent refl refl; none_left = refl };
+}
+
+-- `-v` gives the present value alone
+switch_repeated_present : RecordValue (either (keys Named v_roles) no_roles) SwitchesValue
+    (line_of (v_key ∷ [])) (true ∷ [])
+switch_repeated_present = record {
+  cut_into = One v_key ∷ [];
+  cut = flag refl at_end;
+  read = record {
+    read =
+        listed_and_absent refl refl
+        (own_more (one_front (FlagValue (exactly true)) (One v_key) true refl) own_none);
+    none_left = refl;
+  };
+}
+
+-- `-n -- 3`: the key has no value beside it, so there is no cut
+key_before_marker : (os : List Piece)
+    → Cut n_roles
+    (line_cells (record {
+      line = n_key ∷ PosWord (45 ∷ 45 ∷ []) ∷ PosWord (3 ∷ []) ∷ [];
+      marker = Some 1;
+      env = [];
+      name = None;
+    })) os
+    → ⊥
+key_before_marker os c = no_cut os c
+  where
+    no_cut : (os : List Piece)
+        → Cut n_roles (Some n_key ∷ None ∷ Some (PosWord (3 ∷ [])) ∷ []) os → ⊥
+    no_cut os (flag e c) = cc
+    no_cut os (word h c) = cc
+
+-- a check that the switch is there
+abbrev must_be_set : Closure Bool Bool
+must_be_set = record { yes = λ b c. (c ≡ b) × (b ≡ true); no = λ b. b ≡ false }
+
+-- with it inside `many` there is no value, since the absent one doesn't pass
+absent_refused : (os : List Piece) (vs : List Bool)
+    → OwnList Bool (ClosedGroup Bool Bool (FrontOf Bool (FlagValue (exactly true))) must_be_set)
+    (closed_gap (switch_gap (exactly false)) must_be_set) os vs
+    → ⊥
+absent_refused os vs (listed h o) = cc
+absent_refused os vs (listed_and_absent h a o) = let e = a.1 in let f = a.2.1 in cc
+absent_refused os vs (only_absent h a) = let e = a.1 in let f = a.2.1 in cc
+
+-- all words and then one: nothing is left for the one
+all_words_taken : (v : List (List ℕ) × List ℕ) (os : List Piece)
+    → BothValue EachWord word_roles
+    (OwnList (List ℕ) (FrontOf (List ℕ) (WordValue itself)) (no_gap (List ℕ)))
+    (LastValue (List ℕ) OneWord word_roles TextValue) os v
+    → ⊥
+all_words_taken v os h = nothing [] v.1 refl h.1.read
+  where
+    nothing : (os : List Piece) (v : List ℕ) → os ≡ [] → TextValue os v → ⊥
+    nothing os v e (of_group g) = let f = g.is in cc
+    nothing os v e (of_gap a) = a
+
+-- the items of the arguments `-a` and `-b`
+abbrev choice_roles : Roles
+choice_roles = either (argument_roles (short 97)) (argument_roles (short 98))
+
+-- what a piece of either means
+abbrev ChoiceValue : Piece → ℕ → Type 0
+ChoiceValue = either_value (argument_roles (short 97)) (ArgumentValue number) (ArgumentValue number)
+
+-- the key `-a`
+abbrev a_key : Arg
+a_key = Short 97 false []
+
+-- the key `-b`
+abbrev b_key : Arg
+b_key = Short 98 false []
+
+-- a choice under `many` gathers in line order
+line_order : RecordValue (either (keys Named choice_roles) no_roles)
+    (LastValue (List ℕ) Named choice_roles (OwnList ℕ (FrontOf ℕ ChoiceValue) (no_gap ℕ)))
+    (line_of (b_key ∷ letter 3 ∷ a_key ∷ letter 1 ∷ b_key ∷ letter 2 ∷ [])) (3 ∷ 1 ∷ 2 ∷ [])
+line_order = record {
+  cut_into = Two b_key (letter 3) ∷ Two a_key (letter 1) ∷ Two b_key (letter 2) ∷ [];
+  cut = argument refl refl (argument refl refl (argument refl refl at_end));
+  read = record {
+    read =
+        listed refl
+        (own_more (record { piece = Two b_key (letter 3); is = refl; means = refl })
+        (own_more (record { piece = Two a_key (letter 1); is = refl; means = refl })
+        (own_more (record { piece = Two b_key (letter 2); is = refl; means = refl }) own_none)));
+    none_left = refl;
+  };
+}
+
+-- the switch
+abbrev switch : Shape Bool
+switch = flag_by (λ kept v. v ≡ kept) (short 118) true [] (Some false)
+
+-- an argument of this name
+abbrev number_of : ℕ → Shape ℕ
+number_of c = argument_by number (short c) [] false
+
+-- a word
+abbrev text : Shape (List ℕ)
+text = word_field itself
+
+-- the switch, the argument and words are a record
+fields_are : is_record (both_shape (short 118 ∷ []) (short 110 ∷ []) (field_shape switch)
+    (both_shape (short 110 ∷ []) [] (field_shape (number_of 110))
+    (alone_shape (field_shape (many_shape text))))) ≡ true
+fields_are = refl
+
+-- so is the argument alone
+one_is : is_record (number_of 110) ≡ true
+one_is = refl
+
+-- and the choice of two under `many`
+choice_is : is_record (many_shape
+    (choice_shape (short 97 ∷ []) (short 98 ∷ []) (number_of 97) (number_of 98))) ≡ true
+choice_is = refl
+
+-- a word before a switch is none
+word_before_is_not : is_record
+    (both_shape [] (short 118 ∷ []) (field_shape text) (alone_shape (field_shape switch))) ≡ false
+word_before_is_not = refl
+
+-- nor are two of one name
+twice_is_not : is_record (both_shape (short 110 ∷ []) (short 110 ∷ []) (field_shape (number_of 110))
+    (alone_shape (field_shape (number_of 110)))) ≡ false
+twice_is_not = refl
+
+-- also in one choice
+choice_twice_is_not : is_record
+    (choice_shape (short 110 ∷ []) (short 110 ∷ []) (number_of 110) (number_of 110)) ≡ false
+choice_twice_is_not = refl
+
+-- nor is a repeat of what may be left out
+repeat_of_optional_is_not : is_record (many_shape (optional_shape text)) ≡ false
+repeat_of_optional_is_not = refl
+
+-- nor a choice that holds a switch
+choice_of_switch_is_not : is_record
+    (choice_shape (short 118 ∷ []) (short 113 ∷ []) switch switch) ≡ false
+choice_of_switch_is_not = refl
+
+-- nor a product inside a product
+product_inside_is_not : is_record (both_shape (short 118 ∷ []) [] (field_shape
+    (both_shape (short 118 ∷ []) (short 110 ∷ []) (field_shape switch)
+    (alone_shape (field_shape (number_of 110))))) (alone_shape (field_shape text))) ≡ false
+product_inside_is_not = refl

@@ -1,0 +1,141 @@
+//! Which options are a flat record, of switches, numbers and words; and a run of one.
+use crate::{FlatField, Record};
+use bpaf::params::{ParseArgument, ParseFlag, ParsePositional};
+use bpaf::{Args, Parser, choice, construct, positional, short};
+use std::alloc::{AllocError, Global};
+use std::test::Fail;
+
+/// Whether a parser with the usual keys for help and version is a flat record.
+fn is_flat<T: Drop, P: FlatField<T> + Drop>(alloc: Global, parser: P) -> Result<bool, AllocError> {
+    Ok(parser.to_options(alloc)?.is_record())
+}
+
+/// Whether a flat record of two fields has a value on words; None where it is no flat record.
+fn accepts<T: Drop, P: FlatField<T> + Drop>(
+    alloc: Global,
+    parser: P,
+    words: &[&str],
+) -> Result<Option<bool>, AllocError>
+    requires { P.can_eval parser }
+{
+    let options = parser.to_options(alloc)?;
+    if !options.is_record() {
+        return Ok(None);
+    }
+    Ok(Some(options.run_record(Args::from(words)).is_ok()))
+}
+
+/// A switch of this name.
+fn switch(alloc: Global, name: char) -> Result<ParseFlag<bool>, AllocError> {
+    Ok(short(alloc, name)?.switch())
+}
+
+/// A number behind this name.
+fn number(alloc: Global, name: char) -> Result<ParseArgument<u64>, AllocError> {
+    Ok(short(alloc, name)?.argument("NUM"))
+}
+
+/// A word.
+fn word() -> ParsePositional<String> {
+    positional("FILE")
+}
+
+/// A product of two fields.
+fn pair<A: Drop, B: Drop, P: FlatField<A> + Drop, Q: FlatField<B> + Drop>(
+    alloc: Global,
+    first: P,
+    second: Q,
+) -> Result<bool, AllocError> {
+    is_flat(alloc, construct!(first, second))
+}
+
+/// A product of two fields inside another.
+fn nested(
+    alloc: Global,
+    verbose: ParseFlag<bool>,
+    num: ParseArgument<u64>,
+) -> Result<bool, AllocError> {
+    pair(alloc, construct!(verbose, num), word())
+}
+
+/// Closures inside and outside a repeat.
+fn closures(alloc: Global, num: ParseArgument<u64>) -> Result<bool, AllocError> {
+    let small = num.parse(|n: u64| if n < 10 { Ok(n) } else { Err("too big") });
+    is_flat(alloc, small.many().map(|numbers| numbers.len()))
+}
+
+/// Of a flat record of a switch and numbers, whether it has a value on words.
+fn runs(
+    alloc: Global,
+    verbose: ParseFlag<bool>,
+    num: ParseArgument<u64>,
+    words: &[&str],
+) -> Result<Option<bool>, AllocError> {
+    let numbers = num.many();
+    accepts(alloc, construct!(verbose, numbers), words)
+}
+
+/// Of single fields, whether each is a flat record.
+fn leaves(alloc: Global) -> Result<[bool; 8], AllocError> {
+    Ok([
+        is_flat(alloc, number(alloc, 'n')?)?,
+        is_flat(alloc, word())?,
+        is_flat(alloc, switch(alloc, 'h')?)?,
+        is_flat(alloc, switch(alloc, 'V')?)?,
+        is_flat(alloc, short(alloc, 'v')?.env("VERBOSE")?.switch())?,
+        is_flat(alloc, number(alloc, 'n')?.adjacent())?,
+        is_flat(alloc, word().strict())?,
+        is_flat(alloc, word().non_strict())?,
+    ])
+}
+
+/// Of repeats and choices, the same.
+fn repeats(alloc: Global) -> Result<[bool; 6], AllocError> {
+    Ok([
+        is_flat(
+            alloc,
+            number(alloc, 'a')?.or_else(number(alloc, 'b')?).many(),
+        )?,
+        is_flat(alloc, number(alloc, 'a')?.or_else(number(alloc, 'a')?))?,
+        is_flat(alloc, number(alloc, 'n')?.many().catch())?,
+        is_flat(alloc, word().optional().many())?,
+        is_flat(alloc, choice(Vec::<ParseArgument<u64>>::new(alloc)))?,
+        is_flat(alloc, switch(alloc, 'a')?.or_else(switch(alloc, 'b')?))?,
+    ])
+}
+
+#[test]
+fn single_fields_are_told(rt: HostRuntime) -> Result<(), Fail> {
+    let alloc = rt.alloc();
+    assert_eq!(rt;
+        leaves(alloc)?,
+        [true, true, false, false, false, false, false, false]
+    );
+    assert_eq!(rt; repeats(alloc)?, [true, false, false, false, false, false]);
+    assert!(rt; closures(alloc, number(alloc, 'n')?)?);
+    Ok(())
+}
+
+#[test]
+fn products_are_told(rt: HostRuntime) -> Result<(), Fail> {
+    let alloc = rt.alloc();
+    assert!(rt; pair(alloc, switch(alloc, 'v')?, word().many())?);
+    assert!(rt; !pair(alloc, word(), switch(alloc, 'v')?)?);
+    assert!(rt; !pair(alloc, switch(alloc, 'v')?, number(alloc, 'v')?)?);
+    assert!(rt; !nested(alloc, switch(alloc, 'v')?, number(alloc, 'n')?)?);
+    Ok(())
+}
+
+#[test]
+fn a_flat_record_runs(rt: HostRuntime) -> Result<(), Fail> {
+    let alloc = rt.alloc();
+    let verbose = switch(alloc, 'v')?;
+    let accepted = runs(alloc, verbose, number(alloc, 'n')?, &["-n", "1", "-n2"])?;
+    assert_eq!(rt; accepted, Some(true));
+    let verbose = switch(alloc, 'v')?;
+    assert_eq!(rt;
+        runs(alloc, verbose, number(alloc, 'n')?, &["-n", "1", "x"])?,
+        Some(false)
+    );
+    Ok(())
+}
