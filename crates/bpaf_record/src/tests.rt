@@ -75,32 +75,67 @@ fn runs(
     accepts(alloc, construct!(verbose, numbers), words)
 }
 
+/// Whether a switch is a flat record.
+fn is_switch_flat(alloc: Global, parser: ParseFlag<bool>) -> Result<bool, AllocError> {
+    is_flat(alloc, parser)
+}
+
+/// Whether a number is one.
+fn is_number_flat(alloc: Global, parser: ParseArgument<u64>) -> Result<bool, AllocError> {
+    is_flat(alloc, parser)
+}
+
+/// Whether a word is one.
+fn is_word_flat(alloc: Global, parser: ParsePositional<String>) -> Result<bool, AllocError> {
+    is_flat(alloc, parser)
+}
+
 /// Of single fields, whether each is a flat record.
 fn leaves(alloc: Global) -> Result<[bool; 8], AllocError> {
     Ok([
-        is_flat(alloc, number(alloc, 'n')?)?,
-        is_flat(alloc, word())?,
-        is_flat(alloc, switch(alloc, 'h')?)?,
-        is_flat(alloc, switch(alloc, 'V')?)?,
-        is_flat(alloc, short(alloc, 'v')?.env("VERBOSE")?.switch())?,
-        is_flat(alloc, number(alloc, 'n')?.adjacent())?,
-        is_flat(alloc, word().strict())?,
-        is_flat(alloc, word().non_strict())?,
+        is_number_flat(alloc, number(alloc, 'n')?)?,
+        is_word_flat(alloc, word())?,
+        is_switch_flat(alloc, switch(alloc, 'h')?)?,
+        is_switch_flat(alloc, switch(alloc, 'V')?)?,
+        is_switch_flat(alloc, short(alloc, 'v')?.env("VERBOSE")?.switch())?,
+        is_number_flat(alloc, number(alloc, 'n')?.adjacent())?,
+        is_word_flat(alloc, word().strict())?,
+        is_word_flat(alloc, word().non_strict())?,
     ])
 }
 
-/// Of repeats and choices, the same.
+/// Whether the choice of two numbers is a flat record, under a repeat.
+fn is_choice_flat(
+    alloc: Global,
+    first: ParseArgument<u64>,
+    second: ParseArgument<u64>,
+) -> Result<bool, AllocError> {
+    is_flat(alloc, first.or_else(second).many())
+}
+
+/// Whether a repeat that catches is one.
+fn is_catching_flat(alloc: Global, num: ParseArgument<u64>) -> Result<bool, AllocError> {
+    is_flat(alloc, num.many().catch())
+}
+
+/// Whether a choice of switches is one.
+fn are_switches_flat(
+    alloc: Global,
+    first: ParseFlag<bool>,
+    second: ParseFlag<bool>,
+) -> Result<bool, AllocError> {
+    is_flat(alloc, first.or_else(second))
+}
+
+/// Of repeats and choices, whether each is a flat record.
 fn repeats(alloc: Global) -> Result<[bool; 6], AllocError> {
     Ok([
-        is_flat(
-            alloc,
-            number(alloc, 'a')?.or_else(number(alloc, 'b')?).many(),
-        )?,
-        is_flat(alloc, number(alloc, 'a')?.or_else(number(alloc, 'a')?))?,
-        is_flat(alloc, number(alloc, 'n')?.many().catch())?,
+        is_choice_flat(alloc, number(alloc, 'a')?, number(alloc, 'b')?)?,
+        is_choice_flat(alloc, number(alloc, 'a')?, number(alloc, 'a')?)?,
+        is_catching_flat(alloc, number(alloc, 'n')?)?,
         is_flat(alloc, word().optional().many())?,
         is_flat(alloc, choice(Vec::<ParseArgument<u64>>::new(alloc)))?,
-        is_flat(alloc, switch(alloc, 'a')?.or_else(switch(alloc, 'b')?))?,
+        are_switches_flat(alloc, switch(alloc, 'a')?, switch(alloc, 'b')?)?,
     ])
 }
 
