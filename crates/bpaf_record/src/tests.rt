@@ -49,6 +49,17 @@ fn pair<A: Drop, B: Drop, P: FlatField<A> + Drop, Q: FlatField<B> + Drop>(
     is_flat(alloc, construct!(first, second))
 }
 
+/// A product of a switch, a number and any number of words.
+fn record(
+    alloc: Global,
+    verbose: ParseFlag<bool>,
+    num: ParseArgument<u64>,
+    file: ParsePositional<String>,
+) -> Result<bool, AllocError> {
+    let files = file.many();
+    is_flat(alloc, construct!(verbose, num, files))
+}
+
 /// A product of two fields inside another.
 fn nested(
     alloc: Global,
@@ -154,6 +165,8 @@ fn single_fields_are_told(rt: HostRuntime) -> Result<(), Fail> {
 #[test]
 fn products_are_told(rt: HostRuntime) -> Result<(), Fail> {
     let alloc = rt.alloc();
+    let verbose = switch(alloc, 'v')?;
+    assert!(rt; record(alloc, verbose, number(alloc, 'n')?, word())?);
     assert!(rt; pair(alloc, switch(alloc, 'v')?, word().many())?);
     assert!(rt; !pair(alloc, word(), switch(alloc, 'v')?)?);
     assert!(rt; !pair(alloc, switch(alloc, 'v')?, number(alloc, 'v')?)?);
