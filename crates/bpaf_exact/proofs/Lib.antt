@@ -23,3 +23,4 @@ pub mod Shape
 pub mod Exact
 pub mod Twins
 pub mod Rows
+pub mod OneView

@@ -9,3 +9,4 @@ pub mod Derived
 pub mod Shape
 pub mod Leaves
 pub mod Theorem
+pub mod OneView
