@@ -20,7 +20,8 @@ pub trait FlatField<T>: Parser<T> + HasKeys {
         ensures { result ≡ form_of (shape self.now) };
 
     /// What it answers and takes depends on its own pieces alone, as its shape says.
-    ghost flat: { (p : Self) → agrees p → ShapeLaw (Self.Parser.outcome p) (Self.HasKeys.keys p) (shape p) };
+    ghost flat: { (p : Self) → agrees p
+        → ShapeLaw (Self.Parser.outcome p) (Self.HasKeys.keys p) (shape p) };
 }
 
 /// The fields of a flat record.
@@ -39,5 +40,6 @@ pub trait FlatFields<V>: Fields<V> + HasKeys {
         ensures { result ≡ form_of (shape self.now) };
 
     /// What they answer and take depends on the pieces of the line alone, as their shape says.
-    ghost flat: { (p : Self) → agrees p → ShapeLaw (Self.Fields.outcome p) (Self.HasKeys.keys p) (shape p) };
+    ghost flat: { (p : Self) → agrees p
+        → ShapeLaw (Self.Fields.outcome p) (Self.HasKeys.keys p) (shape p) };
 }

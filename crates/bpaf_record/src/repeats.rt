@@ -115,7 +115,8 @@ impl<T: Drop, P: FlatField<T>> FlatField<usize> for ParseCount<P, T> {
     }
 
     ghost flat = { λ p a.
-        count_field_law T (P.outcome p.inner) (P.keys p.inner) (P.shape p.inner) (P.flat p.inner a) };
+        count_field_law T (P.outcome p.inner) (P.keys p.inner) (P.shape p.inner)
+        (P.flat p.inner a) };
 }
 
 impl<P: HasKeys> HasKeys for ParseLast<P> {
@@ -140,5 +141,6 @@ impl<T: Drop, P: FlatField<T>> FlatField<T> for ParseLast<P> {
     }
 
     ghost flat = { λ p a.
-        last_field_law T (P.outcome p.inner) (P.keys p.inner) (P.shape p.inner) (P.flat p.inner a) };
+        last_field_law T (P.outcome p.inner) (P.keys p.inner) (P.shape p.inner)
+        (P.flat p.inner a) };
 }
