@@ -24,3 +24,4 @@ pub mod Exact
 pub mod Twins
 pub mod SameParts
 pub mod Rows
+pub mod OneView

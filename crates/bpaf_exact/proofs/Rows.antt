@@ -4,11 +4,12 @@ use Rattle.bpaf_doc.specs.Names.{Names}
 use Rattle.bpaf_words.specs.declared.arg.Arg.{Arg}
 use Rattle.bpaf_words.specs.declared.arg.Arg.TheVariants.{Short, Long, ArgWord, Word, PosWord}
 use Rattle.bpaf_line.specs.Situation.{Context}
-use Rattle.bpaf_exact.specs.Pieces.{Cells, Foreign, Roles, Piece, One, Two, IsNamed, Cut, at_end}
-use Rattle.bpaf_exact.specs.Pieces.{passed, flag, argument, word, either, no_roles, word_roles, mine}
+use Rattle.bpaf_exact.specs.Pieces.{Foreign, Roles, Piece, One, Two, IsNamed, Cut, at_end}
+use Rattle.bpaf_exact.specs.Pieces.{flag, argument, word, either, no_roles, word_roles, mine}
 use Rattle.bpaf_exact.specs.Pieces.{is_key}
 use Rattle.bpaf_exact.specs.Flat.{Named, OneWord, EachWord, BothValue, keys}
-use Rattle.bpaf_exact.specs.Single.{FrontOf, own_none, own_more, no_gap, SingleValue, of_group, of_gap}
+use Rattle.bpaf_exact.specs.Single.{FrontOf, own_none, own_more, no_gap, SingleValue, of_group}
+use Rattle.bpaf_exact.specs.Single.{of_gap}
 use Rattle.bpaf_exact.specs.Single.{OwnList, listed, listed_and_absent, only_absent}
 use Rattle.bpaf_exact.specs.Wrappers.{Closure, ClosedGroup, closed_gap}
 use Rattle.bpaf_exact.specs.Leaves.{flag_roles, argument_roles, FlagValue, ArgumentValue, WordValue}
@@ -49,7 +50,8 @@ n_roles = argument_roles (short 110)
 
 -- the value of the switch
 abbrev SwitchValue : List Piece → Bool → Type 0
-SwitchValue = SingleValue Bool (FrontOf Bool (FlagValue (exactly true))) (switch_gap (exactly false))
+SwitchValue =
+    SingleValue Bool (FrontOf Bool (FlagValue (exactly true))) (switch_gap (exactly false))
 
 -- that of the argument
 abbrev NumberValue : List Piece → ℕ → Type 0
@@ -74,7 +76,8 @@ letter c = Word (c ∷ [])
 -- the items of the switch, the argument and a word
 abbrev three_roles : Roles
 three_roles =
-    either (keys Named v_roles) (either (keys Named n_roles) (either (keys OneWord word_roles) no_roles))
+    either (keys Named v_roles)
+    (either (keys Named n_roles) (either (keys OneWord word_roles) no_roles))
 
 -- their values
 abbrev ThreeValue : List Piece → Bool × (ℕ × List ℕ) → Type 0
@@ -151,7 +154,8 @@ value_of_a_key : (v : ℕ × List ℕ)
     → ⊥
 value_of_a_key v r =
     let c : Cut two_roles (line_cells (line_of (n_key ∷ letter 3 ∷ n_key ∷ letter 4 ∷ [])))
-    (Two n_key (letter 3) ∷ Two n_key (letter 4) ∷ []) = argument refl refl (argument refl refl at_end) in
+    (Two n_key (letter 3) ∷ Two n_key (letter 4) ∷ []) =
+    argument refl refl (argument refl refl at_end) in
     let e = one_cut two_roles _ _ _ two_named r.cut c in
     two_pieces (Two n_key (letter 3)) (Two n_key (letter 4)) v.0 (mine n_roles r.cut_into)
     (ap (mine n_roles) e) r.read.0

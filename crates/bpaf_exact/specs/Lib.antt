@@ -10,3 +10,4 @@ pub mod Shape
 pub mod Leaves
 pub mod Theorem
 pub mod SameParts
+pub mod OneView

@@ -1,0 +1,452 @@
+-- Where closures can't tell apart what looks alike, the premise of exactness holds, and all values
+-- of a line look alike.
+use Rattle.std.proofs.Common.{◌≡◌, ℕ, Bool, true, false, List, [], ◌∷◌, ◌++◌, map, Option, Some}
+use Rattle.std.proofs.Common.{None, refl, sym, ap, ◌∙◌, subst}
+use Rattle.std.specs.Global.{Vec}
+use Rattle.bpaf_doc.specs.Names.{Names}
+use Rattle.bpaf_text.specs.Named.{Named as Key, KeyWithValue}
+use Rattle.bpaf_words.specs.Items.{item_text}
+use Rattle.bpaf_line.specs.Situation.{Context}
+use Rattle.bpaf_laws.specs.Reading.{Outcome}
+use Rattle.bpaf_exact.specs.Pieces.{Roles, Piece, One, Two, is_own}
+use Rattle.bpaf_exact.specs.Names.{are_all_apart}
+use Rattle.bpaf_exact.specs.Flat.{Kind, Named}
+use Rattle.bpaf_exact.specs.Single.{Groups, Gap, FrontOf, Own, own_none, own_more, SingleLaw}
+use Rattle.bpaf_exact.specs.Single.{SingleValue, of_group, of_gap, OwnList, listed}
+use Rattle.bpaf_exact.specs.Single.{listed_and_absent, only_absent}
+use Rattle.bpaf_exact.specs.Wrappers.{Closure, OptionalValue, some_value, no_value, FallbackValue}
+use Rattle.bpaf_exact.specs.Wrappers.{own_value, kept_value}
+use Rattle.bpaf_exact.specs.Derived.{LastOf, list_closure}
+use Rattle.bpaf_exact.specs.Alternative.{pick_type}
+use Rattle.bpaf_exact.specs.Leaves.{FlagValue, ArgumentValue, WordValue, flag_by, flag_field}
+use Rattle.bpaf_exact.specs.Leaves.{argument_by, argument_field, word_field}
+use Rattle.bpaf_exact.specs.Record.{Answer, Accepted, NoMemory, Refusal, RecordValue, IsExact}
+use Rattle.bpaf_exact.specs.Shape.{Shape, not_flat, alternative, single, complete, product}
+use Rattle.bpaf_exact.specs.Shape.{ShapeLaw, Agrees, only_if, closed_shape, either_shape}
+use Rattle.bpaf_exact.specs.Shape.{choice_shape, choices_rest, alternative_only, choices_shape}
+use Rattle.bpaf_exact.specs.Shape.{repeat_shape, many_shape, last_shape, optional_shape}
+use Rattle.bpaf_exact.specs.Shape.{fallback_shape, field_shape, may_follow, both_shape, alone_shape}
+use Rattle.bpaf_exact.specs.Shape.{con_shape, record_shape, is_record, product_roles, product_value}
+use Rattle.bpaf_exact.specs.OneView.{Alike, OneGroup, HasOneView, Respects, option_view, pair_view}
+use Rattle.bpaf_exact.specs.OneView.{LooksLike, RunsToOne}
+use Rattle.bpaf_exact.proofs.Alternative.{alternative_single}
+use Rattle.bpaf_exact.proofs.Cuts.{one_cut}
+use Rattle.bpaf_exact.proofs.Shape.{record_law}
+use Rattle.bpaf_exact.proofs.Exact.{runs_exactly}
+
+-- Closures.
+
+module _ (A B X Y : Type 0) (see : A → X) (look : B → Y) (f : Closure A B)
+    (respects : Respects A B X Y see look f) where
+  -- of values that look alike a closure accepts all or none
+  agrees_on : (value : A → Type 0) → Alike see value → (x y : A) (v : B) → value x → value y
+      → f.yes x v → f.no y → ⊥
+  agrees_on value u x y v a b g n = respects.apart x y v (u x y a b) g n
+
+  -- A closure that can't tell apart what looks alike agrees where values look alike.
+  pub view_agrees : (s : Shape A) → HasOneView see s → Agrees f s
+  view_agrees not_flat u = tt
+  view_agrees (alternative q value) u = λ o. agrees_on (value o) (u o)
+  view_agrees (single k q group gap) u = (
+    λ os rest. agrees_on (λ v. group os v rest)
+        (λ v w a b. (u.0 os rest rest v w a b).0),
+    agrees_on gap.absent u.1,
+  )
+  view_agrees (complete k q value) u = λ os. agrees_on (value os) (u os)
+  view_agrees (product q value) u = λ os. agrees_on (value os) (u os)
+
+  -- Its answers look alike again.
+  pub closed_view : (s : Shape A) → HasOneView see s → HasOneView look (closed_shape f s)
+  closed_view not_flat u = tt
+  closed_view (alternative q value) u =
+      λ o v w a b. respects.same a.from b.from v w (u o a.from b.from a.read b.read) a.made b.made
+  closed_view (single k q group gap) u = (
+    λ os rest others v w a b. let d = u.0 os rest others a.from b.from a.read b.read in
+        (respects.same a.from b.from v w d.0 a.made b.made, d.1),
+    λ v w a b. respects.same a.0 b.0 v w (u.1 a.0 b.0 a.1 b.1) a.2 b.2,
+  )
+  closed_view (complete k q value) u =
+      λ os v w a b. respects.same a.from b.from v w (u os a.from b.from a.read b.read) a.made b.made
+  closed_view (product q value) u = tt
+
+  -- what a constructor makes of values that look alike looks alike
+  pub con_view : (s : Shape A) → HasOneView see s → HasOneView look (con_shape f s)
+  con_view not_flat u = tt
+  con_view (alternative q value) u = tt
+  con_view (single k q group gap) u = tt
+  con_view (complete k q value) u = tt
+  con_view (product q value) u =
+      λ os v w a b. respects.same a.from b.from v w (u os a.from b.from a.read b.read) a.made b.made
+
+-- Leaves.
+
+-- the values of the first piece look alike
+front_view : (T X : Type 0) (see : T → X) (value : Piece → T → Type 0)
+    → ((o : Piece) → Alike see (value o)) → OneGroup see (FrontOf T value)
+front_view T X see value u os rest others v w a b =
+    let c : a.piece ∷ rest ≡ b.piece ∷ others = sym a.is ∙ b.is in
+    let d : a.piece ≡ b.piece = cc in
+    (u b.piece v w (subst (λ z. value z v) d a.means) b.means, cc)
+
+-- a present value
+flag_piece : (T X : Type 0) (see : T → X) (present : T → Type 0) → Alike see present → (o : Piece)
+    → Alike see (FlagValue present o)
+flag_piece T X see present u (One k) v w a b = u v w a b
+flag_piece T X see present u (Two k x) v w a b = absurd a
+
+-- a flag, whose clones look alike
+pub flag_view : (T X : Type 0) (see : T → X) (clones : T → T → Type 0)
+    → ((kept : T) → Alike see (clones kept)) → (key : Key) (present : T) (absent : Option T)
+    → HasOneView see (flag_field clones key present absent)
+flag_view T X see clones u key present absent = by_envs key.envs absent
+  where
+    by_envs : (envs : List (List ℕ)) (absent : Option T)
+        → HasOneView see (flag_by clones key.names present envs absent)
+    by_envs (env ∷ envs) absent = tt
+    by_envs [] None = flag_piece T X see (clones present) (u present)
+    by_envs [] (Some kept) =
+        (front_view T X see _ (flag_piece T X see (clones present) (u present)), u kept)
+
+-- a key and its value
+argument_piece : (T X : Type 0) (see : T → X) (means : List ℕ → T → Type 0)
+    → ((text : List ℕ) → Alike see (means text)) → (o : Piece) → Alike see (ArgumentValue means o)
+argument_piece T X see means u (One k) v w a b = absurd a
+argument_piece T X see means u (Two k x) v w a b = u (item_text x) v w a b
+
+-- an argument, where what a text means looks alike
+pub argument_view : (T X : Type 0) (see : T → X) (means : List ℕ → T → Type 0)
+    → ((text : List ℕ) → Alike see (means text)) → (argument : KeyWithValue)
+    → HasOneView see (argument_field means argument)
+argument_view T X see means u argument = by_parts argument.named.envs argument.adjacent
+  where
+    by_parts : (envs : List (List ℕ)) (adjacent : Bool)
+        → HasOneView see (argument_by means argument.named.names envs adjacent)
+    by_parts (env ∷ envs) adjacent = tt
+    by_parts [] true = tt
+    by_parts [] false = argument_piece T X see means u
+
+-- a word
+word_piece : (T X : Type 0) (see : T → X) (means : List ℕ → T → Type 0)
+    → ((text : List ℕ) → Alike see (means text)) → (o : Piece) → Alike see (WordValue means o)
+word_piece T X see means u (One k) v w a b = u (item_text k) v w a b
+word_piece T X see means u (Two k x) v w a b = absurd a
+
+-- a positional, where what a text means looks alike
+pub word_view : (T X : Type 0) (see : T → X) (means : List ℕ → T → Type 0)
+    → ((text : List ℕ) → Alike see (means text)) → HasOneView see (word_field means)
+word_view T X see means u = (front_view T X see _ (word_piece T X see means u), λ v w a b. absurd a)
+
+-- Choice.
+
+-- where a test holds
+if_view : (T X : Type 0) (see : T → X) (s : Shape T) (b : Bool) → HasOneView see s
+    → HasOneView see (only_if b s)
+if_view T X see s true u = u
+if_view T X see s false u = tt
+
+-- by a test
+pick_view : {T X : Type 0} (see : T → X) (c : Bool) (a b : T → Type 0) → Alike see a → Alike see b
+    → Alike see (λ v. pick_type c (a v) (b v))
+pick_view see true a b u n = u
+pick_view see false a b u n = n
+
+-- a choice of two alternatives
+either_view : (T X : Type 0) (see : T → X) (s t : Shape T) → HasOneView see s → HasOneView see t
+    → HasOneView see (either_shape s t)
+either_view T X see (alternative q a) (alternative r b) u n =
+    λ o. pick_view see (is_own q o) (a o) (b o) (u o) (n o)
+either_view T X see (alternative q a) not_flat u n = tt
+either_view T X see (alternative q a) (single k r g h) u n = tt
+either_view T X see (alternative q a) (complete k r v) u n = tt
+either_view T X see (alternative q a) (product r v) u n = tt
+either_view T X see not_flat t u n = tt
+either_view T X see (single k q g i) t u n = tt
+either_view T X see (complete k q v) t u n = tt
+either_view T X see (product q v) t u n = tt
+
+-- the same, where the keys are apart
+pub choice_view : (T X : Type 0) (see : T → X) (own others : List Names) (s t : Shape T)
+    → HasOneView see s → HasOneView see t → HasOneView see (choice_shape own others s t)
+choice_view T X see own others s t u n =
+    if_view T X see (either_shape s t) (are_all_apart own others) (either_view T X see s t u n)
+
+-- a choice of what stands before and of parsers
+rest_view : (P T X : Type 0) (see : T → X) (keys : P → List Names) (shape : P → Shape T)
+    → ((p : P) → HasOneView see (shape p)) → (ps : List P) (own : List Names) (s : Shape T)
+    → HasOneView see s → HasOneView see (choices_rest keys shape own s ps)
+rest_view P T X see keys shape n [] own s u = u
+rest_view P T X see keys shape n (p ∷ ps) own s u =
+    rest_view P T X see keys shape n ps (own ++ keys p) (choice_shape own (keys p) s (shape p))
+    (choice_view T X see own (keys p) s (shape p) u (n p))
+
+-- an alternative alone
+only_view : (T X : Type 0) (see : T → X) (s : Shape T) → HasOneView see s
+    → HasOneView see (alternative_only s)
+only_view T X see not_flat u = tt
+only_view T X see (alternative q value) u = u
+only_view T X see (single k q group gap) u = tt
+only_view T X see (complete k q value) u = tt
+only_view T X see (product q value) u = tt
+
+-- a choice of any number of parsers
+pub choices_view : (P T X : Type 0) (see : T → X) (keys : P → List Names) (shape : P → Shape T)
+    → ((p : P) → HasOneView see (shape p)) → (ps : List P)
+    → HasOneView see (choices_shape keys shape ps)
+choices_view P T X see keys shape n [] = tt
+choices_view P T X see keys shape n (p ∷ ps) =
+    rest_view P T X see keys shape n ps (keys p) (alternative_only (shape p))
+    (only_view T X see (shape p) (n p))
+
+-- Fields without a repeat or default, and what is made of them.
+
+-- the last of a list is one
+last_same : (T : Type 0) (xs ys : List T) (v w : T) → xs ++ (v ∷ []) ≡ ys ++ (w ∷ []) → v ≡ w
+last_same T [] [] v w e = cc
+last_same T [] (y ∷ []) v w e = absurd cc
+last_same T [] (y ∷ (z ∷ ys)) v w e = absurd cc
+last_same T (x ∷ []) [] v w e = absurd cc
+last_same T (x ∷ (z ∷ xs)) [] v w e = absurd cc
+last_same T (x ∷ xs) (y ∷ ys) v w e = last_same T xs ys v w cc
+
+-- the view of a list with its last value
+map_last : (T X : Type 0) (see : T → X) (xs : List T) (v : T)
+    → map see (xs ++ (v ∷ [])) ≡ map see xs ++ (see v ∷ [])
+map_last T X see [] v = refl
+map_last T X see (x ∷ xs) v = ap (λ z. see x ∷ z) (map_last T X see xs v)
+
+module _ (T X : Type 0) (see : T → X) (inner : Outcome T) (k : Kind) (q : Roles) (group : Groups T)
+    (gap : Gap T) (l : SingleLaw T inner k q group gap) (one : OneGroup see group)
+    (absent : Alike see gap.absent) where
+  -- own lists of the same pieces look alike
+  own_view : (os : List Piece) (vs ws : List T) → Own T group os vs → Own T group os ws
+      → map see vs ≡ map see ws
+  own_view os vs ws own_none own_none = refl
+  own_view os vs ws own_none (own_more {rest = rest} {v = v} g o) = absurd (l.starts v rest g)
+  own_view os vs ws (own_more {rest = rest} {v = v} g o) own_none = absurd (l.starts v rest g)
+  own_view os vs ws (own_more {rest = rest} {v = v} {vs = us} g o)
+      (own_more {rest = others} {v = w} {vs = xs} h p) =
+      let d = one os rest others v w g h in
+      let i = own_view rest us xs o (subst (λ z. Own T group z xs) (sym d.1) p) in
+      let e = d.0 in
+      cc
+
+  -- no piece has no own list but the empty one
+  own_never : (v : T) (vs : List T) → Own T group [] (v ∷ vs) → ⊥
+  own_never v vs o = by_list [] (v ∷ vs) refl refl o
+    where
+      by_list : (os : List Piece) (ws : List T) → os ≡ [] → ws ≡ v ∷ vs → Own T group os ws → ⊥
+      by_list os ws e f own_none = cc
+      by_list os ws e f (own_more {rest = rest} {v = w} g o) =
+          l.starts w rest (subst (λ z. group z w rest) e g)
+
+  -- so do they under a repeat
+  pub list_view : (os : List Piece) → Alike (map see) (OwnList T group gap os)
+  list_view os vs ws (listed h o) (listed i p) = own_view os vs ws o p
+  list_view os vs ws (listed h o) (listed_and_absent i a p) = absurd cc
+  list_view os vs ws (listed h o) (only_absent i a) = absurd cc
+  list_view os vs ws (listed_and_absent h a o) (listed i p) = absurd cc
+  list_view os vs ws (listed_and_absent h a o) (listed_and_absent i b p) = own_view os _ _ o p
+  list_view os vs ws (listed_and_absent {v = v} {vs = us} h a o) (only_absent i b) =
+      absurd (own_never v us o)
+  list_view os vs ws (only_absent h a) (listed i p) = absurd cc
+  list_view os vs ws (only_absent h a) (listed_and_absent {v = v} {vs = us} i b p) =
+      absurd (own_never v us p)
+  list_view os vs ws (only_absent {a = x} h a) (only_absent {a = y} i b) =
+      ap (λ z. z ∷ []) (absent x y a b)
+
+  -- and their last values
+  pub last_view : (os : List Piece) → Alike see (LastOf T group gap os)
+  last_view os v w a b =
+      last_same X (map see a.is.before) (map see b.is.before) (see v) (see w)
+      (sym (map_last T X see a.is.before v)
+      ∙ (ap (map see) (sym a.is.is)
+      ∙ (list_view os a.list b.list a.own b.own
+      ∙ (ap (map see) b.is.is ∙ map_last T X see b.is.before w))))
+
+  -- the value of a single field
+  pub value_view : (os : List Piece) → Alike see (SingleValue T group gap os)
+  value_view os v w (of_group g) (of_group h) = (one os [] [] v w g h).0
+  value_view os v w (of_group g) (of_gap a) = absurd (l.starts v [] g)
+  value_view os v w (of_gap a) (of_group h) = absurd (l.starts w [] h)
+  value_view os v w (of_gap a) (of_gap b) = absent v w a b
+
+  -- where there is no piece there is none
+  none_single : (os : List Piece) (v : T) → os ≡ [] → gap.has ≡ false → SingleValue T group gap os v
+      → ⊥
+  none_single os v e h (of_group g) = l.starts v [] (subst (λ z. group z v []) e g)
+  none_single os v e h (of_gap a) = l.no_absent v h a
+
+  -- what may be left out
+  pub optional_value_view : (os : List Piece)
+      → Alike (option_view see) (OptionalValue T group gap os)
+  optional_value_view os v w (some_value {v = x} g) (some_value {v = y} h) =
+      ap Some (value_view os x y g h)
+  optional_value_view os v w (some_value {v = x} g) (no_value h) =
+      absurd (none_single [] x refl h g)
+  optional_value_view os v w (no_value h) (some_value {v = y} g) =
+      absurd (none_single [] y refl h g)
+  optional_value_view os v w (no_value h) (no_value i) = refl
+
+  -- what has a default
+  pub fallback_value_view : (f : Closure (Unit {0}) T) → Alike see (λ v. f.yes tt v)
+      → (os : List Piece) → Alike see (FallbackValue T group gap f os)
+  fallback_value_view f given os v w (own_value g) (own_value h) = value_view os v w g h
+  fallback_value_view f given os v w (own_value g) (kept_value h y) =
+      absurd (none_single [] v refl h g)
+  fallback_value_view f given os v w (kept_value h y) (own_value g) =
+      absurd (none_single [] w refl h g)
+  fallback_value_view f given os v w (kept_value h y) (kept_value i z) = given v w y z
+
+module _ (T X : Type 0) (see : T → X) (inner : Outcome T) where
+  -- the list of a repeat
+  pub repeat_view : (names : List Names) (s : Shape T) → ShapeLaw inner names s → HasOneView see s
+      → HasOneView (map see) (repeat_shape s)
+  repeat_view names not_flat l u = tt
+  repeat_view names (alternative q value) l u =
+      list_view T X see inner Named q _ _ (alternative_single T inner q value l.0)
+      (front_view T X see value u) (λ v w a b. absurd a)
+  repeat_view names (single k q group gap) l u = list_view T X see inner k q group gap l.0 u.0 u.1
+  repeat_view names (complete k q value) l u = tt
+  repeat_view names (product q value) l u = tt
+
+  -- its last value
+  pub last_of_view : (names : List Names) (s : Shape T) → ShapeLaw inner names s → HasOneView see s
+      → HasOneView see (last_shape s)
+  last_of_view names not_flat l u = tt
+  last_of_view names (alternative q value) l u =
+      last_view T X see inner Named q _ _ (alternative_single T inner q value l.0)
+      (front_view T X see value u) (λ v w a b. absurd a)
+  last_of_view names (single k q group gap) l u = last_view T X see inner k q group gap l.0 u.0 u.1
+  last_of_view names (complete k q value) l u = tt
+  last_of_view names (product q value) l u = tt
+
+  -- a field that may be left out
+  pub optional_field_view : (names : List Names) (s : Shape T) → ShapeLaw inner names s
+      → HasOneView see s → HasOneView (option_view see) (optional_shape s)
+  optional_field_view names not_flat l u = tt
+  optional_field_view names (alternative q value) l u =
+      optional_value_view T X see inner Named q _ _ (alternative_single T inner q value l.0)
+      (front_view T X see value u) (λ v w a b. absurd a)
+  optional_field_view names (single k q group gap) l u =
+      optional_value_view T X see inner k q group gap l.0 u.0 u.1
+  optional_field_view names (complete k q value) l u = tt
+  optional_field_view names (product q value) l u = tt
+
+  -- a field with a default
+  pub fallback_view : (f : Closure (Unit {0}) T) → Alike see (λ v. f.yes tt v)
+      → (names : List Names) (s : Shape T) → ShapeLaw inner names s → HasOneView see s
+      → HasOneView see (fallback_shape f s)
+  fallback_view f given names not_flat l u = tt
+  fallback_view f given names (alternative q value) l u =
+      fallback_value_view T X see inner Named q _ _ (alternative_single T inner q value l.0)
+      (front_view T X see value u) (λ v w a b. absurd a) f given
+  fallback_view f given names (single k q group gap) l u =
+      fallback_value_view T X see inner k q group gap l.0 u.0 u.1 f given
+  fallback_view f given names (complete k q value) l u = tt
+  fallback_view f given names (product q value) l u = tt
+
+  -- any field of a record
+  pub field_view : (names : List Names) (s : Shape T) → ShapeLaw inner names s → HasOneView see s
+      → HasOneView see (field_shape s)
+  field_view names not_flat l u = tt
+  field_view names (alternative q value) l u =
+      value_view T X see inner Named q _ _ (alternative_single T inner q value l.0)
+      (front_view T X see value u) (λ v w a b. absurd a)
+  field_view names (single k q group gap) l u = value_view T X see inner k q group gap l.0 u.0 u.1
+  field_view names (complete k q value) l u = u
+  field_view names (product q value) l u = tt
+
+-- The list of a repeat, as the program keeps it.
+
+-- many
+pub many_view : (T X : Type 0) (see : T → X) (inner : Outcome T) (names : List Names) (s : Shape T)
+    → ShapeLaw inner names s → HasOneView see s
+    → HasOneView (λ values. map see values.items) (many_shape s)
+many_view T X see inner names s l u =
+    closed_view (List T) (Vec T) (List X) (List X) (map see) (λ values. map see values.items)
+    (list_closure T)
+    (record {
+      same = λ x y v w e f g. ap (map see) f
+          ∙ (e ∙ sym (ap (map see) g));
+      apart = λ x y v e f n. n;
+    }) (repeat_shape s)
+    (repeat_view T X see inner names s l u)
+
+-- Products.
+
+-- a field before others
+pub both_view : (A B X Y : Type 0) (see : A → X) (look : B → Y) (own others : List Names)
+    (s : Shape A) (t : Shape B) → HasOneView see s → HasOneView look t
+    → HasOneView (pair_view see look) (both_shape own others s t)
+both_view A B X Y see look own others (complete k q fv) (product r rv) u n =
+    if_view (A × B) (X × Y) (pair_view see look) _ (may_follow k own others)
+    (λ os v w a b. let d = u _ v.0 w.0 a.0 b.0 in let e = n _ v.1 w.1 a.1 b.1 in
+    λ i. (d i, e i))
+both_view A B X Y see look own others (complete k q fv) not_flat u n = tt
+both_view A B X Y see look own others (complete k q fv) (alternative r v) u n = tt
+both_view A B X Y see look own others (complete k q fv) (single j r g h) u n = tt
+both_view A B X Y see look own others (complete k q fv) (complete j r v) u n = tt
+both_view A B X Y see look own others not_flat t u n = tt
+both_view A B X Y see look own others (alternative q v) t u n = tt
+both_view A B X Y see look own others (single k q g h) t u n = tt
+both_view A B X Y see look own others (product q v) t u n = tt
+
+module _ (T X : Type 0) (see : T → X) where
+  -- the last field
+  pub alone_view : (s : Shape T) → HasOneView see s → HasOneView see (alone_shape s)
+  alone_view not_flat u = tt
+  alone_view (alternative q value) u = tt
+  alone_view (single k q group gap) u = tt
+  alone_view (complete k q value) u = λ os v w a b. u _ v w a.read b.read
+  alone_view (product q value) u = tt
+
+  record_view : (inner : Outcome T) (names : List Names) (s : Shape T) → ShapeLaw inner names s
+      → HasOneView see s → HasOneView see (record_shape s)
+  record_view inner names not_flat l u = tt
+  record_view inner names (alternative q value) l u =
+      alone_view (field_shape (alternative q value))
+      (field_view T X see inner names (alternative q value) l u)
+  record_view inner names (single k q group gap) l u =
+      alone_view (field_shape (single k q group gap))
+      (field_view T X see inner names (single k q group gap) l u)
+  record_view inner names (complete k q value) l u = alone_view (complete k q value) u
+  record_view inner names (product q value) l u = u
+
+  -- the values of a record
+  product_view : (s : Shape T) → HasOneView see s → (os : List Piece)
+      → Alike see (product_value s os)
+  product_view not_flat u os v w a b = absurd a
+  product_view (alternative q value) u os v w a b = absurd a
+  product_view (single k q group gap) u os v w a b = absurd a
+  product_view (complete k q value) u os v w a b = absurd a
+  product_view (product q value) u os v w a b = u os v w a b
+
+  -- an exact answer looks like each value of the record
+  like_this : (r : Roles) (value : List Piece → T → Type 0) (context : Context)
+      → Alike see (λ v. RecordValue r value context v) → (a : Answer T) (v : T)
+      → IsExact T r value context a
+      → RecordValue r value context v → LooksLike see v a
+  like_this r value context one (Accepted w) v e h = one w v (e.sound w refl) h
+  like_this r value context one NoMemory v e h = tt
+  like_this r value context one Refusal v e h = e.complete v h
+
+  -- All values of a line look alike.
+  pub record_looks_one : (outcome : Outcome T) (names : List Names) (s : Shape T)
+      → is_record s ≡ true → ShapeLaw outcome names s → HasOneView see s → (context : Context)
+      → Alike see (λ v. RecordValue (product_roles (record_shape s))
+      (product_value (record_shape s)) context v)
+  record_looks_one outcome names s h l u context v w a b =
+      let f = record_law T outcome names s h l in
+      let c = one_cut
+      (product_roles (record_shape s)) _ a.cut_into b.cut_into f.named a.cut b.cut in
+      product_view (record_shape s) (record_view outcome names s l u) b.cut_into v w
+      (subst (λ os. product_value (record_shape s) os v) c a.read) b.read
+
+  -- Where the record has a value, each answer looks like it, or is want of memory; with the value
+  -- itself for a view, it is that value.
+  pub runs_to_one : (outcome : Outcome T) (names : List Names) (s : Shape T) → is_record s ≡ true
+      → ShapeLaw outcome names s → HasOneView see s → (context : Context)
+      → RunsToOne see outcome s context
+  runs_to_one outcome names s h l u context a v ran r =
+      like_this _ _ context (record_looks_one outcome names s h l u context) a v
+      (runs_exactly T outcome names s h l context a ran) r
