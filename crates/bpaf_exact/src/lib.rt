@@ -16,6 +16,9 @@
 //!   specs/Wrappers.antt, specs/Derived.antt). Keys are kept apart by their names (specs/Names.antt).
 //! - The value of a record on a line is read off the pieces of its cut (specs/Record.antt), and each
 //!   answer of a run is exact (specs/Theorem.antt).
+//! - A line may have several values that differ in what contracts don't see, such as the room of a text.
+//!   Where closures can't tell apart what looks alike, the values of a line look alike
+//!   (specs/OneView.antt, `record_looks_one` and `runs_to_one` of proofs/OneView.antt).
 //!
 //! Proofs that closures, repeats, choices and products keep to these laws by their tables stand in
 //! proofs/: proofs/Twins.antt and proofs/Shape.antt have one lemma for each type of parser,
