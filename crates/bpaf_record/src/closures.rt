@@ -20,7 +20,8 @@ impl<T: Drop, R: Drop, P: FlatField<T>, F: Fn(T) -> R> FlatField<R> for ParseMap
     ghost use Rattle.bpaf_exact.specs.Wrappers.{map_closure};
     ghost use Rattle.bpaf_exact.proofs.Twins.{map_field_law};
 
-    ghost shape = { λ p. closed_shape (map_closure (λ x y. F.post p.map_fn x y)) (P.shape p.inner) };
+    ghost shape = { λ p.
+        closed_shape (map_closure (λ x y. F.post p.map_fn x y)) (P.shape p.inner) };
 
     ghost agrees = { λ p. P.agrees p.inner };
 
@@ -50,7 +51,8 @@ impl<T: Drop, R: Drop, E: Display + Drop, P: FlatField<T>, F: Fn(T) -> Result<R,
     ghost use Rattle.bpaf_exact.specs.Wrappers.{parse_closure};
     ghost use Rattle.bpaf_exact.proofs.Twins.{parse_field_law};
 
-    ghost shape = { λ p. closed_shape (parse_closure (λ x y. F.post p.parse_fn x y)) (P.shape p.inner) };
+    ghost shape = { λ p.
+        closed_shape (parse_closure (λ x y. F.post p.parse_fn x y)) (P.shape p.inner) };
 
     ghost agrees = { λ p. P.agrees p.inner
         × Agrees (parse_closure (λ x y. F.post p.parse_fn x y)) (P.shape p.inner) };
@@ -81,7 +83,8 @@ impl<'m, T: Drop, P: FlatField<T>, F: Fn(&T) -> bool> FlatField<T> for ParseGuar
     ghost use Rattle.bpaf_exact.specs.Wrappers.{guard_closure};
     ghost use Rattle.bpaf_exact.proofs.Twins.{guard_field_law};
 
-    ghost shape = { λ p. closed_shape (guard_closure (FnReturnsAt F.Fn p.check)) (P.shape p.inner) };
+    ghost shape = { λ p.
+        closed_shape (guard_closure (FnReturnsAt F.Fn p.check)) (P.shape p.inner) };
 
     ghost agrees = { λ p. P.agrees p.inner
         × Agrees (guard_closure (FnReturnsAt F.Fn p.check)) (P.shape p.inner) };

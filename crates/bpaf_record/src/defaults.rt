@@ -93,7 +93,8 @@ impl<T: Drop, E: Display + Drop, P: FlatField<T>, F: Fn() -> Result<T, E>> FlatF
         self.inner.form().completed()
     }
 
-    ghost flat = { λ p a. fallback_with_field_law T _ (P.outcome p.inner) (λ r. F.post p.fallback r)
+    ghost flat = { λ p a.
+        fallback_with_field_law T _ (P.outcome p.inner) (λ r. F.post p.fallback r)
         E.output (P.keys p.inner) (P.shape p.inner) a.1 (P.flat p.inner a.0) };
 
     ghost shows = { λ p. default_shows (P.shows p.inner) p.shown };

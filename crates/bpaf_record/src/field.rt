@@ -21,7 +21,8 @@ pub trait FlatField<T>: Parser<T> + HasKeys {
         ensures { result ≡ form_of (shape self.now) };
 
     /// What it answers and takes depends on its own pieces alone, as its shape says.
-    ghost flat: { (p : Self) → agrees p → ShapeLaw (Self.Parser.outcome p) (Self.HasKeys.keys p) (shape p) };
+    ghost flat: { (p : Self) → agrees p
+        → ShapeLaw (Self.Parser.outcome p) (Self.HasKeys.keys p) (shape p) };
 
     /// It shows the same parts, whichever shape it shows, so that words have one line.
     ghost shows: { (p : Self) → ShowsTheSame (Self.Parser.describes p) };
@@ -44,7 +45,8 @@ pub trait FlatFields<V>: Fields<V> + HasKeys {
         ensures { result ≡ form_of (shape self.now) };
 
     /// What they answer and take depends on the pieces of the line alone, as their shape says.
-    ghost flat: { (p : Self) → agrees p → ShapeLaw (Self.Fields.outcome p) (Self.HasKeys.keys p) (shape p) };
+    ghost flat: { (p : Self) → agrees p
+        → ShapeLaw (Self.Fields.outcome p) (Self.HasKeys.keys p) (shape p) };
 
     /// They show the same parts, whichever shapes they show.
     ghost shows: { (p : Self) → FieldsShowTheSame (Self.Fields.describes p) };

@@ -1,6 +1,7 @@
 ghost use Rattle.std.specs.Prelude.{◌≡◌};
 ghost use Rattle.bpaf_record.specs.Form.{closed_form, joined_form, completed_form, field_form};
-ghost use Rattle.bpaf_record.specs.Form.{alternative_form, alone_form, before_form, made_form, is_record_form};
+ghost use Rattle.bpaf_record.specs.Form.{alternative_form, alone_form, before_form};
+ghost use Rattle.bpaf_record.specs.Form.{made_form, is_record_form};
 
 /// What a parser is to a flat record.
 #[derive(Clone, Copy)]
@@ -84,8 +85,8 @@ impl Form {
         }
     }
 
-    /// As a field before others, whose keys are apart from its own or not; after a positional word no
-    /// key may stand.
+    /// As a field before others, whose keys are apart from its own or not; after a positional
+    /// word no key may stand.
     pub(crate) fn before(self, rest: Form, apart: bool, no_key_behind: bool) -> Form
         ensures { result ≡ before_form self rest apart no_key_behind }
     {

@@ -1,24 +1,26 @@
 //! Flat records: whether options are one, and a run of which each answer is exact.
 //!
-//! It stands on all crates below and on `bpaf_exact`, whose definitions its contracts cite. For the
-//! layers above:
+//! It stands on all crates below and on `bpaf_exact`, whose definitions its contracts cite. For
+//! the layers above:
 //!
-//! - [`FlatField`] is written for the parsers that may be a field of a flat record: flags, arguments and
-//!   positional words, choices of required flags and arguments, `map`, `parse`, `guard`, `optional`,
-//!   the repeats, both fallbacks, what changes only what is shown, and products; [`FlatFields`] for
-//!   the fields of a product. Each says what it is (`shape`), and proves the law of that shape: what
-//!   it answers and takes depends on its own pieces of the line alone. A parser that has no
-//!   [`FlatField`] is no field of a record: the compiler tells.
-//! - Its premise is `agrees`: whether a closure of `parse`, `guard` or `fallback_with` accepts depends on
-//!   the pieces alone. `map` and constructors need none, nor do kept values and `from_text`.
+//! - [`FlatField`] is written for the parsers that may be a field of a flat record: flags,
+//!   arguments and positional words, choices of required flags and arguments, `map`, `parse`,
+//!   `guard`, `optional`, the repeats, both fallbacks, what changes only what is shown, and
+//!   products; [`FlatFields`] for the fields of a product. Each says what it is (`shape`), and
+//!   proves the law of that shape: what it answers and takes depends on its own pieces of the
+//!   line alone. A parser that has no [`FlatField`] is no field of a record: the compiler tells.
+//! - Its premise is `agrees`: whether a closure of `parse`, `guard` or `fallback_with` accepts
+//!   depends on the pieces alone. `map` and constructors need none, nor do kept values and
+//!   `from_text`.
 //! - [`Record::is_record`] tells, without memory, whether options are a flat record, exactly as
-//!   `is_flat_record` says (specs/Record.antt): at most one repeat or default in a field, choices not
-//!   empty, positional words last, no `strict`, `non_strict`, `catch`, `adjacent` or name in the
-//!   environment, no product inside a field, and no name shared with another field, help or version.
-//! - [`Record::run_record`] runs such options as `run_inner` does, and each answer that the table of a run
-//!   allows is exact (`AnswersExactly`, specs/Record.antt): a value comes only where it is one of the
-//!   record on the words' line, and where the record has a value there no other answer comes, but for
-//!   want of memory.
+//!   `is_flat_record` says (specs/Record.antt): at most one repeat or default in a field, choices
+//!   not empty, positional words last, no `strict`, `non_strict`, `catch`, `adjacent` or name in
+//!   the environment, no product inside a field, and no name shared with another field, help or
+//!   version.
+//! - [`Record::run_record`] runs such options as `run_inner` does, and each answer that the table
+//!   of a run allows is exact (`AnswersExactly`, specs/Record.antt): a value comes only where it
+//!   is one of the record on the words' line, and where the record has a value there no other
+//!   answer comes, but for want of memory.
 //!
 //! bpaf has no such calls.
 #![tactic(auto)]

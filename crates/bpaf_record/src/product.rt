@@ -30,7 +30,8 @@ impl<T: Drop, A: FlatField<T>> FlatFields<T> for Last<A> {
 
     ghost flat = { λ p a. alone_shape_law T (A.outcome p.last) (A.keys p.last)
         (field_shape (A.shape p.last))
-        (field_shape_law T (A.outcome p.last) (A.keys p.last) (A.shape p.last) (A.flat p.last a)) };
+        (field_shape_law T (A.outcome p.last) (A.keys p.last) (A.shape p.last)
+        (A.flat p.last a)) };
 
     ghost shows = { λ p. last_shows (A.shows p.last) };
 }
@@ -55,7 +56,8 @@ impl<T: Drop, V: Drop, A: FlatField<T>, R: FlatFields<V>> FlatFields<(T, V)> for
     ghost use Rattle.bpaf_exact.proofs.SameParts.{both_show};
 
     ghost shape = { λ p.
-        both_shape (A.keys p.first) (R.keys p.rest) (field_shape (A.shape p.first)) (R.shape p.rest) };
+        both_shape (A.keys p.first) (R.keys p.rest) (field_shape (A.shape p.first))
+        (R.shape p.rest) };
 
     ghost agrees = { λ p. A.agrees p.first × R.agrees p.rest };
 

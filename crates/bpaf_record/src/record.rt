@@ -16,9 +16,9 @@ pub trait Record<T> {
     /// Whether they are a flat record.
     ghost is_flat: { Self → Bool };
 
-    /// Whether they are a flat record: one flat field, or a product of such with the positional ones
-    /// last, none of which shares a name with another or with the keys of help and version. The names
-    /// of version count also where no version is set. It takes no memory.
+    /// Whether they are a flat record: one flat field, or a product of such with the positional
+    /// ones last, none of which shares a name with another or with the keys of help and version.
+    /// The names of version count also where no version is set. It takes no memory.
     fn is_record(&self) -> bool
         ensures { result ≡ is_flat self.now };
 
@@ -34,12 +34,13 @@ pub trait Record<T> {
     /// What a run of a flat record answers to words.
     ghost answers_exactly: { Self → Given → Result T ParseFailure → Type 0 };
 
-    /// The value that the words give, as `run_inner`, and exactly: Ok(v) comes only where v is a value of
-    /// the record on the words' line, and where the record has a value there the answer is one, or want
-    /// of memory.
+    /// The value that the words give, as `run_inner`, and exactly: Ok(v) comes only where v is a
+    /// value of the record on the words' line, and where the record has a value there the answer
+    /// is one, or want of memory.
     ///
-    /// The record's values are read off the line by itself: it is cut into pieces, and each field has
-    /// its share of them. The second clause is of every answer that the table of a run allows.
+    /// The record's values are read off the line by itself: it is cut into pieces, and each field
+    /// has its share of them. The second clause is of every answer that the table of a run
+    /// allows.
     ///
     /// ```text
     /// if !options.is_record() {

@@ -125,7 +125,8 @@ impl<T: Drop, P: FlatField<T>> FlatField<usize> for ParseCount<P, T> {
     }
 
     ghost flat = { λ p a.
-        count_field_law T (P.outcome p.inner) (P.keys p.inner) (P.shape p.inner) (P.flat p.inner a) };
+        count_field_law T (P.outcome p.inner) (P.keys p.inner) (P.shape p.inner)
+        (P.flat p.inner a) };
 
     ghost shows = { λ p. many_shows (P.shows p.inner) };
 }
@@ -153,7 +154,8 @@ impl<T: Drop, P: FlatField<T>> FlatField<T> for ParseLast<P> {
     }
 
     ghost flat = { λ p a.
-        last_field_law T (P.outcome p.inner) (P.keys p.inner) (P.shape p.inner) (P.flat p.inner a) };
+        last_field_law T (P.outcome p.inner) (P.keys p.inner) (P.shape p.inner)
+        (P.flat p.inner a) };
 
     ghost shows = { λ p. some_shows (P.shows p.inner) };
 }
