@@ -9,7 +9,8 @@ use bpaf::{Args, Info, OptionParser, ParseFailure};
 
 /// Options that are a flat record, where `is_record` says so.
 pub trait Record<T> {
-    ghost use Rattle.std.specs.Prelude.{Bool, Result};
+    ghost use Rattle.std.specs.Prelude.{Bool, IfOk, Result};
+    ghost use Rattle.std.specs.Result.{IfErr};
     ghost use Rattle.bpaf_line.specs.declared.failure.ParseFailure.{ParseFailure};
     ghost use Rattle.bpaf_words.specs.Arguments.{Given};
 
@@ -31,6 +32,12 @@ pub trait Record<T> {
     /// What a run may answer to words, by its table.
     ghost answers: { Self → Given → Result T ParseFailure → Type 0 };
 
+    /// Which refusals have one of the twelve names, or are handed on.
+    ghost refuses: { Self → ParseFailure → Type 0 };
+
+    /// Which values are dealt out of words.
+    ghost deals: { Self → Given → T → Type 0 };
+
     /// What a run of a flat record answers to words.
     ghost answers_exactly: { Self → Given → Result T ParseFailure → Type 0 };
 
@@ -39,8 +46,8 @@ pub trait Record<T> {
     /// is one, or want of memory.
     ///
     /// The record's values are read off the line by itself: it is cut into pieces, and each field
-    /// has its share of them. The second clause is of every answer that the table of a run
-    /// allows.
+    /// has its share of them. The clause `exact` is of every answer that the table of a run
+    /// allows; the others are those of `run_inner`.
     ///
     /// ```text
     /// if !options.is_record() {
@@ -52,6 +59,8 @@ pub trait Record<T> {
         requires can { can_run self.now }
         requires record { is_flat self.now ≡ true }
         ensures outcome { answers self.now (given_of args.entry) result }
+        ensures named { IfErr result (refuses self.now) }
+        ensures dealt { IfOk result (deals self.now (given_of args.entry)) }
         ensures exact { agrees self.now → (r : Result T ParseFailure)
             → answers self.now (given_of args.entry) r
             → answers_exactly self.now (given_of args.entry) r };
@@ -85,6 +94,8 @@ fn apart_from_version<P: HasKeys>(parser: &P, info: &Info) -> bool
 
 impl<T: Drop, P: FlatField<T>> Record<T> for OptionParser<T, P> {
     ghost use Rattle.bpaf_record.specs.Record.{is_flat_record, AnswersExactly};
+    ghost use Rattle.bpaf_core.specs.Dealt.{IsDealtOut};
+    ghost use Rattle.bpaf_core.specs.Refusals.{IsOneOfTwelve};
     ghost use Rattle.bpaf_core.specs.Run.{RunsWords};
 
     ghost is_flat = { λ p. is_flat_record (P.shape p.inner) (P.keys p.inner) p.info };
@@ -103,6 +114,11 @@ impl<T: Drop, P: FlatField<T>> Record<T> for OptionParser<T, P> {
 
     ghost answers = { λ p given.
         RunsWords T (P.outcome p.inner) (P.describes p.inner) p.info given };
+
+    ghost refuses = { λ p. IsOneOfTwelve (P.outcome p.inner) };
+
+    ghost deals = { λ p given.
+        IsDealtOut T (P.reads p.inner) (P.describes p.inner) p.info given };
 
     ghost answers_exactly = { λ p given.
         AnswersExactly T (P.describes p.inner) p.info (P.shape p.inner) given };
