@@ -7,6 +7,7 @@
 //! ```
 #![tactic(auto)]
 
+mod backup;
 mod closures;
 mod commands;
 mod keys;
@@ -63,4 +64,26 @@ fn tell(rt: &HostRuntime, failure: ParseFailure) -> io::Result<ExitCode> {
         ParseFailure::Memory => eprintln!(rt; "Error: out of memory")?,
     }
     Ok(ExitCode::from(status))
+}
+
+#[test]
+fn a_backup_is_told(rt: HostRuntime) -> Result<(), std::test::Fail> {
+    let words = [
+        "-j",
+        "4",
+        "a",
+        "--depth=2",
+        "-k1",
+        "-v",
+        "b",
+        "-s",
+        "5",
+        "c",
+    ];
+    let backup = backup::read_backup(rt.alloc(), &words)?;
+    assert_eq!(rt;
+        backup.map(|told| (told.verbose, told.to.len())),
+        Some((true, 2))
+    );
+    Ok(())
 }

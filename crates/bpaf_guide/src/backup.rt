@@ -1,0 +1,72 @@
+//! A record of ten fields, of which it is known which lines it accepts.
+use bpaf::params::{ParseArgument, ParseFlag};
+use bpaf::{Args, ParseFailure, Parser, construct, positional, short};
+use bpaf_record::{FlatField, Record};
+use std::alloc::{AllocError, Global};
+
+/// What a backup is told.
+#[derive(Drop)]
+pub struct Backup {
+    pub force: bool,
+    pub update: bool,
+    pub dry_run: bool,
+    pub verbose: bool,
+    pub jobs: u64,
+    pub depth: u64,
+    pub keep: u64,
+    pub sizes: Vec<u64>,
+    pub from: String,
+    pub to: Vec<String>,
+}
+
+/// A switch of two names.
+fn switch(alloc: Global, letter: char, name: &str) -> Result<ParseFlag<bool>, AllocError> {
+    Ok(short(alloc, letter)?.long(name)?.switch())
+}
+
+/// A number behind a key of two names.
+fn number(alloc: Global, letter: char, name: &str) -> Result<ParseArgument<u64>, AllocError> {
+    Ok(short(alloc, letter)?.long(name)?.argument::<u64>("NUM"))
+}
+
+/// What the words tell a backup; None where its parser is no flat record.
+pub fn read_backup(alloc: Global, words: &[&str]) -> Result<Option<Backup>, ParseFailure> {
+    let force = switch(alloc, 'f', "force")?;
+    let update = switch(alloc, 'u', "update")?;
+    let dry_run = switch(alloc, 'd', "dry-run")?;
+    let verbose = switch(alloc, 'v', "verbose")?;
+    let jobs = number(alloc, 'j', "jobs")?;
+    let depth = number(alloc, 'D', "depth")?;
+    let keep = number(alloc, 'k', "keep")?;
+    let sizes = number(alloc, 's', "size")?.many();
+    let from = positional::<String>("FROM");
+    let to = positional::<String>("TO").many();
+    let backup = construct!(Backup {
+        force,
+        update,
+        dry_run,
+        verbose,
+        jobs,
+        depth,
+        keep,
+        sizes,
+        from,
+        to
+    });
+    record_value(alloc, backup, words)
+}
+
+/// The value of a flat record on words; None where the parser is no flat record.
+fn record_value<T: Drop, P: FlatField<T> + Drop>(
+    alloc: Global,
+    parser: P,
+    words: &[&str],
+) -> Result<Option<T>, ParseFailure>
+    requires { P.can_eval parser }
+{
+    let options = parser.to_options(alloc)?;
+    if !options.is_record() {
+        return Ok(None);
+    }
+    Ok(Some(options.run_record(Args::from(words))?))
+}
