@@ -1,9 +1,7 @@
 -- A surplus occurrence, a surplus word and an occurrence without a value leave a field no value.
-use Rattle.std.proofs.Common.{◌≡◌, ℕ, List, [], ◌∷◌, Option, Some, None, refl, sym, ap, subst}
-use Rattle.std.proofs.Common.{if◌then◌else◌}
+use Rattle.std.proofs.Common.{◌≡◌, ℕ, List, [], ◌∷◌, Option, Some, None, subst}
 use Rattle.bpaf_doc.specs.Names.{Names}
-use Rattle.bpaf_exact.specs.Pieces.{Role, Foreign, Alone, WithNext, Roles, Piece, One, Two}
-use Rattle.bpaf_exact.specs.Pieces.{is_own_role, is_own, others, either, either_role, no_roles}
+use Rattle.bpaf_exact.specs.Pieces.{Roles, Piece}
 use Rattle.bpaf_exact.specs.Flat.{Kind, BothValue, share, left}
 use Rattle.bpaf_exact.specs.Single.{Groups, Gap, FrontOf, own_none, own_more, OwnList, listed}
 use Rattle.bpaf_exact.specs.Single.{listed_and_absent, only_absent, SingleValue, of_group, of_gap}
@@ -103,34 +101,6 @@ surplus_occurrence k q first rest o p more os v once e h =
 pub surplus_word : {T : Type 0} (k : Kind) (q : Roles) (value : List Piece → T → Type 0) (o : Piece)
     (more os : List Piece) (v : T) → left k q os ≡ o ∷ more → LastValue T k q value os v → ⊥
 surplus_word k q value o more os v e h = let none = h.none_left in cc
-
--- what is left of a piece whose item has one role to the fields first asked and another to the rest
-left_by_both : (r : Roles) (x y : Role) (o : Piece) {xs : List Piece} (ys : List Piece)
-    → is_own r o ≡ is_own_role y → xs ≡ others r ys
-    → (if is_own_role (either_role x y) then xs else (o ∷ xs))
-    ≡ others r (if is_own_role x then ys else (o ∷ ys))
-left_by_both r Foreign y o {xs = xs} ys e h =
-    subst (λ b. (if is_own_role y then xs else (o ∷ xs))
-    ≡ (if b then others r ys else (o ∷ others r ys))) (sym e)
-    (ap (λ z. if is_own_role y then z else (o ∷ z)) h)
-left_by_both r Alone y o ys e h = h
-left_by_both r WithNext y o ys e h = h
-
--- what all named fields leave, each of what those before it left, is what begins with none of their
--- keys
-pub others_either : (q r : Roles) (os : List Piece)
-    → others (either q r) os ≡ others r (others q os)
-others_either q r [] = refl
-others_either q r (One k ∷ os) =
-    left_by_both r (q k) (r k) (One k) (others q os) refl (others_either q r os)
-others_either q r (Two k w ∷ os) =
-    left_by_both r (q k) (r k) (Two k w) (others q os) refl (others_either q r os)
-
--- without keys all is left
-pub others_none : (os : List Piece) → others no_roles os ≡ os
-others_none [] = refl
-others_none (One k ∷ os) = ap (λ z. One k ∷ z) (others_none os)
-others_none (Two k w ∷ os) = ap (λ z. Two k w ∷ z) (others_none os)
 
 -- An occurrence without a value, as the key of a failed alternative.
 module _ (T : Type 0) (value : Piece → T → Type 0) (gap : Gap T) where
