@@ -1,5 +1,5 @@
 -- A surplus occurrence, a surplus word and an occurrence without a value leave a field no value.
-use Rattle.std.proofs.Common.{◌≡◌, ℕ, List, [], ◌∷◌, Option, Some, None, subst}
+use Rattle.std.proofs.Common.{◌≡◌, ℕ, Bool, true, false, List, [], ◌∷◌, Option, Some, None, subst}
 use Rattle.bpaf_doc.specs.Names.{Names}
 use Rattle.bpaf_exact.specs.Pieces.{Roles, Piece}
 use Rattle.bpaf_exact.specs.Flat.{Kind, BothValue, share, left}
@@ -10,9 +10,10 @@ use Rattle.bpaf_exact.specs.Wrappers.{no_value, FallbackValue, own_value, kept_v
 use Rattle.bpaf_exact.specs.Derived.{LastOf}
 use Rattle.bpaf_exact.specs.Alternative.{HasBad}
 use Rattle.bpaf_exact.specs.Record.{LastValue}
-use Rattle.bpaf_exact.specs.Leaves.{flag_by, word_field}
+use Rattle.bpaf_exact.specs.Leaves.{flag_by, argument_by, word_field}
 use Rattle.bpaf_exact.specs.Shape.{Shape, not_flat, alternative, single, complete, product}
 use Rattle.bpaf_exact.specs.Shape.{closed_shape, optional_shape, fallback_shape, field_shape}
+use Rattle.bpaf_exact.specs.Shape.{unless}
 use Rattle.bpaf_exact.specs.Accepted.{OneByOne, AtMostOne, HasNoSurplus}
 use Rattle.bpaf_exact.proofs.Alternative.{own_bad}
 
@@ -76,6 +77,12 @@ fallback_no_surplus {T = T} f (single k q group gap) h = fallback_once T group g
 fallback_no_surplus f (complete k q value) h = tt
 fallback_no_surplus f (product q value) h = tt
 
+-- whether `catch` is set changes nothing there
+pub unless_no_surplus : {T : Type 0} (catch : Bool) (s : Shape T) → HasNoSurplus s
+    → HasNoSurplus (unless catch s)
+unless_no_surplus true s h = tt
+unless_no_surplus false s h = h
+
 -- a flag has none
 pub flag_no_surplus : {T : Type 0} (clones : T → T → Type 0) (names : Names) (present : T)
     (envs : List (List ℕ)) (absent : Option T)
@@ -83,6 +90,13 @@ pub flag_no_surplus : {T : Type 0} (clones : T → T → Type 0) (names : Names)
 flag_no_surplus clones names present (env ∷ envs) absent = tt
 flag_no_surplus clones names present [] None = tt
 flag_no_surplus {T = T} clones names present [] (Some absent) = front_one T _
+
+-- nor an argument
+pub argument_no_surplus : {T : Type 0} (means : List ℕ → T → Type 0) (names : Names)
+    (envs : List (List ℕ)) (adjacent : Bool) → HasNoSurplus (argument_by means names envs adjacent)
+argument_no_surplus means names (env ∷ envs) adjacent = tt
+argument_no_surplus means names [] true = tt
+argument_no_surplus means names [] false = tt
 
 -- nor a word
 pub word_no_surplus : {T : Type 0} (means : List ℕ → T → Type 0) → HasNoSurplus (word_field means)
