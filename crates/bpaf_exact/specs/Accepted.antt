@@ -1,4 +1,5 @@
--- What holds of a line that gets a value: no item of it is left over, and none is used twice.
+-- What holds of a line that gets a value: where its keys, values and words stand, and that no field
+-- without a repeat has an occurrence too many.
 use Rattle.std.specs.Prelude.{◌≡◌, ℕ, Bool, true, false, List, [], ◌∷◌, ◌++◌, Some}
 use Rattle.std.specs.List.{AllPass}
 use Rattle.bpaf_words.specs.Items.{is_positional}
@@ -59,7 +60,8 @@ OneByOne {T = T} group = (os rest : List Piece) (v : T) → group os v rest
 abbrev pub AtMostOne : {T : Type 0} → (List Piece → T → Type 0) → Type 0
 AtMostOne {T = T} value = (o p : Piece) (os : List Piece) (v : T) → value (o ∷ p ∷ os) v → ⊥
 
--- a field without a repeat: a surplus occurrence has no value
+-- A field without a repeat has no surplus: two occurrences or more have no value. An alternative
+-- reads one piece in any case.
 abbrev pub HasNoSurplus : {T : Type 0} → Shape T → Type 0
 HasNoSurplus not_flat = Unit {0}
 HasNoSurplus (alternative q value) = Unit {0}
