@@ -17,7 +17,7 @@ use Rattle.bpaf_exact.specs.Alternative.{alternative_refused, AlternativeLaw}
 use Rattle.bpaf_exact.proofs.First.{first_pieces, takes_nonempty, bad_given_back, bad_nonempty}
 
 -- Pieces that can't be read have no own list.
-own_bad : (T : Type 0) (value : Piece → T → Type 0) (os : List Piece) (vs : List T)
+pub own_bad : (T : Type 0) (value : Piece → T → Type 0) (os : List Piece) (vs : List T)
     → HasBad T value os → Own T (FrontOf T value) os vs → ⊥
 own_bad T value os vs h own_none = elim h [ ]
 own_bad T value os vs h (own_more {rest = rest} {v = v} {vs = us} g o) =

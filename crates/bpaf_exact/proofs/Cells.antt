@@ -39,11 +39,11 @@ own_not_value q (Word t) n h = let e : is_own_role (q (Word t))
 own_not_value q (PosWord t) n h = refl
 
 -- a value belongs to no named field
-value_foreign : (q : Roles) (w : Arg) → IsNamed q → is_value w ≡ true → q w ≡ Foreign
+pub value_foreign : (q : Roles) (w : Arg) → IsNamed q → is_value w ≡ true → q w ≡ Foreign
 value_foreign q w n h = n.only_keys w (value_not_key w h)
 
 -- nor does a word
-word_foreign : (q : Roles) (w : Arg) → IsNamed q → is_positional w ≡ true → q w ≡ Foreign
+pub word_foreign : (q : Roles) (w : Arg) → IsNamed q → is_positional w ≡ true → q w ≡ Foreign
 word_foreign q w n h = n.only_keys w (word_not_key w h)
 
 -- alike pieces behind an item, and alike items next to it, make alike pieces
@@ -143,12 +143,12 @@ either_own Alone y z e h = e
 either_own WithNext y z e h = e
 
 -- a piece of the field's own isn't one of others
-others_own : (q : Roles) (o : Piece) (os : List Piece) → is_own q o ≡ true
+pub others_own : (q : Roles) (o : Piece) (os : List Piece) → is_own q o ≡ true
     → others q (o ∷ os) ≡ others q os
 others_own q o os h = ap (λ b. if b then others q os else (o ∷ others q os)) h
 
 -- a piece of others is
-others_foreign : (q : Roles) (o : Piece) (os : List Piece) → is_own q o ≡ false
+pub others_foreign : (q : Roles) (o : Piece) (os : List Piece) → is_own q o ≡ false
     → others q (o ∷ os) ≡ o ∷ others q os
 others_foreign q o os h = ap (λ b. if b then others q os else (o ∷ others q os)) h
 

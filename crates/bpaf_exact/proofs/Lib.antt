@@ -25,3 +25,5 @@ pub mod Twins
 pub mod SameParts
 pub mod Rows
 pub mod OneView
+pub mod Accepted
+pub mod Surplus

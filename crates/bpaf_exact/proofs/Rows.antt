@@ -6,6 +6,7 @@ use Rattle.bpaf_words.specs.declared.arg.Arg.TheVariants.{Short, Long, ArgWord, 
 use Rattle.bpaf_line.specs.Situation.{Context}
 use Rattle.bpaf_exact.specs.Pieces.{Foreign, Roles, Piece, One, Two, IsNamed, Cut, at_end}
 use Rattle.bpaf_exact.specs.Pieces.{flag, argument, word, either, no_roles, word_roles, mine}
+use Rattle.bpaf_exact.specs.Pieces.{others}
 use Rattle.bpaf_exact.specs.Pieces.{is_key}
 use Rattle.bpaf_exact.specs.Flat.{Named, OneWord, EachWord, BothValue, keys}
 use Rattle.bpaf_exact.specs.Single.{FrontOf, own_none, own_more, no_gap, SingleValue, of_group}
@@ -14,10 +15,13 @@ use Rattle.bpaf_exact.specs.Single.{OwnList, listed, listed_and_absent, only_abs
 use Rattle.bpaf_exact.specs.Wrappers.{Closure, ClosedGroup, closed_gap}
 use Rattle.bpaf_exact.specs.Leaves.{flag_roles, argument_roles, FlagValue, ArgumentValue, WordValue}
 use Rattle.bpaf_exact.specs.Leaves.{switch_gap, flag_by, argument_by, word_field}
-use Rattle.bpaf_exact.specs.Alternative.{either_value}
+use Rattle.bpaf_exact.specs.Alternative.{either_value, bad_here, bad_later}
 use Rattle.bpaf_exact.specs.Record.{line_cells, RecordValue, LastValue}
 use Rattle.bpaf_exact.specs.Shape.{Shape, is_record, both_shape, field_shape, alone_shape}
 use Rattle.bpaf_exact.specs.Shape.{many_shape, choice_shape, optional_shape}
+use Rattle.bpaf_exact.specs.Accepted.{HasItsValue, HoldsTogether}
+use Rattle.bpaf_exact.proofs.Accepted.{cut_holds_together, attached_to}
+use Rattle.bpaf_exact.proofs.Surplus.{front_one, field_no_surplus, surplus_word, repeat_bad}
 use Rattle.bpaf_exact.proofs.Cuts.{one_cut}
 
 -- a line without `--`
@@ -125,6 +129,58 @@ word_first = record {
     ),
   );
 }
+
+-- the items of the switch, the argument and a word are keys
+three_named : IsNamed three_roles
+three_named = record { only_keys = by_item }
+  where
+    by_item : (k : Arg) → is_key k ≡ false → three_roles k ≡ Foreign
+    by_item (Short c attached whole) h = absurd cc
+    by_item (Long name attached whole) h = absurd cc
+    by_item (ArgWord text) h = refl
+    by_item (Word text) h = refl
+    by_item (PosWord text) h = refl
+
+-- what holds of a line that is cut for them
+three_together : (items : List Arg) (os : List Piece)
+    → Cut three_roles (line_cells (line_of items)) os
+    → HoldsTogether three_roles (line_cells (line_of items)) os
+three_together items os c = cut_holds_together three_roles three_named _ os c
+
+-- `-vn3 x`: `3` stands behind its key, and `x` alone is left to the word
+number_behind_key : HasItsValue three_roles (Some v_key ∷ []) n_key
+    (Some (letter 3) ∷ Some (letter 9) ∷ []) options_first.cut_into
+number_behind_key =
+    (three_together (v_key ∷ n_key ∷ letter 3 ∷ letter 9 ∷ []) _ options_first.cut).values
+    (Some v_key ∷ []) (Some (letter 3) ∷ Some (letter 9) ∷ []) n_key refl refl
+
+-- that one
+word_left : others three_roles options_first.cut_into ≡ One (letter 9) ∷ []
+unfolding options_first
+word_left = refl
+
+-- `-a`: a key of nobody
+foreign_key : (os : List Piece)
+    → Cut three_roles (line_cells (line_of (Short 97 false [] ∷ []))) os → ⊥
+foreign_key os c =
+    let own = (three_together (Short 97 false [] ∷ []) os c).keys [] []
+    (Short 97 false []) refl refl in
+    cc
+
+-- `-v=3`: a value behind the key of a switch
+value_behind_switch : (os : List Piece)
+    → Cut three_roles (line_cells (line_of (v_key ∷ ArgWord (3 ∷ []) ∷ []))) os → ⊥
+value_behind_switch os c =
+    let wants = attached_to three_roles _ os
+    (three_together (v_key ∷ ArgWord (3 ∷ []) ∷ []) os c) [] [] v_key (3 ∷ []) refl in
+    cc
+
+-- `x y`: a word too many for the field of one word
+word_too_many : (v : List ℕ)
+    → LastValue (List ℕ) OneWord word_roles TextValue (One (letter 9) ∷ One (letter 8) ∷ []) v
+    → ⊥
+word_too_many v h =
+    surplus_word OneWord word_roles TextValue (One (letter 8)) [] _ v refl h
 
 -- the items of the argument and a word
 abbrev two_roles : Roles
@@ -264,9 +320,29 @@ line_order = record {
   };
 }
 
+-- `-b 3 -a xy` to it: `-a` can't read its value, so there is none
+failed_alternative : (vs : List ℕ)
+    → OwnList ℕ (FrontOf ℕ ChoiceValue) (no_gap ℕ)
+    (Two b_key (letter 3) ∷ Two a_key (Word (9 ∷ 8 ∷ [])) ∷ []) vs
+    → ⊥
+failed_alternative vs h =
+    repeat_bad ℕ ChoiceValue (no_gap ℕ) _ vs (bad_later (bad_here unread)) h
+  where
+    unread : (n : ℕ) → ChoiceValue (Two a_key (Word (9 ∷ 8 ∷ []))) n → ⊥
+    unread n e = cc
+
 -- the switch
 abbrev switch : Shape Bool
 switch = flag_by (λ kept v. v ≡ kept) (short 118) true [] (Some false)
+
+-- `-v -v` to the switch and a word: one occurrence too many
+switch_twice : (v : Bool × List ℕ)
+    → BothValue Named v_roles SwitchValue (LastValue (List ℕ) OneWord word_roles TextValue)
+    (One v_key ∷ One v_key ∷ []) v
+    → ⊥
+switch_twice v h =
+    field_no_surplus switch (front_one Bool (FlagValue (exactly true)))
+    (One v_key) (One v_key) [] v.0 h.0
 
 -- an argument of this name
 abbrev number_of : ℕ → Shape ℕ

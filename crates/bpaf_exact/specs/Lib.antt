@@ -11,3 +11,4 @@ pub mod Leaves
 pub mod Theorem
 pub mod SameParts
 pub mod OneView
+pub mod Accepted

@@ -16,6 +16,11 @@
 //!   specs/Wrappers.antt, specs/Derived.antt). Keys are kept apart by their names (specs/Names.antt).
 //! - The value of a record on a line is read off the pieces of its cut (specs/Record.antt), and each
 //!   answer of a run is exact (specs/Theorem.antt).
+//! - A line that is cut holds together (`HoldsTogether`, specs/Accepted.antt): each key is one of
+//!   the record's, behind an argument's key stands its value, which no positional field gets, an
+//!   attached value stands nowhere else, and what is left to positional fields are words
+//!   (`cut_holds_together`, proofs/Accepted.antt). An occurrence or a word too many leaves no value
+//!   (`HasNoSurplus`), nor does an occurrence that can't be read (proofs/Surplus.antt).
 //! - A line may have several values that differ in what contracts don't see, such as the room of a text.
 //!   Where closures can't tell apart what looks alike, the values of a line look alike
 //!   (specs/OneView.antt, `record_looks_one` and `runs_to_one` of proofs/OneView.antt).

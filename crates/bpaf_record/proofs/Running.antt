@@ -20,13 +20,15 @@ use Rattle.bpaf_core.specs.Known.{IsLineContext}
 use Rattle.bpaf_core.specs.Run.{Runs, RunsWords, value, leftover, refused, ran, no_line as none_there, no_memory as wanted}
 use Rattle.bpaf_exact.specs.Names.{are_apart}
 use Rattle.bpaf_exact.specs.Record.{Answer, RunRan, run_value, run_leftover, run_memory, run_refusal, IsNoValue}
-use Rattle.bpaf_exact.specs.Record.{IsAnswer, IsExact, RecordValue}
+use Rattle.bpaf_exact.specs.Record.{IsAnswer, IsExact, RecordValue, line_cells}
 use Rattle.bpaf_exact.specs.Shape.{Shape, ShapeLaw, is_record, product_roles, product_value, record_shape}
 use Rattle.bpaf_exact.proofs.Classes.{memory_class, not_memory}
+use Rattle.bpaf_exact.proofs.Accepted.{cut_holds_together}
 use Rattle.bpaf_exact.proofs.Exact.{runs_exactly}
+use Rattle.bpaf_exact.proofs.Shape.{record_law}
 use Rattle.bpaf_exact.specs.SameParts.{ShowsTheSame}
 use Rattle.bpaf_record.specs.Record.{is_flat_record, answer_of, AnswersExactly, EachAnswersExactly}
-use Rattle.bpaf_record.specs.Record.{IsValueOf, IsValueOrWant}
+use Rattle.bpaf_record.specs.Record.{IsValueOf, IsValueOrWant, HasWholeLine, EachHasWholeLine}
 use Rattle.bpaf_record.proofs.OneLine.{never_without, one_context}
 
 -- an open place is counted
@@ -117,6 +119,24 @@ module _ (T : Type 0) (outcome : Outcome T) (describes : ShownShape → Type 0) 
               word number there.on_line is none);
         }
     answers_exactly (Err f) wanted = record { sound = tt; complete = λ texts v there. refl }
+
+    -- the line of a value of the record is whole
+    whole_line : (v : T) → IsValue v → HasWholeLine describes info shape given v
+    whole_line v is = record {
+      is_value = is;
+      together = cut_holds_together (product_roles (record_shape shape))
+          (record_law T outcome names shape flat law).named (line_cells is.context)
+          is.read.cut_into is.read.cut;
+    }
+
+    -- so is that of each answer to words that is a value
+    pub whole_lines : EachHasWholeLine outcome describes info shape given
+    whole_lines r o = by_answer r (answers_exactly r o).sound
+      where
+        by_answer : (a : Result T ParseFailure) → IfOk a IsValue
+            → IfOk a (HasWholeLine describes info shape given)
+        by_answer (Ok v) is = whole_line v is
+        by_answer (Err f) none = tt
 
 -- options that are a flat record have a parser that is one
 pub is_flat_shape : {T : Type 0} (shape : Shape T) (names : List Names) (info : RunInfo) → is_flat_record shape names info ≡ true → is_record shape ≡ true

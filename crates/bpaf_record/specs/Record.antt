@@ -11,8 +11,10 @@ use Rattle.bpaf_laws.specs.Reading.{Outcome}
 use Rattle.bpaf_core.specs.Info.{RunInfo}
 use Rattle.bpaf_core.specs.Known.{IsLineContext}
 use Rattle.bpaf_core.specs.Run.{RunsWords}
+use Rattle.bpaf_exact.specs.Accepted.{HoldsTogether}
 use Rattle.bpaf_exact.specs.Names.{are_apart}
 use Rattle.bpaf_exact.specs.Record.{Answer, Accepted, NoMemory, Refusal, RecordValue}
+use Rattle.bpaf_exact.specs.Record.{line_cells}
 use Rattle.bpaf_exact.specs.Shape.{Shape, is_record, product_roles, product_value, record_shape}
 
 -- a flat record none of whose keys shares a name with those of help and version
@@ -56,3 +58,17 @@ abbrev pub EachAnswersExactly : {T : Type 0} → Outcome T → (ShownShape → T
 EachAnswersExactly {T = T} outcome describes info shape given =
     (r : Result T ParseFailure) → RunsWords T outcome describes info given r
     → AnswersExactly T describes info shape given r
+
+-- v is a value of the record on words whose line, as it is cut for v, holds together
+pub record HasWholeLine {T : Type 0} (describes : ShownShape → Type 0) (info : RunInfo)
+    (shape : Shape T) (given : Given) (v : T) : Type 0 where
+  pub is_value : IsValueOf describes info shape given v
+  pub together : HoldsTogether (product_roles (record_shape shape)) (line_cells is_value.context)
+      is_value.read.cut_into
+
+-- each value that the table of a run allows on the words is one of these
+abbrev pub EachHasWholeLine : {T : Type 0} → Outcome T → (ShownShape → Type 0) → RunInfo
+    → Shape T → Given → Type 0
+EachHasWholeLine {T = T} outcome describes info shape given =
+    (r : Result T ParseFailure) → RunsWords T outcome describes info given r
+    → IfOk r (HasWholeLine describes info shape given)

@@ -20,7 +20,9 @@
 //! - [`Record::run_record`] runs such options as `run_inner` does, and each answer that the table
 //!   of a run allows is exact (`AnswersExactly`, specs/Record.antt): a value comes only where it
 //!   is one of the record on the words' line, and where the record has a value there no other
-//!   answer comes, but for want of memory.
+//!   answer comes, but for want of memory. The line of each value is whole (`HasWholeLine`): a key
+//!   of nobody or a value behind a flag's key is refused, and no positional field gets a value that
+//!   belongs to a key.
 //!
 //! bpaf has no such calls.
 #![tactic(auto)]
