@@ -21,7 +21,7 @@ use Rattle.bpaf_exact.specs.Shape.{Shape, is_record, both_shape, field_shape, al
 use Rattle.bpaf_exact.specs.Shape.{many_shape, choice_shape, optional_shape}
 use Rattle.bpaf_exact.specs.Accepted.{HasItsValue, HoldsTogether}
 use Rattle.bpaf_exact.proofs.Accepted.{cut_holds_together, attached_to}
-use Rattle.bpaf_exact.proofs.Surplus.{front_one, field_no_surplus, surplus_word, repeat_bad}
+use Rattle.bpaf_exact.proofs.Surplus.{front_one, field_no_surplus, none_left, repeat_bad}
 use Rattle.bpaf_exact.proofs.Cuts.{one_cut}
 
 -- a line without `--`
@@ -180,7 +180,7 @@ word_too_many : (v : List ℕ)
     → LastValue (List ℕ) OneWord word_roles TextValue (One (letter 9) ∷ One (letter 8) ∷ []) v
     → ⊥
 word_too_many v h =
-    surplus_word OneWord word_roles TextValue (One (letter 8)) [] _ v refl h
+    let none : One (letter 8) ∷ [] ≡ [] = none_left OneWord word_roles TextValue _ v h in cc
 
 -- the items of the argument and a word
 abbrev two_roles : Roles

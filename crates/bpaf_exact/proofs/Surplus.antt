@@ -1,20 +1,21 @@
 -- A surplus occurrence, a surplus word and an occurrence without a value leave a field no value.
 use Rattle.std.proofs.Common.{◌≡◌, ℕ, Bool, true, false, List, [], ◌∷◌, Option, Some, None, subst}
 use Rattle.bpaf_doc.specs.Names.{Names}
+use Rattle.bpaf_line.specs.Situation.{Context}
 use Rattle.bpaf_exact.specs.Pieces.{Roles, Piece}
 use Rattle.bpaf_exact.specs.Flat.{Kind, BothValue, share, left}
 use Rattle.bpaf_exact.specs.Single.{Groups, Gap, FrontOf, own_none, own_more, OwnList, listed}
 use Rattle.bpaf_exact.specs.Single.{listed_and_absent, only_absent, SingleValue, of_group, of_gap}
-use Rattle.bpaf_exact.specs.Wrappers.{Closure, OptionalValue, some_value}
+use Rattle.bpaf_exact.specs.Wrappers.{Closure, ClosedValue, OptionalValue, some_value}
 use Rattle.bpaf_exact.specs.Wrappers.{no_value, FallbackValue, own_value, kept_value}
 use Rattle.bpaf_exact.specs.Derived.{LastOf}
 use Rattle.bpaf_exact.specs.Alternative.{HasBad}
-use Rattle.bpaf_exact.specs.Record.{LastValue}
+use Rattle.bpaf_exact.specs.Record.{LastValue, RecordValue}
 use Rattle.bpaf_exact.specs.Leaves.{flag_by, argument_by, word_field}
 use Rattle.bpaf_exact.specs.Shape.{Shape, not_flat, alternative, single, complete, product}
 use Rattle.bpaf_exact.specs.Shape.{closed_shape, optional_shape, fallback_shape, field_shape}
 use Rattle.bpaf_exact.specs.Shape.{unless}
-use Rattle.bpaf_exact.specs.Accepted.{OneByOne, AtMostOne, HasNoSurplus}
+use Rattle.bpaf_exact.specs.Accepted.{OneByOne, AtMostOne, HasNoSurplus, HasValue, IsPartOf}
 use Rattle.bpaf_exact.proofs.Alternative.{own_bad}
 
 -- A surplus occurrence.
@@ -102,20 +103,6 @@ argument_no_surplus means names [] false = tt
 pub word_no_surplus : {T : Type 0} (means : List ℕ → T → Type 0) → HasNoSurplus (word_field means)
 word_no_surplus {T = T} means = front_one T _
 
--- a line that has two occurrences for such a field gives the record no value
-pub surplus_occurrence : {A B : Type 0} (k : Kind) (q : Roles) (first : List Piece → A → Type 0)
-    (rest : List Piece → B → Type 0) (o p : Piece) (more os : List Piece) (v : A × B)
-    → AtMostOne first → share k q os ≡ o ∷ p ∷ more → BothValue k q first rest os v → ⊥
-surplus_occurrence k q first rest o p more os v once e h =
-    once o p more v.0 (subst (λ z. first z v.0) e h.0)
-
--- A surplus word.
-
--- a piece that the last field leaves gives the record no value
-pub surplus_word : {T : Type 0} (k : Kind) (q : Roles) (value : List Piece → T → Type 0) (o : Piece)
-    (more os : List Piece) (v : T) → left k q os ≡ o ∷ more → LastValue T k q value os v → ⊥
-surplus_word k q value o more os v e h = let none = h.none_left in cc
-
 -- An occurrence without a value, as the key of a failed alternative.
 module _ (T : Type 0) (value : Piece → T → Type 0) (gap : Gap T) where
   -- a repeat has no value then
@@ -148,3 +135,56 @@ module _ (T : Type 0) (value : Piece → T → Type 0) (gap : Gap T) where
       → FallbackValue T (FrontOf T value) gap f os v → ⊥
   fallback_bad f os v b (own_value h) = single_bad os v b h
   fallback_bad f os v b (kept_value h a) = elim b [ ]
+
+-- Which parts a record has: each of its fields, and that no piece is left.
+module _ {A B : Type 0} (k : Kind) (q : Roles) (first : List Piece → A → Type 0)
+    (rest : List Piece → B → Type 0) where
+  -- a field before others
+  pub first_part : IsPartOf (BothValue k q first rest) (share k q) (HasValue first)
+  first_part = λ os v h. (v.0, h.0)
+
+  -- the parts of those behind it
+  pub later_part : (own : List Piece → List Piece) (part : List Piece → Type 0)
+      → IsPartOf rest own part → IsPartOf (BothValue k q first rest) (λ os. own (left k q os)) part
+  later_part own part is = λ os v h. is (left k q os) v.1 h.1
+
+module _ {T : Type 0} (k : Kind) (q : Roles) (value : List Piece → T → Type 0) where
+  -- the last field
+  pub last_part : IsPartOf (LastValue T k q value) (share k q) (HasValue value)
+  last_part = λ os v h. (v, h.read)
+
+  -- no piece is left behind it
+  pub none_left : IsPartOf (LastValue T k q value) (left k q) (λ os. os ≡ [])
+  none_left = λ os v h. h.none_left
+
+-- the parts of what a constructor makes of them
+pub made_part : {A B : Type 0} (value : List Piece → A → Type 0) (f : Closure A B)
+    (own : List Piece → List Piece) (part : List Piece → Type 0) → IsPartOf value own part
+    → IsPartOf (ClosedValue A B value f) own part
+made_part value f own part is = λ os v h. is os h.from h.read
+
+module _ {V : Type 0} (r : Roles) (value : List Piece → V → Type 0) (context : Context) (v : V)
+    (on_line : RecordValue r value context v) (own : List Piece → List Piece) where
+  -- On the line of a value each part of the record has its own.
+  pub part_holds : (part : List Piece → Type 0) → IsPartOf value own part → part (own on_line.cut_into)
+  part_holds part is = is on_line.cut_into v on_line.read
+
+  -- So no surplus occurrence of a field without a repeat is there,
+  pub no_surplus_occurrence : {T : Type 0} (field : List Piece → T → Type 0) → AtMostOne field
+      → IsPartOf value own (HasValue field) → (o p : Piece) (more : List Piece)
+      → own on_line.cut_into ≡ o ∷ p ∷ more → ⊥
+  no_surplus_occurrence field once is o p more e =
+      let has = part_holds (HasValue field) is in
+      once o p more has.0 (subst (λ os. field os has.0) e has.1)
+
+  -- no surplus word,
+  pub no_surplus_word : IsPartOf value own (λ os. os ≡ []) → (o : Piece) (more : List Piece)
+      → own on_line.cut_into ≡ o ∷ more → ⊥
+  no_surplus_word is o more e = let none = part_holds (λ os. os ≡ []) is in cc
+
+  -- and no occurrence without a value, where these leave the field none.
+  pub no_bad_occurrence : {A T : Type 0} (one : Piece → A → Type 0) (field : List Piece → T → Type 0)
+      → ((os : List Piece) (w : T) → HasBad A one os → field os w → ⊥)
+      → IsPartOf value own (HasValue field) → HasBad A one (own on_line.cut_into) → ⊥
+  no_bad_occurrence one field none is bad =
+      let has = part_holds (HasValue field) is in none (own on_line.cut_into) has.0 bad has.1

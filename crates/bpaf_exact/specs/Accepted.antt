@@ -68,3 +68,12 @@ HasNoSurplus (alternative q value) = Unit {0}
 HasNoSurplus (single k q group gap) = OneByOne group
 HasNoSurplus (complete k q value) = AtMostOne value
 HasNoSurplus (product q value) = Unit {0}
+
+-- a field has a value on its pieces
+abbrev pub HasValue : {T : Type 0} → (List Piece → T → Type 0) → List Piece → Type 0
+HasValue {T = T} value os = (v : T) × value os v
+
+-- A part of a record, with its share of the pieces: where the record has a value, so has the part.
+abbrev pub IsPartOf : {V : Type 0} → (List Piece → V → Type 0) → (List Piece → List Piece)
+    → (List Piece → Type 0) → Type 0
+IsPartOf {V = V} value own part = (os : List Piece) (v : V) → value os v → part (own os)
