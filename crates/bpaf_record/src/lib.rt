@@ -43,4 +43,6 @@ pub use keys::{HasKeys, KeyTest};
 pub use record::Record;
 
 #[cfg(test)]
+mod rows;
+#[cfg(test)]
 mod tests;

@@ -26,17 +26,17 @@ fn accepts<T: Drop, P: FlatField<T> + Drop>(
 }
 
 /// A switch of this name.
-fn switch(alloc: Global, name: char) -> Result<ParseFlag<bool>, AllocError> {
+pub(crate) fn switch(alloc: Global, name: char) -> Result<ParseFlag<bool>, AllocError> {
     Ok(short(alloc, name)?.switch())
 }
 
 /// A number behind this name.
-fn number(alloc: Global, name: char) -> Result<ParseArgument<u64>, AllocError> {
+pub(crate) fn number(alloc: Global, name: char) -> Result<ParseArgument<u64>, AllocError> {
     Ok(short(alloc, name)?.argument("NUM"))
 }
 
 /// A word.
-fn word() -> ParsePositional<String> {
+pub(crate) fn word() -> ParsePositional<String> {
     positional("FILE")
 }
 
