@@ -2,7 +2,6 @@
 use crate::tests::{number, switch, word};
 use crate::{FlatField, Record};
 use bpaf::params::ParseArgument;
-use bpaf::parsers::ParseOrElse;
 use bpaf::{Args, Doc, ParseFailure, Parser, choice, construct, positional, short};
 use std::alloc::{AllocError, Global};
 use std::collections::BTreeSet;
@@ -83,30 +82,12 @@ fn compare_triple<
     compare(rt, construct!(first, second, third), rows)
 }
 
-const SWITCH: &[Row<'static>] = &[
-    ("-=", "err `-=` is not expected in this context"),
-    ("--=x", "err `--` is not expected in this context"),
-    (
-        "-v -v",
-        "err argument `-v` cannot be used multiple times in this context",
-    ),
-    (
-        "--version",
-        "err `--version` is not expected in this context",
-    ),
-    ("-- --help", "err `--help` is not expected in this context"),
-];
-
-const LONG_SWITCH: &[Row<'static>] = &[(
-    "--verbose=yes",
-    "err `yes` is not expected in this context",
-)];
+const SWITCH: &[Row<'static>] = &[("--verbose=yes", "err `yes` is not expected in this context")];
 
 #[test]
-fn switches_answer_as_in_rows(rt: HostRuntime) -> Result<(), Fail> {
-    compare(&rt, switch(rt.alloc(), 'v')?, SWITCH)?;
+fn switches_run_as_records(rt: HostRuntime) -> Result<(), Fail> {
     let verbose = short(rt.alloc(), 'v')?.long("verbose")?.switch();
-    compare(&rt, verbose, LONG_SWITCH)
+    compare(&rt, verbose, SWITCH)
 }
 
 const NUMBER: &[Row<'static>] = &[
@@ -131,30 +112,9 @@ const NUMBER: &[Row<'static>] = &[
     ),
 ];
 
-const SIGNED: &[Row<'static>] = &[(
-    "-n -5",
-    "err `-n` requires an argument `NUM`, got a flag `-5`, try `-n=-5` to \
-            use it as an argument",
-)];
-
 #[test]
-fn numbers_answer_as_in_rows(rt: HostRuntime) -> Result<(), Fail> {
-    compare(&rt, number(rt.alloc(), 'n')?, NUMBER)?;
-    let signed = short(rt.alloc(), 'n')?.argument::<i64>("NUM");
-    compare(&rt, signed, SIGNED)
-}
-
-/// A text behind this name.
-fn text(alloc: Global, name: char) -> Result<ParseArgument<String>, AllocError> {
-    Ok(short(alloc, name)?.argument("S"))
-}
-
-#[test]
-fn texts_answer_as_in_rows(rt: HostRuntime) -> Result<(), Fail> {
-    compare(&rt, text(rt.alloc(), 'ñ')?, &[("-ñ=x", "ok \"x\"")])?;
-    compare(&rt, text(rt.alloc(), '=')?, &[("-==x", "ok \"x\"")])?;
-    let bits = "ok \"bits=2048\"";
-    compare(&rt, text(rt.alloc(), 'O')?, &[("-Obits=2048", bits)])
+fn numbers_run_as_records(rt: HostRuntime) -> Result<(), Fail> {
+    compare(&rt, number(rt.alloc(), 'n')?, NUMBER)
 }
 
 const OPTIONS_AND_WORD: &[Row<'static>] = &[
@@ -163,7 +123,7 @@ const OPTIONS_AND_WORD: &[Row<'static>] = &[
 ];
 
 #[test]
-fn options_and_a_word_answer_as_in_rows(rt: HostRuntime) -> Result<(), Fail> {
+fn products_of_three_run_as_records(rt: HostRuntime) -> Result<(), Fail> {
     let verbose = switch(rt.alloc(), 'v')?;
     let num = number(rt.alloc(), 'n')?;
     compare_triple(&rt, verbose, num, word(), OPTIONS_AND_WORD)
@@ -175,7 +135,7 @@ const ANY_ORDER: &[Row<'static>] = &[
 ];
 
 #[test]
-fn a_record_is_read_in_any_order(rt: HostRuntime) -> Result<(), Fail> {
+fn fields_in_any_order_run_as_records(rt: HostRuntime) -> Result<(), Fail> {
     let nums = number(rt.alloc(), 'n')?.many();
     let verbose = switch(rt.alloc(), 'v')?;
     compare_triple(&rt, nums, verbose, word().optional(), ANY_ORDER)
@@ -191,25 +151,19 @@ const NUMBER_AND_WORD: &[Row<'static>] = &[(
     "err argument `-n` cannot be used multiple times in this context",
 )];
 
-const OPTIONAL_AND_WORD: &[Row<'static>] = &[("x", "ok (None, \"x\")")];
-
 #[test]
-fn an_option_and_a_word_answer_as_in_rows(rt: HostRuntime) -> Result<(), Fail> {
+fn pairs_with_a_word_run_as_records(rt: HostRuntime) -> Result<(), Fail> {
     compare_pair(&rt, switch(rt.alloc(), 'v')?, word(), SWITCH_AND_WORD)?;
-    compare_pair(&rt, number(rt.alloc(), 'n')?, word(), NUMBER_AND_WORD)?;
-    let num = number(rt.alloc(), 'n')?.optional();
-    compare_pair(&rt, num, word(), OPTIONAL_AND_WORD)
+    compare_pair(&rt, number(rt.alloc(), 'n')?, word(), NUMBER_AND_WORD)
 }
 
 const TWO_SWITCHES: &[Row<'static>] = &[("", "ok (false, false)"), ("-a -b", "ok (true, true)")];
 
 #[test]
-fn two_switches_answer_as_in_rows(rt: HostRuntime) -> Result<(), Fail> {
+fn pairs_of_switches_run_as_records(rt: HostRuntime) -> Result<(), Fail> {
     let a = switch(rt.alloc(), 'a')?;
     compare_pair(&rt, a, switch(rt.alloc(), 'b')?, TWO_SWITCHES)
 }
-
-const TWO_WORDS: &[Row<'static>] = &[("x -- -y", "ok (\"x\", \"-y\")")];
 
 const WORDS_AND_ONE_MORE: &[Row<'static>] = &[(
     "x y",
@@ -217,26 +171,19 @@ const WORDS_AND_ONE_MORE: &[Row<'static>] = &[(
 )];
 
 #[test]
-fn words_answer_as_in_rows(rt: HostRuntime) -> Result<(), Fail> {
-    compare_pair(&rt, word(), word(), TWO_WORDS)?;
+fn pairs_of_words_run_as_records(rt: HostRuntime) -> Result<(), Fail> {
     let one_more = positional::<String>("Q");
     compare_pair(&rt, word().many(), one_more, WORDS_AND_ONE_MORE)
 }
 
 const PARSED: &[Row<'static>] = &[("-n 12", "err couldn't parse `12`: too big")];
 
-const GUARDED: &[Row<'static>] = &[("-n 12", "err `12`: below 10")];
-
 #[test]
-fn checked_numbers_answer_as_in_rows(rt: HostRuntime) -> Result<(), Fail> {
+fn checked_numbers_run_as_records(rt: HostRuntime) -> Result<(), Fail> {
     let num = number(rt.alloc(), 'n')?;
     let small = num.parse(|n: u64| if n < 10 { Ok(n) } else { Err("too big") });
-    compare(&rt, small, PARSED)?;
-    let small = number(rt.alloc(), 'n')?.guard(|n| *n < 10, "below 10");
-    compare(&rt, small, GUARDED)
+    compare(&rt, small, PARSED)
 }
-
-const OPTIONAL: &[Row<'static>] = &[("-n", "err `-n` requires an argument `NUM`")];
 
 const FALLBACK: &[Row<'static>] = &[
     ("", "ok 7"),
@@ -249,8 +196,7 @@ const FALLBACK: &[Row<'static>] = &[
 const FAILED_FALLBACK: &[Row<'static>] = &[("", "err no disk")];
 
 #[test]
-fn defaults_answer_as_in_rows(rt: HostRuntime) -> Result<(), Fail> {
-    compare(&rt, number(rt.alloc(), 'n')?.optional(), OPTIONAL)?;
+fn defaults_run_as_records(rt: HostRuntime) -> Result<(), Fail> {
     compare(&rt, number(rt.alloc(), 'n')?.fallback(7), FALLBACK)?;
     let failed = number(rt.alloc(), 'n')?.fallback_with(|| Err::<u64, &str>("no disk"));
     compare(&rt, failed, FAILED_FALLBACK)
@@ -259,7 +205,7 @@ fn defaults_answer_as_in_rows(rt: HostRuntime) -> Result<(), Fail> {
 const GUARDED_SWITCHES: &[Row<'static>] = &[("-v", "err check failed: must be set")];
 
 #[test]
-fn guarded_switches_answer_as_in_rows(rt: HostRuntime) -> Result<(), Fail> {
+fn guarded_switches_run_as_records(rt: HostRuntime) -> Result<(), Fail> {
     let set = switch(rt.alloc(), 'v')?.guard(|is_set| *is_set, "must be set");
     compare(&rt, set.many(), GUARDED_SWITCHES)
 }
@@ -271,30 +217,18 @@ const COUNTED_SWITCHES: &[Row<'static>] = &[
     ("-vv=1", "err `v=1` is not expected in this context"),
 ];
 
-const LAST_SWITCH: &[Row<'static>] = &[("-v -v", "ok true"), ("", "ok false")];
-
 #[test]
-fn repeated_switches_answer_as_in_rows(rt: HostRuntime) -> Result<(), Fail> {
+fn repeated_switches_run_as_records(rt: HostRuntime) -> Result<(), Fail> {
     compare(&rt, switch(rt.alloc(), 'v')?.many(), SWITCHES)?;
-    compare(&rt, switch(rt.alloc(), 'v')?.count(), COUNTED_SWITCHES)?;
-    compare(&rt, switch(rt.alloc(), 'v')?.last(), LAST_SWITCH)
+    compare(&rt, switch(rt.alloc(), 'v')?.count(), COUNTED_SWITCHES)
 }
-
-#[test]
-fn joined_flags_are_counted(rt: HostRuntime) -> Result<(), Fail> {
-    let flags = short(rt.alloc(), 'ж')?.req_flag(()).count();
-    compare(&rt, flags, &[("-жжж", "ok 3")])
-}
-
-const COUNTED_NUMBERS: &[Row<'static>] = &[("-n 1 -n 2", "ok 2")];
 
 const LAST_NUMBER: &[Row<'static>] = &[("-n 1 -n 2", "ok 2")];
 
 const NUMBER_SET: &[Row<'static>] = &[("-n 3 -n 1 -n 3", "ok {1, 3}")];
 
 #[test]
-fn repeated_numbers_answer_as_in_rows(rt: HostRuntime) -> Result<(), Fail> {
-    compare(&rt, number(rt.alloc(), 'n')?.count(), COUNTED_NUMBERS)?;
+fn repeated_numbers_run_as_records(rt: HostRuntime) -> Result<(), Fail> {
     compare(&rt, number(rt.alloc(), 'n')?.last(), LAST_NUMBER)?;
     let numbers = number(rt.alloc(), 'n')?.collect::<BTreeSet<u64>>();
     compare(&rt, numbers, NUMBER_SET)
@@ -308,17 +242,35 @@ const WORDS: &[Row<'static>] = &[
 const SOME_WORDS: &[Row<'static>] = &[("", "err need one")];
 
 #[test]
-fn repeated_words_answer_as_in_rows(rt: HostRuntime) -> Result<(), Fail> {
+fn repeated_words_run_as_records(rt: HostRuntime) -> Result<(), Fail> {
     compare(&rt, word().many(), WORDS)?;
     compare(&rt, word().some("need one"), SOME_WORDS)
 }
 
-/// The choice of two numbers, behind `-a` and `-b`.
-fn either(
-    alloc: Global,
-) -> Result<ParseOrElse<ParseArgument<u64>, ParseArgument<u64>>, AllocError> {
-    let a = number(alloc, 'a')?;
-    Ok(a.or_else(number(alloc, 'b')?))
+/// Compares the answers of a choice of two.
+fn compare_choice<T: Debug + Drop, P: FlatField<T> + Drop, Q: FlatField<T> + Drop>(
+    rt: &(impl Abort + AllocGlobal),
+    first: P,
+    second: Q,
+    rows: &[Row<'_>],
+) -> Result<(), Fail>
+    requires first { P.can_eval first }
+    requires second { Q.can_eval second }
+{
+    compare(rt, first.or_else(second), rows)
+}
+
+/// The same of the repeat of a choice.
+fn compare_choices<T: Debug + Drop, P: FlatField<T> + Drop, Q: FlatField<T> + Drop>(
+    rt: &(impl Abort + AllocGlobal),
+    first: P,
+    second: Q,
+    rows: &[Row<'_>],
+) -> Result<(), Fail>
+    requires first { P.can_eval first }
+    requires second { Q.can_eval second }
+{
+    compare(rt, first.or_else(second).many(), rows)
 }
 
 const EITHER: &[Row<'static>] = &[
@@ -347,9 +299,15 @@ const REPEATED_CHOICE: &[Row<'static>] = &[
 ];
 
 #[test]
-fn a_choice_answers_as_in_rows(rt: HostRuntime) -> Result<(), Fail> {
-    compare(&rt, either(rt.alloc())?, EITHER)?;
-    compare(&rt, either(rt.alloc())?.many(), REPEATED_CHOICE)
+fn choices_run_as_records(rt: HostRuntime) -> Result<(), Fail> {
+    let a = number(rt.alloc(), 'a')?;
+    compare_choice(&rt, a, number(rt.alloc(), 'b')?, EITHER)
+}
+
+#[test]
+fn repeated_choices_run_as_records(rt: HostRuntime) -> Result<(), Fail> {
+    let a = number(rt.alloc(), 'a')?;
+    compare_choices(&rt, a, number(rt.alloc(), 'b')?, REPEATED_CHOICE)
 }
 
 const THREE_NUMBERS: &[Row<'static>] = &[(
@@ -367,23 +325,30 @@ fn three(alloc: Global) -> Result<Vec<ParseArgument<u64>>, AllocError> {
 }
 
 #[test]
-fn a_choice_of_three_answers_as_in_rows(rt: HostRuntime) -> Result<(), Fail> {
+fn choices_of_three_run_as_records(rt: HostRuntime) -> Result<(), Fail> {
     compare(&rt, choice(three(rt.alloc())?), THREE_NUMBERS)
 }
 
-const WRAPPED: &[Row<'static>] = &[
+const DOUBLED: &[Row<'static>] = &[
     ("-n 3", "ok 6"),
     ("-n", "err `-n` requires an argument `NUM`"),
 ];
 
-#[test]
-fn wrapped_numbers_answer_as_inside(rt: HostRuntime) -> Result<(), Fail> {
+/// Compares the answers of a number in two sections, without a usage and doubled.
+fn compare_shown<P: FlatField<u64> + Drop>(
+    rt: &(impl Abort + AllocGlobal),
+    parser: P,
+    rows: &[Row<'_>],
+) -> Result<(), Fail>
+    requires { P.can_eval parser }
+{
     let alloc = rt.alloc();
-    let num = number(alloc, 'n')?
-        .hide_usage()
-        .custom_usage(Doc::new(alloc));
-    let num = num
-        .group_help(Doc::new(alloc))
-        .with_group_help(|_| Ok(Doc::new(alloc)));
-    compare(&rt, num.map(|n| n.saturating_add(n)), WRAPPED)
+    let inside = parser.hide_usage().group_help(Doc::new(alloc));
+    let titled = inside.with_group_help(|_| Ok(Doc::new(alloc)));
+    compare(rt, titled.map(|n| n.saturating_add(n)), rows)
+}
+
+#[test]
+fn shown_numbers_run_as_records(rt: HostRuntime) -> Result<(), Fail> {
+    compare_shown(&rt, number(rt.alloc(), 'n')?, DOUBLED)
 }
