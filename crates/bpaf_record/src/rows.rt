@@ -13,6 +13,15 @@ use std::test::Fail;
 /// and the whole message.
 type Row<'a> = (&'a str, &'a str);
 
+/// A refusal as a row tells it.
+fn refused(alloc: Global, failure: ParseFailure) -> Result<String, AllocError> {
+    let mut text = String::from_str(alloc, "err ")?;
+    if let Some(message) = failure.unwrap_stderr()? {
+        text.push_str(message.as_str())?;
+    }
+    Ok(text)
+}
+
 /// An answer as a row tells it.
 fn told<T: Debug + Drop>(
     alloc: Global,
@@ -20,11 +29,7 @@ fn told<T: Debug + Drop>(
 ) -> Result<String, AllocError> {
     match answer {
         Ok(value) => format!(in alloc; "ok {value:?}"),
-        Err(failure) => {
-            let message = failure.unwrap_stderr()?;
-            let message = message.as_deref().unwrap_or("without a message");
-            format!(in alloc; "err {message}")
-        }
+        Err(failure) => refused(alloc, failure),
     }
 }
 
