@@ -45,4 +45,6 @@ pub use keys::{HasKeys, KeyTest};
 pub use record::Record;
 
 #[cfg(test)]
+mod rows;
+#[cfg(test)]
 mod tests;

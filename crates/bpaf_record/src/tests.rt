@@ -1,7 +1,7 @@
-//! Which options are a flat record, of switches, numbers and words; and a run of one.
+//! Which options are a flat record, of switches, numbers and words.
 use crate::{FlatField, Record};
 use bpaf::params::{ParseArgument, ParseFlag, ParsePositional};
-use bpaf::{Args, Parser, choice, construct, positional, short};
+use bpaf::{Parser, choice, construct, positional, short};
 use std::alloc::{AllocError, Global};
 use std::test::Fail;
 
@@ -10,33 +10,18 @@ fn is_flat<T: Drop, P: FlatField<T> + Drop>(alloc: Global, parser: P) -> Result<
     Ok(parser.to_options(alloc)?.is_record())
 }
 
-/// Whether a flat record of two fields has a value on words; None where it is no flat record.
-fn accepts<T: Drop, P: FlatField<T> + Drop>(
-    alloc: Global,
-    parser: P,
-    words: &[&str],
-) -> Result<Option<bool>, AllocError>
-    requires { P.can_eval parser }
-{
-    let options = parser.to_options(alloc)?;
-    if !options.is_record() {
-        return Ok(None);
-    }
-    Ok(Some(options.run_record(Args::from(words)).is_ok()))
-}
-
 /// A switch of this name.
-fn switch(alloc: Global, name: char) -> Result<ParseFlag<bool>, AllocError> {
+pub(crate) fn switch(alloc: Global, name: char) -> Result<ParseFlag<bool>, AllocError> {
     Ok(short(alloc, name)?.switch())
 }
 
 /// A number behind this name.
-fn number(alloc: Global, name: char) -> Result<ParseArgument<u64>, AllocError> {
+pub(crate) fn number(alloc: Global, name: char) -> Result<ParseArgument<u64>, AllocError> {
     Ok(short(alloc, name)?.argument("NUM"))
 }
 
 /// A word.
-fn word() -> ParsePositional<String> {
+pub(crate) fn word() -> ParsePositional<String> {
     positional("FILE")
 }
 
@@ -73,17 +58,6 @@ fn nested(
 fn closures(alloc: Global, num: ParseArgument<u64>) -> Result<bool, AllocError> {
     let small = num.parse(|n: u64| if n < 10 { Ok(n) } else { Err("too big") });
     is_flat(alloc, small.many().map(|numbers| numbers.len()))
-}
-
-/// Of a flat record of a switch and numbers, whether it has a value on words.
-fn runs(
-    alloc: Global,
-    verbose: ParseFlag<bool>,
-    num: ParseArgument<u64>,
-    words: &[&str],
-) -> Result<Option<bool>, AllocError> {
-    let numbers = num.many();
-    accepts(alloc, construct!(verbose, numbers), words)
 }
 
 /// Whether a switch is a flat record.
@@ -171,19 +145,5 @@ fn products_are_told(rt: HostRuntime) -> Result<(), Fail> {
     assert!(rt; !pair(alloc, word(), switch(alloc, 'v')?)?);
     assert!(rt; !pair(alloc, switch(alloc, 'v')?, number(alloc, 'v')?)?);
     assert!(rt; !nested(alloc, switch(alloc, 'v')?, number(alloc, 'n')?)?);
-    Ok(())
-}
-
-#[test]
-fn a_flat_record_runs(rt: HostRuntime) -> Result<(), Fail> {
-    let alloc = rt.alloc();
-    let verbose = switch(alloc, 'v')?;
-    let accepted = runs(alloc, verbose, number(alloc, 'n')?, &["-n", "1", "-n2"])?;
-    assert_eq!(rt; accepted, Some(true));
-    let verbose = switch(alloc, 'v')?;
-    assert_eq!(rt;
-        runs(alloc, verbose, number(alloc, 'n')?, &["-n", "1", "x"])?,
-        Some(false)
-    );
     Ok(())
 }
