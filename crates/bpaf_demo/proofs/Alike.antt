@@ -14,9 +14,9 @@ use Rattle.bpaf_laws.specs.Reading.{Outcome}
 use Rattle.bpaf_laws.specs.Repeat.{ManyOutcome}
 use Rattle.bpaf_core.specs.Info.{plain_info}
 use Rattle.bpaf_exact.specs.Leaves.{WordRan, flag_field, argument_field, word_field}
-use Rattle.bpaf_exact.specs.OneView.{Alike, HasOneView, Respects, pair_view}
+use Rattle.bpaf_exact.specs.OneView.{Alike, HasOneView, pair_view}
 use Rattle.bpaf_exact.specs.Record.{RecordValue}
-use Rattle.bpaf_exact.specs.Shape.{Shape, ShapeLaw, alone_shape, both_shape, field_shape, many_shape}
+use Rattle.bpaf_exact.specs.Shape.{Shape, ShapeLaw, alone_shape, both_shape, many_shape}
 use Rattle.bpaf_exact.specs.Shape.{product_roles, product_value}
 use Rattle.bpaf_exact.specs.Wrappers.{map_closure}
 use Rattle.bpaf_exact.proofs.Arguments.{argument_field_law}

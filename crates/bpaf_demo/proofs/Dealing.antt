@@ -75,13 +75,9 @@ pub record AreProgramParts (parts : Parts) : Type 0 where
 abbrev pub Makes : Type 1
 Makes = FieldValues → Options → Type 0
 
--- it makes the options of them
-abbrev pub MakesEach : Makes → Type 0
-MakesEach makes = (x : FieldValues) → makes x (options_of x)
-
--- and no others
-abbrev pub MakesNoOther : Makes → Type 0
-MakesNoOther makes = (x : FieldValues) (v : Options) → makes x v → v ≡ options_of x
+-- it makes the options of them, and no others
+abbrev pub MakesOptions : Makes → Type 0
+MakesOptions makes = (x : FieldValues) (v : Options) → makes x v → v ≡ options_of x
 
 module _ (makes : Makes) (parts : Parts) where
   -- what the switch reads
@@ -231,7 +227,7 @@ module _ (makes : Makes) (parts : Parts) where
           is
 
       -- what the record's parser deals out are options dealt out of the words
-      options_dealt : MakesNoOther makes → (v : Options)
+      options_dealt : MakesOptions makes → (v : Options)
           → RecordDealsOut (program_given words) v → IsDealtOptions words v
       options_dealt made v dealt =
           let read = dealt.read.read in
@@ -256,7 +252,7 @@ module _ (makes : Makes) (parts : Parts) where
           })
 
       -- an answer of the record's parser on the program's words
-      pub answer_dealt : (given : Given) → MakesNoOther makes → given ≡ program_given words
+      pub answer_dealt : (given : Given) → MakesOptions makes → given ≡ program_given words
           → (r : Result Options ParseFailure) → IfOk r (RecordDealsOut given)
           → IfOk r (IsDealtOptions words)
       answer_dealt given made is (Ok v) dealt =

@@ -1,10 +1,9 @@
 -- What follows from the answer by which a run ends.
-use Rattle.std.proofs.Common.{◌≡◌, ◌⊎◌, ℕ, Bool, List, Option, Some, Result, Ok, Err, IfOk, All}
+use Rattle.std.proofs.Common.{◌≡◌, ◌⊎◌, ℕ, List, Option, Some, Result, Err, IfOk, All}
 use Rattle.std.proofs.Common.{IsUtf8, inl, inr, refl, sym, subst}
 use Rattle.std.proofs.KnownBytes.{Keeps-refl}
-use Rattle.std.specs.Io.KnownBytes.{Appends, Keeps}
+use Rattle.std.specs.Io.KnownBytes.{Appends}
 use Rattle.std.specs.Result.{IfErr}
-use Rattle.bpaf_doc.specs.declared.doc.Piece.{Piece}
 use Rattle.bpaf_doc.specs.Print.{printed}
 use Rattle.bpaf_line.specs.declared.failure.ParseFailure.{ParseFailure}
 use Rattle.bpaf_line.specs.declared.failure.ParseFailure.TheVariants as failure
@@ -15,7 +14,7 @@ use Rattle.bpaf_demo.specs.Exact.{AnswersExactly, IsOptionsOf}
 use Rattle.bpaf_demo.specs.Lines.{lines}
 use Rattle.bpaf_demo.specs.Record.{IsDealtOptions}
 use Rattle.bpaf_demo.specs.Running.{Ends, Fails, Prints, RunsExactly, Succeeds, WritesExactly}
-use Rattle.bpaf_demo.specs.Running.{WritesHelp, printed_lines, lost_lines, shown_page, lost_page}
+use Rattle.bpaf_demo.specs.Running.{printed_lines, lost_lines, shown_page, lost_page}
 use Rattle.bpaf_demo.specs.Running.{refused, no_memory, written, write_failed, memory_wanted}
 use Rattle.bpaf_demo.specs.Shown.{ShowsHelpAsked}
 use Rattle.bpaf_demo.proofs.Alike.{same_lines}

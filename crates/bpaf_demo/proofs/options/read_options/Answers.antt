@@ -1,4 +1,4 @@
-use Rattle.std.proofs.Common.{rules, []}
+use Rattle.std.proofs.Common.{rules}
 use Rattle.bpaf_words.specs.Arguments.{given_of}
 use Rattle.bpaf_demo.proofs.Dealing.{Parts, AreProgramParts, answer_dealt, help_asked}
 use Rattle.bpaf_demo.proofs.Exactness.{answer_exact, are_texts, program_flat}
@@ -69,9 +69,6 @@ returns c =
           (search rules) _ c.run_record.ensures.dealt;
       asked = help_asked _ parts program _ (given_of c.set_name.result) (search rules) _
           c.run_record.ensures.outcome;
-      exact = answer_exact _ parts program
-          (λ x. record { said-raw = (λ u. (([], tt), (0, 0)), search rules) })
-          (λ x v e. search rules) _ (given_of c.set_name.result) (search rules)
-          (are_texts c.args.words.now) _
-          (c.run_record.ensures.exact (tt, (tt, tt)) _ c.run_record.ensures.outcome);
+      exact = answer_exact _ parts program (λ x v e. search rules) _ (given_of c.set_name.result)
+          (search rules) (are_texts c.args.words.now) _ c.run_record.ensures.outcome;
     }
