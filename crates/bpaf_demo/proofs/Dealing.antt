@@ -53,6 +53,16 @@ pub record Parts : Type 0 where
   pub files : ParseMany (ParsePositional String)
   pub info : RunInfo
 
+-- parts with these helps are those of the program, by what a run reads
+pub record HaveProgramNames (parts : Parts) (verbose_help num_help : List Piece) : Type 0 where
+  pub verbose : parts.verbose.named ≡ verbose_shown verbose_help
+  pub present : parts.verbose.present ≡ true
+  pub absent : parts.verbose.absent ≡ Some false
+  pub num : parts.num ≡ number_shown num_help
+  pub position : parts.files.inner.position ≡ Unrestricted
+  pub catch : parts.files.catch ≡ false
+  pub info : parts.info ≡ plain_info
+
 -- parts that are those of the program
 pub record AreProgramParts (parts : Parts) : Type 0 where
   pub verbose_help : List Piece
@@ -61,15 +71,9 @@ pub record AreProgramParts (parts : Parts) : Type 0 where
   pub verbose_told : TextPieces (codes "Print more") verbose_help
   pub num_told : TextPieces (codes "A number") num_help
   pub file_told : TextPieces (codes "Files to read") file_help
-  pub verbose : parts.verbose.named ≡ verbose_shown verbose_help
-  pub present : parts.verbose.present ≡ true
-  pub absent : parts.verbose.absent ≡ Some false
-  pub num : parts.num ≡ number_shown num_help
-  pub position : parts.files.inner.position ≡ Unrestricted
   pub metavar : parts.files.inner.metavar.0.now ≡ codes "FILE"
   pub file : parts.files.inner.help ≡ Some file_help
-  pub catch : parts.files.catch ≡ false
-  pub info : parts.info ≡ plain_info
+  pub names : HaveProgramNames parts verbose_help num_help
 
 -- which records a constructor makes of the fields' values
 abbrev pub Makes : Type 1
@@ -175,13 +179,13 @@ module _ (makes : Makes) (parts : Parts) where
         let num = verbose.3 in
         let files = num.3 in
         let first : verbose.0 ≡ flag_shape (verbose_shown program.verbose_help) (Some false) =
-        rw (program.verbose, program.absent) at verbose.2 in
+        rw (program.names.verbose, program.names.absent) at verbose.2 in
         let second : num.0 ≡ argument_shape (number_shown program.num_help) =
-        rw program.num at num.2 in
+        rw program.names.num at num.2 in
         let third : files.0
         ≡ Many (Optional (positional_shape Unrestricted (codes "FILE") (Some program.file_help))) =
         files.1.2 ∙ ap (λ inside. Many (Optional inside))
-        (rw (program.position, program.metavar, program.file) at files.1.1) in
+        (rw (program.names.position, program.metavar, program.file) at files.1.1) in
         let are : shown.0
         ≡ flag_shape (verbose_shown program.verbose_help) (Some false)
         ∷ argument_shape (number_shown program.num_help)
@@ -211,7 +215,7 @@ module _ (makes : Makes) (parts : Parts) where
     pub known_parts : (shape : Shape) → RecordDescribes shape
         → known_names parts.info shape ≡ program_known
     known_parts shape shown =
-        ap (λ info. known_names info shape) program.info
+        ap (λ info. known_names info shape) program.names.info
         ∙ known_shown shape (program_shown shape shown)
 
     module _ (words : List (List ℕ)) where
@@ -244,11 +248,11 @@ module _ (makes : Makes) (parts : Parts) where
             others_join = others.joins;
             verbose = flag_without_help Bool IsKept (key_named verbose_names)
                 program.verbose_help true (Some false) dealt.context read.first_share values.0
-                (rw (program.verbose, program.present, program.absent) at read.first_read);
+                (rw (program.names.verbose, program.names.present, program.names.absent) at read.first_read);
             num = argument_without_help ℕ (SpellsUnsigned 64) number_key program.num_help
                 dealt.context others.first_share values.1.0
-                (rw program.num at others.first_read);
-            files = rw program.position at others.rest_read;
+                (rw program.names.num at others.first_read);
+            files = rw program.names.position at others.rest_read;
           })
 
       -- an answer of the record's parser on the program's words
@@ -267,8 +271,8 @@ module _ (makes : Makes) (parts : Parts) where
       help_asked given is (Err (failure.Stdout doc full)) runs =
           let was : WasAsked RecordDescribes parts.info given doc full =
           answer_asked RecordDescribes parts.info given record_lawful record_shows_nothing
-          (ap (λ info. info.help_if_no_args) program.info) (Err (failure.Stdout doc full)) runs in
+          (ap (λ info. info.help_if_no_args) program.names.info) (Err (failure.Stdout doc full)) runs in
           asked_also RecordDescribes IsProgramShape plain_info (program_given words) doc full
-          program_shown (rw (program.info, is) at was)
+          program_shown (rw (program.names.info, is) at was)
       help_asked given is (Err (failure.Stderr doc)) runs = tt
       help_asked given is (Err failure.Memory) runs = tt

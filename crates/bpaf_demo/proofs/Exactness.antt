@@ -4,6 +4,7 @@ use Rattle.std.proofs.Common.{map, string_bytes, slice_index_or, inl, refl, sym,
 use Rattle.std.specs.Global.{Vec}
 use Rattle.std.proofs.lemmas.List.Elements.{All-map}
 use Rattle.std.proofs.lemmas.Str.{IsUtf8-string_bytes}
+use Rattle.bpaf_doc.specs.declared.doc.Piece.{Piece}
 use Rattle.bpaf_doc.specs.Names.{Names}
 use Rattle.bpaf_doc.specs.Shape.{Shape as ShownShape, And, Many, Optional, members}
 use Rattle.bpaf_text.specs.Meaning.{SpellsUnsigned}
@@ -38,7 +39,7 @@ use Rattle.bpaf_demo.specs.declared.options.Options.{Options}
 use Rattle.bpaf_demo.specs.Exact.{AnswersExactly, FieldValues, IsOptionsOf, fields_shape}
 use Rattle.bpaf_demo.specs.Exact.{options_of, options_shape}
 use Rattle.bpaf_demo.specs.Record.{IsKept, MeansText, String, program_given}
-use Rattle.bpaf_demo.proofs.Dealing.{AreProgramParts, FileOutcome, Makes, MakesOptions, Parts}
+use Rattle.bpaf_demo.proofs.Dealing.{AreProgramParts, FileOutcome, HaveProgramNames, Makes, MakesOptions, Parts}
 use Rattle.bpaf_demo.proofs.Dealing.{RecordDescribes, RecordOutcome, RecordRuns, VerboseOutcome}
 use Rattle.bpaf_demo.proofs.Dealing.{known_parts, program_context}
 
@@ -87,23 +88,18 @@ module _ (makes : Makes) (parts : Parts) where
   abbrev pub parts_keys : List Names
   parts_keys = parts.verbose.named.names ∷ parts.num.named.names ∷ []
 
-  module _ (program : AreProgramParts parts) where
+  module _ {verbose_help num_help : List Piece}
+      (names : HaveProgramNames parts verbose_help num_help) where
     -- it has the fields of the program's record
     same_fields : FieldsShape ≡ fields_shape
     same_fields =
-        rw (
-          program.absent,
-          program.present,
-          program.verbose,
-          program.num,
-          program.catch,
-          program.position,
-        ) refl
+        rw (names.absent, names.present, names.verbose, names.num, names.catch, names.position) refl
 
     -- it is a flat record
     pub program_flat : is_flat_record PartsShape parts_keys parts.info ≡ true
-    program_flat = rw (same_fields, program.verbose, program.num, program.info) refl
+    program_flat = rw (same_fields, names.verbose, names.num, names.info) refl
 
+  module _ (program : AreProgramParts parts) where
     -- what the files answer
     abbrev FilesOutcome : Outcome (Vec String)
     FilesOutcome = ManyOutcome (FileOutcome makes parts) parts.files.catch
@@ -176,7 +172,7 @@ module _ (makes : Makes) (parts : Parts) where
           IsOptions parts_keys fields_shape
           (subst (ShapeLaw
           (BothOutcome (VerboseOutcome makes parts) (BothOutcome NumOutcome FilesOutcome))
-          parts_keys) same_fields fields_law))
+          parts_keys) (same_fields program.names) fields_law))
 
       -- a value of the program's record, by what the parser shows
       abbrev IsValue : Options → Type 0
