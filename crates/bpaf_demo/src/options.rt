@@ -18,6 +18,9 @@ pub struct Options {
 
 /// The options that the words give; refused where they give none, or for want of memory. Help is
 /// answered as a refusal that shows it, and only where the words ask for it.
+///
+/// The options are a flat record, so each answer is exact: options come only where they are the
+/// record's value on the words, and where it has one no refusal comes, but for want of memory.
 pub fn read_options(alloc: Global, words: &[String]) -> Result<Options, ParseFailure>
     ensures dealt { IfOk result (λ v. IsDealtOptions (map string_bytes words.now) v) }
     ensures asked { IfErr result (λ f. ShowsHelpAsked (map string_bytes words.now) f) }
