@@ -28,7 +28,7 @@ use Rattle.bpaf_laws.proofs.ProductLaws.{both_lawful, product_lawful}
 use Rattle.bpaf_laws.proofs.RepeatLaws.{many_lawful}
 use Rattle.bpaf_core.specs.declared.repeat.ParseMany.{ParseMany}
 use Rattle.bpaf_core.specs.Info.{RunInfo, plain_info}
-use Rattle.bpaf_core.specs.Known.{known_names}
+use Rattle.bpaf_core.specs.Known.{IsLineContext, known_names}
 use Rattle.bpaf_core.specs.Dealt.{IsDealtOut}
 use Rattle.bpaf_core.specs.Run.{RunsWords}
 use Rattle.bpaf.specs.declared.leaves.positional.ParsePositional.{ParsePositional}
@@ -40,18 +40,11 @@ use Rattle.bpaf.proofs.Asking.{answer_asked, asked_also, both_hands_on, product_
 use Rattle.bpaf.proofs.Asking.{flag_hands_on, argument_hands_on, many_hands_on, positional_hands_on}
 use Rattle.bpaf.proofs.Helps.{flag_without_help, argument_without_help}
 use Rattle.bpaf_demo.specs.declared.options.Options.{Options}
+use Rattle.bpaf_demo.specs.Exact.{FieldValues, options_of}
 use Rattle.bpaf_demo.specs.Record.{IsDealtOptions, IsKept, MeansText, String, verbose_names}
 use Rattle.bpaf_demo.specs.Record.{number_key, program_given, program_known}
 use Rattle.bpaf_demo.specs.Shown.{IsProgramShape, ShowsHelpAsked, number_shown}
 use Rattle.bpaf_demo.specs.Shown.{verbose_shown}
-
--- the values of the record's fields
-abbrev pub FieldValues : Type 0
-FieldValues = Bool × (ℕ × Vec String)
-
--- the record of the fields' values
-abbrev pub record_of : FieldValues → Options
-record_of x = record { verbose = x.0; num = x.1.0; files = x.1.1 }
 
 -- what the record's parser is made of, and what it knows beside that
 pub record Parts : Type 0 where
@@ -59,6 +52,16 @@ pub record Parts : Type 0 where
   pub num : KeyWithValue
   pub files : ParseMany (ParsePositional String)
   pub info : RunInfo
+
+-- parts with these helps are those of the program, by what a run reads
+pub record HaveProgramNames (parts : Parts) (verbose_help num_help : List Piece) : Type 0 where
+  pub verbose : parts.verbose.named ≡ verbose_shown verbose_help
+  pub present : parts.verbose.present ≡ true
+  pub absent : parts.verbose.absent ≡ Some false
+  pub num : parts.num ≡ number_shown num_help
+  pub position : parts.files.inner.position ≡ Unrestricted
+  pub catch : parts.files.catch ≡ false
+  pub info : parts.info ≡ plain_info
 
 -- parts that are those of the program
 pub record AreProgramParts (parts : Parts) : Type 0 where
@@ -68,22 +71,17 @@ pub record AreProgramParts (parts : Parts) : Type 0 where
   pub verbose_told : TextPieces (codes "Print more") verbose_help
   pub num_told : TextPieces (codes "A number") num_help
   pub file_told : TextPieces (codes "Files to read") file_help
-  pub verbose : parts.verbose.named ≡ verbose_shown verbose_help
-  pub present : parts.verbose.present ≡ true
-  pub absent : parts.verbose.absent ≡ Some false
-  pub num : parts.num ≡ number_shown num_help
-  pub position : parts.files.inner.position ≡ Unrestricted
   pub metavar : parts.files.inner.metavar.0.now ≡ codes "FILE"
   pub file : parts.files.inner.help ≡ Some file_help
-  pub info : parts.info ≡ plain_info
+  pub names : HaveProgramNames parts verbose_help num_help
 
 -- which records a constructor makes of the fields' values
 abbrev pub Makes : Type 1
 Makes = FieldValues → Options → Type 0
 
--- it makes the record of them, and no other
-abbrev pub MakesRecord : Makes → Type 0
-MakesRecord makes = (x : FieldValues) (v : Options) → makes x v → v ≡ record_of x
+-- it makes the options of them, and no others
+abbrev pub MakesOptions : Makes → Type 0
+MakesOptions makes = (x : FieldValues) (v : Options) → makes x v → v ≡ options_of x
 
 module _ (makes : Makes) (parts : Parts) where
   -- what the switch reads
@@ -181,13 +179,13 @@ module _ (makes : Makes) (parts : Parts) where
         let num = verbose.3 in
         let files = num.3 in
         let first : verbose.0 ≡ flag_shape (verbose_shown program.verbose_help) (Some false) =
-        rw (program.verbose, program.absent) at verbose.2 in
+        rw (program.names.verbose, program.names.absent) at verbose.2 in
         let second : num.0 ≡ argument_shape (number_shown program.num_help) =
-        rw program.num at num.2 in
+        rw program.names.num at num.2 in
         let third : files.0
         ≡ Many (Optional (positional_shape Unrestricted (codes "FILE") (Some program.file_help))) =
         files.1.2 ∙ ap (λ inside. Many (Optional inside))
-        (rw (program.position, program.metavar, program.file) at files.1.1) in
+        (rw (program.names.position, program.metavar, program.file) at files.1.1) in
         let are : shown.0
         ≡ flag_shape (verbose_shown program.verbose_help) (Some false)
         ∷ argument_shape (number_shown program.num_help)
@@ -213,9 +211,27 @@ module _ (makes : Makes) (parts : Parts) where
         → known_names plain_info shape ≡ program_known
     known_shown shape is = ap (known_names plain_info) is.is
 
+    -- the known names of what it shows
+    pub known_parts : (shape : Shape) → RecordDescribes shape
+        → known_names parts.info shape ≡ program_known
+    known_parts shape shown =
+        ap (λ info. known_names info shape) program.names.info
+        ∙ known_shown shape (program_shown shape shown)
+
     module _ (words : List (List ℕ)) where
+      -- a context of the words' line by what it shows is one by the known names
+      pub program_context : (context : Context)
+          → IsLineContext RecordDescribes parts.info (program_given words) context
+          → IsContext program_known (program_given words) context
+      program_context context is =
+          ⊎_elim
+          (λ shown. subst (λ known. IsContext known (program_given words) context)
+          (known_parts shown.0 shown.1) shown.2)
+          (λ any. any program_known)
+          is
+
       -- what the record's parser deals out are options dealt out of the words
-      options_dealt : MakesRecord makes → (v : Options)
+      options_dealt : MakesOptions makes → (v : Options)
           → RecordDealsOut (program_given words) v → IsDealtOptions words v
       options_dealt made v dealt =
           let read = dealt.read.read in
@@ -223,12 +239,7 @@ module _ (makes : Makes) (parts : Parts) where
           let others = read.rest_read in
           subst (IsDealtOptions words) (sym (made values v dealt.read.made)) (record {
             context = dealt.context;
-            is_context = ⊎_elim
-                (λ shown. subst (λ known. IsContext known (program_given words) dealt.context)
-                (ap (λ info. known_names info shown.0) program.info
-                ∙ known_shown shown.0 (program_shown shown.0 shown.1)) shown.2)
-                (λ any. any program_known)
-                dealt.is_context;
+            is_context = program_context dealt.context dealt.is_context;
             verbose_share = read.first_share;
             num_share = others.first_share;
             files_share = others.rest_share;
@@ -237,15 +248,15 @@ module _ (makes : Makes) (parts : Parts) where
             others_join = others.joins;
             verbose = flag_without_help Bool IsKept (key_named verbose_names)
                 program.verbose_help true (Some false) dealt.context read.first_share values.0
-                (rw (program.verbose, program.present, program.absent) at read.first_read);
+                (rw (program.names.verbose, program.names.present, program.names.absent) at read.first_read);
             num = argument_without_help ℕ (SpellsUnsigned 64) number_key program.num_help
                 dealt.context others.first_share values.1.0
-                (rw program.num at others.first_read);
-            files = rw program.position at others.rest_read;
+                (rw program.names.num at others.first_read);
+            files = rw program.names.position at others.rest_read;
           })
 
       -- an answer of the record's parser on the program's words
-      pub answer_dealt : (given : Given) → MakesRecord makes → given ≡ program_given words
+      pub answer_dealt : (given : Given) → MakesOptions makes → given ≡ program_given words
           → (r : Result Options ParseFailure) → IfOk r (RecordDealsOut given)
           → IfOk r (IsDealtOptions words)
       answer_dealt given made is (Ok v) dealt =
@@ -260,8 +271,8 @@ module _ (makes : Makes) (parts : Parts) where
       help_asked given is (Err (failure.Stdout doc full)) runs =
           let was : WasAsked RecordDescribes parts.info given doc full =
           answer_asked RecordDescribes parts.info given record_lawful record_shows_nothing
-          (ap (λ info. info.help_if_no_args) program.info) (Err (failure.Stdout doc full)) runs in
+          (ap (λ info. info.help_if_no_args) program.names.info) (Err (failure.Stdout doc full)) runs in
           asked_also RecordDescribes IsProgramShape plain_info (program_given words) doc full
-          program_shown (rw (program.info, is) at was)
+          program_shown (rw (program.names.info, is) at was)
       help_asked given is (Err (failure.Stderr doc)) runs = tt
       help_asked given is (Err failure.Memory) runs = tt

@@ -1,8 +1,8 @@
 //! A program over a record of options: a switch, a number, and any number of files.
 //!
-//! It stands on `bpaf` alone, and has no contract for a layer above: it is the top. `run` is the whole
-//! program over two writers; `main` hands it the words, standard output and standard error, and ends
-//! with its status.
+//! It stands on `bpaf` and `bpaf_record`, and has no contract for a layer above: it is the top. `run`
+//! is the whole program over two writers; `main` hands it the words, standard output and standard
+//! error, and ends with its status.
 //!
 //! ```text
 //! bpaf_demo -v -n 3      verbose: true, num: 3, a line each, status 0
@@ -12,9 +12,20 @@
 //! bpaf_demo -n           Error: `-n` requires an argument `NUM`, on standard error, status 1
 //! ```
 //!
-//! What is proved of it: where the writers tell their bytes, status 0 comes only where the value that
-//! was printed is dealt out of the words (specs/Record.antt, specs/Lines.antt), or where the words ask
-//! for help and its page was printed (specs/Shown.antt, specs/Running.antt).
+//! What is proved of it, from the words to the bytes, where the writers tell these:
+//!
+//! - The record's value on words is told by the record alone (`IsOptionsOf`, specs/Exact.antt): the
+//!   words' line is cut into pieces, the switch and the number have those that begin with their
+//!   names, and the files have the words. All values on the same words print the same lines.
+//! - An answer to words is exact (`AnswersExactly`): options come only where they are the record's
+//!   value on the words, and where it has one there, one is answered, or want of memory.
+//! - Status 0 comes only with nothing written on the error writer, and on the other exactly the lines
+//!   of the record's value on the words (specs/Lines.antt), or where it has none exactly the help page
+//!   that the words ask for (specs/Shown.antt, `WritesExactly` in specs/Running.antt).
+//! - Where the record has a value on the words, its lines are written and the status is 0, unless a
+//!   write of them fails or memory is wanted (`Prints`, specs/Running.antt).
+//! - The value that is printed is dealt out of the words, each place of their line used once
+//!   (specs/Record.antt).
 #![tactic(auto)]
 
 mod options;

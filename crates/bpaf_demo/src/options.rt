@@ -1,9 +1,11 @@
 ghost use Rattle.std.specs.Prelude.{IfOk, map, string_bytes};
 ghost use Rattle.std.specs.Result.{IfErr};
+ghost use Rattle.bpaf_demo.specs.Exact.{AnswersExactly};
 ghost use Rattle.bpaf_demo.specs.Record.{IsDealtOptions};
 ghost use Rattle.bpaf_demo.specs.Shown.{ShowsHelpAsked};
 
 use bpaf::{Args, Doc, ParseFailure, Parser, construct, positional, short};
+use bpaf_record::Record;
 use std::alloc::Global;
 
 /// What the program is asked for.
@@ -16,9 +18,13 @@ pub struct Options {
 
 /// The options that the words give; refused where they give none, or for want of memory. Help is
 /// answered as a refusal that shows it, and only where the words ask for it.
+///
+/// The options are a flat record, so each answer is exact: options come only where they are the
+/// record's value on the words, and where it has one no refusal comes, but for want of memory.
 pub fn read_options(alloc: Global, words: &[String]) -> Result<Options, ParseFailure>
     ensures dealt { IfOk result (λ v. IsDealtOptions (map string_bytes words.now) v) }
     ensures asked { IfErr result (λ f. ShowsHelpAsked (map string_bytes words.now) f) }
+    ensures exact { AnswersExactly (map string_bytes words.now) result }
 {
     let verbose = short(alloc, 'v')?
         .long("verbose")?
@@ -35,8 +41,7 @@ pub fn read_options(alloc: Global, words: &[String]) -> Result<Options, ParseFai
         verbose,
         num,
         files
-    });
-    options
-        .to_options(alloc)?
-        .run_once(Args::from(words).set_name("bpaf_demo"))
+    })
+    .to_options(alloc)?;
+    options.run_record(Args::from(words).set_name("bpaf_demo"))
 }

@@ -1,5 +1,5 @@
-ghost use Rattle.std.specs.Prelude.{◌≡◌, ◌⊎◌, map, string_bytes};
-ghost use Rattle.bpaf_demo.specs.Running.{Fails, FailsToShow, Succeeds, WritesShown};
+ghost use Rattle.std.specs.Prelude.{◌≡◌, ◌⊎◌, Err, map, string_bytes};
+ghost use Rattle.bpaf_demo.specs.Running.{Ends, Fails, RunsExactly, Succeeds};
 
 use crate::options::read_options;
 use crate::print::print_options;
@@ -20,6 +20,8 @@ pub fn run<W: Write, E: Write>(alloc: Global, words: &[String], out: &mut W, err
     ensures fails { result ≡ 1 →
         Fails (map string_bytes words.now) (W.contents out.old) (W.contents out.new) }
     ensures status { (result ≡ 0) ⊎ (result ≡ 1) }
+    ensures exact { RunsExactly (map string_bytes words.now) result (W.contents out.old)
+        (W.contents out.new) (E.contents err.old) (E.contents err.new) }
 {
     match read_options(alloc, words) {
         Ok(options) => match print_options(&options, out) {
@@ -33,11 +35,8 @@ pub fn run<W: Write, E: Write>(alloc: Global, words: &[String], out: &mut W, err
 /// Tells how a run ended that gives no options, and gives its status: what was asked for is shown on
 /// `out`, else the refusal is told on `err`.
 fn tell<W: Write, E: Write>(failure: ParseFailure, out: &mut W, err: &mut E) -> u8
-    ensures succeeds { result ≡ 0 → WritesShown failure (W.contents out.old) (W.contents out.new)
-        (E.contents err.old) (E.contents err.new) }
-    ensures fails { result ≡ 1 →
-        FailsToShow failure (W.contents out.old) (W.contents out.new) }
-    ensures status { (result ≡ 0) ⊎ (result ≡ 1) }
+    ensures { Ends (W.contents out.old) (W.contents out.new) (E.contents err.old)
+        (E.contents err.new) (Err failure) result }
 {
     if failure.exit_code() == 0 {
         show(failure, out, err)
@@ -48,11 +47,8 @@ fn tell<W: Write, E: Write>(failure: ParseFailure, out: &mut W, err: &mut E) -> 
 
 /// Shows what was asked for, as it stands, and gives the status.
 fn show<W: Write, E: Write>(failure: ParseFailure, out: &mut W, err: &mut E) -> u8
-    ensures succeeds { result ≡ 0 → WritesShown failure (W.contents out.old) (W.contents out.new)
-        (E.contents err.old) (E.contents err.new) }
-    ensures fails { result ≡ 1 →
-        FailsToShow failure (W.contents out.old) (W.contents out.new) }
-    ensures status { (result ≡ 0) ⊎ (result ≡ 1) }
+    ensures { Ends (W.contents out.old) (W.contents out.new) (E.contents err.old)
+        (E.contents err.new) (Err failure) result }
 {
     let Ok(Some(text)) = failure.unwrap_stdout() else {
         return refuse(ParseFailure::Memory, err);
