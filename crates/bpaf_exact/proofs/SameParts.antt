@@ -1,10 +1,10 @@
 -- Each flat type shows the same parts, whichever shape it shows, where its inner parsers do.
-use Rattle.std.proofs.Common.{◌≡◌, List, [], ◌∷◌, ◌++◌, Option, Some, None, Result, Ok, All}
+use Rattle.std.proofs.Common.{◌≡◌, List, [], ◌∷◌, ◌++◌, Option, Some, None, Result}
 use Rattle.std.proofs.Common.{refl, sym, ap, ◌∙◌, append_assoc, append-nil}
 use Rattle.std.specs.declared.alloc.AllocError.{AllocError}
 use Rattle.bpaf_doc.specs.declared.doc.Piece.{Piece}
 use Rattle.bpaf_doc.specs.declared.meta.MetaInfo.{MetaInfo}
-use Rattle.bpaf_doc.specs.Shape.{Shape, Shapes, Part, And, Or, Optional, Required, Many, Suffix}
+use Rattle.bpaf_doc.specs.Shape.{Shape, Shapes, Or, Optional, Required, Many, Suffix}
 use Rattle.bpaf_doc.specs.Shape.{Subsection, CustomUsage, Skip, none, ◌then◌, members, shape_of}
 use Rattle.bpaf_doc.specs.Walks.{parts, parts_of_all}
 use Rattle.bpaf_laws.specs.Choice.{ChoiceDescribes, alternatives, either, shapes_of}
