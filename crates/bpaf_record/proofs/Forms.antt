@@ -1,6 +1,6 @@
 -- What the combinators make of a form.
-use Rattle.std.proofs.Common.{◌≡◌, Bool, true, false, List, Option, ◌&&◌, if◌then◌else◌, refl}
-use Rattle.bpaf_exact.specs.Flat.{Kind, Named, OneWord, EachWord}
+use Rattle.std.proofs.Common.{◌≡◌, Bool, true, false, List, ◌&&◌, if◌then◌else◌, refl}
+use Rattle.bpaf_exact.specs.Flat.{Named, OneWord, EachWord}
 use Rattle.bpaf_exact.specs.Shape.{Shape, not_flat, alternative, single, complete, product}
 use Rattle.bpaf_exact.specs.Shape.{closed_shape, repeat_shape, last_shape, optional_shape}
 use Rattle.bpaf_exact.specs.Shape.{fallback_shape, unless, is_record}

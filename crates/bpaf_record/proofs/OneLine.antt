@@ -1,7 +1,7 @@
 -- The words of a flat record have one line, since it shows the same parts each time.
-use Rattle.std.proofs.Common.{◌≡◌, ℕ, [], ◌++◌, All, IsUtf8, List, Option, ⊎_elim, inl, inr, refl, sym, ap, subst, ◌∙◌}
+use Rattle.std.proofs.Common.{◌≡◌, ℕ, [], ◌++◌, All, IsUtf8, List, Option, ⊎_elim, refl, sym, ap, subst, ◌∙◌}
 use Rattle.bpaf_doc.specs.Shape.{Part, Shape}
-use Rattle.bpaf_doc.specs.Walks.{parts, shorts_of_arguments, shorts_of_flags}
+use Rattle.bpaf_doc.specs.Walks.{shorts_of_arguments, shorts_of_flags}
 use Rattle.bpaf_words.specs.declared.arg.Arg.{Arg}
 use Rattle.bpaf_words.specs.Arguments.{Given}
 use Rattle.bpaf_words.specs.Line.{HasNoLine}

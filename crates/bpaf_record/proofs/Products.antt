@@ -1,5 +1,5 @@
 -- What choices and products make of forms, and of tests of their keys.
-use Rattle.std.proofs.Common.{◌≡◌, ℕ, suc, ◌+◌, ◌<◌, Bool, true, false, ◌&&◌, List, [], ◌∷◌, ◌++◌}
+use Rattle.std.proofs.Common.{◌≡◌, ℕ, ◌+◌, ◌<◌, Bool, true, false, ◌&&◌, List, [], ◌∷◌, ◌++◌}
 use Rattle.std.proofs.Common.{length, take, drop, flat_map, slice_index_or, refl, sym, ap, ◌∙◌}
 use Rattle.std.proofs.Common.{arith, append-nil, ◌≤◌}
 use Rattle.std.proofs.lemmas.List.{take_more, drop_more, drop_all}
@@ -7,15 +7,14 @@ use Rattle.std.proofs.lemmas.List.Concat.{flat_map-append}
 use Rattle.std.specs.List.{list_all}
 use Rattle.std.proofs.lemmas.List.Folds.{list_all-append}
 use Rattle.bpaf_doc.specs.Names.{Names}
-use Rattle.bpaf_exact.specs.Names.{are_apart, are_all_apart}
+use Rattle.bpaf_exact.specs.Names.{are_all_apart}
 use Rattle.bpaf_exact.specs.Pieces.{Roles, Piece}
-use Rattle.bpaf_exact.specs.Flat.{Kind, Named, OneWord, EachWord}
+use Rattle.bpaf_exact.specs.Flat.{Named, OneWord, EachWord}
 use Rattle.bpaf_exact.specs.Shape.{Shape, not_flat, alternative, single, complete, product, only_if}
 use Rattle.bpaf_exact.specs.Shape.{either_shape, choice_shape, choices_rest, alternative_only}
 use Rattle.bpaf_exact.specs.Shape.{choices_shape, field_shape, both_shape, alone_shape, con_shape}
 use Rattle.bpaf_exact.specs.Wrappers.{Closure}
 use Rattle.bpaf_record.specs.declared.form.Form.{Form}
-use Rattle.bpaf_record.specs.declared.form.Form.TheVariants.{NotFlat}
 use Rattle.bpaf_record.specs.Form.{form_of, product_if, field_form, alternative_form, joined_form}
 use Rattle.bpaf_record.specs.Form.{alone_form, before_form, made_form, forms_rest}
 

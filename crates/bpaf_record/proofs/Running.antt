@@ -1,6 +1,5 @@
 -- Each answer that the table of a run allows to a flat record is exact.
-use Rattle.std.proofs.Common.{◌≡◌, ℕ, ◌<◌, ◌≤◌, Bool, true, false, ◌&&◌, List, Option, Some, None, Result, Ok, Err, IfOk, All, IsUtf8, refl, sym, subst, ◌∙◌, arith}
-use Rattle.std.specs.List.{list_all}
+use Rattle.std.proofs.Common.{◌≡◌, ℕ, Bool, true, false, ◌&&◌, List, Some, None, Result, Ok, Err, IfOk, All, IsUtf8, refl, subst, arith}
 use Rattle.bpaf_doc.specs.Names.{Names}
 use Rattle.bpaf_doc.specs.Shape.{Shape as ShownShape}
 use Rattle.bpaf_words.specs.Arguments.{Given}
@@ -9,7 +8,6 @@ use Rattle.bpaf_line.specs.declared.error.Message.{Message}
 use Rattle.bpaf_line.specs.declared.failure.ParseFailure.{ParseFailure}
 use Rattle.bpaf_line.specs.declared.failure.ParseFailure.TheVariants as failure
 use Rattle.bpaf_line.specs.Leftover.{IsLeftover, conflict, only_once, not_expected}
-use Rattle.bpaf_line.specs.Messages.{is_memory}
 use Rattle.bpaf_line.specs.Situation.{Context, Situation, beginning, is_open, open_count}
 use Rattle.bpaf_line.proofs.Counts.{count_below-some}
 use Rattle.bpaf_line.proofs.Places.{open_in_line}
@@ -17,9 +15,8 @@ use Rattle.bpaf_laws.specs.Reading.{Outcome}
 use Rattle.bpaf_core.specs.Ending.{EndsRun, memory, usage, passed_on, refused as told_refusal, leftover as told_leftover}
 use Rattle.bpaf_core.specs.Info.{RunInfo}
 use Rattle.bpaf_core.specs.Known.{IsLineContext}
-use Rattle.bpaf_core.specs.Run.{Runs, RunsWords, value, leftover, refused, ran, no_line as none_there, no_memory as wanted}
-use Rattle.bpaf_exact.specs.Names.{are_apart}
-use Rattle.bpaf_exact.specs.Record.{Answer, RunRan, run_value, run_leftover, run_memory, run_refusal, IsNoValue}
+use Rattle.bpaf_core.specs.Run.{Runs, value, leftover, refused, ran, no_line as none_there, no_memory as wanted}
+use Rattle.bpaf_exact.specs.Record.{RunRan, run_value, run_leftover, run_memory, run_refusal, IsNoValue}
 use Rattle.bpaf_exact.specs.Record.{IsAnswer, IsExact, RecordValue, line_cells}
 use Rattle.bpaf_exact.specs.Shape.{Shape, ShapeLaw, is_record, product_roles, product_value, record_shape}
 use Rattle.bpaf_exact.proofs.Classes.{memory_class, not_memory}
@@ -27,7 +24,7 @@ use Rattle.bpaf_exact.proofs.Accepted.{cut_holds_together}
 use Rattle.bpaf_exact.proofs.Exact.{runs_exactly}
 use Rattle.bpaf_exact.proofs.Shape.{record_law}
 use Rattle.bpaf_exact.specs.SameParts.{ShowsTheSame}
-use Rattle.bpaf_record.specs.Record.{is_flat_record, answer_of, AnswersExactly, EachAnswersExactly}
+use Rattle.bpaf_record.specs.Record.{is_flat_record, answer_of, EachAnswersExactly}
 use Rattle.bpaf_record.specs.Record.{IsValueOf, IsValueOrWant, HasWholeLine, EachHasWholeLine}
 use Rattle.bpaf_record.proofs.OneLine.{never_without, one_context}
 
