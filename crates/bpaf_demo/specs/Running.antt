@@ -77,14 +77,15 @@ pub data Prints (words : List (List ℕ)) (v : Options)
   memory_wanted : Keeps out out_after
       → Prints words v out out_after err err_after (Err failure.Memory) 1
 
--- a run on words ends by an exact answer to them: by status 0 exactly what the words give is
--- written, and where the record has a value on them its lines are, but for a failed write and want
--- of memory
+-- a run on words ends by an exact answer to them: all values of the record on them have the same
+-- lines; by status 0 exactly what the words give is written; and where the record has a value on
+-- them its lines are, but for a failed write and want of memory
 pub record RunsExactly (words : List (List ℕ)) (status : ℕ)
     (out out_after err err_after : Option (List ℕ)) : Type 0 where
   pub answer : Result Options ParseFailure
   pub exact : AnswersExactly words answer
   pub ends : Ends out out_after err err_after answer status
+  pub alike : (v w : Options) → IsOptionsOf words v → IsOptionsOf words w → lines v ≡ lines w
   pub succeeds : status ≡ 0 → WritesExactly words out out_after err err_after
   pub prints : (v : Options) → IsOptionsOf words v
       → Prints words v out out_after err err_after answer status
