@@ -1,6 +1,6 @@
 -- All values of the program's record on words print the same lines.
-use Rattle.std.proofs.Common.{◌≡◌, ◌++◌, ℕ, Bool, true, false, List, [], ◌∷◌, Some, map, string_bytes}
-use Rattle.std.proofs.Common.{All, IsUtf8, codes, inl, refl, sym, ap, subst, ◌∙◌}
+use Rattle.std.proofs.Common.{◌≡◌, ◌++◌, ℕ, Bool, true, false, List, [], ◌∷◌, Some, map}
+use Rattle.std.proofs.Common.{string_bytes, All, IsUtf8, codes, inl, refl, sym, ap, subst, ◌∙◌}
 use Rattle.std.specs.Fmt.{decimal}
 use Rattle.std.specs.Global.{Vec}
 use Rattle.bpaf_text.specs.Meaning.{SpellsUnsigned}
@@ -122,7 +122,8 @@ one_number text v w a b = a.value_of ∙ sym b.value_of
 -- the switch is seen as it is
 verbose_view : HasOneView (λ verbose. verbose) verbose_field
 verbose_view =
-    field_view Bool Bool (λ verbose. verbose) VerboseOutcome (verbose_names ∷ []) switch_shape switch_law
+    field_view Bool Bool (λ verbose. verbose) VerboseOutcome (verbose_names ∷ []) switch_shape
+    switch_law
     (flag_view Bool Bool (λ verbose. verbose) IsKept (λ kept v w a b. a ∙ sym b)
     (key_named verbose_names) true (Some false))
 
@@ -157,8 +158,8 @@ options_view =
       apart = λ x y v e f n. n;
     }) fields_shape
     (both_view Bool (ℕ × Vec String) Bool (ℕ × List (List ℕ)) (λ verbose. verbose)
-    (pair_view (λ num. num) texts_of) (verbose_names ∷ []) (num_names ∷ []) verbose_field others_shape
-    verbose_view
+    (pair_view (λ num. num) texts_of) (verbose_names ∷ []) (num_names ∷ []) verbose_field
+    others_shape verbose_view
     (both_view ℕ (Vec String) ℕ (List (List ℕ)) (λ num. num) texts_of (num_names ∷ []) []
     num_field (alone_shape files_field) num_view
     (alone_view (Vec String) (List (List ℕ)) texts_of files_field files_view)))

@@ -248,7 +248,8 @@ module _ (makes : Makes) (parts : Parts) where
             others_join = others.joins;
             verbose = flag_without_help Bool IsKept (key_named verbose_names)
                 program.verbose_help true (Some false) dealt.context read.first_share values.0
-                (rw (program.names.verbose, program.names.present, program.names.absent) at read.first_read);
+                (rw (program.names.verbose, program.names.present, program.names.absent) at
+                read.first_read);
             num = argument_without_help ℕ (SpellsUnsigned 64) number_key program.num_help
                 dealt.context others.first_share values.1.0
                 (rw program.names.num at others.first_read);
@@ -271,7 +272,8 @@ module _ (makes : Makes) (parts : Parts) where
       help_asked given is (Err (failure.Stdout doc full)) runs =
           let was : WasAsked RecordDescribes parts.info given doc full =
           answer_asked RecordDescribes parts.info given record_lawful record_shows_nothing
-          (ap (λ info. info.help_if_no_args) program.names.info) (Err (failure.Stdout doc full)) runs in
+          (ap (λ info. info.help_if_no_args) program.names.info)
+          (Err (failure.Stdout doc full)) runs in
           asked_also RecordDescribes IsProgramShape plain_info (program_given words) doc full
           program_shown (rw (program.names.info, is) at was)
       help_asked given is (Err (failure.Stderr doc)) runs = tt

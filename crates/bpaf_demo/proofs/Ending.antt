@@ -160,6 +160,7 @@ module _ (words : List (List â„•)) (out out_after err err_after : Option (List â
     answer = r;
     exact = ran.exact;
     ends = ran.ends;
+    alike = same_lines words ran.texts;
     succeeds = writes_exactly r status ran;
     prints = prints r status ran;
   }

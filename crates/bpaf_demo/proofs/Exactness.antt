@@ -39,7 +39,8 @@ use Rattle.bpaf_demo.specs.declared.options.Options.{Options}
 use Rattle.bpaf_demo.specs.Exact.{AnswersExactly, FieldValues, IsOptionsOf, fields_shape}
 use Rattle.bpaf_demo.specs.Exact.{options_of, options_shape}
 use Rattle.bpaf_demo.specs.Record.{IsKept, MeansText, String, program_given}
-use Rattle.bpaf_demo.proofs.Dealing.{AreProgramParts, FileOutcome, HaveProgramNames, Makes, MakesOptions, Parts}
+use Rattle.bpaf_demo.proofs.Dealing.{AreProgramParts, FileOutcome, HaveProgramNames, Makes}
+use Rattle.bpaf_demo.proofs.Dealing.{MakesOptions, Parts}
 use Rattle.bpaf_demo.proofs.Dealing.{RecordDescribes, RecordOutcome, RecordRuns, VerboseOutcome}
 use Rattle.bpaf_demo.proofs.Dealing.{known_parts, program_context}
 
@@ -108,9 +109,12 @@ module _ (makes : Makes) (parts : Parts) where
     abbrev NumOutcome : Outcome ℕ
     NumOutcome = ArgumentOutcome (SpellsUnsigned 64) parts.num
 
+    -- what the fields answer
+    abbrev FieldsOutcome : Outcome FieldValues
+    FieldsOutcome = BothOutcome (VerboseOutcome makes parts) (BothOutcome NumOutcome FilesOutcome)
+
     -- the fields keep to the laws of their shape
-    fields_law : ShapeLaw (BothOutcome (VerboseOutcome makes parts) (BothOutcome NumOutcome FilesOutcome))
-        parts_keys FieldsShape
+    fields_law : ShapeLaw FieldsOutcome parts_keys FieldsShape
     fields_law =
         both_shape_law Bool (ℕ × Vec String) (VerboseOutcome makes parts)
         (BothOutcome NumOutcome FilesOutcome) (parts.verbose.named.names ∷ [])
@@ -167,12 +171,8 @@ module _ (makes : Makes) (parts : Parts) where
       options_law =
           narrower_shape Options (RecordOutcome IsOptions parts) (RecordOutcome makes parts)
           constructs parts_keys options_shape
-          (con_shape_law FieldValues Options
-          (BothOutcome (VerboseOutcome makes parts) (BothOutcome NumOutcome FilesOutcome))
-          IsOptions parts_keys fields_shape
-          (subst (ShapeLaw
-          (BothOutcome (VerboseOutcome makes parts) (BothOutcome NumOutcome FilesOutcome))
-          parts_keys) (same_fields program.names) fields_law))
+          (con_shape_law FieldValues Options FieldsOutcome IsOptions parts_keys fields_shape
+          (subst (ShapeLaw FieldsOutcome parts_keys) (same_fields program.names) fields_law))
 
       -- a value of the program's record, by what the parser shows
       abbrev IsValue : Options → Type 0

@@ -52,8 +52,8 @@ pub record IsOptionsOf (words : List (List ℕ)) (v : Options) : Type 0 where
   pub is_context : IsContext program_known (program_given words) context
   pub read : RecordValue (product_roles options_shape) (product_value options_shape) context v
 
--- an answer to words is exact: options only where they are the record's value on the words; and where
--- the record has a value there, one of them, or want of memory
+-- an answer to words is exact: options only where they are the record's value on the words; and
+-- where the record has a value there, one of them, or want of memory
 pub record AnswersExactly (words : List (List ℕ)) (r : Result Options ParseFailure) : Type 0 where
   pub sound : IfOk r (IsOptionsOf words)
   pub complete : (v : Options) → IsOptionsOf words v → IsValueOrWant (IsOptionsOf words) r

@@ -58,18 +58,18 @@ pub data Ends (out out_after err err_after : Option (List ℕ)) : Result Options
   -- memory was wanted
   no_memory : Keeps out out_after → Ends out out_after err err_after (Err failure.Memory) 1
 
--- status 0: nothing on the error writer, and on the other exactly the lines of the record's value on
--- the words, or where it has none exactly the help page that they ask for
+-- status 0: nothing on the error writer, and on the other exactly the lines of the record's value
+-- on the words, or where it has none exactly the help page that they ask for
 pub record WritesExactly (words : List (List ℕ)) (out out_after err err_after : Option (List ℕ))
     : Type 0 where
   pub quiet : Keeps err err_after
   pub value : (v : Options) → IsOptionsOf words v → Appends out out_after (lines v)
   pub help : ((v : Options) → ¬ (IsOptionsOf words v)) → WritesHelp words out out_after
 
--- a run on words of which v is the record's value: its lines are written; or a write of lines failed;
--- or memory was wanted
-pub data Prints (words : List (List ℕ)) (v : Options) (out out_after err err_after : Option (List ℕ))
-    : Result Options ParseFailure → ℕ → Type 0 where
+-- a run on words on which v is the record's value: its lines are written; or a write of lines
+-- failed; or memory was wanted
+pub data Prints (words : List (List ℕ)) (v : Options)
+    (out out_after err err_after : Option (List ℕ)) : Result Options ParseFailure → ℕ → Type 0 where
   written : {w : Options} → IsOptionsOf words w → Appends out out_after (lines v)
       → Keeps err err_after → Prints words v out out_after err err_after (Ok w) 0
   write_failed : {w : Options} → IsOptionsOf words w → Keeps err err_after
@@ -77,14 +77,15 @@ pub data Prints (words : List (List ℕ)) (v : Options) (out out_after err err_a
   memory_wanted : Keeps out out_after
       → Prints words v out out_after err err_after (Err failure.Memory) 1
 
--- a run on words ends by an exact answer to them: by status 0 exactly what the words give is
--- written, and where the record has a value on them its lines are, but for a failed write and want
--- of memory
+-- a run on words ends by an exact answer to them: all values of the record on them have the same
+-- lines; by status 0 exactly what the words give is written; and where the record has a value on
+-- them its lines are, but for a failed write and want of memory
 pub record RunsExactly (words : List (List ℕ)) (status : ℕ)
     (out out_after err err_after : Option (List ℕ)) : Type 0 where
   pub answer : Result Options ParseFailure
   pub exact : AnswersExactly words answer
   pub ends : Ends out out_after err err_after answer status
+  pub alike : (v w : Options) → IsOptionsOf words v → IsOptionsOf words w → lines v ≡ lines w
   pub succeeds : status ≡ 0 → WritesExactly words out out_after err err_after
   pub prints : (v : Options) → IsOptionsOf words v
       → Prints words v out out_after err err_after answer status

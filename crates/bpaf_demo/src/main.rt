@@ -1,8 +1,8 @@
 //! A program over a record of options: a switch, a number, and any number of files.
 //!
-//! It stands on `bpaf` and `bpaf_record`, and has no contract for a layer above: it is the top. `run`
-//! is the whole program over two writers; `main` hands it the words, standard output and standard
-//! error, and ends with its status.
+//! It stands on `bpaf` and `bpaf_record`, and has no contract for a layer above: it is the top.
+//! `run` is the whole program over two writers; `main` hands it the words, standard output and
+//! standard error, and ends with its status.
 //!
 //! ```text
 //! bpaf_demo -v -n 3      verbose: true, num: 3, a line each, status 0
@@ -19,9 +19,9 @@
 //!   names, and the files have the words. All values on the same words print the same lines.
 //! - An answer to words is exact (`AnswersExactly`): options come only where they are the record's
 //!   value on the words, and where it has one there, one is answered, or want of memory.
-//! - Status 0 comes only with nothing written on the error writer, and on the other exactly the lines
-//!   of the record's value on the words (specs/Lines.antt), or where it has none exactly the help page
-//!   that the words ask for (specs/Shown.antt, `WritesExactly` in specs/Running.antt).
+//! - Status 0 comes only with nothing written on the error writer, and on the other exactly the
+//!   lines of the record's value on the words (specs/Lines.antt), or where it has none exactly the
+//!   help page that the words ask for (specs/Shown.antt, `WritesExactly` in specs/Running.antt).
 //! - Where the record has a value on the words, its lines are written and the status is 0, unless a
 //!   write of them fails or memory is wanted (`Prints`, specs/Running.antt).
 //! - The value that is printed is dealt out of the words, each place of their line used once
