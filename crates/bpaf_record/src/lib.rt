@@ -45,6 +45,8 @@ pub use keys::{HasKeys, KeyTest};
 pub use record::Record;
 
 #[cfg(test)]
+mod more_rows;
+#[cfg(test)]
 mod rows;
 #[cfg(test)]
 mod tests;

@@ -2,19 +2,22 @@
 use crate::tests::{number, switch, word};
 use crate::{FlatField, Record};
 use bpaf::params::ParseArgument;
-use bpaf::{Args, Doc, ParseFailure, Parser, choice, construct, positional, short};
+use bpaf::{Args, Doc, OptionParser, ParseFailure, Parser, choice, construct, positional, short};
 use std::alloc::{AllocError, Global};
 use std::collections::BTreeSet;
 use std::fmt::Debug;
 use std::process::Abort;
 use std::test::Fail;
 
-/// Words, parted by spaces, and the answer: `ok` and the value as Rust's Debug prints it, or `err`
-/// and the whole message.
-type Row<'a> = (&'a str, &'a str);
+/// Words, parted by spaces, and the answer: `ok` and the value as Rust's Debug prints it, `err`
+/// and the whole message, or `shown` where a text is shown that was asked for.
+pub(crate) type Row<'a> = (&'a str, &'a str);
 
 /// A refusal as a row tells it.
 fn refused(alloc: Global, failure: ParseFailure) -> Result<String, AllocError> {
+    if failure.exit_code() == 0 {
+        return String::from_str(alloc, "shown");
+    }
     let mut text = String::from_str(alloc, "err ")?;
     if let Some(message) = failure.unwrap_stderr()? {
         text.push_str(message.as_str())?;
@@ -34,15 +37,25 @@ fn told<T: Debug + Drop>(
 }
 
 /// Runs a flat record on the words of each row, and compares the answers.
-fn compare<T: Debug + Drop, P: FlatField<T> + Drop>(
+pub(crate) fn compare<T: Debug + Drop, P: FlatField<T> + Drop>(
     rt: &(impl Abort + AllocGlobal),
     parser: P,
     rows: &[Row<'_>],
 ) -> Result<(), Fail>
     requires { P.can_eval parser }
 {
+    compare_options(rt, parser.to_options(rt.alloc())?, rows)
+}
+
+/// The same of options.
+pub(crate) fn compare_options<T: Debug + Drop, P: FlatField<T> + Drop>(
+    rt: &(impl Abort + AllocGlobal),
+    options: OptionParser<T, P>,
+    rows: &[Row<'_>],
+) -> Result<(), Fail>
+    requires { P.can_eval options.inner }
+{
     let alloc = rt.alloc();
-    let options = parser.to_options(alloc)?;
     assert!(rt; options.is_record());
     for (words, wanted) in rows {
         let line: Vec<&str> = words.split_whitespace().collect(alloc)?;
@@ -53,12 +66,12 @@ fn compare<T: Debug + Drop, P: FlatField<T> + Drop>(
 }
 
 /// The same of a product of two fields.
-fn compare_pair<A: Debug + Drop, B: Debug + Drop, P: FlatField<A> + Drop, Q: FlatField<B> + Drop>(
-    rt: &(impl Abort + AllocGlobal),
-    first: P,
-    second: Q,
-    rows: &[Row<'_>],
-) -> Result<(), Fail>
+pub(crate) fn compare_pair<
+    A: Debug + Drop,
+    B: Debug + Drop,
+    P: FlatField<A> + Drop,
+    Q: FlatField<B> + Drop,
+>(rt: &(impl Abort + AllocGlobal), first: P, second: Q, rows: &[Row<'_>]) -> Result<(), Fail>
     requires first { P.can_eval first }
     requires second { Q.can_eval second }
 {
@@ -115,6 +128,7 @@ const NUMBER: &[Row<'static>] = &[
         "-n 18446744073709551616",
         "err couldn't parse `18446744073709551616`: not a whole number in range",
     ),
+    ("-n --help", "shown"),
 ];
 
 #[test]
@@ -292,6 +306,7 @@ const EITHER: &[Row<'static>] = &[
         "-a 12 -b 3 -a 12",
         "err `-b` cannot be used at the same time as `-a`",
     ),
+    ("-a 12 -b 3 --help", "shown"),
 ];
 
 const REPEATED_CHOICE: &[Row<'static>] = &[
