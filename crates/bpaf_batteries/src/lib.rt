@@ -16,8 +16,6 @@
 #![tactic(auto)]
 
 mod counts;
-#[cfg(test)]
-mod tests;
 mod toggle;
 mod usage;
 mod verbosity;

@@ -18,7 +18,7 @@ use Rattle.bpaf_laws.specs.Reading.{Readings, Share}
 use Rattle.bpaf_laws.specs.Repeat.{EachReads, ListReads, ManyReads}
 use Rattle.bpaf_core.specs.Adjacent.{EitherCommandReads}
 use Rattle.bpaf_core.specs.Dealt.{IsDealtOut}
-use Rattle.bpaf_core.specs.Info.{RunInfo}
+use Rattle.bpaf_parts.specs.Info.{RunInfo}
 use Rattle.bpaf_core.specs.Known.{known_names}
 use Rattle.bpaf.specs.declared.leaves.positional.Position.{Position}
 use Rattle.bpaf.specs.declared.leaves.positional.Position.TheVariants.{Unrestricted}

@@ -19,7 +19,7 @@ use Rattle.bpaf_core.specs.Adjacent.{EitherCommandOutcome, EitherCommandReads}
 use Rattle.bpaf_core.specs.AdjacentLaws.{either_lawful}
 use Rattle.bpaf_core.specs.Ending.{EndsRun}
 use Rattle.bpaf_core.specs.EndingLaws.{run_ending}
-use Rattle.bpaf_core.specs.Info.{RunInfo, plain_info, short_descr}
+use Rattle.bpaf_parts.specs.Info.{RunInfo, plain_info, short_descr}
 use Rattle.bpaf_core.specs.Run.{RunsWords}
 use Rattle.bpaf.specs.Asked.{BehindWord, HandsOn, IfShown, IsAskedAt, RunShows}
 use Rattle.bpaf.specs.Asked.{WordsShow, nothing_shown}

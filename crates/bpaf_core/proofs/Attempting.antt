@@ -17,7 +17,7 @@ use Rattle.bpaf_laws.specs.Reading.{Outcome, Readings}
 use Rattle.bpaf_core.specs.Adjacent.{Attempt, Attempts, GivesBack, IsTold, Retry}
 use Rattle.bpaf_core.specs.Adjacent.{first_fails, second_counts, second_fails}
 use Rattle.bpaf_core.specs.Adjacent.{wants_memory}
-use Rattle.bpaf_core.specs.Command.{end_message}
+use Rattle.bpaf_parts.specs.Failures.{end_message}
 use Rattle.bpaf_core.specs.CommandLaws.{runs_keeps}
 use Rattle.bpaf_core.specs.Ending.{Ending}
 use Rattle.bpaf_core.specs.EndingLaws.{LawfulEnding}

@@ -11,7 +11,8 @@ use Rattle.bpaf_laws.specs.Reading.{Outcome}
 use Rattle.bpaf_laws.specs.Command.{Called, IsNotOpened, IsOpenedAt, opened, opening_words}
 use Rattle.bpaf_core.specs.Ending.{Ending}
 use Rattle.bpaf_core.specs.Run.{Runs}
-use Rattle.bpaf_core.specs.Command.{IsMissingPart, ended, end_message, missing, no_memory, value}
+use Rattle.bpaf_core.specs.Command.{IsMissingPart, ended, missing, no_memory, value}
+use Rattle.bpaf_parts.specs.Failures.{end_message}
 use Rattle.bpaf_core.specs.Adjacent.{AdjacentRuns, EitherCommandOutcome, Enters, RunsInside}
 use Rattle.bpaf_core.specs.Adjacent.{StaysOutside}
 use Rattle.bpaf_core.specs.Adjacent.{counted, failed, no_path, unnamed}

@@ -1,8 +1,6 @@
 pub mod Running
 pub mod Dealing
 pub mod Ending
-pub mod Branching
-pub mod Opening
 pub mod Commanding
 pub mod Attempting
 pub mod Refusing

@@ -10,16 +10,16 @@ use Rattle.bpaf_line.specs.declared.error.Message.TheVariants as message
 use Rattle.bpaf_line.specs.declared.failure.ParseFailure.{ParseFailure}
 use Rattle.bpaf_line.specs.declared.failure.ParseFailure.TheVariants as failure
 use Rattle.bpaf_line.specs.Leftover as left
-use Rattle.bpaf_line.specs.Leftover.{IsLeftover}
-use Rattle.bpaf_line.specs.Rendering.{Renders}
+use Rattle.bpaf_messages.specs.Leftover.{IsLeftover}
+use Rattle.bpaf_messages.specs.Rendering.{Renders}
 use Rattle.bpaf_line.specs.Situation.{Context, Situation, beginning}
 use Rattle.bpaf_laws.specs.Reading.{Outcome}
 use Rattle.bpaf_words.specs.Arguments.{Given}
-use Rattle.bpaf_core.specs.declared.info.ExtraParams.{ExtraParams}
-use Rattle.bpaf_core.specs.declared.info.ExtraParams.TheVariants as extra
+use Rattle.bpaf_parts.specs.declared.info.ExtraParams.{ExtraParams}
+use Rattle.bpaf_parts.specs.declared.info.ExtraParams.TheVariants as extra
 use Rattle.bpaf_core.specs.Ending as ending
 use Rattle.bpaf_core.specs.Ending.{EndsRun, Shows, ShowsHelp, Tells, is_answer}
-use Rattle.bpaf_core.specs.Info.{RunInfo}
+use Rattle.bpaf_parts.specs.Info.{RunInfo}
 use Rattle.bpaf_core.specs.Refusals.{IsHandedOn, IsNamed, IsOneOfTwelve, Refusal, refusal_of}
 use Rattle.bpaf_core.specs.Refusals as name
 use Rattle.bpaf_core.specs.Run as run

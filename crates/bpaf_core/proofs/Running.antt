@@ -10,7 +10,7 @@ use Rattle.bpaf_line.specs.Situation.{Situation, Context, beginning}
 use Rattle.bpaf_line.specs.Constructing.{Constructs, IsContext, RefusesLine}
 use Rattle.bpaf_laws.specs.Reading.{Outcome}
 use Rattle.bpaf_doc.specs.Shape.{Shape}
-use Rattle.bpaf_core.specs.Info.{RunInfo}
+use Rattle.bpaf_parts.specs.Info.{RunInfo}
 use Rattle.bpaf_core.specs.Known.{known_names, ShowsNames, ReadsNames, IsLineContext}
 use Rattle.bpaf_words.specs.Arguments.{Given}
 use Rattle.bpaf_words.specs.declared.arg.Arg.{Arg}
@@ -19,7 +19,7 @@ use Rattle.std.specs.Prelude.{codes, flat_map}
 use Rattle.bpaf_words.specs.Line.{HasNoLine, HaveNoJoined, IsLine, marked, unmarked}
 use Rattle.bpaf_words.specs.Spelling.{Items, Known, Spells, knowing}
 use Rattle.bpaf_words.proofs.NotJoined.{line_alone, never_without_line}
-use Rattle.bpaf_line.specs.Rendering.{Renders}
+use Rattle.bpaf_messages.specs.Rendering.{Renders}
 use Rattle.bpaf_core.specs.Ending.{EndsRun, TellsFault}
 use Rattle.bpaf_core.specs.Run.{Runs, RunsWords, ran, no_line, no_memory}
 

@@ -13,7 +13,8 @@ use Rattle.bpaf_laws.specs.AdjacentCommand.{AdjacentReads, AllTaken, IsFirstLeft
 use Rattle.bpaf_laws.specs.Command.{Called, CommandReads, IsNotOpened, IsOpenedAt, inside, opened}
 use Rattle.bpaf_laws.specs.Command.{opening_words}
 use Rattle.bpaf_laws.specs.Reading.{Outcome, Readings}
-use Rattle.bpaf_core.specs.Command.{CommandOutcome, IsMissingPart, end_message}
+use Rattle.bpaf_core.specs.Command.{CommandOutcome, IsMissingPart}
+use Rattle.bpaf_parts.specs.Failures.{end_message}
 use Rattle.bpaf_core.specs.Ending.{Ending}
 use Rattle.bpaf_core.specs.Run.{Runs}
 

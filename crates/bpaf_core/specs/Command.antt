@@ -5,21 +5,14 @@ use Rattle.bpaf_line.specs.declared.error.Error.{Error}
 use Rattle.bpaf_line.specs.declared.error.Message.{Message}
 use Rattle.bpaf_line.specs.declared.error.Message.TheVariants as message
 use Rattle.bpaf_line.specs.declared.failure.ParseFailure.{ParseFailure}
-use Rattle.bpaf_line.specs.declared.failure.ParseFailure.TheVariants as failure
 use Rattle.bpaf_line.specs.declared.missing.MissingItem.{MissingItem}
 use Rattle.bpaf_line.specs.MissingIn.{IsMissingIn}
 use Rattle.bpaf_line.specs.Situation.{Situation, with_current}
 use Rattle.bpaf_laws.specs.Reading.{Outcome}
 use Rattle.bpaf_laws.specs.Command.{Called, IsNotOpened, IsOpenedAt, inside, opened, opening_words}
+use Rattle.bpaf_parts.specs.Failures.{end_message}
 use Rattle.bpaf_core.specs.Ending.{Ending}
 use Rattle.bpaf_core.specs.Run.{Runs}
-
--- the end of an inner run as a refusal, which nothing but `catch` catches; want of memory stays
--- that
-abbrev pub end_message : ParseFailure → Message
-end_message failure.Memory = message.Memory
-end_message (failure.Stdout text full) = message.ParseFailure (failure.Stdout text full)
-end_message (failure.Stderr text) = message.ParseFailure (failure.Stderr text)
 
 -- a part that the command may show is missing; or memory for that is wanted
 abbrev pub IsMissingPart : (Part → Type 0) → Situation → Message → Type 0

@@ -20,7 +20,8 @@ use Rattle.bpaf_core.specs.Ending.{Ending}
 use Rattle.bpaf_core.specs.EndingLaws.{LawfulEnding}
 use Rattle.bpaf_core.specs.Run.{Runs, leftover, refused}
 use Rattle.bpaf_core.specs.Run.{value as run_value}
-use Rattle.bpaf_core.specs.Command.{CommandOutcome, ended, end_message, missing, no_memory, value}
+use Rattle.bpaf_core.specs.Command.{CommandOutcome, ended, missing, no_memory, value}
+use Rattle.bpaf_parts.specs.Failures.{end_message}
 
 -- a run's answer that isn't told as want of memory
 abbrev pub IsNotWant : {T : Type 0} → Result T ParseFailure → Type 0

@@ -2,23 +2,23 @@
 use Rattle.std.specs.Prelude.{◌≡◌, ◌⊎◌, ℕ, ◌==◌, Bool, true, false, not, ◌&&◌, List, [], ◌++◌, Option, Some}
 use Rattle.std.specs.Prelude.{None, Ok, Err, codes, ⊤}
 use Rattle.bpaf_doc.specs.declared.doc.Piece.{Piece}
-use Rattle.bpaf_doc.specs.Help.{help_text}
-use Rattle.bpaf_doc.specs.Joined.{Print, Prints}
-use Rattle.bpaf_doc.specs.Print.{printed}
+use Rattle.bpaf_pages.specs.Help.{help_text}
+use Rattle.bpaf_doc.specs.Prints.{Prints}
 use Rattle.bpaf_doc.specs.Shape.{Shape}
 use Rattle.bpaf_line.specs.declared.error.Error.{Error}
 use Rattle.bpaf_line.specs.declared.error.Message.{Message}
 use Rattle.bpaf_line.specs.declared.error.Message.TheVariants as message
 use Rattle.bpaf_line.specs.declared.failure.ParseFailure.{ParseFailure}
 use Rattle.bpaf_line.specs.declared.failure.ParseFailure.TheVariants as failure
-use Rattle.bpaf_line.specs.Leftover.{IsLeftover}
+use Rattle.bpaf_messages.specs.Leftover.{IsLeftover}
 use Rattle.bpaf_line.specs.Messages.{is_memory}
-use Rattle.bpaf_line.specs.Rendering.{Renders}
+use Rattle.bpaf_messages.specs.Rendering.{Renders}
 use Rattle.bpaf_line.specs.Situation.{Context, Situation, beginning, open_count}
-use Rattle.bpaf_core.specs.declared.info.ExtraParams.{ExtraParams}
-use Rattle.bpaf_core.specs.declared.info.ExtraParams.TheVariants as extra
-use Rattle.bpaf_core.specs.Extra.{ExtraOutcome, extra_shape}
-use Rattle.bpaf_core.specs.Info.{RunInfo, page_texts}
+use Rattle.bpaf_parts.specs.declared.info.ExtraParams.{ExtraParams}
+use Rattle.bpaf_parts.specs.declared.info.ExtraParams.TheVariants as extra
+use Rattle.bpaf_parts.specs.Extra.{ExtraOutcome, extra_shape}
+use Rattle.bpaf_parts.specs.Info.{RunInfo, page_texts}
+use Rattle.bpaf_parts.specs.Version.{ShowsVersion}
 
 -- what a run ends with that has no value, and the situation that it leaves: the message of its
 -- parser, or none where that left items; the situation before the parser, and the one that it left
@@ -38,16 +38,6 @@ ShowsHelp describes info more s (failure.Stdout doc full) =
     IsHelp describes info s doc × (full ≡ more)
 ShowsHelp describes info more s (failure.Stderr doc) = ⊥
 ShowsHelp describes info more s failure.Memory = ⊤
-
--- the text of a version
-abbrev pub version_text : List Piece → Print
-version_text version full = codes "Version: " ++ printed full version ++ codes "\n"
-
--- a version is shown; or memory for it is wanted
-abbrev pub ShowsVersion : List Piece → ParseFailure → Type 0
-ShowsVersion version (failure.Stdout doc full) = Prints (version_text version) doc × (full ≡ false)
-ShowsVersion version (failure.Stderr doc) = ⊥
-ShowsVersion version failure.Memory = ⊤
 
 -- what was asked for is shown
 abbrev pub Shows : (Shape → Type 0) → RunInfo → ExtraParams → Situation → ParseFailure → Type 0

@@ -8,7 +8,7 @@ use Rattle.bpaf_words.specs.Line.{HaveNoJoined}
 use Rattle.bpaf_words.specs.Spelling.{Known, knowing}
 use Rattle.bpaf_line.specs.Constructing.{IsContext}
 use Rattle.bpaf_line.specs.Situation.{Context}
-use Rattle.bpaf_core.specs.Info.{RunInfo}
+use Rattle.bpaf_parts.specs.Info.{RunInfo}
 
 -- those of the flags and arguments that a parser shows, and as flags those of help and version
 abbrev pub known_names : RunInfo → Shape → Known

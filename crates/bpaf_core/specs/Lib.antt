@@ -1,7 +1,4 @@
-pub mod Info
 pub mod Known
-pub mod Extra
-pub mod ExtraLaws
 pub mod Ending
 pub mod Run
 pub mod Refusals
@@ -11,4 +8,3 @@ pub mod EndingLaws
 pub mod CommandLaws
 pub mod Adjacent
 pub mod AdjacentLaws
-pub mod Branches

@@ -6,11 +6,11 @@ use Rattle.bpaf_line.specs.declared.failure.ParseFailure.{ParseFailure}
 use Rattle.bpaf_line.specs.declared.failure.ParseFailure.TheVariants as failure
 use Rattle.bpaf_words.specs.Arguments.{Given}
 use Rattle.bpaf_words.specs.Line.{HasNoLine}
-use Rattle.bpaf_line.specs.Rendering.{Renders}
+use Rattle.bpaf_messages.specs.Rendering.{Renders}
 use Rattle.bpaf_line.specs.Situation.{Situation, Context, beginning, open_count}
 use Rattle.bpaf_doc.specs.Shape.{Shape}
 use Rattle.bpaf_core.specs.Ending.{Ending, EndsRun}
-use Rattle.bpaf_core.specs.Info.{RunInfo}
+use Rattle.bpaf_parts.specs.Info.{RunInfo}
 use Rattle.bpaf_core.specs.Known.{known_names, IsLineContext}
 use Rattle.bpaf_laws.specs.Reading.{Outcome}
 

@@ -5,12 +5,12 @@ ghost use Rattle.bpaf_line.specs.Messages.{is_memory};
 ghost use Rattle.bpaf_laws.specs.AdjacentCommand.{AllTaken, IsFirstLeft};
 ghost use Rattle.bpaf_core.specs.Ending.{EndsRun};
 ghost use Rattle.bpaf_core.specs.Adjacent.{AdjacentRuns, Attempt, Attempts, GivesBack, Retry};
-ghost use Rattle.bpaf_core.specs.Command.{end_message};
+ghost use Rattle.bpaf_parts.specs.Failures.{end_message};
 
-use crate::branch::resume;
 use crate::options::OptionParser;
 use crate::parser::Parser;
 use bpaf_line::{Mark, ParseFailure, State, Steps};
+use bpaf_parts::resume;
 
 /// Whether an inner run ended for want of memory. It takes none.
 fn is_want(failure: &ParseFailure) -> bool

@@ -1,10 +1,10 @@
+//! Arguments.
 ghost use Rattle.bpaf_laws.specs.Argument.{TakesText};
 
-use crate::environment::{absence, first_set};
 use crate::parser::Parser;
-use crate::value::read_text;
 use bpaf_doc::Meta;
 use bpaf_line::{Error, State};
+use bpaf_parts::{absence, first_set, read_text};
 use bpaf_text::{FromText, ParseArgument};
 use std::alloc::{AllocError, Global};
 

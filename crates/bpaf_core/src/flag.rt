@@ -1,22 +1,10 @@
-ghost use Rattle.bpaf_laws.specs.Flag.{IsPresent};
-
-use crate::environment::{absence, first_set};
+//! Flags.
 use crate::parser::Parser;
 use bpaf_doc::Meta;
 use bpaf_line::{Error, State};
-use bpaf_text::{NamedArg, ParseFlag};
+use bpaf_parts::{absence, is_present};
+use bpaf_text::ParseFlag;
 use std::alloc::{AllocError, Global};
-
-/// Whether a key without a value is present: the first one in scope with one of the names, which is
-/// taken; or, where there is none, one of its names in the environment that is set. It takes no memory.
-///
-/// It is the one test for flags and for the keys that ask for help and for the version.
-pub(crate) fn is_present(named: &NamedArg, state: &mut State) -> bool
-    ensures { IsPresent named.now state.old result state.new }
-{
-    let found = state.take_flag(named.shorts(), named.longs());
-    found || first_set(state, named.envs()).is_some()
-}
 
 /// Present where a key with one of the names is taken, or else where one of its names in the
 /// environment is set; else absent (bpaf's `ParseFlag`, in `params.rs`).

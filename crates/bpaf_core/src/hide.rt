@@ -1,23 +1,9 @@
-ghost use Rattle.std.specs.Prelude.{◌≡◌};
-ghost use Rattle.bpaf_laws.specs.Hide.{hidden};
-
+//! Parsers that are not shown.
 use crate::parser::Parser;
 use bpaf_doc::Meta;
-use bpaf_line::{Error, Message, MissingItems, State};
+use bpaf_line::{Error, State};
+use bpaf_parts::hide;
 use std::alloc::{AllocError, Global};
-
-/// The refusal, in which no missing item is named. It takes no memory.
-fn hide(alloc: Global, message: Message) -> Message
-    ensures { result ≡ hidden message }
-{
-    match message {
-        Message::Missing(items) => {
-            drop(items);
-            Message::Missing(MissingItems::none(alloc))
-        }
-        other => other,
-    }
-}
 
 /// A parser that isn't shown (bpaf's `ParseHide`, in `structs.rs`).
 #[derive(Drop)]

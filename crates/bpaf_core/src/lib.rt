@@ -1,6 +1,7 @@
 //! Parsers: what reads a value off a line, and a run over a whole line.
 //!
-//! It stands on `bpaf_doc`, `bpaf_line` and `bpaf_text`. For the layers above:
+//! It stands on `bpaf_parts`, whose [`Info`], [`CommandNames`] and [`read_text`] it hands on, and on the
+//! crates below that. For the layers above:
 //!
 //! - [`Parser`] is the trait of every parser. By its ghost members an implementation says what it
 //!   means: `reads`, which values may be read off which places of a line; `outcome`, what one
@@ -21,9 +22,8 @@
 //!   the start and one (clause `repeat_is_bounded`), and none catches want of memory (clause
 //!   `memory_is_never_caught`).
 //! - [`ParseOrElse`] is one of two parsers, both evaluated from the same state: the table of
-//!   [`this_or_that`] tells which answer stands (specs/Choice.antt). That function, [`Start`],
-//!   [`Branch`], [`or_meta`] and [`is_want`] are for the crates of this repository, not for callers.
-//!   The branch that took the leftmost place taken by only one of them wins (clause `leftmost_wins`).
+//!   [`this_or_that`] tells which answer stands. That function, [`Start`], [`Branch`], [`or_meta`] and
+//!   [`is_want`] are for the crates of this repository, not for callers. The branch that took the leftmost place taken by only one of them wins (clause `leftmost_wins`).
 //! - [`ParseHide`] names no missing item in its refusals (specs/Hide.antt); [`ParseUsage`],
 //!   [`ParseGroupHelp`] and [`ParseWithGroupHelp`] change only what is shown: their outcome, their
 //!   readings and their law are those of the parser inside.
@@ -42,16 +42,14 @@
 
 mod adjacent;
 mod argument;
-mod branch;
 mod choice;
 mod collect;
 mod commands;
 mod count;
-mod environment;
+mod extra;
 mod fallback;
 mod flag;
 mod hide;
-mod info;
 mod laws;
 mod optional;
 mod options;
@@ -59,16 +57,17 @@ mod parser;
 mod repeat;
 mod transform;
 mod usage;
-mod value;
 
-pub use branch::{Branch, Start};
-pub use choice::{ParseOrElse, is_want, or_meta, this_or_that};
+pub use bpaf_parts::{
+    Branch, CommandNames, ExtraParams, Info, Start, is_want, or_meta, read_text, this_or_that,
+    value_or_refusal,
+};
+pub use choice::ParseOrElse;
 pub use collect::ParseCollect;
-pub use commands::{CommandNames, ParseCommand, command};
+pub use commands::{ParseCommand, command};
 pub use count::{ParseCount, ParseLast};
 pub use fallback::{ParseFallback, ParseFallbackWith};
 pub use hide::ParseHide;
-pub use info::{ExtraParams, Info};
 pub use laws::count_falls;
 pub use optional::ParseOptional;
 pub use options::OptionParser;
@@ -76,4 +75,3 @@ pub use parser::Parser;
 pub use repeat::{ParseMany, ParseSome};
 pub use transform::{ParseGuard, ParseMap, ParseWith};
 pub use usage::{ParseGroupHelp, ParseUsage, ParseWithGroupHelp};
-pub use value::{read_text, value_or_refusal};

@@ -1,9 +1,9 @@
 //! A run of a parser over words.
 ghost use Rattle.std.specs.Prelude.{◌≡◌, ◌==◌, ◌&&◌, not, IfOk, List, None, Ok, Some, option_map, true};
 ghost use Rattle.bpaf_doc.specs.declared.doc.Piece.{Piece};
-ghost use Rattle.bpaf_doc.specs.Joined.{Prints};
+ghost use Rattle.bpaf_doc.specs.Prints.{Prints};
 ghost use Rattle.bpaf_doc.specs.Shape.{Shape};
-ghost use Rattle.bpaf_doc.specs.Usage.{usage_text};
+ghost use Rattle.bpaf_pages.specs.Usage.{usage_text};
 ghost use Rattle.bpaf_line.specs.Situation.{open_count};
 ghost use Rattle.bpaf_words.specs.Arguments.{given_of, name_of, words_of};
 ghost use Rattle.bpaf_core.specs.Known.{ReadsNames, ShowsNames, TellsOrder};
@@ -14,10 +14,12 @@ ghost use Rattle.bpaf_core.specs.Ending.{PassesOrTells, TellsFault, is_shown};
 ghost use Rattle.bpaf_core.specs.Refusals.{IsOneOfTwelve};
 ghost use Rattle.std.specs.Result.{IfErr};
 
-use crate::info::{ExtraParams, Info, version_page};
 use crate::parser::Parser;
-use bpaf_doc::{Doc, MetaInfo};
+use bpaf_doc::Doc;
 use bpaf_line::{Message, ParseFailure, State};
+use bpaf_messages::{leftover, render};
+use bpaf_pages::usage_of;
+use bpaf_parts::{ExtraParams, Info, version_page};
 use bpaf_text::NamedArg;
 use bpaf_words::{Args, any_joined};
 use std::alloc::{AllocError, Global};
@@ -158,7 +160,7 @@ impl<T: Drop, P: Parser<T>> OptionParser<T, P> {
             × (parser ≡ record self { info = record self.info { usage = Some usage } })) }
     {
         let meta = self.inner.meta(self.alloc)?;
-        let usage = f(MetaInfo::new(&meta).usage(self.alloc)?)?;
+        let usage = f(usage_of(self.alloc, &meta)?)?;
         Ok(self.usage(usage))
     }
 
@@ -243,7 +245,7 @@ impl<T: Drop, P: Parser<T>> OptionParser<T, P> {
         let usage = self.wants_usage(state);
         match self.inner.eval(state) {
             Ok(value) => {
-                let Some(message) = state.leftover() else {
+                let Some(message) = leftover(state) else {
                     return Ok(value);
                 };
                 drop(value);
@@ -297,7 +299,7 @@ impl<T: Drop, P: Parser<T>> OptionParser<T, P> {
         ensures { Tells (P.describes self.now.inner) self.now.info message
             state.old result state.new }
     {
-        match self.info.eval(state) {
+        match self.info.look(state) {
             Ok(ExtraParams::Help(full)) => {
                 drop(message);
                 self.help(state, full)
@@ -312,7 +314,7 @@ impl<T: Drop, P: Parser<T>> OptionParser<T, P> {
                     return ParseFailure::Memory;
                 }
                 drop(error);
-                message.render(state)
+                render(message, state)
             }
         }
     }
@@ -359,7 +361,7 @@ fn tell_fault(alloc: Global, args: Args<'_>, message: Message) -> ParseFailure
 {
     let words: [&str; 0] = [];
     match State::construct(alloc, renamed(Args::from(&words), args.name()), &[], &[]) {
-        Ok(state) => message.render(&state),
+        Ok(state) => render(message, &state),
         Err(fault) => {
             drop(fault);
             drop(message);

@@ -1,13 +1,12 @@
 ghost use Rattle.std.specs.Prelude.{◌≡◌, IfOk, false, Some, None};
 ghost use Rattle.bpaf_doc.specs.Shape.{shape_of};
-ghost use Rattle.bpaf_core.specs.Info.{plain_info};
+ghost use Rattle.bpaf_parts.specs.Info.{plain_info};
 
 use crate::choice::ParseOrElse;
 use crate::collect::ParseCollect;
 use crate::count::{ParseCount, ParseLast};
 use crate::fallback::{ParseFallback, ParseFallbackWith};
 use crate::hide::ParseHide;
-use crate::info::Info;
 use crate::optional::ParseOptional;
 use crate::options::OptionParser;
 use crate::repeat::{ParseMany, ParseSome};
@@ -15,6 +14,7 @@ use crate::transform::{ParseGuard, ParseMap, ParseWith};
 use crate::usage::{ParseGroupHelp, ParseUsage, ParseWithGroupHelp};
 use bpaf_doc::{Doc, Meta, MetaInfo};
 use bpaf_line::{Error, State};
+use bpaf_parts::Info;
 use bpaf_text::FromList;
 use std::alloc::{AllocError, Global};
 use std::fmt::Display;

@@ -12,7 +12,7 @@ use Rattle.bpaf_laws.specs.Flag.{FlagOutcome}
 use Rattle.bpaf_laws.specs.Product.{BothOutcome, ProductOutcome}
 use Rattle.bpaf_laws.specs.Reading.{Outcome}
 use Rattle.bpaf_laws.specs.Repeat.{ManyOutcome}
-use Rattle.bpaf_core.specs.Info.{plain_info}
+use Rattle.bpaf_parts.specs.Info.{plain_info}
 use Rattle.bpaf_exact.specs.Leaves.{WordRan, flag_field, argument_field, word_field}
 use Rattle.bpaf_exact.specs.OneView.{Alike, HasOneView, pair_view}
 use Rattle.bpaf_exact.specs.Record.{RecordValue}

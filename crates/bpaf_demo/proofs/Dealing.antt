@@ -27,7 +27,7 @@ use Rattle.bpaf_laws.proofs.FlagLaws.{flag_lawful}
 use Rattle.bpaf_laws.proofs.ProductLaws.{both_lawful, product_lawful}
 use Rattle.bpaf_laws.proofs.RepeatLaws.{many_lawful}
 use Rattle.bpaf_core.specs.declared.repeat.ParseMany.{ParseMany}
-use Rattle.bpaf_core.specs.Info.{RunInfo, plain_info}
+use Rattle.bpaf_parts.specs.Info.{RunInfo, plain_info}
 use Rattle.bpaf_core.specs.Known.{IsLineContext, known_names}
 use Rattle.bpaf_core.specs.Dealt.{IsDealtOut}
 use Rattle.bpaf_core.specs.Run.{RunsWords}

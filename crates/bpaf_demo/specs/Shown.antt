@@ -8,7 +8,7 @@ use Rattle.bpaf_line.specs.declared.failure.ParseFailure.{ParseFailure}
 use Rattle.bpaf_line.specs.declared.failure.ParseFailure.TheVariants as failure
 use Rattle.bpaf_laws.specs.Argument.{argument_shape}
 use Rattle.bpaf_laws.specs.Flag.{flag_shape}
-use Rattle.bpaf_core.specs.Info.{plain_info}
+use Rattle.bpaf_parts.specs.Info.{plain_info}
 use Rattle.bpaf.specs.Asked.{WasAsked}
 use Rattle.bpaf.specs.declared.leaves.positional.Position.TheVariants.{Unrestricted}
 use Rattle.bpaf.specs.Positional.{positional_shape}

@@ -1,7 +1,7 @@
 ghost use Rattle.std.specs.Prelude.{◌≡◌, IfOk, None};
 ghost use Rattle.bpaf_doc.specs.Shape.{shape_of};
 ghost use Rattle.bpaf_laws.specs.Command.{CommandDescribes};
-ghost use Rattle.bpaf_core.specs.Info.{plain_info};
+ghost use Rattle.bpaf_parts.specs.Info.{plain_info};
 ghost use Rattle.bpaf_described.specs.Commands.{CalledOutcome};
 
 use crate::lent::Lent;

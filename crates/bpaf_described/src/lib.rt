@@ -1,7 +1,7 @@
 //! Parsers described as data: text is read to a parser that answers as the parsers of `bpaf` do.
 //!
-//! It stands on `bpaf`. A description is a list of tokens ([`Description`]); docs/BENCH.md says how it
-//! is written. [`read_parser`] makes a parser of it. That is a [`Level`] over levels over a [`Leaf`]:
+//! It stands on `bpaf`, and hands on `bpaf_tokens`: a description is a list of tokens
+//! ([`Description`]); docs/BENCH.md says how it is written. [`read_parser`] makes a parser of it. That is a [`Level`] over levels over a [`Leaf`]:
 //! a leaf is one option or word, told as a [`Value`], and a level holds its inner parsers once, beside
 //! a [`Kind`], and makes the parser of that kind over lent ones at each evaluation. So a level more
 //! costs a proof nothing, and [`SixLevels`] is enough for the combinations of this repository's rows.
@@ -29,16 +29,15 @@ mod names;
 mod one_text;
 mod product;
 mod several;
-mod tokens;
 mod value;
 
 pub use as_value::AsValue;
+pub use bpaf_tokens::{Description, Fault, Place, Problem, Token, Tokens};
 pub use described::{Described, read_parser};
 pub use kind::{Kind, Modifier};
 pub use leaf::{Answer, Leaf};
 pub use level::Level;
 pub use one_text::OneText;
-pub use tokens::{Description, Fault, Place, Problem, Token, Tokens};
 pub use value::{Told, Value};
 
 /// A described parser: six combinations may stand in one another over a leaf.

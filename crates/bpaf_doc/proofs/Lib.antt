@@ -1,6 +1,4 @@
 pub mod Cutting
+pub mod Emptiness
 pub mod Folding
 pub mod Gathering
-pub mod Joining
-pub mod Listing
-pub mod Paging

@@ -1,4 +1,5 @@
 pub mod Print
+pub mod Prints
 pub mod Fold
 pub mod Names
 pub mod Order
@@ -6,9 +7,3 @@ pub mod Shape
 pub mod ItemText
 pub mod Walks
 pub mod InsideText
-pub mod Joined
-pub mod Usage
-pub mod Lines
-pub mod Help
-pub mod InsideLine
-pub mod InsideHelp

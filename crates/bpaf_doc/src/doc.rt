@@ -1,6 +1,6 @@
 ghost use Rattle.std.specs.Prelude.{◌≡◌, ◌==◌, Bool, true, IfOk, OnOk, OnErr, List, [], ◌∷◌, ◌++◌, map, string_bytes};
 ghost use Rattle.std.specs.List.{before_first};
-ghost use Rattle.bpaf_doc.specs.Joined.{prints, is_empty};
+ghost use Rattle.bpaf_doc.specs.Prints.{prints, is_empty};
 ghost use Rattle.bpaf_doc.specs.Print.{printed, shown_as, in_backticks, first_line};
 ghost use Rattle.bpaf_doc.specs.Fold.{TextPieces, folded_whole};
 
@@ -253,8 +253,8 @@ impl Doc {
         Ok(Some(doc))
     }
 
-    /// Whether it prints nothing, also in full.
-    pub(crate) fn is_empty(&self) -> bool
+    /// Whether it prints nothing, also in full. It takes no memory.
+    pub fn is_empty(&self) -> bool
         ensures { result ≡ is_empty (prints self.now) }
     {
         for piece in &self.pieces {

@@ -13,11 +13,9 @@
 //!   written for an item inside messages and usage is its `item_text` (specs/ItemText.antt). The
 //!   walks over a tree, and over one that is lent, gather short names and find the first item
 //!   (specs/Walks.antt), and tell whether words stand behind keys (specs/Order.antt).
-//! - A lent tree has a usage text (specs/Usage.antt) and a help page (specs/Help.antt), for which a
-//!   program gives [`HelpTexts`]. Both are said as texts in two prints, with the detail and without
-//!   it; whether a text is empty, and so left out, is told by its full print (specs/Joined.antt).
-//!   The lines of a page are those of the items that a tree shows, in order, each with the place
-//!   where it stands (specs/Lines.antt).
+//!
+//! What a whole tree is printed as, its usage text and its help page, stands beside this crate, in
+//! `bpaf_pages`.
 //!
 //! The source of the design is bpaf's `buffer.rs`, `item.rs` and `meta.rs`.
 #![tactic(auto)]
@@ -25,26 +23,15 @@
 mod copies;
 mod doc;
 mod fold;
-mod help;
 mod item;
 mod item_text;
-mod joined;
-mod lines;
 mod meta;
 mod order;
-mod rows;
 mod short;
 mod text;
-mod usage;
 mod walks;
 
 pub use doc::{Doc, Piece, Style};
-pub use help::HelpTexts;
 pub use item::{Item, Metavar, ShortLong};
 pub use meta::{Meta, MetaInfo};
 pub use text::Text;
-
-#[cfg(test)]
-mod page_tests;
-#[cfg(test)]
-mod tests;

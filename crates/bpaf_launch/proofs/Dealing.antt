@@ -20,7 +20,7 @@ use Rattle.bpaf_laws.specs.Repeat.{ManyReads, ManyOutcome, ManyDescribes}
 use Rattle.bpaf_laws.specs.Product.{BothReads, ProductReads, BothOutcome, ProductOutcome}
 use Rattle.bpaf_laws.specs.Product.{BothDescribes, LastDescribes, ProductDescribes}
 use Rattle.bpaf_laws.proofs.FlagLaws.{flag_lawful}
-use Rattle.bpaf_core.specs.Info.{RunInfo, plain_info}
+use Rattle.bpaf_parts.specs.Info.{RunInfo, plain_info}
 use Rattle.bpaf_core.specs.Known.{known_names}
 use Rattle.bpaf_core.specs.Dealt.{IsDealtOut}
 use Rattle.bpaf_core.specs.Run.{RunsWords}

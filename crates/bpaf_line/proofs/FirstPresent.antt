@@ -6,7 +6,7 @@ use Rattle.std.proofs.lemmas.Bool.{cases_lt, true≢false}
 use Rattle.std.proofs.lemmas.Bool.Decides.{nat_tests}
 use Rattle.std.specs.List.{range_with_len}
 use Rattle.std.specs.Prelude.{cond}
-use Rattle.bpaf_line.specs.MissingText.{first_present, IsFirstPresentWithin}
+use Rattle.bpaf_line.specs.Within.{first_present, IsFirstPresentWithin}
 use Rattle.bpaf_line.specs.Situation.{Situation, is_taken}
 
 -- no number of a row passes a test

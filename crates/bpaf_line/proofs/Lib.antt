@@ -1,4 +1,3 @@
-pub mod Appended
 pub mod Counts
 pub mod BitLemmas
 pub mod Chained

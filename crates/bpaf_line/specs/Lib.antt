@@ -11,14 +11,10 @@ pub mod Inside
 pub mod Marks
 pub mod MissingIn
 pub mod Taking
+pub mod Within
 pub mod Finding
 pub mod OpenItems
 pub mod Conflicts
 pub mod Constructing
 pub mod TakenPlaces
 pub mod Runs
-pub mod Leftover
-pub mod Shown
-pub mod MissingText
-pub mod Rendering
-pub mod EarlierKey

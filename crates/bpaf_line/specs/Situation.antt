@@ -38,6 +38,10 @@ is_marker (Some m) p = p == m
 abbrev pub item_in : Context → ℕ → Option Arg
 item_in context p = if is_marker context.marker p then None else slice_get context.line p
 
+-- the item at a place of the line, taken or not; the marker is one too
+abbrev pub line_item : Situation → ℕ → Option Arg
+line_item s p = slice_get s.context.line p
+
 -- the item at a place
 abbrev pub item_at : Situation → ℕ → Option Arg
 item_at s p = item_in s.context p

@@ -68,8 +68,9 @@ impl State {
         Ok(())
     }
 
-    /// What the conflict mark of a place names, where it has one; a taken place has none.
-    pub(crate) fn conflict_at(&self, place: usize) -> Option<usize>
+    /// What the conflict mark of a place names, where it has one; a taken place has none. It takes no
+    /// memory.
+    pub fn conflict_at(&self, place: usize) -> Option<usize>
         ensures { result ≡ conflict_at self.now place }
     {
         if self.is_taken(place) {

@@ -21,9 +21,8 @@
 //! - [`Message`], [`Error`] and [`ParseFailure`] say why a parser, or a whole run, gives no value. A
 //!   [`Message`] is want of memory (`is_memory`), one past which an optional parser goes on
 //!   (`can_catch`), one for which the words are at fault (`is_wrong_input`; specs/Messages.antt), or
-//!   none of these. Of two there is one by `Combines` (specs/Combining.antt). [`Message::render`]
-//!   tells one: its text is `message_text` (specs/Rendering.antt).
-//! - [`State::earlier_key`] is the last key of the same name before a place (specs/EarlierKey.antt).
+//!   none of these. Of two there is one by `Combines` (specs/Combining.antt). What is told of one
+//!   stands beside this crate's callers, in `bpaf_messages`.
 //!
 //! The source of the design is bpaf's `args.rs` and `error.rs`.
 #![tactic(auto)]
@@ -33,21 +32,16 @@ mod bits;
 mod chains;
 mod conflict;
 mod construct;
-mod earlier;
 mod error;
 mod failure;
 mod find;
 mod iter;
-mod leftover;
 mod mark;
 mod missing;
-mod render;
-mod render_ambiguity;
-mod render_missing;
-mod shown;
 mod state;
 mod take;
 mod taken;
+mod whole_line;
 
 pub use error::{Error, Message};
 pub use failure::ParseFailure;

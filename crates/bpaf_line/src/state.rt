@@ -106,6 +106,16 @@ impl State {
         self.path.len()
     }
 
+    /// The set name, where there is one.
+    pub fn name(&self) -> Option<&str>
+        ensures { option_copied result ≡ self.now.context.name }
+    {
+        match &self.name {
+            Some(name) => Some(name.as_str()),
+            None => None,
+        }
+    }
+
     /// The set name, where there is one, and then the names that were put on the path.
     pub fn path(&self) -> &[String]
         ensures path { map string_bytes result.now ≡ self.now.path }
@@ -200,8 +210,8 @@ impl State {
         (place < self.end).then_some(place)
     }
 
-    /// The first present item in scope from a place on, with its place.
-    pub(crate) fn next_open(&self, from: usize) -> Option<(usize, &Arg)>
+    /// The first present item in scope from a place on, with its place. It takes no memory.
+    pub fn next_open(&self, from: usize) -> Option<(usize, &Arg)>
         ensures next { MatchOption result (HasNoneOpen self.now from) (λ r.
             IsNextOpen self.now from r.0 × (open_item self.now r.0 ≡ Some r.1.now)) }
         ensures items { MatchOption result (open_items_from self.now from ≡ []) (λ r.

@@ -9,7 +9,7 @@ use Rattle.bpaf_words.specs.Spelling.{Known, knowing}
 use Rattle.bpaf_words.proofs.OneLine.{one_lines}
 use Rattle.bpaf_line.specs.Constructing.{IsContext}
 use Rattle.bpaf_line.specs.Situation.{Context}
-use Rattle.bpaf_core.specs.Info.{RunInfo}
+use Rattle.bpaf_parts.specs.Info.{RunInfo}
 use Rattle.bpaf_core.specs.Known.{IsLineContext, known_names}
 use Rattle.bpaf_exact.specs.SameParts.{ShowsTheSame}
 

@@ -43,10 +43,3 @@ pub use field::{FlatField, FlatFields};
 pub use form::Form;
 pub use keys::{HasKeys, KeyTest};
 pub use record::Record;
-
-#[cfg(test)]
-mod more_rows;
-#[cfg(test)]
-mod rows;
-#[cfg(test)]
-mod tests;

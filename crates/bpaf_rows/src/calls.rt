@@ -5,7 +5,7 @@
 ghost use Rattle.std.specs.Prelude.{◌≡◌, ◌≤◌, true, length};
 
 use crate::shared::reads;
-use bpaf::{Arg, Args, Error, Message, Metavar, State, Text};
+use bpaf::{Arg, Args, Error, Message, Metavar, State, Text, earlier_key, leftover};
 use std::alloc::{AllocError, Global};
 use std::fmt::Debug;
 use std::process::Abort;
@@ -134,8 +134,8 @@ fn look(state: &State, call: Call<'_>, answers: &mut String) -> Result<(), Alloc
         Call::Path => tell(state.path(), answers),
         Call::Env(name) => tell(state.env(name), answers),
         Call::Present(place) => tell(state.present(place), answers),
-        Call::EarlierKey(place) => tell(state.earlier_key(place), answers),
-        Call::Leftover => tell(state.leftover(), answers),
+        Call::EarlierKey(place) => tell(earlier_key(state, place), answers),
+        Call::Leftover => tell(leftover(state), answers),
         Call::Items => list(state, answers),
         _ => spell(state, answers),
     }

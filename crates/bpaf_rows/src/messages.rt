@@ -223,7 +223,7 @@ fn text(alloc: Global, failure: ParseFailure) -> Result<String, AllocError> {
 /// What a row tells.
 fn rendered(alloc: Global, words: &[&str], told: Told<'_>) -> Result<String, AllocError> {
     match State::construct(alloc, Args::from(words), &[], &[]) {
-        Ok(state) => text(alloc, message(alloc, told)?.render(&state)),
+        Ok(state) => text(alloc, render(message(alloc, told)?, &state)),
         Err(_refused) => Ok(String::new(alloc)),
     }
 }

@@ -39,6 +39,3 @@ pub use from_list::FromList;
 pub use from_text::FromText;
 pub use named::{NamedArg, copy_texts, env, long, short};
 pub use params::{ParseArgument, ParseFlag};
-
-#[cfg(test)]
-mod tests;

@@ -1,7 +1,7 @@
 use Rattle.std.proofs.Common.{◌≡◌, ◌∙◌, ap, rules, subst, sym}
 use Rattle.bpaf_words.specs.Arguments.{given_of}
 use Rattle.bpaf_laws.specs.Command.{named_only}
-use Rattle.bpaf_core.specs.Info.{short_descr}
+use Rattle.bpaf_parts.specs.Info.{short_descr}
 use Rattle.bpaf_chain.specs.Shown.{IsDescribed, IsMoveShape, IsRepeatShape, IsTurnShape, ShowsAs}
 use Rattle.bpaf_chain.specs.Shown.{move_title, repeat_title, turn_title}
 use Rattle.bpaf_chain.proofs.Dealing.{answer_dealt}

@@ -2,8 +2,8 @@ use Rattle.std.proofs.Common.{sym, ◌∙◌, subst}
 use Rattle.bpaf_laws.specs.Choice.{ChoiceOutcome}
 use Rattle.bpaf_laws.proofs.Choosing.{ran_outcome, choice_spared, want_outcome, want_leftmost}
 use Rattle.bpaf_laws.proofs.Leftmost.{leftmost_is_chosen}
-use Rattle.bpaf_core.specs.Branches.{LedTo}
-use Rattle.bpaf_core.proofs.Branching.{start_back, start_kept, second_keeps, branch_kept, chosen_kept}
+use Rattle.bpaf_parts.specs.Branches.{LedTo}
+use Rattle.bpaf_parts.proofs.Branching.{start_back, start_kept, second_keeps, branch_kept, chosen_kept}
 use Rattle.bpaf_core.proofs.choice.ParseOrElseParser.eval.Goals as goal
 
 pub undo-requires-then-is_want-2 : goal.undo-requires-then-is_want-2

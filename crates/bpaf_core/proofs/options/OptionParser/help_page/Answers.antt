@@ -1,9 +1,9 @@
 use Rattle.std.proofs.Common.{subst}
-use Rattle.bpaf_doc.specs.Help.{help_text}
-use Rattle.bpaf_doc.specs.Joined.{Prints}
+use Rattle.bpaf_pages.specs.Help.{help_text}
+use Rattle.bpaf_doc.specs.Prints.{Prints}
 use Rattle.bpaf_doc.specs.Shape.{shape_of}
-use Rattle.bpaf_core.specs.Extra.{extra_shape}
-use Rattle.bpaf_core.specs.Info.{page_texts}
+use Rattle.bpaf_parts.specs.Extra.{extra_shape}
+use Rattle.bpaf_parts.specs.Info.{page_texts}
 use Rattle.bpaf_core.proofs.options.OptionParser.help_page.Goals as goal
 
 pub returns : goal.returns

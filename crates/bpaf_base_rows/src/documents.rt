@@ -1,0 +1,233 @@
+use bpaf_doc::{Doc, Item, Meta, MetaInfo, ShortLong, Style, Text};
+use std::alloc::{AllocError, Global};
+use std::test::Fail;
+
+// What texts print: in full, without the detail, and as their first line, between bars.
+const FOLDED: &[(&str, &str)] = &[
+    ("a\nb", "a b|a b|Some(\"a b\")"),
+    ("a\n b", "a\n b|a\n b|Some(\"a\")"),
+    ("a\n", "a\n|a\n|Some(\"a\")"),
+    ("one\n\ntwo or\nmore", "one\ntwo or more|one|Some(\"one\")"),
+    ("\n\nx", "\nx||None"),
+];
+
+// The first line of a document, as it is printed.
+fn first_line(doc: &Doc) -> Result<Option<String>, AllocError> {
+    match doc.first_line()? {
+        Some(line) => Ok(Some(line.monochrome(false)?)),
+        None => Ok(None),
+    }
+}
+
+// What a document prints, as in `FOLDED`.
+fn prints(alloc: Global, doc: &Doc) -> Result<String, AllocError> {
+    let full = doc.monochrome(true)?;
+    let brief = doc.monochrome(false)?;
+    let line = first_line(doc)?;
+    format!(in alloc; "{full}|{brief}|{line:?}")
+}
+
+// What a document of one text prints.
+fn text_prints(alloc: Global, text: &str) -> Result<String, AllocError> {
+    let doc = Doc::from_text(alloc, text)?;
+    prints(alloc, &doc)
+}
+
+// What a document prints to which each call appended something, and then all of it once more.
+fn grown_prints(alloc: Global) -> Result<String, AllocError> {
+    let mut doc = Doc::from_pieces(alloc, &[("a", Style::Literal), ("b\nc", Style::Text)])?;
+    doc.text("use\n")?;
+    doc.literal("d\n")?;
+    doc.term(Style::Invalid, "-x")?;
+    let copy = doc.copy()?;
+    doc.doc(&copy)?;
+    prints(alloc, &doc)
+}
+
+#[test]
+fn documents_are_printed(rt: HostRuntime) -> Result<(), Fail> {
+    for (text, wanted) in FOLDED {
+        let printed = text_prints(rt.alloc(), *text)?;
+        assert_eq!(rt; printed.as_str(), *wanted);
+    }
+    let wanted = "ab\ncuse\nd\n`-x`ab\ncuse\nd\n`-x`";
+    let printed = grown_prints(rt.alloc())?;
+    assert!(rt; printed.starts_with(wanted));
+    assert!(rt; printed.ends_with("|Some(\"ab\")"));
+    Ok(())
+}
+
+// Trees and what they answer: the short names of the flags and of the arguments, whether no key
+// stands behind a word, and the kind of the first item.
+//
+// A row makes its tree from left to right. W is a word, A a word of any shape, N an argument with
+// the names n and m, any other letter a flag of this name. Behind a tree ? makes it optional,
+// ! strict, # a section and > a command; & and | join the two trees before them to all of both and
+// one of both.
+const TREES: &[(&str, &str)] = &[
+    ("W!N?v&&", "['v'] ['n', 'm'] false word"),
+    ("AN?#&>q|", "['q'] ['n', 'm'] false none"),
+    ("Wa&", "['a'] [] false word"),
+    ("bWa|W&&", "['b', 'a'] [] true key"),
+    ("Wa|b&", "['a', 'b'] [] false none"),
+];
+
+// A word, one of any shape, an argument or a flag.
+fn item(alloc: Global, letter: char) -> Result<Item, AllocError> {
+    match letter {
+        'W' => Ok(Item::Positional {
+            metavar: Text::new(alloc, "FILE")?,
+            help: None,
+        }),
+        'A' => Ok(Item::Any {
+            metavar: Doc::from_text(alloc, "ANY")?,
+            help: None,
+            anywhere: false,
+        }),
+        'N' => argument(alloc),
+        name => Ok(Item::Flag {
+            name: ShortLong::Short(name),
+            shorts: vec![in alloc; name]?,
+            env: None,
+            help: None,
+        }),
+    }
+}
+
+// An argument of which all is said.
+fn argument(alloc: Global) -> Result<Item, AllocError> {
+    Ok(Item::Argument {
+        name: ShortLong::Both('n', Text::new(alloc, "size")?),
+        shorts: vec![in alloc; 'n', 'm']?,
+        metavar: Text::new(alloc, "NUM")?,
+        env: Some(Text::new(alloc, "SIZE")?),
+        help: Some(Doc::from_text(alloc, "how large")?),
+    })
+}
+
+// The last tree, which is taken off.
+fn last(trees: &mut Vec<Meta>) -> Meta {
+    trees.pop().unwrap_or(Meta::Skip)
+}
+
+// The last two trees in order, which are taken off.
+fn last_two(trees: &mut Vec<Meta>) -> Result<Vec<Meta>, AllocError> {
+    let alloc = *trees.allocator();
+    let second = last(trees);
+    let first = last(trees);
+    Ok(vec![in alloc; first, second]?)
+}
+
+// The tree with something around it.
+fn wrapped(alloc: Global, sign: char, inner: Meta) -> Result<Meta, AllocError> {
+    let inner = Box::new(alloc, inner)?;
+    match sign {
+        '?' => Ok(Meta::Optional(inner)),
+        '!' => Ok(Meta::Strict(inner)),
+        '#' => Ok(Meta::Subsection(inner, Doc::from_text(alloc, "Sizes")?)),
+        _ => Ok(Meta::Item(Item::Command {
+            name: Text::new(alloc, "run")?,
+            short: Some('r'),
+            help: None,
+            meta: inner,
+        })),
+    }
+}
+
+// Puts what one sign of a row makes behind the trees so far.
+fn grow(trees: &mut Vec<Meta>, sign: char) -> Result<(), AllocError> {
+    let alloc = *trees.allocator();
+    let tree = match sign {
+        '&' => Meta::And(last_two(trees)?),
+        '|' => Meta::Or(last_two(trees)?),
+        '?' | '!' | '#' | '>' => wrapped(alloc, sign, last(trees))?,
+        letter => Meta::Item(item(alloc, letter)?),
+    };
+    trees.push(tree)?;
+    Ok(())
+}
+
+// The kind of an item.
+fn kind(item: Option<&Item>) -> &'static str {
+    match item {
+        None => "none",
+        Some(Item::Flag { .. }) => "key",
+        Some(Item::Argument { .. }) => "key",
+        Some(_) => "word",
+    }
+}
+
+// What a tree answers, as in `TREES`.
+fn answers(alloc: Global, tree: &Meta) -> Result<String, AllocError> {
+    let mut flags = Vec::new(alloc);
+    let mut arguments = Vec::new(alloc);
+    tree.collect_shorts(&mut flags, &mut arguments)?;
+    let order = tree.positional_order();
+    let first = kind(MetaInfo::new(tree).meta().first_item());
+    format!(in alloc; "{flags:?} {arguments:?} {order} {first}")
+}
+
+// What the copy of a tree answers; nothing where it doesn't tell the same as the tree.
+fn answers_of_copy(alloc: Global, tree: &Meta, copy: &Meta) -> Result<String, AllocError> {
+    let wanted = format!(in alloc; "{tree:?}")?;
+    let told = format!(in alloc; "{copy:?}")?;
+    if told.as_str() == wanted.as_str() {
+        answers(alloc, copy)
+    } else {
+        Ok(String::new(alloc))
+    }
+}
+
+// What a copy of a tree answers.
+fn copy_answers(alloc: Global, tree: &Meta) -> Result<String, AllocError> {
+    let copy = tree.copy()?;
+    answers_of_copy(alloc, tree, &copy)
+}
+
+// What the copy of a row's tree answers.
+fn row_answers(alloc: Global, row: &str) -> Result<String, AllocError> {
+    let mut trees = Vec::new(alloc);
+    for sign in row.chars() {
+        grow(&mut trees, sign)?;
+    }
+    let tree = last(&mut trees);
+    copy_answers(alloc, &tree)
+}
+
+#[test]
+fn trees_answer_and_are_copied(rt: HostRuntime) -> Result<(), Fail> {
+    for (row, wanted) in TREES {
+        let answer = row_answers(rt.alloc(), *row)?;
+        assert_eq!(rt; answer.as_str(), *wanted);
+    }
+    Ok(())
+}
+
+// Texts of each way to be kept: empty, the longest that takes no memory, and longer ones.
+const TEXTS: &[&str] = &[
+    "",
+    "-v",
+    "größer als zuvor",
+    "abcdefghijklmnopqrstuvw",
+    "abcdefghijklmnopqrstuvwx",
+    "abcdefghijklmnopqrstuvñ",
+    "several words that need memory of their own",
+];
+
+// Whether a text and its copy say and print what they were made of, as one made of a String does.
+fn says(alloc: Global, text: &str) -> Result<bool, AllocError> {
+    let made = Text::new(alloc, text)?;
+    let copy = made.copy()?;
+    let owned = Text::from(String::from_str(alloc, text)?);
+    let printed = format!(in alloc; "{made}|{copy:?}")?;
+    let wanted = format!(in alloc; "{text}|{text:?}")?;
+    Ok(copy.as_str() == text && owned.as_str() == text && printed == wanted)
+}
+
+#[test]
+fn texts_say_what_they_are_made_of(rt: HostRuntime) -> Result<(), Fail> {
+    for text in TEXTS {
+        assert!(rt; says(rt.alloc(), *text)?);
+    }
+    Ok(())
+}

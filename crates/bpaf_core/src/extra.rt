@@ -1,0 +1,34 @@
+//! What a run may be asked for beside its value, as a parser.
+use crate::parser::Parser;
+use bpaf_doc::Meta;
+use bpaf_line::{Error, State};
+use bpaf_parts::{ExtraParams, Info};
+use std::alloc::{AllocError, Global};
+
+/// What the run is asked for beside its value, as [`Info::look`] tells it (bpaf's `Info`, in
+/// `info.rs`).
+///
+/// Refused with ParseFail, where neither help nor the version is asked for; and for want of memory.
+impl Parser<ExtraParams> for Info {
+    ghost use Rattle.std.specs.Prelude.{◌≡◌};
+    ghost use Rattle.bpaf_parts.specs.Extra.{ExtraOutcome, ExtraReads, extra_shape};
+    ghost use Rattle.bpaf_parts.specs.ExtraLaws.{extra_lawful};
+
+    ghost can_eval = { λ info. Unit {0} };
+
+    ghost describes = { λ info shape. shape ≡ extra_shape info };
+
+    ghost reads = { λ info. ExtraReads info };
+
+    ghost outcome = { λ info. ExtraOutcome info };
+
+    fn eval(&self, state: &mut State) -> Result<ExtraParams, Error> {
+        self.look(state)
+    }
+
+    fn meta(&self, alloc: Global) -> Result<Meta, AllocError> {
+        self.keys_meta(alloc)
+    }
+
+    ghost lawful = { λ info. extra_lawful info };
+}

@@ -1,6 +1,0 @@
-use Rattle.std.proofs.Common.{arith}
-use Rattle.bpaf_line.proofs.Counts.{count_below-none}
-use Rattle.bpaf_line.proofs.state.State.leftover.Goals as goal
-
-pub returns-in-None : goal.returns-in-None
-returns-in-None c = count_below-none _ _ (λ q below. c.in-None.ensures.next q (omega arith))

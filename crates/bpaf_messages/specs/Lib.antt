@@ -1,0 +1,5 @@
+pub mod Shown
+pub mod EarlierKey
+pub mod Leftover
+pub mod MissingText
+pub mod Rendering

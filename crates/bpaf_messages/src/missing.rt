@@ -1,0 +1,197 @@
+//! The texts of what was expected and is missing.
+ghost use Rattle.std.specs.Prelude.{◌≡◌, ◌++◌, true, IfOk, OnOk, map};
+ghost use Rattle.bpaf_doc.specs.ItemText.{item_text};
+ghost use Rattle.bpaf_doc.specs.Print.{printed, in_backticks};
+ghost use Rattle.bpaf_doc.specs.Shape.{part_of};
+ghost use Rattle.bpaf_line.specs.declared.error.Message.TheVariants.{Expected};
+ghost use Rattle.bpaf_line.specs.Missing.{missed_of};
+ghost use Rattle.bpaf_messages.specs.MissingText.{furthest, reaches, in_one_scope, is_command, told_parts};
+ghost use Rattle.bpaf_messages.specs.Rendering.{alternatives, got_text, expected_of, missing_text, hidden_text, message_text};
+
+use crate::shown::shown_item;
+use bpaf_doc::{Doc, Item, Style};
+use bpaf_line::{MissingItem, State};
+use std::alloc::{AllocError, Global};
+
+/// Whether an item was looked for no less far on than another.
+fn reaches(item: &MissingItem, other: &MissingItem) -> bool
+    ensures { result ≡ reaches (missed_of item.now) (missed_of other.now) }
+{
+    item.position > other.position
+        || (item.position == other.position && item.scope.start >= other.scope.start)
+}
+
+/// Whether two items were looked for in one scope.
+fn in_one_scope(item: &MissingItem, other: &MissingItem) -> bool
+    ensures { result ≡ in_one_scope (missed_of item.now) (missed_of other.now) }
+{
+    item.scope.start == other.scope.start && item.scope.end == other.scope.end
+}
+
+/// Whether an item is a command.
+fn is_command(item: &Item) -> bool
+    ensures { result ≡ is_command (part_of item.now) }
+{
+    match item {
+        Item::Command { .. } => true,
+        Item::Any { .. } | Item::Positional { .. } => false,
+        Item::Flag { .. } | Item::Argument { .. } => false,
+    }
+}
+
+/// The item that was looked for furthest on, the last of equals.
+fn furthest<'a>(first: &'a MissingItem, more: &'a [MissingItem]) -> &'a MissingItem
+    ensures { missed_of result.now ≡ furthest (missed_of first.now) (map missed_of more.now) }
+{
+    let mut far = first;
+    for item in more {
+        if reaches(item, far) {
+            far = item;
+        }
+    }
+    far
+}
+
+/// What is written for an item.
+fn item_doc(alloc: Global, item: &Item) -> Result<Doc, AllocError>
+    ensures { IfOk result (λ doc. printed true doc ≡ item_text (part_of item.now)) }
+{
+    let mut doc = Doc::new(alloc);
+    item.push_text(&mut doc)?;
+    Ok(doc)
+}
+
+/// What is written for each of the items that are told: those looked for in the scope of the
+/// furthest one, without the commands behind the first.
+fn told_items(
+    alloc: Global,
+    far: &MissingItem,
+    items: &[MissingItem],
+) -> Result<Vec<Doc>, AllocError>
+    ensures { IfOk result (λ docs. map (printed true) docs.items
+        ≡ map item_text (told_parts (missed_of far.now) (map missed_of items.now))) }
+{
+    let mut docs = Vec::new(alloc);
+    let mut after = false;
+    for missed in items {
+        let is_command = is_command(&missed.item);
+        if in_one_scope(far, missed) && !(after && is_command) {
+            docs.push(item_doc(alloc, &missed.item)?)?;
+            after = after || is_command;
+        }
+    }
+    Ok(docs)
+}
+
+/// What is written for each of some items.
+fn item_docs(alloc: Global, items: &[Item]) -> Result<Vec<Doc>, AllocError>
+    ensures { IfOk result (λ docs.
+        map (printed true) docs.items ≡ map item_text (map part_of items.now)) }
+{
+    let mut docs = Vec::new(alloc);
+    for item in items {
+        docs.push(item_doc(alloc, item)?)?;
+    }
+    Ok(docs)
+}
+
+/// Appends another document between two backticks.
+fn push_term(doc: &mut Doc, inner: &Doc) -> Result<(), AllocError>
+    ensures { OnOk result (
+        printed true doc.new ≡ printed true doc.old ++ in_backticks (printed true inner.now)) }
+{
+    doc.write(Style::Text, "`")?;
+    doc.doc(inner)?;
+    doc.write(Style::Text, "`")
+}
+
+/// Appends one of some documents.
+fn push_alternatives(doc: &mut Doc, docs: &[Doc]) -> Result<(), AllocError>
+    ensures { OnOk result (printed true doc.new
+        ≡ printed true doc.old ++ alternatives (map (printed true) docs.now)) }
+{
+    match docs {
+        [] => doc.write(Style::Text, "no arguments"),
+        [a] => push_term(doc, a),
+        [a, b] => {
+            push_term(doc, a)?;
+            doc.write(Style::Text, " or ")?;
+            push_term(doc, b)
+        }
+        [a, b, ..] => {
+            push_term(doc, a)?;
+            doc.write(Style::Text, ", ")?;
+            push_term(doc, b)?;
+            doc.write(Style::Text, ", or more")
+        }
+    }
+}
+
+/// Appends what was got.
+fn push_got(doc: &mut Doc, state: &State, got: Option<usize>) -> Result<(), AllocError>
+    ensures { OnOk result (
+        printed true doc.new ≡ printed true doc.old ++ got_text state.now got) }
+{
+    match got {
+        None => doc.write(Style::Text, ", pass "),
+        Some(place) => {
+            doc.write(Style::Text, ", got ")?;
+            doc.term(Style::Invalid, shown_item(state, place)?.as_str())?;
+            doc.write(Style::Text, ". Pass ")
+        }
+    }
+}
+
+/// One of some documents was expected.
+fn expected(state: &State, docs: &[Doc], got: Option<usize>) -> Result<Doc, AllocError>
+    ensures { IfOk result (λ doc.
+        printed true doc ≡ expected_of state.now (map (printed true) docs.now) got) }
+{
+    let mut doc = Doc::new(state.alloc());
+    doc.write(Style::Text, "expected ")?;
+    push_alternatives(&mut doc, docs)?;
+    push_got(&mut doc, state, got)?;
+    doc.term(Style::Literal, "--help")?;
+    doc.write(Style::Text, " for usage information")?;
+    Ok(doc)
+}
+
+/// One of some items was expected.
+pub(crate) fn expected_items(
+    state: &State,
+    items: &Vec<Item>,
+    got: Option<usize>,
+) -> Result<Doc, AllocError>
+    ensures { IfOk result (λ doc.
+        printed true doc ≡ message_text (Expected items.now got) state.now) }
+{
+    let docs = item_docs(state.alloc(), items)?;
+    expected(state, &docs, got)
+}
+
+/// What was looked for in vain.
+pub(crate) fn missing(state: &State, items: &[MissingItem]) -> Result<Doc, AllocError>
+    ensures { IfOk result (λ doc.
+        printed true doc ≡ missing_text state.now (map missed_of items.now)) }
+{
+    let Some((first, more)) = items.split_first() else {
+        return all_hidden(state.alloc());
+    };
+    let far = furthest(first, more);
+    let docs = told_items(state.alloc(), far, items)?;
+    let got = state.first_present(far.scope.start.max(far.position), far.scope.end);
+    expected(state, &docs, got)
+}
+
+/// That what was looked for in vain has no name to be shown.
+fn all_hidden(alloc: Global) -> Result<Doc, AllocError>
+    ensures { IfOk result (λ doc. printed true doc ≡ hidden_text) }
+{
+    let mut doc = Doc::new(alloc);
+    doc.write(
+        Style::Text,
+        "parser requires an extra flag, argument or parameter, ",
+    )?;
+    doc.write(Style::Text, "but its name is hidden by the author")?;
+    Ok(doc)
+}

@@ -1,0 +1,3 @@
+pub mod Branching
+pub mod Looking
+pub mod Opening

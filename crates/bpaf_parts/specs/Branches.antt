@@ -1,0 +1,30 @@
+-- Branches of a choice: where they begin, and where each led to.
+use Rattle.std.specs.Prelude.{◌≡◌, length}
+use Rattle.bpaf_line.specs.Situation.{Situation, open_count}
+use Rattle.bpaf_line.specs.Marks.{Fits, CanRedo, undone, redone}
+use Rattle.bpaf_parts.specs.declared.branch.Start.{Start}
+use Rattle.bpaf_parts.specs.declared.branch.Branch.{Branch}
+
+-- a parse can go back to the start, in which so many items are present
+pub record IsStart (start : Start) (t : Situation) : Type 0 where
+  pub fits : Fits start.mark t
+  pub left : start.left ≡ open_count (undone start.mark t)
+
+-- the branch led from a situation to another
+pub record LedTo (branch : Branch) (s t : Situation) : Type 0 where
+  pub redo : CanRedo branch.steps s
+  pub there : redone branch.steps s ≡ t
+  pub left : branch.left ≡ open_count t
+  pub depth : branch.depth ≡ length t.path
+
+-- where the start is that lies behind a situation
+abbrev pub start_of : Start → Situation → Situation
+start_of start t = undone start.mark t
+
+-- and where the branch leads to from there
+abbrev pub end_of : Start → Branch → Situation → Situation
+end_of start branch t = redone branch.steps (start_of start t)
+
+-- a branch begins at the start that lies behind a situation
+abbrev pub IsBranch : Start → Branch → Situation → Type 0
+IsBranch start branch t = LedTo branch (start_of start t) (end_of start branch t)

@@ -1,0 +1,6 @@
+pub mod Info
+pub mod Extra
+pub mod ExtraLaws
+pub mod Version
+pub mod Failures
+pub mod Branches

@@ -1,0 +1,80 @@
+//! Branches of a choice, which begin at one place.
+ghost use Rattle.std.specs.Prelude.{◌≡◌, IfOk, OnOk, OnErr};
+ghost use Rattle.bpaf_line.specs.Marks.{Fits, HasReached, CanRedo, undone, redone};
+ghost use Rattle.bpaf_parts.specs.Branches.{IsStart, LedTo};
+
+use bpaf_line::{Mark, State, Steps};
+use std::alloc::AllocError;
+
+/// Where branches begin: the mark of that situation, and how many items are present in it.
+///
+/// It is public for choices in the crates of this repository, not for callers.
+#[derive(Clone, Copy, Debug)]
+pub struct Start {
+    pub mark: Mark,
+    pub left: usize,
+}
+
+/// Where a branch led to: its steps, and in the situation that these leave the number of present
+/// items and that of the names on the path.
+///
+/// It is public for choices in the crates of this repository, not for callers.
+#[derive(Drop)]
+pub struct Branch {
+    pub steps: Steps,
+    pub left: usize,
+    pub depth: usize,
+}
+
+impl Start {
+    /// The start of branches from this state. It takes no memory.
+    ///
+    /// It is public for choices in the crates of this repository, not for callers.
+    pub fn of(state: &State) -> Start
+        ensures start { IsStart result state.now }
+        ensures back { undone result.mark state.now ≡ state.now }
+    {
+        Start {
+            mark: state.mark(),
+            left: state.len(),
+        }
+    }
+}
+
+impl Branch {
+    /// The branch that led from the start to this state, which goes back to the start, also where
+    /// memory is refused.
+    ///
+    /// It is public for choices in the crates of this repository, not for callers.
+    pub fn leave(state: &mut State, start: Start) -> Result<Branch, AllocError>
+        requires { Fits start.mark state.old }
+        ensures left { IfOk result (λ branch. LedTo branch state.new state.old) }
+        ensures back { state.new ≡ undone start.mark state.old }
+    {
+        let left = state.len();
+        let depth = state.depth();
+        let steps = state.steps(&start.mark);
+        state.undo(start.mark);
+        Ok(Branch {
+            steps: steps?,
+            left,
+            depth,
+        })
+    }
+}
+
+/// Goes back to a mark, and does the steps since it; where memory is refused the state is that of
+/// the mark.
+///
+/// It is public for the crates of this repository, not for callers.
+pub fn resume(state: &mut State, mark: Mark, steps: Steps) -> Result<(), AllocError>
+    requires fits { Fits mark state.old }
+    requires steps { CanRedo steps (undone mark state.old) }
+    ensures ok { OnOk result (state.new ≡ redone steps (undone mark state.old)) }
+    ensures err { OnErr result (state.new ≡ undone mark state.old) }
+    ensures fits { Fits mark state.new }
+    ensures back { undone mark state.new ≡ undone mark state.old }
+{
+    state.undo(mark);
+    state.redo(steps)
+}

@@ -1,0 +1,50 @@
+//! Keys and their names in the environment.
+ghost use Rattle.std.specs.Prelude.{◌≡◌, IfOk, option_copied, option_map};
+ghost use Rattle.bpaf_doc.specs.Shape.{part_of};
+ghost use Rattle.bpaf_laws.specs.Environment.{first_set, IsAbsence};
+ghost use Rattle.bpaf_laws.specs.Flag.{IsPresent};
+
+use bpaf_doc::{Item, Text};
+use bpaf_line::{Error, Message, State};
+use bpaf_text::NamedArg;
+use std::alloc::AllocError;
+
+/// The value of the first of the names that the state's environment has. It takes no memory.
+pub fn first_set<'a>(state: &'a State, names: &[Text]) -> Option<&'a str>
+    ensures { option_copied result ≡ first_set state.now.context.env names.now }
+{
+    for name in names {
+        if let Some(value) = state.env(name.as_str()) {
+            return Some(value);
+        }
+    }
+    None
+}
+
+/// The refusal of a key that is neither on the line nor in the environment: its item is missing, or,
+/// where it shows none, its first name in the environment isn't set (bpaf's `NoEnv`).
+///
+/// Refused only for want of memory.
+pub fn absence(state: &State, item: Option<Item>, envs: &[Text]) -> Result<Error, AllocError>
+    ensures { IfOk result (λ error.
+        IsAbsence state.now (option_map part_of item) envs.now error.0) }
+{
+    if item.is_some() {
+        return state.missing(item);
+    }
+    match envs.first() {
+        Some(name) => Ok(Error(Message::NoEnv(name.copy()?))),
+        None => state.missing(item),
+    }
+}
+
+/// Whether a key without a value is present: the first one in scope with one of the names, which is
+/// taken; or, where there is none, one of its names in the environment that is set. It takes no memory.
+///
+/// It is the one test for flags and for the keys that ask for help and for the version.
+pub fn is_present(named: &NamedArg, state: &mut State) -> bool
+    ensures { IsPresent named.now state.old result state.new }
+{
+    let found = state.take_flag(named.shorts(), named.longs());
+    found || first_set(state, named.envs()).is_some()
+}

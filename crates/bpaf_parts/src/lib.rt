@@ -1,0 +1,34 @@
+//! The parts of parsers that call no parser.
+//!
+//! It stands on the definitions of `bpaf_laws` and on what these speak of. For the layer of parsers
+//! above, which hands on what programs need of it:
+//!
+//! - [`Info`] is what a run knows beside its parser: the keys that ask for help and for the version,
+//!   which [`Info::look`] looks for (specs/Extra.antt), and the texts of the help page
+//!   (specs/Info.antt, specs/Version.antt).
+//! - [`CommandNames`] are the names of a command; [`CommandNames::open`] takes its word.
+//! - [`Start`] and [`Branch`] are where branches of a choice begin and where one led to
+//!   (specs/Branches.antt); the table of [`this_or_that`] tells which of two answers stands, and
+//!   [`or_meta`] what a choice shows.
+//! - [`is_present`] is the one test for flags; [`first_set`] and [`absence`] tell of names in the
+//!   environment; [`read_text`] reads the value of a taken text; [`end_message`] makes the end of an
+//!   inner run a refusal (specs/Failures.antt), and [`hide`] names no missing item in one.
+//!
+//! The source of the design is bpaf's `info.rs`, `params.rs` and `structs.rs`.
+#![tactic(auto)]
+
+mod branch;
+mod environment;
+mod failures;
+mod info;
+mod names;
+mod table;
+mod value;
+
+pub use branch::{Branch, Start, resume};
+pub use environment::{absence, first_set, is_present};
+pub use failures::{end_message, hide};
+pub use info::{ExtraParams, Info, version_page};
+pub use names::CommandNames;
+pub use table::{is_want, or_meta, this_or_that};
+pub use value::{read_text, value_or_refusal};

@@ -1,0 +1,14 @@
+//! The rows of what stands above `bpaf`, as tests: flat records and batteries.
+//!
+//! It stands on `bpaf_record`, `bpaf_batteries` and `bpaf`. Nothing stands on this crate: one with
+//! tests is proved twice. docs/ROWS.md names each row and its test.
+#![tactic(auto)]
+
+#[cfg(test)]
+mod batteries;
+#[cfg(test)]
+mod more_record_rows;
+#[cfg(test)]
+mod record_rows;
+#[cfg(test)]
+mod records;

@@ -1,0 +1,149 @@
+//! Which options are a flat record, of switches, numbers and words.
+use bpaf::params::{ParseArgument, ParseFlag, ParsePositional};
+use bpaf::{Parser, choice, construct, positional, short};
+use bpaf_record::{FlatField, Record};
+use std::alloc::{AllocError, Global};
+use std::test::Fail;
+
+/// Whether a parser with the usual keys for help and version is a flat record.
+fn is_flat<T: Drop, P: FlatField<T> + Drop>(alloc: Global, parser: P) -> Result<bool, AllocError> {
+    Ok(parser.to_options(alloc)?.is_record())
+}
+
+/// A switch of this name.
+pub(crate) fn switch(alloc: Global, name: char) -> Result<ParseFlag<bool>, AllocError> {
+    Ok(short(alloc, name)?.switch())
+}
+
+/// A number behind this name.
+pub(crate) fn number(alloc: Global, name: char) -> Result<ParseArgument<u64>, AllocError> {
+    Ok(short(alloc, name)?.argument("NUM"))
+}
+
+/// A word.
+pub(crate) fn word() -> ParsePositional<String> {
+    positional("FILE")
+}
+
+/// A product of two fields.
+fn pair<A: Drop, B: Drop, P: FlatField<A> + Drop, Q: FlatField<B> + Drop>(
+    alloc: Global,
+    first: P,
+    second: Q,
+) -> Result<bool, AllocError> {
+    is_flat(alloc, construct!(first, second))
+}
+
+/// A product of a switch, a number and any number of words.
+fn record(
+    alloc: Global,
+    verbose: ParseFlag<bool>,
+    num: ParseArgument<u64>,
+    file: ParsePositional<String>,
+) -> Result<bool, AllocError> {
+    let files = file.many();
+    is_flat(alloc, construct!(verbose, num, files))
+}
+
+/// A product of two fields inside another.
+fn nested(
+    alloc: Global,
+    verbose: ParseFlag<bool>,
+    num: ParseArgument<u64>,
+) -> Result<bool, AllocError> {
+    pair(alloc, construct!(verbose, num), word())
+}
+
+/// Closures inside and outside a repeat.
+fn closures(alloc: Global, num: ParseArgument<u64>) -> Result<bool, AllocError> {
+    let small = num.parse(|n: u64| if n < 10 { Ok(n) } else { Err("too big") });
+    is_flat(alloc, small.many().map(|numbers| numbers.len()))
+}
+
+/// Whether a switch is a flat record.
+fn is_switch_flat(alloc: Global, parser: ParseFlag<bool>) -> Result<bool, AllocError> {
+    is_flat(alloc, parser)
+}
+
+/// Whether a number is one.
+fn is_number_flat(alloc: Global, parser: ParseArgument<u64>) -> Result<bool, AllocError> {
+    is_flat(alloc, parser)
+}
+
+/// Whether a word is one.
+fn is_word_flat(alloc: Global, parser: ParsePositional<String>) -> Result<bool, AllocError> {
+    is_flat(alloc, parser)
+}
+
+/// Of single fields, whether each is a flat record.
+fn leaves(alloc: Global) -> Result<[bool; 8], AllocError> {
+    Ok([
+        is_number_flat(alloc, number(alloc, 'n')?)?,
+        is_word_flat(alloc, word())?,
+        is_switch_flat(alloc, switch(alloc, 'h')?)?,
+        is_switch_flat(alloc, switch(alloc, 'V')?)?,
+        is_switch_flat(alloc, short(alloc, 'v')?.env("VERBOSE")?.switch())?,
+        is_number_flat(alloc, number(alloc, 'n')?.adjacent())?,
+        is_word_flat(alloc, word().strict())?,
+        is_word_flat(alloc, word().non_strict())?,
+    ])
+}
+
+/// Whether the choice of two numbers is a flat record, under a repeat.
+fn is_choice_flat(
+    alloc: Global,
+    first: ParseArgument<u64>,
+    second: ParseArgument<u64>,
+) -> Result<bool, AllocError> {
+    is_flat(alloc, first.or_else(second).many())
+}
+
+/// Whether a repeat that catches is one.
+fn is_catching_flat(alloc: Global, num: ParseArgument<u64>) -> Result<bool, AllocError> {
+    is_flat(alloc, num.many().catch())
+}
+
+/// Whether a choice of switches is one.
+fn are_switches_flat(
+    alloc: Global,
+    first: ParseFlag<bool>,
+    second: ParseFlag<bool>,
+) -> Result<bool, AllocError> {
+    is_flat(alloc, first.or_else(second))
+}
+
+/// Of repeats and choices, whether each is a flat record.
+fn repeats(alloc: Global) -> Result<[bool; 6], AllocError> {
+    Ok([
+        is_choice_flat(alloc, number(alloc, 'a')?, number(alloc, 'b')?)?,
+        is_choice_flat(alloc, number(alloc, 'a')?, number(alloc, 'a')?)?,
+        is_catching_flat(alloc, number(alloc, 'n')?)?,
+        is_flat(alloc, word().optional().many())?,
+        is_flat(alloc, choice(Vec::<ParseArgument<u64>>::new(alloc)))?,
+        are_switches_flat(alloc, switch(alloc, 'a')?, switch(alloc, 'b')?)?,
+    ])
+}
+
+#[test]
+fn single_fields_are_told(rt: HostRuntime) -> Result<(), Fail> {
+    let alloc = rt.alloc();
+    assert_eq!(rt;
+        leaves(alloc)?,
+        [true, true, false, false, false, false, false, false]
+    );
+    assert_eq!(rt; repeats(alloc)?, [true, false, false, false, false, false]);
+    assert!(rt; closures(alloc, number(alloc, 'n')?)?);
+    Ok(())
+}
+
+#[test]
+fn products_are_told(rt: HostRuntime) -> Result<(), Fail> {
+    let alloc = rt.alloc();
+    let verbose = switch(alloc, 'v')?;
+    assert!(rt; record(alloc, verbose, number(alloc, 'n')?, word())?);
+    assert!(rt; pair(alloc, switch(alloc, 'v')?, word().many())?);
+    assert!(rt; !pair(alloc, word(), switch(alloc, 'v')?)?);
+    assert!(rt; !pair(alloc, switch(alloc, 'v')?, number(alloc, 'v')?)?);
+    assert!(rt; !nested(alloc, switch(alloc, 'v')?, number(alloc, 'n')?)?);
+    Ok(())
+}
