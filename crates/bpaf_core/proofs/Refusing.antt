@@ -9,7 +9,7 @@ use Rattle.bpaf_line.specs.declared.error.Message.{Message}
 use Rattle.bpaf_line.specs.declared.error.Message.TheVariants as message
 use Rattle.bpaf_line.specs.declared.failure.ParseFailure.{ParseFailure}
 use Rattle.bpaf_line.specs.declared.failure.ParseFailure.TheVariants as failure
-use Rattle.bpaf_line.specs.Leftover as left
+use Rattle.bpaf_messages.specs.Leftover as left
 use Rattle.bpaf_messages.specs.Leftover.{IsLeftover}
 use Rattle.bpaf_messages.specs.Rendering.{Renders}
 use Rattle.bpaf_line.specs.Situation.{Context, Situation, beginning}

@@ -1,36 +1,13 @@
 //! Runs over the items behind a place without a gap: the attempts of an adjacent command.
-ghost use Rattle.std.specs.Prelude.{◌≡◌, ◌<◌, ◌≤◌, length, MatchOption};
+ghost use Rattle.std.specs.Prelude.{◌≡◌, ◌<◌, ◌≤◌, length};
 ghost use Rattle.bpaf_line.specs.Marks.{CanRedo, Fits, KeepsMarks, redone, undone};
-ghost use Rattle.bpaf_line.specs.Messages.{is_memory};
-ghost use Rattle.bpaf_laws.specs.AdjacentCommand.{AllTaken, IsFirstLeft};
 ghost use Rattle.bpaf_core.specs.Ending.{EndsRun};
 ghost use Rattle.bpaf_core.specs.Adjacent.{AdjacentRuns, Attempt, Attempts, GivesBack, Retry};
-ghost use Rattle.bpaf_parts.specs.Failures.{end_message};
 
 use crate::options::OptionParser;
 use crate::parser::Parser;
 use bpaf_line::{Mark, ParseFailure, State, Steps};
-use bpaf_parts::resume;
-
-/// Whether an inner run ended for want of memory. It takes none.
-fn is_want(failure: &ParseFailure) -> bool
-    ensures { result ≡ is_memory (end_message failure.now) }
-{
-    matches!(failure, ParseFailure::Memory)
-}
-
-/// The first of the places from one up to another that is present, in scope or not. It takes no
-/// memory.
-fn first_left(state: &State, from: usize, end: usize) -> Option<usize>
-    ensures { MatchOption result (AllTaken state.now from end) (IsFirstLeft state.now from end) }
-{
-    for place in from..end {
-        if matches!(state.present(place), Some(true)) {
-            return Some(place);
-        }
-    }
-    None
-}
+use bpaf_parts::{first_left, resume, wants_memory};
 
 /// The failure of a first attempt, where its steps led, since a second one failed too; want of
 /// memory at the mark, where the second one ended so, or memory for doing the steps again is
@@ -47,7 +24,7 @@ fn first_failure(
     ensures { GivesBack first second (undone mark state.old)
         (redone steps (undone mark state.old)) result state.new }
 {
-    if is_want(&second) {
+    if wants_memory(&second) {
         state.undo(mark);
         return second;
     }
@@ -90,7 +67,7 @@ impl<T: Drop, P: Parser<T>> OptionParser<T, P> {
             (EndsRun (P.describes self.now.inner) self.now.info) (undone mark state.old) from end failure
             state.old result state.new }
     {
-        if is_want(&failure) {
+        if wants_memory(&failure) {
             state.undo(mark);
             return Err(failure);
         }

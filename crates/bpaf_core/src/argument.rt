@@ -1,32 +1,10 @@
 //! Arguments.
-ghost use Rattle.bpaf_laws.specs.Argument.{TakesText};
-
 use crate::parser::Parser;
 use bpaf_doc::Meta;
 use bpaf_line::{Error, State};
-use bpaf_parts::{absence, first_set, read_text};
+use bpaf_parts::{read_text, take_argument};
 use bpaf_text::{FromText, ParseArgument};
 use std::alloc::{AllocError, Global};
-
-/// The text of an argument: that behind its key, or, where there is no key, that of the first name in
-/// the environment that is set (bpaf's `take_argument`).
-fn take_argument<T>(argument: &ParseArgument<T>, state: &mut State) -> Result<String, Error>
-    ensures { TakesText argument.now state.old result state.new }
-{
-    let named = &argument.named;
-    let metavar = argument.metavar;
-    let taken = state.take_arg(named.shorts(), named.longs(), argument.adjacent, metavar)?;
-    if let Some(text) = taken {
-        return Ok(text);
-    }
-    let Some(value) = first_set(state, named.envs()) else {
-        let item = named.argument_item(state.alloc(), metavar)?;
-        return Err(absence(state, item, named.envs())?);
-    };
-    let text = String::from_str(state.alloc(), value)?;
-    state.set_current(None);
-    Ok(text)
-}
 
 /// What the text behind the first key with one of the names means, or, where there is no such key,
 /// that of the first of its names in the environment that is set (bpaf's `ParseArgument`, in

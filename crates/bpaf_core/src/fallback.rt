@@ -1,14 +1,14 @@
 ghost use Rattle.std.specs.Prelude.{◌≡◌, IfOk};
 ghost use Rattle.std.specs.Fn.{FnReturnsAt};
-ghost use Rattle.bpaf_doc.specs.Fold.{TextPieces};
 ghost use Rattle.bpaf_doc.specs.Shape.{shape_of};
 ghost use Rattle.bpaf_laws.specs.Default.{AttemptOutcome, DefaultDescribes, ShowsAnswer, ShowsDefault};
-ghost use Rattle.bpaf_laws.specs.Default.{IsDefault, IsFormatted, ShowsFormatted, default_text};
+ghost use Rattle.bpaf_laws.specs.Default.{ShowsFormatted};
 
 use crate::optional::optional_meta;
 use crate::parser::Parser;
 use bpaf_doc::{Doc, Meta, Text};
 use bpaf_line::{Error, Message, State};
+use bpaf_parts::{debugged, displayed, formatted};
 use std::alloc::{AllocError, Global};
 use std::fmt::{Debug, Display};
 use std::marker::PhantomData;
@@ -47,45 +47,6 @@ fn default_meta<T, P: Parser<T>>(
         Some(shown) => Ok(Meta::Suffix(Box::new(alloc, meta)?, shown.copy()?)),
         None => Ok(meta),
     }
-}
-
-/// The text of a default, as it is shown; refused only for want of memory.
-fn shown_default(alloc: Global, value: &str) -> Result<Doc, AllocError>
-    ensures { IfOk result (TextPieces (default_text value.now)) }
-{
-    let mut text = String::from_str(alloc, "[default: ")?;
-    text.push_str(value)?;
-    text.push(']')?;
-    Doc::from_text(alloc, text.as_str())
-}
-
-/// That of a value, as Display prints it; refused only for want of memory.
-fn displayed<T: Display>(alloc: Global, value: &T) -> Result<Doc, AllocError>
-    ensures { IfOk result (IsDefault (T.output value.now)) }
-{
-    let text = value.to_string(alloc)?;
-    shown_default(alloc, text.as_str())
-}
-
-/// That of a value, as Debug prints it; refused only for want of memory.
-fn debugged<T: Debug>(alloc: Global, value: &T) -> Result<Doc, AllocError>
-    ensures { IfOk result (IsDefault (T.debug_output value.now)) }
-{
-    let text = format!(in alloc; "{value:?}")?;
-    shown_default(alloc, text.as_str())
-}
-
-/// That of a value, as a closure writes it; refused only for want of memory.
-fn formatted<T, F: Fn(&T) -> Result<String, AllocError>>(
-    alloc: Global,
-    format: &F,
-    value: &T,
-) -> Result<Doc, AllocError>
-    requires callable { F.IsAlwaysCallable format.now }
-    ensures { IfOk result (IsFormatted (FnReturnsAt F.Fn format.now) value.now) }
-{
-    let text = format(value)?;
-    Ok(shown_default(alloc, text.as_str())?)
 }
 
 /// A kept value where the inner parser has none (bpaf's `ParseFallback`, in `structs.rs`).

@@ -1,25 +1,13 @@
 ghost use Rattle.std.specs.Prelude.{◌≡◌, IfOk, true};
 ghost use Rattle.bpaf_doc.specs.Shape.{shape_of};
 ghost use Rattle.bpaf_laws.specs.Default.{OptionalDescribes};
-ghost use Rattle.bpaf_laws.specs.Step.{StepOutcome, stops_step};
+ghost use Rattle.bpaf_laws.specs.Step.{StepOutcome};
 
 use crate::parser::Parser;
 use bpaf_doc::Meta;
-use bpaf_line::{Error, Message, State};
+use bpaf_line::{Error, State};
+use bpaf_parts::stops_step;
 use std::alloc::{AllocError, Global};
-
-/// Whether a step stops at an error; `untouched` tells that as many items are present as before it.
-fn stops_step(catches: bool, message: &Message, untouched: bool) -> bool
-    ensures { result ≡ stops_step catches message.now untouched }
-{
-    if message.is_memory() {
-        return false;
-    }
-    match message {
-        Message::Missing(_) => catches || untouched,
-        other => (catches && !other.wrong_input()) || other.can_catch(),
-    }
-}
 
 /// One step of an optional value or a repeat (bpaf's `parse_option`, in `structs.rs`): Some of a
 /// value, or None where it stops.

@@ -1,5 +1,5 @@
 //! A run of a parser over words.
-ghost use Rattle.std.specs.Prelude.{◌≡◌, ◌==◌, ◌&&◌, not, IfOk, List, None, Ok, Some, option_map, true};
+ghost use Rattle.std.specs.Prelude.{◌≡◌, ◌==◌, ◌&&◌, not, IfOk, List, Ok, Some, true};
 ghost use Rattle.bpaf_doc.specs.declared.doc.Piece.{Piece};
 ghost use Rattle.bpaf_doc.specs.Prints.{Prints};
 ghost use Rattle.bpaf_doc.specs.Shape.{Shape};
@@ -19,7 +19,7 @@ use bpaf_doc::Doc;
 use bpaf_line::{Message, ParseFailure, State};
 use bpaf_messages::{leftover, render};
 use bpaf_pages::usage_of;
-use bpaf_parts::{ExtraParams, Info, version_page};
+use bpaf_parts::{ExtraParams, Info, renamed, version_page};
 use bpaf_text::NamedArg;
 use bpaf_words::{Args, any_joined};
 use std::alloc::{AllocError, Global};
@@ -367,18 +367,6 @@ fn tell_fault(alloc: Global, args: Args<'_>, message: Message) -> ParseFailure
             drop(message);
             ParseFailure::Memory
         }
-    }
-}
-
-/// The same with a name, where there is one.
-fn renamed<'a>(args: Args<'a>, name: Option<&'a str>) -> Args<'a>
-    requires { name_of args ≡ None }
-    ensures words { words_of result ≡ words_of args.entry }
-    ensures name { name_of result ≡ option_map (λ n. n.now) name.entry }
-{
-    match name {
-        Some(name) => args.set_name(name),
-        None => args,
     }
 }
 

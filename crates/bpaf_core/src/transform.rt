@@ -1,8 +1,7 @@
-ghost use Rattle.std.specs.Prelude.{◌≡◌, ◌⊎◌};
-
 use crate::parser::Parser;
 use bpaf_doc::{Meta, Text};
 use bpaf_line::{Error, Message, State};
+use bpaf_parts::guard_failed;
 use std::alloc::{AllocError, Global};
 use std::fmt::Display;
 use std::marker::PhantomData;
@@ -105,18 +104,6 @@ impl<T: Drop, R: Drop, E: Display + Drop, P: Parser<T>, F: Fn(T) -> Result<R, E>
     }
 
     ghost lawful = { λ p. parse_lawful (P.lawful p.inner) (λ x y. F.post p.parse_fn x y) E.output };
-}
-
-/// The refusal of a value of which a check is false: GuardFailed with the message, which names the
-/// current place; or want of memory, for the message.
-fn guard_failed(state: &State, message: &str) -> Error
-    ensures { (result.0 ≡ Message.GuardFailed state.now.current message.now) ⊎
-        (result.0 ≡ Message.Memory) }
-{
-    match Text::new(state.alloc(), message) {
-        Ok(message) => Error(Message::GuardFailed(state.current(), message)),
-        Err(_) => Error(Message::Memory),
-    }
 }
 
 /// The inner value, where a check is true of it (bpaf's `ParseGuard`, in `structs.rs`).

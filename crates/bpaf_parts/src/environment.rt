@@ -1,12 +1,13 @@
 //! Keys and their names in the environment.
 ghost use Rattle.std.specs.Prelude.{◌≡◌, IfOk, option_copied, option_map};
 ghost use Rattle.bpaf_doc.specs.Shape.{part_of};
+ghost use Rattle.bpaf_laws.specs.Argument.{TakesText};
 ghost use Rattle.bpaf_laws.specs.Environment.{first_set, IsAbsence};
 ghost use Rattle.bpaf_laws.specs.Flag.{IsPresent};
 
 use bpaf_doc::{Item, Text};
 use bpaf_line::{Error, Message, State};
-use bpaf_text::NamedArg;
+use bpaf_text::{NamedArg, ParseArgument};
 use std::alloc::AllocError;
 
 /// The value of the first of the names that the state's environment has. It takes no memory.
@@ -47,4 +48,24 @@ pub fn is_present(named: &NamedArg, state: &mut State) -> bool
 {
     let found = state.take_flag(named.shorts(), named.longs());
     found || first_set(state, named.envs()).is_some()
+}
+
+/// The text of an argument: that behind its key, or, where there is no key, that of the first name in
+/// the environment that is set (bpaf's `take_argument`).
+pub fn take_argument<T>(argument: &ParseArgument<T>, state: &mut State) -> Result<String, Error>
+    ensures { TakesText argument.now state.old result state.new }
+{
+    let named = &argument.named;
+    let metavar = argument.metavar;
+    let taken = state.take_arg(named.shorts(), named.longs(), argument.adjacent, metavar)?;
+    if let Some(text) = taken {
+        return Ok(text);
+    }
+    let Some(value) = first_set(state, named.envs()) else {
+        let item = named.argument_item(state.alloc(), metavar)?;
+        return Err(absence(state, item, named.envs())?);
+    };
+    let text = String::from_str(state.alloc(), value)?;
+    state.set_current(None);
+    Ok(text)
 }

@@ -1,9 +1,12 @@
 //! How what went wrong inside is told to those around it.
-ghost use Rattle.std.specs.Prelude.{◌≡◌};
+ghost use Rattle.std.specs.Prelude.{◌≡◌, ◌⊎◌};
 ghost use Rattle.bpaf_laws.specs.Hide.{hidden};
+ghost use Rattle.bpaf_laws.specs.Step.{stops_step};
+ghost use Rattle.bpaf_line.specs.Messages.{is_memory};
 ghost use Rattle.bpaf_parts.specs.Failures.{end_message};
 
-use bpaf_line::{Message, MissingItems, ParseFailure};
+use bpaf_doc::Text;
+use bpaf_line::{Error, Message, MissingItems, ParseFailure, State};
 use std::alloc::Global;
 
 /// The end of an inner run, as a refusal of its command: want of memory stays that. It takes no
@@ -27,5 +30,38 @@ pub fn hide(alloc: Global, message: Message) -> Message
             Message::Missing(MissingItems::none(alloc))
         }
         other => other,
+    }
+}
+
+/// Whether an inner run ended for want of memory. It takes none.
+pub fn wants_memory(failure: &ParseFailure) -> bool
+    ensures { result ≡ is_memory (end_message failure.now) }
+{
+    matches!(failure, ParseFailure::Memory)
+}
+
+/// Whether a step stops at an error; `untouched` tells that as many items are present as before it. It takes
+/// no memory.
+pub fn stops_step(catches: bool, message: &Message, untouched: bool) -> bool
+    ensures { result ≡ stops_step catches message.now untouched }
+{
+    if message.is_memory() {
+        return false;
+    }
+    match message {
+        Message::Missing(_) => catches || untouched,
+        other => (catches && !other.wrong_input()) || other.can_catch(),
+    }
+}
+
+/// The refusal of a value of which a check is false: GuardFailed with the message, which names the
+/// current place; or want of memory, for the message.
+pub fn guard_failed(state: &State, message: &str) -> Error
+    ensures { (result.0 ≡ Message.GuardFailed state.now.current message.now) ⊎
+        (result.0 ≡ Message.Memory) }
+{
+    match Text::new(state.alloc(), message) {
+        Ok(message) => Error(Message::GuardFailed(state.current(), message)),
+        Err(_) => Error(Message::Memory),
     }
 }

@@ -10,9 +10,11 @@
 //! - [`Start`] and [`Branch`] are where branches of a choice begin and where one led to
 //!   (specs/Branches.antt); the table of [`this_or_that`] tells which of two answers stands, and
 //!   [`or_meta`] what a choice shows.
-//! - [`is_present`] is the one test for flags; [`first_set`] and [`absence`] tell of names in the
-//!   environment; [`read_text`] reads the value of a taken text; [`end_message`] makes the end of an
-//!   inner run a refusal (specs/Failures.antt), and [`hide`] names no missing item in one.
+//! - [`is_present`] is the one test for flags; [`take_argument`] takes the text of an argument;
+//!   [`first_set`] and [`absence`] tell of names in the environment; [`read_text`] reads the value of a
+//!   taken text; [`displayed`], [`debugged`] and [`formatted`] write a default.
+//! - [`end_message`] makes the end of an inner run a refusal (specs/Failures.antt), [`hide`] names no
+//!   missing item in one, [`guard_failed`] tells a check, and [`stops_step`] at which a step stops.
 //!
 //! The source of the design is bpaf's `info.rs`, `params.rs` and `structs.rs`.
 #![tactic(auto)]
@@ -20,15 +22,21 @@
 mod branch;
 mod environment;
 mod failures;
+mod given;
 mod info;
 mod names;
+mod places;
+mod shown_default;
 mod table;
 mod value;
 
 pub use branch::{Branch, Start, resume};
-pub use environment::{absence, first_set, is_present};
-pub use failures::{end_message, hide};
+pub use environment::{absence, first_set, is_present, take_argument};
+pub use failures::{end_message, guard_failed, hide, stops_step, wants_memory};
+pub use given::renamed;
 pub use info::{ExtraParams, Info, version_page};
 pub use names::CommandNames;
+pub use places::first_left;
+pub use shown_default::{debugged, displayed, formatted};
 pub use table::{is_want, or_meta, this_or_that};
 pub use value::{read_text, value_or_refusal};

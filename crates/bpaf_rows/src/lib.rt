@@ -1,15 +1,13 @@
 //! The worked rows that the bench can't say, as tests of `bpaf` as its users write it.
 //!
 //! A row of a parser that can be described stands in the data of `bpaf_bench`, where it costs no
-//! proof. Here stand each form of `construct!`, types and closures of a caller's own, the calls of
-//! a state and of what it refuses, which no described parser reaches, and the laws. Nothing stands
-//! on this crate: one with tests is proved twice. docs/ROWS.md names each row and its test.
+//! proof. Here stand each form of `construct!`, types and closures of a caller's own, which no
+//! described parser reaches, and the laws. Nothing stands on this crate: one with tests is proved
+//! twice. docs/ROWS.md names each row and its test.
 #![tactic(auto)]
 
 #[cfg(test)]
 mod asked;
-#[cfg(test)]
-mod calls;
 #[cfg(test)]
 mod combinators;
 #[cfg(test)]
@@ -19,17 +17,11 @@ mod counting;
 #[cfg(test)]
 mod defaults;
 #[cfg(test)]
-mod failures;
-#[cfg(test)]
 mod forms;
 #[cfg(test)]
 mod groups;
 #[cfg(test)]
 mod laws;
-#[cfg(test)]
-mod lines;
-#[cfg(test)]
-mod messages;
 #[cfg(test)]
 mod pages;
 #[cfg(test)]

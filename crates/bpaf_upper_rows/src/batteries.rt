@@ -2,8 +2,9 @@
 ghost use Rattle.std.specs.Prelude.{◌≤ℤ◌};
 
 use bpaf::{Args, Doc, Parser, construct, long, positional, short};
-use bpaf_batteries::{cargo_helper, get_usage, toggle_flag};
-use bpaf_batteries::{verbose_and_quiet_by_number, verbose_by_slice};
+use bpaf_batteries::{
+    cargo_helper, get_usage, toggle_flag, verbose_and_quiet_by_number, verbose_by_slice,
+};
 use std::alloc::{AllocError, Global};
 use std::fmt::Debug;
 use std::process::Abort;

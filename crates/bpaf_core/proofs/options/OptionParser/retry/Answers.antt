@@ -6,17 +6,17 @@ use Rattle.bpaf_core.proofs.Attempting.{back_again, led_again, memory_end, memor
 use Rattle.bpaf_core.proofs.Attempting.{memory_wanted, second_answers, second_refuses}
 use Rattle.bpaf_core.proofs.options.OptionParser.retry.Goals as goal
 
-pub returns-then-is_want : goal.returns-then-is_want
-returns-then-is_want g c =
+pub returns-then-wants_memory : goal.returns-then-wants_memory
+returns-then-wants_memory g c =
     let t = c.args.state.now in
     memory_wanted (g.P.Parser.outcome c.args.self.now.inner)
     (EndsRun (g.P.Parser.describes c.args.self.now.inner) c.args.self.now.info) (undone c.args.mark t) c.args.from
     c.args.end c.args.failure t c.args.failure c.undo.new.self
-    (memory_end c.args.failure (sym c.is_want.ensures ∙ c.if-is_want.true)) c.undo.ensures.undone
+    (memory_end c.args.failure (sym c.wants_memory.ensures ∙ c.if-wants_memory.true)) c.undo.ensures.undone
 
 pub returns-in_default : goal.returns-in_default
 returns-in_default g c =
-    nothing_left (sym c.is_want.ensures ∙ c.if-is_want.false) c.in_default.ensures
+    nothing_left (sym c.wants_memory.ensures ∙ c.if-wants_memory.false) c.in_default.ensures
 
 pub returns-in_err-steps : goal.returns-in_err-steps
 returns-in_err-steps g c =
@@ -32,7 +32,7 @@ returns-in-Ok g c =
     second_answers (g.P.Parser.outcome c.args.self.now.inner)
     (EndsRun (g.P.Parser.describes c.args.self.now.inner) c.args.self.now.info) (undone c.args.mark t) c.args.from
     c.args.end c.args.failure t c.in-Some.stop c.undo-2.new.self c.attempt.new.state
-    (sym c.is_want.ensures ∙ c.if-is_want.false) c.in-Some.ensures c.undo-2.ensures.undone
+    (sym c.wants_memory.ensures ∙ c.if-wants_memory.false) c.in-Some.ensures c.undo-2.ensures.undone
     c.in-Ok.value c.in-Ok.ensures.runs
 
 pub returns-in-Err : goal.returns-in-Err
@@ -46,7 +46,7 @@ returns-in-Err g c =
     let steps = c.in_ok-steps.steps in
     second_refuses (g.P.Parser.outcome c.args.self.now.inner)
     (EndsRun (g.P.Parser.describes c.args.self.now.inner) c.args.self.now.info) (undone mark t) c.args.from
-    c.args.end c.args.failure t c.in-Some.stop m u (sym c.is_want.ensures ∙ c.if-is_want.false)
+    c.args.end c.args.failure t c.in-Some.stop m u (sym c.wants_memory.ensures ∙ c.if-wants_memory.false)
     c.in-Some.ensures gone.undone c.in-Err.second c.in-Err.ensures.runs
     (redone steps (undone mark u)) c.first_failure.result (undone mark u)
     c.first_failure.new.state

@@ -1,6 +1,8 @@
 //! The texts of failures, missing items, and refusals for want of memory.
 use crate::shared::prints;
-use bpaf::{Doc, Error, Info, Item, Message, MissingItem, MissingItems, ParseFailure, Text};
+use bpaf_doc::{Doc, Item, Text};
+use bpaf_line::{Error, Message, MissingItem, MissingItems, ParseFailure};
+use bpaf_parts::Info;
 use std::alloc::{AllocError, Global};
 use std::test::Fail;
 

@@ -1,8 +1,9 @@
 //! The texts of messages on states of given words.
 use crate::shared::reads;
-use bpaf::{
-    Args, Item, Message, Meta, MissingItem, MissingItems, ParseFailure, ShortLong, State, Text,
-};
+use bpaf_doc::{Item, Meta, ShortLong, Text};
+use bpaf_line::{Message, MissingItem, MissingItems, ParseFailure, State};
+use bpaf_messages::render;
+use bpaf_words::Args;
 use std::alloc::{AllocError, Global};
 use std::test::Fail;
 

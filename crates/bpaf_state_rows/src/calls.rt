@@ -5,7 +5,10 @@
 ghost use Rattle.std.specs.Prelude.{◌≡◌, ◌≤◌, true, length};
 
 use crate::shared::reads;
-use bpaf::{Arg, Args, Error, Message, Metavar, State, Text, earlier_key, leftover};
+use bpaf_doc::{Metavar, Text};
+use bpaf_line::{Error, Message, State};
+use bpaf_messages::{earlier_key, leftover};
+use bpaf_words::{Arg, Args};
 use std::alloc::{AllocError, Global};
 use std::fmt::Debug;
 use std::process::Abort;

@@ -1,7 +1,7 @@
 use Rattle.std.proofs.Common.{refl, subst}
 use Rattle.bpaf_doc.specs.Fold.{TextPieces}
 use Rattle.bpaf_laws.specs.Default.{default_text}
-use Rattle.bpaf_core.proofs.fallback.formatted.Goals as goal
+use Rattle.bpaf_parts.proofs.shown_default.formatted.Goals as goal
 
 pub returns : goal.returns
 returns g c = (
