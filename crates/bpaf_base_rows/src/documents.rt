@@ -1,4 +1,6 @@
-use bpaf_doc::{Doc, Item, Meta, MetaInfo, ShortLong, Style, Text};
+//! Documents, trees and texts.
+use crate::trees::tree;
+use bpaf_doc::{Doc, Item, Meta, MetaInfo, Style, Text};
 use std::alloc::{AllocError, Global};
 use std::test::Fail;
 
@@ -59,93 +61,25 @@ fn documents_are_printed(rt: HostRuntime) -> Result<(), Fail> {
 
 // Trees and what they answer: the short names of the flags and of the arguments, whether no key
 // stands behind a word, and the kind of the first item.
-//
-// A row makes its tree from left to right. W is a word, A a word of any shape, N an argument with
-// the names n and m, any other letter a flag of this name. Behind a tree ? makes it optional,
-// ! strict, # a section and > a command; & and | join the two trees before them to all of both and
-// one of both.
 const TREES: &[(&str, &str)] = &[
-    ("W!N?v&&", "['v'] ['n', 'm'] false word"),
-    ("AN?#&>q|", "['q'] ['n', 'm'] false none"),
-    ("Wa&", "['a'] [] false word"),
-    ("bWa|W&&", "['b', 'a'] [] true key"),
-    ("Wa|b&", "['a', 'b'] [] false none"),
+    (
+        "word FILE\nstrict\nargument n size NUM how large\noptional\nflag v _\nand\nand",
+        "['v'] ['n'] false word",
+    ),
+    (
+        "here ANY\nargument n _ NUM\noptional\nsection Sizes\nand\ncommand run r\nflag q _\nor",
+        "['q'] ['n'] false none",
+    ),
+    ("word FILE\nflag a _\nand", "['a'] [] false word"),
+    (
+        "flag b _\nword FILE\nflag a _\nor\nword FILE\nand\nand",
+        "['b', 'a'] [] true key",
+    ),
+    (
+        "word FILE\nflag a _\nor\nflag b _\nand",
+        "['a', 'b'] [] false none",
+    ),
 ];
-
-// A word, one of any shape, an argument or a flag.
-fn item(alloc: Global, letter: char) -> Result<Item, AllocError> {
-    match letter {
-        'W' => Ok(Item::Positional {
-            metavar: Text::new(alloc, "FILE")?,
-            help: None,
-        }),
-        'A' => Ok(Item::Any {
-            metavar: Doc::from_text(alloc, "ANY")?,
-            help: None,
-            anywhere: false,
-        }),
-        'N' => argument(alloc),
-        name => Ok(Item::Flag {
-            name: ShortLong::Short(name),
-            shorts: vec![in alloc; name]?,
-            env: None,
-            help: None,
-        }),
-    }
-}
-
-// An argument of which all is said.
-fn argument(alloc: Global) -> Result<Item, AllocError> {
-    Ok(Item::Argument {
-        name: ShortLong::Both('n', Text::new(alloc, "size")?),
-        shorts: vec![in alloc; 'n', 'm']?,
-        metavar: Text::new(alloc, "NUM")?,
-        env: Some(Text::new(alloc, "SIZE")?),
-        help: Some(Doc::from_text(alloc, "how large")?),
-    })
-}
-
-// The last tree, which is taken off.
-fn last(trees: &mut Vec<Meta>) -> Meta {
-    trees.pop().unwrap_or(Meta::Skip)
-}
-
-// The last two trees in order, which are taken off.
-fn last_two(trees: &mut Vec<Meta>) -> Result<Vec<Meta>, AllocError> {
-    let alloc = *trees.allocator();
-    let second = last(trees);
-    let first = last(trees);
-    Ok(vec![in alloc; first, second]?)
-}
-
-// The tree with something around it.
-fn wrapped(alloc: Global, sign: char, inner: Meta) -> Result<Meta, AllocError> {
-    let inner = Box::new(alloc, inner)?;
-    match sign {
-        '?' => Ok(Meta::Optional(inner)),
-        '!' => Ok(Meta::Strict(inner)),
-        '#' => Ok(Meta::Subsection(inner, Doc::from_text(alloc, "Sizes")?)),
-        _ => Ok(Meta::Item(Item::Command {
-            name: Text::new(alloc, "run")?,
-            short: Some('r'),
-            help: None,
-            meta: inner,
-        })),
-    }
-}
-
-// Puts what one sign of a row makes behind the trees so far.
-fn grow(trees: &mut Vec<Meta>, sign: char) -> Result<(), AllocError> {
-    let alloc = *trees.allocator();
-    let tree = match sign {
-        '&' => Meta::And(last_two(trees)?),
-        '|' => Meta::Or(last_two(trees)?),
-        '?' | '!' | '#' | '>' => wrapped(alloc, sign, last(trees))?,
-        letter => Meta::Item(item(alloc, letter)?),
-    };
-    trees.push(tree)?;
-    Ok(())
-}
 
 // The kind of an item.
 fn kind(item: Option<&Item>) -> &'static str {
@@ -186,11 +120,7 @@ fn copy_answers(alloc: Global, tree: &Meta) -> Result<String, AllocError> {
 
 // What the copy of a row's tree answers.
 fn row_answers(alloc: Global, row: &str) -> Result<String, AllocError> {
-    let mut trees = Vec::new(alloc);
-    for sign in row.chars() {
-        grow(&mut trees, sign)?;
-    }
-    let tree = last(&mut trees);
+    let tree = tree(alloc, row)?;
     copy_answers(alloc, &tree)
 }
 

@@ -9,4 +9,6 @@ mod documents;
 #[cfg(test)]
 mod help_pages;
 #[cfg(test)]
+mod trees;
+#[cfg(test)]
 mod values;

@@ -1,3 +1,4 @@
+//! Values of texts, and keys.
 ghost use Rattle.std.specs.Prelude.{◌≡◌, codes};
 ghost use Rattle.bpaf_text.specs.Meaning.{ReadsText};
 
