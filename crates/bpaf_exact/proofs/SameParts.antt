@@ -1,16 +1,14 @@
 -- Each flat type shows the same parts, whichever shape it shows, where its inner parsers do.
-use Rattle.std.proofs.Common.{◌≡◌, List, [], ◌∷◌, ◌++◌, Option, Some, None, Result}
+use Rattle.std.proofs.Common.{◌≡◌, List, [], ◌∷◌, ◌++◌, Option, Some, None}
 use Rattle.std.proofs.Common.{refl, sym, ap, ◌∙◌, append_assoc, append-nil}
-use Rattle.std.specs.declared.alloc.AllocError.{AllocError}
 use Rattle.bpaf_doc.specs.declared.doc.Piece.{Piece}
-use Rattle.bpaf_doc.specs.declared.meta.MetaInfo.{MetaInfo}
 use Rattle.bpaf_doc.specs.Shape.{Shape, Shapes, Or, Optional, Required, Many, Suffix}
-use Rattle.bpaf_doc.specs.Shape.{Subsection, CustomUsage, Skip, none, ◌then◌, members, shape_of}
+use Rattle.bpaf_doc.specs.Shape.{Subsection, CustomUsage, Skip, none, ◌then◌, members}
 use Rattle.bpaf_doc.specs.Walks.{parts, parts_of_all}
 use Rattle.bpaf_laws.specs.Choice.{ChoiceDescribes, alternatives, either, shapes_of}
 use Rattle.bpaf_laws.specs.Choices.{ChoicesDescribes, Nested}
 use Rattle.bpaf_laws.specs.Default.{DefaultDescribes, OptionalDescribes}
-use Rattle.bpaf_laws.specs.Hide.{SectionDescribes, TitledDescribes, UsageDescribes, usage_pieces}
+use Rattle.bpaf_laws.specs.Hide.{SectionDescribes, UsageDescribes, usage_pieces}
 use Rattle.bpaf_laws.specs.Product.{BothDescribes, LastDescribes, ProductDescribes}
 use Rattle.bpaf_laws.specs.Repeat.{ManyDescribes, SomeDescribes}
 use Rattle.bpaf_exact.specs.SameParts.{FieldsShowTheSame, ShowsTheSame}
@@ -53,15 +51,6 @@ module _ {inner : Shape → Type 0} (inside : ShowsTheSame inner) where
   -- what stands in a section
   pub section_shows : (title : List Piece) → ShowsTheSame (SectionDescribes inner title)
   section_shows title = around (λ shape. Subsection shape title) (λ shape. refl)
-
-  -- what stands in a section, below a title that a closure makes
-  pub titled_shows : (answers : MetaInfo → Result (List Piece) AllocError → Type 0)
-      → ShowsTheSame (TitledDescribes inner answers)
-  titled_shows answers = record {
-    same = λ a b first second.
-        ap parts first.4 ∙ (inside.same (shape_of first.0.0.now) (shape_of second.0.0.now)
-        first.2 second.2 ∙ sym (ap parts second.4));
-  }
 
 -- the parts of two lists of members, one after the other
 parts_joined : (xs ys : List Shape)

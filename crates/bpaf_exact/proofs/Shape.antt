@@ -16,7 +16,8 @@ use Rattle.bpaf_exact.specs.Wrappers.{Closure, Decides, map_closure, ClosedRan, 
 use Rattle.bpaf_exact.specs.Wrappers.{FallbackRan}
 use Rattle.bpaf_exact.specs.Derived.{some_closure, LastRan}
 use Rattle.bpaf_exact.specs.Shape.{EachAgrees, Shape, not_flat, alternative, single, complete}
-use Rattle.bpaf_exact.specs.Shape.{product, ShapeLaw, Agrees, only_if, closed_shape, either_shape}
+use Rattle.bpaf_exact.specs.Shape.{product, ShapeLaw, Agrees, only_if, closed_shape, dressed_shape}
+use Rattle.bpaf_exact.specs.Shape.{either_shape}
 use Rattle.bpaf_exact.specs.Shape.{choice_shape, choices_rest, alternative_only, choices_shape}
 use Rattle.bpaf_exact.specs.Shape.{repeat_shape, last_shape, optional_shape, fallback_shape}
 use Rattle.bpaf_exact.specs.Shape.{field_shape, may_follow, both_shape, alone_shape, con_shape}
@@ -42,6 +43,15 @@ closed_shape_law A B inner f names (single k q group gap) g l =
 closed_shape_law A B inner f names (complete k q value) g l =
     (closed_law A B inner k q value l.0 f g Refused, l.1)
 closed_shape_law A B inner f names (product q value) g l = tt
+
+-- another look round a field
+pub dressed_shape_law : (T : Type 0) (outcome : Outcome T) (names : List Names) (s : Shape T)
+    → ShapeLaw outcome names s → ShapeLaw outcome names (dressed_shape s)
+dressed_shape_law T outcome names not_flat law = tt
+dressed_shape_law T outcome names (alternative q value) law = law
+dressed_shape_law T outcome names (single k q group gap) law = law
+dressed_shape_law T outcome names (complete k q value) law = law
+dressed_shape_law T outcome names (product q value) law = tt
 
 -- A closure that never refuses agrees with every shape: map, count, collect, a constructor.
 pub never_refuses : (A B : Type 0) (f : Closure A B) → ((x : A) → f.no x → ⊥) → (s : Shape A)

@@ -69,6 +69,14 @@ closed_shape {A = A} {B = B} f (single k q group gap) =
 closed_shape {A = A} {B = B} f (complete k q value) = complete k q (ClosedValue A B value f)
 closed_shape f (product q value) = not_flat
 
+-- another look round a field; a product with something round it is no record
+abbrev pub dressed_shape : {T : Type 0} → Shape T → Shape T
+dressed_shape not_flat = not_flat
+dressed_shape (alternative q value) = alternative q value
+dressed_shape (single k q group gap) = single k q group gap
+dressed_shape (complete k q value) = complete k q value
+dressed_shape (product q value) = not_flat
+
 -- a choice of two alternatives
 abbrev pub either_shape : {T : Type 0} → Shape T → Shape T → Shape T
 either_shape (alternative q a) (alternative r b) = alternative (either q r) (either_value q a b)

@@ -2,7 +2,8 @@
 use Rattle.std.proofs.Common.{◌≡◌, Bool, true, false, List, ◌&&◌, if◌then◌else◌, refl}
 use Rattle.bpaf_exact.specs.Flat.{Named, OneWord, EachWord}
 use Rattle.bpaf_exact.specs.Shape.{Shape, not_flat, alternative, single, complete, product}
-use Rattle.bpaf_exact.specs.Shape.{closed_shape, repeat_shape, last_shape, optional_shape}
+use Rattle.bpaf_exact.specs.Shape.{closed_shape, dressed_shape, repeat_shape, last_shape}
+use Rattle.bpaf_exact.specs.Shape.{optional_shape}
 use Rattle.bpaf_exact.specs.Shape.{fallback_shape, unless, is_record}
 use Rattle.bpaf_exact.specs.Wrappers.{Closure}
 use Rattle.bpaf_record.specs.Form.{form_of, closed_form, completed_form, is_record_form}
@@ -20,6 +21,18 @@ closed_is f (complete Named q value) = refl
 closed_is f (complete OneWord q value) = refl
 closed_is f (complete EachWord q value) = refl
 closed_is f (product q value) = refl
+
+-- another look
+pub dressed_is : {T : Type 0} (s : Shape T) → closed_form (form_of s) ≡ form_of (dressed_shape s)
+dressed_is not_flat = refl
+dressed_is (alternative q value) = refl
+dressed_is (single Named q group gap) = refl
+dressed_is (single OneWord q group gap) = refl
+dressed_is (single EachWord q group gap) = refl
+dressed_is (complete Named q value) = refl
+dressed_is (complete OneWord q value) = refl
+dressed_is (complete EachWord q value) = refl
+dressed_is (product q value) = refl
 
 -- a repeat, and what is made of its list
 pub listed_is : {T B : Type 0} (f : Closure (List T) B) (s : Shape T)

@@ -27,8 +27,6 @@ mod pages;
 #[cfg(test)]
 mod shared;
 #[cfg(test)]
-mod sources;
-#[cfg(test)]
 mod texts;
 #[cfg(test)]
 mod wrappers;

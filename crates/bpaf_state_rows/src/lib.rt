@@ -15,3 +15,5 @@ mod lines;
 mod messages;
 #[cfg(test)]
 mod shared;
+#[cfg(test)]
+mod sources;

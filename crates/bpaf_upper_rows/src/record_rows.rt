@@ -354,7 +354,7 @@ const DOUBLED: &[Row<'static>] = &[
     ("-n", "err `-n` requires an argument `NUM`"),
 ];
 
-/// Compares the answers of a number in two sections, without a usage and doubled.
+/// Compares the answers of a number in a section, without a usage and doubled.
 fn compare_shown<P: FlatField<u64> + Drop>(
     rt: &(impl Abort + AllocGlobal),
     parser: P,
@@ -362,9 +362,7 @@ fn compare_shown<P: FlatField<u64> + Drop>(
 ) -> Result<(), Fail>
     requires { P.can_eval parser }
 {
-    let alloc = rt.alloc();
-    let inside = parser.hide_usage().group_help(Doc::new(alloc));
-    let titled = inside.with_group_help(|_| Ok(Doc::new(alloc)));
+    let titled = parser.hide_usage().group_help(Doc::new(rt.alloc()));
     compare(rt, titled.map(|n| n.saturating_add(n)), rows)
 }
 

@@ -1,6 +1,6 @@
 //! Which options are a flat record, of switches, numbers and words.
 use bpaf::params::{ParseArgument, ParseFlag, ParsePositional};
-use bpaf::{Parser, choice, construct, positional, short};
+use bpaf::{Doc, Parser, choice, construct, positional, short};
 use bpaf_record::{FlatField, Record};
 use std::alloc::{AllocError, Global};
 use std::test::Fail;
@@ -124,6 +124,52 @@ fn repeats(alloc: Global) -> Result<[bool; 6], AllocError> {
     ])
 }
 
+/// Whether a product without a usage text is one.
+fn is_hidden_flat(
+    alloc: Global,
+    verbose: ParseFlag<bool>,
+    file: ParsePositional<String>,
+) -> Result<bool, AllocError> {
+    is_flat(alloc, construct!(verbose, file).hide_usage())
+}
+
+/// Whether a product in a section is one.
+fn is_titled_flat(
+    alloc: Global,
+    verbose: ParseFlag<bool>,
+    file: ParsePositional<String>,
+) -> Result<bool, AllocError> {
+    is_flat(alloc, construct!(verbose, file).group_help(Doc::new(alloc)))
+}
+
+/// Whether a product with a closure round it is one.
+fn is_mapped_flat(
+    alloc: Global,
+    verbose: ParseFlag<bool>,
+    file: ParsePositional<String>,
+) -> Result<bool, AllocError> {
+    is_flat(alloc, construct!(verbose, file).map(|pair| pair.0))
+}
+
+/// Whether a product with a check round it is one.
+fn is_checked_flat(
+    alloc: Global,
+    verbose: ParseFlag<bool>,
+    file: ParsePositional<String>,
+) -> Result<bool, AllocError> {
+    is_flat(alloc, construct!(verbose, file).guard(|_| true, "no"))
+}
+
+/// Of products with something round them, whether each is a flat record.
+fn dressed(alloc: Global) -> Result<[bool; 4], AllocError> {
+    Ok([
+        is_hidden_flat(alloc, switch(alloc, 'v')?, word())?,
+        is_titled_flat(alloc, switch(alloc, 'v')?, word())?,
+        is_mapped_flat(alloc, switch(alloc, 'v')?, word())?,
+        is_checked_flat(alloc, switch(alloc, 'v')?, word())?,
+    ])
+}
+
 #[test]
 fn single_fields_are_told(rt: HostRuntime) -> Result<(), Fail> {
     let alloc = rt.alloc();
@@ -145,5 +191,6 @@ fn products_are_told(rt: HostRuntime) -> Result<(), Fail> {
     assert!(rt; !pair(alloc, word(), switch(alloc, 'v')?)?);
     assert!(rt; !pair(alloc, switch(alloc, 'v')?, number(alloc, 'v')?)?);
     assert!(rt; !nested(alloc, switch(alloc, 'v')?, number(alloc, 'n')?)?);
+    assert_eq!(rt; dressed(alloc)?, [false; 4]);
     Ok(())
 }

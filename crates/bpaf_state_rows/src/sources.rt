@@ -3,8 +3,7 @@ ghost use Rattle.std.specs.Prelude.{◌≢◌, codes};
 
 use crate::calls::{Call, Row, played};
 use crate::shared::{prints, reads};
-use bpaf::Args;
-use bpaf_words::{SplitFault, split_word};
+use bpaf_words::{Args, SplitFault, split_word};
 use std::alloc::{AllocError, Global};
 use std::collections::BTreeMap;
 use std::test::Fail;
