@@ -23,7 +23,8 @@
 //!   `memory_is_never_caught`).
 //! - [`ParseOrElse`] is one of two parsers, both evaluated from the same state: the table of
 //!   [`this_or_that`] tells which answer stands. That function, [`Start`], [`Branch`], [`or_meta`] and
-//!   [`is_want`] are for the crates of this repository, not for callers. The branch that took the leftmost place taken by only one of them wins (clause `leftmost_wins`).
+//!   [`is_want`] are for the crates of this repository, not for callers. The branch that took the
+//!   leftmost place taken by only one of them wins (clause `leftmost_wins`).
 //! - [`ParseHide`] names no missing item in its refusals (specs/Hide.antt); [`ParseUsage`],
 //!   [`ParseGroupHelp`] and [`ParseWithGroupHelp`] change only what is shown: their outcome, their
 //!   readings and their law are those of the parser inside.

@@ -40,8 +40,8 @@ pub fn wants_memory(failure: &ParseFailure) -> bool
     matches!(failure, ParseFailure::Memory)
 }
 
-/// Whether a step stops at an error; `untouched` tells that as many items are present as before it. It takes
-/// no memory.
+/// Whether a step stops at an error; `untouched` tells that as many items are present as before it.
+/// It takes no memory.
 pub fn stops_step(catches: bool, message: &Message, untouched: bool) -> bool
     ensures { result ≡ stops_step catches message.now untouched }
 {

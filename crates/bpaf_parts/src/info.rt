@@ -75,6 +75,18 @@ pub enum ExtraParams {
     Version(Doc),
 }
 
+impl ExtraParams {
+    /// An equal one; refused only for want of memory.
+    pub fn copy(&self) -> Result<ExtraParams, AllocError>
+        ensures { IfOk result (λ params. params ≡ self.now) }
+    {
+        match self {
+            ExtraParams::Help(full) => Ok(ExtraParams::Help(*full)),
+            ExtraParams::Version(version) => Ok(ExtraParams::Version(version.copy()?)),
+        }
+    }
+}
+
 /// An equal key; refused only for want of memory.
 fn copy_of(key: &Option<NamedArg>) -> Result<Option<NamedArg>, AllocError>
     ensures { IfOk result (λ copied. copied ≡ key.now) }

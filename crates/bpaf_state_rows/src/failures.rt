@@ -2,7 +2,7 @@
 use crate::shared::prints;
 use bpaf_doc::{Doc, Item, Text};
 use bpaf_line::{Error, Message, MissingItem, MissingItems, ParseFailure};
-use bpaf_parts::Info;
+use bpaf_parts::{ExtraParams, Info};
 use std::alloc::{AllocError, Global};
 use std::test::Fail;
 
@@ -109,5 +109,6 @@ const KEYS: &str = "Info { version: None, descr: None, header: None, footer: Non
 
 #[test]
 fn keys_of_a_run_are_copied(rt: HostRuntime) -> Result<(), Fail> {
-    prints(&rt, Info::new().copy(), KEYS)
+    prints(&rt, Info::new().copy(), KEYS)?;
+    prints(&rt, ExtraParams::Help(true).copy(), "Help(true)")
 }
