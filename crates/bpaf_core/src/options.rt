@@ -195,7 +195,8 @@ impl<T: Drop, P: Parser<T>> OptionParser<T, P> {
         requires { P.can_eval self.now.inner }
         ensures outcome { RunsWords T (P.outcome self.now.inner) (P.describes self.now.inner)
             self.now.info (given_of args.entry) result }
-        ensures named { IfErr result (IsOneOfTwelve (P.outcome self.now.inner)) }
+        ensures named { IfErr result (IsOneOfTwelve (P.outcome self.now.inner)
+            (P.describes self.now.inner) self.now.info (given_of args.entry)) }
         ensures dealt { IfOk result (λ v. IsDealtOut T (P.reads self.now.inner)
             (P.describes self.now.inner) self.now.info (given_of args.entry) v) }
     {
@@ -383,7 +384,8 @@ impl<T: Drop, P: Parser<T> + Drop> OptionParser<T, P> {
         requires { P.can_eval self.inner }
         ensures outcome { RunsWords T (P.outcome self.inner) (P.describes self.inner)
             self.info (given_of args.entry) result }
-        ensures named { IfErr result (IsOneOfTwelve (P.outcome self.inner)) }
+        ensures named { IfErr result (IsOneOfTwelve (P.outcome self.inner)
+            (P.describes self.inner) self.info (given_of args.entry)) }
         ensures dealt { IfOk result (λ v. IsDealtOut T (P.reads self.inner)
             (P.describes self.inner) self.info (given_of args.entry) v) }
     {

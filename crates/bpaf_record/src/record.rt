@@ -33,7 +33,7 @@ pub trait Record<T> {
     ghost answers: { Self → Given → Result T ParseFailure → Type 0 };
 
     /// Which refusals have one of the twelve names, or are handed on.
-    ghost refuses: { Self → ParseFailure → Type 0 };
+    ghost refuses: { Self → Given → ParseFailure → Type 0 };
 
     /// Which values are dealt out of words.
     ghost deals: { Self → Given → T → Type 0 };
@@ -67,7 +67,7 @@ pub trait Record<T> {
         requires can { can_run self.now }
         requires record { is_flat self.now ≡ true }
         ensures outcome { answers self.now (given_of args.entry) result }
-        ensures named { IfErr result (refuses self.now) }
+        ensures named { IfErr result (refuses self.now (given_of args.entry)) }
         ensures dealt { IfOk result (deals self.now (given_of args.entry)) }
         ensures exact { agrees self.now → (r : Result T ParseFailure)
             → answers self.now (given_of args.entry) r
@@ -126,7 +126,8 @@ impl<T: Drop, P: FlatField<T>> Record<T> for OptionParser<T, P> {
     ghost answers = { λ p given.
         RunsWords T (P.outcome p.inner) (P.describes p.inner) p.info given };
 
-    ghost refuses = { λ p. IsOneOfTwelve (P.outcome p.inner) };
+    ghost refuses = { λ p given.
+        IsOneOfTwelve (P.outcome p.inner) (P.describes p.inner) p.info given };
 
     ghost deals = { λ p given.
         IsDealtOut T (P.reads p.inner) (P.describes p.inner) p.info given };

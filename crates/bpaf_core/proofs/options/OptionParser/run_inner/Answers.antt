@@ -29,7 +29,7 @@ returns-clause-outcome g c =
 
 pub returns-in_default-clause-named : goal.returns-in_default-clause-named
 returns-in_default-clause-named g c =
-    memory_is_named _
+    memory_is_named _ _ _ (given_of c.args.args)
 
 pub returns-in-Ok-construct-clause-named : goal.returns-in-Ok-construct-clause-named
 returns-in-Ok-construct-clause-named g c =
