@@ -69,7 +69,18 @@ fn tell(rt: &HostRuntime, failure: ParseFailure) -> io::Result<ExitCode> {
 
 /// Tells what a backup reads off words of its own.
 fn show_backup(rt: &HostRuntime) -> io::Result<()> {
-    let words = ["-j", "4", "a", "--depth=2", "-k1", "-v", "b", "-s", "5", "c"];
+    let words = [
+        "-j",
+        "4",
+        "a",
+        "--depth=2",
+        "-k1",
+        "-v",
+        "b",
+        "-s",
+        "5",
+        "c",
+    ];
     match backup::read_backup(rt.alloc(), &words) {
         Ok(Some(backup)) => {
             let verbose = backup.verbose;
