@@ -1,11 +1,48 @@
 //! Help pages of trees, byte for byte; those of whole parsers stand in the rows of these.
 use crate::trees::{told, tree};
+use bpaf_doc::{Doc, Meta};
 use bpaf_pages::{HelpTexts, render_help};
 use std::alloc::{AllocError, Global};
 use std::test::Fail;
 
-// The page of a description and of what stands behind it, with the name of the program and a text
-// behind the usage.
+// The page of two trees.
+fn printed(
+    alloc: Global,
+    path: &[String],
+    header: Option<&Doc>,
+    shown: &Meta,
+    extra: &Meta,
+) -> Result<String, AllocError> {
+    let texts = HelpTexts {
+        usage: None,
+        descr: None,
+        header,
+        footer: None,
+    };
+    render_help(alloc, path, texts, shown, extra)?.monochrome(true)
+}
+
+// The path of a program.
+fn path_of(alloc: Global, name: &str) -> Result<Vec<String>, AllocError> {
+    let mut path = Vec::new(alloc);
+    path.push(String::from_str(alloc, name)?)?;
+    Ok(path)
+}
+
+// The page of two trees, with the name of the program and a text behind the usage.
+fn headed(
+    alloc: Global,
+    name: &str,
+    header: &str,
+    shown: &Meta,
+    extra: &Meta,
+) -> Result<String, AllocError> {
+    let path = path_of(alloc, name)?;
+    let header = told(alloc, header)?;
+    printed(alloc, path.as_slice(), header.as_ref(), shown, extra)
+}
+
+// The page of a description and of what stands behind it.
 fn page(
     alloc: Global,
     lines: &str,
@@ -15,17 +52,7 @@ fn page(
 ) -> Result<String, AllocError> {
     let shown = tree(alloc, lines)?;
     let extra = tree(alloc, extra)?;
-    let mut path = Vec::new(alloc);
-    path.push(String::from_str(alloc, name)?)?;
-    let header = told(alloc, header)?;
-    let texts = HelpTexts {
-        usage: None,
-        descr: None,
-        header: header.as_ref(),
-        footer: None,
-    };
-    let page = render_help(alloc, &path, texts, &shown, &extra)?;
-    page.monochrome(true)
+    headed(alloc, name, header, &shown, &extra)
 }
 
 const HELP: &str = "flag h help Prints help information";

@@ -17,7 +17,7 @@ use Rattle.bpaf_exact.specs.Leaves.{WordRan, flag_field, argument_field, word_fi
 use Rattle.bpaf_exact.specs.OneView.{Alike, HasOneView, pair_view}
 use Rattle.bpaf_exact.specs.Record.{RecordValue}
 use Rattle.bpaf_exact.specs.Shape.{Shape, ShapeLaw, alone_shape, both_shape, many_shape}
-use Rattle.bpaf_exact.specs.Shape.{product_roles, product_value}
+use Rattle.bpaf_exact.specs.Shape.{product_roles, product_reading}
 use Rattle.bpaf_exact.specs.Wrappers.{map_closure}
 use Rattle.bpaf_exact.proofs.Arguments.{argument_field_law}
 use Rattle.bpaf_exact.proofs.Flags.{flag_field_law}
@@ -183,6 +183,6 @@ same_lines words texts v w first second =
     second.is_context in
     record_looks_one Options (List ℕ) lines OptionsOutcome (verbose_names ∷ num_names ∷ [])
     options_shape refl options_law options_view second.context v w
-    (subst (λ context. RecordValue (product_roles options_shape) (product_value options_shape)
-    context v) one first.read)
+    (subst (λ context. RecordValue (product_roles options_shape)
+    (product_reading options_shape).value context v) one first.read)
     second.read

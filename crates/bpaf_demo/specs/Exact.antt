@@ -9,7 +9,7 @@ use Rattle.bpaf_line.specs.declared.failure.ParseFailure.{ParseFailure}
 use Rattle.bpaf_exact.specs.Leaves.{flag_field, argument_field, word_field}
 use Rattle.bpaf_exact.specs.Record.{RecordValue}
 use Rattle.bpaf_exact.specs.Shape.{Shape, field_shape, many_shape, both_shape, alone_shape}
-use Rattle.bpaf_exact.specs.Shape.{con_shape, product_roles, product_value}
+use Rattle.bpaf_exact.specs.Shape.{con_shape, product_roles, product_reading}
 use Rattle.bpaf_exact.specs.Wrappers.{map_closure}
 use Rattle.bpaf_record.specs.Record.{IsValueOrWant}
 use Rattle.bpaf_demo.specs.declared.options.Options.{Options}
@@ -50,7 +50,7 @@ options_shape = con_shape (map_closure (λ x v. v ≡ options_of x)) fields_shap
 pub record IsOptionsOf (words : List (List ℕ)) (v : Options) : Type 0 where
   pub context : Context
   pub is_context : IsContext program_known (program_given words) context
-  pub read : RecordValue (product_roles options_shape) (product_value options_shape) context v
+  pub read : RecordValue (product_roles options_shape) (product_reading options_shape).value context v
 
 -- an answer to words is exact: options only where they are the record's value on the words; and
 -- where the record has a value there, one of them, or want of memory

@@ -9,14 +9,15 @@ use Rattle.bpaf_line.specs.Situation.{Context, Situation, beginning, item_in, is
 use Rattle.bpaf_line.specs.Taking.{open_item}
 use Rattle.bpaf_laws.specs.Reading.{Outcome}
 use Rattle.bpaf_exact.specs.Pieces.{Roles, Piece, Cut}
-use Rattle.bpaf_exact.specs.Flat.{cells, NonePresent, IsWhole, FieldsLaw, ReadOff}
+use Rattle.bpaf_exact.specs.Flat.{cells, NonePresent, IsWhole, FieldsLaw, FieldsReading, ReadOff}
 use Rattle.bpaf_exact.specs.Record.{line_cells, RecordValue, Answer, Accepted, NoMemory, Refusal}
 use Rattle.bpaf_exact.specs.Record.{RunRan, run_value, run_leftover, run_memory, run_refusal}
 use Rattle.bpaf_exact.specs.Record.{IsNoValue, IsAnswer, IsExact}
-use Rattle.bpaf_exact.specs.Shape.{Shape, ShapeLaw, is_record, product_roles, product_value}
+use Rattle.bpaf_exact.specs.Shape.{Shape, ShapeLaw, is_record, product_roles, product_reading}
 use Rattle.bpaf_exact.specs.Shape.{record_shape}
 use Rattle.bpaf_exact.specs.Theorem.{RunsExactly}
 use Rattle.bpaf_exact.proofs.Counts.{open_present}
+use Rattle.bpaf_exact.proofs.Cuts.{one_cut}
 use Rattle.bpaf_exact.proofs.Places.{same_cells}
 use Rattle.bpaf_exact.proofs.Records.{none_counted, count_none}
 use Rattle.bpaf_exact.proofs.Shape.{record_law}
@@ -49,8 +50,8 @@ no_value (Accepted x) v n h = n
 no_value NoMemory v n h = cc
 no_value Refusal v n h = cc
 
-module _ (V : Type 0) (outcome : Outcome V) (r : Roles) (value : List Piece → V → Type 0)
-    (l : FieldsLaw V outcome r value) (context : Context) where
+module _ (V : Type 0) (outcome : Outcome V) (r : Roles) (reading : FieldsReading V)
+    (l : FieldsLaw V outcome r reading) (context : Context) where
   -- the situation at the beginning
   abbrev s : Situation
   s = beginning context
@@ -69,67 +70,66 @@ module _ (V : Type 0) (outcome : Outcome V) (r : Roles) (value : List Piece → 
       → open_count t ≡ 0
   counts_none t v o n = open_present t ∙ count_none n
 
-  -- a value of the line is one of the first cells
-  from_line : (v : V) → RecordValue r value context v → ReadOff V r value (cells s) v
-  from_line v h = subst (λ cs. ReadOff V r value cs v) (sym (first_cells_are context)) h
+  -- what is read off the first cells is read off the line
+  to_line : (v : V) → ReadOff V r reading.value (cells s) v → RecordValue r reading.value context v
+  to_line v h = subst (λ cs. ReadOff V r reading.value cs v) (first_cells_are context) h
 
-  -- and the other way
-  to_line : (v : V) → ReadOff V r value (cells s) v → RecordValue r value context v
-  to_line v h = subst (λ cs. ReadOff V r value cs v) (first_cells_are context) h
+  -- a cut of the line is one of the first cells
+  from_line : (os : List Piece) → Cut r (line_cells context) os → Cut r (cells s) os
+  from_line os c = subst (λ cs. Cut r cs os) (sym (first_cells_are context)) c
 
   -- a value comes only where it is one of the record's
   sound : (a : Answer V) → RunRan V outcome s a → (v : V) → a ≡ Accepted v
-      → RecordValue r value context v
+      → RecordValue r reading.value context v
   sound a (run_value {v = x} {t = t} o e) v h =
       let d : x ≡ v = cc in
       let i = l.ok s t x whole o (nothing_left t x o e) in
-      subst (λ z. RecordValue r value context z) d (to_line x i)
+      subst (λ z. RecordValue r reading.value context z) d (to_line x i)
   sound a (run_leftover o e n) v h = absurd (no_value a v n h)
   sound a (run_memory o e) v h = absurd cc
   sound a (run_refusal o e n) v h = absurd (no_value a v n h)
 
-  -- where the record has a value, each answer is one, or want of memory
-  complete : (a : Answer V) → RunRan V outcome s a → (v : V) → RecordValue r value context v
-      → IsAnswer (λ w. RecordValue r value context w) a
-  complete a (run_value {v = x} {t = t} o e) v h =
-      let i = from_line v h in
+  -- where each field has a value, each answer is one of the record's, or want of memory
+  complete : (a : Answer V) → RunRan V outcome s a → (os : List Piece)
+      → Cut r (line_cells context) os → reading.each os
+      → IsAnswer (λ w. RecordValue r reading.value context w) a
+  complete a (run_value {v = x} {t = t} o e) os c h =
       to_line x (record {
-        cut_into = i.cut_into;
-        cut = i.cut;
-        read =
-            (l.answers s t (Ok x) i.cut_into v whole o i.cut i.read).0;
+        cut_into = os;
+        cut = from_line os c;
+        read = (l.answers s t (Ok x) os whole o (from_line os c) h).0;
       })
-  complete a (run_leftover {v = x} {t = t} o e n) v h = let i = from_line v h in
-      absurd (e (counts_none t x o (l.answers s t (Ok x) i.cut_into v whole o i.cut i.read).1))
-  complete a (run_memory o e) v h = tt
-  complete a (run_refusal {e = x} {t = t} o e n) v h = let i = from_line v h in
-      absurd (e (l.answers s t (Err x) i.cut_into v whole o i.cut i.read))
+  complete a (run_leftover {v = x} {t = t} o e n) os c h =
+      absurd (e (counts_none t x o (l.answers s t (Ok x) os whole o (from_line os c) h).1))
+  complete a (run_memory o e) os c h = tt
+  complete a (run_refusal {e = x} {t = t} o e n) os c h =
+      absurd (e (l.answers s t (Err x) os whole o (from_line os c) h))
+
+  -- where one has none, no answer is a value: the line has one cut
+  refused : (a : Answer V) → RunRan V outcome s a → (os : List Piece)
+      → Cut r (line_cells context) os → ¬ (reading.each os) → (v : V) → ¬ (a ≡ Accepted v)
+  refused a ran os c none v h =
+      let i = sound a ran v h in
+      none (subst reading.each (one_cut r _ i.cut_into os l.named i.cut c)
+      (l.has_each i.cut_into v i.read))
 
   -- THE THEOREM: on every line each answer of a run is a value of the record, want of memory, or a
   -- refusal where the record has no value.
-  pub exact : (a : Answer V) → RunRan V outcome s a → IsExact V r value context a
-  exact a ran = record { sound = sound a ran; complete = complete a ran }
+  pub exact : (a : Answer V) → RunRan V outcome s a → IsExact V r reading context a
+  exact a ran =
+      record { sound = sound a ran; complete = complete a ran; refused = refused a ran }
 
--- What is left over is refused: a line without a cut gets no value, as with a foreign key, an
--- ArgWord after a flag's key
--- or a key without its value; nor does a line whose pieces give a field no value, as with a surplus
--- occurrence or word.
-pub uncut_refused : (V : Type 0) (r : Roles) (value : List Piece → V → Type 0) (context : Context)
-    (a : Answer V) (v : V) → IsExact V r value context a
-    → ((os : List Piece) → Cut r (line_cells context) os → ⊥) → a ≡ Accepted v → ⊥
-uncut_refused V r value context a v e n h = let i = e.sound v h in n i.cut_into i.cut
-
--- nor does a line whose pieces give a field no value, as with one occurrence or word too many
-pub surplus_refused : (V : Type 0) (r : Roles) (value : List Piece → V → Type 0) (context : Context)
-    (a : Answer V) (v : V) → IsExact V r value context a
-    → ((os : List Piece) (w : V) → Cut r (line_cells context) os → value os w → ⊥) → a ≡ Accepted v
-    → ⊥
-surplus_refused V r value context a v e n h = let i = e.sound v h in n i.cut_into v i.cut i.read
+-- A line without a cut gets no value, as with a foreign key, an ArgWord after a flag's key or a key
+-- without its value.
+pub uncut_refused : (V : Type 0) (r : Roles) (reading : FieldsReading V) (context : Context)
+    (a : Answer V) (v : V) → IsExact V r reading context a
+    → ((os : List Piece) → ¬ (Cut r (line_cells context) os)) → ¬ (a ≡ Accepted v)
+uncut_refused V r reading context a v e n h = let i = e.sound v h in n i.cut_into i.cut
 
 -- each answer of a run of a flat record is exact
 pub runs_exactly : (V : Type 0) (outcome : Outcome V) (names : List Names) (s : Shape V)
     → is_record s ≡ true → ShapeLaw outcome names s → (context : Context)
     → RunsExactly outcome s context
 runs_exactly V outcome names s h l context a r =
-    exact V outcome (product_roles (record_shape s)) (product_value (record_shape s))
+    exact V outcome (product_roles (record_shape s)) (product_reading (record_shape s))
     (record_law V outcome names s h l) context a r

@@ -4,8 +4,8 @@ use Rattle.bpaf_line.specs.declared.error.Error.{Error}
 use Rattle.bpaf_line.specs.Situation.{Situation}
 use Rattle.bpaf_laws.specs.Reading.{Outcome}
 use Rattle.bpaf_doc.specs.Names.{Names}
-use Rattle.bpaf_exact.specs.Pieces.{Roles, Piece}
-use Rattle.bpaf_exact.specs.Flat.{FieldsLaw}
+use Rattle.bpaf_exact.specs.Pieces.{Roles}
+use Rattle.bpaf_exact.specs.Flat.{FieldsLaw, FieldsReading}
 use Rattle.bpaf_exact.specs.Shape.{Shape, not_flat, alternative, single, complete, product}
 use Rattle.bpaf_exact.specs.Shape.{ShapeLaw}
 
@@ -15,12 +15,13 @@ pub record AllowsNoMore (T : Type 0) (a b : Outcome T) : Type 0 where
 
 -- so does a list of fields
 pub narrower_fields : (V : Type 0) (a b : Outcome V) → AllowsNoMore V a b
-    → (r : Roles) (value : List Piece → V → Type 0) → FieldsLaw V a r value → FieldsLaw V b r value
-narrower_fields V a b n r value l = record {
+    → (r : Roles) (fields : FieldsReading V) → FieldsLaw V a r fields → FieldsLaw V b r fields
+narrower_fields V a b n r fields l = record {
   named = l.named;
   steady = λ s t v w o. l.steady s t v w (n.within s t (Ok v) o);
   ok = λ s t v w o e. l.ok s t v w (n.within s t (Ok v) o) e;
-  answers = λ s t x os v w o c h. l.answers s t x os v w (n.within s t x o) c h;
+  has_each = l.has_each;
+  answers = λ s t x os w o c h. l.answers s t x os w (n.within s t x o) c h;
 }
 
 -- and a field of any shape
@@ -54,4 +55,4 @@ narrower_shape T a b n keys (complete k q value) l = (
   },
   l.1,
 )
-narrower_shape T a b n keys (product q value) l = (narrower_fields T a b n q value l.0, l.1)
+narrower_shape T a b n keys (product q fields) l = (narrower_fields T a b n q fields l.0, l.1)

@@ -10,7 +10,7 @@ use Rattle.bpaf_line.specs.Situation.{Context}
 use Rattle.bpaf_laws.specs.Reading.{Outcome}
 use Rattle.bpaf_exact.specs.Pieces.{Roles, Piece, One, Two, is_own}
 use Rattle.bpaf_exact.specs.Names.{are_all_apart}
-use Rattle.bpaf_exact.specs.Flat.{Kind, Named}
+use Rattle.bpaf_exact.specs.Flat.{FieldsLaw, FieldsReading, Kind, Named}
 use Rattle.bpaf_exact.specs.Single.{Groups, Gap, FrontOf, Own, own_none, own_more, SingleLaw}
 use Rattle.bpaf_exact.specs.Single.{SingleValue, of_group, of_gap, OwnList, listed}
 use Rattle.bpaf_exact.specs.Single.{listed_and_absent, only_absent}
@@ -26,7 +26,7 @@ use Rattle.bpaf_exact.specs.Shape.{ShapeLaw, Agrees, only_if, closed_shape, eith
 use Rattle.bpaf_exact.specs.Shape.{choice_shape, choices_rest, alternative_only, choices_shape}
 use Rattle.bpaf_exact.specs.Shape.{repeat_shape, many_shape, last_shape, optional_shape}
 use Rattle.bpaf_exact.specs.Shape.{fallback_shape, field_shape, may_follow, both_shape, alone_shape}
-use Rattle.bpaf_exact.specs.Shape.{con_shape, record_shape, is_record, product_roles, product_value}
+use Rattle.bpaf_exact.specs.Shape.{con_shape, record_shape, is_record, product_roles, product_reading}
 use Rattle.bpaf_exact.specs.OneView.{Alike, OneGroup, HasOneView, Respects, option_view, pair_view}
 use Rattle.bpaf_exact.specs.OneView.{LooksLike, RunsToOne}
 use Rattle.bpaf_exact.proofs.Alternative.{alternative_single}
@@ -53,7 +53,7 @@ module _ (A B X Y : Type 0) (see : A → X) (look : B → Y) (f : Closure A B)
     agrees_on gap.absent u.1,
   )
   view_agrees (complete k q value) u = λ os. agrees_on (value os) (u os)
-  view_agrees (product q value) u = λ os. agrees_on (value os) (u os)
+  view_agrees (product q fields) u = λ os. agrees_on (fields.value os) (u os)
 
   -- Its answers look alike again.
   pub closed_view : (s : Shape A) → HasOneView see s → HasOneView look (closed_shape f s)
@@ -67,7 +67,7 @@ module _ (A B X Y : Type 0) (see : A → X) (look : B → Y) (f : Closure A B)
   )
   closed_view (complete k q value) u =
       λ os v w a b. respects.same a.from b.from v w (u os a.from b.from a.read b.read) a.made b.made
-  closed_view (product q value) u = tt
+  closed_view (product q fields) u = tt
 
   -- what a constructor makes of values that look alike looks alike
   pub con_view : (s : Shape A) → HasOneView see s → HasOneView look (con_shape f s)
@@ -75,7 +75,7 @@ module _ (A B X Y : Type 0) (see : A → X) (look : B → Y) (f : Closure A B)
   con_view (alternative q value) u = tt
   con_view (single k q group gap) u = tt
   con_view (complete k q value) u = tt
-  con_view (product q value) u =
+  con_view (product q fields) u =
       λ os v w a b. respects.same a.from b.from v w (u os a.from b.from a.read b.read) a.made b.made
 
 -- Leaves.
@@ -186,7 +186,7 @@ only_view T X see not_flat u = tt
 only_view T X see (alternative q value) u = u
 only_view T X see (single k q group gap) u = tt
 only_view T X see (complete k q value) u = tt
-only_view T X see (product q value) u = tt
+only_view T X see (product q fields) u = tt
 
 -- a choice of any number of parsers
 pub choices_view : (P T X : Type 0) (see : T → X) (keys : P → List Names) (shape : P → Shape T)
@@ -307,7 +307,7 @@ module _ (T X : Type 0) (see : T → X) (inner : Outcome T) where
       (front_view T X see value u) (λ v w a b. absurd a)
   repeat_view names (single k q group gap) l u = list_view T X see inner k q group gap l.0 u.0 u.1
   repeat_view names (complete k q value) l u = tt
-  repeat_view names (product q value) l u = tt
+  repeat_view names (product q fields) l u = tt
 
   -- its last value
   pub last_of_view : (names : List Names) (s : Shape T) → ShapeLaw inner names s → HasOneView see s
@@ -318,7 +318,7 @@ module _ (T X : Type 0) (see : T → X) (inner : Outcome T) where
       (front_view T X see value u) (λ v w a b. absurd a)
   last_of_view names (single k q group gap) l u = last_view T X see inner k q group gap l.0 u.0 u.1
   last_of_view names (complete k q value) l u = tt
-  last_of_view names (product q value) l u = tt
+  last_of_view names (product q fields) l u = tt
 
   -- a field that may be left out
   pub optional_field_view : (names : List Names) (s : Shape T) → ShapeLaw inner names s
@@ -330,7 +330,7 @@ module _ (T X : Type 0) (see : T → X) (inner : Outcome T) where
   optional_field_view names (single k q group gap) l u =
       optional_value_view T X see inner k q group gap l.0 u.0 u.1
   optional_field_view names (complete k q value) l u = tt
-  optional_field_view names (product q value) l u = tt
+  optional_field_view names (product q fields) l u = tt
 
   -- a field with a default
   pub fallback_view : (f : Closure (Unit {0}) T) → Alike see (λ v. f.yes tt v)
@@ -343,7 +343,7 @@ module _ (T X : Type 0) (see : T → X) (inner : Outcome T) where
   fallback_view f given names (single k q group gap) l u =
       fallback_value_view T X see inner k q group gap l.0 u.0 u.1 f given
   fallback_view f given names (complete k q value) l u = tt
-  fallback_view f given names (product q value) l u = tt
+  fallback_view f given names (product q fields) l u = tt
 
   -- any field of a record
   pub field_view : (names : List Names) (s : Shape T) → ShapeLaw inner names s → HasOneView see s
@@ -354,7 +354,7 @@ module _ (T X : Type 0) (see : T → X) (inner : Outcome T) where
       (front_view T X see value u) (λ v w a b. absurd a)
   field_view names (single k q group gap) l u = value_view T X see inner k q group gap l.0 u.0 u.1
   field_view names (complete k q value) l u = u
-  field_view names (product q value) l u = tt
+  field_view names (product q fields) l u = tt
 
 -- The list of a repeat, as the program keeps it.
 
@@ -398,7 +398,7 @@ module _ (T X : Type 0) (see : T → X) where
   alone_view (alternative q value) u = tt
   alone_view (single k q group gap) u = tt
   alone_view (complete k q value) u = λ os v w a b. u _ v w a.read b.read
-  alone_view (product q value) u = tt
+  alone_view (product q fields) u = tt
 
   record_view : (inner : Outcome T) (names : List Names) (s : Shape T) → ShapeLaw inner names s
       → HasOneView see s → HasOneView see (record_shape s)
@@ -410,37 +410,39 @@ module _ (T X : Type 0) (see : T → X) where
       alone_view (field_shape (single k q group gap))
       (field_view T X see inner names (single k q group gap) l u)
   record_view inner names (complete k q value) l u = alone_view (complete k q value) u
-  record_view inner names (product q value) l u = u
+  record_view inner names (product q fields) l u = u
 
   -- the values of a record
   product_view : (s : Shape T) → HasOneView see s → (os : List Piece)
-      → Alike see (product_value s os)
+      → Alike see ((product_reading s).value os)
   product_view not_flat u os v w a b = absurd a
   product_view (alternative q value) u os v w a b = absurd a
   product_view (single k q group gap) u os v w a b = absurd a
   product_view (complete k q value) u os v w a b = absurd a
-  product_view (product q value) u os v w a b = u os v w a b
+  product_view (product q fields) u os v w a b = u os v w a b
 
   -- an exact answer looks like each value of the record
-  like_this : (r : Roles) (value : List Piece → T → Type 0) (context : Context)
-      → Alike see (λ v. RecordValue r value context v) → (a : Answer T) (v : T)
-      → IsExact T r value context a
-      → RecordValue r value context v → LooksLike see v a
-  like_this r value context one (Accepted w) v e h = one w v (e.sound w refl) h
-  like_this r value context one NoMemory v e h = tt
-  like_this r value context one Refusal v e h = e.complete v h
+  like_this : (inner : Outcome T) (r : Roles) (reading : FieldsReading T) (context : Context)
+      → FieldsLaw T inner r reading
+      → Alike see (λ v. RecordValue r reading.value context v) → (a : Answer T) (v : T)
+      → IsExact T r reading context a
+      → RecordValue r reading.value context v → LooksLike see v a
+  like_this inner r reading context l one (Accepted w) v e h = one w v (e.sound w refl) h
+  like_this inner r reading context l one NoMemory v e h = tt
+  like_this inner r reading context l one Refusal v e h =
+      e.complete h.cut_into h.cut (l.has_each h.cut_into v h.read)
 
   -- All values of a line look alike.
   pub record_looks_one : (outcome : Outcome T) (names : List Names) (s : Shape T)
       → is_record s ≡ true → ShapeLaw outcome names s → HasOneView see s → (context : Context)
       → Alike see (λ v. RecordValue (product_roles (record_shape s))
-      (product_value (record_shape s)) context v)
+      (product_reading (record_shape s)).value context v)
   record_looks_one outcome names s h l u context v w a b =
       let f = record_law T outcome names s h l in
       let c = one_cut
       (product_roles (record_shape s)) _ a.cut_into b.cut_into f.named a.cut b.cut in
       product_view (record_shape s) (record_view outcome names s l u) b.cut_into v w
-      (subst (λ os. product_value (record_shape s) os v) c a.read) b.read
+      (subst (λ os. (product_reading (record_shape s)).value os v) c a.read) b.read
 
   -- Where the record has a value, each answer looks like it, or is want of memory; with the value
   -- itself for a view, it is that value.
@@ -448,5 +450,6 @@ module _ (T X : Type 0) (see : T → X) where
       → ShapeLaw outcome names s → HasOneView see s → (context : Context)
       → RunsToOne see outcome s context
   runs_to_one outcome names s h l u context a v ran r =
-      like_this _ _ context (record_looks_one outcome names s h l u context) a v
+      like_this outcome _ _ context (record_law T outcome names s h l)
+      (record_looks_one outcome names s h l u context) a v
       (runs_exactly T outcome names s h l context a ran) r

@@ -15,7 +15,7 @@ use Rattle.bpaf_exact.specs.Pieces.{pieces, TakesSome}
 use Rattle.bpaf_exact.specs.Flat.{cells, NonePresent, IsWhole, Steady, Kind, Named, OneWord}
 use Rattle.bpaf_exact.specs.Flat.{EachWord, front, back, share, left, keys, IsWords, OwnItems}
 use Rattle.bpaf_exact.specs.Flat.{LeavesNone, FieldTook, FieldLaw, ReadOff, GivesAll, FieldsLaw}
-use Rattle.bpaf_exact.specs.Flat.{Before, BothValue, Gives, class, OfMemory}
+use Rattle.bpaf_exact.specs.Flat.{Before, FieldsReading, Gives, both_reading, class, OfMemory}
 use Rattle.bpaf_exact.proofs.Classes.{memory_class, not_memory}
 use Rattle.bpaf_exact.proofs.Cells.{value_not_key, word_not_key, pieces_of_cut, put_back_some}
 use Rattle.bpaf_exact.proofs.Cells.{take_some_from}
@@ -299,8 +299,12 @@ module _ (A B : Type 0) (first : Outcome A) (rest : Outcome B) where
   values_of_both s t v o = joined_values s o.middle t o.a o.b v o.first_ran o.rest_ran o.answer
 
 module _ (A B : Type 0) (first : Outcome A) (rest : Outcome B) (k : Kind) (q r : Roles)
-    (fv : List Piece → A → Type 0) (rv : List Piece → B → Type 0)
-    (lf : FieldLaw A first k q fv) (lr : FieldsLaw B rest r rv) (b : Before k q r) where
+    (fv : List Piece → A → Type 0) (others_read : FieldsReading B)
+    (lf : FieldLaw A first k q fv) (lr : FieldsLaw B rest r others_read) (b : Before k q r) where
+  -- how both read the pieces
+  abbrev reading : FieldsReading (A × B)
+  reading = both_reading k q fv others_read
+
   -- a product changes nothing but what is taken
   both_steady : (s t : Situation) (v : A × B) → IsWhole s → BothOutcome first rest s (Ok v) t
       → Steady s t
@@ -313,7 +317,7 @@ module _ (A B : Type 0) (first : Outcome A) (rest : Outcome B) (k : Kind) (q r :
   -- its values are read off a cut
   both_reads : (s t : Situation) (v : A × B) → IsWhole s → BothOutcome first rest s (Ok v) t
       → NonePresent (cells t)
-      → ReadOff (A × B) (either (keys k q) r) (BothValue k q fv rv) (cells s) v
+      → ReadOff (A × B) (either (keys k q) r) reading.value (cells s) v
   both_reads s t v w o e =
       let h = values_of_both A B first rest s t v o in
       let i = lf.ok s h.middle v.0 w h.first_ran in
@@ -325,67 +329,67 @@ module _ (A B : Type 0) (first : Outcome A) (rest : Outcome B) (k : Kind) (q r :
         read = (
           subst (λ os. fv os v.0) p.own (i.read (none_left k q r lf.own b after.cut)),
           subst
-              (λ os. rv os v.1) (sym p.leaves) after.read,
+              (λ os. others_read.value os v.1) (sym p.leaves) after.read,
         );
       }
 
-  -- where the cut has values, the first field answers one, or want of memory
-  first_gives : (s m : Situation) (a : Result A Error) (os : List Piece) (v : A × B) → IsWhole s
-      → first s a m → Cut (either (keys k q) r) (cells s) os → BothValue k q fv rv os v
+  -- where each field has a value, the first answers one, or want of memory
+  first_gives : (s m : Situation) (a : Result A Error) (os : List Piece) → IsWhole s
+      → first s a m → Cut (either (keys k q) r) (cells s) os → reading.each os
       → Gives q (fv (front k (pieces q (cells s)))) (back k (pieces q (cells s))) a m
-  first_gives s m a os v w f c h =
-      lf.answers s m a v.0 w f (subst (λ z. fv z v.0) (sym (own_share k q r lf.own b c)) h.0)
+  first_gives s m a os w f c h =
+      lf.answers s m a h.0.0 w f
+      (subst (λ z. fv z h.0.0) (sym (own_share k q r lf.own b c)) h.0.1)
 
   -- and then so do the others
-  rest_gives : (s m t : Situation) (x : A) (y : Result B Error) (os : List Piece) (v : A × B)
+  rest_gives : (s m t : Situation) (x : A) (y : Result B Error) (os : List Piece)
       → IsWhole s → first s (Ok x) m → rest m y t → Cut (either (keys k q) r) (cells s) os
-      → BothValue k q fv rv os v → GivesAll (rv (left k q os)) y t
-  rest_gives s m t x y os v w f g c h =
+      → reading.each os → GivesAll (others_read.value (left k q os)) y t
+  rest_gives s m t x y os w f g c h =
       let i = lf.ok s m x w f in
-      let j = first_gives s m (Ok x) os v w f c h in
-      lr.answers m t y (left k q os) v.1 (whole_after s m w i.steady) g
+      let j = first_gives s m (Ok x) os w f c h in
+      lr.answers m t y (left k q os) (whole_after s m w i.steady) g
       (step_on k q r lf.own b i.takes j.1 c) h.1
 
-  -- where the cut has values, the values of a product are such
-  both_values : (s t : Situation) (u : A × B) (os : List Piece) (v : A × B) → IsWhole s
+  -- where each field has a value, the values of a product are such
+  both_values : (s t : Situation) (u : A × B) (os : List Piece) → IsWhole s
       → BothOutcome first rest s (Ok u) t
-      → Cut (either (keys k q) r) (cells s) os → BothValue k q fv rv os v
-      → GivesAll (BothValue k q fv rv os) (Ok u) t
-  both_values s t u os v w o c h =
+      → Cut (either (keys k q) r) (cells s) os → reading.each os
+      → GivesAll (reading.value os) (Ok u) t
+  both_values s t u os w o c h =
       let i = values_of_both A B first rest s t u o in
-      let j = first_gives s i.middle (Ok u.0) os v w i.first_ran c h in
-      let l = rest_gives s i.middle t u.0 (Ok u.1) os v w i.first_ran i.rest_ran c h in
+      let j = first_gives s i.middle (Ok u.0) os w i.first_ran c h in
+      let l = rest_gives s i.middle t u.0 (Ok u.1) os w i.first_ran i.rest_ran c h in
       ((subst (λ z. fv z u.0) (own_share k q r lf.own b c) j.0, l.0), l.1)
 
   -- and a refusal is want of memory
   both_fails : (s m t : Situation) (x : Result A Error) (y : Result B Error) (e : Error)
-      (os : List Piece) (v : A × B) → IsWhole s → first s x m → rest m y t → IsNotMemory x
+      (os : List Piece) → IsWhole s → first s x m → rest m y t → IsNotMemory x
       → Err e ≡ joined x y
-      → Cut (either (keys k q) r) (cells s) os → BothValue k q fv rv os v → class e ≡ OfMemory
-  both_fails s m t (Ok x) (Ok y) e os v w f g spared i c h = absurd cc
-  both_fails s m t (Ok x) (Err y) e os v w f g spared i c h =
+      → Cut (either (keys k q) r) (cells s) os → reading.each os → class e ≡ OfMemory
+  both_fails s m t (Ok x) (Ok y) e os w f g spared i c h = absurd cc
+  both_fails s m t (Ok x) (Err y) e os w f g spared i c h =
       let d : e ≡ y = cc in
-      ap class d ∙ rest_gives s m t x (Err y) os v w f g c h
-  both_fails s m t (Err x) y e os v w f g spared i c h =
-      absurd (not_memory x.0 spared (first_gives s m (Err x) os v w f c h))
+      ap class d ∙ rest_gives s m t x (Err y) os w f g c h
+  both_fails s m t (Err x) y e os w f g spared i c h =
+      absurd (not_memory x.0 spared (first_gives s m (Err x) os w f c h))
 
   -- each answer
-  both_answers : (s t : Situation) (a : Result (A × B) Error) (os : List Piece) (v : A × B)
+  both_answers : (s t : Situation) (a : Result (A × B) Error) (os : List Piece)
       → IsWhole s → BothOutcome first rest s a t
-      → Cut (either (keys k q) r) (cells s) os → BothValue k q fv rv os v
-      → GivesAll (BothValue k q fv rv os) a t
-  both_answers s t (Ok u) os v w o c h = both_values s t u os v w o c h
-  both_answers s t (Err e) os v w (inl o) c h =
-      both_fails s o.middle t o.a o.b e os v w o.first_ran o.rest_ran o.spared o.answer c h
-  both_answers s t (Err e) os v w (inr o) c h = memory_class e.0 o.1
+      → Cut (either (keys k q) r) (cells s) os → reading.each os
+      → GivesAll (reading.value os) a t
+  both_answers s t (Ok u) os w o c h = both_values s t u os w o c h
+  both_answers s t (Err e) os w (inl o) c h =
+      both_fails s o.middle t o.a o.b e os w o.first_ran o.rest_ran o.spared o.answer c h
+  both_answers s t (Err e) os w (inr o) c h = memory_class e.0 o.1
 
   -- a flat field before flat fields: together they keep to the laws
-  pub both_law : FieldsLaw (A × B) (BothOutcome first rest) (either (keys k q) r)
-      (BothValue k q fv rv)
+  pub both_law : FieldsLaw (A × B) (BothOutcome first rest) (either (keys k q) r) reading
   both_law = record {
     named = both_named k q r lf.own lr.named;
     steady = both_steady;
-    ok =
-        both_reads;
+    ok = both_reads;
+    has_each = λ os v h. ((v.0, h.0), lr.has_each (left k q os) v.1 h.1);
     answers = both_answers;
   }

@@ -9,10 +9,11 @@ use Rattle.bpaf_exact.specs.Pieces.{Cells, Roles, Role, Foreign, Alone, WithNext
 use Rattle.bpaf_exact.specs.Pieces.{Cut, either, either_role, no_roles}
 use Rattle.bpaf_exact.specs.Flat.{cells, NonePresent, no_place, none_here, IsWhole, Steady, Kind}
 use Rattle.bpaf_exact.specs.Flat.{Named, OneWord, EachWord, keys, OwnItems, FieldLaw, FieldsLaw}
-use Rattle.bpaf_exact.specs.Flat.{ReadOff, GivesAll, Before}
+use Rattle.bpaf_exact.specs.Flat.{ReadOff, GivesAll, Before, FieldsReading}
 use Rattle.bpaf_exact.specs.Single.{present_count}
-use Rattle.bpaf_exact.specs.Wrappers.{map_closure, ClosedValue}
-use Rattle.bpaf_exact.specs.Record.{LastValue}
+use Rattle.bpaf_exact.specs.Wrappers.{map_closure}
+use Rattle.bpaf_exact.specs.Record.{LastValue, last_reading}
+use Rattle.bpaf_exact.specs.Shape.{made_reading}
 use Rattle.bpaf_exact.proofs.Words.{empty_cut, cut_empty}
 use Rattle.bpaf_exact.proofs.Product.{step_back, none_left, own_share, step_on}
 
@@ -70,34 +71,31 @@ module _ (T : Type 0) (outcome : Outcome T) (k : Kind) (q : Roles) (value : List
         };
       }
 
-  -- where the cut has a value each answer is one
-  last_answers : (s t : Situation) (a : Result T Error) (os : List Piece) (v : T) → IsWhole s
-      → outcome s a t → Cut (either (keys k q) no_roles) (cells s) os → LastValue T k q value os v
-      → GivesAll (LastValue T k q value os) a t
-  last_answers s t (Ok x) os v w o c h =
+  -- where the field has a value each answer is one
+  last_answers : (s t : Situation) (a : Result T Error) (os : List Piece) → IsWhole s
+      → outcome s a t → Cut (either (keys k q) no_roles) (cells s) os
+      → (last_reading k q value).each os → GivesAll (LastValue T k q value os) a t
+  last_answers s t (Ok x) os w o c h =
       let i = l.ok s t x w o in
-      let j = l.answers s t (Ok x) v w o
-      (subst (λ z. value z v) (sym (own_share k q no_roles l.own before_none c)) h.read) in (
+      let j = l.answers s t (Ok x) h.0.0 w o
+      (subst (λ z. value z h.0.0) (sym (own_share k q no_roles l.own before_none c)) h.0.1) in (
         record {
-          read =
-              subst (λ z. value z x) (own_share k q no_roles l.own before_none c) j.0;
-          none_left =
-              h.none_left;
+          read = subst (λ z. value z x) (own_share k q no_roles l.own before_none c) j.0;
+          none_left = h.1;
         },
-        cut_empty no_roles
-            (step_on k q no_roles l.own before_none i.takes j.1 c) h.none_left,
+        cut_empty no_roles (step_on k q no_roles l.own before_none i.takes j.1 c) h.1,
       )
-  last_answers s t (Err e) os v w o c h =
-      l.answers s t (Err e) v w o
-      (subst (λ z. value z v) (sym (own_share k q no_roles l.own before_none c)) h.read)
+  last_answers s t (Err e) os w o c h =
+      l.answers s t (Err e) h.0.0 w o
+      (subst (λ z. value z h.0.0) (sym (own_share k q no_roles l.own before_none c)) h.0.1)
 
   -- a last field keeps to the laws of a list of fields
-  pub last_law : FieldsLaw T outcome (either (keys k q) no_roles) (LastValue T k q value)
+  pub last_law : FieldsLaw T outcome (either (keys k q) no_roles) (last_reading k q value)
   last_law = record {
     named = keys_named;
     steady = λ s t v w o. (l.ok s t v w o).steady;
-    ok =
-        last_reads;
+    ok = last_reads;
+    has_each = λ os v h. ((v, h.read), h.none_left);
     answers = last_answers;
   }
 
@@ -109,7 +107,11 @@ unfolding cells
 current_cells s = refl
 
 module _ (A B : Type 0) (fields : Outcome A) (makes : A → B → Type 0) (r : Roles)
-    (value : List Piece → A → Type 0) (l : FieldsLaw A fields r value) where
+    (reading : FieldsReading A) (l : FieldsLaw A fields r reading) where
+  -- what the constructor makes of the fields' values
+  abbrev made : FieldsReading B
+  made = made_reading (map_closure makes) reading
+
   -- a constructor changes nothing
   con_steady : (s t : Situation) (v : B) → IsWhole s → ProductOutcome fields makes s (Ok v) t
       → Steady s t
@@ -120,7 +122,7 @@ module _ (A B : Type 0) (fields : Outcome A) (makes : A → B → Type 0) (r : R
 
   -- its value is made of those that are read off a cut
   con_reads : (s t : Situation) (v : B) → IsWhole s → ProductOutcome fields makes s (Ok v) t
-      → NonePresent (cells t) → ReadOff B r (ClosedValue A B value (map_closure makes)) (cells s) v
+      → NonePresent (cells t) → ReadOff B r made.value (cells s) v
   con_reads s t v w o n =
       let a = l.ok s o.0 o.1 w o.2 (subst NonePresent (ap cells o.4 ∙ current_cells o.0) n) in
       record {
@@ -130,20 +132,23 @@ module _ (A B : Type 0) (fields : Outcome A) (makes : A → B → Type 0) (r : R
             record { from = o.1; read = a.read; made = o.3 };
       }
 
-  -- where the cut has a value each answer is one
-  con_answers : (s t : Situation) (a : Result B Error) (os : List Piece) (v : B) → IsWhole s
-      → ProductOutcome fields makes s a t → Cut r (cells s) os
-      → ClosedValue A B value (map_closure makes) os v
-      → GivesAll (ClosedValue A B value (map_closure makes) os) a t
-  con_answers s t (Ok u) os v w o c h =
-      let j = l.answers s o.0 (Ok o.1) os h.from w o.2 c h.read in (
+  -- where each field has a value each answer is one made of such
+  con_answers : (s t : Situation) (a : Result B Error) (os : List Piece) → IsWhole s
+      → ProductOutcome fields makes s a t → Cut r (cells s) os → reading.each os
+      → GivesAll (made.value os) a t
+  con_answers s t (Ok u) os w o c h =
+      let j = l.answers s o.0 (Ok o.1) os w o.2 c h in (
         record { from = o.1; read = j.0; made = o.3 },
-        subst NonePresent
-            (sym (ap cells o.4 ∙ current_cells o.0)) j.1,
+        subst NonePresent (sym (ap cells o.4 ∙ current_cells o.0)) j.1,
       )
-  con_answers s t (Err e) os v w o c h = l.answers s o.0 (Err e) os h.from w o.1 c h.read
+  con_answers s t (Err e) os w o c h = l.answers s o.0 (Err e) os w o.1 c h
 
   -- a product with its constructor keeps to the laws of a list of fields
-  pub con_law : FieldsLaw B (ProductOutcome fields makes) r
-      (ClosedValue A B value (map_closure makes))
-  con_law = record { named = l.named; steady = con_steady; ok = con_reads; answers = con_answers }
+  pub con_law : FieldsLaw B (ProductOutcome fields makes) r made
+  con_law = record {
+    named = l.named;
+    steady = con_steady;
+    ok = con_reads;
+    has_each = λ os v h. l.has_each os h.from h.read;
+    answers = con_answers;
+  }

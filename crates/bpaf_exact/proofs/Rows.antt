@@ -8,7 +8,7 @@ use Rattle.bpaf_exact.specs.Pieces.{Foreign, Roles, Piece, One, Two, IsNamed, Cu
 use Rattle.bpaf_exact.specs.Pieces.{flag, argument, word, either, no_roles, word_roles, mine}
 use Rattle.bpaf_exact.specs.Pieces.{others}
 use Rattle.bpaf_exact.specs.Pieces.{is_key}
-use Rattle.bpaf_exact.specs.Flat.{Named, OneWord, EachWord, BothValue, keys}
+use Rattle.bpaf_exact.specs.Flat.{Named, OneWord, EachWord, BothValue, both_reading, keys}
 use Rattle.bpaf_exact.specs.Single.{FrontOf, own_none, own_more, no_gap, SingleValue, of_group}
 use Rattle.bpaf_exact.specs.Single.{of_gap}
 use Rattle.bpaf_exact.specs.Single.{OwnList, listed, listed_and_absent, only_absent}
@@ -16,12 +16,14 @@ use Rattle.bpaf_exact.specs.Wrappers.{Closure, ClosedGroup, closed_gap}
 use Rattle.bpaf_exact.specs.Leaves.{flag_roles, argument_roles, FlagValue, ArgumentValue, WordValue}
 use Rattle.bpaf_exact.specs.Leaves.{switch_gap, flag_by, argument_by, word_field}
 use Rattle.bpaf_exact.specs.Alternative.{either_value, bad_here, bad_later}
-use Rattle.bpaf_exact.specs.Record.{line_cells, RecordValue, LastValue}
+use Rattle.bpaf_exact.specs.Record.{line_cells, RecordValue, LastValue, last_reading}
 use Rattle.bpaf_exact.specs.Shape.{Shape, is_record, both_shape, field_shape, alone_shape}
 use Rattle.bpaf_exact.specs.Shape.{many_shape, choice_shape, optional_shape}
 use Rattle.bpaf_exact.specs.Accepted.{HasItsValue, HoldsTogether}
 use Rattle.bpaf_exact.proofs.Accepted.{cut_holds_together, attached_to}
-use Rattle.bpaf_exact.proofs.Surplus.{front_one, field_no_surplus, none_left, repeat_bad}
+use Rattle.bpaf_exact.proofs.Surplus.{bad_occurrence, field_no_surplus, first_part, front_one}
+use Rattle.bpaf_exact.proofs.Surplus.{last_part, none_left, repeat_bad, surplus_occurrence}
+use Rattle.bpaf_exact.proofs.Surplus.{surplus_word}
 use Rattle.bpaf_exact.proofs.Cuts.{one_cut}
 
 -- a line without `--`
@@ -176,11 +178,10 @@ value_behind_switch os c =
     cc
 
 -- `x y`: a word too many for the field of one word
-word_too_many : (v : List ℕ)
-    → LastValue (List ℕ) OneWord word_roles TextValue (One (letter 9) ∷ One (letter 8) ∷ []) v
-    → ⊥
-word_too_many v h =
-    let none : One (letter 8) ∷ [] ≡ [] = none_left OneWord word_roles TextValue _ v h in cc
+word_too_many :
+    ¬ ((last_reading OneWord word_roles TextValue).each (One (letter 9) ∷ One (letter 8) ∷ []))
+word_too_many =
+    surplus_word _ _ (One (letter 9) ∷ One (letter 8) ∷ []) (none_left OneWord word_roles TextValue) (One (letter 8)) [] refl
 
 -- the items of the argument and a word
 abbrev two_roles : Roles
@@ -321,12 +322,15 @@ line_order = record {
 }
 
 -- `-b 3 -a xy` to it: `-a` can't read its value, so there is none
-failed_alternative : (vs : List ℕ)
-    → OwnList ℕ (FrontOf ℕ ChoiceValue) (no_gap ℕ)
-    (Two b_key (letter 3) ∷ Two a_key (Word (9 ∷ 8 ∷ [])) ∷ []) vs
-    → ⊥
-failed_alternative vs h =
-    repeat_bad ℕ ChoiceValue (no_gap ℕ) _ vs (bad_later (bad_here unread)) h
+failed_alternative : ¬ ((last_reading Named choice_roles
+    (OwnList ℕ (FrontOf ℕ ChoiceValue) (no_gap ℕ))).each
+    (Two b_key (letter 3) ∷ Two a_key (Word (9 ∷ 8 ∷ [])) ∷ []))
+failed_alternative =
+    bad_occurrence _ _ (Two b_key (letter 3) ∷ Two a_key (Word (9 ∷ 8 ∷ [])) ∷ []) ChoiceValue
+    (OwnList ℕ (FrontOf ℕ ChoiceValue) (no_gap ℕ))
+    (repeat_bad ℕ ChoiceValue (no_gap ℕ))
+    (last_part Named choice_roles (OwnList ℕ (FrontOf ℕ ChoiceValue) (no_gap ℕ)))
+    (bad_later {o = Two b_key (letter 3)} (bad_here {o = Two a_key (Word (9 ∷ 8 ∷ []))} unread))
   where
     unread : (n : ℕ) → ChoiceValue (Two a_key (Word (9 ∷ 8 ∷ []))) n → ⊥
     unread n e = cc
@@ -336,13 +340,13 @@ abbrev switch : Shape Bool
 switch = flag_by (λ kept v. v ≡ kept) (short 118) true [] (Some false)
 
 -- `-v -v` to the switch and a word: one occurrence too many
-switch_twice : (v : Bool × List ℕ)
-    → BothValue Named v_roles SwitchValue (LastValue (List ℕ) OneWord word_roles TextValue)
-    (One v_key ∷ One v_key ∷ []) v
-    → ⊥
-switch_twice v h =
-    field_no_surplus switch (front_one Bool (FlagValue (exactly true)))
-    (One v_key) (One v_key) [] v.0 h.0
+switch_twice : ¬ ((both_reading Named v_roles SwitchValue
+    (last_reading OneWord word_roles TextValue)).each (One v_key ∷ One v_key ∷ []))
+switch_twice =
+    surplus_occurrence _ _ (One v_key ∷ One v_key ∷ []) SwitchValue
+    (field_no_surplus switch (front_one Bool (FlagValue (exactly true))))
+    (first_part Named v_roles SwitchValue (last_reading OneWord word_roles TextValue))
+    (One v_key) (One v_key) [] refl
 
 -- an argument of this name
 abbrev number_of : ℕ → Shape ℕ

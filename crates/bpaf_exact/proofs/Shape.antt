@@ -21,7 +21,7 @@ use Rattle.bpaf_exact.specs.Shape.{either_shape}
 use Rattle.bpaf_exact.specs.Shape.{choice_shape, choices_rest, alternative_only, choices_shape}
 use Rattle.bpaf_exact.specs.Shape.{repeat_shape, last_shape, optional_shape, fallback_shape}
 use Rattle.bpaf_exact.specs.Shape.{field_shape, may_follow, both_shape, alone_shape, con_shape}
-use Rattle.bpaf_exact.specs.Shape.{record_shape, is_record, product_roles, product_value}
+use Rattle.bpaf_exact.specs.Shape.{record_shape, is_record, product_roles, product_reading}
 use Rattle.bpaf_exact.proofs.Names.{apart_of_names, either_owns}
 use Rattle.bpaf_exact.proofs.Alternative.{alternative_single, closed_alternative, closed_single}
 use Rattle.bpaf_exact.proofs.Choice.{choice_law}
@@ -42,7 +42,7 @@ closed_shape_law A B inner f names (single k q group gap) g l =
     (closed_single A B inner k q group gap l.0 f g.0 g.1, l.1)
 closed_shape_law A B inner f names (complete k q value) g l =
     (closed_law A B inner k q value l.0 f g Refused, l.1)
-closed_shape_law A B inner f names (product q value) g l = tt
+closed_shape_law A B inner f names (product q fields) g l = tt
 
 -- another look round a field
 pub dressed_shape_law : (T : Type 0) (outcome : Outcome T) (names : List Names) (s : Shape T)
@@ -51,7 +51,7 @@ dressed_shape_law T outcome names not_flat law = tt
 dressed_shape_law T outcome names (alternative q value) law = law
 dressed_shape_law T outcome names (single k q group gap) law = law
 dressed_shape_law T outcome names (complete k q value) law = law
-dressed_shape_law T outcome names (product q value) law = tt
+dressed_shape_law T outcome names (product q fields) law = tt
 
 -- A closure that never refuses agrees with every shape: map, count, collect, a constructor.
 pub never_refuses : (A B : Type 0) (f : Closure A B) → ((x : A) → f.no x → ⊥) → (s : Shape A)
@@ -61,7 +61,7 @@ never_refuses A B f n (alternative q value) = λ o x y v a b g h. n y h
 never_refuses A B f n (single k q group gap) =
     (λ os rest x y v a b g h. n y h, λ x y v a b g h. n y h)
 never_refuses A B f n (complete k q value) = λ os x y v a b g h. n y h
-never_refuses A B f n (product q value) = λ os x y v a b g h. n y h
+never_refuses A B f n (product q fields) = λ os x y v a b g h. n y h
 
 -- where a test holds
 if_law : (T : Type 0) (outcome : Outcome T) (names : List Names) (s : Shape T) (b : Bool)
@@ -128,7 +128,7 @@ only_law T outcome names not_flat l = tt
 only_law T outcome names (alternative q value) l = l
 only_law T outcome names (single k q group gap) l = tt
 only_law T outcome names (complete k q value) l = tt
-only_law T outcome names (product q value) l = tt
+only_law T outcome names (product q fields) l = tt
 
 -- a choice of any number of parsers
 pub choices_shape_law : (P T : Type 0) (outcome : P → Outcome T) (keys : P → List Names)
@@ -165,7 +165,7 @@ listed_shape_law T B inner idle f c names (single k q group gap) g l = let m =
     repeat_law T inner k q group gap l.0 idle in
     (closed_law (List T) B _ (repeated k) q _ m f g c, repeated_keys k q names l.1)
 listed_shape_law T B inner idle f c names (complete k q value) g l = tt
-listed_shape_law T B inner idle f c names (product q value) g l = tt
+listed_shape_law T B inner idle f c names (product q fields) g l = tt
 
 -- some needs no premise: of the lists that the same pieces give, all are empty or none is
 pub some_agrees : (T : Type 0) (inner : Outcome T) (names : List Names) (s : Shape T)
@@ -175,7 +175,7 @@ some_agrees T inner names (alternative q value) l =
     some_agrees_on T inner Named q _ _ (alternative_single T inner q value l.0)
 some_agrees T inner names (single k q group gap) l = some_agrees_on T inner k q group gap l.0
 some_agrees T inner names (complete k q value) l = tt
-some_agrees T inner names (product q value) l = tt
+some_agrees T inner names (product q fields) l = tt
 
 -- the last value
 pub last_shape_law : (T : Type 0) (inner : Outcome T) (names : List Names) (s : Shape T)
@@ -186,7 +186,7 @@ last_shape_law T inner names (alternative q value) l =
 last_shape_law T inner names (single k q group gap) l =
     (last_of_law T inner k q group gap l.0, repeated_keys k q names l.1)
 last_shape_law T inner names (complete k q value) l = tt
-last_shape_law T inner names (product q value) l = tt
+last_shape_law T inner names (product q fields) l = tt
 
 -- what may be left out
 pub optional_shape_law : (T : Type 0) (inner : Outcome T) (names : List Names) (s : Shape T)
@@ -197,7 +197,7 @@ optional_shape_law T inner names (alternative q value) l =
 optional_shape_law T inner names (single k q group gap) l =
     (optional_law T inner k q group gap l.0, l.1)
 optional_shape_law T inner names (complete k q value) l = tt
-optional_shape_law T inner names (product q value) l = tt
+optional_shape_law T inner names (product q fields) l = tt
 
 -- what has a value that stands for it
 pub fallback_shape_law : (T : Type 0) (inner : Outcome T) (f : Closure (Unit {0}) T) → Decides f
@@ -209,7 +209,7 @@ fallback_shape_law T inner f decides names (alternative q value) l =
 fallback_shape_law T inner f decides names (single k q group gap) l =
     (fallback_law T inner k q group gap l.0 f decides, l.1)
 fallback_shape_law T inner f decides names (complete k q value) l = tt
-fallback_shape_law T inner f decides names (product q value) l = tt
+fallback_shape_law T inner f decides names (product q fields) l = tt
 
 -- Each flat shape is a field of a record.
 pub field_shape_law : (T : Type 0) (outcome : Outcome T) (names : List Names) (s : Shape T)
@@ -220,7 +220,7 @@ field_shape_law T outcome names (alternative q value) l =
 field_shape_law T outcome names (single k q group gap) l =
     (single_law T outcome k q group gap l.0, l.1)
 field_shape_law T outcome names (complete k q value) l = l
-field_shape_law T outcome names (product q value) l = tt
+field_shape_law T outcome names (product q fields) l = tt
 
 -- what isn't the field's own
 foreign_of : (x : Role) → is_own_role x ≡ false → x ≡ Foreign
@@ -241,10 +241,10 @@ follows EachWord q r own (names ∷ others) a b h = absurd cc
 pub both_shape_law : (A B : Type 0) (first : Outcome A) (rest : Outcome B) (own others : List Names)
     (s : Shape A) (t : Shape B) → ShapeLaw first own s → ShapeLaw rest others t
     → ShapeLaw (BothOutcome first rest) (own ++ others) (both_shape own others s t)
-both_shape_law A B first rest own others (complete k q fv) (product r rv) la lb =
+both_shape_law A B first rest own others (complete k q fv) (product r fields) la lb =
     if_law (A × B) (BothOutcome first rest) (own ++ others) _ (may_follow k own others)
     (λ h. (
-      both_law A B first rest k q r fv rv la.0 lb.0
+      both_law A B first rest k q r fv fields la.0 lb.0
           (follows k q r own others la.1 lb.1 h),
       either_owns (keys k q) r own others la.1 lb.1,
     ))
@@ -272,18 +272,18 @@ alone_shape_law T outcome names (complete k q value) l = (
   subst (Owns (either (keys k q) no_roles)) (append-nil names)
       (either_owns (keys k q) no_roles names [] l.1 no_names),
 )
-alone_shape_law T outcome names (product q value) l = tt
+alone_shape_law T outcome names (product q fields) l = tt
 
 -- the constructor of a product
-pub con_shape_law : (A B : Type 0) (fields : Outcome A) (makes : A → B → Type 0)
-    (names : List Names) (s : Shape A) → ShapeLaw fields names s
-    → ShapeLaw (ProductOutcome fields makes) names (con_shape (map_closure makes) s)
-con_shape_law A B fields makes names not_flat l = tt
-con_shape_law A B fields makes names (alternative q value) l = tt
-con_shape_law A B fields makes names (single k q group gap) l = tt
-con_shape_law A B fields makes names (complete k q value) l = tt
-con_shape_law A B fields makes names (product q value) l =
-    (con_law A B fields makes q value l.0, l.1)
+pub con_shape_law : (A B : Type 0) (inner : Outcome A) (makes : A → B → Type 0)
+    (names : List Names) (s : Shape A) → ShapeLaw inner names s
+    → ShapeLaw (ProductOutcome inner makes) names (con_shape (map_closure makes) s)
+con_shape_law A B inner makes names not_flat l = tt
+con_shape_law A B inner makes names (alternative q value) l = tt
+con_shape_law A B inner makes names (single k q group gap) l = tt
+con_shape_law A B inner makes names (complete k q value) l = tt
+con_shape_law A B inner makes names (product q fields) l =
+    (con_law A B inner makes q fields l.0, l.1)
 
 -- a flat record is a product
 pub record_shape_law : (T : Type 0) (outcome : Outcome T) (names : List Names) (s : Shape T)
@@ -297,12 +297,12 @@ record_shape_law T outcome names (single k q group gap) l =
     (field_shape_law T outcome names (single k q group gap) l)
 record_shape_law T outcome names (complete k q value) l =
     alone_shape_law T outcome names (complete k q value) l
-record_shape_law T outcome names (product q value) l = l
+record_shape_law T outcome names (product q fields) l = l
 
 -- each flat record keeps to the laws of a list of fields
 pub record_law : (T : Type 0) (outcome : Outcome T) (names : List Names) (s : Shape T)
     → is_record s ≡ true → ShapeLaw outcome names s
-    → FieldsLaw T outcome (product_roles (record_shape s)) (product_value (record_shape s))
+    → FieldsLaw T outcome (product_roles (record_shape s)) (product_reading (record_shape s))
 record_law T outcome names not_flat h l = absurd cc
 record_law T outcome names (alternative q value) h l =
     (record_shape_law T outcome names (alternative q value) l).0
@@ -310,4 +310,4 @@ record_law T outcome names (single k q group gap) h l =
     (record_shape_law T outcome names (single k q group gap) l).0
 record_law T outcome names (complete k q value) h l =
     (record_shape_law T outcome names (complete k q value) l).0
-record_law T outcome names (product q value) h l = l.0
+record_law T outcome names (product q fields) h l = l.0

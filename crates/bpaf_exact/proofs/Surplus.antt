@@ -1,21 +1,20 @@
 -- A surplus occurrence, a surplus word and an occurrence without a value leave a field no value.
 use Rattle.std.proofs.Common.{◌≡◌, ℕ, Bool, true, false, List, [], ◌∷◌, Option, Some, None, subst}
 use Rattle.bpaf_doc.specs.Names.{Names}
-use Rattle.bpaf_line.specs.Situation.{Context}
 use Rattle.bpaf_exact.specs.Pieces.{Roles, Piece}
-use Rattle.bpaf_exact.specs.Flat.{Kind, BothValue, share, left}
+use Rattle.bpaf_exact.specs.Flat.{Kind, FieldsReading, HasValue, both_reading, share, left}
 use Rattle.bpaf_exact.specs.Single.{Groups, Gap, FrontOf, own_none, own_more, OwnList, listed}
 use Rattle.bpaf_exact.specs.Single.{listed_and_absent, only_absent, SingleValue, of_group, of_gap}
-use Rattle.bpaf_exact.specs.Wrappers.{Closure, ClosedValue, OptionalValue, some_value}
+use Rattle.bpaf_exact.specs.Wrappers.{Closure, OptionalValue, some_value}
 use Rattle.bpaf_exact.specs.Wrappers.{no_value, FallbackValue, own_value, kept_value}
 use Rattle.bpaf_exact.specs.Derived.{LastOf}
 use Rattle.bpaf_exact.specs.Alternative.{HasBad}
-use Rattle.bpaf_exact.specs.Record.{LastValue, RecordValue}
+use Rattle.bpaf_exact.specs.Record.{last_reading}
 use Rattle.bpaf_exact.specs.Leaves.{flag_by, argument_by, word_field}
 use Rattle.bpaf_exact.specs.Shape.{Shape, not_flat, alternative, single, complete, product}
 use Rattle.bpaf_exact.specs.Shape.{closed_shape, optional_shape, fallback_shape, field_shape}
 use Rattle.bpaf_exact.specs.Shape.{unless}
-use Rattle.bpaf_exact.specs.Accepted.{OneByOne, AtMostOne, HasNoSurplus, HasValue, IsPartOf}
+use Rattle.bpaf_exact.specs.Accepted.{OneByOne, AtMostOne, HasNoSurplus, IsPartOf}
 use Rattle.bpaf_exact.proofs.Alternative.{own_bad}
 
 -- A surplus occurrence.
@@ -50,7 +49,7 @@ closed_no_surplus f not_flat h = tt
 closed_no_surplus f (alternative q value) h = tt
 closed_no_surplus f (single k q group gap) h = λ os rest v g. h os rest g.from g.read
 closed_no_surplus f (complete k q value) h = λ o p os v i. h o p os i.from i.read
-closed_no_surplus f (product q value) h = tt
+closed_no_surplus f (product q fields) h = tt
 
 -- a field without a repeat or default has no surplus
 pub field_no_surplus : {T : Type 0} (s : Shape T) → HasNoSurplus s → HasNoSurplus (field_shape s)
@@ -58,7 +57,7 @@ field_no_surplus not_flat h = tt
 field_no_surplus {T = T} (alternative q value) h = single_once T _ _ (front_one T value)
 field_no_surplus {T = T} (single k q group gap) h = single_once T group gap h
 field_no_surplus (complete k q value) h = h
-field_no_surplus (product q value) h = tt
+field_no_surplus (product q fields) h = tt
 
 -- nor has what may be left out
 pub optional_no_surplus : {T : Type 0} (s : Shape T) → HasNoSurplus s
@@ -67,7 +66,7 @@ optional_no_surplus not_flat h = tt
 optional_no_surplus {T = T} (alternative q value) h = optional_once T _ _ (front_one T value)
 optional_no_surplus {T = T} (single k q group gap) h = optional_once T group gap h
 optional_no_surplus (complete k q value) h = tt
-optional_no_surplus (product q value) h = tt
+optional_no_surplus (product q fields) h = tt
 
 -- nor what has a value that stands for it
 pub fallback_no_surplus : {T : Type 0} (f : Closure (Unit {0}) T) (s : Shape T) → HasNoSurplus s
@@ -76,7 +75,7 @@ fallback_no_surplus f not_flat h = tt
 fallback_no_surplus {T = T} f (alternative q value) h = fallback_once T _ _ (front_one T value) f
 fallback_no_surplus {T = T} f (single k q group gap) h = fallback_once T group gap h f
 fallback_no_surplus f (complete k q value) h = tt
-fallback_no_surplus f (product q value) h = tt
+fallback_no_surplus f (product q fields) h = tt
 
 -- whether `catch` is set changes nothing there
 pub unless_no_surplus : {T : Type 0} (catch : Bool) (s : Shape T) → HasNoSurplus s
@@ -138,53 +137,47 @@ module _ (T : Type 0) (value : Piece → T → Type 0) (gap : Gap T) where
 
 -- Which parts a record has: each of its fields, and that no piece is left.
 module _ {A B : Type 0} (k : Kind) (q : Roles) (first : List Piece → A → Type 0)
-    (rest : List Piece → B → Type 0) where
+    (rest : FieldsReading B) where
   -- a field before others
-  pub first_part : IsPartOf (BothValue k q first rest) (share k q) (HasValue first)
-  first_part = λ os v h. (v.0, h.0)
+  pub first_part : IsPartOf (both_reading k q first rest).each (share k q) (HasValue first)
+  first_part = λ os h. h.0
 
   -- the parts of those behind it
   pub later_part : (own : List Piece → List Piece) (part : List Piece → Type 0)
-      → IsPartOf rest own part → IsPartOf (BothValue k q first rest) (λ os. own (left k q os)) part
-  later_part own part is = λ os v h. is (left k q os) v.1 h.1
+      → IsPartOf rest.each own part
+      → IsPartOf (both_reading k q first rest).each (λ os. own (left k q os)) part
+  later_part own part is = λ os h. is (left k q os) h.1
 
 module _ {T : Type 0} (k : Kind) (q : Roles) (value : List Piece → T → Type 0) where
   -- the last field
-  pub last_part : IsPartOf (LastValue T k q value) (share k q) (HasValue value)
-  last_part = λ os v h. (v, h.read)
+  pub last_part : IsPartOf (last_reading k q value).each (share k q) (HasValue value)
+  last_part = λ os h. h.0
 
   -- no piece is left behind it
-  pub none_left : IsPartOf (LastValue T k q value) (left k q) (λ os. os ≡ [])
-  none_left = λ os v h. h.none_left
+  pub none_left : IsPartOf (last_reading k q value).each (left k q) (λ os. os ≡ [])
+  none_left = λ os h. h.1
 
--- the parts of what a constructor makes of them
-pub made_part : {A B : Type 0} (value : List Piece → A → Type 0) (f : Closure A B)
-    (own : List Piece → List Piece) (part : List Piece → Type 0) → IsPartOf value own part
-    → IsPartOf (ClosedValue A B value f) own part
-made_part value f own part is = λ os v h. is os h.from h.read
+module _ (each : List Piece → Type 0) (own : List Piece → List Piece) (os : List Piece) where
+  -- Where it isn't so with a part, a field has no value.
+  pub part_lacks : (part : List Piece → Type 0) → IsPartOf each own part → ¬ (part (own os))
+      → ¬ (each os)
+  part_lacks part is none h = none (is os h)
 
-module _ {V : Type 0} (r : Roles) (value : List Piece → V → Type 0) (context : Context) (v : V)
-    (on_line : RecordValue r value context v) (own : List Piece → List Piece) where
-  -- On the line of a value each part of the record has its own.
-  pub part_holds : (part : List Piece → Type 0) → IsPartOf value own part → part (own on_line.cut_into)
-  part_holds part is = is on_line.cut_into v on_line.read
+  -- So it is with a surplus occurrence of a field without a repeat or default,
+  pub surplus_occurrence : {T : Type 0} (field : List Piece → T → Type 0) → AtMostOne field
+      → IsPartOf each own (HasValue field) → (o p : Piece) (more : List Piece)
+      → own os ≡ o ∷ p ∷ more → ¬ (each os)
+  surplus_occurrence field once is o p more e = part_lacks (HasValue field) is
+      (λ has. once o p more has.0 (subst (λ z. field z has.0) e has.1))
 
-  -- So no surplus occurrence of a field without a repeat is there,
-  pub no_surplus_occurrence : {T : Type 0} (field : List Piece → T → Type 0) → AtMostOne field
-      → IsPartOf value own (HasValue field) → (o p : Piece) (more : List Piece)
-      → own on_line.cut_into ≡ o ∷ p ∷ more → ⊥
-  no_surplus_occurrence field once is o p more e =
-      let has = part_holds (HasValue field) is in
-      once o p more has.0 (subst (λ os. field os has.0) e has.1)
+  -- with a surplus word,
+  pub surplus_word : IsPartOf each own (λ z. z ≡ []) → (o : Piece) (more : List Piece)
+      → own os ≡ o ∷ more → ¬ (each os)
+  surplus_word is o more e = part_lacks (λ z. z ≡ []) is (λ none. cc)
 
-  -- no surplus word,
-  pub no_surplus_word : IsPartOf value own (λ os. os ≡ []) → (o : Piece) (more : List Piece)
-      → own on_line.cut_into ≡ o ∷ more → ⊥
-  no_surplus_word is o more e = let none = part_holds (λ os. os ≡ []) is in cc
-
-  -- and no occurrence without a value, where these leave the field none.
-  pub no_bad_occurrence : {A T : Type 0} (one : Piece → A → Type 0) (field : List Piece → T → Type 0)
-      → ((os : List Piece) (w : T) → HasBad A one os → field os w → ⊥)
-      → IsPartOf value own (HasValue field) → HasBad A one (own on_line.cut_into) → ⊥
-  no_bad_occurrence one field none is bad =
-      let has = part_holds (HasValue field) is in none (own on_line.cut_into) has.0 bad has.1
+  -- and with an occurrence without a value, where these leave the field none.
+  pub bad_occurrence : {A T : Type 0} (one : Piece → A → Type 0) (field : List Piece → T → Type 0)
+      → ((ps : List Piece) (w : T) → HasBad A one ps → field ps w → ⊥)
+      → IsPartOf each own (HasValue field) → HasBad A one (own os) → ¬ (each os)
+  bad_occurrence one field none is bad = part_lacks (HasValue field) is
+      (λ has. none (own os) has.0 bad has.1)

@@ -67,13 +67,10 @@ HasNoSurplus not_flat = Unit {0}
 HasNoSurplus (alternative q value) = Unit {0}
 HasNoSurplus (single k q group gap) = OneByOne group
 HasNoSurplus (complete k q value) = AtMostOne value
-HasNoSurplus (product q value) = Unit {0}
+HasNoSurplus (product q fields) = Unit {0}
 
--- a field has a value on its pieces
-abbrev pub HasValue : {T : Type 0} → (List Piece → T → Type 0) → List Piece → Type 0
-HasValue {T = T} value os = (v : T) × value os v
-
--- A part of a record, with its share of the pieces: where the record has a value, so has the part.
-abbrev pub IsPartOf : {V : Type 0} → (List Piece → V → Type 0) → (List Piece → List Piece)
-    → (List Piece → Type 0) → Type 0
-IsPartOf {V = V} value own part = (os : List Piece) (v : V) → value os v → part (own os)
+-- A part of a record, with its share of the pieces: where each field has a value, so it is with the
+-- part.
+abbrev pub IsPartOf : (List Piece → Type 0) → (List Piece → List Piece) → (List Piece → Type 0)
+    → Type 0
+IsPartOf each own part = (os : List Piece) → each os → part (own os)

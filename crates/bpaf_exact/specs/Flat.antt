@@ -154,16 +154,27 @@ abbrev pub GivesAll : {V : Type 0} → (V → Type 0) → Result V Error → Sit
 GivesAll value (Ok v) t = value v × NonePresent (cells t)
 GivesAll value (Err e) t = class e ≡ OfMemory
 
--- the laws of a list of flat fields
+-- a field has a value on its pieces
+abbrev pub HasValue : {T : Type 0} → (List Piece → T → Type 0) → List Piece → Type 0
+HasValue {T = T} value os = (v : T) × value os v
+
+-- how the fields of a record read the pieces: which values these have, and whether each field has
+-- one on its share, whatever a constructor makes of them
+pub record FieldsReading (V : Type 0) : Type 1 where
+  pub value : List Piece → V → Type 0
+  pub each : List Piece → Type 0
+
+-- the laws of a list of flat fields; where each has a value, each answer is of such, or want of
+-- memory
 pub record FieldsLaw (V : Type 0) (outcome : Outcome V) (r : Roles)
-    (value : List Piece → V → Type 0) : Type 0 where
+    (reading : FieldsReading V) : Type 0 where
   pub named : IsNamed r
   pub steady : (s t : Situation) (v : V) → IsWhole s → outcome s (Ok v) t → Steady s t
   pub ok : (s t : Situation) (v : V) → IsWhole s → outcome s (Ok v) t → NonePresent (cells t)
-      → ReadOff V r value (cells s) v
-  pub answers : (s t : Situation) (a : Result V Error) (os : List Piece) (w : V) → IsWhole s
-      → outcome s a t
-      → Cut r (cells s) os → value os w → GivesAll (value os) a t
+      → ReadOff V r reading.value (cells s) v
+  pub has_each : (os : List Piece) (v : V) → reading.value os v → reading.each os
+  pub answers : (s t : Situation) (a : Result V Error) (os : List Piece) → IsWhole s
+      → outcome s a t → Cut r (cells s) os → reading.each os → GivesAll (reading.value os) a t
 
 -- a field before others: their keys are apart, and after a positional field no named one stands
 abbrev pub Before : Kind → Roles → Roles → Type 0
@@ -175,3 +186,11 @@ Before EachWord q r = (k : Arg) → r k ≡ Foreign
 abbrev pub BothValue : {A B : Type 0} → Kind → Roles → (List Piece → A → Type 0)
     → (List Piece → B → Type 0) → List Piece → A × B → Type 0
 BothValue k q first rest os v = first (share k q os) v.0 × rest (left k q os) v.1
+
+-- how they read the pieces
+abbrev pub both_reading : {A B : Type 0} → Kind → Roles → (List Piece → A → Type 0)
+    → FieldsReading B → FieldsReading (A × B)
+both_reading k q first rest = record {
+  value = BothValue k q first rest.value;
+  each = λ os. HasValue first (share k q os) × rest.each (left k q os);
+}

@@ -8,7 +8,7 @@ use Rattle.bpaf_exact.specs.Single.{Groups}
 use Rattle.bpaf_exact.specs.Wrappers.{Closure}
 use Rattle.bpaf_exact.specs.Record.{Answer, Accepted, NoMemory, Refusal, RecordValue, RunRan}
 use Rattle.bpaf_exact.specs.Shape.{Shape, not_flat, alternative, single, complete, product}
-use Rattle.bpaf_exact.specs.Shape.{product_roles, product_value, record_shape}
+use Rattle.bpaf_exact.specs.Shape.{product_roles, product_reading, record_shape}
 
 -- all these values look alike
 abbrev pub Alike : {T X : Type 0} → (T → X) → (T → Type 0) → Type 0
@@ -25,7 +25,7 @@ HasOneView see not_flat = Unit {0}
 HasOneView see (alternative q value) = (o : Piece) → Alike see (value o)
 HasOneView see (single k q group gap) = OneGroup see group × Alike see gap.absent
 HasOneView see (complete k q value) = (os : List Piece) → Alike see (value os)
-HasOneView see (product q value) = (os : List Piece) → Alike see (value os)
+HasOneView see (product q fields) = (os : List Piece) → Alike see (fields.value os)
 
 -- A closure that can't tell values apart that look alike: it accepts both or refuses both, and its
 -- answers look alike.
@@ -52,5 +52,5 @@ LooksLike see v Refusal = ⊥
 abbrev pub RunsToOne : {V X : Type 0} → (V → X) → Outcome V → Shape V → Context → Type 0
 RunsToOne {V = V} see outcome s context =
     (a : Answer V) (v : V) → RunRan V outcome (beginning context) a
-    → RecordValue (product_roles (record_shape s)) (product_value (record_shape s)) context v
+    → RecordValue (product_roles (record_shape s)) (product_reading (record_shape s)).value context v
     → LooksLike see v a

@@ -3,8 +3,9 @@ use Rattle.std.specs.Prelude.{◌≡◌, List, [], length, Ok, Err}
 use Rattle.bpaf_line.specs.declared.error.Error.{Error}
 use Rattle.bpaf_line.specs.Situation.{Context, Situation, item_in, open_count}
 use Rattle.bpaf_laws.specs.Reading.{Outcome}
-use Rattle.bpaf_exact.specs.Pieces.{Cells, Roles, Piece}
+use Rattle.bpaf_exact.specs.Pieces.{Cells, Roles, Piece, Cut}
 use Rattle.bpaf_exact.specs.Flat.{OfMemory, class, first_cells, Kind, ReadOff, share, left}
+use Rattle.bpaf_exact.specs.Flat.{FieldsReading, HasValue}
 
 -- each item of a line is present at first, but for the marker
 abbrev pub line_cells : Context → Cells
@@ -48,16 +49,26 @@ IsAnswer value NoMemory = Unit {0}
 IsAnswer value Refusal = ⊥
 
 -- an answer of a run is exact
-pub record IsExact (V : Type 0) (r : Roles) (value : List Piece → V → Type 0) (context : Context)
+pub record IsExact (V : Type 0) (r : Roles) (reading : FieldsReading V) (context : Context)
     (a : Answer V) : Type 0 where
   -- a value only where it is one of the record's
-  pub sound : (v : V) → a ≡ Accepted v → RecordValue r value context v
-  -- where the record has a value, one of its values, or want of memory
-  pub complete : (v : V) → RecordValue r value context v
-      → IsAnswer (λ w. RecordValue r value context w) a
+  pub sound : (v : V) → a ≡ Accepted v → RecordValue r reading.value context v
+  -- where each field has a value on its share, one of the record's values, or want of memory
+  pub complete : (os : List Piece) → Cut r (line_cells context) os → reading.each os
+      → IsAnswer (λ w. RecordValue r reading.value context w) a
+  -- where one has none, no value
+  pub refused : (os : List Piece) → Cut r (line_cells context) os → ¬ (reading.each os)
+      → (v : V) → ¬ (a ≡ Accepted v)
 
 -- the last field of a product, or a record of one field alone: no piece is left to others
 pub record LastValue (T : Type 0) (k : Kind) (q : Roles) (value : List Piece → T → Type 0)
     (os : List Piece) (v : T) : Type 0 where
   pub read : value (share k q os) v
   pub none_left : left k q os ≡ []
+
+-- how it reads the pieces
+abbrev pub last_reading : {T : Type 0} → Kind → Roles → (List Piece → T → Type 0) → FieldsReading T
+last_reading {T = T} k q value = record {
+  value = LastValue T k q value;
+  each = λ os. HasValue value (share k q os) × (left k q os ≡ []);
+}

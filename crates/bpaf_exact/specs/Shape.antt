@@ -6,7 +6,7 @@ use Rattle.bpaf_laws.specs.Reading.{Outcome}
 use Rattle.bpaf_exact.specs.Pieces.{Roles, Piece, either, no_roles}
 use Rattle.bpaf_exact.specs.Names.{Owns, are_all_apart}
 use Rattle.bpaf_exact.specs.Flat.{Kind, Named, OneWord, EachWord, FieldLaw, FieldsLaw, keys}
-use Rattle.bpaf_exact.specs.Flat.{BothValue}
+use Rattle.bpaf_exact.specs.Flat.{FieldsReading, both_reading}
 use Rattle.bpaf_exact.specs.Single.{Groups, Gap, FrontOf, no_gap, SingleLaw, SingleValue, OwnList}
 use Rattle.bpaf_exact.specs.Single.{repeated}
 use Rattle.bpaf_exact.specs.Wrappers.{Closure, AgreesOn, ClosedPiece, ClosedGroup, closed_gap}
@@ -14,7 +14,7 @@ use Rattle.bpaf_exact.specs.Wrappers.{ClosedValue, OptionalValue, FallbackValue}
 use Rattle.bpaf_exact.specs.Derived.{LastOf, list_closure, some_closure, count_closure}
 use Rattle.bpaf_exact.specs.Derived.{collect_closure}
 use Rattle.bpaf_exact.specs.Alternative.{AlternativeLaw, either_value}
-use Rattle.bpaf_exact.specs.Record.{LastValue}
+use Rattle.bpaf_exact.specs.Record.{last_reading}
 
 -- what a parser is to a flat record, each with its own items
 pub data Shape (T : Type 0) : Type 1 where
@@ -27,7 +27,7 @@ pub data Shape (T : Type 0) : Type 1 where
   -- a field with a repeat or default
   complete : Kind → Roles → (List Piece → T → Type 0) → Shape T
   -- a product of flat fields: a record, and no field of another
-  product : Roles → (List Piece → T → Type 0) → Shape T
+  product : Roles → FieldsReading T → Shape T
 
 -- the laws of each, of a parser with these keys
 abbrev pub ShapeLaw : {T : Type 0} → Outcome T → List Names → Shape T → Type 0
@@ -38,7 +38,7 @@ ShapeLaw {T = T} outcome names (single k q group gap) =
     SingleLaw T outcome k q group gap × Owns (keys k q) names
 ShapeLaw {T = T} outcome names (complete k q value) =
     FieldLaw T outcome k q value × Owns (keys k q) names
-ShapeLaw {T = T} outcome names (product q value) = FieldsLaw T outcome q value × Owns q names
+ShapeLaw {T = T} outcome names (product q fields) = FieldsLaw T outcome q fields × Owns q names
 
 -- the premise of exactness: whether a closure accepts depends on the pieces alone, also where they
 -- have several values
@@ -48,7 +48,7 @@ Agrees f (alternative q value) = (o : Piece) → AgreesOn (value o) f
 Agrees f (single k q group gap) =
     ((os rest : List Piece) → AgreesOn (λ v. group os v rest) f) × AgreesOn gap.absent f
 Agrees f (complete k q value) = (os : List Piece) → AgreesOn (value os) f
-Agrees f (product q value) = (os : List Piece) → AgreesOn (value os) f
+Agrees f (product q fields) = (os : List Piece) → AgreesOn (fields.value os) f
 
 -- the premises of all parsers of a list
 abbrev pub EachAgrees : {P : Type 0} → (P → Type 0) → List P → Type 0
@@ -67,7 +67,7 @@ closed_shape {A = A} {B = B} f (alternative q value) = alternative q (ClosedPiec
 closed_shape {A = A} {B = B} f (single k q group gap) =
     single k q (ClosedGroup A B group f) (closed_gap gap f)
 closed_shape {A = A} {B = B} f (complete k q value) = complete k q (ClosedValue A B value f)
-closed_shape f (product q value) = not_flat
+closed_shape f (product q fields) = not_flat
 
 -- another look round a field; a product with something round it is no record
 abbrev pub dressed_shape : {T : Type 0} → Shape T → Shape T
@@ -75,7 +75,7 @@ dressed_shape not_flat = not_flat
 dressed_shape (alternative q value) = alternative q value
 dressed_shape (single k q group gap) = single k q group gap
 dressed_shape (complete k q value) = complete k q value
-dressed_shape (product q value) = not_flat
+dressed_shape (product q fields) = not_flat
 
 -- a choice of two alternatives
 abbrev pub either_shape : {T : Type 0} → Shape T → Shape T → Shape T
@@ -100,7 +100,7 @@ alternative_only not_flat = not_flat
 alternative_only (alternative q value) = alternative q value
 alternative_only (single k q group gap) = not_flat
 alternative_only (complete k q value) = not_flat
-alternative_only (product q value) = not_flat
+alternative_only (product q fields) = not_flat
 
 -- a choice of any number of parsers, but for none
 abbrev pub choices_shape : {P T : Type 0} → (P → List Names) → (P → Shape T) → List P → Shape T
@@ -115,7 +115,7 @@ repeat_shape {T = T} (alternative q value) =
     complete Named q (OwnList T (FrontOf T value) (no_gap T))
 repeat_shape {T = T} (single k q group gap) = complete (repeated k) q (OwnList T group gap)
 repeat_shape (complete k q value) = not_flat
-repeat_shape (product q value) = not_flat
+repeat_shape (product q fields) = not_flat
 
 -- many, some, count and collect
 abbrev pub many_shape : {T : Type 0} → Shape T → Shape (Vec T)
@@ -139,7 +139,7 @@ last_shape not_flat = not_flat
 last_shape {T = T} (alternative q value) = complete Named q (LastOf T (FrontOf T value) (no_gap T))
 last_shape {T = T} (single k q group gap) = complete (repeated k) q (LastOf T group gap)
 last_shape (complete k q value) = not_flat
-last_shape (product q value) = not_flat
+last_shape (product q fields) = not_flat
 
 -- what may be left out
 abbrev pub optional_shape : {T : Type 0} → Shape T → Shape (Option T)
@@ -148,7 +148,7 @@ optional_shape {T = T} (alternative q value) =
     complete Named q (OptionalValue T (FrontOf T value) (no_gap T))
 optional_shape {T = T} (single k q group gap) = complete k q (OptionalValue T group gap)
 optional_shape (complete k q value) = not_flat
-optional_shape (product q value) = not_flat
+optional_shape (product q fields) = not_flat
 
 -- what has a value that stands for it
 abbrev pub fallback_shape : {T : Type 0} → Closure (Unit {0}) T → Shape T → Shape T
@@ -157,7 +157,7 @@ fallback_shape {T = T} f (alternative q value) =
     complete Named q (FallbackValue T (FrontOf T value) (no_gap T) f)
 fallback_shape {T = T} f (single k q group gap) = complete k q (FallbackValue T group gap f)
 fallback_shape f (complete k q value) = not_flat
-fallback_shape f (product q value) = not_flat
+fallback_shape f (product q fields) = not_flat
 
 -- without `catch`
 abbrev pub unless : {T : Type 0} → Bool → Shape T → Shape T
@@ -171,7 +171,7 @@ field_shape {T = T} (alternative q value) =
     complete Named q (SingleValue T (FrontOf T value) (no_gap T))
 field_shape {T = T} (single k q group gap) = complete k q (SingleValue T group gap)
 field_shape (complete k q value) = complete k q value
-field_shape (product q value) = not_flat
+field_shape (product q fields) = not_flat
 
 -- keys may stand after a field: those that are apart from its own; after a positional field none
 abbrev pub may_follow : Kind → List Names → List Names → Bool
@@ -185,23 +185,28 @@ may_follow EachWord own (names ∷ others) = false
 abbrev pub both_shape : {A B : Type 0} → List Names → List Names → Shape A → Shape B → Shape (A × B)
 both_shape own others (complete k q first) (product r rest) =
     only_if (may_follow k own others)
-    (product (either (keys k q) r) (BothValue k q first rest))
+    (product (either (keys k q) r) (both_reading k q first rest))
 both_shape _ _ _ _ = not_flat
 
 -- the last field, or one alone
 abbrev pub alone_shape : {T : Type 0} → Shape T → Shape T
 alone_shape {T = T} (complete k q value) =
-    product (either (keys k q) no_roles) (LastValue T k q value)
+    product (either (keys k q) no_roles) (last_reading k q value)
 alone_shape _ = not_flat
+
+-- what a constructor makes of the fields' values
+abbrev pub made_reading : {A B : Type 0} → Closure A B → FieldsReading A → FieldsReading B
+made_reading {A = A} {B = B} f fields =
+    record { value = ClosedValue A B fields.value f; each = fields.each }
 
 -- the constructor of a product
 abbrev pub con_shape : {A B : Type 0} → Closure A B → Shape A → Shape B
-con_shape {A = A} {B = B} f (product q value) = product q (ClosedValue A B value f)
+con_shape f (product q fields) = product q (made_reading f fields)
 con_shape _ _ = not_flat
 
 -- a flat record: a product, or one field
 abbrev pub record_shape : {T : Type 0} → Shape T → Shape T
-record_shape (product q value) = product q value
+record_shape (product q fields) = product q fields
 record_shape not_flat = not_flat
 record_shape (alternative q value) = alone_shape (field_shape (alternative q value))
 record_shape (single k q group gap) = alone_shape (field_shape (single k q group gap))
@@ -213,7 +218,7 @@ is_record not_flat = false
 is_record (alternative q value) = true
 is_record (single k q group gap) = true
 is_record (complete k q value) = true
-is_record (product q value) = true
+is_record (product q fields) = true
 
 -- the items of a flat record
 abbrev pub product_roles : {T : Type 0} → Shape T → Roles
@@ -221,12 +226,12 @@ product_roles not_flat = no_roles
 product_roles (alternative q value) = no_roles
 product_roles (single k q group gap) = no_roles
 product_roles (complete k q value) = no_roles
-product_roles (product q value) = q
+product_roles (product q fields) = q
 
--- the values of a flat record
-abbrev pub product_value : {T : Type 0} → Shape T → List Piece → T → Type 0
-product_value not_flat os v = ⊥
-product_value (alternative q value) os v = ⊥
-product_value (single k q group gap) os v = ⊥
-product_value (complete k q value) os v = ⊥
-product_value (product q value) os v = value os v
+-- how the fields of a flat record read the pieces
+abbrev pub product_reading : {T : Type 0} → Shape T → FieldsReading T
+product_reading not_flat = record { value = λ os v. ⊥; each = λ os. ⊥ }
+product_reading (alternative q value) = record { value = λ os v. ⊥; each = λ os. ⊥ }
+product_reading (single k q group gap) = record { value = λ os v. ⊥; each = λ os. ⊥ }
+product_reading (complete k q value) = record { value = λ os v. ⊥; each = λ os. ⊥ }
+product_reading (product q fields) = fields

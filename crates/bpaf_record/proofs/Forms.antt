@@ -20,7 +20,7 @@ closed_is f (single EachWord q group gap) = refl
 closed_is f (complete Named q value) = refl
 closed_is f (complete OneWord q value) = refl
 closed_is f (complete EachWord q value) = refl
-closed_is f (product q value) = refl
+closed_is f (product q fields) = refl
 
 -- another look
 pub dressed_is : {T : Type 0} (s : Shape T) → closed_form (form_of s) ≡ form_of (dressed_shape s)
@@ -32,7 +32,7 @@ dressed_is (single EachWord q group gap) = refl
 dressed_is (complete Named q value) = refl
 dressed_is (complete OneWord q value) = refl
 dressed_is (complete EachWord q value) = refl
-dressed_is (product q value) = refl
+dressed_is (product q fields) = refl
 
 -- a repeat, and what is made of its list
 pub listed_is : {T B : Type 0} (f : Closure (List T) B) (s : Shape T)
@@ -45,7 +45,7 @@ listed_is f (single EachWord q group gap) = refl
 listed_is f (complete Named q value) = refl
 listed_is f (complete OneWord q value) = refl
 listed_is f (complete EachWord q value) = refl
-listed_is f (product q value) = refl
+listed_is f (product q fields) = refl
 
 -- last
 pub last_is : {T : Type 0} (s : Shape T) → completed_form (form_of s) ≡ form_of (last_shape s)
@@ -57,7 +57,7 @@ last_is (single EachWord q group gap) = refl
 last_is (complete Named q value) = refl
 last_is (complete OneWord q value) = refl
 last_is (complete EachWord q value) = refl
-last_is (product q value) = refl
+last_is (product q fields) = refl
 
 -- optional
 pub optional_is : {T : Type 0} (s : Shape T)
@@ -70,7 +70,7 @@ optional_is (single EachWord q group gap) = refl
 optional_is (complete Named q value) = refl
 optional_is (complete OneWord q value) = refl
 optional_is (complete EachWord q value) = refl
-optional_is (product q value) = refl
+optional_is (product q fields) = refl
 
 -- a default
 pub fallback_is : {T : Type 0} (f : Closure (Unit {0}) T) (s : Shape T)
@@ -83,7 +83,7 @@ fallback_is f (single EachWord q group gap) = refl
 fallback_is f (complete Named q value) = refl
 fallback_is f (complete OneWord q value) = refl
 fallback_is f (complete EachWord q value) = refl
-fallback_is f (product q value) = refl
+fallback_is f (product q fields) = refl
 
 -- `catch`
 pub caught_is : {T : Type 0} (catch : Bool) (s : Shape T)
@@ -106,4 +106,4 @@ record_is (single EachWord q group gap) = refl
 record_is (complete Named q value) = refl
 record_is (complete OneWord q value) = refl
 record_is (complete EachWord q value) = refl
-record_is (product q value) = refl
+record_is (product q fields) = refl

@@ -8,8 +8,8 @@ use Rattle.std.specs.List.{list_all}
 use Rattle.std.proofs.lemmas.List.Folds.{list_all-append}
 use Rattle.bpaf_doc.specs.Names.{Names}
 use Rattle.bpaf_exact.specs.Names.{are_all_apart}
-use Rattle.bpaf_exact.specs.Pieces.{Roles, Piece}
-use Rattle.bpaf_exact.specs.Flat.{Named, OneWord, EachWord}
+use Rattle.bpaf_exact.specs.Pieces.{Roles}
+use Rattle.bpaf_exact.specs.Flat.{FieldsReading, Named, OneWord, EachWord}
 use Rattle.bpaf_exact.specs.Shape.{Shape, not_flat, alternative, single, complete, product, only_if}
 use Rattle.bpaf_exact.specs.Shape.{either_shape, choice_shape, choices_rest, alternative_only}
 use Rattle.bpaf_exact.specs.Shape.{choices_shape, field_shape, both_shape, alone_shape, con_shape}
@@ -34,7 +34,7 @@ alone_is (single EachWord q group gap) = refl
 alone_is (complete Named q value) = refl
 alone_is (complete OneWord q value) = refl
 alone_is (complete EachWord q value) = refl
-alone_is (product q value) = refl
+alone_is (product q fields) = refl
 
 -- a constructor
 pub con_is : {A B : Type 0} (f : Closure A B) (s : Shape A)
@@ -47,7 +47,7 @@ con_is f (single EachWord q group gap) = refl
 con_is f (complete Named q value) = refl
 con_is f (complete OneWord q value) = refl
 con_is f (complete EachWord q value) = refl
-con_is f (product q value) = refl
+con_is f (product q fields) = refl
 
 -- a choice of one alone
 only_is : {T : Type 0} (s : Shape T) → alternative_form (form_of s) ≡ form_of (alternative_only s)
@@ -59,7 +59,7 @@ only_is (single EachWord q group gap) = refl
 only_is (complete Named q value) = refl
 only_is (complete OneWord q value) = refl
 only_is (complete EachWord q value) = refl
-only_is (product q value) = refl
+only_is (product q fields) = refl
 
 -- a choice of two whose keys are apart
 either_is : {T : Type 0} (s t : Shape T)
@@ -80,7 +80,7 @@ either_is (single EachWord q group gap) t = refl
 either_is (complete Named q value) t = refl
 either_is (complete OneWord q value) t = refl
 either_is (complete EachWord q value) t = refl
-either_is (product q value) t = refl
+either_is (product q fields) t = refl
 
 -- a choice of two
 joined_is : {T : Type 0} (apart : Bool) (s t : Shape T)
@@ -95,10 +95,10 @@ pub choice_is : {T : Type 0} (own others : List Names) (s t : Shape T)
 choice_is own others s t = joined_is (are_all_apart own others) s t
 
 -- a product, where a test holds
-named_is : {T : Type 0} (apart : Bool) (q : Roles) (value : List Piece → T → Type 0)
-    → product_if apart ≡ form_of (only_if apart (product q value))
-named_is true q value = refl
-named_is false q value = refl
+named_is : {T : Type 0} (apart : Bool) (q : Roles) (fields : FieldsReading T)
+    → product_if apart ≡ form_of (only_if apart (product q fields))
+named_is true q fields = refl
+named_is false q fields = refl
 
 -- a field before others
 pub both_is : {A B : Type 0} (own others : List Names) (s : Shape A) (t : Shape B)
@@ -174,7 +174,7 @@ both_is own others (complete EachWord q value) (complete OneWord r other) = refl
 both_is own others (complete EachWord q value) (complete EachWord r other) = refl
 both_is own [] (complete EachWord q value) (product r other) = refl
 both_is own (names ∷ others) (complete EachWord q value) (product r other) = refl
-both_is own others (product q value) t = refl
+both_is own others (product q fields) t = refl
 
 -- a choice of what stands before and of parsers
 rest_is : {P T : Type 0} (keys : P → List Names) (shape : P → Shape T) (own : List Names)

@@ -1,5 +1,5 @@
 -- Each answer that the table of a run allows to a flat record is exact.
-use Rattle.std.proofs.Common.{◌≡◌, ℕ, Bool, true, false, ◌&&◌, List, Some, None, Result, Ok, Err, IfOk, All, IsUtf8, refl, subst, arith}
+use Rattle.std.proofs.Common.{◌≡◌, ℕ, Bool, true, false, ◌&&◌, List, Some, None, Result, Ok, Err, IfOk, All, IsUtf8, refl, ap, subst, arith}
 use Rattle.bpaf_doc.specs.Names.{Names}
 use Rattle.bpaf_doc.specs.Shape.{Shape as ShownShape}
 use Rattle.bpaf_words.specs.Arguments.{Given}
@@ -16,16 +16,18 @@ use Rattle.bpaf_core.specs.Ending.{EndsRun, memory, usage, passed_on, refused as
 use Rattle.bpaf_parts.specs.Info.{RunInfo}
 use Rattle.bpaf_core.specs.Known.{IsLineContext}
 use Rattle.bpaf_core.specs.Run.{Runs, value, leftover, refused, ran, no_line as none_there, no_memory as wanted}
+use Rattle.bpaf_exact.specs.Flat.{FieldsLaw, FieldsReading}
+use Rattle.bpaf_exact.specs.Pieces.{Cut, Roles}
 use Rattle.bpaf_exact.specs.Record.{RunRan, run_value, run_leftover, run_memory, run_refusal, IsNoValue}
 use Rattle.bpaf_exact.specs.Record.{IsAnswer, IsExact, RecordValue, line_cells}
-use Rattle.bpaf_exact.specs.Shape.{Shape, ShapeLaw, is_record, product_roles, product_value, record_shape}
+use Rattle.bpaf_exact.specs.Shape.{Shape, ShapeLaw, is_record, product_roles, product_reading, record_shape}
 use Rattle.bpaf_exact.proofs.Classes.{memory_class, not_memory}
 use Rattle.bpaf_exact.proofs.Accepted.{cut_holds_together}
 use Rattle.bpaf_exact.proofs.Exact.{runs_exactly}
 use Rattle.bpaf_exact.proofs.Shape.{record_law}
 use Rattle.bpaf_exact.specs.SameParts.{ShowsTheSame}
 use Rattle.bpaf_record.specs.Record.{is_flat_record, answer_of, EachAnswersExactly}
-use Rattle.bpaf_record.specs.Record.{IsValueOf, IsValueOrWant, HasWholeLine, EachHasWholeLine}
+use Rattle.bpaf_record.specs.Record.{IsValueOf, IsValueOrWant, HasWholeLine, PiecesOf}
 use Rattle.bpaf_record.proofs.OneLine.{never_without, one_context}
 
 -- an open place is counted
@@ -70,70 +72,103 @@ module _ (T : Type 0) (outcome : Outcome T) (describes : ShownShape → Type 0) 
     abbrev IsValue : T → Type 0
     IsValue = IsValueOf describes info shape given
 
-    -- one on a line of the words
-    abbrev ValueOn : Context → T → Type 0
-    ValueOn context v = RecordValue (product_roles (record_shape shape))
-        (product_value (record_shape shape)) context v
+    -- the keys of the record
+    abbrev roles : Roles
+    roles = product_roles (record_shape shape)
 
-    -- what is exact on the words' line is a value only where that is one of the record's
-    sound_on : (context : Context) → IsLineContext describes info given context
-        → (r : Result T ParseFailure)
-        → IsExact T (product_roles (record_shape shape)) (product_value (record_shape shape)) context
-        (answer_of r) → IfOk r IsValue
-    sound_on context is (Ok v) exact =
-        record { context = context; on_line = is; read = exact.sound v refl }
-    sound_on context is (Err f) exact = tt
+    -- how its fields read the pieces
+    abbrev reading : FieldsReading T
+    reading = product_reading (record_shape shape)
 
-    -- an answer on the words' line that is one of the record's values there, or want of memory
-    answer_on : (context : Context) → IsLineContext describes info given context
-        → (r : Result T ParseFailure) → IsAnswer (ValueOn context) (answer_of r)
-        → IsValueOrWant IsValue r
-    answer_on context is (Ok v) given_value =
-        record { context = context; on_line = is; read = given_value }
-    answer_on context is (Err (failure.Stdout doc full)) none = absurd none
-    answer_on context is (Err (failure.Stderr doc)) none = absurd none
-    answer_on context is (Err failure.Memory) none = refl
+    -- they keep to the laws
+    fields_law : FieldsLaw T outcome roles reading
+    fields_law = record_law T outcome names shape flat law
 
-    -- where the record has a value on the words, what is exact on their line is one, or want of memory
-    complete_on : (context : Context) → IsLineContext describes info given context
-        → (r : Result T ParseFailure)
-        → IsExact T (product_roles (record_shape shape)) (product_value (record_shape shape)) context
-        (answer_of r) → All IsUtf8 given.words → (v : T) → IsValue v → IsValueOrWant IsValue r
-    complete_on context is r exact texts v there = answer_on context is r
-        (exact.complete v (subst (λ line. ValueOn line v)
-        (one_context given texts shows info there.context context there.on_line is) there.read))
+    -- the pieces that the words are cut into
+    abbrev Line : Type 0
+    Line = PiecesOf describes info shape given
+
+    -- the line of a value of the record is whole
+    whole_line : (v : T) → IsValue v → HasWholeLine describes info shape given v
+    whole_line v is = record {
+      is_value = is;
+      together = cut_holds_together roles fields_law.named (line_cells is.context)
+          is.read.cut_into is.read.cut;
+    }
+
+    module _ (context : Context) (is : IsLineContext describes info given context)
+        (r : Result T ParseFailure) (exact : IsExact T roles reading context (answer_of r)) where
+      -- what is exact on the words' line is a value only where that is one of the record's
+      sound_on : (a : Result T ParseFailure) → r ≡ a
+          → IfOk a (HasWholeLine describes info shape given)
+      sound_on (Ok v) e = whole_line v
+          (record { context = context; on_line = is; read = exact.sound v (ap answer_of e) })
+      sound_on (Err f) e = tt
+
+      -- an answer that is one of the record's values there, or want of memory
+      answer_on : (a : Result T ParseFailure)
+          → IsAnswer (λ v. RecordValue roles reading.value context v) (answer_of a)
+          → IsValueOrWant IsValue a
+      answer_on (Ok v) given_value =
+          record { context = context; on_line = is; read = given_value }
+      answer_on (Err (failure.Stdout doc full)) none = absurd none
+      answer_on (Err (failure.Stderr doc)) none = absurd none
+      answer_on (Err failure.Memory) none = refl
+
+      -- the pieces of the words are those of this line
+      pieces_on : All IsUtf8 given.words → (line : Line) → Cut roles (line_cells context) line.cut_into
+      pieces_on texts line = subst (λ c. Cut roles (line_cells c) line.cut_into)
+          (one_context given texts shows info line.context context line.on_line is) line.cut
+
+      -- where each field has a value
+      complete_on : All IsUtf8 given.words → (line : Line) → reading.each line.cut_into
+          → IsValueOrWant IsValue r
+      complete_on texts line each =
+          answer_on r (exact.complete line.cut_into (pieces_on texts line) each)
+
+      -- where one has none
+      refused_on : All IsUtf8 given.words → (line : Line) → ¬ (reading.each line.cut_into)
+          → (a : Result T ParseFailure) → r ≡ a → IfOk a (λ v. ⊥)
+      refused_on texts line none (Ok v) e =
+          exact.refused line.cut_into (pieces_on texts line) none v (ap answer_of e)
+      refused_on texts line none (Err f) e = tt
+
+    -- the pieces of a value
+    abbrev line_of : (v : T) → IsValue v → Line
+    line_of v is = record {
+      context = is.context;
+      on_line = is.on_line;
+      cut_into = is.read.cut_into;
+      cut = is.read.cut;
+    }
 
     -- each answer to words is exact
     pub answers_exactly : EachAnswersExactly outcome describes info shape given
     answers_exactly r (ran context answer t is run) =
         let exact = runs_exactly T outcome names shape flat law context (answer_of r)
         (run_ran (beginning context) t r run) in
-        record { sound = sound_on context is r exact; complete = complete_on context is r exact }
+        record {
+          sound = sound_on context is r exact r refl;
+          complete = complete_on context is r exact;
+          refused = λ texts line none. refused_on context is r exact texts line none r refl;
+          answered = λ texts v there. complete_on context is r exact texts (line_of v there)
+              (fields_law.has_each there.read.cut_into v there.read.read);
+        }
     answers_exactly (Err f) (none_there shown word number context told is none line name renders) =
         record {
           sound = tt;
-          complete = λ texts v there. absurd (never_without given texts shows info there.context shown
-              word number there.on_line is none);
+          complete = λ texts there each. absurd (never_without given texts shows info there.context
+              shown word number there.on_line is none);
+          refused = λ texts there none_has. tt;
+          answered = λ texts v there. absurd (never_without given texts shows info there.context
+              shown word number there.on_line is none);
         }
-    answers_exactly (Err f) wanted = record { sound = tt; complete = λ texts v there. refl }
-
-    -- the line of a value of the record is whole
-    whole_line : (v : T) → IsValue v → HasWholeLine describes info shape given v
-    whole_line v is = record {
-      is_value = is;
-      together = cut_holds_together (product_roles (record_shape shape))
-          (record_law T outcome names shape flat law).named (line_cells is.context)
-          is.read.cut_into is.read.cut;
+    answers_exactly (Err f) wanted = record {
+      sound = tt;
+      complete = λ texts there each. refl;
+      refused = λ texts there none_has. tt;
+      answered = λ texts v there. refl;
     }
-
-    -- so is that of each answer to words that is a value
-    pub whole_lines : EachHasWholeLine outcome describes info shape given
-    whole_lines r o = by_answer r (answers_exactly r o).sound
-      where
-        by_answer : (a : Result T ParseFailure) → IfOk a IsValue
-            → IfOk a (HasWholeLine describes info shape given)
-        by_answer (Ok v) is = whole_line v is
-        by_answer (Err f) none = tt
 
 -- options that are a flat record have a parser that is one
 pub is_flat_shape : {T : Type 0} (shape : Shape T) (names : List Names) (info : RunInfo) → is_flat_record shape names info ≡ true → is_record shape ≡ true

@@ -26,7 +26,7 @@ form_of not_flat = NotFlat
 form_of (alternative q value) = Alternative
 form_of (single k q group gap) = single_form k
 form_of (complete k q value) = complete_form k
-form_of (product q value) = Product
+form_of (product q fields) = Product
 
 -- with a closure round it
 abbrev pub closed_form : Form → Form

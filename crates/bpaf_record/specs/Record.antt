@@ -13,9 +13,10 @@ use Rattle.bpaf_core.specs.Known.{IsLineContext}
 use Rattle.bpaf_core.specs.Run.{RunsWords}
 use Rattle.bpaf_exact.specs.Accepted.{HoldsTogether}
 use Rattle.bpaf_exact.specs.Names.{are_apart}
+use Rattle.bpaf_exact.specs.Pieces.{Piece, Cut}
 use Rattle.bpaf_exact.specs.Record.{Answer, Accepted, NoMemory, Refusal, RecordValue}
 use Rattle.bpaf_exact.specs.Record.{line_cells}
-use Rattle.bpaf_exact.specs.Shape.{Shape, is_record, product_roles, product_value, record_shape}
+use Rattle.bpaf_exact.specs.Shape.{Shape, is_record, product_roles, product_reading, record_shape}
 
 -- a flat record none of whose keys shares a name with those of help and version
 abbrev pub is_flat_record : {T : Type 0} → Shape T → List Names → RunInfo → Bool
@@ -36,28 +37,8 @@ pub record IsValueOf {T : Type 0} (describes : ShownShape → Type 0) (info : Ru
     (shape : Shape T) (given : Given) (v : T) : Type 0 where
   pub context : Context
   pub on_line : IsLineContext describes info given context
-  pub read : RecordValue (product_roles (record_shape shape)) (product_value (record_shape shape))
-      context v
-
--- an answer is one of these values, or want of memory
-abbrev pub IsValueOrWant : {T : Type 0} → (T → Type 0) → Result T ParseFailure → Type 0
-IsValueOrWant value (Ok v) = value v
-IsValueOrWant value (Err f) = f ≡ failure.Memory
-
--- an answer to words is exact: it is a value only where that is one of the record's; and where the
--- record has a value on the words, which are texts, it is one, or want of memory
-pub record AnswersExactly (T : Type 0) (describes : ShownShape → Type 0) (info : RunInfo)
-    (shape : Shape T) (given : Given) (r : Result T ParseFailure) : Type 0 where
-  pub sound : IfOk r (IsValueOf describes info shape given)
-  pub complete : All IsUtf8 given.words → (v : T) → IsValueOf describes info shape given v
-      → IsValueOrWant (IsValueOf describes info shape given) r
-
--- each answer that the table of a run allows on the words is exact
-abbrev pub EachAnswersExactly : {T : Type 0} → Outcome T → (ShownShape → Type 0) → RunInfo
-    → Shape T → Given → Type 0
-EachAnswersExactly {T = T} outcome describes info shape given =
-    (r : Result T ParseFailure) → RunsWords T outcome describes info given r
-    → AnswersExactly T describes info shape given r
+  pub read : RecordValue (product_roles (record_shape shape))
+      (product_reading (record_shape shape)).value context v
 
 -- v is a value of the record on words whose line, as it is cut for v, holds together
 pub record HasWholeLine {T : Type 0} (describes : ShownShape → Type 0) (info : RunInfo)
@@ -66,9 +47,42 @@ pub record HasWholeLine {T : Type 0} (describes : ShownShape → Type 0) (info :
   pub together : HoldsTogether (product_roles (record_shape shape)) (line_cells is_value.context)
       is_value.read.cut_into
 
--- each value that the table of a run allows on the words is one of these
-abbrev pub EachHasWholeLine : {T : Type 0} → Outcome T → (ShownShape → Type 0) → RunInfo
+-- the pieces that the line of words is cut into for the record
+pub record PiecesOf {T : Type 0} (describes : ShownShape → Type 0) (info : RunInfo)
+    (shape : Shape T) (given : Given) : Type 0 where
+  pub context : Context
+  pub on_line : IsLineContext describes info given context
+  pub cut_into : List Piece
+  pub cut : Cut (product_roles (record_shape shape)) (line_cells context) cut_into
+
+-- each field of the record has a value on its share of these
+abbrev pub EachHasValue : {T : Type 0} → Shape T → List Piece → Type 0
+EachHasValue shape = (product_reading (record_shape shape)).each
+
+-- an answer is one of these values, or want of memory
+abbrev pub IsValueOrWant : {T : Type 0} → (T → Type 0) → Result T ParseFailure → Type 0
+IsValueOrWant value (Ok v) = value v
+IsValueOrWant value (Err f) = f ≡ failure.Memory
+
+-- An answer to words is exact. That words have a value is said of words that are texts.
+pub record AnswersExactly (T : Type 0) (describes : ShownShape → Type 0) (info : RunInfo)
+    (shape : Shape T) (given : Given) (r : Result T ParseFailure) : Type 0 where
+  -- it is a value only where that is one of the record's, on a line that holds together
+  pub sound : IfOk r (HasWholeLine describes info shape given)
+  -- where each field has a value on its share of the pieces, it is one of the record's, made of
+  -- such, or want of memory
+  pub complete : All IsUtf8 given.words → (line : PiecesOf describes info shape given)
+      → EachHasValue shape line.cut_into → IsValueOrWant (IsValueOf describes info shape given) r
+  -- where a field has none, it is no value
+  pub refused : All IsUtf8 given.words → (line : PiecesOf describes info shape given)
+      → ¬ (EachHasValue shape line.cut_into) → IfOk r (λ v. ⊥)
+  -- where the record has a value, it is one of its values, or want of memory
+  pub answered : All IsUtf8 given.words → (v : T) → IsValueOf describes info shape given v
+      → IsValueOrWant (IsValueOf describes info shape given) r
+
+-- each answer that the table of a run allows on the words is exact
+abbrev pub EachAnswersExactly : {T : Type 0} → Outcome T → (ShownShape → Type 0) → RunInfo
     → Shape T → Given → Type 0
-EachHasWholeLine {T = T} outcome describes info shape given =
+EachAnswersExactly {T = T} outcome describes info shape given =
     (r : Result T ParseFailure) → RunsWords T outcome describes info given r
-    → IfOk r (HasWholeLine describes info shape given)
+    → AnswersExactly T describes info shape given r

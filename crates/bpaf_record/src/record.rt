@@ -41,21 +41,21 @@ pub trait Record<T> {
     /// What a run of a flat record answers to words.
     ghost answers_exactly: { Self → Given → Result T ParseFailure → Type 0 };
 
-    /// Which values have a whole line: that of the words holds together as it is cut for them.
-    ghost has_whole_line: { Self → Given → T → Type 0 };
-
-    /// The value that the words give, as `run_inner`, and exactly: Ok(v) comes only where v is a
-    /// value of the record on the words' line, and where the record has a value there the answer
-    /// is one, or want of memory.
+    /// The value that the words give, as `run_inner`, and exactly. The record's values are read
+    /// off the words' line by itself: it is cut into pieces, and each field has its share of them.
     ///
-    /// The record's values are read off the line by itself: it is cut into pieces, and each field
-    /// has its share of them. The clause `exact` is of every answer that the table of a run
-    /// allows.
+    /// - Ok(v) comes only where v is a value of the record there. Its line is whole: each key on
+    ///   it is one of the record's; behind each argument's key stands its value, and no positional
+    ///   field gets that one; an attached value stands nowhere else; and what is left to
+    ///   positional fields are words by themselves.
+    /// - Where each field has a value on its share, the answer is the constructor's on such values,
+    ///   or want of memory; where the record has a value, it is one of the record's, or want of
+    ///   memory.
+    /// - Where a field has none, as for an occurrence or a word too many or one that can't be read,
+    ///   no Ok is answered.
     ///
-    /// So is the clause `whole`: the line of a value is whole. Each key on it is one of the
-    /// record's; behind each argument's key stands its value, and no positional field gets that
-    /// one; an attached value stands nowhere else; and what is left to positional fields are
-    /// words by themselves. The other clauses are those of `run_inner`.
+    /// The clause `exact` says it of the answer, `each_exact` of every answer that the table of a
+    /// run allows. The other clauses are those of `run_inner`.
     ///
     /// ```text
     /// if !options.is_record() {
@@ -69,12 +69,10 @@ pub trait Record<T> {
         ensures outcome { answers self.now (given_of args.entry) result }
         ensures named { IfErr result (refuses self.now (given_of args.entry)) }
         ensures dealt { IfOk result (deals self.now (given_of args.entry)) }
-        ensures exact { agrees self.now → (r : Result T ParseFailure)
+        ensures exact { agrees self.now → answers_exactly self.now (given_of args.entry) result }
+        ensures each_exact { agrees self.now → (r : Result T ParseFailure)
             → answers self.now (given_of args.entry) r
-            → answers_exactly self.now (given_of args.entry) r }
-        ensures whole { agrees self.now → (r : Result T ParseFailure)
-            → answers self.now (given_of args.entry) r
-            → IfOk r (has_whole_line self.now (given_of args.entry)) };
+            → answers_exactly self.now (given_of args.entry) r };
 }
 
 /// Whether all keys of a parser are apart from the key for help.
@@ -104,7 +102,7 @@ fn apart_from_version<P: HasKeys>(parser: &P, info: &Info) -> bool
 }
 
 impl<T: Drop, P: FlatField<T>> Record<T> for OptionParser<T, P> {
-    ghost use Rattle.bpaf_record.specs.Record.{is_flat_record, AnswersExactly, HasWholeLine};
+    ghost use Rattle.bpaf_record.specs.Record.{is_flat_record, AnswersExactly};
     ghost use Rattle.bpaf_core.specs.Dealt.{IsDealtOut};
     ghost use Rattle.bpaf_core.specs.Refusals.{IsOneOfTwelve};
     ghost use Rattle.bpaf_core.specs.Run.{RunsWords};
@@ -134,9 +132,6 @@ impl<T: Drop, P: FlatField<T>> Record<T> for OptionParser<T, P> {
 
     ghost answers_exactly = { λ p given.
         AnswersExactly T (P.describes p.inner) p.info (P.shape p.inner) given };
-
-    ghost has_whole_line = { λ p given.
-        HasWholeLine (P.describes p.inner) p.info (P.shape p.inner) given };
 
     fn run_record(&self, args: Args<'_>) -> Result<T, ParseFailure> {
         self.run_inner(args)

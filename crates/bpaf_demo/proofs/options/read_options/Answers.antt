@@ -67,5 +67,6 @@ returns c =
       asked = help_asked _ parts program _ (given_of c.set_name.result) (search rules) _
           c.run_record.ensures.outcome;
       exact = answer_exact _ parts program (λ x v e. search rules) _ (given_of c.set_name.result)
-          (search rules) (are_texts c.args.words.now) _ c.run_record.ensures.outcome;
+          (search rules) (are_texts c.args.words.now) _
+          (c.run_record.ensures.exact (tt, (tt, tt)));
     }
