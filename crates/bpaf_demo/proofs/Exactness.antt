@@ -108,7 +108,7 @@ module _ (makes : Makes) (parts : Parts) where
     -- a value of the parser's record on the words
     abbrev IsValue : Options → Type 0
     IsValue =
-        IsValueOf (RecordDescribes makes parts) parts.info (PartsShape makes parts)
+        IsValueOf (RecordDescribes makes parts) parts.info PartsShape
         (program_given words)
 
     -- is one of the program's
@@ -132,8 +132,8 @@ module _ (makes : Makes) (parts : Parts) where
 
     -- the pieces of a value of the program's record, on each of which its field has a value
     pieces_of : (v : Options) → IsOptionsOf words v
-        → (line : PiecesOf (RecordDescribes makes parts) parts.info (PartsShape makes parts)
-        (program_given words)) × EachHasValue (PartsShape makes parts) line.cut_into
+        → (line : PiecesOf (RecordDescribes makes parts) parts.info PartsShape
+        (program_given words)) × EachHasValue PartsShape line.cut_into
     pieces_of v value =
         let values = value.read.read.from in
         let read = value.read.read.read in (
@@ -153,15 +153,13 @@ module _ (makes : Makes) (parts : Parts) where
           subst (λ fields. EachHasValue (con_shape (map_closure makes) fields) value.read.cut_into)
               (sym (same_fields program.names)) (
             (values.0, read.0),
-            (values.1.0, read.1.0),
-            (values.1.1, read.1.1.read),
-            read.1.1.none_left,
+            ((values.1.0, read.1.0), ((values.1.1, read.1.1.read), read.1.1.none_left)),
           ),
         )
 
     -- an accepted value is one of the program's record
     options_accepted : (r : Result Options ParseFailure)
-        → IfOk r (HasWholeLine (RecordDescribes makes parts) parts.info (PartsShape makes parts)
+        → IfOk r (HasWholeLine (RecordDescribes makes parts) parts.info PartsShape
         (program_given words)) → IfOk r (IsOptionsOf words)
     options_accepted (Ok v) whole = to_options v whole.is_value
     options_accepted (Err f) none = tt
@@ -176,13 +174,13 @@ module _ (makes : Makes) (parts : Parts) where
     pub answer_exact : (given : Given) → given ≡ program_given words → All IsUtf8 words
         → (r : Result Options ParseFailure)
         → ParserAnswersExactly Options (RecordDescribes makes parts) parts.info
-        (PartsShape makes parts) given r
+        PartsShape given r
         → AnswersExactly words r
     answer_exact given is texts r answers =
         let exact : ParserAnswersExactly Options (RecordDescribes makes parts) parts.info
-        (PartsShape makes parts) (program_given words) r =
+        PartsShape (program_given words) r =
         subst (λ g. ParserAnswersExactly Options (RecordDescribes makes parts) parts.info
-        (PartsShape makes parts) g r) is answers in
+        PartsShape g r) is answers in
         record {
           sound = options_accepted r exact.sound;
           complete = λ v value.
