@@ -152,9 +152,9 @@ module _ (makes : Makes) (parts : Parts) where
           },
           subst (λ fields. EachHasValue (con_shape (map_closure makes) fields) value.read.cut_into)
               (sym (same_fields program.names)) (
-            (values.0, read.0),
-            ((values.1.0, read.1.0), ((values.1.1, read.1.1.read), read.1.1.none_left)),
-          ),
+                (values.0, read.0),
+                ((values.1.0, read.1.0), ((values.1.1, read.1.1.read), read.1.1.none_left)),
+              ),
         )
 
     -- an accepted value is one of the program's record

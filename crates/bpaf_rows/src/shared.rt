@@ -3,7 +3,7 @@
 //! A comparison stands here and not in the tests: the proof of a function grows faster than its
 //! steps.
 use bpaf::params::{ParseArgument, ParseFlag, ParsePositional};
-use bpaf::{Args, OptionParser, ParseFailure, Parser, positional, short};
+use bpaf::{Args, Doc, OptionParser, ParseFailure, Parser, positional, short};
 use std::alloc::{AllocError, Global};
 use std::fmt::Debug;
 use std::process::Abort;
@@ -65,6 +65,12 @@ pub(crate) fn prints<T: Debug + Drop>(
     reads(rt, printed(rt.alloc(), found), wanted)
 }
 
+/// A kind of answer and its text, as a line.
+fn push_text(kind: &str, doc: &Doc, full: bool, out: &mut String) -> Result<(), AllocError> {
+    let text = doc.monochrome(full)?;
+    writeln!(out, "{kind} {text}")
+}
+
 /// What a run answers, as a line: `ok` and the value, `err` and the message, `out` and a text that
 /// was asked for, or `full` and one that was asked for in full.
 fn push_answer<T: Debug + Drop>(
@@ -74,14 +80,9 @@ fn push_answer<T: Debug + Drop>(
     match answer {
         Ok(value) => writeln!(out, "ok {value:?}"),
         Err(ParseFailure::Memory) => Err(AllocError),
-        Err(ParseFailure::Stderr(doc)) => {
-            let text = doc.monochrome(true)?;
-            writeln!(out, "err {text}")
-        }
+        Err(ParseFailure::Stderr(doc)) => push_text("err", &doc, true, out),
         Err(ParseFailure::Stdout(doc, full)) => {
-            let text = doc.monochrome(full)?;
-            let kind = if full { "full" } else { "out" };
-            writeln!(out, "{kind} {text}")
+            push_text(if full { "full" } else { "out" }, &doc, full, out)
         }
     }
 }

@@ -4,29 +4,37 @@ use bpaf::{Doc, Item, Meta, MetaInfo, Parser, Style, any, construct, literal};
 use std::alloc::{AllocError, Global};
 use std::test::Fail;
 
+/// A kind of what is shown, and its text between marks.
+fn marked(alloc: Global, kind: &str, text: &Doc) -> Result<String, AllocError> {
+    let text = text.monochrome(true)?;
+    format!(in alloc; "{kind} `{text}`")
+}
+
+/// What an item by its text shows: its metavar, whether it has a help, and whether it may stand
+/// anywhere.
+fn told_item(
+    alloc: Global,
+    metavar: &Doc,
+    helped: bool,
+    anywhere: bool,
+) -> Result<String, AllocError> {
+    let item = marked(alloc, "item", metavar)?;
+    format!(in alloc; "{item} {helped} {anywhere}")
+}
+
 /// What a wrapper shows: its text in the usage, the title of its section, or nothing; and what an
 /// item by its text does.
 fn told(alloc: Global, meta: &Meta) -> Result<String, AllocError> {
     match meta {
-        Meta::CustomUsage(_, usage) => {
-            let usage = usage.monochrome(true)?;
-            format!(in alloc; "usage `{usage}`")
-        }
-        Meta::Subsection(_, title) => {
-            let title = title.monochrome(true)?;
-            format!(in alloc; "section `{title}`")
-        }
+        Meta::CustomUsage(_, usage) => marked(alloc, "usage", usage),
+        Meta::Subsection(_, title) => marked(alloc, "section", title),
         Meta::Item(
             Item::Any {
                 metavar,
                 help,
                 anywhere,
             },
-        ) => {
-            let metavar = metavar.monochrome(true)?;
-            let helped = help.is_some();
-            format!(in alloc; "item `{metavar}` {helped} {anywhere}")
-        }
+        ) => told_item(alloc, metavar, help.is_some(), *anywhere),
         Meta::Skip => String::from_str(alloc, "nothing"),
         _ => String::from_str(alloc, "another"),
     }
