@@ -1,5 +1,4 @@
 use Rattle.bpaf_words.specs.Arguments.{given_of}
-use Rattle.bpaf_record.specs.Record.{EachAnswersExactly}
 use Rattle.bpaf_record.proofs.Running.{answers_exactly, is_flat_shape}
 use Rattle.bpaf_record.proofs.record.OptionParserRecord.run_record.Goals as goal
 
