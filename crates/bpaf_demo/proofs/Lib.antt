@@ -1,5 +1,5 @@
 pub mod Alike
+pub mod Answering
 pub mod Dealing
 pub mod Ending
 pub mod Exactness
-pub mod Printing

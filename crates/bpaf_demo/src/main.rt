@@ -1,8 +1,8 @@
 //! A program over a record of options: a switch, a number, and any number of files.
 //!
-//! It stands on `bpaf` and `bpaf_record`, and has no contract for a layer above: it is the top.
-//! `run` is the whole program over two writers; `main` hands it the words, standard output and
-//! standard error, and ends with its status.
+//! It stands on `bpaf`, `bpaf_record` and `bpaf_program`, and has no contract for a layer above: it is
+//! the top. `run` is the whole program over two writers; `main` hands it the words, standard output
+//! and standard error, and ends with its status.
 //!
 //! ```text
 //! bpaf_demo -v -n 3      verbose: true, num: 3, a line each, status 0
@@ -22,8 +22,10 @@
 //! - Status 0 comes only with nothing written on the error writer, and on the other exactly the
 //!   lines of the record's value on the words (specs/Lines.antt), or where it has none exactly the
 //!   help page that the words ask for (specs/Shown.antt, `WritesExactly` in specs/Running.antt).
-//! - Where the record has a value on the words, its lines are written and the status is 0, unless a
-//!   write of them fails or memory is wanted (`Prints`, specs/Running.antt).
+//! - Where the record has a value on the words, its lines are written and the status is 0; or a write
+//!   failed, and a beginning of them stands there, not all; or memory was wanted, nothing stands there,
+//!   and on the error writer `Error: out of memory`, or a beginning of that (`Prints`,
+//!   specs/Running.antt). No other message is told there.
 //! - The value that is printed is dealt out of the words, each place of their line used once
 //!   (specs/Record.antt).
 #![tactic(auto)]
@@ -32,35 +34,19 @@ mod options;
 mod print;
 mod run;
 
-use bpaf::ParseFailure;
-use run::{refuse, run};
+use bpaf_program::{end, words};
+use run::run;
 use std::process::ExitCode;
-use std::{env, io};
 
 #[cfg(test)]
 mod tests;
 
-fn main(rt: HostRuntime) -> io::Result<ExitCode> {
+fn main(rt: HostRuntime) -> ExitCode {
     let mut out = rt.stdout();
     let mut err = rt.stderr();
-    let status = match words_of(&rt) {
+    let status = match end(words(&rt), &mut out, &mut err) {
         Ok(words) => run(rt.alloc(), words.as_slice(), &mut out, &mut err),
-        Err(error) => {
-            if error.kind() != io::ErrorKind::OutOfMemory {
-                return Err(error);
-            }
-            refuse(ParseFailure::Memory, &mut err)
-        }
+        Err(status) => status,
     };
-    Ok(ExitCode::from(status))
-}
-
-/// The words that the program is called with, without its own name; refused for want of memory, and
-/// where one is no text.
-fn words_of(rt: &HostRuntime) -> io::Result<Vec<String>> {
-    let mut words = Vec::new(rt.alloc());
-    for word in env::args(rt)?.skip(1) {
-        words.push(word)?;
-    }
-    Ok(words)
+    ExitCode::from(status)
 }

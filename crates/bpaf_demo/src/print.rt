@@ -1,29 +1,39 @@
-ghost use Rattle.std.specs.Prelude.{OnOk, map, string_bytes};
-ghost use Rattle.std.specs.Io.KnownBytes.{Appends};
+ghost use Rattle.std.specs.Prelude.{◌≡◌, ◌++◌, IfOk, OnOk, map, string_bytes};
 ghost use Rattle.bpaf_demo.specs.Lines.{lines, file_lines};
+ghost use Rattle.bpaf_demo.specs.Running.{AnswersLines};
 
-use crate::options::Options;
-use std::io;
-use std::io::Write;
+use crate::options::{Options, read_options};
+use bpaf::ParseFailure;
+use std::alloc::{AllocError, Global};
 
-/// Prints the lines of the options; refused where a write fails.
-pub fn print_options<W: Write>(options: &Options, out: &mut W) -> io::Result<()>
-    ensures { OnOk result (Appends (W.contents out.old) (W.contents out.new) (lines options.now)) }
+/// The lines that the words ask for: those of the options that they give; refused where these are.
+pub fn lines_of(alloc: Global, words: &[String]) -> Result<String, ParseFailure>
+    ensures { AnswersLines (map string_bytes words.now) result }
+{
+    let options = read_options(alloc, words)?;
+    Ok(text_of(alloc, &options)?)
+}
+
+/// The lines of the options; refused only for want of memory.
+fn text_of(alloc: Global, options: &Options) -> Result<String, AllocError>
+    ensures { IfOk result (λ text. string_bytes text ≡ lines options.now) }
 {
     let verbose = options.verbose;
     let num = options.num;
-    writeln!(out, "verbose: {verbose}")?;
-    writeln!(out, "num: {num}")?;
-    print_files(options.files.as_slice(), out)
+    let mut text = String::new(alloc);
+    writeln!(text, "verbose: {verbose}")?;
+    writeln!(text, "num: {num}")?;
+    push_files(&mut text, options.files.as_slice())?;
+    Ok(text)
 }
 
-/// Prints a line for each file; refused where a write fails.
-fn print_files<W: Write>(files: &[String], out: &mut W) -> io::Result<()>
-    ensures { OnOk result (Appends (W.contents out.old) (W.contents out.new)
-        (file_lines (map string_bytes files.now))) }
+/// Appends a line for each file; refused only for want of memory.
+fn push_files(text: &mut String, files: &[String]) -> Result<(), AllocError>
+    ensures { OnOk result (string_bytes text.new
+        ≡ string_bytes text.old ++ file_lines (map string_bytes files.now)) }
 {
     for file in files {
-        writeln!(out, "file: {file}")?;
+        writeln!(text, "file: {file}")?;
     }
     Ok(())
 }

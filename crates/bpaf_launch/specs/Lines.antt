@@ -1,7 +1,6 @@
 -- What the program prints of a launch: a line for each part.
-use Rattle.std.specs.Prelude.{ℕ, Bool, List, [], ◌∷◌, ◌++◌, Option, map, take, codes, string_bytes}
+use Rattle.std.specs.Prelude.{ℕ, Bool, List, [], ◌∷◌, ◌++◌, map, codes, string_bytes}
 use Rattle.std.specs.Prelude.{if◌then◌else◌}
-use Rattle.std.specs.Io.KnownBytes.{Appends}
 use Rattle.bpaf_launch.specs.declared.options.Launch.{Launch}
 
 -- a text and the end of its line
@@ -24,7 +23,3 @@ lines launch =
     ++ line (codes "dry run: " ++ truth launch.dry_run)
     ++ line (codes "name: " ++ string_bytes launch.name)
     ++ word_lines (map string_bytes launch.words.items)
-
--- known bytes grow by the beginning of a text
-abbrev pub AppendsFront : Option (List ℕ) → Option (List ℕ) → List ℕ → Type 0
-AppendsFront before after text = (n : ℕ) × Appends before after (take n text)

@@ -1,14 +1,22 @@
-ghost use Rattle.std.specs.Prelude.{◌≡◌, ◌++◌, IfOk, OnOk, OnErr, map, string_bytes};
-ghost use Rattle.std.specs.Io.KnownBytes.{Appends};
-ghost use Rattle.bpaf_launch.specs.Lines.{lines, word_lines, AppendsFront};
+ghost use Rattle.std.specs.Prelude.{◌≡◌, ◌++◌, IfOk, OnOk, map, string_bytes};
+ghost use Rattle.bpaf_program.specs.Running.{AnswersText};
+ghost use Rattle.bpaf_launch.specs.Lines.{lines, word_lines};
+ghost use Rattle.bpaf_launch.specs.Running.{Answers};
 
-use crate::options::Launch;
+use crate::options::{Launch, read_launch};
+use bpaf::ParseFailure;
 use std::alloc::{AllocError, Global};
-use std::io;
-use std::io::Write;
+
+/// The lines that the words ask for: those of their launch; refused where they ask for none.
+pub fn lines_of(alloc: Global, words: &[String]) -> Result<String, ParseFailure>
+    ensures { AnswersText (Answers (map string_bytes words.now)) result }
+{
+    let launch = read_launch(alloc, words)?;
+    Ok(text_of(alloc, &launch)?)
+}
 
 /// The lines of a launch; refused only for want of memory.
-pub fn lines_of(alloc: Global, launch: &Launch) -> Result<String, AllocError>
+fn text_of(alloc: Global, launch: &Launch) -> Result<String, AllocError>
     ensures { IfOk result (λ text. string_bytes text ≡ lines launch.now) }
 {
     let verbose = launch.verbose;
@@ -31,27 +39,4 @@ fn push_word_lines(text: &mut String, words: &[String]) -> Result<(), AllocError
         writeln!(text, "word: {word}")?;
     }
     Ok(())
-}
-
-/// Writes a text; where a write fails, a beginning of the text is written, and no more.
-pub fn write_text<W: Write>(text: &[u8], out: &mut W) -> io::Result<()>
-    ensures whole { OnOk result (Appends (W.contents out.old) (W.contents out.new) text.now) }
-    ensures front { OnErr result (AppendsFront (W.contents out.old) (W.contents out.new) text.now) }
-{
-    let mut rest = text;
-    for _ in 0..u64::MAX {
-        if rest.is_empty() {
-            return Ok(());
-        }
-        match out.write(rest) {
-            Ok(0) => return Err(io::Error::from(io::ErrorKind::WriteZero)),
-            Ok(n) => rest = &rest[n..],
-            Err(error) => {
-                if error.kind() != io::ErrorKind::Interrupted {
-                    return Err(error);
-                }
-            }
-        }
-    }
-    Err(io::Error::from(io::ErrorKind::TimedOut))
 }

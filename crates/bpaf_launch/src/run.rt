@@ -1,9 +1,9 @@
-ghost use Rattle.std.specs.Prelude.{◌≡◌, ◌⊎◌, map, string_bytes};
-ghost use Rattle.bpaf_launch.specs.Running.{Fails, FailsToShow, Succeeds, WritesShown};
+ghost use Rattle.std.specs.Prelude.{map, string_bytes};
+ghost use Rattle.bpaf_program.specs.Running.{RunsTo};
+ghost use Rattle.bpaf_launch.specs.Running.{Answers};
 
-use crate::options::read_launch;
-use crate::print::{lines_of, write_text};
-use bpaf::ParseFailure;
+use crate::print::lines_of;
+use bpaf_program::print;
 use std::alloc::Global;
 use std::io::Write;
 
@@ -14,70 +14,8 @@ use std::io::Write;
 /// `Error: ` and the message, and nothing is written on `out`; its status is 1, as is that of a write
 /// that fails, after a beginning of the text.
 pub fn run<W: Write, E: Write>(alloc: Global, words: &[String], out: &mut W, err: &mut E) -> u8
-    ensures succeeds { result ≡ 0 →
-        Succeeds (map string_bytes words.now) (W.contents out.old) (W.contents out.new)
-        (E.contents err.old) (E.contents err.new) }
-    ensures fails { result ≡ 1 →
-        Fails (map string_bytes words.now) (W.contents out.old) (W.contents out.new) }
-    ensures status { (result ≡ 0) ⊎ (result ≡ 1) }
+    ensures { RunsTo (Answers (map string_bytes words.now)) result (W.contents out.old)
+        (W.contents out.new) (E.contents err.old) (E.contents err.new) }
 {
-    let launch = match read_launch(alloc, words) {
-        Ok(launch) => launch,
-        Err(failure) => return tell(failure, out, err),
-    };
-    let Ok(lines) = lines_of(alloc, &launch) else {
-        return refuse(ParseFailure::Memory, err);
-    };
-    match write_text(lines.as_str().as_bytes(), out) {
-        Ok(()) => 0,
-        Err(_) => 1,
-    }
-}
-
-/// Tells how a run ended that gives no launch, and gives its status: what was asked for is shown on
-/// `out`, else the refusal is told on `err`.
-fn tell<W: Write, E: Write>(failure: ParseFailure, out: &mut W, err: &mut E) -> u8
-    ensures succeeds { result ≡ 0 → WritesShown failure (W.contents out.old) (W.contents out.new)
-        (E.contents err.old) (E.contents err.new) }
-    ensures fails { result ≡ 1 →
-        FailsToShow failure (W.contents out.old) (W.contents out.new) }
-    ensures status { (result ≡ 0) ⊎ (result ≡ 1) }
-{
-    if failure.exit_code() == 0 {
-        show(failure, out, err)
-    } else {
-        refuse(failure, err)
-    }
-}
-
-/// Shows what was asked for, as it stands, and gives the status.
-fn show<W: Write, E: Write>(failure: ParseFailure, out: &mut W, err: &mut E) -> u8
-    ensures succeeds { result ≡ 0 → WritesShown failure (W.contents out.old) (W.contents out.new)
-        (E.contents err.old) (E.contents err.new) }
-    ensures fails { result ≡ 1 →
-        FailsToShow failure (W.contents out.old) (W.contents out.new) }
-    ensures status { (result ≡ 0) ⊎ (result ≡ 1) }
-{
-    let Ok(Some(text)) = failure.unwrap_stdout() else {
-        return refuse(ParseFailure::Memory, err);
-    };
-    match write_text(text.as_str().as_bytes(), out) {
-        Ok(()) => 0,
-        Err(_) => 1,
-    }
-}
-
-/// Tells a refusal: its message, or else that memory was wanted. The status is 1.
-pub fn refuse<E: Write>(failure: ParseFailure, err: &mut E) -> u8
-    ensures { result ≡ 1 }
-{
-    match failure.unwrap_stderr() {
-        Ok(Some(text)) => {
-            let _ = writeln!(err, "Error: {text}");
-        }
-        Ok(None) | Err(_) => {
-            let _ = writeln!(err, "Error: out of memory");
-        }
-    }
-    1
+    print(lines_of(alloc, words), out, err)
 }

@@ -1,6 +1,6 @@
-//! The rows of what stands above `bpaf`, as tests: flat records and batteries.
+//! The rows of what stands above `bpaf`, as tests: flat records, batteries and the ends of programs.
 //!
-//! It stands on `bpaf_record`, `bpaf_batteries` and `bpaf`. Nothing stands on this crate: one with
+//! It stands on `bpaf_program`, `bpaf_record`, `bpaf_batteries` and `bpaf`. Nothing stands on this crate: one with
 //! tests is proved twice. docs/ROWS.md names each row and its test.
 #![tactic(auto)]
 
@@ -8,6 +8,8 @@
 mod batteries;
 #[cfg(test)]
 mod more_record_rows;
+#[cfg(test)]
+mod programs;
 #[cfg(test)]
 mod record_rows;
 #[cfg(test)]

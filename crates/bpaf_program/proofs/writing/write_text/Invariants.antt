@@ -1,6 +1,6 @@
 -- All of the text is written but the rest.
-use Rattle.bpaf_launch.proofs.Printing.{IsWrittenBut}
-use Rattle.bpaf_launch.proofs.print.write_text.Given as goal
+use Rattle.bpaf_program.proofs.Parts.{IsWrittenBut}
+use Rattle.bpaf_program.proofs.writing.write_text.Given as goal
 
 abbrev pub invariant-loop : goal.invariant-loop
 invariant-loop g l =

@@ -1,0 +1,3 @@
+pub mod Ended
+pub mod Parts
+pub mod Running

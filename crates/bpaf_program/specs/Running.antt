@@ -1,0 +1,40 @@
+-- What a program writes that answers its words with a text.
+use Rattle.std.specs.Prelude.{◌≡◌, ◌⊎◌, ℕ, List, Option, Result, Ok, Err, String, string_bytes}
+use Rattle.std.specs.declared.alloc.Global.{Global}
+use Rattle.std.specs.Io.KnownBytes.{Keeps, Appends}
+use Rattle.bpaf_doc.specs.Print.{printed}
+use Rattle.bpaf_line.specs.declared.failure.ParseFailure.{ParseFailure}
+use Rattle.bpaf_line.specs.declared.failure.ParseFailure.TheVariants.{Stdout, Stderr, Memory}
+use Rattle.bpaf_program.specs.Ending.{AppendsPart, AppendsUpTo, error_line}
+
+-- an answer gives or shows one of the texts that answer the words, or it refuses
+abbrev pub AnswersText : (List ℕ → Type 0) → Result (String Global) ParseFailure → Type 0
+AnswersText answers (Ok text) = answers (string_bytes text)
+AnswersText answers (Err (Stdout doc full)) = answers (printed full doc)
+AnswersText answers (Err (Stderr doc)) = Unit {0}
+AnswersText answers (Err Memory) = Unit {0}
+
+-- exactly one of these texts is written, and nothing on the error writer
+pub record WritesText (answers : List ℕ → Type 0) (out out_after err err_after : Option (List ℕ))
+    : Type 0 where
+  pub text : List ℕ
+  pub answer : answers text
+  pub written : Appends out out_after text
+  pub quiet : Keeps err err_after
+
+-- a beginning of one of these is written, not all of it, and nothing on the error writer, where a
+-- write failed; or nothing is, and on the error writer the line of a message, or a beginning of it
+pub data FailsToWrite (answers : List ℕ → Type 0) (out out_after err err_after : Option (List ℕ))
+    : Type 0 where
+  in_part : (text : List ℕ) → answers text → AppendsPart out out_after text → Keeps err err_after
+      → FailsToWrite answers out out_after err err_after
+  message : (told : List ℕ) → Keeps out out_after → AppendsUpTo err err_after (error_line told)
+      → FailsToWrite answers out out_after err err_after
+
+-- A program answers its words by one of these texts: status 0 comes only with exactly one written,
+-- and status 1 only with part of one or with a message.
+pub record RunsTo (answers : List ℕ → Type 0) (status : ℕ)
+    (out out_after err err_after : Option (List ℕ)) : Type 0 where
+  pub by_status : (status ≡ 0) ⊎ (status ≡ 1)
+  pub succeeds : status ≡ 0 → WritesText answers out out_after err err_after
+  pub fails : status ≡ 1 → FailsToWrite answers out out_after err err_after

@@ -1,0 +1,37 @@
+//! The end of a program: the value that the words give, or what is shown or told in its place, and
+//! the status with which the program ends.
+//!
+//! It stands on all crates below. For the programs above:
+//!
+//! - [`Program::run`] runs options over words and ends a run that gives no value: what was asked for
+//!   stands on one writer, with status 0, or the line of a message on the other, with status 1
+//!   (`IsTold`, specs/Ending.antt). A value comes with nothing written. [`run_record`] is the same for
+//!   a flat record, whose answer is exact.
+//! - [`end`] does so with the answer of any run, and [`print`] prints the text of an answer and gives
+//!   the status (`IsPrinted`). [`write_text`] writes a text of which, where a write fails, a beginning
+//!   stands there and nothing behind it.
+//! - [`words`] are the words of the process.
+//!
+//! ```text
+//! fn main(rt: HostRuntime) -> ExitCode {
+//!     let mut out = rt.stdout();
+//!     let mut err = rt.stderr();
+//!     match start(&rt, &mut out, &mut err) {
+//!         Ok(()) => ExitCode::SUCCESS,
+//!         Err(status) => ExitCode::from(status),
+//!     }
+//! }
+//! ```
+//!
+//! bpaf's `OptionParser::run` prints and ends the process by itself.
+#![tactic(auto)]
+
+mod ending;
+mod options;
+mod process;
+mod writing;
+
+pub use ending::{end, print};
+pub use options::{Program, run_record};
+pub use process::words;
+pub use writing::write_text;

@@ -1,0 +1,81 @@
+ghost use Rattle.std.specs.Prelude.{◌≡◌, IfOk, true};
+ghost use Rattle.std.specs.Result.{IfErr};
+ghost use Rattle.bpaf_words.specs.Arguments.{given_of};
+ghost use Rattle.bpaf_program.specs.Ending.{Ends};
+
+use crate::ending::end;
+use bpaf::{Args, OptionParser, ParseFailure, Parser};
+use bpaf_record::Record;
+use std::io::Write;
+
+/// Options that a program runs over its words.
+pub trait Program<T> {
+    ghost use Rattle.std.specs.Prelude.{Result};
+    ghost use Rattle.bpaf_line.specs.declared.failure.ParseFailure.{ParseFailure};
+    ghost use Rattle.bpaf_words.specs.Arguments.{Given};
+
+    /// Whether they may run: their closures may be called on every value.
+    ghost can_run: { Self → Type 0 };
+
+    /// What a run may answer to words.
+    ghost answers: { Self → Given → Result T ParseFailure → Type 0 };
+
+    /// The value that the words give, with nothing written; or the status with which the program is
+    /// to end (bpaf's `OptionParser::run`, which ends the process).
+    ///
+    /// Status 0: the text that was asked for stands on `out`, and nothing new on `err`. Status 1: on
+    /// `out` is nothing, or after a failed write a beginning of that text; on `err` stands
+    /// `Error: `, the message and a line break, or a beginning of that where a write failed. Want of
+    /// memory is told as `Error: out of memory`.
+    ///
+    /// ```text
+    /// let options = options.run(Args::from(words), out, err)?;
+    /// ```
+    fn run<W: Write, E: Write>(&self, args: Args<'_>, out: &mut W, err: &mut E) -> Result<T, u8>
+        requires { can_run self.now }
+        ensures { Ends (answers self.now (given_of args.entry)) (W.contents out.old)
+            (W.contents out.new) (E.contents err.old) (E.contents err.new) result };
+}
+
+impl<T: Drop, P: Parser<T>> Program<T> for OptionParser<T, P> {
+    ghost use Rattle.bpaf_core.specs.Dealt.{IsDealtOut};
+    ghost use Rattle.bpaf_core.specs.Refusals.{IsOneOfTwelve};
+    ghost use Rattle.bpaf_core.specs.Run.{RunsWords};
+
+    ghost can_run = { λ p. P.can_eval p.inner };
+
+    ghost answers = { λ p given r.
+        RunsWords T (P.outcome p.inner) (P.describes p.inner) p.info given r
+        × (IfErr r (IsOneOfTwelve (P.outcome p.inner) (P.describes p.inner) p.info given)
+        × IfOk r (IsDealtOut T (P.reads p.inner) (P.describes p.inner) p.info given)) };
+
+    fn run<W: Write, E: Write>(&self, args: Args<'_>, out: &mut W, err: &mut E) -> Result<T, u8> {
+        end(self.run_inner(args), out, err)
+    }
+}
+
+/// The value that the words give a flat record, as [`Program::run`], and exactly.
+///
+/// Where each field of the record has a value on its share of the words' line, only want of memory
+/// keeps the value from coming: the status is 1, and on `err` stands `Error: out of memory`, or
+/// a beginning of that where a write failed.
+///
+/// ```text
+/// let options = run_record(&options, Args::from(words), out, err)?;
+/// ```
+pub fn run_record<T: Drop, R: Record<T>, W: Write, E: Write>(
+    options: &R,
+    args: Args<'_>,
+    out: &mut W,
+    err: &mut E,
+) -> Result<T, u8>
+    requires can { R.can_run options.now }
+    requires record { R.is_flat options.now ≡ true }
+    ensures { Ends (λ r. R.answers options.now (given_of args.entry) r
+        × (IfErr r (R.refuses options.now (given_of args.entry))
+        × (IfOk r (R.deals options.now (given_of args.entry))
+        × (R.agrees options.now → R.answers_exactly options.now (given_of args.entry) r))))
+        (W.contents out.old) (W.contents out.new) (E.contents err.old) (E.contents err.new) result }
+{
+    end(options.run_record(args), out, err)
+}
