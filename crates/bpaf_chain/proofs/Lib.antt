@@ -1,4 +1,3 @@
+pub mod Answering
 pub mod Dealing
-pub mod Ending
-pub mod Printing
 pub mod Showing

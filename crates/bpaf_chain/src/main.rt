@@ -1,6 +1,6 @@
 //! A program of chained commands: moves, turns and repeats, in the order in which they are typed.
 //!
-//! It stands on `bpaf` alone, and has no contract for a layer above: it is the top. `run` is the
+//! It stands on `bpaf` and `bpaf_program`, and has no contract above: it is the top. `run` is the
 //! whole program over two writers; `main` hands it the words, standard output and standard error,
 //! and ends with its status. It moves nothing: it prints each step.
 //!
@@ -19,46 +19,31 @@
 //! Each command is adjacent: it reads the words behind its name without a gap, and leaves what
 //! follows to the next one.
 //!
-//! What is proved of it: where the writers tell their bytes, the program ends as `Printed` only where
-//! exactly the lines of steps were written that are dealt out of the words, each step read off one run
-//! of them (specs/Dealing.antt, specs/Lines.antt); as `Shown` only where exactly a help page was
-//! written that the words ask for: that of the program, or that of a command, the key of help behind
-//! the command's name (specs/Shown.antt, specs/Running.antt).
+//! What is proved of it: where the writers tell their bytes, status 0 comes only where exactly the lines
+//! of steps were written that are dealt out of the words, each step read off one run of them
+//! (specs/Dealing.antt, specs/Lines.antt); or where exactly a help page was written that the words ask
+//! for: that of the program, or that of a command, the key of help behind the command's name
+//! (specs/Shown.antt, specs/Running.antt). Where the status is 1, a beginning of such a text was written,
+//! not all, and nothing on standard error; or nothing was, and there a message, or a beginning of it.
 #![tactic(auto)]
 
 mod print;
 mod run;
 mod steps;
 
-use bpaf::ParseFailure;
-use run::{refuse, run};
+use bpaf_program::{end, words};
+use run::run;
 use std::process::ExitCode;
-use std::{env, io};
 
 #[cfg(test)]
 mod tests;
 
-fn main(rt: HostRuntime) -> io::Result<ExitCode> {
+fn main(rt: HostRuntime) -> ExitCode {
     let mut out = rt.stdout();
     let mut err = rt.stderr();
-    let ending = match words_of(&rt) {
+    let status = match end(words(&rt), &mut out, &mut err) {
         Ok(words) => run(rt.alloc(), words.as_slice(), &mut out, &mut err),
-        Err(error) => {
-            if error.kind() != io::ErrorKind::OutOfMemory {
-                return Err(error);
-            }
-            refuse(ParseFailure::Memory, &mut err)
-        }
+        Err(status) => status,
     };
-    Ok(ExitCode::from(ending.status()))
-}
-
-/// The words that the program is called with, without its own name; refused for want of memory, and
-/// where one is no text.
-fn words_of(rt: &HostRuntime) -> io::Result<Vec<String>> {
-    let mut words = Vec::new(rt.alloc());
-    for word in env::args(rt)?.skip(1) {
-        words.push(word)?;
-    }
-    Ok(words)
+    ExitCode::from(status)
 }

@@ -1,42 +1,58 @@
-ghost use Rattle.std.specs.Prelude.{OnOk};
-ghost use Rattle.std.specs.Io.KnownBytes.{Appends};
+ghost use Rattle.std.specs.Prelude.{◌≡◌, ◌++◌, IfOk, OnOk, map, string_bytes};
+ghost use Rattle.bpaf_program.specs.Running.{AnswersText};
 ghost use Rattle.bpaf_chain.specs.Lines.{step_line, step_lines, turn_line};
+ghost use Rattle.bpaf_chain.specs.Running.{Answers};
 
-use crate::steps::Step;
-use std::io;
-use std::io::Write;
+use crate::steps::{Step, read_steps};
+use bpaf::ParseFailure;
+use std::alloc::{AllocError, Global};
 
-/// Prints a line for each step; refused where a write fails.
-pub fn print_steps<W: Write>(steps: &[Step], out: &mut W) -> io::Result<()>
-    ensures { OnOk result (Appends (W.contents out.old) (W.contents out.new)
-        (step_lines steps.now)) }
+/// The lines that the words ask for: those of their steps; refused where they ask for none.
+pub fn lines_of(alloc: Global, words: &[String]) -> Result<String, ParseFailure>
+    ensures { AnswersText (Answers (map string_bytes words.now)) result }
+{
+    let steps = read_steps(alloc, words)?;
+    Ok(text_of(alloc, steps.as_slice())?)
+}
+
+/// A line for each step; refused only for want of memory.
+fn text_of(alloc: Global, steps: &[Step]) -> Result<String, AllocError>
+    ensures { IfOk result (λ text. string_bytes text ≡ step_lines steps.now) }
+{
+    let mut text = String::new(alloc);
+    push_steps(&mut text, steps)?;
+    Ok(text)
+}
+
+/// Appends a line for each step; refused only for want of memory.
+fn push_steps(text: &mut String, steps: &[Step]) -> Result<(), AllocError>
+    ensures { OnOk result (string_bytes text.new ≡ string_bytes text.old ++ step_lines steps.now) }
 {
     for step in steps {
-        print_step(step, out)?;
+        push_step(text, step)?;
     }
     Ok(())
 }
 
-/// Prints the line of a step; refused where a write fails.
-fn print_step<W: Write>(step: &Step, out: &mut W) -> io::Result<()>
-    ensures { OnOk result (Appends (W.contents out.old) (W.contents out.new)
-        (step_line step.now)) }
+/// Appends the line of a step; refused only for want of memory.
+fn push_step(text: &mut String, step: &Step) -> Result<(), AllocError>
+    ensures { OnOk result (string_bytes text.new ≡ string_bytes text.old ++ step_line step.now) }
 {
     match step {
-        Step::Move { dx, dy } => writeln!(out, "move {dx} {dy}"),
-        Step::Turn { left, degrees } => print_turn(*left, *degrees, out),
-        Step::Repeat { times } => writeln!(out, "repeat {times}"),
+        Step::Move { dx, dy } => writeln!(text, "move {dx} {dy}"),
+        Step::Turn { left, degrees } => push_turn(text, *left, *degrees),
+        Step::Repeat { times } => writeln!(text, "repeat {times}"),
     }
 }
 
-/// Prints the line of a turn; refused where a write fails.
-fn print_turn<W: Write>(left: bool, degrees: u64, out: &mut W) -> io::Result<()>
-    ensures { OnOk result (Appends (W.contents out.old) (W.contents out.new)
-        (turn_line left degrees)) }
+/// Appends the line of a turn; refused only for want of memory.
+fn push_turn(text: &mut String, left: bool, degrees: u64) -> Result<(), AllocError>
+    ensures { OnOk result (string_bytes text.new
+        ≡ string_bytes text.old ++ turn_line left degrees) }
 {
     if left {
-        writeln!(out, "turn left {degrees}")
+        writeln!(text, "turn left {degrees}")
     } else {
-        writeln!(out, "turn right {degrees}")
+        writeln!(text, "turn right {degrees}")
     }
 }

@@ -8,10 +8,10 @@ fn ran(alloc: Global, words: &str) -> Result<(String, u8), Fail> {
     let words = owned(alloc, words)?;
     let mut out: Vec<u8> = Vec::new(alloc);
     let mut err: Vec<u8> = Vec::new(alloc);
-    let ending = run(alloc, words.as_slice(), &mut out, &mut err);
+    let status = run(alloc, words.as_slice(), &mut out, &mut err);
     out.append(&mut err)?;
     let written = String::from_utf8(out).map_err(|_| "no text")?;
-    Ok((written, ending.status()))
+    Ok((written, status))
 }
 
 /// Words that are written with a space between each two; none for the empty text.
