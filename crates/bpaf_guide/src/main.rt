@@ -1,6 +1,7 @@
 //! The program of docs/USERS.md: each piece of code in that guide stands here, and is checked.
 //!
-//! It stands on `bpaf` and `bpaf_record`, and its definitions also cite those of the crates below.
+//! It stands on `bpaf`, `bpaf_record` and `bpaf_program`, and its definitions also cite those of the crates
+//! below.
 //!
 //! ```text
 //! bpaf_guide -s 3 --level=high --no-color -n 1 -n 2
@@ -16,26 +17,31 @@ mod toggle;
 mod types;
 
 use bpaf::ParseFailure;
-use options::read_options;
+use bpaf_program::{end, words};
+use options::{Options, read_options};
 use std::collections::BTreeMap;
 use std::process::ExitCode;
 use std::{env, io};
 
 fn main(rt: HostRuntime) -> io::Result<ExitCode> {
-    let mut words = Vec::new(rt.alloc());
-    for word in env::args(&rt)?.skip(1) {
-        words.push(word)?;
-    }
+    let mut out = rt.stdout();
+    let mut err = rt.stderr();
     let variables = environment(&rt)?;
-    match read_options(rt.alloc(), words.as_slice(), &variables) {
+    match end(asked(&rt, &variables), &mut out, &mut err) {
         Ok(options) => {
             let size = options.size;
             println!(rt; "size: {size}")?;
             show_backup(&rt)?;
             Ok(ExitCode::SUCCESS)
         }
-        Err(failure) => tell(&rt, failure),
+        Err(status) => Ok(ExitCode::from(status)),
     }
+}
+
+/// The options that the process is called with.
+fn asked(rt: &HostRuntime, variables: &BTreeMap<String, String>) -> Result<Options, ParseFailure> {
+    let words = words(rt)?;
+    read_options(rt.alloc(), words.as_slice(), variables)
 }
 
 /// The variables of the environment by their names.
@@ -48,23 +54,6 @@ fn environment(rt: &HostRuntime) -> io::Result<BTreeMap<String, String>> {
         variables.insert(name, value)?;
     }
     Ok(variables)
-}
-
-/// Tells why there are no options, and answers the status to end with.
-fn tell(rt: &HostRuntime, failure: ParseFailure) -> io::Result<ExitCode> {
-    let status = failure.exit_code() as u8;
-    match failure {
-        ParseFailure::Stdout(doc, full) => {
-            let text = doc.monochrome(full)?;
-            print!(rt; "{text}")?;
-        }
-        ParseFailure::Stderr(doc) => {
-            let text = doc.monochrome(true)?;
-            eprintln!(rt; "Error: {text}")?;
-        }
-        ParseFailure::Memory => eprintln!(rt; "Error: out of memory")?,
-    }
-    Ok(ExitCode::from(status))
 }
 
 /// Tells what a backup reads off words of its own.
