@@ -44,6 +44,28 @@ pub fn answer<P: Parser<Value> + Drop>(
     Ok(out)
 }
 
+/// Runs a parser on the beginnings of words that are shorter than these, from the empty one on and at
+/// most so many, and answers how many it ran.
+pub fn run_beginnings<P: Parser<Value> + Drop>(
+    alloc: Global,
+    options: &OptionParser<Value, P>,
+    variables: &BTreeMap<String, String>,
+    words: &[String],
+    most: u64,
+) -> Result<u64, AllocError>
+    requires { P.can_eval options.now.inner }
+{
+    let mut ran = 0u64;
+    for end in 0..words.len() {
+        if ran >= most {
+            break;
+        }
+        answer(alloc, options, variables, &words[..end])?;
+        ran = ran.saturating_add(1);
+    }
+    Ok(ran)
+}
+
 /// Whether a text is an answer: of a value, of a message, or of a text that was asked for.
 pub fn is_answer(text: &str) -> bool {
     text == "err"

@@ -1,4 +1,4 @@
-use crate::answer::{answer, is_answer, is_wanted};
+use crate::answer::{answer, is_answer, is_wanted, run_beginnings};
 use crate::words::{is_separated, quoted, quoted_words, separated_words};
 use bpaf::{OptionParser, Parser};
 use bpaf_described::{Described, Description, Fault, Place, Value, read_parser};
@@ -44,6 +44,8 @@ pub struct Counts {
     pub skipped: u64,
     /// Lines and files that aren't what they should be.
     pub faults: u64,
+    /// Beginnings of rows that were run.
+    pub beginnings: u64,
 }
 
 impl Counts {
@@ -65,6 +67,7 @@ impl Counts {
 pub struct Bench<P> {
     alloc: Global,
     all: bool,
+    beginnings: u64,
     file: String,
     line: u64,
     description: Description,
@@ -92,11 +95,13 @@ fn words_of(alloc: Global, text: &str) -> Result<Option<Vec<String>>, AllocError
 }
 
 impl<P: Described> Bench<P> {
-    /// A run that has read nothing; `all` is whether every answer is printed.
-    pub fn new(alloc: Global, all: bool) -> Bench<P> {
+    /// A run that has read nothing; `all` is whether every answer is printed, and `beginnings` how
+    /// many beginnings of each row are run too.
+    pub fn new(alloc: Global, all: bool, beginnings: u64) -> Bench<P> {
         Bench {
             alloc,
             all,
+            beginnings,
             file: String::new(alloc),
             line: 0,
             description: Description::new(alloc),
@@ -107,6 +112,7 @@ impl<P: Described> Bench<P> {
                 differ: 0,
                 skipped: 0,
                 faults: 0,
+                beginnings: 0,
             },
         }
     }
@@ -249,7 +255,7 @@ impl<P: Described> Bench<P> {
     }
 
     /// Reads a row: words, and behind a tab the wanted answer.
-    fn row<W: Write>(&self, line: &str, out: &mut W) -> io::Result<LineEnd> {
+    fn row<W: Write>(&mut self, line: &str, out: &mut W) -> io::Result<LineEnd> {
         let (text, wanted) = match line.split_once('\t') {
             Some((text, wanted)) => (text, Some(wanted)),
             None => (line, None),
@@ -265,7 +271,11 @@ impl<P: Described> Bench<P> {
             Standing::Missing => return self.tell("no parser stands above this row", out),
             Standing::Refused => return Ok(LineEnd::Skipped),
             Standing::Made(parser) => {
-                answer(self.alloc, parser, &self.variables, words.as_slice())?
+                let words = words.as_slice();
+                let most = self.beginnings;
+                let ran = run_beginnings(self.alloc, parser, &self.variables, words, most)?;
+                self.counts.beginnings = self.counts.beginnings.saturating_add(ran);
+                answer(self.alloc, parser, &self.variables, words)?
             }
         };
         if self.all || wanted.is_none() {
@@ -306,10 +316,14 @@ impl<P: Described> Bench<P> {
             differ,
             skipped,
             faults: _,
+            beginnings,
         } = self.counts;
         write!(out, "{rows} rows, {differ} differ")?;
         if skipped > 0 {
             write!(out, ", {skipped} skipped")?;
+        }
+        if beginnings > 0 {
+            write!(out, ", {beginnings} beginnings")?;
         }
         writeln!(out, "")
     }

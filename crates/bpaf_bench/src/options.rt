@@ -6,6 +6,8 @@ use std::alloc::Global;
 pub struct Options {
     /// Whether every answer is printed.
     pub all: bool,
+    /// How many beginnings of each row are run too, from the empty one on.
+    pub beginnings: u64,
     /// The files; without one standard input is read.
     pub files: Vec<String>,
 }
@@ -15,10 +17,18 @@ pub fn read_options(alloc: Global, words: &[String]) -> Result<Options, ParseFai
     let all = long(alloc, "all")?
         .help(Doc::from_text(alloc, "Print every answer")?)
         .switch();
+    let beginnings = long(alloc, "beginnings")?
+        .help(Doc::from_text(alloc, "Run the first N beginnings of each row too")?)
+        .argument::<u64>("N")
+        .fallback(0);
     let files = positional::<String>("FILE")
         .help(Doc::from_text(alloc, "Files of parsers and rows")?)
         .many();
-    let options = construct!(Options { all, files });
+    let options = construct!(Options {
+        all,
+        beginnings,
+        files
+    });
     options
         .to_options(alloc)?
         .run_once(Args::from(words).set_name("bpaf_bench"))

@@ -1,4 +1,5 @@
 use crate::bench::{Bench, Counts};
+use crate::options::Options;
 use bpaf_described::Described;
 use std::alloc::Global;
 use std::io::{BufRead, BufReader, BufWriter, Write};
@@ -64,10 +65,11 @@ fn status(counts: Counts) -> u8 {
 }
 
 /// Runs the rows of the files, or of standard input where none is named, and answers the status.
-pub fn run_bench<P: Described>(rt: &HostRuntime, all: bool, files: &[String]) -> io::Result<u8> {
+pub fn run_bench<P: Described>(rt: &HostRuntime, options: &Options) -> io::Result<u8> {
     let alloc = rt.alloc();
     let mut out = BufWriter::new(alloc, io::writer(rt))?;
-    let mut bench: Bench<P> = Bench::new(alloc, all);
+    let mut bench: Bench<P> = Bench::new(alloc, options.all, options.beginnings);
+    let files = options.files.as_slice();
     if files.is_empty() {
         let input = BufReader::new(alloc, rt.reader())?;
         run_lines(alloc, &mut bench, "standard input", input, &mut out)?;
