@@ -1,19 +1,18 @@
 -- From what a run says of the record's parser to options that are dealt out of the words, or help that
 -- these ask for.
-use Rattle.std.proofs.Common.{◌≡◌, ℕ, Bool, true, false, List, [], ◌∷◌, Some, Result, Ok}
-use Rattle.std.proofs.Common.{Err, IfOk, codes, sym, subst, ap, ◌∙◌, ⊎_elim}
+use Rattle.std.proofs.Common.{◌≡◌, ℕ, Bool, true, false, List, Some, Result, Ok}
+use Rattle.std.proofs.Common.{Err, IfOk, codes, sym, subst, ap, ◌∙◌}
 use Rattle.std.specs.Global.{Vec}
 use Rattle.std.specs.Result.{IfErr}
 use Rattle.bpaf_doc.specs.declared.doc.Piece.{Piece}
 use Rattle.bpaf_doc.specs.Fold.{TextPieces}
-use Rattle.bpaf_doc.specs.Shape.{Shape, And, Many, Optional, members}
+use Rattle.bpaf_doc.specs.Shape.{Shape}
 use Rattle.bpaf_text.specs.declared.params.ParseFlag.{ParseFlag}
 use Rattle.bpaf_text.specs.Named.{KeyWithValue, key_named}
 use Rattle.bpaf_text.specs.Meaning.{SpellsUnsigned}
 use Rattle.bpaf_words.specs.Arguments.{Given}
 use Rattle.bpaf_line.specs.Constructing.{IsContext}
 use Rattle.bpaf_line.specs.declared.failure.ParseFailure.{ParseFailure}
-use Rattle.bpaf_line.specs.declared.failure.ParseFailure.TheVariants as failure
 use Rattle.bpaf_line.specs.Situation.{Context}
 use Rattle.bpaf_laws.specs.Reading.{Readings, Outcome}
 use Rattle.bpaf_laws.specs.Laws.{Lawful}
@@ -33,12 +32,14 @@ use Rattle.bpaf_core.specs.Dealt.{IsDealtOut}
 use Rattle.bpaf_core.specs.Run.{RunsWords}
 use Rattle.bpaf.specs.declared.leaves.positional.ParsePositional.{ParsePositional}
 use Rattle.bpaf.specs.declared.leaves.positional.Position.TheVariants.{Unrestricted}
-use Rattle.bpaf.specs.Asked.{ShowsNothing, WasAsked, nothing_shown}
+use Rattle.bpaf.specs.Asked.{ShowsNothing, nothing_shown}
 use Rattle.bpaf.specs.Positional.{PositionalReads, PositionalOutcome, positional_shape}
 use Rattle.bpaf.specs.PositionalLaws.{positional_lawful}
-use Rattle.bpaf.proofs.Asking.{answer_asked, asked_also, both_hands_on, product_hands_on}
+use Rattle.bpaf.proofs.Asking.{both_hands_on, product_hands_on}
 use Rattle.bpaf.proofs.Asking.{flag_hands_on, argument_hands_on, many_hands_on, positional_hands_on}
 use Rattle.bpaf.proofs.Helps.{flag_without_help, argument_without_help}
+use Rattle.bpaf_program.proofs.Shown.{both_show, help_asked as help_shown, last_shows, line_context}
+use Rattle.bpaf_program.proofs.Shown.{many_shows, product_shows}
 use Rattle.bpaf_demo.specs.declared.options.Options.{Options}
 use Rattle.bpaf_demo.specs.Exact.{FieldValues, options_of}
 use Rattle.bpaf_demo.specs.Record.{IsDealtOptions, IsKept, MeansText, String, verbose_names}
@@ -174,61 +175,35 @@ module _ (makes : Makes) (parts : Parts) where
   module _ (program : AreProgramParts parts) where
     -- it shows what the program does
     program_shown : (shape : Shape) → RecordDescribes shape → IsProgramShape shape
-    program_shown shape shown =
-        let verbose = shown.1 in
-        let num = verbose.3 in
-        let files = num.3 in
-        let first : verbose.0 ≡ flag_shape (verbose_shown program.verbose_help) (Some false) =
-        rw (program.names.verbose, program.names.absent) at verbose.2 in
-        let second : num.0 ≡ argument_shape (number_shown program.num_help) =
-        rw program.names.num at num.2 in
-        let third : files.0
-        ≡ Many (Optional (positional_shape Unrestricted (codes "FILE") (Some program.file_help))) =
-        files.1.2 ∙ ap (λ inside. Many (Optional inside))
-        (rw (program.names.position, program.metavar, program.file) at files.1.1) in
-        let are : shown.0
-        ≡ flag_shape (verbose_shown program.verbose_help) (Some false)
-        ∷ argument_shape (number_shown program.num_help)
-        ∷ Many (Optional (positional_shape Unrestricted (codes "FILE") (Some program.file_help)))
-        ∷ [] =
-        verbose.4 ∙ (ap (λ x. x ∷ verbose.1) first
-        ∙ ap (λ xs. flag_shape (verbose_shown program.verbose_help) (Some false) ∷ xs)
-        (num.4 ∙ (ap (λ x. x ∷ num.1) second
-        ∙ ap (λ xs. argument_shape (number_shown program.num_help) ∷ xs)
-        (files.2 ∙ ap (λ x. x ∷ []) third)))) in
-        record {
-          verbose = program.verbose_help;
-          num = program.num_help;
-          file = program.file_help;
-          verbose_help = program.verbose_told;
-          num_help = program.num_told;
-          file_help = program.file_told;
-          is = shown.2 ∙ ap (λ shapes. And (members shapes)) are;
-        }
-
-    -- the known names of what the program shows
-    known_shown : (shape : Shape) → IsProgramShape shape
-        → known_names plain_info shape ≡ program_known
-    known_shown shape is = ap (known_names plain_info) is.is
+    program_shown shape shown = record {
+      verbose = program.verbose_help;
+      num = program.num_help;
+      file = program.file_help;
+      verbose_help = program.verbose_told;
+      num_help = program.num_told;
+      file_help = program.file_told;
+      is = product_shows _ _
+          (both_show _ _ _ _ (λ x is. rw (program.names.verbose, program.names.absent) at is)
+          (both_show _ _ _ _ (λ x is. rw program.names.num at is)
+          (last_shows _ _ (many_shows _ _
+          (λ x is. rw (program.names.position, program.metavar, program.file) at is)))))
+          shape shown;
+    }
 
     -- the known names of what it shows
     pub known_parts : (shape : Shape) → RecordDescribes shape
         → known_names parts.info shape ≡ program_known
     known_parts shape shown =
         ap (λ info. known_names info shape) program.names.info
-        ∙ known_shown shape (program_shown shape shown)
+        ∙ ap (known_names plain_info) (program_shown shape shown).is
 
     module _ (words : List (List ℕ)) where
       -- a context of the words' line by what it shows is one by the known names
       pub program_context : (context : Context)
           → IsLineContext RecordDescribes parts.info (program_given words) context
           → IsContext program_known (program_given words) context
-      program_context context is =
-          ⊎_elim
-          (λ shown. subst (λ known. IsContext known (program_given words) context)
-          (known_parts shown.0 shown.1) shown.2)
-          (λ any. any program_known)
-          is
+      program_context =
+          line_context RecordDescribes parts.info (program_given words) program_known known_parts
 
       -- what the record's parser deals out are options dealt out of the words
       options_dealt : MakesOptions makes → (v : Options)
@@ -268,13 +243,6 @@ module _ (makes : Makes) (parts : Parts) where
       pub help_asked : (given : Given) → given ≡ program_given words
           → (r : Result Options ParseFailure) → RecordRuns given r
           → IfErr r (ShowsHelpAsked words)
-      help_asked given is (Ok v) runs = tt
-      help_asked given is (Err (failure.Stdout doc full)) runs =
-          let was : WasAsked RecordDescribes parts.info given doc full =
-          answer_asked RecordDescribes parts.info given record_lawful record_shows_nothing
-          (ap (λ info. info.help_if_no_args) program.names.info)
-          (Err (failure.Stdout doc full)) runs in
-          asked_also RecordDescribes IsProgramShape plain_info (program_given words) doc full
-          program_shown (rw (program.names.info, is) at was)
-      help_asked given is (Err (failure.Stderr doc)) runs = tt
-      help_asked given is (Err failure.Memory) runs = tt
+      help_asked given is r runs =
+          help_shown RecordDescribes IsProgramShape parts.info given (program_given words)
+          record_lawful record_shows_nothing program_shown program.names.info is r runs

@@ -1,15 +1,14 @@
 -- What the program shows where it is asked for help.
-use Rattle.std.specs.Prelude.{◌≡◌, ℕ, Bool, false, List, [], ◌∷◌, Some, codes, ⊤}
+use Rattle.std.specs.Prelude.{◌≡◌, ℕ, Bool, false, List, [], ◌∷◌, Some, codes}
 use Rattle.bpaf_doc.specs.declared.doc.Piece.{Piece}
 use Rattle.bpaf_doc.specs.Fold.{TextPieces}
 use Rattle.bpaf_doc.specs.Shape.{Shape, And, Many, Optional, members}
 use Rattle.bpaf_text.specs.Named.{Named, KeyWithValue, key_named, with_help}
 use Rattle.bpaf_line.specs.declared.failure.ParseFailure.{ParseFailure}
-use Rattle.bpaf_line.specs.declared.failure.ParseFailure.TheVariants as failure
 use Rattle.bpaf_laws.specs.Argument.{argument_shape}
 use Rattle.bpaf_laws.specs.Flag.{flag_shape}
 use Rattle.bpaf_parts.specs.Info.{plain_info}
-use Rattle.bpaf.specs.Asked.{WasAsked}
+use Rattle.bpaf.specs.Asked.{IfShown, WasAsked}
 use Rattle.bpaf.specs.declared.leaves.positional.Position.TheVariants.{Unrestricted}
 use Rattle.bpaf.specs.Positional.{positional_shape}
 use Rattle.bpaf_demo.specs.Record.{number_key, program_given, verbose_names}
@@ -46,5 +45,4 @@ IsHelpAsked words doc full = WasAsked IsProgramShape plain_info (program_given w
 
 -- what is shown in place of options is help that the words ask for
 abbrev pub ShowsHelpAsked : List (List ℕ) → ParseFailure → Type 0
-ShowsHelpAsked words (failure.Stdout doc full) = IsHelpAsked words doc full
-ShowsHelpAsked words f = ⊤
+ShowsHelpAsked words = IfShown (IsHelpAsked words)

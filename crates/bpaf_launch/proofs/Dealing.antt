@@ -1,16 +1,15 @@
 -- From what a run says of the record's parser to a launch that the words ask for, or help.
-use Rattle.std.proofs.Common.{◌≡◌, ℕ, Bool, true, false, List, [], ◌∷◌, Some, Result}
-use Rattle.std.proofs.Common.{codes, Ok, Err, IfOk, sym, subst, ap, ◌∙◌, ⊎_elim}
+use Rattle.std.proofs.Common.{◌≡◌, ℕ, Bool, true, false, List, Some, Result}
+use Rattle.std.proofs.Common.{codes, Ok, Err, IfOk, sym, subst, ap, ◌∙◌}
 use Rattle.std.specs.Global.{Vec}
 use Rattle.std.specs.List.{Contains}
 use Rattle.bpaf_doc.specs.declared.doc.Piece.{Piece}
 use Rattle.bpaf_doc.specs.Names.{Names}
-use Rattle.bpaf_doc.specs.Shape.{Shape, And, Many, Optional, members}
+use Rattle.bpaf_doc.specs.Shape.{Shape}
 use Rattle.bpaf_text.specs.declared.params.ParseFlag.{ParseFlag}
 use Rattle.bpaf_core.specs.declared.repeat.ParseMany.{ParseMany}
 use Rattle.bpaf_text.specs.Named.{key_named, with_help}
 use Rattle.bpaf_words.specs.Arguments.{Given}
-use Rattle.bpaf_line.specs.Constructing.{IsContext}
 use Rattle.bpaf_line.specs.Situation.{Context}
 use Rattle.bpaf_line.specs.declared.failure.ParseFailure.{ParseFailure}
 use Rattle.bpaf_laws.specs.Reading.{Share, Readings, Outcome}
@@ -31,22 +30,21 @@ use Rattle.bpaf.specs.Positional.{PositionalReads, PositionalOutcome, positional
 use Rattle.bpaf.specs.PositionalLaws.{positional_lawful}
 use Rattle.bpaf.proofs.PassingOn.{PassesOn, ReadsBefore, both_passes, many_passes, product_passes}
 use Rattle.bpaf.proofs.PassingOn.{flag_reads_before, word_reads_before, texts_passed}
-use Rattle.bpaf.specs.Asked.{HandsOn, ShowsNothing, WasAsked, nothing_shown}
-use Rattle.bpaf.proofs.Asking.{answer_asked as answer_shown, asked_also}
+use Rattle.bpaf.specs.Asked.{HandsOn, ShowsNothing, nothing_shown}
 use Rattle.bpaf.proofs.Asking.{both_hands_on, flag_hands_on, many_hands_on, positional_hands_on}
 use Rattle.bpaf.proofs.Asking.{product_hands_on}
 use Rattle.bpaf.proofs.Helps.{flag_without_help}
 use Rattle.bpaf_laws.proofs.ProductLaws.{both_lawful, product_lawful}
 use Rattle.bpaf_laws.proofs.RepeatLaws.{many_lawful}
-use Rattle.bpaf_line.specs.declared.failure.ParseFailure.TheVariants as failure
 use Rattle.bpaf.specs.declared.leaves.positional.Position.{Position}
 use Rattle.std.specs.Result.{IfErr}
 use Rattle.bpaf_doc.specs.Fold.{TextPieces}
-use Rattle.bpaf_launch.specs.Shown.{IsProgramShape, ShowsHelpAsked, name_shape, switch_shape}
-use Rattle.bpaf_launch.specs.Shown.{words_shape}
+use Rattle.bpaf_launch.specs.Shown.{IsProgramShape, ShowsHelpAsked, switch_shape}
 use Rattle.bpaf_launch.specs.declared.options.Launch.{Launch}
 use Rattle.bpaf_launch.specs.Dealing.{IsDealtLaunch, IsLaunchOf, IsKept, MeansText, String}
 use Rattle.bpaf_launch.specs.Dealing.{verbose_names, dry_run_names, program_given, program_known}
+use Rattle.bpaf_program.proofs.Shown.{both_show, help_asked as help_shown, last_shows, line_context}
+use Rattle.bpaf_program.proofs.Shown.{many_shows, product_shows}
 use Rattle.bpaf_launch.proofs.Naming.{name_before}
 
 -- the values of the record's fields
@@ -179,51 +177,39 @@ word_shown : (position : Position) (metavar text : List ℕ) (word : Word)
 word_shown position metavar text word is shape shown =
     rw (is.position_is, is.metavar_is, is.help_is) at shown
 
--- the known names of what the program shows
-known_shown : (shape : Shape) → IsProgramShape shape → known_names plain_info shape ≡ program_known
-known_shown shape is = ap (known_names plain_info) is.is
+-- a switch keeps to the laws
+kept_switch : (switch : Switch) → Lawful Bool (SwitchOutcome switch) (SwitchReads switch)
+kept_switch switch = flag_lawful Bool IsKept switch.named switch.present switch.absent
+
+-- so does a word
+kept_word : (word : Word) → Lawful String (WordOutcome word) (WordReads word)
+kept_word word = positional_lawful String MeansText word.position word.metavar.0.now
 
 module _ (parts : Parts) (program : AreProgramParts parts) where
   -- what the record's parser shows is what the program does
   program_shown : (shape : Shape) → RecordDescribes parts shape → IsProgramShape shape
-  program_shown shape shown =
-      let verbose = shown.1 in
-      let dry_run = verbose.3 in
-      let name = dry_run.3 in
-      let words = name.3 in
-      let two : dry_run.1 ≡ name.0 ∷ words.0 ∷ [] = name.4 ∙ ap (λ xs. name.0 ∷ xs) words.2 in
-      let three : verbose.1 ≡ dry_run.0 ∷ name.0 ∷ words.0 ∷ [] =
-      dry_run.4 ∙ ap (λ xs. dry_run.0 ∷ xs) two in
-      let all : shown.0 ≡ verbose.0 ∷ dry_run.0 ∷ name.0 ∷ words.0 ∷ [] =
-      verbose.4 ∙ ap (λ xs. verbose.0 ∷ xs) three in
-      let first : verbose.0 ≡ switch_shape verbose_names program.verbose.help =
-      switch_shown _ _ parts.verbose program.verbose verbose.0 verbose.2 in
-      let second : dry_run.0 ≡ switch_shape dry_run_names program.dry_run.help =
-      switch_shown _ _ parts.dry_run program.dry_run dry_run.0 dry_run.2 in
-      let third : name.0 ≡ name_shape program.name.help =
-      word_shown _ _ _ parts.name program.name name.0 name.2 in
-      let fourth : words.0 ≡ words_shape program.words.help =
-      words.1.2 ∙ ap (λ inside. Many (Optional inside))
-      (word_shown _ _ _ parts.words.inner program.words words.1.0 words.1.1) in
-      record {
-        verbose = program.verbose.help;
-        dry_run = program.dry_run.help;
-        name = program.name.help;
-        words = program.words.help;
-        verbose_help = program.verbose.told;
-        dry_run_help = program.dry_run.told;
-        name_help = program.name.told;
-        words_help = program.words.told;
-        is = shown.2 ∙ ap (λ xs. And (members xs)) all
-            ∙ (ap (λ x. And (members (x ∷ dry_run.0 ∷ name.0 ∷ words.0 ∷ []))) first
-            ∙ (ap (λ x. And (members (switch_shape verbose_names program.verbose.help
-            ∷ x ∷ name.0 ∷ words.0 ∷ []))) second
-            ∙ (ap (λ x. And (members (switch_shape verbose_names program.verbose.help
-            ∷ switch_shape dry_run_names program.dry_run.help ∷ x ∷ words.0 ∷ []))) third
-            ∙ ap (λ x. And (members (switch_shape verbose_names program.verbose.help
-            ∷ switch_shape dry_run_names program.dry_run.help
-            ∷ name_shape program.name.help ∷ x ∷ []))) fourth)));
-      }
+  program_shown shape shown = record {
+    verbose = program.verbose.help;
+    dry_run = program.dry_run.help;
+    name = program.name.help;
+    words = program.words.help;
+    verbose_help = program.verbose.told;
+    dry_run_help = program.dry_run.told;
+    name_help = program.name.told;
+    words_help = program.words.told;
+    is = product_shows _ _
+        (both_show _ _ _ _ (switch_shown _ _ parts.verbose program.verbose)
+        (both_show _ _ _ _ (switch_shown _ _ parts.dry_run program.dry_run)
+        (both_show _ _ _ _ (word_shown _ _ _ parts.name program.name)
+        (last_shows _ _ (many_shows _ _ (word_shown _ _ _ parts.words.inner program.words))))))
+        shape shown;
+  }
+
+  -- so it has the program's known names
+  known_parts : (shape : Shape) → RecordDescribes parts shape
+      → known_names parts.info shape ≡ program_known
+  known_parts shape shown = ap (λ info. known_names info shape) program.info
+      ∙ ap (known_names plain_info) (program_shown shape shown).is
 
   -- the record's parser passes on all words behind the first `--`
   record_passes : (makes : Makes) → MakesRecord makes
@@ -231,19 +217,13 @@ module _ (parts : Parts) (program : AreProgramParts parts) where
   record_passes makes made =
       product_passes makes MeansText (λ x. x.1.1.1.items) (λ launch. launch.words.items)
       (λ x v is. ap (λ launch. launch.words.items) (made x v is))
-      (both_passes MeansText (λ x. x.1.1.items) (switch_lawful parts.verbose)
+      (both_passes MeansText (λ x. x.1.1.items) (kept_switch parts.verbose)
       (switch_before parts.verbose)
-      (both_passes MeansText (λ x. x.1.items) (switch_lawful parts.dry_run)
+      (both_passes MeansText (λ x. x.1.items) (kept_switch parts.dry_run)
       (switch_before parts.dry_run)
-      (both_passes MeansText (λ words. words.items)
-      (positional_lawful String MeansText parts.name.position parts.name.metavar.0.now)
-      name_reads_before
+      (both_passes MeansText (λ words. words.items) (kept_word parts.name) name_reads_before
       words_pass)))
     where
-      switch_lawful : (switch : Switch) → Lawful Bool (SwitchOutcome switch) (SwitchReads switch)
-      switch_lawful switch =
-          flag_lawful Bool IsKept switch.named switch.present switch.absent
-
       switch_before : (switch : Switch) → ReadsBefore (SwitchReads switch)
       switch_before switch =
           flag_reads_before Bool IsKept switch.named switch.present switch.absent
@@ -272,12 +252,8 @@ module _ (makes : Makes) (made : MakesRecord makes) (parts : Parts)
       let positionals = others.rest_read in
       subst (IsDealtLaunch words) (sym (made values v dealt.read.made)) (record {
         context = dealt.context;
-        is_context = ⊎_elim
-            (λ shown. subst (λ known. IsContext known (program_given words) dealt.context)
-            (ap (λ info. known_names info shown.0) program.info
-            ∙ known_shown shown.0 (program_shown parts program shown.0 shown.1)) shown.2)
-            (λ any. any program_known)
-            dealt.is_context;
+        is_context = line_context (RecordDescribes parts) parts.info (program_given words)
+            program_known (known_parts parts program) dealt.context dealt.is_context;
         verbose_share = read.first_share;
         dry_run_share = others.first_share;
         name_share = positionals.first_share;
@@ -329,15 +305,7 @@ answer_asked makes parts given words made program is (Ok v) dealt run =
 answer_asked makes parts given words made program is (Err f) dealt run = tt
 
 module _ (makes : Makes) (parts : Parts) where
-  -- a switch keeps to the laws
-  kept_switch : (switch : Switch) → Lawful Bool (SwitchOutcome switch) (SwitchReads switch)
-  kept_switch switch = flag_lawful Bool IsKept switch.named switch.present switch.absent
-
-  -- so does a word
-  kept_word : (word : Word) → Lawful String (WordOutcome word) (WordReads word)
-  kept_word word = positional_lawful String MeansText word.position word.metavar.0.now
-
-  -- so does the record's parser
+  -- the record's parser keeps to the laws
   record_lawful : Lawful Launch (RecordOutcome makes parts) (RecordReads makes parts)
   record_lawful =
       product_lawful makes
@@ -369,12 +337,6 @@ module _ (makes : Makes) (parts : Parts) where
   pub help_asked : (program : AreProgramParts parts) (words : List (List ℕ)) (given : Given)
       → given ≡ program_given words → (r : Result Launch ParseFailure)
       → RecordRuns makes parts given r → IfErr r (ShowsHelpAsked words)
-  help_asked program words given is (Ok v) runs = tt
-  help_asked program words given is (Err (failure.Stdout doc full)) runs =
-      let was : WasAsked (RecordDescribes parts) parts.info given doc full =
-      answer_shown (RecordDescribes parts) parts.info given record_lawful record_shows_nothing
-      (ap (λ info. info.help_if_no_args) program.info) (Err (failure.Stdout doc full)) runs in
-      asked_also (RecordDescribes parts) IsProgramShape plain_info (program_given words) doc full
-      (program_shown parts program) (rw (program.info, is) at was)
-  help_asked program words given is (Err (failure.Stderr doc)) runs = tt
-  help_asked program words given is (Err failure.Memory) runs = tt
+  help_asked program words given is r runs =
+      help_shown (RecordDescribes parts) IsProgramShape parts.info given (program_given words)
+      record_lawful record_shows_nothing (program_shown parts program) program.info is r runs

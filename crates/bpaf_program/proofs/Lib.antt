@@ -1,3 +1,4 @@
 pub mod Ended
 pub mod Parts
 pub mod Running
+pub mod Shown

@@ -1,10 +1,14 @@
 -- A program that prints its answer runs to the texts that answer its words.
-use Rattle.std.proofs.Common.{Ok, ◌≡◌, ◌⊎◌, ℕ, List, Option, Result, Err, string_bytes, codes}
+use Rattle.std.proofs.Common.{Ok, ◌≡◌, ◌⊎◌, ℕ, Bool, List, Option, Result, Err, string_bytes, codes}
 use Rattle.std.proofs.Common.{inl, inr, refl}
 use Rattle.std.specs.declared.alloc.Global.{Global}
 use Rattle.std.specs.Prelude.{String}
 use Rattle.std.specs.Result.{IsErr, IsErrAnd}
+use Rattle.bpaf_doc.specs.declared.doc.Piece.{Piece}
+use Rattle.bpaf_doc.specs.Print.{printed}
 use Rattle.bpaf_line.specs.declared.failure.ParseFailure.{ParseFailure}
+use Rattle.bpaf_line.specs.declared.failure.ParseFailure.TheVariants.{Stdout, Stderr, Memory}
+use Rattle.bpaf.specs.Asked.{IfShown}
 use Rattle.bpaf_program.specs.Ending.{IsPrinted, IsTold, no_memory, printed_in_part, printed_whole}
 use Rattle.bpaf_program.specs.Ending.{refused, shown, shown_in_part, told}
 use Rattle.bpaf_program.specs.Running.{AnswersText, FailsToWrite, RunsTo, WritesText, in_part}
@@ -15,6 +19,14 @@ pub handed_on : {A F : Type 0} {P : F → Type 0} (holds : Result A F → Type 0
     → IsErr r × IsErrAnd r P → ((f : F) → P f → holds (Err f)) → holds r
 handed_on holds (Ok v) is then = let no = is.0 in absurd cc
 handed_on holds (Err f) is then = then f is.1
+
+-- a refusal answers the words, where the help that it shows does
+pub refusal_answers : (answers : List ℕ → Type 0) (asked : List Piece → Bool → Type 0)
+    → ((doc : List Piece) (full : Bool) → asked doc full → answers (printed full doc))
+    → (f : ParseFailure) → IfShown asked f → AnswersText answers (Err f)
+refusal_answers answers asked help (Stdout doc full) is = help doc full is
+refusal_answers answers asked help (Stderr doc) is = tt
+refusal_answers answers asked help Memory is = tt
 
 module _ (answers : List ℕ → Type 0) (out out_after err err_after : Option (List ℕ)) where
   -- the status of what is told is 0 or 1

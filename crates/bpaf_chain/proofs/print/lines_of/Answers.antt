@@ -1,14 +1,16 @@
-use Rattle.std.proofs.Common.{map, string_bytes}
-use Rattle.bpaf_program.proofs.Running.{handed_on}
+use Rattle.std.proofs.Common.{map, string_bytes, subst, sym}
+use Rattle.bpaf_program.proofs.Running.{handed_on, refusal_answers}
 use Rattle.bpaf_program.specs.Running.{AnswersText}
-use Rattle.bpaf_chain.specs.Running.{Answers}
-use Rattle.bpaf_chain.proofs.Answering.{answered, unanswered}
+use Rattle.bpaf_chain.specs.Running.{Answers, help, steps}
+use Rattle.bpaf_chain.specs.Shown.{IsHelpAsked}
 use Rattle.bpaf_chain.proofs.print.lines_of.Goals as goal
 
 pub returns-in_err-steps : goal.returns-in_err-steps
 returns-in_err-steps c =
-    handed_on (AnswersText (Answers (map string_bytes c.args.words.now))) c.from_residual.result
-    c.from_residual.ensures (λ f is. rw is (unanswered _ _ c.in_err-steps.ensures.asked))
+    let words = map string_bytes c.args.words.now in
+    handed_on (AnswersText (Answers words)) c.from_residual.result c.from_residual.ensures
+    (λ f is. rw is (refusal_answers (Answers words) (IsHelpAsked words) help _
+    c.in_err-steps.ensures.asked))
 
 pub returns-in_err-text_of : goal.returns-in_err-text_of
 returns-in_err-text_of c =
@@ -17,5 +19,5 @@ returns-in_err-text_of c =
 
 pub returns : goal.returns
 returns c =
-    answered _ c.in_ok-steps.steps c.in_ok-text_of.field-0 c.in_ok-steps.ensures.dealt
-    (rw c.as_slice.ensures.value at c.in_ok-text_of.ensures)
+    subst (Answers (map string_bytes c.args.words.now)) (sym (rw c.as_slice.ensures.value at c.in_ok-text_of.ensures))
+    (steps c.in_ok-steps.steps c.in_ok-steps.ensures.dealt)
