@@ -27,3 +27,7 @@ pub mod Rows
 pub mod OneView
 pub mod Accepted
 pub mod Surplus
+pub mod Fields
+pub mod Owning
+pub mod Positions
+pub mod OneField
