@@ -2,3 +2,5 @@ pub mod Forms
 pub mod Products
 pub mod OneLine
 pub mod Running
+pub mod Spelled
+pub mod Answered
