@@ -124,13 +124,30 @@ fn help_is_printed(rt: HostRuntime) -> Result<(), Fail> {
     Ok(())
 }
 
-/// A writer that takes two bytes at a time, and no more than it has room for; its first call is
-/// interrupted.
+/// A writer that takes two bytes at a time, and no more than it has room for. Its first call is
+/// interrupted. The call that comes where `failing` is 1 fails, and none where it is 0; whether
+/// another came behind that is `late`.
 #[derive(Drop)]
 struct Narrow {
     taken: Vec<u8>,
     room: usize,
     interrupted: bool,
+    failing: u64,
+    failed: bool,
+    late: bool,
+}
+
+impl Narrow {
+    fn new(alloc: Global, room: usize, failing: u64) -> Narrow {
+        Narrow {
+            taken: Vec::new(alloc),
+            room,
+            interrupted: false,
+            failing,
+            failed: false,
+            late: false,
+        }
+    }
 }
 
 impl Write for Narrow {
@@ -139,6 +156,13 @@ impl Write for Narrow {
             self.interrupted = true;
             return Err(io::Error::from(io::ErrorKind::Interrupted));
         }
+        self.late = self.late || self.failed;
+        if self.failing == 1 {
+            self.failing = 0;
+            self.failed = true;
+            return Err(io::Error::from(io::ErrorKind::BrokenPipe));
+        }
+        self.failing = self.failing.saturating_sub(1);
         let count = buf.len().min(2).min(self.room);
         self.taken.extend_from_slice(&buf[..count])?;
         self.room -= count;
@@ -150,29 +174,46 @@ impl Write for Narrow {
     }
 }
 
-/// What a run wrote on a writer with so much room, and its status.
-fn narrowed(alloc: Global, room: usize) -> Result<(String, u8), Fail> {
-    let words = owned(alloc, "ls -- x")?;
-    let mut out = Narrow {
-        taken: Vec::new(alloc),
-        room,
-        interrupted: false,
-    };
-    let mut err: Vec<u8> = Vec::new(alloc);
+/// What a run wrote on two writers with so much room, of which the same call fails, one after the
+/// other, its status, and whether a write followed one that failed.
+fn narrowed(
+    alloc: Global,
+    words: &str,
+    room: usize,
+    failing: u64,
+) -> Result<(String, u8, bool), Fail> {
+    let words = owned(alloc, words)?;
+    let mut out = Narrow::new(alloc, room, failing);
+    let mut err = Narrow::new(alloc, room, failing);
     let status = run(alloc, words.as_slice(), &mut out, &mut err);
-    Ok((text(out.taken)?, status))
+    let late = out.late || err.late || (out.failed && err.interrupted);
+    let mut written = out.taken;
+    written.append(&mut err.taken)?;
+    Ok((text(written)?, status, late))
 }
 
 #[test]
 fn a_writer_that_fails_has_a_beginning(rt: HostRuntime) -> Result<(), Fail> {
-    let a = rt.alloc();
-    let (written, status) = narrowed(a, 100)?;
-    assert!(rt; written.as_str() == "verbose: false\ndry run: false\nname: ls\nword: x\n");
-    assert!(rt; status == 0);
-    let (written, status) = narrowed(a, 17)?;
-    assert!(rt; written.as_str() == "verbose: false\ndr");
-    assert!(rt; status == 1);
-    let (written, status) = narrowed(a, 0)?;
-    assert!(rt; written.is_empty() && status == 1);
+    let whole = "verbose: false\ndry run: false\nname: ls\nword: x\n";
+    for (room, wanted, code) in [(100, whole, 0), (17, "verbose: false\ndr", 1), (0, "", 1)] {
+        let (written, status, _) = narrowed(rt.alloc(), "ls -- x", room, 0)?;
+        assert!(rt; written.as_str() == wanted && status == code);
+    }
+    Ok(())
+}
+
+#[test]
+fn nothing_follows_a_write_that_fails(rt: HostRuntime) -> Result<(), Fail> {
+    for words in ["-v ls -- x", "ls --help", "ls -l"] {
+        let (whole, _, _) = narrowed(rt.alloc(), words, 1000, 0)?;
+        for call in 1..u64::MAX {
+            let (written, status, late) = narrowed(rt.alloc(), words, 1000, call)?;
+            if written.len() == whole.len() {
+                assert!(rt; call > 10);
+                break;
+            }
+            assert!(rt; status == 1 && !late && whole.as_str().starts_with(written.as_str()));
+        }
+    }
     Ok(())
 }
