@@ -1,1 +1,2 @@
 pub mod Toggle
+pub mod Remove

@@ -13,6 +13,7 @@ mod closures;
 mod commands;
 mod keys;
 mod options;
+mod remove;
 mod toggle;
 mod types;
 
@@ -32,6 +33,7 @@ fn main(rt: HostRuntime) -> io::Result<ExitCode> {
             let size = options.size;
             println!(rt; "size: {size}")?;
             show_backup(&rt)?;
+            show_removal(&rt)?;
             Ok(ExitCode::SUCCESS)
         }
         Err(status) => Ok(ExitCode::from(status)),
@@ -77,6 +79,23 @@ fn show_backup(rt: &HostRuntime) -> io::Result<()> {
             println!(rt; "backup: verbose {verbose}, to {copies} places")
         }
         Ok(None) => Ok(()),
+        Err(failure) => {
+            drop(failure);
+            Ok(())
+        }
+    }
+}
+
+/// Tells what a removal reads off words of its own.
+fn show_removal(rt: &HostRuntime) -> io::Result<()> {
+    let file = String::from_str(rt.alloc(), "a")?;
+    let key = String::from_str(rt.alloc(), "-f")?;
+    match remove::read_removal(rt.alloc(), &[file, key]) {
+        Ok(removal) => {
+            let forced = removal.force;
+            let files = removal.files.len();
+            println!(rt; "removal: forced {forced}, {files} file")
+        }
         Err(failure) => {
             drop(failure);
             Ok(())

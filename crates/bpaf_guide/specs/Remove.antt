@@ -1,0 +1,7 @@
+-- The names of the remover's keys.
+use Rattle.std.specs.Prelude.{[], ◌∷◌, codes}
+use Rattle.bpaf_doc.specs.Names.{Names}
+
+-- `-f` and `--force`
+abbrev pub force_names : Names
+force_names = record { shorts = 102 ∷ []; longs = codes "force" ∷ [] }
