@@ -1,28 +1,23 @@
-//! The rows of the program, and what it writes where there are no steps.
+//! The rows of the program, and what it writes where there are no steps or a write fails.
 use crate::run::run;
-use std::alloc::{AllocError, Global};
+use bpaf_trial::{Tried, ran, stops_where_a_write_fails};
+use std::alloc::Global;
+use std::io::Write;
 use std::test::Fail;
 
-/// What a run on some words wrote on its two writers, one after the other, and its status.
-fn ran(alloc: Global, words: &str) -> Result<(String, u8), Fail> {
-    let words = owned(alloc, words)?;
-    let mut out: Vec<u8> = Vec::new(alloc);
-    let mut err: Vec<u8> = Vec::new(alloc);
-    let status = run(alloc, words.as_slice(), &mut out, &mut err);
-    out.append(&mut err)?;
-    let written = String::from_utf8(out).map_err(|_| "no text")?;
-    Ok((written, status))
-}
+/// The program.
+struct Chain;
 
-/// Words that are written with a space between each two; none for the empty text.
-fn owned(alloc: Global, words: &str) -> Result<Vec<String>, AllocError> {
-    let mut all = Vec::new(alloc);
-    if !words.is_empty() {
-        for word in words.split(' ') {
-            all.push(String::from_str(alloc, word)?)?;
-        }
+impl Tried for Chain {
+    fn run<W: Write, E: Write>(
+        &self,
+        alloc: Global,
+        words: &[String],
+        out: &mut W,
+        err: &mut E,
+    ) -> u8 {
+        run(alloc, words, out, err)
     }
-    Ok(all)
 }
 
 #[test]
@@ -40,8 +35,7 @@ fn steps_are_printed_in_order(rt: HostRuntime) -> Result<(), Fail> {
         ),
     ];
     for (words, lines) in rows {
-        let (written, status) = ran(rt.alloc(), words)?;
-        assert!(rt; written.as_str() == lines && status == 0);
+        assert!(rt; ran(rt.alloc(), &Chain, words)?.is_text(lines));
     }
     Ok(())
 }
@@ -78,9 +72,7 @@ fn refusals_print_no_steps(rt: HostRuntime) -> Result<(), Fail> {
         ("--left turn 90", "`--left` is not expected in this context"),
     ];
     for (words, message) in rows {
-        let (written, status) = ran(rt.alloc(), words)?;
-        let told = format!(in rt.alloc(); "Error: {message}\n")?;
-        assert!(rt; written.as_str() == told.as_str() && status == 1);
+        assert!(rt; ran(rt.alloc(), &Chain, words)?.is_message(message));
     }
     Ok(())
 }
@@ -98,7 +90,15 @@ Available positional items:
 Available options:
     -h, --help  Prints help information
 ";
-    let (written, status) = ran(rt.alloc(), "move --help")?;
-    assert!(rt; written.as_str() == page && status == 0);
+    assert!(rt; ran(rt.alloc(), &Chain, "move --help")?.is_text(page));
+    Ok(())
+}
+
+#[test]
+fn nothing_follows_a_write_that_fails(rt: HostRuntime) -> Result<(), Fail> {
+    for words in ["move 1 2 turn --left 90 repeat 3", "move --help", "go"] {
+        let calls = stops_where_a_write_fails(rt.alloc(), &Chain, words)?;
+        assert!(rt; calls.is_some_and(|calls| calls > 10));
+    }
     Ok(())
 }

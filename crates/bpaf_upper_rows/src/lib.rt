@@ -7,8 +7,6 @@
 #[cfg(test)]
 mod batteries;
 #[cfg(test)]
-mod more_record_rows;
-#[cfg(test)]
 mod programs;
 #[cfg(test)]
 mod record_rows;

@@ -4,45 +4,9 @@ use bpaf::params::ParseArgument;
 use bpaf::{Args, OptionParser, ParseFailure, Parser};
 use bpaf_program::{Program, print, run_record};
 use bpaf_record::Record;
+use bpaf_trial::Narrow;
 use std::alloc::Global;
-use std::io;
-use std::io::Write;
 use std::test::Fail;
-
-/// A writer that takes two bytes at a time, and no more than it has room for; its first call is
-/// interrupted.
-#[derive(Drop)]
-struct Narrow {
-    taken: Vec<u8>,
-    room: usize,
-    interrupted: bool,
-}
-
-impl Write for Narrow {
-    fn write(&mut self, buf: &[u8]) -> io::Result<usize> {
-        if !self.interrupted {
-            self.interrupted = true;
-            return Err(io::Error::from(io::ErrorKind::Interrupted));
-        }
-        let count = buf.len().min(2).min(self.room);
-        self.taken.extend_from_slice(&buf[..count])?;
-        self.room -= count;
-        Ok(count)
-    }
-
-    fn flush(&mut self) -> io::Result<()> {
-        Ok(())
-    }
-}
-
-/// A writer with so much room.
-fn writer_of(alloc: Global, room: usize) -> Narrow {
-    Narrow {
-        taken: Vec::new(alloc),
-        room,
-        interrupted: false,
-    }
-}
 
 /// Words, parted by spaces; the room of the two writers; the value or the status, and what then
 /// stands on them, with bars between.
@@ -97,8 +61,8 @@ fn standing(writer: Narrow) -> Result<String, &'static str> {
 fn ended(alloc: Global, row: &End<'_>, exact: bool) -> Result<String, Fail> {
     let options = number(alloc, 'n')?.to_options(alloc)?;
     let words: Vec<&str> = row.0.split(' ').collect(alloc)?;
-    let mut out = writer_of(alloc, row.1);
-    let mut err = writer_of(alloc, row.2);
+    let mut out = Narrow::new(alloc, row.1, 0);
+    let mut err = Narrow::new(alloc, row.2, 0);
     let answer = answered(&options, words.as_slice(), exact, &mut out, &mut err);
     shown(alloc, answer, out, err)
 }
@@ -127,8 +91,8 @@ fn printed(alloc: Global, text: Option<&str>, room: usize) -> Result<String, Fai
         Some(text) => Ok(String::from_str(alloc, text)?),
         None => Err(ParseFailure::Memory),
     };
-    let mut out = writer_of(alloc, room);
-    let mut err = writer_of(alloc, room);
+    let mut out = Narrow::new(alloc, room, 0);
+    let mut err = Narrow::new(alloc, room, 0);
     let status = print(answer, &mut out, &mut err);
     shown(alloc, Err(status), out, err)
 }
