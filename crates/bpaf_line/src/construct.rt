@@ -1,7 +1,7 @@
 //! How a state begins, and how it is copied.
-ghost use Rattle.std.specs.Prelude.{ℕ, ◌≡◌, ◌*◌, ◌<◌, ◌≤◌, length, IfOk, OnOk, IfSome, All, IsUtf8, map, option_map, option_to_list, string_bytes};
+ghost use Rattle.std.specs.Prelude.{ℕ, ◌≡◌, ◌*◌, ◌<◌, ◌≤◌, length, IfOk, OnOk, IfSome, All, IsUtf8, map, option_map, option_to_list, string_bytes, true};
 ghost use Rattle.bpaf_words.specs.Arguments.{words_of, given_of, entries_of, env_entries};
-ghost use Rattle.bpaf_words.specs.Spelling.{knowing};
+ghost use Rattle.bpaf_words.specs.Spelling.{knowing, known_at};
 ghost use Rattle.bpaf_line.specs.Constructing.{Constructs};
 ghost use Rattle.bpaf_line.specs.Bits.{has_bit};
 ghost use Rattle.bpaf_line.specs.Situation.{is_marker};
@@ -34,7 +34,45 @@ impl State {
             (knowing (record { flags = short_flags.now; arguments = short_args.now }))
             (given_of args.entry) result }
     {
-        let line = line_of(alloc, args.words(), short_flags, short_args)?;
+        State::construct_by(alloc, args, short_flags, short_args, false)
+    }
+
+    /// The same, where a negative number is a word: before the first `--` a word of `-` and one or
+    /// more ASCII digits, and nothing else, is a Word. bpaf has no such call.
+    ///
+    /// ```text
+    /// -5     a Word; by `construct` the key `5`
+    /// -5=    the key `5` and its empty value, as by `construct`
+    /// -1a    joined letters, as by `construct`
+    /// ```
+    pub fn construct_numbers(
+        alloc: Global,
+        args: Args<'_>,
+        short_flags: &[char],
+        short_args: &[char],
+    ) -> Result<State, Message>
+        ensures texts { OnOk result (All IsUtf8 (words_of args.entry)) }
+        ensures answer { Constructs
+            (known_at true (record { flags = short_flags.now; arguments = short_args.now }))
+            (given_of args.entry) result }
+    {
+        State::construct_by(alloc, args, short_flags, short_args, true)
+    }
+
+    /// The state at the beginning of the words' line, with negative numbers as words or not.
+    fn construct_by(
+        alloc: Global,
+        args: Args<'_>,
+        short_flags: &[char],
+        short_args: &[char],
+        numbers: bool,
+    ) -> Result<State, Message>
+        ensures texts { OnOk result (All IsUtf8 (words_of args.entry)) }
+        ensures answer { Constructs
+            (known_at numbers (record { flags = short_flags.now; arguments = short_args.now }))
+            (given_of args.entry) result }
+    {
+        let line = line_of(alloc, args.words(), short_flags, short_args, numbers)?;
         let entries = copy_env(alloc, args.env())?;
         let end = line.items.len();
         let words = first_words(alloc, line.marker, end)?;

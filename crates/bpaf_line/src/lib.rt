@@ -2,7 +2,8 @@
 //!
 //! It stands on `bpaf_doc` and `bpaf_words`, whose lines it holds. For the layers above:
 //!
-//! - [`State::construct`] begins a parse at the line of the words (specs/Constructing.antt).
+//! - [`State::construct`] begins a parse at the line of the words (specs/Constructing.antt), and
+//!   [`State::construct_numbers`] does so where negative numbers are words.
 //! - [`State`] is a parse in progress. Contracts see it as a `Situation` (specs/Situation.antt), and
 //!   the layers above speak of one only through its accessors (`item_at`, `is_taken`, `conflict_at`,
 //!   `in_scope`, `is_open`, `open_count`, and the steps `take_place`, `with_scope`, `with_path`,

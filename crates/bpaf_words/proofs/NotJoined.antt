@@ -1,12 +1,13 @@
 -- Words that aren't joined characters, and what their spelling depends on.
 use Rattle.std.proofs.Common.{◌≡◌, ◌≢◌, ℕ, suc, true, false, not, List, [], ◌∷◌, ◌++◌, length}
 use Rattle.std.proofs.Common.{refl, ap, sym, ◌∙◌, subst, arith, drop, encode_utf8, encode_utf8_all}
-use Rattle.std.proofs.Common.{Bool, true≢false, All, Option, codes}
+use Rattle.std.proofs.Common.{Bool, true≢false, All, Option, codes, ⊎_elim}
 use Rattle.std.specs.List.{AllZip}
 use Rattle.std.proofs.lemmas.Str.{encode_same, encodes_same}
 use Rattle.bpaf_words.specs.declared.arg.Arg.{Arg}
-use Rattle.bpaf_words.specs.Spelling.{HasNoEquals, IsNotJoined, Known, Spelling, Items}
-use Rattle.bpaf_words.specs.Spelling.{Ambiguous, Spells}
+use Rattle.bpaf_words.specs.Spelling.{HasNoEquals, IsNotJoined, IsSpelledAlone, Spelling, Items}
+use Rattle.bpaf_words.specs.Spelling.{ShortNames, Known, known_at, Ambiguous, Spells, number_word, by_dash}
+use Rattle.bpaf_words.specs.Spelling.{SpellsByDash}
 use Rattle.bpaf_words.specs.Spelling.{plain, dash, long, long_value, short, short_value}
 use Rattle.bpaf_words.specs.Spelling.{short_long_value, joined}
 use Rattle.bpaf_words.specs.Line.{SpellAll, IsLine, unmarked, marked, HasNoLine, HaveNoJoined}
@@ -47,30 +48,50 @@ pub holds : (b : Bool) → not b ≡ false → b ≡ true
 holds true refused = refl
 holds false refused = absurd (true≢false refused)
 
--- what a word spells that isn't joined, it spells whatever is known
-spells_alone : (word : List ℕ) → IsNotJoined word → (known other : Known) (s : Spelling)
-    → Spells known word s → Spells other word s
-spells_alone word alone known other s (plain a) = plain a
-spells_alone word alone known other s (dash a) = dash a
-spells_alone word alone known other s (long n a b d) = long n a b d
-spells_alone word alone known other s (long_value n v a b) = long_value n v a b
-spells_alone word alone known other s (short c a b) = short c a b
-spells_alone word alone known other s (short_value c v a b) = short_value c v a b
-spells_alone word alone known other s (short_long_value c r v a b d e) =
+-- what a word spells that isn't joined, it spells whatever names are known
+dash_alone : (word : List ℕ) → IsNotJoined word → (names others : ShortNames) (s : Spelling)
+    → SpellsByDash names word s → SpellsByDash others word s
+dash_alone word alone names others s (plain a) = plain a
+dash_alone word alone names others s (dash a) = dash a
+dash_alone word alone names others s (long n a b d) = long n a b d
+dash_alone word alone names others s (long_value n v a b) = long_value n v a b
+dash_alone word alone names others s (short c a b) = short c a b
+dash_alone word alone names others s (short_value c v a b) = short_value c v a b
+dash_alone word alone names others s (short_long_value c r v a b d e) =
     short_long_value c r v a b d e
-spells_alone word alone known other s (joined c d cs t a b e j) = absurd (alone c d cs a b e)
+dash_alone word alone names others s (joined c d cs t a b e j) = absurd (alone c d cs a b e)
 
--- and it isn't ambiguous
-not_ambiguous : (word : List ℕ) → IsNotJoined word → (known : Known) (s : Spelling)
-    → Spells known word s → (number : ℕ) → s ≡ Ambiguous number → ⊥
-not_ambiguous word alone known s (plain a) number e = cc
-not_ambiguous word alone known s (dash a) number e = cc
-not_ambiguous word alone known s (long n a b d) number e = cc
-not_ambiguous word alone known s (long_value n v a b) number e = cc
-not_ambiguous word alone known s (short c a b) number e = cc
-not_ambiguous word alone known s (short_value c v a b) number e = cc
-not_ambiguous word alone known s (short_long_value c r v a b d e) number is = cc
-not_ambiguous word alone known s (joined c d cs t a b e j) number is = alone c d cs a b e
+-- so does a number that is a word
+spells_alone : (numbers : Bool) (word : List ℕ) → IsSpelledAlone numbers word
+    → (names others : ShortNames) (s : Spelling) → Spells (known_at numbers names) word s
+    → Spells (known_at numbers others) word s
+spells_alone numbers word alone names others s (number_word is) = number_word is
+spells_alone numbers word alone names others s (by_dash t none a) = by_dash t none
+    (⊎_elim
+    (λ is. absurd (none is))
+    (λ apart. dash_alone word apart names others t a)
+    alone)
+
+-- a word that isn't joined isn't ambiguous
+dash_clear : (word : List ℕ) → IsNotJoined word → (names : ShortNames) (s : Spelling)
+    → SpellsByDash names word s → (number : ℕ) → s ≡ Ambiguous number → ⊥
+dash_clear word alone names s (plain a) number e = cc
+dash_clear word alone names s (dash a) number e = cc
+dash_clear word alone names s (long n a b d) number e = cc
+dash_clear word alone names s (long_value n v a b) number e = cc
+dash_clear word alone names s (short c a b) number e = cc
+dash_clear word alone names s (short_value c v a b) number e = cc
+dash_clear word alone names s (short_long_value c r v a b d e) number is = cc
+dash_clear word alone names s (joined c d cs t a b e j) number is = alone c d cs a b e
+
+-- nor is a number that is a word
+not_ambiguous : (known : Known) (word : List ℕ) → IsSpelledAlone known.numbers word
+    → (s : Spelling) → Spells known word s → (number : ℕ) → s ≡ Ambiguous number → ⊥
+not_ambiguous known word alone s (number_word is) n e = cc
+not_ambiguous known word alone s (by_dash t none a) n e = ⊎_elim
+    (λ is. none is)
+    (λ apart. dash_clear word apart known.names t a n e)
+    alone
 
 -- what holds of a whole list holds of what stands in front in it
 all_in_front : {X : Type 0} (P : X → Type 0) (xs ys : List X) → All P (xs ++ ys) → All P xs
@@ -84,43 +105,51 @@ all_behind : {X : Type 0} (P : X → Type 0) (xs ys : List X) → All P (xs ++ y
 all_behind P [] ys all = all
 all_behind P (x ∷ xs) ys all = all_behind P xs ys (All_tail P x (xs ++ ys) all)
 
--- words that aren't joined spell the same items whatever is known
-items_alone : (known other : Known) (words : List (List ℕ)) (parts : List (List Arg))
-    → HaveNoJoined words → AllZip (λ word xs. Spells known word (Items xs)) words parts
-    → AllZip (λ word xs. Spells other word (Items xs)) words parts
-items_alone known other [] [] alone spelled = spelled
-items_alone known other [] (xs ∷ parts) alone spelled = absurd spelled
-items_alone known other (word ∷ words) [] alone spelled = absurd spelled
-items_alone known other (word ∷ words) (xs ∷ parts) alone spelled = (
-  spells_alone word (All_head IsNotJoined word words alone) known other (Items xs) spelled.0,
-  items_alone known other words parts (All_tail IsNotJoined word words alone) spelled.1,
+-- such words spell the same items whatever names are known
+items_alone : (numbers : Bool) (names others : ShortNames) (words : List (List ℕ))
+    (parts : List (List Arg)) → HaveNoJoined numbers words
+    → AllZip (λ word xs. Spells (known_at numbers names) word (Items xs)) words parts
+    → AllZip (λ word xs. Spells (known_at numbers others) word (Items xs)) words parts
+items_alone numbers names others [] [] alone spelled = spelled
+items_alone numbers names others [] (xs ∷ parts) alone spelled = absurd spelled
+items_alone numbers names others (word ∷ words) [] alone spelled = absurd spelled
+items_alone numbers names others (word ∷ words) (xs ∷ parts) alone spelled = (
+  spells_alone numbers word (All_head (IsSpelledAlone numbers) word words alone) names others
+      (Items xs) spelled.0,
+  items_alone numbers names others words parts
+      (All_tail (IsSpelledAlone numbers) word words alone) spelled.1,
 )
 
 -- so do they together
-all_alone : (known other : Known) (words : List (List ℕ)) (items : List Arg)
-    → HaveNoJoined words → SpellAll known words items → SpellAll other words items
-all_alone known other words items alone spells = record {
+all_alone : (numbers : Bool) (names others : ShortNames) (words : List (List ℕ))
+    (items : List Arg) → HaveNoJoined numbers words
+    → SpellAll (known_at numbers names) words items
+    → SpellAll (known_at numbers others) words items
+all_alone numbers names others words items alone spells = record {
   parts = spells.parts;
-  spelled = items_alone known other words spells.parts alone spells.spelled;
+  spelled = items_alone numbers names others words spells.parts alone spells.spelled;
   joined = spells.joined;
 }
 
--- words of which none is joined have the same line whatever is known
-pub line_alone : (words : List (List ℕ)) → HaveNoJoined words → (known other : Known)
-    (line : List Arg) (marker : Option ℕ) → IsLine known words line marker
-    → IsLine other words line marker
-line_alone words alone known other line marker (unmarked items none spelled) =
-    unmarked items none (all_alone known other words items alone spelled)
-line_alone words alone known other line marker (marked before after items cut none spelled) =
-    marked before after items cut none (all_alone known other before items
-    (all_in_front IsNotJoined before (codes "--" ∷ after) (subst HaveNoJoined cut alone))
-    spelled)
+-- words of which none is joined have the same line whatever names are known
+pub line_alone : (numbers : Bool) (words : List (List ℕ)) → HaveNoJoined numbers words
+    → (names others : ShortNames) (line : List Arg) (marker : Option ℕ)
+    → IsLine (known_at numbers names) words line marker
+    → IsLine (known_at numbers others) words line marker
+line_alone numbers words alone names others line marker (unmarked items none spelled) =
+    unmarked items none (all_alone numbers names others words items alone spelled)
+line_alone numbers words alone names others line marker
+    (marked before after items cut none spelled) =
+    marked before after items cut none (all_alone numbers names others before items
+    (all_in_front (IsSpelledAlone numbers) before (codes "--" ∷ after)
+    (subst (HaveNoJoined numbers) cut alone)) spelled)
 
 -- and they have one
-pub never_without_line : (words : List (List ℕ)) → HaveNoJoined words → (known : Known)
-    (word : List ℕ) (number : ℕ) → HasNoLine known words word number → ⊥
-never_without_line words alone known word number none =
-    let behind = all_behind IsNotJoined none.before (word ∷ none.after)
-    (subst HaveNoJoined none.cut alone) in
-    not_ambiguous word (All_head IsNotJoined word none.after behind) known (Ambiguous number)
-    none.ambiguous number refl
+pub never_without_line : (known : Known) (words : List (List ℕ))
+    → HaveNoJoined known.numbers words → (word : List ℕ) (number : ℕ)
+    → HasNoLine known words word number → ⊥
+never_without_line known words alone word number none =
+    let behind = all_behind (IsSpelledAlone known.numbers) none.before (word ∷ none.after)
+    (subst (HaveNoJoined known.numbers) none.cut alone) in
+    not_ambiguous known word (All_head (IsSpelledAlone known.numbers) word none.after behind)
+    (Ambiguous number) none.ambiguous number refl

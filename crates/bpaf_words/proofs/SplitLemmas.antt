@@ -9,8 +9,8 @@ use Rattle.bpaf_words.specs.declared.arg.Arg.{Arg}
 use Rattle.bpaf_words.specs.declared.arg.Arg.TheVariants.{Short, ArgWord}
 use Rattle.bpaf_words.specs.declared.split.SplitFault.{SplitFault}
 use Rattle.bpaf_words.specs.declared.split.SplitFault.TheVariants.{Ambiguous, Memory}
-use Rattle.bpaf_words.specs.Spelling.{Known, HasNoEquals, Spelling, Items, Ambiguous as NoItems, Spells, SpellsJoined, short_value, short_long_value, joined}
-use Rattle.bpaf_words.specs.Splitting.{Answers, Splits, SplitsJoined}
+use Rattle.bpaf_words.specs.Spelling.{ShortNames, Known, IsNumberWord, HasNoEquals, Spelling, Items, Ambiguous as NoItems, Spells, by_dash, SpellsByDash, SpellsJoined, short_value, short_long_value, joined}
+use Rattle.bpaf_words.specs.Splitting.{Answers, Splits, SplitsByDash, SplitsJoined}
 
 -- a text in which no `=` was found has none
 pub no_equals : (bs : List ℕ) → FindsChar 61 bs None → HasNoEquals bs
@@ -33,12 +33,12 @@ pub other_than_dash : (rest tail : List ℕ) (c : ℕ) → ((r : List ℕ) → r
 other_than_dash rest tail c none e d = none tail (e ∙ ap (λ x. x ++ tail) (ap encode_utf8 d ∙ encode_ascii 45 (lit< tt)))
 
 -- a word `-c=v` or `-cr=v` spells its key and the value that was chosen
-pub with_value : (known : Known) (word rest tail name value chosen : List ℕ) (c : ℕ) → word ≡ 45 ∷ rest → rest ≡ encode_utf8 c ++ tail → c ≢ 45
+pub with_value : (names : ShortNames) (word rest tail name value chosen : List ℕ) (c : ℕ) → word ≡ 45 ∷ rest → rest ≡ encode_utf8 c ++ tail → c ≢ 45
     → tail ≡ name ++ 61 ∷ value → HasNoEquals name → (length name ≡ 0 → chosen ≡ value) → (length name ≢ 0 → chosen ≡ tail)
-    → Spells known word (Items (Short c true word ∷ ArgWord chosen ∷ []))
-with_value known word rest tail [] value chosen c w r d t n f g =
+    → SpellsByDash names word (Items (Short c true word ∷ ArgWord chosen ∷ []))
+with_value names word rest tail [] value chosen c w r d t n f g =
     rw (f refl) (short_value c value (w ∙ (ap (λ x. 45 ∷ x) r ∙ ap (λ x. 45 ∷ encode_utf8 c ++ x) t)) d)
-with_value known word rest tail (x ∷ xs) value chosen c w r d t n f g =
+with_value names word rest tail (x ∷ xs) value chosen c w r d t n f g =
     rw (g (λ h. absurd (omega arith)), t) (short_long_value c (x ∷ xs) value (w ∙ (ap (λ y. 45 ∷ y) r ∙ ap (λ y. 45 ∷ encode_utf8 c ++ y) t)) d (λ h. cc) n)
 
 -- an answer for what is spelled in one way holds for a way that follows from it
@@ -48,20 +48,28 @@ answers_weaker P Q f old (Err (Ambiguous n)) new a = f (NoItems n) a
 answers_weaker P Q f old (Err Memory) new a = a
 
 -- an answer for joined letters is one for their word, given the characters after the first
-joined_by : (known : Known) (word rest tail : List ℕ) (old : List Arg) (result : Result (Unit {0}) SplitFault) (new : List Arg) (c : ℕ) (fs : List ℕ) → word ≡ 45 ∷ rest → c ≢ 45
+joined_by : (names : ShortNames) (word rest tail : List ℕ) (old : List Arg) (result : Result (Unit {0}) SplitFault) (new : List Arg) (c : ℕ) (fs : List ℕ) → word ≡ 45 ∷ rest → c ≢ 45
     → length tail ≢ 0 → HasNoEquals tail → encode_utf8_all fs ≡ tail → rest ≡ encode_utf8_all (c ∷ fs)
-    → SplitsJoined known.names word rest old result new → Splits known word old result new
-joined_by known word rest tail old result new c [] w d t n f r s = absurd (t (ap length (sym f)))
-joined_by known word rest tail old result new c (g ∷ fs) w d t n f r s =
-    answers_weaker (SpellsJoined known.names word (c ∷ g ∷ fs)) (Spells known word) (λ x j. joined c g fs x (w ∙ ap (λ y. 45 ∷ y) r) d (subst HasNoEquals (sym f) n) j) old result new (s (c ∷ g ∷ fs) r)
+    → SplitsJoined names word rest old result new → SplitsByDash names word old result new
+joined_by names word rest tail old result new c [] w d t n f r s = absurd (t (ap length (sym f)))
+joined_by names word rest tail old result new c (g ∷ fs) w d t n f r s =
+    answers_weaker (SpellsJoined names word (c ∷ g ∷ fs)) (SpellsByDash names word) (λ x j. joined c g fs x (w ∙ ap (λ y. 45 ∷ y) r) d (subst HasNoEquals (sym f) n) j) old result new (s (c ∷ g ∷ fs) r)
 
 -- an answer for the joined letters behind `-` is one for their word
-pub joined_word : (known : Known) (word rest tail : List ℕ) (old : List Arg) (result : Result (Unit {0}) SplitFault) (new : List Arg) (c : ℕ) → IsUtf8 word → word ≡ 45 ∷ rest → rest ≡ encode_utf8 c ++ tail → c ≢ 45
-    → length tail ≢ 0 → HasNoEquals tail → SplitsJoined known.names word rest old result new → Splits known word old result new
-joined_word known word rest tail old result new c u w r d t n s =
+pub joined_word : (names : ShortNames) (word rest tail : List ℕ) (old : List Arg) (result : Result (Unit {0}) SplitFault) (new : List Arg) (c : ℕ) → IsUtf8 word → word ≡ 45 ∷ rest → rest ≡ encode_utf8 c ++ tail → c ≢ 45
+    → length tail ≢ 0 → HasNoEquals tail → SplitsJoined names word rest old result new → SplitsByDash names word old result new
+joined_word names word rest tail old result new c u w r d t n s =
     let whole = cons_from_encodes u.0 rest 45 (u.1.1 ∙ (w ∙ ap (λ x. x ++ rest) (sym (encode_ascii 45 (lit< tt))))) in
     let parts = cons_from_encodes whole.0 tail c (whole.2 ∙ r) in
-    joined_by known word rest tail old result new c parts.0 w d t n parts.2 (r ∙ ap (λ x. encode_utf8 c ++ x) (sym parts.2)) s
+    joined_by names word rest tail old result new c parts.0 w d t n parts.2 (r ∙ ap (λ x. encode_utf8 c ++ x) (sym parts.2)) s
+
+-- an answer for a word that is no number that is a word is one for it by the setting
+pub other_than_number : (known : Known) (word : List ℕ) → ¬ (IsNumberWord known.numbers word)
+    → (old : List Arg) (result : Result (Unit {0}) SplitFault) (new : List Arg)
+    → SplitsByDash known.names word old result new → Splits known word old result new
+other_than_number known word none old result new answers =
+    answers_weaker (SpellsByDash known.names word) (Spells known word) (λ s a. by_dash s none a) old
+    result new answers
 
 -- a length that is zero doesn't fail the test for zero
 pub not_both : (n : ℕ) → n ≡ 0 → (n == 0) ≡ false → ⊥

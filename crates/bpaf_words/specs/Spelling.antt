@@ -1,7 +1,8 @@
 -- How a word spells items: the ways in which its bytes fall into parts.
 use Rattle.std.specs.Prelude.{◌≡◌, ◌≢◌, ℕ, ◌+◌, Bool, true, false, List, [], ◌∷◌, ◌++◌, length}
 use Rattle.std.specs.Prelude.{codes, encode_utf8, encode_utf8_all, EachIndex, slice_index, All}
-use Rattle.std.specs.Prelude.{IsUtf8}
+use Rattle.std.specs.Prelude.{IsUtf8, ◌⊎◌}
+use Rattle.std.specs.Char.{IsAsciiDigit}
 use Rattle.bpaf_words.specs.Items.{is_among}
 use Rattle.bpaf_words.specs.declared.arg.Arg.{Arg}
 use Rattle.bpaf_words.specs.declared.arg.Arg.TheVariants.{Short, Long, ArgWord, Word}
@@ -17,9 +18,13 @@ pub record Known : Type 0 where
   pub names : ShortNames
   pub numbers : Bool
 
+-- these short names are known, and a negative number is a word where the setting says so
+abbrev pub known_at : Bool → ShortNames → Known
+known_at numbers names = record { names = names; numbers = numbers }
+
 -- these short names are known, and no number is a word
 abbrev pub knowing : ShortNames → Known
-knowing names = record { names = names; numbers = false }
+knowing names = known_at false names
 
 -- a known flag, and no known argument
 pub record IsFlag (names : ShortNames) (c : ℕ) : Type 0 where
@@ -75,44 +80,67 @@ pub data SpellsJoined (names : ShortNames) (word : List ℕ) (cs : List ℕ) : S
 abbrev pub HasNoEquals : List ℕ → Type 0
 HasNoEquals n = EachIndex n (λ i. slice_index n i ≢ 61)
 
--- what a word other than `--` spells
-pub data Spells (known : Known) (word : List ℕ) : Spelling → Type 0 where
+-- what a word other than `--` spells, where it is no number that is a word
+pub data SpellsByDash (names : ShortNames) (word : List ℕ) : Spelling → Type 0 where
   -- empty, or not beginning with `-`
-  plain : ((rest : List ℕ) → word ≢ codes "-" ++ rest) → Spells known word (Items (Word word ∷ []))
+  plain : ((rest : List ℕ) → word ≢ codes "-" ++ rest) → SpellsByDash names word (Items (Word word ∷ []))
   -- `-`
-  dash : word ≡ codes "-" → Spells known word (Items (Word word ∷ []))
+  dash : word ≡ codes "-" → SpellsByDash names word (Items (Word word ∷ []))
   -- `--n`
   long : (n : List ℕ) → word ≡ codes "--" ++ n → n ≢ [] → HasNoEquals n
-      → Spells known word (Items (Long n false word ∷ []))
+      → SpellsByDash names word (Items (Long n false word ∷ []))
   -- `--n=v`
   long_value : (n v : List ℕ) → word ≡ codes "--" ++ (n ++ (codes "=" ++ v)) → HasNoEquals n
-      → Spells known word (Items (Long n true word ∷ ArgWord v ∷ []))
+      → SpellsByDash names word (Items (Long n true word ∷ ArgWord v ∷ []))
   -- `-c`
   short : (c : ℕ) → word ≡ codes "-" ++ encode_utf8 c → c ≢ 45
-      → Spells known word (Items (Short c false word ∷ []))
+      → SpellsByDash names word (Items (Short c false word ∷ []))
   -- `-c=v`
   short_value : (c : ℕ) (v : List ℕ) → word ≡ codes "-" ++ (encode_utf8 c ++ (codes "=" ++ v))
       → c ≢ 45
-      → Spells known word (Items (Short c true word ∷ ArgWord v ∷ []))
+      → SpellsByDash names word (Items (Short c true word ∷ ArgWord v ∷ []))
   -- `-cr=v`
   short_long_value : (c : ℕ) (r v : List ℕ)
       → word ≡ codes "-" ++ (encode_utf8 c ++ (r ++ (codes "=" ++ v))) → c ≢ 45 → r ≢ []
       → HasNoEquals r
-      → Spells known word (Items (Short c true word ∷ ArgWord (r ++ (codes "=" ++ v)) ∷ []))
+      → SpellsByDash names word (Items (Short c true word ∷ ArgWord (r ++ (codes "=" ++ v)) ∷ []))
   -- `-s`, s of two or more characters, no `=` after its first
   joined : (c d : ℕ) (cs : List ℕ) (spelling : Spelling)
       → word ≡ codes "-" ++ encode_utf8_all (c ∷ d ∷ cs) → c ≢ 45
       → HasNoEquals (encode_utf8_all (d ∷ cs))
-      → SpellsJoined known.names word (c ∷ d ∷ cs) spelling → Spells known word spelling
+      → SpellsJoined names word (c ∷ d ∷ cs) spelling → SpellsByDash names word spelling
 
--- a word that isn't joined characters, so that its spelling doesn't depend on what is known
+-- `-` and one or more ASCII digits, and nothing else
+pub record IsNumber (word : List ℕ) : Type 0 where
+  pub digits : List ℕ
+  pub is : word ≡ codes "-" ++ digits
+  pub some : digits ≢ []
+  pub each : EachIndex digits (λ k. IsAsciiDigit (slice_index digits k))
+
+-- a number, where the setting makes it a word
+abbrev pub IsNumberWord : Bool → List ℕ → Type 0
+IsNumberWord numbers word = (numbers ≡ true) × IsNumber word
+
+-- what a word other than `--` spells
+pub data Spells (known : Known) (word : List ℕ) : Spelling → Type 0 where
+  number_word : IsNumberWord known.numbers word → Spells known word (Items (Word word ∷ []))
+  by_dash : (spelling : Spelling) → ¬ (IsNumberWord known.numbers word)
+      → SpellsByDash known.names word spelling → Spells known word spelling
+
+-- a word that isn't joined characters
 abbrev pub IsNotJoined : List ℕ → Type 0
 IsNotJoined word =
     (c d : ℕ) (cs : List ℕ) → word ≡ codes "-" ++ encode_utf8_all (c ∷ d ∷ cs) → c ≢ 45
     → HasNoEquals (encode_utf8_all (d ∷ cs)) → ⊥
 
+-- a word whose spelling doesn't depend on the known names: a number that is a word, or one that
+-- isn't joined characters
+abbrev pub IsSpelledAlone : Bool → List ℕ → Type 0
+IsSpelledAlone numbers word = IsNumberWord numbers word ⊎ IsNotJoined word
+
 -- the cases of a spelling
 pub data Case : Type 0 where
+  NumberWord : Case
   PlainWord : Case
   DashAlone : Case
   LongAlone : Case
@@ -133,16 +161,21 @@ joined_case_of (argument fs c rest a b d) = JoinedWithArgument
 joined_case_of (neither fs c rest a b d) = JoinedWithNeither
 joined_case_of (both fs c rest a b d) = JoinedWithBoth
 
+-- the case of a word that is no number that holds
+abbrev pub dash_case_of : {names : ShortNames} {word : List ℕ} {s : Spelling} → SpellsByDash names word s → Case
+dash_case_of (plain a) = PlainWord
+dash_case_of (dash a) = DashAlone
+dash_case_of (long n a b d) = LongAlone
+dash_case_of (long_value n v a b) = LongWithValue
+dash_case_of (short c a b) = ShortAlone
+dash_case_of (short_value c v a b) = ShortWithValue
+dash_case_of (short_long_value c r v a b d e) = ShortWithLongValue
+dash_case_of (joined c d cs s a b e j) = joined_case_of j
+
 -- the case that holds
 abbrev pub case_of : {known : Known} {word : List ℕ} {s : Spelling} → Spells known word s → Case
-case_of (plain a) = PlainWord
-case_of (dash a) = DashAlone
-case_of (long n a b d) = LongAlone
-case_of (long_value n v a b) = LongWithValue
-case_of (short c a b) = ShortAlone
-case_of (short_value c v a b) = ShortWithValue
-case_of (short_long_value c r v a b d e) = ShortWithLongValue
-case_of (joined c d cs s a b e j) = joined_case_of j
+case_of (number_word a) = NumberWord
+case_of (by_dash s n a) = dash_case_of a
 
 -- exactly one case holds, with one answer
 pub record HasOneSpelling (known : Known) (word : List ℕ) : Type 0 where

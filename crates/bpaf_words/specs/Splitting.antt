@@ -11,7 +11,7 @@ use Rattle.bpaf_words.specs.declared.line.LineFault.{LineFault}
 use Rattle.bpaf_words.specs.declared.line.LineFault.TheVariants as fault
 use Rattle.bpaf_words.specs.Line.{SpellAll, HasNoMarker, IsLine, HasNoLine}
 use Rattle.bpaf_words.specs.Spelling.{ShortNames, Known, Spelling, Items, Ambiguous as NoItems}
-use Rattle.bpaf_words.specs.Spelling.{Spells, SpellsJoined}
+use Rattle.bpaf_words.specs.Spelling.{Spells, SpellsByDash, SpellsJoined}
 
 -- items that are spelled stand at the end of the old ones; or the ambiguous character is named; or
 -- memory is wanted
@@ -25,6 +25,11 @@ Answers spells old (Err Memory) new = ⊤
 abbrev pub Splits : Known → List ℕ → List Arg → Result (Unit {0}) SplitFault → List Arg → Type 0
 Splits known word old result new = Answers (Spells known word) old result new
 
+-- the same for a word that is no number that is a word, by the known names
+abbrev pub SplitsByDash : ShortNames → List ℕ → List Arg → Result (Unit {0}) SplitFault → List Arg
+    → Type 0
+SplitsByDash names word old result new = Answers (SpellsByDash names word) old result new
+
 -- letters are the bytes of the characters cs
 abbrev pub SplitsJoined : ShortNames → List ℕ → List ℕ → List Arg → Result (Unit {0}) SplitFault
     → List Arg → Type 0
@@ -35,7 +40,7 @@ SplitsJoined names word letters old result new =
 -- whatever names are known, the word spells the items that the new list has more
 abbrev pub SpellsAs : List ℕ → List Arg → List Arg → Type 0
 SpellsAs word old new =
-    (known : Known) → (xs : List Arg) × Spells known word (Items xs) × (new ≡ old ++ xs)
+    (names : ShortNames) → (xs : List Arg) × SpellsByDash names word (Items xs) × (new ≡ old ++ xs)
 
 -- the words from low up to high are texts
 abbrev pub AreTexts : List (List ℕ) → ℕ → ℕ → Type 0

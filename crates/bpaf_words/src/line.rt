@@ -2,7 +2,7 @@
 ghost use Rattle.std.specs.Prelude.{◌≡◌, ◌++◌, false, OnOk, All, IsUtf8, drop, map, length};
 ghost use Rattle.bpaf_words.specs.Arguments.{words_in};
 ghost use Rattle.bpaf_words.specs.Line.{HaveNoJoined};
-ghost use Rattle.bpaf_words.specs.Spelling.{knowing};
+ghost use Rattle.bpaf_words.specs.Spelling.{known_at};
 ghost use Rattle.bpaf_words.specs.Splitting.{SplitsWords, ReadsLine, AreTexts};
 
 use crate::arg::Arg;
@@ -40,12 +40,13 @@ impl From<AllocError> for LineFault {
 }
 
 /// Whether one of the words is joined letters, such as `-vn3`. Where none is, the line of the words
-/// doesn't depend on the known short names. It takes no memory.
-pub fn any_joined(words: Words<'_>) -> bool
-    ensures { result ≡ false → HaveNoJoined (words_in words.entry) }
+/// doesn't depend on the known short names. With `numbers`, by which `-12` is a word, it isn't joined
+/// letters. It takes no memory.
+pub fn any_joined(words: Words<'_>, numbers: bool) -> bool
+    ensures { result ≡ false → HaveNoJoined numbers (words_in words.entry) }
 {
     for index in 0..words.len() {
-        if is_joined(words.at(index)) {
+        if is_joined(words.at(index), numbers) {
             return true;
         }
     }
@@ -56,18 +57,19 @@ pub fn any_joined(words: Words<'_>) -> bool
 /// each later word.
 ///
 /// `flags` and `arguments` are the known short names, by which joined words such as `-vn3` are read.
-/// Refused with Ambiguous exactly where the words have no line, or for want of memory.
+/// With `numbers` a word of `-` and digits alone, such as `-12`, is a Word. Refused with Ambiguous exactly where the words have no line, or for want of memory.
 pub fn line_of(
     alloc: Global,
     words: Words<'_>,
     flags: &[char],
     arguments: &[char],
+    numbers: bool,
 ) -> Result<Line, LineFault>
     ensures texts { OnOk result (All IsUtf8 (words_in words.entry)) }
-    ensures answer { ReadsLine (knowing (record { flags = flags.now; arguments = arguments.now }))
+    ensures answer { ReadsLine (known_at numbers (record { flags = flags.now; arguments = arguments.now }))
         (words_in words.entry) result }
 {
-    let (mut items, before) = split_words(alloc, words, flags, arguments)?;
+    let (mut items, before) = split_words(alloc, words, flags, arguments, numbers)?;
     let marker = (before < words.len()).then_some(items.len());
     push_rest(alloc, words, before, &mut items)?;
     Ok(Line { items, marker })
@@ -79,8 +81,9 @@ fn split_words(
     words: Words<'_>,
     flags: &[char],
     arguments: &[char],
+    numbers: bool,
 ) -> Result<(Vec<Arg>, usize), LineFault>
-    ensures { SplitsWords (knowing (record { flags = flags.now; arguments = arguments.now }))
+    ensures { SplitsWords (known_at numbers (record { flags = flags.now; arguments = arguments.now }))
         (words_in words.entry) result }
 {
     let mut items = Vec::with_capacity(alloc, words.len())?;
@@ -89,7 +92,7 @@ fn split_words(
         if word == "--" {
             return Ok((items, index));
         }
-        match split_word(alloc, word, flags, arguments, &mut items) {
+        match split_word(alloc, word, flags, arguments, numbers, &mut items) {
             Ok(()) => {}
             Err(SplitFault::Memory) => return Err(LineFault::Memory),
             Err(SplitFault::Ambiguous(number)) => return Err(LineFault::Ambiguous(

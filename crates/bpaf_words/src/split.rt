@@ -1,6 +1,8 @@
-ghost use Rattle.std.specs.Prelude.{◌≡◌, ◌≢◌, [], ◌∷◌, ◌++◌, false, codes, encode_utf8, encode_utf8_all, OnOk};
-ghost use Rattle.bpaf_words.specs.Spelling.{IsNotJoined, argument_of, knowing};
-ghost use Rattle.bpaf_words.specs.Splitting.{Splits, SplitsJoined, SpellsAs};
+ghost use Rattle.std.specs.Prelude.{◌≡◌, ◌≢◌, [], ◌∷◌, ◌++◌, false, ◌↔◌, IsTrue, EachIndex, slice_index, codes, encode_utf8, encode_utf8_all, OnOk};
+ghost use Rattle.std.specs.Bool.{MatchBool};
+ghost use Rattle.std.specs.Char.{IsAsciiDigit};
+ghost use Rattle.bpaf_words.specs.Spelling.{IsNotJoined, IsNumber, IsSpelledAlone, argument_of, known_at};
+ghost use Rattle.bpaf_words.specs.Splitting.{Splits, SplitsByDash, SplitsJoined, SpellsAs};
 
 use crate::arg::Arg;
 use bpaf_doc::Text;
@@ -27,7 +29,51 @@ impl From<AllocError> for SplitFault {
 }
 
 /// The items of a word that isn't `--`, at the end of the items before it.
+///
+/// `flags` and `arguments` are the known short names. With `numbers` a word of `-` and one or more
+/// ASCII digits, and nothing else, is a Word.
+///
+/// ```text
+/// -12    without the setting letters that are joined; with it a Word
+/// -1=2   Short('1', attached) and its value, with and without it
+/// ```
 pub fn split_word(
+    alloc: Global,
+    word: &str,
+    flags: &[char],
+    arguments: &[char],
+    numbers: bool,
+    items: &mut Vec<Arg>,
+) -> Result<(), SplitFault>
+    requires { word.now ≢ codes "--" }
+    ensures { Splits (known_at numbers (record { flags = flags.now; arguments = arguments.now }))
+        word.now items.old.items result items.new.items }
+{
+    if numbers && is_number(word) {
+        return Ok(push_word(alloc, word, items)?);
+    }
+    split_by_dash(alloc, word, flags, arguments, items)
+}
+
+/// Whether a word is `-` and one or more ASCII digits, and nothing else.
+fn is_number(word: &str) -> bool
+    ensures { MatchBool result (IsNumber word.now) (¬ (IsNumber word.now)) }
+{
+    match word.strip_prefix('-') {
+        None => false,
+        Some(digits) => !digits.is_empty() && are_digits(digits.as_bytes()),
+    }
+}
+
+/// Whether all bytes are ASCII digits.
+fn are_digits(bytes: &[u8]) -> bool
+    ensures { IsTrue result ↔ EachIndex bytes.now (λ k. IsAsciiDigit (slice_index bytes.now k)) }
+{
+    bytes.iter().all(|b| b.is_ascii_digit())
+}
+
+/// The items of a word that isn't `--`, nor a number that is a word, at the end of the items before it.
+fn split_by_dash(
     alloc: Global,
     word: &str,
     flags: &[char],
@@ -35,7 +81,7 @@ pub fn split_word(
     items: &mut Vec<Arg>,
 ) -> Result<(), SplitFault>
     requires { word.now ≢ codes "--" }
-    ensures { Splits (knowing (record { flags = flags.now; arguments = arguments.now }))
+    ensures { SplitsByDash (record { flags = flags.now; arguments = arguments.now })
         word.now items.old.items result items.new.items }
 {
     let Some(rest) = word.strip_prefix('-') else {
@@ -66,8 +112,16 @@ pub fn split_word(
     }
 }
 
-/// Whether a word is joined letters, such as `-vn3`, whose items depend on the known short names.
-pub(crate) fn is_joined(word: &str) -> bool
+/// Whether a word is joined letters, such as `-vn3`, whose items depend on the known short names; with
+/// `numbers` a number isn't.
+pub(crate) fn is_joined(word: &str, numbers: bool) -> bool
+    ensures { result ≡ false → IsSpelledAlone numbers word.now }
+{
+    has_joined(word) && !(numbers && is_number(word))
+}
+
+/// Whether a word is two or more letters behind a dash, without an `=` after the first.
+fn has_joined(word: &str) -> bool
     ensures { result ≡ false → IsNotJoined word.now }
 {
     let Some(rest) = word.strip_prefix('-') else {

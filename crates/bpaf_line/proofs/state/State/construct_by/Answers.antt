@@ -2,7 +2,7 @@ use Rattle.std.proofs.Common.{◌≡◌, length, ap, ◌∙◌, refl, None, ◌-
 use Rattle.std.proofs.Common.{IsUtf8, is_some, arith, IfSome, map}
 use Rattle.std.specs.Int.{from_bool}
 use Rattle.bpaf_words.specs.Arguments.{env_of, name_of}
-use Rattle.bpaf_words.specs.Spelling.{knowing}
+use Rattle.bpaf_words.specs.Spelling.{known_at}
 use Rattle.bpaf_words.specs.Line.{IsLine}
 use Rattle.bpaf_words.proofs.Fronts.{marker_of_line}
 use Rattle.bpaf_line.specs.Situation.{Context, beginning}
@@ -11,8 +11,8 @@ use Rattle.bpaf_line.specs.Bits.{IsFirstClear}
 use Rattle.bpaf_line.specs.Chained.{class_in}
 use Rattle.bpaf_line.specs.Inside.{situation_of}
 use Rattle.bpaf_line.proofs.Beginning.{sound_beginning, begins}
-use Rattle.bpaf_line.proofs.state.State.construct.Goals as goal
-use Rattle.bpaf_line.proofs.state.State.construct.Goals.{After-new}
+use Rattle.bpaf_line.proofs.state.State.construct_by.Goals as goal
+use Rattle.bpaf_line.proofs.state.State.construct_by.Goals.{After-new}
 
 -- the context of the line that was read
 context_is : After-new → Context
@@ -82,7 +82,7 @@ returns-clause-answer c = (
   context_is c,
   record {
     is_line =
-        subst (λ words. IsLine (knowing (record {
+        subst (λ words. IsLine (known_at c.args.numbers (record {
           flags = c.args.short_flags.now;
           arguments =
               c.args.short_args.now;

@@ -4,7 +4,7 @@ use Rattle.std.proofs.lemmas.Bool.{eqb-true}
 use Rattle.bpaf_words.proofs.SplitLemmas.{no_dash, after_dash, at_equals, is_zero}
 use Rattle.bpaf_words.proofs.NotJoined.{nothing_joined, not_joined, has_equals, holds}
 use Rattle.bpaf_words.specs.Spelling.{HasNoEquals}
-use Rattle.bpaf_words.proofs.split.is_joined.Goals as goal
+use Rattle.bpaf_words.proofs.split.has_joined.Goals as goal
 
 pub returns-in_default : goal.returns-in_default
 returns-in_default c refused d e cs w other no_equals = no_dash c.args.word.now c.in_default.ensures.cases _ w
