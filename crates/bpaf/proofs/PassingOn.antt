@@ -17,7 +17,7 @@ use Rattle.bpaf_words.specs.declared.arg.Arg.{Arg}
 use Rattle.bpaf_words.specs.declared.arg.Arg.TheVariants.{Short, Long, ArgWord, Word, PosWord}
 use Rattle.bpaf_words.specs.Arguments.{Given}
 use Rattle.bpaf_words.specs.Items.{is_key_of, is_positional, word_text}
-use Rattle.bpaf_words.specs.Spelling.{Known, knowing}
+use Rattle.bpaf_words.specs.Spelling.{Known}
 use Rattle.bpaf_words.specs.Line.{IsLine, unmarked, marked}
 use Rattle.bpaf_line.specs.declared.error.Error.{Error}
 use Rattle.bpaf_line.specs.Constructing.{IsContext}
@@ -513,7 +513,7 @@ module _ {T X : Type 0} {inner : Outcome T} (means : List ℕ → X → Type 0) 
       → AllZip means (words_behind given.words) (values v)
   words_passed v (ran context r t is run) = ⊎_elim
       (λ shown. line_passed _ context v t shown.2 run)
-      (λ any. line_passed _ context v t (any (knowing (record { flags = []; arguments = [] }))) run)
+      (λ any. line_passed _ context v t (any (record { flags = []; arguments = [] })) run)
       is
 
 -- texts that words mean, each of which means itself, are the texts of those words

@@ -14,7 +14,7 @@ use Rattle.bpaf_words.specs.declared.arg.Arg.TheVariants.{Short, Long, ArgWord, 
 use Rattle.bpaf_words.specs.Spelling.{Known, IsArgument, Spelling, Items, Ambiguous, flags_of}
 use Rattle.bpaf_words.specs.Spelling.{argument_of, Spells, SpellsJoined, flags, argument, neither}
 use Rattle.bpaf_words.specs.Spelling.{both, plain, dash, long, long_value, short, short_value}
-use Rattle.bpaf_words.specs.Spelling.{short_long_value, joined}
+use Rattle.bpaf_words.specs.Spelling.{short_long_value, joined, SpellsByDash, number_word, by_dash}
 use Rattle.bpaf_words.specs.Line.{SpellAll, HasNoMarker}
 use Rattle.bpaf.specs.Marker.{is_marker_word, words_before, words_behind}
 
@@ -118,16 +118,21 @@ module _ (P : Arg → Type 0) (known : Known) (word : List ℕ)
   of_joined cs s (neither fs c rest cut all is) = (whole, tt)
   of_joined cs s (both fs c rest cut all is) = tt
 
+  -- each item that the word spells, where it is no number that is a word
+  each_by_dash : (s : Spelling) → SpellsByDash known.names word s → EachSpelled P s
+  each_by_dash s (plain a) = (whole, tt)
+  each_by_dash s (dash a) = (whole, tt)
+  each_by_dash s (long n a b d) = (long_key n false word, tt)
+  each_by_dash s (long_value n v a b) = (long_key n true word, (value v, tt))
+  each_by_dash s (short c a b) = (key c false word, tt)
+  each_by_dash s (short_value c v a b) = (key c true word, (value v, tt))
+  each_by_dash s (short_long_value c r v a b d e) = (key c true word, (value _, tt))
+  each_by_dash s (joined c d cs t a b e j) = of_joined (c ∷ d ∷ cs) t j
+
   -- each item that the word spells
   pub each_spelled : (s : Spelling) → Spells known word s → EachSpelled P s
-  each_spelled s (plain a) = (whole, tt)
-  each_spelled s (dash a) = (whole, tt)
-  each_spelled s (long n a b d) = (long_key n false word, tt)
-  each_spelled s (long_value n v a b) = (long_key n true word, (value v, tt))
-  each_spelled s (short c a b) = (key c false word, tt)
-  each_spelled s (short_value c v a b) = (key c true word, (value v, tt))
-  each_spelled s (short_long_value c r v a b d e) = (key c true word, (value _, tt))
-  each_spelled s (joined c d cs t a b e j) = of_joined (c ∷ d ∷ cs) t j
+  each_spelled s (number_word is) = (whole, tt)
+  each_spelled s (by_dash t none a) = each_by_dash t a
 
 -- the text of an item that stands behind `--`
 abbrev pub text_behind : Arg → Option (List ℕ)

@@ -6,7 +6,7 @@ use Rattle.bpaf_doc.specs.Shape.{Shape}
 use Rattle.bpaf_text.specs.Meaning.{SpellsSigned, SpellsUnsigned}
 use Rattle.bpaf_text.specs.Named.{Named, key_named}
 use Rattle.bpaf_words.specs.Arguments.{Given}
-use Rattle.bpaf_words.specs.Spelling.{Known, knowing}
+use Rattle.bpaf_words.specs.Spelling.{ShortNames, Known, known_at}
 use Rattle.bpaf_line.specs.Constructing.{IsContext}
 use Rattle.bpaf_line.specs.declared.failure.ParseFailure.{ParseFailure}
 use Rattle.bpaf_line.specs.Situation.{Context}
@@ -140,8 +140,8 @@ module _ (go turn repeat : Called) (go_adjacent turn_adjacent repeat_adjacent : 
         × IsContext (known_names info shape) (program_given words) dealt.context).
         (known_names info shown.0, shown.2))
         (λ any.
-        let nothing : Known = knowing (record { flags = []; arguments = [] }) in
-        (nothing, any nothing))
+        let nothing : ShortNames = record { flags = []; arguments = [] } in
+        (known_at info.numbers nothing, any nothing))
         dealt.is_context in
         record {
           known = by.0;

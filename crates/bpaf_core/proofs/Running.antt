@@ -17,7 +17,7 @@ use Rattle.bpaf_words.specs.declared.arg.Arg.{Arg}
 use Rattle.std.specs.List.{AllZip}
 use Rattle.std.specs.Prelude.{codes, flat_map}
 use Rattle.bpaf_words.specs.Line.{HasNoLine, HaveNoJoined, IsLine, marked, unmarked}
-use Rattle.bpaf_words.specs.Spelling.{Items, Known, Spells, knowing}
+use Rattle.bpaf_words.specs.Spelling.{ShortNames, Items, Known, Spells, known_at}
 use Rattle.bpaf_words.proofs.NotJoined.{line_alone, never_without_line}
 use Rattle.bpaf_messages.specs.Rendering.{Renders}
 use Rattle.bpaf_core.specs.Ending.{EndsRun, TellsFault}
@@ -34,14 +34,17 @@ something_left n empty is otherwise = grind (arith, nat_tests)
 -- known names as a whole
 known_are : (describes : Shape → Type 0) (info : RunInfo) (flags arguments : List ℕ)
     (n : ShowsNames describes info flags arguments)
-    → knowing (record { flags = flags; arguments = arguments }) ≡ known_names info n.shape
+    → known_at info.numbers (record { flags = flags; arguments = arguments })
+    ≡ known_names info n.shape
 known_are describes info flags arguments n = rw (n.flags_are, n.arguments_are) refl
 
--- the line of words of which none is joined is their line whatever is known
-whatever_known : (known : Known) (given : Given) (context : Context) → HaveNoJoined given.words
-    → IsContext known given context → (other : Known) → IsContext other given context
-whatever_known known given context alone is other = record {
-  is_line = line_alone given.words alone known other context.line context.marker is.is_line;
+-- the line of words of which none is joined is their line whatever names are known
+whatever_known : (numbers : Bool) (names : ShortNames) (given : Given) (context : Context)
+    → HaveNoJoined numbers given.words → IsContext (known_at numbers names) given context
+    → (others : ShortNames) → IsContext (known_at numbers others) given context
+whatever_known numbers names given context alone is others = record {
+  is_line =
+      line_alone numbers given.words alone names others context.line context.marker is.is_line;
   env = is.env;
   name = is.name;
 }
@@ -49,15 +52,16 @@ whatever_known known given context alone is other = record {
 -- the context that the words made, by the names that they were read by
 made_context : {describes : Shape → Type 0} {info : RunInfo} (given : Given) (flags arguments : List ℕ)
     (context : Context) → ReadsNames describes info given.words flags arguments
-    → IsContext (knowing (record { flags = flags; arguments = arguments })) given context
+    → IsContext (known_at info.numbers (record { flags = flags; arguments = arguments })) given context
     → IsLineContext describes info given context
-made_context given flags arguments context names is = ⊎_elim
+made_context {info = info} given flags arguments context names is = ⊎_elim
     (λ shows. inl (
       shows.shape,
       shows.shown,
       subst (λ known. IsContext known given context) (known_are _ _ flags arguments shows) is,
     ))
-    (λ alone. inr (whatever_known _ given context alone is))
+    (λ alone. inr (whatever_known info.numbers (record { flags = flags; arguments = arguments })
+    given context alone is))
     names
 
 -- no words have the empty line
@@ -97,7 +101,8 @@ module _ {T : Type 0} {inner : Outcome T} {describes : Shape → Type 0} {info :
     -- a run from the state that the words made
     pub started : (flags arguments : List ℕ) (s : Situation) (r : Result T ParseFailure)
         (t : Situation) → ReadsNames describes info given.words flags arguments
-        → Constructs (knowing (record { flags = flags; arguments = arguments })) given (Ok s)
+        → Constructs (known_at info.numbers (record { flags = flags; arguments = arguments })) given
+        (Ok s)
         → Runs T inner (EndsRun describes info) s r t → RunsWords T inner describes info given r
     started flags arguments s r t names made run =
         ran made.0 r t (made_context given flags arguments made.0 names made.1)
@@ -106,7 +111,8 @@ module _ {T : Type 0} {inner : Outcome T} {describes : Shape → Type 0} {info :
     -- words that have no line by the names that they were read by have none by those that are shown
     line_lacks : (flags arguments : List ℕ) (word : List ℕ) (number : ℕ) (context : Context)
         (f : ParseFailure) → ReadsNames describes info given.words flags arguments
-        → HasNoLine (knowing (record { flags = flags; arguments = arguments })) given.words word number
+        → HasNoLine (known_at info.numbers (record { flags = flags; arguments = arguments }))
+        given.words word number
         → context.line ≡ [] → context.name ≡ given.name
         → Renders (Ambiguity word number) (beginning context) f
         → RunsWords T inner describes info given (Err f)
@@ -114,13 +120,16 @@ module _ {T : Type 0} {inner : Outcome T} {describes : Shape → Type 0} {info :
         (λ shows. no_line shows.shape word number context f shows.shown
         (subst (λ known. HasNoLine known given.words word number)
         (known_are describes info flags arguments shows) lacks) empty named told)
-        (λ alone. absurd (never_without_line given.words alone _ word number lacks))
+        (λ alone. absurd (never_without_line
+        (known_at info.numbers (record { flags = flags; arguments = arguments })) given.words alone
+        word number lacks))
         names
 
     -- words without a line, or no memory for it
     pub line_refused : (flags arguments : List ℕ) (m : Message) (f : ParseFailure)
         → ReadsNames describes info given.words flags arguments
-        → RefusesLine (knowing (record { flags = flags; arguments = arguments })) given.words m
+        → RefusesLine (known_at info.numbers (record { flags = flags; arguments = arguments }))
+        given.words m
         → TellsFault given.name m f → RunsWords T inner describes info given (Err f)
     line_refused flags arguments m f names refuses tells = ⊎_elim
         (λ (wanted : f ≡ failure.Memory).
@@ -131,7 +140,8 @@ module _ {T : Type 0} {inner : Outcome T} {describes : Shape → Type 0} {info :
         -- a message of the line is told
         told_line : (flags arguments : List ℕ) (m : Message) (f : ParseFailure)
             → ReadsNames describes info given.words flags arguments
-            → RefusesLine (knowing (record { flags = flags; arguments = arguments })) given.words m
+            → RefusesLine (known_at info.numbers (record { flags = flags; arguments = arguments }))
+            given.words m
             → (context : Context) → context.line ≡ [] → context.name ≡ given.name
             → Renders m (beginning context) f → RunsWords T inner describes info given (Err f)
         told_line flags arguments Memory f names refuses context empty named told =

@@ -6,6 +6,8 @@ ghost use Rattle.bpaf_doc.specs.Shape.{Shape};
 ghost use Rattle.bpaf_pages.specs.Usage.{usage_text};
 ghost use Rattle.bpaf_line.specs.Situation.{open_count};
 ghost use Rattle.bpaf_words.specs.Arguments.{given_of, name_of, words_of};
+ghost use Rattle.bpaf_words.specs.Spelling.{known_at};
+ghost use Rattle.bpaf_line.specs.Constructing.{Constructs};
 ghost use Rattle.bpaf_core.specs.Known.{ReadsNames, ShowsNames, TellsOrder};
 ghost use Rattle.bpaf_core.specs.Dealt.{IsDealtOut};
 ghost use Rattle.bpaf_core.specs.Ending.{EndsRefused, EndsRun, IsHelp, ShowsHelp, Tells};
@@ -130,6 +132,24 @@ impl<T, P> OptionParser<T, P> {
         self.info.max_width = width;
         self
     }
+
+    /// The parser by which a negative number is a word: before the first `--` a word of `-` and one or
+    /// more ASCII digits, and nothing else, is read as `5` is, so that users need no `=` for it. It
+    /// takes no memory. bpaf has no such call.
+    ///
+    /// The setting of the parser that runs over the words counts alone: it holds behind the words of
+    /// commands too, and that of a command's own parser has no effect. A flag or an argument whose
+    /// short name is a digit can then no longer be given as `-1`.
+    ///
+    /// ```text
+    /// num.to_options(alloc)?.numbers_as_words()      reads `-n -5`; without it, `-n=-5` alone
+    /// ```
+    pub fn numbers_as_words(mut self) -> OptionParser<T, P>
+        ensures { result ≡ record self { info = record self.info { numbers = true } } }
+    {
+        self.info.numbers = true;
+        self
+    }
 }
 
 impl<T: Drop, P: Parser<T>> OptionParser<T, P> {
@@ -203,9 +223,27 @@ impl<T: Drop, P: Parser<T>> OptionParser<T, P> {
         let Ok((flags, arguments)) = self.names_for(args) else {
             return Err(ParseFailure::Memory);
         };
-        match State::construct(self.alloc, args, &flags, &arguments) {
+        match self.construct(args, &flags, &arguments) {
             Ok(mut state) => self.run_from(&mut state),
             Err(message) => Err(tell_fault(self.alloc, args, message)),
+        }
+    }
+
+    /// The state at the beginning of the words' line, in which numbers are words by the setting.
+    fn construct(
+        &self,
+        args: Args<'_>,
+        flags: &[char],
+        arguments: &[char],
+    ) -> Result<State, Message>
+        ensures { Constructs (known_at self.now.info.numbers
+            (record { flags = flags.now; arguments = arguments.now }))
+            (given_of args.entry) result }
+    {
+        if self.info.numbers {
+            State::construct_numbers(self.alloc, args, flags, arguments)
+        } else {
+            State::construct(self.alloc, args, flags, arguments)
         }
     }
 
@@ -216,7 +254,7 @@ impl<T: Drop, P: Parser<T>> OptionParser<T, P> {
         ensures { IfOk result (λ r. ReadsNames (P.describes self.now.inner) self.now.info
             (words_of args.entry) r.0.items r.1.items) }
     {
-        if any_joined(args.words()) {
+        if any_joined(args.words(), self.info.numbers) {
             return self.known_shorts();
         }
         Ok((Vec::new(self.alloc), Vec::new(self.alloc)))

@@ -204,6 +204,7 @@ module _ (makes : Makes) (parts : Parts) where
           → IsContext program_known (program_given words) context
       program_context =
           line_context RecordDescribes parts.info (program_given words) program_known known_parts
+          (ap (λ info. info.numbers) program.names.info)
 
       -- what the record's parser deals out are options dealt out of the words
       options_dealt : MakesOptions makes → (v : Options)

@@ -9,7 +9,8 @@ use Rattle.bpaf_doc.specs.Print.{first_line, shown_as}
 use Rattle.bpaf_text.specs.Named.{Named}
 
 -- the version, the texts around the help page, the keys that ask for help and for the version,
--- whether help is shown where nothing is there to read, and how wide a page may be
+-- whether help is shown where nothing is there to read, how wide a page may be, and whether a
+-- negative number is a word
 pub record RunInfo : Type 0 where
   pub version : Option (List Piece)
   pub descr : Option (List Piece)
@@ -20,6 +21,7 @@ pub record RunInfo : Type 0 where
   pub version_arg : Named
   pub help_if_no_args : Bool
   pub max_width : ℕ
+  pub numbers : Bool
 
 -- a key of one short name and one long name, with a help of one line
 abbrev pub usual_key : ℕ → List ℕ → List ℕ → Named
@@ -54,6 +56,7 @@ plain_info = record {
   version_arg = version_key;
   help_if_no_args = false;
   max_width = 100;
+  numbers = false;
 }
 
 -- the first line of the description, where there is one

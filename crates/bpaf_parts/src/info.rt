@@ -45,6 +45,8 @@ pub struct Info {
     pub help_if_no_args: bool,
     /// How many columns a page may have. It is kept, and not used.
     pub max_width: usize,
+    /// Whether a negative number is a word: one of `-` and digits alone.
+    pub numbers: bool,
 }
 
 impl Model for Info {
@@ -63,6 +65,7 @@ impl Model for Info {
           version_arg = key_or version_key info.version_arg;
           help_if_no_args = info.help_if_no_args;
           max_width = info.max_width;
+          numbers = info.numbers;
         } };
 }
 
@@ -173,7 +176,7 @@ fn version_doc(alloc: Global, version: &Doc) -> Result<Doc, AllocError>
 }
 
 impl Info {
-    /// The keys `-h`, `--help` and `-V`, `--version`, no version, no texts, and 100 columns (bpaf's
+    /// The keys `-h`, `--help` and `-V`, `--version`, no version, no texts, 100 columns, and no number that is a word (bpaf's
     /// `Info::default`). It takes no memory.
     pub fn new() -> Info
         ensures { result ≡ plain_info }
@@ -188,6 +191,7 @@ impl Info {
             version_arg: None,
             help_if_no_args: false,
             max_width: 100,
+            numbers: false,
         }
     }
 
@@ -205,6 +209,7 @@ impl Info {
             version_arg: copy_of(&self.version_arg)?,
             help_if_no_args: self.help_if_no_args,
             max_width: self.max_width,
+            numbers: self.numbers,
         })
     }
 

@@ -3,7 +3,7 @@ use Rattle.std.proofs.Common.{◌≡◌, List, [], ◌∷◌, Result, Ok, Err, a
 use Rattle.std.specs.Result.{IfErr}
 use Rattle.bpaf_doc.specs.Shape.{Shape, And, Many, Optional, members}
 use Rattle.bpaf_words.specs.Arguments.{Given}
-use Rattle.bpaf_words.specs.Spelling.{Known}
+use Rattle.bpaf_words.specs.Spelling.{Known, known_at}
 use Rattle.bpaf_line.specs.Constructing.{IsContext}
 use Rattle.bpaf_line.specs.Situation.{Context}
 use Rattle.bpaf_line.specs.declared.failure.ParseFailure.{ParseFailure}
@@ -53,12 +53,14 @@ product_shows fields wanted all shape shown =
 
 -- where all that is shown has these known names, a context of the words' line is one by them
 pub line_context : (describes : Shape → Type 0) (info : RunInfo) (given : Given) (known : Known)
-    → ((shape : Shape) → describes shape → known_names info shape ≡ known) → (context : Context)
+    → ((shape : Shape) → describes shape → known_names info shape ≡ known)
+    → info.numbers ≡ known.numbers → (context : Context)
     → IsLineContext describes info given context → IsContext known given context
-line_context describes info given known names context is =
+line_context describes info given known names numbers context is =
     ⊎_elim
     (λ shown. subst (λ those. IsContext those given context) (names shown.0 shown.1) shown.2)
-    (λ any. any known)
+    (λ any. subst (λ setting. IsContext (known_at setting known.names) given context) numbers
+    (any known.names))
     is
 
 -- what a run shows of a parser that shows nothing by itself is help that the words ask for

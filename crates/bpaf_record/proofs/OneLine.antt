@@ -5,7 +5,7 @@ use Rattle.bpaf_doc.specs.Walks.{shorts_of_arguments, shorts_of_flags}
 use Rattle.bpaf_words.specs.declared.arg.Arg.{Arg}
 use Rattle.bpaf_words.specs.Arguments.{Given}
 use Rattle.bpaf_words.specs.Line.{HasNoLine}
-use Rattle.bpaf_words.specs.Spelling.{Known, knowing}
+use Rattle.bpaf_words.specs.Spelling.{ShortNames, Known, known_at}
 use Rattle.bpaf_words.proofs.OneLine.{one_lines}
 use Rattle.bpaf_line.specs.Constructing.{IsContext}
 use Rattle.bpaf_line.specs.Situation.{Context}
@@ -33,7 +33,7 @@ module _ (given : Given) (texts : All IsUtf8 given.words) where
   module _ {describes : Shape → Type 0} (shows : ShowsTheSame describes) (info : RunInfo) where
     -- the names that words are read by, of the parts that are shown
     abbrev names_of : List Part → Known
-    names_of shown = knowing (record {
+    names_of shown = known_at info.numbers (record {
       flags = shorts_of_flags shown ++ info.help_arg.names.shorts ++ info.version_arg.names.shorts;
       arguments = shorts_of_arguments shown;
     })
@@ -50,12 +50,14 @@ module _ (given : Given) (texts : All IsUtf8 given.words) where
         (λ other. same_context (known_names info other.0) a b
         (subst (λ known. IsContext known given a) (same_names one.0 other.0 one.1 other.1) one.2)
         other.2)
-        (λ any. same_context (known_names info one.0) a b one.2 (any (known_names info one.0)))
+        (λ any. same_context (known_names info one.0) a b one.2
+        (any (known_names info one.0).names))
         second)
         (λ any. ⊎_elim
-        (λ other. same_context (known_names info other.0) a b (any (known_names info other.0)) other.2)
-        (λ also. let no_names = knowing (record { flags = []; arguments = [] }) in
-        same_context no_names a b (any no_names) (also no_names))
+        (λ other. same_context (known_names info other.0) a b
+        (any (known_names info other.0).names) other.2)
+        (λ also. let nothing : ShortNames = record { flags = []; arguments = [] } in
+        same_context (known_at info.numbers nothing) a b (any nothing) (also nothing))
         second)
         first
 
@@ -69,5 +71,5 @@ module _ (given : Given) (texts : All IsUtf8 given.words) where
         (subst (λ known. IsContext known given a) (same_names one.0 shape one.1 shown) one.2).is_line
         none)
         (λ any. (one_lines (known_names info shape) given.words texts).not_both a.line a.marker word
-        number (any (known_names info shape)).is_line none)
+        number (any (known_names info shape).names).is_line none)
         first

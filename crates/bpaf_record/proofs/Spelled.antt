@@ -9,7 +9,7 @@ use Rattle.bpaf_doc.specs.Shape.{Shape as ShownShape}
 use Rattle.bpaf_words.specs.Arguments.{Given}
 use Rattle.bpaf_words.specs.Items.{is_key_of}
 use Rattle.bpaf_words.specs.Line.{IsLine, unmarked, marked, SpellAll}
-use Rattle.bpaf_words.specs.Spelling.{Known, Items, Spells, knowing}
+use Rattle.bpaf_words.specs.Spelling.{Known, Items, Spells, known_at}
 use Rattle.bpaf_words.specs.declared.arg.Arg.{Arg}
 use Rattle.bpaf_words.specs.declared.arg.Arg.TheVariants.{PosWord}
 use Rattle.bpaf_line.specs.Constructing.{IsContext}
@@ -147,6 +147,6 @@ key_was_spelled info given context is names k ks e = ⊎_elim
       known_names info one.0,
       key_spelled (known_names info one.0) names given context one.2 k ks e,
     ))
-    (λ any. let nothing = knowing (record { flags = []; arguments = [] }) in
-    (nothing, key_spelled nothing names given context (any nothing) k ks e))
+    (λ any. let nothing : Known = known_at info.numbers (record { flags = []; arguments = [] }) in
+    (nothing, key_spelled nothing names given context (any nothing.names) k ks e))
     is

@@ -11,20 +11,20 @@ returns-in_default-clause-outcome g c = no_memory
 pub returns-in-Ok-construct-clause-outcome : goal.returns-in-Ok-construct-clause-outcome
 returns-in-Ok-construct-clause-outcome g c =
     started (given_of c.args.args) _ _ _ _ _ c.in-Ok.ensures
-    (rw (c.deref.ensures.value, c.deref-2.ensures.value) at c.in-Ok-construct.ensures.answer)
+    (rw (c.deref.ensures.value, c.deref-2.ensures.value) at c.in-Ok-construct.ensures)
     c.run_from.ensures
 
 pub returns-in-Ok-construct-clause-dealt : goal.returns-in-Ok-construct-clause-dealt
 returns-in-Ok-construct-clause-dealt g c =
     if_dealt (given_of c.args.args) (g.met.P.Parser.lawful c.args.self.now.inner) _
     (started (given_of c.args.args) _ _ _ _ _ c.in-Ok.ensures
-    (rw (c.deref.ensures.value, c.deref-2.ensures.value) at c.in-Ok-construct.ensures.answer)
+    (rw (c.deref.ensures.value, c.deref-2.ensures.value) at c.in-Ok-construct.ensures)
     c.run_from.ensures)
 
 pub returns-clause-outcome : goal.returns-clause-outcome
 returns-clause-outcome g c =
     line_refused (given_of c.args.args) _ _ _ _ c.in-Ok.ensures
-    (rw (c.deref.ensures.value, c.deref-2.ensures.value) at c.in-Err.ensures.answer)
+    (rw (c.deref.ensures.value, c.deref-2.ensures.value) at c.in-Err.ensures)
     c.tell_fault.ensures
 
 pub returns-in_default-clause-named : goal.returns-in_default-clause-named
@@ -35,12 +35,12 @@ pub returns-in-Ok-construct-clause-named : goal.returns-in-Ok-construct-clause-n
 returns-in-Ok-construct-clause-named g c =
     words_are_named _ _ _ (given_of c.args.args) _
     (started (given_of c.args.args) _ _ _ _ _ c.in-Ok.ensures
-    (rw (c.deref.ensures.value, c.deref-2.ensures.value) at c.in-Ok-construct.ensures.answer)
+    (rw (c.deref.ensures.value, c.deref-2.ensures.value) at c.in-Ok-construct.ensures)
     c.run_from.ensures)
 
 pub returns-clause-named : goal.returns-clause-named
 returns-clause-named g c =
     words_are_named _ _ _ (given_of c.args.args) _
     (line_refused (given_of c.args.args) _ _ _ _ c.in-Ok.ensures
-    (rw (c.deref.ensures.value, c.deref-2.ensures.value) at c.in-Err.ensures.answer)
+    (rw (c.deref.ensures.value, c.deref-2.ensures.value) at c.in-Err.ensures)
     c.tell_fault.ensures)
