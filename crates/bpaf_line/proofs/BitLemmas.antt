@@ -1,16 +1,16 @@
 -- Bits in words of 64: what a write of one word changes.
-use Rattle.std.proofs.Common.{◌≡◌, ◌≢◌, ℕ, ◌+◌, ◌*◌, ◌/◌, ◌%◌, ◌<◌, ◌≤◌, ◌==◌, Bool, true, false}
-use Rattle.std.proofs.Common.{not, List, length, refl, ap, sym, ◌∙◌, arith, ⊎_elim, slice_index}
-use Rattle.std.proofs.Common.{slice_set, get_or-set_same, get_or-set_other, nat_le, replicate, suc}
-use Rattle.std.proofs.Common.{if◌then◌else◌}
+use Rattle.std.proofs.Common.{◌≡◌, ◌≢◌, ℕ, ◌+◌, ◌*◌, ◌/◌, ◌%◌, ◌<◌, ◌≤◌, ◌==◌, true, false}
+use Rattle.std.proofs.Common.{not, List, length, ap, sym, ◌∙◌, arith, ⊎_elim, slice_index}
+use Rattle.std.proofs.Common.{slice_set, get_or-set_same, get_or-set_other, nat_le, replicate}
+use Rattle.std.proofs.Common.{◌&&◌}
 use Rattle.std.specs.Int.{bit_at}
-use Rattle.std.proofs.lemmas.Bool.{cases_eq, cases_lt, eq-eqb, ne_eqb, and_left, and_right}
-use Rattle.std.proofs.lemmas.Bool.{and_from, le-leb, leb-true}
+use Rattle.std.proofs.lemmas.Bool.{cases_eq, cases_lt, eq-eqb, ne_eqb, and_left}
+use Rattle.std.proofs.lemmas.Bool.{le-leb, lt-leb}
 use Rattle.std.proofs.lemmas.Nat.Bits.{bit_at_ones, bit_at-zero}
 use Rattle.std.proofs.lemmas.List.{get_or-replicate, get_or_past, length-replicate}
-use Rattle.bpaf_line.specs.Bits.{has_bit, is_clear_from, count_clear, ChangesBit, IsFirstClear}
-use Rattle.bpaf_line.specs.Situation.{count_below}
-use Rattle.bpaf_line.proofs.Counts.{count_below-none, count_below-cut, count_below-most}
+use Rattle.bpaf_line.specs.Bits.{has_bit, is_clear_from, count_clear, clear_within, ChangesBit}
+use Rattle.bpaf_line.proofs.Counts.{count_below-none, count_below-same, count_below-split}
+use Rattle.bpaf_line.proofs.Counts.{count_below-most}
 
 -- the bit of the place whose word was written
 pub has_bit_written : (words : List ℕ) (p w : ℕ) → p < 64 * length words
@@ -45,27 +45,29 @@ has_bit_full words p full q same =
     ∙ full in
     ap (λ x. bit_at x (q % 64) == 1) word ∙ ap (λ b. b == 1) (bit_at_ones 64 (q % 64) (omega arith))
 
--- none of the places from one on are clear up to the first that is
-pub count_clear-first : (words : List ℕ) (low high p : ℕ) → IsFirstClear words low high p
-    → count_clear words low p ≡ 0
-count_clear-first words low high p first = count_below-none (is_clear_from words low) p
-    (λ q below. by_order q (nat_le low q) refl below)
-  where
-    by_order : (q : ℕ) (b : Bool) → nat_le low q ≡ b → q < p → is_clear_from words low q ≡ false
-    by_order q true from below = and_right (nat_le low q) _
-        (ap not (first.set q (leb-true low q from) below))
-    by_order q false before below = and_left (nat_le low q) _ before
+-- below the place from which they are counted none are
+pub count_clear-none : (words : List ℕ) (low : ℕ) → count_clear words low low ≡ 0
+count_clear-none words low = count_below-none (is_clear_from words low) low
+    (λ q below. and_left (nat_le low q) _ (lt-leb low q below))
 
--- from a clear place to the next clear one there is one
-pub count_clear-next : (words : List ℕ) (low high p q : ℕ) → low ≤ p → has_bit words p ≡ false
-    → IsFirstClear words (p + 1) high q → count_clear words low q ≡ count_clear words low p + 1
-count_clear-next words low high p q from clear next =
-    let set = is_clear_from words low in
-    let here : set p ≡ true = and_from (nat_le low p) _ (le-leb low p from) (ap not clear) in
-    let up_to : count_below set q ≡ count_below set (suc p) = count_below-cut set (suc p) q
-    (omega (arith, next.from)) (λ r above below. and_right (nat_le low r) _
-    (ap not (next.set r (omega arith) below))) in
-    up_to ∙ ap (λ b. if b then (count_below set p + 1) else count_below set p) here
+-- those of a part of one word are the clear bits of that part
+pub count_clear-word : (words : List ℕ) (low place wide : ℕ) → low ≤ place
+    → place % 64 + wide ≤ 64
+    → count_clear words low (place + wide) ≡ count_clear words low place
+    + clear_within (slice_index words (place / 64)) (place % 64) wide
+count_clear-word words low place wide above inside =
+    count_below-split (is_clear_from words low) place wide
+    ∙ ap (λ n. count_clear words low place + n) (count_below-same _ _ wide (λ i within.
+    ap (λ b. b && not (has_bit words (place + i))) (le-leb low (place + i) (omega arith))
+    ∙ ap not (in_word i within)))
+  where
+    in_word : (i : ℕ) → i < wide → has_bit words (place + i)
+        ≡ (bit_at (slice_index words (place / 64)) (place % 64 + i) == 1)
+    in_word i within =
+        let word : (place + i) / 64 ≡ place / 64 = omega arith in
+        let bit : (place + i) % 64 ≡ place % 64 + i = omega arith in
+        ap (λ k. bit_at (slice_index words k) ((place + i) % 64) == 1) word
+        ∙ ap (λ k. bit_at (slice_index words (place / 64)) k == 1) bit
 
 -- there are no more of them than places below
 pub count_clear-most : (words : List ℕ) (low p : ℕ) → count_clear words low p ≤ p

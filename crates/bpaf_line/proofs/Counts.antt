@@ -84,3 +84,17 @@ count_below-all f zero all = refl
 count_below-all f (suc n) all =
     let below = count_below-all f n (λ q l. all q (omega arith)) in
     rw (all n (omega arith), below) (omega arith)
+
+-- the numbers of a set below a sum are those below the first, and those of the rest
+pub count_below-split : (f : ℕ → Bool) (n k : ℕ)
+    → count_below f (n + k) ≡ count_below f n + count_below (λ i. f (n + i)) k
+count_below-split f n zero = let same : n + 0 ≡ n = omega arith in rw same (omega arith)
+count_below-split f n (suc k) =
+    let later : n + suc k ≡ suc (n + k) = omega arith in
+    ap (count_below f) later ∙ counted_more (f (n + k)) (count_below f (n + k)) (count_below f n)
+    (count_below (λ i. f (n + i)) k) (count_below-split f n k)
+  where
+    counted_more : (b : Bool) (all low rest : ℕ) → all ≡ low + rest
+        → (if b then (all + 1) else all) ≡ low + (if b then (rest + 1) else rest)
+    counted_more true all low rest e = omega arith
+    counted_more false all low rest e = e

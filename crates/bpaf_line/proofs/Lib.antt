@@ -1,4 +1,5 @@
 pub mod Counts
+pub mod WordBits
 pub mod BitLemmas
 pub mod Chained
 pub mod Places

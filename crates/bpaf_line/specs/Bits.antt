@@ -1,5 +1,5 @@
 -- A set of places, as bits in words of 64.
-use Rattle.std.specs.Prelude.{ℕ, ◌≡◌, ◌≢◌, ◌<◌, ◌≤◌, ◌/◌, ◌%◌, ◌==◌, ◌*◌, Bool, true, false, not}
+use Rattle.std.specs.Prelude.{ℕ, ◌≡◌, ◌≢◌, ◌+◌, ◌<◌, ◌≤◌, ◌/◌, ◌%◌, ◌==◌, ◌*◌, Bool, true, false, not}
 use Rattle.std.specs.Prelude.{◌&&◌, nat_le, List, length, slice_index, Option, None, Some, min}
 use Rattle.std.specs.Prelude.{if◌then◌else◌}
 use Rattle.std.specs.Int.{bit_at}
@@ -21,6 +21,23 @@ pub record IsFirstClear (words : List ℕ) (low high p : ℕ) : Type 0 where
   pub within : p ≤ high
   pub clear : p < high → has_bit words p ≡ false
   pub set : (q : ℕ) → low ≤ q → q < p → has_bit words q ≡ true
+
+-- the first place from one on, below another, whose bit is set; that other, where there is none
+pub record IsFirstSet (words : List ℕ) (low high p : ℕ) : Type 0 where
+  pub from : low ≤ p
+  pub within : p ≤ high
+  pub set : p < high → has_bit words p ≡ true
+  pub clear : (q : ℕ) → low ≤ q → q < p → has_bit words q ≡ false
+
+-- so many bits of a word of 64, from one on, are clear, and the next one isn't
+pub record IsClearRun (word low n : ℕ) : Type 0 where
+  pub within : low + n ≤ 64
+  pub clear : (i : ℕ) → low ≤ i → i < low + n → bit_at word i ≡ 0
+  pub set : low + n < 64 → bit_at word (low + n) ≡ 1
+
+-- how many of so many bits of a word, from one on, are clear
+abbrev pub clear_within : ℕ → ℕ → ℕ → ℕ
+clear_within word low wide = count_below (λ i. not (bit_at word (low + i) == 1)) wide
 
 -- a place is one from a place on, and its bit is not set
 abbrev pub is_clear_from : List ℕ → ℕ → ℕ → Bool

@@ -2,6 +2,7 @@
 ghost use Rattle.std.specs.Prelude.{◌≡◌, ◌≤◌, length, MatchOption};
 ghost use Rattle.bpaf_line.specs.Runs.{IsRunFrom, HasNoneInBoth, IsFirstInBoth};
 
+use crate::bits;
 use crate::state::State;
 use std::ops::Range;
 
@@ -14,12 +15,20 @@ impl State {
         ensures inside { place ≤ length self.now.context.line
             → result.end ≤ length self.now.context.line }
     {
-        let line = self.line_len();
-        let mut end = place;
-        while end < line && self.is_open(end) {
-            end += 1;
-        }
+        let end = self.run_end(place);
         place..end
+    }
+
+    /// Where the unbroken run of places from one on that are present and in scope ends.
+    ///
+    /// A word of 64 places is one step.
+    fn run_end(&self, place: usize) -> usize
+        ensures { IsRunFrom self.now place result }
+    {
+        if !self.is_open(place) {
+            return place;
+        }
+        bits::first_set(&self.words, place, self.end)
     }
 
     /// The places from the scope's start to the first one in scope that is present here and in the

@@ -1,6 +1,6 @@
 //! A set of places, as bits in words of 64.
-ghost use Rattle.std.specs.Prelude.{ℕ, ◌≡◌, ◌*◌, ◌<◌, ◌≤◌, length, true, false};
-ghost use Rattle.bpaf_line.specs.Bits.{has_bit, count_clear, lesser_of, is_on_as, is_in_first, AreWithin, ChangesBit, ChangesBits, IsFirstClear, IsLeastIn};
+ghost use Rattle.std.specs.Prelude.{ℕ, ◌≡◌, ◌+◌, ◌*◌, ◌<◌, ◌≤◌, length, true, false};
+ghost use Rattle.bpaf_line.specs.Bits.{has_bit, count_clear, clear_within, lesser_of, is_on_as, is_in_first, AreWithin, ChangesBit, ChangesBits, IsClearRun, IsFirstClear, IsFirstSet, IsLeastIn};
 ghost use Rattle.bpaf_line.specs.Situation.{is_on};
 
 /// Whether the bit of a place is set.
@@ -48,19 +48,66 @@ pub(crate) fn first_clear(words: &[u64], from: usize, end: usize) -> usize
     end
 }
 
+/// The first place from one on, below the end, whose bit is set; the end, where there is none.
+///
+/// A word of 64 places is one step.
+pub(crate) fn first_set(words: &[u64], from: usize, end: usize) -> usize
+    requires ordered { from ≤ end }
+    requires inside { end ≤ 64 * length words.now }
+    ensures { IsFirstSet words.now from end result }
+{
+    let mut place = from;
+    while place < end {
+        let clear = clear_run(words[place / 64], place % 64);
+        if place % 64 + clear < 64 {
+            return (place + clear).min(end);
+        }
+        place += clear.min(end - place);
+    }
+    end
+}
+
+/// How many bits of a word from one on are clear in a row.
+fn clear_run(word: u64, low: usize) -> usize
+    requires { low < 64 }
+    ensures { IsClearRun word low result }
+{
+    let clear = (word >> low).trailing_zeros() as usize;
+    clear.min(64 - low)
+}
+
 /// How many places from one on, below the end, have no bit set.
+///
+/// A word of 64 places is one step.
 pub(crate) fn count_clear(words: &[u64], from: usize, end: usize) -> usize
     requires ordered { from ≤ end }
     requires inside { end ≤ 64 * length words.now }
     ensures { result ≡ count_clear words.now from end }
 {
     let mut count = 0;
-    let mut place = first_clear(words, from, end);
+    let mut place = from;
     while place < end {
-        count += 1;
-        place = first_clear(words, place + 1, end);
+        let wide = (64 - place % 64).min(end - place);
+        count += clear_within(words[place / 64], place % 64, wide);
+        place += wide;
     }
     count
+}
+
+/// How many of so many bits of a word, from one on, are clear.
+fn clear_within(word: u64, low: usize, wide: usize) -> usize
+    requires some { 0 < wide }
+    requires inside { low + wide ≤ 64 }
+    ensures { result ≡ clear_within word low wide }
+{
+    if word == 0 {
+        return wide;
+    }
+    if word == u64::MAX {
+        return 0;
+    }
+    let mask = u64::MAX >> (64 - wide);
+    (!(word >> low) & mask).count_ones() as usize
 }
 
 /// Gives the bit of a place this value.
