@@ -8,12 +8,14 @@ use Rattle.std.specs.Rc.{rc_slice_items}
 use Rattle.std.specs.Prelude.{string_bytes}
 use Rattle.std.proofs.lemmas.Bool.{lt-ltb, and_right, or_right, or_left, eq-eqb}
 use Rattle.std.proofs.lemmas.Bool.Decides.{nat_tests}
+use Rattle.bpaf_line.specs.Remembered.{no_aside, IsRemembered}
 use Rattle.bpaf_line.specs.declared.state.State.TheInside.{Inside}
 use Rattle.bpaf_line.specs.Bits.{has_bit, IsFirstClear}
 use Rattle.bpaf_line.specs.Situation.{Situation, Context, beginning, open_count, is_open, is_taken}
 use Rattle.bpaf_line.specs.Situation.{is_marker, is_dealt_place, TakenInTurn, IsFirstPresent}
 use Rattle.bpaf_line.specs.Chained.{Chained, class_in, head_of, AreChainsOf}
 use Rattle.bpaf_line.specs.Inside.{situation_of, BitsOf, IsSound}
+use Rattle.bpaf_line.proofs.Remembered.{remembers_nothing}
 use Rattle.bpaf_line.proofs.Counts.{count_below-all, count_below-fewer}
 use Rattle.bpaf_line.proofs.Sound.{first_by_bits}
 
@@ -100,8 +102,9 @@ pub sound_beginning : (i : Inside) (context : Context) → situation_of i ≡ be
     → i.left ≡ length context.line - from_bool (is_some context.marker)
     → IsFirstClear i.words.items 0 (length context.line) i.first
     → IfSome i.chains (λ c. c.classes ≡ map (class_in (length c.heads)) context.line)
-    → IfSome i.chains (λ c. (p : ℕ) → p < length c.classes → head_of c p ≤ p) → IsSound i
-sound_beginning i context e marked worded bits room left clear classes heads =
+    → IfSome i.chains (λ c. (p : ℕ) → p < length c.classes → head_of c p ≤ p)
+    → i.aside ≡ no_aside → IsSound i
+sound_beginning i context e marked worded bits room left clear classes heads aside =
     let start = beginning context in
     let size : length (rc_slice_items i.items) ≡ length context.line = ap
     (λ s. length s.context.line) e in
@@ -118,6 +121,8 @@ sound_beginning i context e marked worded bits room left clear classes heads =
       first = subst (λ s. IsFirstPresent s i.first) (sym e)
           (first_by_bits start i.words.items 0 i.first (omega arith) set (omega arith)
           (λ q lower upper. absurd (omega arith)) clear);
+      aside = subst (IsRemembered (situation_of i)) (sym aside)
+          (remembers_nothing (situation_of i));
       chained = subst (λ s. IfSome i.chains (AreChainsOf s)) (sym e)
           (chains_beginning context i.chains classes heads);
       named = subst (λ s. IfSome s.context.name (λ n. slice_get s.path 0 ≡ Some n)) (sym e)

@@ -6,6 +6,7 @@ pub mod Places
 pub mod Matches
 pub mod Finding
 pub mod FirstPresent
+pub mod Remembered
 pub mod Sound
 pub mod OpenItems
 pub mod Conflicts

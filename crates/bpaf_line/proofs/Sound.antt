@@ -17,6 +17,8 @@ use Rattle.std.proofs.lemmas.List.{with_items_is, get_or_read}
 use Rattle.std.proofs.lemmas.Option.{slice_get-get_or}
 use Rattle.bpaf_words.specs.declared.arg.Arg.{Arg}
 use Rattle.bpaf_line.specs.declared.state.State.TheInside.{Inside}
+use Rattle.bpaf_line.specs.declared.aside.Aside.{Aside}
+use Rattle.bpaf_line.specs.Remembered.{no_aside, IsSurvey, IsRemembered}
 use Rattle.bpaf_line.specs.Bits.{has_bit, is_clear_from, count_clear, ChangesBit, IsFirstClear}
 use Rattle.bpaf_line.specs.Chained.{Chained, class_in, head_of, AreChainsOf, HavePassed, ReachBack}
 use Rattle.bpaf_line.specs.Chained.{IfChained}
@@ -25,6 +27,7 @@ use Rattle.bpaf_line.specs.Situation.{Situation, with_trail, with_scope, cut_to,
 use Rattle.bpaf_line.specs.Situation.{is_taken, is_on, in_scope, open_count, TakenInTurn}
 use Rattle.bpaf_line.specs.Situation.{IsFirstPresent, IsNextOpen, HasNoneOpen}
 use Rattle.bpaf_line.specs.Taking.{open_item}
+use Rattle.bpaf_line.proofs.Remembered.{remembers_nothing, remembers_put, remembers_cut}
 use Rattle.bpaf_line.proofs.Places.{put, put_here, put_other, put_stays, open_count-put}
 use Rattle.bpaf_line.proofs.Places.{in_turn_put, room_on_trail, last_put, in_turn_cut}
 use Rattle.bpaf_line.proofs.Places.{first_without, present_in_line, open_in_scope, open_not_taken}
@@ -114,6 +117,10 @@ with_parts s words trail left first chains =
       chains = chains;
     }
 
+-- and what is kept of a scope that was left beside it
+abbrev pub with_aside : Inside → Aside → Inside
+with_aside s aside = record s { aside = aside }
+
 -- it is sound with one place more
 pub sound_put : (s : Inside) (p : ℕ) (words : List ℕ) (trail : Vec ℕ Global) (left first : ℕ)
     (chains : Option Chained) → IsSound s → is_taken (situation_of s) p ≡ false
@@ -144,6 +151,8 @@ sound_put s p words trail left first chains h free change pushed grown counted n
           (first_by_bits new words s.first first h.inside bits h.first.from
           (λ q lower upper. put_stays (situation_of s) p q
           (h.first.passed q lower upper)) next);
+      aside = subst (λ t. IsRemembered t s.aside) (sym means)
+          (remembers_put (situation_of s) p s.aside h.aside);
       chained = subst (λ t. IfSome chains (AreChainsOf t)) (sym means)
           (chains_put (situation_of s) p words s.chains chains bits h.chained passed);
       named = h.named;
@@ -184,14 +193,17 @@ bits_untake s old new p bits change free q within = ⊎_elim
 
 -- it is sound without the last place
 pub sound_untake : (s : Inside) (p : ℕ) (words : List ℕ) (trail : Vec ℕ Global) (left first : ℕ)
-    (chains : Option Chained) → IsSound s → 0 < length s.trail.items → p
+    (aside : Aside) (chains : Option Chained) → IsSound s → 0 < length s.trail.items → p
     ≡ slice_index s.trail.items (length s.trail.items - 1)
     → ChangesBit s.words.items words p false → trail.items
     ≡ take (length s.trail.items - 1) s.trail.items → vec_capacity s.trail ≤ vec_capacity trail
     → left ≡ s.left + from_bool (in_scope (situation_of s) p) → first
     ≡ (if in_scope (situation_of s) p then min s.first p else s.first)
-    → IfChained (ReachBack p) s.chains chains → IsSound (with_parts s words trail left first chains)
-sound_untake s p words trail left first chains h some last change shorter same counted next back =
+    → aside ≡ (if nat_le s.aside.taken (length s.trail.items - 1) then s.aside else no_aside)
+    → IfChained (ReachBack p) s.chains chains
+    → IsSound (with_aside (with_parts s words trail left first chains) aside)
+sound_untake s p words trail left first aside chains h some last change shorter same counted next
+    kept back =
     let old = situation_of s in
     let n = length s.trail.items - 1 in
     let new = cut_to old n in
@@ -218,6 +230,9 @@ sound_untake s p words trail left first chains h some last change shorter same c
       counted = let now : left ≡ open_count new = omega (arith, h.counted) in now
           ∙ sym (ap open_count means);
       first = subst (λ t. IsFirstPresent t first) (sym means) earlier;
+      aside = subst (λ t. IsRemembered t aside) (sym means)
+          (subst (IsRemembered new) (sym kept)
+          (remembers_cut old n s.aside (omega arith) h.aside));
       chained = subst (λ t. IfSome chains (AreChainsOf t)) (sym means)
           (chains_untake new p s.chains chains (subst (λ t. IfSome s.chains (AreChainsOf t))
           (sym before) h.chained) back);
@@ -262,22 +277,33 @@ count_clear-open s words start end bits inside =
         and_it true = refl
         and_it false = refl
 
--- it is sound with another scope
-pub sound_scope : (s : Inside) (start end left first : ℕ) → IsSound s → start ≤ end → end
+-- a count by the bits is that of another scope
+pub survey_counted : (s : Inside) (start end left first : ℕ) → IsSound s → start ≤ end → end
     ≤ length (rc_slice_items s.items) → left ≡ count_clear s.words.items start end
-    → IsFirstClear s.words.items start end first
-    → IsSound (record s { start = start; end = end; left = left; first = first })
-sound_scope s start end left first h ordered inside counted clear = record {
+    → IsFirstClear s.words.items start end first → IsSurvey (situation_of s) start end left first
+survey_counted s start end left first h ordered inside counted clear = record {
+  counted = counted ∙ count_clear-open (situation_of s) s.words.items start end h.bits inside;
+  first = first_by_bits
+      (with_scope (situation_of s) start end) s.words.items start first inside h.bits (omega arith)
+      (λ q lower upper. absurd (omega arith)) clear;
+}
+
+-- it is sound with another scope
+pub sound_scope : (s : Inside) (start end left first : ℕ) (aside : Aside) → IsSound s
+    → start ≤ end → end ≤ length (rc_slice_items s.items)
+    → IsSurvey (situation_of s) start end left first
+    → IsRemembered (with_scope (situation_of s) start end) aside
+    → IsSound (record s { start = start; end = end; left = left; first = first; aside = aside })
+sound_scope s start end left first aside h ordered inside survey kept = record {
   worded = h.worded;
   bits = h.bits;
   room = h.room;
   in_turn = h.in_turn;
   ordered = ordered;
   inside = inside;
-  counted = counted ∙ count_clear-open (situation_of s) s.words.items start end h.bits inside;
-  first = first_by_bits
-      (with_scope (situation_of s) start end) s.words.items start first inside h.bits (omega arith)
-      (λ q lower upper. absurd (omega arith)) clear;
+  counted = survey.counted;
+  first = survey.first;
+  aside = kept;
   chained = chains_same (situation_of s) (with_scope (situation_of s) start end) s.chains refl
       (λ q. refl) h.chained;
   named = h.named;
@@ -316,6 +342,18 @@ sound_path s conflicts path h named = record {
     within = h.first.within;
     present = h.first.present;
     passed = h.first.passed;
+  };
+  aside = record {
+    taken = h.aside.taken;
+    survey = record {
+      counted = h.aside.survey.counted;
+      first = record {
+        from = h.aside.survey.first.from;
+        within = h.aside.survey.first.within;
+        present = h.aside.survey.first.present;
+        passed = h.aside.survey.first.passed;
+      };
+    };
   };
   chained = chains_same (situation_of s) (situation_of
       (record s { conflicts = conflicts; path = path })) s.chains refl (λ q. refl) h.chained;
@@ -437,8 +475,9 @@ next_found s from place found h some clear is =
 -- a state of the same situation, with equal bits and first place, is sound too
 pub sound_copy : (i j : Inside) → situation_of i ≡ situation_of j → i.chains ≡ j.chains
     → i.words.items ≡ j.words.items → i.left ≡ j.left → i.first ≡ j.first
+    → i.aside ≡ no_aside
     → length (rc_slice_items i.items) ≤ vec_capacity i.trail → IsSound j → IsSound i
-sound_copy i j same chains words left first room h =
+sound_copy i j same chains words left first aside room h =
     let count : length (rc_slice_items i.items) ≡ length (rc_slice_items j.items) = ap
     (λ s. length s.context.line) same in
     let end : i.end ≡ j.end = ap (λ s. s.end) same in
@@ -454,6 +493,8 @@ sound_copy i j same chains words left first room h =
       counted = left ∙ (h.counted ∙ sym (ap open_count same));
       first = subst (IsFirstPresent (situation_of i)) (sym first)
           (subst (λ s. IsFirstPresent s j.first) (sym same) h.first);
+      aside = subst (IsRemembered (situation_of i)) (sym aside)
+          (remembers_nothing (situation_of i));
       chained = subst (λ c. IfSome c (AreChainsOf (situation_of i))) (sym chains)
           (subst (λ s. IfSome j.chains (AreChainsOf s)) (sym same) h.chained);
       named = subst (λ s. IfSome s.context.name (λ n. slice_get s.path 0 ≡ Some n))

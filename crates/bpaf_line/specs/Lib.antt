@@ -5,6 +5,7 @@ pub mod Failure
 pub mod Situation
 pub mod Bits
 pub mod Changes
+pub mod Remembered
 pub mod Chained
 pub mod InsideChains
 pub mod Inside

@@ -6,6 +6,7 @@ ghost use Rattle.bpaf_line.specs.Constructing.{Constructs};
 ghost use Rattle.bpaf_line.specs.Bits.{has_bit};
 ghost use Rattle.bpaf_line.specs.Situation.{is_marker};
 
+use crate::aside::Aside;
 use crate::bits;
 use crate::chains::Chains;
 use crate::error::Message;
@@ -92,6 +93,7 @@ impl State {
             end,
             left,
             first,
+            aside: Aside::nothing(),
             path,
             name,
             current: None,
@@ -125,6 +127,7 @@ impl State {
             end: self.end,
             left: self.left,
             first: self.first,
+            aside: Aside::nothing(),
             path,
             name,
             current: self.current,

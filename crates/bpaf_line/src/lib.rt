@@ -29,6 +29,7 @@
 #![tactic(auto)]
 
 mod adjacent;
+mod aside;
 mod bits;
 mod chains;
 mod conflict;

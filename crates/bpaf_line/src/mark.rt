@@ -1,8 +1,10 @@
 //! Marks to which a parse goes back, and what it did since one, to be done again.
 ghost use Rattle.std.specs.Prelude.{◌≡◌, ◌++◌, ◌<◌, ◌≤◌, ◌-◌, length, min, if◌then◌else◌, IfOk, OnOk, OnErr};
 ghost use Rattle.bpaf_line.specs.Situation.{with_trail, with_scope, cut_to, PresentInTurn};
+ghost use Rattle.bpaf_line.specs.Remembered.{IsSurvey};
 ghost use Rattle.bpaf_line.specs.Marks.{mark_of, HasReached, Fits, undone, KeepsMarks, steps_since, CanRedo, redone};
 
+use crate::aside::Aside;
 use crate::construct::copy_path;
 use crate::state::{State, lies_within};
 use crate::taken::TakenPlaces;
@@ -144,18 +146,53 @@ impl State {
         let within = lies_within(place, self.start, self.end);
         self.left += usize::from(within);
         self.first = earlier(self.first, place, within);
+        self.aside = self.aside.up_to(last);
         chains::reach_back(&mut self.chains, place);
     }
 
-    /// Makes other places the scope; where they are those of the scope already, nothing is counted.
-    fn restore_scope(&mut self, start: usize, end: usize)
+    /// Makes other places the scope; where they are those of the scope already, nothing is done.
+    pub(crate) fn restore_scope(&mut self, start: usize, end: usize)
         requires ordered { start ≤ end }
         requires inside { end ≤ length self.old.context.line }
         ensures { self.new ≡ with_scope self.old start end }
     {
         if self.start != start || self.end != end {
-            self.set_scope(start..end);
+            self.change_scope(start, end);
         }
+    }
+
+    /// Makes other places the scope, and keeps what is known of the one that is left.
+    fn change_scope(&mut self, start: usize, end: usize)
+        requires ordered { start ≤ end }
+        requires inside { end ≤ length self.old.context.line }
+        ensures { self.new ≡ with_scope self.old start end }
+    {
+        let (left, first) = self.survey(start, end);
+        self.aside = Aside {
+            start: self.start,
+            end: self.end,
+            left: self.left,
+            first: self.first,
+            taken: self.trail.len(),
+        };
+        self.left = left;
+        self.first = first;
+        self.start = start;
+        self.end = end;
+    }
+
+    /// How many places are present in another scope, and which is the first; its end, where none is.
+    fn survey(&self, start: usize, end: usize) -> (usize, usize)
+        requires ordered { start ≤ end }
+        requires inside { end ≤ length self.now.context.line }
+        ensures { IsSurvey self.now start end result.0 result.1 }
+    {
+        if self.aside.is_of(start, end, self.trail.len()) {
+            return (self.aside.left, self.aside.first);
+        }
+        let left = bits::count_clear(&self.words, start, end);
+        let first = bits::first_clear(&self.words, start, end);
+        (left, first)
     }
 }
 

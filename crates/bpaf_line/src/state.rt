@@ -10,6 +10,7 @@ ghost use Rattle.bpaf_line.specs.Situation.{item_at, open_count, is_taken, is_op
 ghost use Rattle.bpaf_line.specs.Marks.{KeepsMarks};
 ghost use Rattle.bpaf_line.specs.Taking.{HasNone, IsFirst, value_after, open_item, entry_of};
 
+use crate::aside::Aside;
 use crate::bits;
 use crate::chains::{self, Chains};
 use crate::error::{Error, Message};
@@ -39,6 +40,7 @@ pub struct State {
     pub(crate) end: usize,
     pub(crate) left: usize,
     pub(crate) first: usize,
+    pub(crate) aside: Aside,
     pub(crate) path: Vec<String>,
     pub(crate) name: Option<Text>,
     pub(crate) current: Option<usize>,
@@ -86,17 +88,17 @@ impl State {
         self.start..self.end
     }
 
-    /// Makes other places the scope, perhaps none of them, and counts anew what is present there.
+    /// Makes other places the scope, perhaps none of them.
+    ///
+    /// What is present there is counted anew, but where they are those of the scope that was left
+    /// last, and as many places are taken as were then.
     pub fn set_scope(&mut self, scope: Range<usize>)
         requires ordered { scope.start ≤ scope.end }
         requires inside { scope.end ≤ length self.old.context.line }
         ensures scope { self.new ≡ with_scope self.old scope.start scope.end }
         ensures marks { KeepsMarks self.old self.new }
     {
-        self.left = bits::count_clear(&self.words, scope.start, scope.end);
-        self.first = bits::first_clear(&self.words, scope.start, scope.end);
-        self.start = scope.start;
-        self.end = scope.end;
+        self.restore_scope(scope.start, scope.end);
     }
 
     /// How many entries the path has.

@@ -12,10 +12,10 @@ use Rattle.bpaf_line.specs.Chained.{class_in}
 use Rattle.bpaf_line.specs.Inside.{situation_of}
 use Rattle.bpaf_line.proofs.Beginning.{sound_beginning, begins}
 use Rattle.bpaf_line.proofs.state.State.construct_by.Goals as goal
-use Rattle.bpaf_line.proofs.state.State.construct_by.Goals.{After-new}
+use Rattle.bpaf_line.proofs.state.State.construct_by.Goals.{After-nothing}
 
 -- the context of the line that was read
-context_is : After-new → Context
+context_is : After-nothing → Context
 context_is c = record {
   line = c.in_ok-line.line.items.items;
   marker = c.in_ok-line.line.marker;
@@ -24,7 +24,7 @@ context_is c = record {
 }
 
 -- what the state is made of
-inside : After-new → Inside
+inside : After-nothing → Inside
 inside c = record {
   items = c.in_ok-from_vec.field-0;
   marker = c.in_ok-line.line.marker;
@@ -37,17 +37,18 @@ inside c = record {
   end = c.len-end.result;
   left = c.len-end.result - c.from.result;
   first = c.first_clear-first.result;
+  aside = c.nothing.result;
   path = c.in_ok-path.path;
   name = c.in_ok-path.name;
   current = None;
 }
 
 -- the end of the scope is the end of the line
-size : (c : After-new) → c.len-end.result ≡ length c.in_ok-line.line.items.items
+size : (c : After-nothing) → c.len-end.result ≡ length c.in_ok-line.line.items.items
 size c = c.len-end.ensures ∙ c.in_ok-line.line.items.ok.0
 
 -- it is at the beginning of that line
-start : (c : After-new) → situation_of (inside c) ≡ beginning (context_is c)
+start : (c : After-nothing) → situation_of (inside c) ≡ beginning (context_is c)
 unfolding inside context_is
 start c = begins (inside c) (context_is c) c.in_ok-from_vec.ensures refl
     (c.in_ok-from_vec-2.ensures ∙ (c.in_ok-entries.ensures ∙ c.env.ensures))
@@ -71,7 +72,7 @@ invariant_of-result c =
     (subst (λ items. IfSome c.in_ok-chains.chains
     (λ chains. chains.classes ≡ map (class_in
     (length chains.heads)) items)) c.deref-2.ensures.value c.in_ok-chains.ensures.classes)
-    c.in_ok-chains.ensures.heads
+    c.in_ok-chains.ensures.heads c.nothing.ensures
 
 pub returns-clause-texts : goal.returns-clause-texts
 returns-clause-texts c = subst (All IsUtf8) c.words.ensures c.in_ok-line.ensures.texts

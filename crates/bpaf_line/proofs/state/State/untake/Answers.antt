@@ -1,6 +1,7 @@
 use Rattle.std.proofs.Common.{◌≡◌, ◌+◌, ◌-◌, ◌<◌, ◌∙◌, ap, subst, false, arith, length, take, min}
-use Rattle.std.proofs.Common.{if◌then◌else◌}
+use Rattle.std.proofs.Common.{if◌then◌else◌, nat_le}
 use Rattle.std.specs.Int.{from_bool}
+use Rattle.bpaf_line.specs.Remembered.{no_aside}
 use Rattle.bpaf_line.specs.Bits.{ChangesBit}
 use Rattle.bpaf_line.proofs.Sound.{sound_untake, left_below_count, last_read}
 use Rattle.bpaf_line.proofs.state.State.untake.Goals as goal
@@ -24,7 +25,7 @@ invariant_of-self c =
     let shorter : c.len-last.result - 1 ≡ length s.trail.items - 1 =
     omega (arith, c.len-last.ensures, s.trail.ok.0) in
     let last = last_read s _ _ c.len-last.ensures some c.index-place.ensures in
-    sound_untake s p c.clear.new.words c.truncate.new.self _ _ c.reach_back.new.chains
+    sound_untake s p c.clear.new.words c.truncate.new.self _ _ c.up_to-self-inside.result c.reach_back.new.chains
     c.self.invariant some last
     (subst (λ old. ChangesBit old c.clear.new.words p false) c.deref_mut.ensures.value
     c.clear.ensures)
@@ -32,4 +33,6 @@ invariant_of-self c =
     (omega (arith, c.truncate.ensures.capacity))
     (ap (λ n. s.left + n) (c.from.ensures ∙ ap from_bool c.lies_within-within.ensures))
     (c.earlier-self-inside.ensures ∙ ap (λ b.
-    if b then min s.first p else s.first) c.lies_within-within.ensures) c.reach_back.ensures
+    if b then min s.first p else s.first) c.lies_within-within.ensures)
+    (c.up_to-self-inside.ensures ∙ ap (λ n. if nat_le s.aside.taken n then s.aside else no_aside) shorter)
+    c.reach_back.ensures

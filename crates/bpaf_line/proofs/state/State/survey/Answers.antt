@@ -1,0 +1,20 @@
+use Rattle.std.proofs.Common.{◌≤◌, ◌∙◌, ap, subst, arith, length}
+use Rattle.std.specs.Rc.{rc_slice_items}
+use Rattle.bpaf_line.specs.Bits.{count_clear, IsFirstClear}
+use Rattle.bpaf_line.specs.Remembered.{IsSurvey}
+use Rattle.bpaf_line.proofs.Sound.{survey_counted}
+use Rattle.bpaf_line.proofs.state.State.survey.Goals as goal
+
+pub returns : goal.returns
+returns c =
+    let s = c.self.inside in
+    let inside : c.args.end ≤ length (rc_slice_items s.items) =
+    (let e = ap (λ t. length t.context.line) c.self.view_is in
+    omega (arith, e, c.requires.inside)) in
+    subst (λ t. IsSurvey t c.args.start c.args.end c.count_clear-left.result
+    c.first_clear-first.result) c.self.view_is
+    (survey_counted s c.args.start c.args.end _ _ c.self.invariant c.requires.ordered inside
+    (c.count_clear-left.ensures
+    ∙ ap (λ words. count_clear words c.args.start c.args.end) c.deref.ensures.value)
+    (subst (λ words. IsFirstClear words c.args.start c.args.end c.first_clear-first.result)
+    c.deref-2.ensures.value c.first_clear-first.ensures))
