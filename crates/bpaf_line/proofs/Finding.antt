@@ -1,12 +1,12 @@
 -- Finding: a key with one of some names has a number of one of those.
-use Rattle.std.proofs.Common.{◌≡◌, ◌≢◌, ℕ, ◌+◌, ◌<◌, ◌≤◌, ◌%◌, ◌==◌, Bool, true, false, ◌&&◌, ◌||◌}
+use Rattle.std.proofs.Common.{◌≡◌, ◌≢◌, ℕ, ◌+◌, ◌<◌, ◌≤◌, ◌%◌, ◌==◌, Bool, true, false, not, ◌&&◌, ◌||◌}
 use Rattle.std.proofs.Common.{List, [], ◌∷◌, ◌++◌, Option, Some, None, length, map, refl, ap, sym}
 use Rattle.std.proofs.Common.{◌∙◌, subst, arith, ⊎_elim, if◌then◌else◌, nat_lt, slice_get}
 use Rattle.std.proofs.Common.{slice_index, bytes_eq, MatchOption}
 use Rattle.std.specs.Bool.{then_some}
 use Rattle.std.specs.Option.{option_map_or}
 use Rattle.std.proofs.lemmas.Bool.{cases_lt, cases_eq, cases_Bool, true≢false, ltb-true, ltb-false}
-use Rattle.std.proofs.lemmas.Bool.{le-ltb, eq-eqb, ne_eqb, and_left, and_right, or_left, or_right}
+use Rattle.std.proofs.lemmas.Bool.{le-ltb, lt-leb, eq-eqb, ne_eqb, and_left, and_right, or_left, or_right}
 use Rattle.std.proofs.lemmas.List.{get_or-map}
 use Rattle.std.proofs.lemmas.List.Folds.{list_any-append}
 use Rattle.std.proofs.lemmas.Slice.Eq.{bytes_eq-Decides}
@@ -18,11 +18,28 @@ use Rattle.bpaf_words.specs.Items.{is_among, is_text_among, is_argument_key}
 use Rattle.bpaf_line.specs.Chained.{Chained, text_number, name_number, class_in, IsNextOf}
 use Rattle.bpaf_line.specs.Chained.{IsPlaceOf, AreChainsOf}
 use Rattle.bpaf_line.specs.Finding.{HasNoneAmong, IsFirstAmong}
-use Rattle.bpaf_line.specs.Situation.{Situation, is_marker, in_scope, item_at}
+use Rattle.bpaf_line.specs.Situation.{Situation, is_marker, in_scope, is_open, item_at}
+use Rattle.bpaf_line.specs.Situation.{IsFirstPresent}
 use Rattle.bpaf_line.specs.Taking.{open_item, is_match, HasNone, IsFirst}
 use Rattle.bpaf_line.proofs.Chained.{classes_size}
 use Rattle.bpaf_line.proofs.Matches.{open_item_there}
 use Rattle.bpaf_line.proofs.Places.{open_not_taken}
+
+-- the first present place of the scope has the first item that passes a test, where its item does
+pub first_at_front : (test : Arg → Bool) (s : Situation) (p : ℕ) → IsFirstPresent s p
+    → is_match test s p ≡ true → IsFirst test s p
+first_at_front test s p front passes = record {
+  matches = passes;
+  first = λ q below. ap (λ b. option_map_or test (if b then item_at s q else None) false)
+      (closed q below);
+}
+  where
+    closed : (q : ℕ) → q < p → is_open s q ≡ false
+    closed q below = ⊎_elim
+        (λ (before : q < s.start). and_left _ _ (and_left _ _ (lt-leb s.start q before)))
+        (λ (behind : s.start ≤ q). and_right (in_scope s q) _
+        (ap not (front.passed q behind below)))
+        (cases_lt q s.start)
 
 -- an open item is the one that the line has there
 item_of_line : (s : Situation) (p : ℕ) (item : Arg) → open_item s p ≡ Some item

@@ -1,5 +1,5 @@
 //! The first key with one of some names, found along the chains of those names.
-ghost use Rattle.std.specs.Prelude.{◌≡◌, ◌≤◌, [], ◌∷◌, MatchOption, length, map};
+ghost use Rattle.std.specs.Prelude.{◌≡◌, ◌≤◌, [], ◌∷◌, IfSome, MatchOption, length, map};
 ghost use Rattle.bpaf_words.specs.Items.{is_argument_key};
 ghost use Rattle.bpaf_line.specs.Chained.{AreChainsOf, text_number};
 ghost use Rattle.bpaf_line.specs.Finding.{IsFirstAmong};
@@ -10,11 +10,16 @@ use crate::state::State;
 use bpaf_doc::Text;
 use bpaf_words::is_argument_key;
 
+/// A scope with no more places from the first present one on is narrow: to look at all of them costs
+/// less than a walk along chains that begin in front of it.
+const NARROW_SCOPE: usize = 8;
+
 impl State {
     /// The first key that is present, in scope, and has one of the names; under `adjacent` the first
     /// attached one. It takes no memory.
     ///
-    /// On a long line only the places chained with one of the names are looked at.
+    /// On a long line the first present place of the scope is looked at, and then only the places
+    /// chained with one of the names; in a narrow scope each of its places.
     pub(crate) fn first_key(&self, shorts: &[char], longs: &[Text], adjacent: bool) -> Option<usize>
         ensures { MatchOption result
             (HasNone (is_argument_key (record { shorts = shorts.now; longs = longs.now }) adjacent)
@@ -22,15 +27,28 @@ impl State {
             (IsFirst (is_argument_key (record { shorts = shorts.now; longs = longs.now }) adjacent)
             self.now) }
     {
-        let Some(chains) = &self.chains else {
+        let Some(chains) = self.chains_of_scope() else {
             let (place, _) = self.first_open(move |item| is_argument_key(
                 item, shorts, longs, adjacent,
             ))?;
             return Some(place);
         };
+        if self.is_key_at(self.first, shorts, longs, adjacent) {
+            return Some(self.first);
+        }
         let place = self.first_short_key(chains, shorts, longs, adjacent);
         let place = self.first_long_key(chains, place, shorts, longs, adjacent);
         (place < self.end).then_some(place)
+    }
+
+    /// The chains of the line, where it has some and the scope isn't narrow.
+    fn chains_of_scope(&self) -> Option<&Chains>
+        ensures { IfSome result (λ chains. AreChainsOf self.now chains.now) }
+    {
+        if self.end - self.first <= NARROW_SCOPE {
+            return None;
+        }
+        self.chains.as_ref()
     }
 
     /// The first such key with a number that is that of a short name; the scope's end, where there is
