@@ -1,7 +1,7 @@
 //! The last earlier key of the same name.
 ghost use Rattle.std.specs.Prelude.{◌≡◌, MatchOption, Some};
 ghost use Rattle.bpaf_line.specs.Situation.{line_item};
-ghost use Rattle.bpaf_messages.specs.EarlierKey.{have_one_name, repeats, IsEarlierKey, HasNoEarlierKey};
+ghost use Rattle.bpaf_messages.specs.EarlierKey.{have_one_name, is_key, repeats, IsEarlierKey, HasNoEarlierKey};
 
 use bpaf_line::State;
 use bpaf_words::Arg;
@@ -17,6 +17,13 @@ fn have_one_name(item: &Arg, other: &Arg) -> bool
     }
 }
 
+/// Whether an item is a key.
+fn is_key(item: &Arg) -> bool
+    ensures { result ≡ is_key item.now }
+{
+    matches!(item, Arg::Short(..) | Arg::Long(..))
+}
+
 /// Where the item at a place of the line is a key, the last place before it whose item is a key of
 /// the same kind and name, taken or not, attached or not; else None. It takes no memory.
 pub fn earlier_key(state: &State, place: usize) -> Option<usize>
@@ -24,6 +31,9 @@ pub fn earlier_key(state: &State, place: usize) -> Option<usize>
         (HasNoEarlierKey state.now place) (IsEarlierKey state.now place) }
 {
     let item = state.line_item(place)?;
+    if !is_key(item) {
+        return None;
+    }
     let mut later = place;
     while later > 0 {
         later -= 1;
