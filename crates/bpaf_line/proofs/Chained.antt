@@ -1,17 +1,17 @@
 -- Chains: how a line's places are linked, and how a walk along the links goes.
-use Rattle.std.proofs.Common.{◌≡◌, ◌≢◌, ℕ, zero, suc, refl, ◌+◌, ◌<◌, ◌≤◌, true, List, [], ◌∷◌}
+use Rattle.std.proofs.Common.{◌≡◌, ◌≢◌, ℕ, zero, suc, refl, ◌+◌, ◌-◌, ◌%◌, ◌<◌, ◌≤◌, true, false, Bool, List, [], ◌∷◌}
 use Rattle.std.proofs.Common.{length, map, ap, sym, ◌∙◌, subst, arith, ⊎_elim, get_or, slice_index}
-use Rattle.std.proofs.Common.{slice_index_or, slice_set, length-set, get_or-set_same}
+use Rattle.std.proofs.Common.{slice_index_or, slice_set, nat_lt, if◌then◌else◌, length-set, get_or-set_same}
 use Rattle.std.proofs.Common.{get_or-set_other}
 use Rattle.std.specs.Rc.{rc_slice_items}
 use Rattle.std.specs.Vec.{with_item}
 use Rattle.std.proofs.Math.Nat.{mod-lt}
-use Rattle.std.proofs.lemmas.Bool.{cases_lt, cases_eq}
+use Rattle.std.proofs.lemmas.Bool.{cases_lt, cases_eq, ltb-true}
 use Rattle.std.proofs.lemmas.List.{get_or_read, length-map}
 use Rattle.bpaf_words.specs.declared.arg.Arg.{Arg}
 use Rattle.bpaf_line.specs.declared.chains.Chains.TheInside.{Inside}
 use Rattle.bpaf_line.specs.Bits.{has_bit}
-use Rattle.bpaf_line.specs.Chained.{IsNextOf, IsPlaceOf, HasWalked, class_in}
+use Rattle.bpaf_line.specs.Chained.{IsNextOf, IsPlaceOf, HasWalked, name_number, class_in, class_of}
 use Rattle.bpaf_line.specs.InsideChains.{IsLinked}
 
 -- the places from one on are linked, and each class to its first place from there on
@@ -47,11 +47,20 @@ walked_more classes words from p next walked below set link = record {
       (cases_lt q p);
 }
 
--- the class of an item is one of so many
-pub class_below : (items : List Arg) (count : ℕ) → 0 < count → (p : ℕ) → p < length items
+-- the class of a number is one of so many
+pub class_of_below : (count number : ℕ) → 128 < count → class_of count number < count
+class_of_below count number some = by_test (nat_lt number 128) refl
+  where
+    by_test : (b : Bool) → nat_lt number 128 ≡ b
+        → (if b then number else 128 + number % (count - 128)) < count
+    by_test true e = let own : number < 128 = ltb-true number 128 e in omega arith
+    by_test false e = let low : number % (count - 128) < count - 128 = mod-lt number (omega arith) in omega arith
+
+-- and so is that of an item
+pub class_below : (items : List Arg) (count : ℕ) → 128 < count → (p : ℕ) → p < length items
     → slice_index (map (class_in count) items) p < count
 class_below [] count some p within = absurd (omega arith)
-class_below (item ∷ items) count some zero within = mod-lt _ some
+class_below (item ∷ items) count some zero within = class_of_below count (name_number item) some
 class_below (item ∷ items) count some (suc p) within = class_below items count some p (omega arith)
 
 -- a beginning that is written is a place of its class, where the new one is
@@ -94,7 +103,7 @@ linked_passed s classes place from head h same within read walked =
 -- the links are right where they are those of a line's places, and each chain begins at its first
 -- place
 pub linked_first : (s : Inside) (classes next heads : List ℕ) → rc_slice_items s.classes ≡ classes
-    → rc_slice_items s.next ≡ next → s.heads.items ≡ heads → 0 < length heads → length next
+    → rc_slice_items s.next ≡ next → s.heads.items ≡ heads → 128 < length heads → length next
     ≡ length classes
     → ((p : ℕ) → p < length classes → slice_index classes p < length heads)
     → ((p : ℕ) → p < length classes → IsNextOf classes (slice_index classes p) (p + 1)
@@ -125,7 +134,7 @@ classes_size items classes count are = ap length are ∙ length-map items (class
 
 -- and below their number
 pub classes_below : (items : List Arg) (classes : List ℕ) (count : ℕ) → classes
-    ≡ map (class_in count) items → 0 < count → (p : ℕ) → p < length classes → slice_index classes p
+    ≡ map (class_in count) items → 128 < count → (p : ℕ) → p < length classes → slice_index classes p
     < count
 classes_below items classes count are some p within =
     subst (λ xs. slice_index xs p < count) (sym are)

@@ -1,5 +1,5 @@
 -- Finding: a key with one of some names has a number of one of those.
-use Rattle.std.proofs.Common.{◌≡◌, ◌≢◌, ℕ, ◌+◌, ◌<◌, ◌≤◌, ◌%◌, ◌==◌, Bool, true, false, not, ◌&&◌, ◌||◌}
+use Rattle.std.proofs.Common.{◌≡◌, ◌≢◌, ℕ, ◌+◌, ◌<◌, ◌≤◌, ◌==◌, Bool, true, false, not, ◌&&◌, ◌||◌}
 use Rattle.std.proofs.Common.{List, [], ◌∷◌, ◌++◌, Option, Some, None, length, map, refl, ap, sym}
 use Rattle.std.proofs.Common.{◌∙◌, subst, arith, ⊎_elim, if◌then◌else◌, nat_lt, slice_get}
 use Rattle.std.proofs.Common.{slice_index, bytes_eq, MatchOption}
@@ -15,7 +15,7 @@ use Rattle.bpaf_doc.specs.Names.{Names}
 use Rattle.bpaf_words.specs.declared.arg.Arg.{Arg}
 use Rattle.bpaf_words.specs.declared.arg.Arg.TheVariants.{Short, Long, ArgWord, Word, PosWord}
 use Rattle.bpaf_words.specs.Items.{is_among, is_text_among, is_argument_key}
-use Rattle.bpaf_line.specs.Chained.{Chained, text_number, name_number, class_in, IsNextOf}
+use Rattle.bpaf_line.specs.Chained.{Chained, text_number, name_number, class_in, class_of, IsNextOf}
 use Rattle.bpaf_line.specs.Chained.{IsPlaceOf, AreChainsOf}
 use Rattle.bpaf_line.specs.Finding.{HasNoneAmong, IsFirstAmong}
 use Rattle.bpaf_line.specs.Situation.{Situation, is_marker, in_scope, is_open, item_at}
@@ -67,12 +67,13 @@ not_among_one number other differ = ap (λ b. b || false) (ne_eqb number other (
 
 -- no item of the number stands before the beginning of the number's chain
 pub none_before_head : (test : Arg → Bool) (s : Situation) (chains : Chained) (number head : ℕ)
-    → AreChainsOf s chains → head ≡ slice_index chains.heads (number % length chains.heads)
+    → AreChainsOf s chains → head ≡ slice_index chains.heads
+    (class_of (length chains.heads) number)
     → HasNoneAmong test (number ∷ []) s head
 none_before_head test s chains number head h is q item before there passes =
     not_among_one number (name_number item) (λ same.
-    let class : slice_index chains.classes q ≡ number % length chains.heads =
-    class_at s chains q item h there ∙ ap (λ n. n % length chains.heads) same in
+    let class : slice_index chains.classes q ≡ class_of (length chains.heads) number =
+    class_at s chains q item h there ∙ ap (class_of (length chains.heads)) same in
     let begin : slice_index chains.heads (slice_index chains.classes q)
     ≡ head = ap (slice_index chains.heads) class ∙ sym is in
     let inside : q < length chains.classes = omega (
@@ -88,7 +89,7 @@ none_before_head test s chains number head h is q item before there passes =
 -- nor before the next place of a chain, where the one before it has no such item
 pub none_before_next : (test : Arg → Bool) (s : Situation) (chains : Chained) (number p next : ℕ)
     → AreChainsOf s chains → p < length chains.classes
-    → IsPlaceOf chains.classes (number % length chains.heads) p
+    → IsPlaceOf chains.classes (class_of (length chains.heads) number) p
     → is_match test s p ≡ false → IsNextOf chains.classes (slice_index chains.classes p)
     (p + 1) next → HasNoneAmong test (number ∷ []) s p → HasNoneAmong test (number ∷ []) s next
 none_before_next test s chains number p next h below here closed link none q item before there
@@ -98,7 +99,7 @@ none_before_next test s chains number p next h below here closed link none q ite
     (λ (at : q ≡ p). true≢false (sym (ap (λ found. option_map_or test found false) there ∙ passes)
     ∙ (ap (is_match test s) at ∙ closed)))
     (λ (behind : q ≢ p). link.between q (omega arith) before
-    (class_at s chains q item h there ∙ (ap (λ n. n % length chains.heads) same
+    (class_at s chains q item h there ∙ (ap (class_of (length chains.heads)) same
     ∙ sym (here below))))
     (cases_eq q p)))
     (cases_lt q p)

@@ -1,16 +1,16 @@
 -- The places of a line, chained by the names of their items. No contract above this crate speaks of
 -- them.
 use Rattle.std.specs.Prelude.{ℕ, ◌≡◌, ◌≢◌, ◌+◌, ◌*◌, ◌%◌, ◌^◌, ◌<◌, ◌≤◌, true, List, [], ◌∷◌}
-use Rattle.std.specs.Prelude.{length, map, slice_index, Option, Some, None, ⊤}
+use Rattle.std.specs.Prelude.{length, map, slice_index, Option, Some, None, ⊤, nat_lt, ◌-◌, if◌then◌else◌}
 use Rattle.bpaf_words.specs.declared.arg.Arg.{Arg}
 use Rattle.bpaf_words.specs.declared.arg.Arg.TheVariants.{Short, Long, ArgWord, Word, PosWord}
 use Rattle.bpaf_line.specs.Bits.{has_bit}
 use Rattle.bpaf_line.specs.Situation.{Situation, is_taken}
 
--- a number of a text
+-- a number of a text, below 128 only of the empty one
 abbrev pub text_number : ℕ → List ℕ → ℕ
 text_number number [] = number
-text_number number (byte ∷ later) = text_number ((number * 31 + byte) % 2 ^ 32) later
+text_number number (byte ∷ later) = text_number ((number * 31 + byte) % 2 ^ 32 + 128) later
 
 -- a number of an item's name, the same for the same name
 abbrev pub name_number : Arg → ℕ
@@ -20,9 +20,13 @@ name_number (ArgWord text) = 0
 name_number (Word text) = 0
 name_number (PosWord text) = 0
 
+-- the class of a number, of so many; each number below 128 is alone in its own
+abbrev pub class_of : ℕ → ℕ → ℕ
+class_of count number = if nat_lt number 128 then number else 128 + number % (count - 128)
+
 -- the class of an item, of so many
 abbrev pub class_in : ℕ → Arg → ℕ
-class_in count item = name_number item % count
+class_in count item = class_of count (name_number item)
 
 -- the class of each place, and for each class the place at which its chain begins
 pub record Chained : Type 0 where

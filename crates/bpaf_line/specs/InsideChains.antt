@@ -11,7 +11,7 @@ chained_of s = record { classes = rc_slice_items s.classes; heads = s.heads.item
 -- each place has its next one, each class is one of them, and each chain begins at one of its
 -- places
 pub record IsLinked (s : Inside) : Type 0 where
-  pub some : 0 < length s.heads.items
+  pub some : 128 < length s.heads.items
   pub whole : length (rc_slice_items s.next) ≡ length (rc_slice_items s.classes)
   pub linked : (p : ℕ) → p < length (rc_slice_items s.classes)
       → IsNextOf (rc_slice_items s.classes) (slice_index (rc_slice_items s.classes) p) (p + 1)

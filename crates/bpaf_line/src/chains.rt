@@ -1,6 +1,6 @@
 //! The places of a line, chained by the names of their items.
-ghost use Rattle.std.specs.Prelude.{ℕ, ◌≡◌, ◌*◌, ◌%◌, ◌+◌, ◌<◌, ◌≤◌, IfOk, IfSome, MatchOption, length, map, slice_index};
-ghost use Rattle.bpaf_line.specs.Chained.{text_number, name_number, class_in, head_of, IsNextOf, IsPlaceOf, HasWalked, HavePassed, ReachBack, IfChained};
+ghost use Rattle.std.specs.Prelude.{ℕ, ◌≡◌, ◌*◌, ◌+◌, ◌<◌, ◌≤◌, IfOk, IfSome, MatchOption, length, map, slice_index};
+ghost use Rattle.bpaf_line.specs.Chained.{text_number, name_number, class_in, class_of, head_of, IsNextOf, IsPlaceOf, HasWalked, HavePassed, ReachBack, IfChained};
 
 use crate::bits;
 use bpaf_words::Arg;
@@ -10,6 +10,9 @@ use std::rc::RcSlice;
 
 /// A line of no more places has no chains: to look at all of them costs less.
 const SHORT_LINE: usize = 32;
+
+/// So many classes hold one short name each, which are those of ASCII.
+const OWN_CLASSES: usize = 128;
 
 /// The places of a line, each linked to the next one of its class, and for each class the place at
 /// which its chain begins. Items of the same name are of one class.
@@ -35,7 +38,8 @@ impl Model for Chains {
 }
 
 impl Chains {
-    /// The chains of a line, which has as many classes as places; none of a short one.
+    /// The chains of a line, where it isn't a short one: as many classes as places, and one for each short name
+    /// of ASCII.
     ///
     /// Refused only for want of memory.
     pub(crate) fn of_line(alloc: Global, items: &[Arg]) -> Result<Option<Chains>, AllocError>
@@ -58,10 +62,11 @@ impl Chains {
         ensures heads { IfOk result (λ chains. (p : ℕ)
             → p < length chains.classes → head_of chains p ≤ p) }
     {
-        let count = items.len();
+        let places = items.len();
+        let count = OWN_CLASSES + places;
         let classes = classes_of(alloc, items, count)?;
-        let mut next = vec![in alloc; count; count]?;
-        let mut heads = vec![in alloc; count; count]?;
+        let mut next = vec![in alloc; places; places]?;
+        let mut heads = vec![in alloc; places; count]?;
         link(&classes, &mut next, &mut heads);
         Ok(Chains {
             classes: RcSlice::from_vec(classes)?,
@@ -94,10 +99,12 @@ impl Chains {
 
     /// The place at which the chain of a name begins.
     pub(crate) fn head(&self, number: usize) -> usize
-        ensures head { result ≡ slice_index self.now.heads (number % length self.now.heads) }
-        ensures place { IsPlaceOf self.now.classes (number % length self.now.heads) result }
+        ensures head { result ≡ slice_index self.now.heads
+            (class_of (length self.now.heads) number) }
+        ensures place { IsPlaceOf self.now.classes
+            (class_of (length self.now.heads) number) result }
     {
-        self.heads[number % self.heads.len()]
+        self.heads[class_of(number, self.heads.len())]
     }
 
     /// The next place of a place's class.
@@ -170,13 +177,13 @@ pub(crate) fn reach_back(chains: &mut Option<Chains>, place: usize)
     }
 }
 
-/// A number of a text.
+/// A number of a text, below the own classes only of the empty one.
 pub(crate) fn text_number(text: &str) -> usize
     ensures { result ≡ text_number 0 text.now }
 {
     let mut number = 0;
     for byte in text.as_bytes() {
-        number = (number * 31 + usize::from(*byte)) % (1 << 32);
+        number = (number * 31 + usize::from(*byte)) % (1 << 32) + OWN_CLASSES;
     }
     number
 }
@@ -192,14 +199,25 @@ fn name_number(item: &Arg) -> usize
     }
 }
 
+/// The class of a number, of so many; each number below the own classes is alone in its own.
+fn class_of(number: usize, count: usize) -> usize
+    requires { 128 < count }
+    ensures { result ≡ class_of count number }
+{
+    if number < OWN_CLASSES {
+        return number;
+    }
+    OWN_CLASSES + number % (count - OWN_CLASSES)
+}
+
 /// The class of each item, of so many.
 fn classes_of(alloc: Global, items: &[Arg], count: usize) -> Result<Vec<usize>, AllocError>
-    requires { 0 < count }
+    requires { 128 < count }
     ensures { IfOk result (λ classes. classes.items ≡ map (class_in count) items.now) }
 {
     let mut classes = Vec::with_capacity(alloc, items.len())?;
     for item in items {
-        classes.push(name_number(item) % count)?;
+        classes.push(class_of(name_number(item), count))?;
     }
     Ok(classes)
 }

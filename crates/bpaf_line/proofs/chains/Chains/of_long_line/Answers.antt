@@ -1,4 +1,4 @@
-use Rattle.std.proofs.Common.{◌∙◌, sym, arith, length}
+use Rattle.std.proofs.Common.{◌∙◌, ◌+◌, sym, arith, length}
 use Rattle.std.proofs.lemmas.List.{with_items_is}
 use Rattle.bpaf_line.proofs.Chained.{classes_size, classes_below, linked_first}
 use Rattle.bpaf_line.proofs.chains.Chains.of_long_line.Goals as goal
@@ -6,8 +6,8 @@ use Rattle.bpaf_line.proofs.chains.Chains.of_long_line.Goals as goal
 pub link-requires-clause-numbered : goal.link-requires-clause-numbered
 link-requires-clause-numbered c p within =
     let items = c.args.items.now in
-    let below = classes_below items c.deref.result.now (length items)
-    (c.deref.ensures.value ∙ c.in_ok-classes.ensures) c.requires p within in
+    let below = classes_below items c.deref.result.now (128 + length items)
+    (c.deref.ensures.value ∙ c.in_ok-classes.ensures) (omega (arith, c.requires)) p within in
     omega (arith, below, c.deref_mut-2.ensures.len, c.in_ok-heads.ensures.len)
 
 pub invariant_of-result : goal.invariant_of-result
@@ -33,12 +33,12 @@ invariant_of-result c =
       c.link.auto.next,
       c.deref_mut.ensures.len,
       c.in_ok-next.ensures.len,
-      classes_size items c.deref.result.now (length items) are,
+      classes_size items c.deref.result.now (128 + length items) are,
     ))
     (λ p within. omega (
       arith,
       classes_below items c.deref.result.now
-          (length items) are c.requires p within,
+          (128 + length items) are (omega (arith, c.requires)) p within,
       c.link.auto.heads,
       c.deref_mut-2.ensures.len,
       c.in_ok-heads.ensures.len,
