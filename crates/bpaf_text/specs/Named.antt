@@ -50,11 +50,13 @@ flag_part named =
     (shown_name named.names)
 
 -- a key with a value, as contracts see it: what the key holds, what stands for the value where the
--- key is shown, and whether only a key with its value in its own word counts
+-- key is shown, whether only a key with its value in its own word counts, and whether all such keys
+-- are taken at once, of which the last one's value counts
 pub record KeyWithValue : Type 0 where
   pub named : Named
   pub metavar : List ℕ
   pub adjacent : Bool
+  pub last : Bool
 
 -- the part that a key with a value shows; none where it has no short and no long name
 abbrev pub argument_part : KeyWithValue → Option Part

@@ -192,7 +192,12 @@ impl NamedArg {
     /// long(alloc, "size")?.argument::<u32>("NUM")
     /// ```
     pub fn argument<T>(self, metavar: &'static str) -> ParseArgument<T>
-        ensures { result ≡ record { named = self; metavar = metavar.now; adjacent = false } }
+        ensures { result ≡ record {
+          named = self;
+          metavar = metavar.now;
+          adjacent = false;
+          last = false;
+        } }
     {
         build_argument(self, metavar)
     }
@@ -221,6 +226,7 @@ impl NamedArg {
               named = self.now;
               metavar = metavar.0.now;
               adjacent = false;
+              last = false;
             })) }
     {
         match self.shown_name(alloc)? {

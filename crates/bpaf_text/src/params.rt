@@ -31,6 +31,8 @@ pub struct ParseArgument<T> {
     pub metavar: Metavar,
     /// Whether only a key with its value in its own word counts.
     pub adjacent: bool,
+    /// Whether all its keys are taken at once, and the value of the last one counts.
+    pub last: bool,
     /// The type of the value.
     pub of: PhantomData<T>,
 }
@@ -45,6 +47,7 @@ impl<T> Model for ParseArgument<T> {
           named = argument.named;
           metavar = argument.metavar.0.now;
           adjacent = argument.adjacent;
+          last = argument.last;
         } };
 }
 
@@ -104,6 +107,21 @@ impl<T> ParseArgument<T> {
         self
     }
 
+    /// The argument that takes all its keys at once, each with its value, and reads the last value
+    /// alone; bpaf has no such call. It takes no memory.
+    ///
+    /// The earlier values needn't be readable. A key without a value is refused as for any argument.
+    ///
+    /// ```text
+    /// short(alloc, 'n')?.argument::<u64>("NUM").take_last()     reads 4 off `-n 3 -n 4`
+    /// ```
+    pub fn take_last(mut self) -> ParseArgument<T>
+        ensures { result ≡ record self { last = true } }
+    {
+        self.last = true;
+        self
+    }
+
     /// An equal argument; refused only for want of memory.
     pub fn copy(&self) -> Result<ParseArgument<T>, AllocError>
         ensures { IfOk result (λ argument. argument ≡ self.now) }
@@ -112,6 +130,7 @@ impl<T> ParseArgument<T> {
             named: self.named.copy()?,
             metavar: self.metavar,
             adjacent: self.adjacent,
+            last: self.last,
             of: PhantomData,
         })
     }
@@ -130,12 +149,18 @@ pub(crate) fn build_flag_parser<T>(present: T, absent: Option<T>, named: NamedAr
 
 /// An argument of these parts.
 pub(crate) fn build_argument<T>(named: NamedArg, metavar: &'static str) -> ParseArgument<T>
-    ensures { result ≡ record { named = named; metavar = metavar.now; adjacent = false } }
+    ensures { result ≡ record {
+      named = named;
+      metavar = metavar.now;
+      adjacent = false;
+      last = false;
+    } }
 {
     ParseArgument {
         named,
         metavar: Metavar(metavar),
         adjacent: false,
+        last: false,
         of: PhantomData,
     }
 }
