@@ -1,66 +1,83 @@
 -- Arguments keep to the laws.
-use Rattle.std.specs.Prelude.{◌≡◌, ◌≢◌, ℕ, ◌+◌, true, not, ◌&&◌, List, Some, option_and_then}
-use Rattle.std.proofs.Common.{sym, subst, ap, ◌∙◌, ⊎_elim, arith}
+use Rattle.std.specs.Prelude.{ℕ, ◌+◌, Bool, true, false, List}
+use Rattle.std.proofs.Common.{sym, subst, ◌∙◌, ⊎_elim, true≢false}
 use Rattle.bpaf_text.specs.Named.{KeyWithValue}
-use Rattle.bpaf_words.specs.Items.{value_text}
-use Rattle.bpaf_line.specs.Situation.{Situation, is_open, in_scope, item_at, take_place}
-use Rattle.bpaf_line.proofs.Places.{taken_other}
+use Rattle.bpaf_line.specs.Situation.{Situation}
+use Rattle.bpaf_line.proofs.Matches.{match_has_item}
 use Rattle.bpaf_line.specs.declared.error.Message.{Message}
 use Rattle.bpaf_line.specs.declared.error.Message.TheVariants.{Memory, ParseFailed, NoArgument}
 use Rattle.bpaf_laws.specs.Reading.{Readings}
-use Rattle.bpaf_laws.specs.Laws.{Keeps, Reads, Lawful}
-use Rattle.bpaf_laws.proofs.Keeping.{keeps_same, keeps_unset, keeps_trans, reads_unset, closes_take_both, keeps_take, newly_none, newly_take_both}
-use Rattle.bpaf_line.proofs.Matches.{match_is_open, match_has_item, value_is_open}
-use Rattle.bpaf_laws.specs.Argument.{is_key_with_value, TakesKeyWithText, ArgumentReads, behind_key, in_variable, ArgumentOutcome, ArgumentFails, GetsText, ReadsVariable}
+use Rattle.bpaf_laws.specs.Laws.{Keeps, Closes, Reads, Lawful, newly}
+use Rattle.bpaf_laws.proofs.Keeping.{keeps_same, keeps_unset, reads_unset, closes_take_both}
+use Rattle.bpaf_laws.proofs.Keeping.{newly_none, newly_take_both}
+use Rattle.bpaf_laws.proofs.KeysTaken.{key_open, value_there, value_open, value_keeps}
+use Rattle.bpaf_laws.proofs.KeysTaken.{took_keys, took_last}
+use Rattle.bpaf_laws.specs.Argument.{is_key_with_value, TakesKeyWithText, TakesOwnText, IsOwnText}
+use Rattle.bpaf_laws.specs.Argument.{TakesBefore, ArgumentReads, behind_key, in_variable}
+use Rattle.bpaf_laws.specs.Argument.{ArgumentOutcome, ArgumentFails, GetsText, ReadsVariable}
 
-module _ (argument : KeyWithValue) (s : Situation) (text : List ℕ) (t : Situation)
-    (takes : TakesKeyWithText argument s text t) where
-  -- the key that is taken lay present in scope
-  key_open : is_open s takes.key ≡ true
-  key_open = match_is_open (is_key_with_value argument) s takes.key takes.first.matches
+-- a text of the line was got: what that keeps, and the places that it stands on
+record GotText (last : Bool) (argument : KeyWithValue) (s : Situation) (text : List ℕ)
+    (t : Situation) : Type 0 where
+  keeps : Keeps s t
+  closed : Closes s t
+  is : IsOwnText last argument s.context (newly s t) text
 
-  -- the place behind the key lay present in scope, and has this text
-  value_there : (is_open s (takes.key + 1) ≡ true)
-      × (option_and_then value_text (item_at s (takes.key + 1)) ≡ Some text)
-  value_there = value_is_open s takes.key text takes.value
-
-  -- that place is present in scope still when the key is taken
-  value_open : is_open (take_place s takes.key) (takes.key + 1) ≡ true
-  value_open =
-      let other : takes.key + 1 ≢ takes.key = (λ e. absurd (omega arith)) in
-      ap (λ taken. in_scope s (takes.key + 1) && not taken)
-      (taken_other s takes.key (takes.key + 1) other) ∙ value_there.0
-
-  -- what taking a key and its value keeps
-  pub value_keeps : Keeps s t
-  value_keeps =
-      let m = take_place s takes.key in
-      subst (Keeps s) (sym takes.taken)
-      (keeps_trans s m (take_place m (takes.key + 1)) (keeps_take s takes.key key_open)
-      (keeps_take m (takes.key + 1) value_open))
-
-module _ (T : Type 0) (means : List ℕ → T → Type 0) (argument : KeyWithValue) where
-  -- what an argument reads
-  abbrev reads_argument : Readings T
-  reads_argument = ArgumentReads T means argument
-
-  -- a taken key and value, whose text means the answer, are a reading of it
-  argument_read : (s t : Situation) (v : T) (text : List ℕ) → TakesKeyWithText argument s text t
-      → means text v
-      → Reads T reads_argument s v t
-  argument_read s t v text takes meant =
-      subst (λ w. Reads T reads_argument s v w) (sym takes.taken) (record {
+module _ (argument : KeyWithValue) (s : Situation) (text : List ℕ) (t : Situation) where
+  -- a key and its text
+  got_first : TakesKeyWithText argument s text t → GotText false argument s text t
+  got_first takes =
+      subst (GotText false argument s text) (sym takes.taken) (record {
         keeps = subst (Keeps s) takes.taken (value_keeps argument s text t takes);
         closed = closes_take_both s takes.key (takes.key + 1);
-        reading = behind_key text (record {
+        is = record {
           key = takes.key;
           is_key = match_has_item (is_key_with_value argument) s takes.key takes.first.matches;
           behind = (value_there argument s text t takes).1;
           places =
               newly_take_both s takes.key (key_open argument s text t takes)
               (value_open argument s text t takes);
-        }) meant;
+        };
       })
+
+  -- the text of a line, whichever key counts
+  got_text : (last : Bool) → TakesOwnText last argument s text t → GotText last argument s text t
+  got_text false takes = got_first takes
+  got_text true takes =
+      let took = took_last argument s t text takes in
+      record {
+        keeps = took.all.keeps;
+        closed = λ p within outside.
+            absurd (true≢false (sym within ∙ (sym (took.all.scope p) ∙ outside)));
+        is = record {
+          keys = took.all.keys;
+          are_keys = took.all.are_keys;
+          places = took.all.places;
+          greatest = took.greatest;
+          is_key = took.is_key;
+          no_greater = took.no_greater;
+          behind_it = took.behind_it;
+        };
+      }
+
+-- what was taken before a refusal keeps
+before_keeps : (last : Bool) (argument : KeyWithValue) (s t : Situation)
+    → TakesBefore last argument s t → Keeps s t
+before_keeps false argument s t same = keeps_same s t same
+before_keeps true argument s t taken = (took_keys argument s t taken.0 taken.1).keeps
+
+module _ (T : Type 0) (means : List ℕ → T → Type 0) (argument : KeyWithValue) where
+  -- what an argument reads
+  abbrev reads_argument : Readings T
+  reads_argument = ArgumentReads T means argument
+
+  -- a text of the line, which means the answer, is a reading of it
+  argument_read : (s t : Situation) (v : T) (text : List ℕ)
+      → TakesOwnText argument.last argument s text t → means text v
+      → Reads T reads_argument s v t
+  argument_read s t v text takes meant =
+      let got = got_text argument s text t argument.last takes in
+      record { keeps = got.keeps; closed = got.closed; reading = behind_key text got.is meant }
 
   -- a text of the environment, which means the answer, is a reading of it
   variable_read : (s t : Situation) (v : T) (text : List ℕ) → ReadsVariable argument s text t
@@ -72,17 +89,19 @@ module _ (T : Type 0) (means : List ℕ → T → Type 0) (argument : KeyWithVal
   -- what getting a text keeps
   text_keeps : (s t : Situation) (text : List ℕ) → GetsText argument s text t → Keeps s t
   text_keeps s t text gets = ⊎_elim
-      (λ takes. value_keeps argument s text t takes)
+      (λ takes. (got_text argument s text t argument.last takes).keeps)
       (λ found. keeps_unset s t found.left)
       gets
 
   -- what a refusal of an argument keeps
   argument_refused : (s t : Situation) (m : Message) → ArgumentFails means argument s m t
       → Keeps s t
-  argument_refused s t (NoArgument key name) fails = keeps_same s t fails.1
+  argument_refused s t (NoArgument key name) fails =
+      before_keeps argument.last argument s t fails.1
   argument_refused s t (ParseFailed place fault) fails = text_keeps s t fails.0 fails.1
   argument_refused s t Memory fails =
-      ⊎_elim (λ unchanged. keeps_same s t unchanged) (λ got. text_keeps s t got.0 got.1) fails
+      ⊎_elim (λ before. before_keeps argument.last argument s t before)
+      (λ got. text_keeps s t got.0 got.1) fails
   argument_refused s t other fails = keeps_same s t fails.2
 
   -- arguments keep to the laws

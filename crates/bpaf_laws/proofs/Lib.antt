@@ -1,6 +1,7 @@
 pub mod Keeping
 pub mod CountingLaws
 pub mod FlagLaws
+pub mod KeysTaken
 pub mod ArgumentLaws
 pub mod ArgumentAnswers
 pub mod KeyFirst

@@ -1,6 +1,7 @@
 -- Arguments: a key and the text behind it.
-use Rattle.std.specs.Prelude.{◌≡◌, ◌⊎◌, ℕ, ◌+◌, Bool, List, Result, Ok, Err, Some, None, String}
-use Rattle.std.specs.Prelude.{string_bytes, option_and_then}
+use Rattle.std.specs.Prelude.{◌≡◌, ◌⊎◌, ℕ, zero, suc, ◌+◌, ◌≤◌, Bool, true, false, ◌||◌, List, []}
+use Rattle.std.specs.Prelude.{◌∷◌, ◌++◌, Result, Ok, Err, Some, None, String, string_bytes}
+use Rattle.std.specs.Prelude.{Option, option_and_then}
 use Rattle.std.specs.Option.{option_map_or}
 use Rattle.std.specs.declared.alloc.Global.{Global}
 use Rattle.bpaf_doc.specs.Shape.{Shape, Shown, Skip}
@@ -29,15 +30,45 @@ pub record IsKeyWithText (argument : KeyWithValue) (context : Context) (share : 
   pub behind : option_and_then value_text (item_in context (key + 1)) ≡ Some text
   pub places : IsPair key share
 
+-- the places behind those of a set
+abbrev pub behind : Share → Share
+behind keys zero = false
+behind keys (suc p) = keys p
+
+-- a key of the argument is at this place, and a Word or an ArgWord behind it
+pub record IsKeyBeforeText (argument : KeyWithValue) (context : Context) (key : ℕ) : Type 0 where
+  pub is_key : HasItem (is_key_with_value argument) context key
+  pub text : List ℕ
+  pub behind_it : option_and_then value_text (item_in context (key + 1)) ≡ Some text
+
+-- keys of the argument, one or more, each with the next place, a Word or an ArgWord; that behind
+-- the greatest of them has this text
+pub record AreKeysWithText (argument : KeyWithValue) (context : Context) (share : Share)
+    (text : List ℕ)
+    : Type 0 where
+  pub keys : Share
+  pub are_keys : (p : ℕ) → keys p ≡ true → IsKeyBeforeText argument context p
+  pub places : (p : ℕ) → share p ≡ (keys p || behind keys p)
+  pub greatest : ℕ
+  pub is_key : keys greatest ≡ true
+  pub no_greater : (p : ℕ) → keys p ≡ true → p ≤ greatest
+  pub behind_it : option_and_then value_text (item_in context (greatest + 1)) ≡ Some text
+
+-- the text behind a key; where the last one counts, that behind the last of some keys
+abbrev pub IsOwnText : Bool → KeyWithValue → Context → Share → List ℕ → Type 0
+IsOwnText false = IsKeyWithText
+IsOwnText true = AreKeysWithText
+
 -- this is the text of the first of the argument's names in the environment that is set
 abbrev pub IsVariable : KeyWithValue → Context → List ℕ → Type 0
 IsVariable argument context text = first_set context.env argument.named.envs ≡ Some text
 
--- a key and the text behind it, or no place and the text of the first environment name that is set;
--- and what that text means
+-- a key and the text behind it, or keys and the text behind the last one, where that counts; or no
+-- place and the text of the first environment name that is set; and what that text means
 pub data ArgumentReads (T : Type 0) (means : List ℕ → T → Type 0) (argument : KeyWithValue)
     (context : Context) (share : Share) (v : T) : Type 0 where
-  behind_key : (text : List ℕ) → IsKeyWithText argument context share text → means text v
+  behind_key : (text : List ℕ) → IsOwnText argument.last argument context share text
+      → means text v
       → ArgumentReads T means argument context share v
   in_variable : (text : List ℕ) → IsEmptyShare share → IsVariable argument context text
       → means text v
@@ -47,9 +78,33 @@ pub data ArgumentReads (T : Type 0) (means : List ℕ → T → Type 0) (argumen
 abbrev pub TakesKeyWithText : KeyWithValue → Situation → List ℕ → Situation → Type 0
 TakesKeyWithText argument = TakesValue argument.named.names argument.adjacent
 
+-- keys of the argument and the texts behind them are taken, in this order, each key the first one
+abbrev pub TakesKeysWithTexts : KeyWithValue → Situation → List (List ℕ) → Situation → Type 0
+TakesKeysWithTexts argument s [] t = t ≡ s
+TakesKeysWithTexts argument s (text ∷ texts) t =
+    (m : Situation) × TakesKeyWithText argument s text m × TakesKeysWithTexts argument m texts t
+
 -- no key of the argument is present in scope
 abbrev pub HasNoKey : KeyWithValue → Situation → Type 0
 HasNoKey argument = HasNone (is_key_with_value argument)
+
+-- all keys of the argument and the texts behind them are taken, and this is the last text
+pub record TakesLastText (argument : KeyWithValue) (s : Situation) (text : List ℕ) (t : Situation)
+    : Type 0 where
+  pub before : List (List ℕ)
+  pub taken : TakesKeysWithTexts argument s (before ++ text ∷ []) t
+  pub no_more : HasNoKey argument t
+
+-- the first key and its text are taken; where the last one counts, all keys with their texts
+abbrev pub TakesOwnText : Bool → KeyWithValue → Situation → List ℕ → Situation → Type 0
+TakesOwnText false = TakesKeyWithText
+TakesOwnText true = TakesLastText
+
+-- what was taken when no text was found: nothing; where the last one counts, any keys with their
+-- texts
+abbrev pub TakesBefore : Bool → KeyWithValue → Situation → Situation → Type 0
+TakesBefore false argument s t = t ≡ s
+TakesBefore true argument s t = (texts : List (List ℕ)) × TakesKeysWithTexts argument s texts t
 
 -- no key is there, and this is the text of the first environment name that is set; no place is
 -- current then
@@ -62,11 +117,27 @@ pub record ReadsVariable (argument : KeyWithValue) (s : Situation) (text : List 
 -- the text of an argument: that behind its key, which are taken; or where no key is there, that of
 -- the environment
 abbrev pub GetsText : KeyWithValue → Situation → List ℕ → Situation → Type 0
-GetsText argument s text t = TakesKeyWithText argument s text t ⊎ ReadsVariable argument s text t
+GetsText argument s text t =
+    TakesOwnText argument.last argument s text t ⊎ ReadsVariable argument s text t
 
 -- the first key has no text behind it
 abbrev pub LacksText : KeyWithValue → Situation → Message → Type 0
 LacksText argument = RefusesArgument argument.named.names argument.adjacent argument.metavar
+
+-- a key has no text behind it, or memory is wanted
+abbrev pub RefusesKey : Bool → KeyWithValue → Situation → Message → Situation → Type 0
+RefusesKey last argument s (NoArgument key m) t =
+    LacksText argument t (NoArgument key m) × TakesBefore last argument s t
+RefusesKey last argument s Memory t = TakesBefore last argument s t
+RefusesKey last argument s m t = ⊥
+
+-- the text behind the first key, or behind the last of all keys; or there is no key, and nothing
+-- changes; or a refusal
+abbrev pub TakesAtKey : Bool → KeyWithValue → Situation → Result (Option (String Global)) Error
+    → Situation → Type 0
+TakesAtKey last argument s (Ok (Some text)) t = TakesOwnText last argument s (string_bytes text) t
+TakesAtKey last argument s (Ok None) t = HasNoKey argument s × (t ≡ s)
+TakesAtKey last argument s (Err e) t = RefusesKey last argument s e.0 t
 
 -- no environment name is set, and the refusal says that the argument is nowhere
 abbrev pub IsNowhere : KeyWithValue → Situation → Message → Type 0
@@ -75,10 +146,11 @@ IsNowhere argument s m =
     × IsAbsence s (argument_part argument) argument.named.envs m
 
 -- no text: the key has none behind it; or there is neither a key nor a variable; or memory is
--- wanted; nothing changes
+-- wanted; nothing changes, but for keys that were taken before it, where the last one counts
 abbrev pub RefusesText : KeyWithValue → Situation → Message → Situation → Type 0
-RefusesText argument s (NoArgument key m) t = LacksText argument s (NoArgument key m) × (t ≡ s)
-RefusesText argument s Memory t = t ≡ s
+RefusesText argument s (NoArgument key m) t =
+    LacksText argument t (NoArgument key m) × TakesBefore argument.last argument s t
+RefusesText argument s Memory t = TakesBefore argument.last argument s t
 RefusesText argument s m t = HasNoKey argument s × IsNowhere argument s m × (t ≡ s)
 
 -- the text of an argument, or a refusal
@@ -93,7 +165,8 @@ abbrev pub ArgumentFails : {T : Type 0} → (List ℕ → T → Type 0) → KeyW
 ArgumentFails means argument s (ParseFailed place fault) t =
     (text : List ℕ) × GetsText argument s text t
     × FaultsText means text t.current (ParseFailed place fault)
-ArgumentFails means argument s Memory t = (t ≡ s) ⊎ ((text : List ℕ) × GetsText argument s text t)
+ArgumentFails means argument s Memory t =
+    TakesBefore argument.last argument s t ⊎ ((text : List ℕ) × GetsText argument s text t)
 ArgumentFails means argument s m t = RefusesText argument s m t
 
 -- the text of the argument means the answer
