@@ -13,6 +13,8 @@ pub mod Alternative
 pub mod Derived
 pub mod Matching
 pub mod Flags
+pub mod ArgumentPieces
+pub mod LastArguments
 pub mod Arguments
 pub mod Positionals
 pub mod Combining

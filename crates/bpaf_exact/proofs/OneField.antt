@@ -1,6 +1,6 @@
 -- What a field's value says of the keys with its names that stand on the line.
 use Rattle.std.proofs.Common.{◌≡◌, ℕ, Bool, true, false, List, [], ◌∷◌, Option, Some, None, length, map, suc}
-use Rattle.std.proofs.Common.{refl, sym, ap, ◌∙◌, subst, true≢false, if◌then◌else◌}
+use Rattle.std.proofs.Common.{refl, sym, ap, ◌∙◌, subst, true≢false, if◌then◌else◌, ◌++◌}
 use Rattle.std.specs.List.{AllZip}
 use Rattle.std.specs.Global.{Vec}
 use Rattle.bpaf_doc.specs.Names.{Names}
@@ -18,8 +18,9 @@ use Rattle.bpaf_exact.specs.Derived.{list_closure}
 use Rattle.bpaf_exact.specs.Shape.{Shape, ShapeLaw, not_flat, alternative, single, complete, product}
 use Rattle.bpaf_exact.specs.Fields.{keys_on, texts_of, ShapeOwns, IsSwitched, switched_on}
 use Rattle.bpaf_exact.specs.Fields.{switched_off, HasOneText, MayHaveText, HasTextOr, its_text}
-use Rattle.bpaf_exact.specs.Fields.{in_its_place, HaveTexts, IsFieldOf, IsSwitchOf}
+use Rattle.bpaf_exact.specs.Fields.{in_its_place, HaveTexts, HasLastText, IsFieldOf, IsSwitchOf}
 use Rattle.bpaf_exact.specs.Leaves.{flag_field, flag_by, argument_field, argument_by}
+use Rattle.bpaf_exact.specs.Leaves.{last_argument, LastGroup, HaveValues, no_more, one_more}
 use Rattle.bpaf_exact.specs.Record.{RecordValue, line_cells}
 use Rattle.bpaf_exact.specs.Shape.{field_shape, product_roles, product_reading, optional_shape}
 use Rattle.bpaf_exact.specs.Shape.{fallback_shape, many_shape}
@@ -164,6 +165,38 @@ module _ (T : Type 0) (means : List ℕ → T → Type 0) (names : Names) (cs : 
       → HasOneText T means names cs v
   argument_said v h = single_said own v refl h
 
+  -- pieces that each have a value, up to the last one, have a text each
+  texts_each : (before : List Piece) (k w : Arg) → HaveValues before
+      → (texts_of (before ++ Two k w ∷ []) ≡ texts_of before ++ item_text w ∷ [])
+      × (length (texts_of (before ++ Two k w ∷ []))
+      ≡ length (map key_of (before ++ Two k w ∷ [])))
+  texts_each [] k w no_more = (refl, refl)
+  texts_each (One j ∷ before) k w h = elim h [ ]
+  texts_each (Two j x ∷ before) k w (one_more h) =
+      let rest = texts_each before k w h in
+      (ap (λ z. item_text x ∷ z) rest.0, ap suc rest.1)
+
+  last_by : (ps : List Piece) (v : T) → own ≡ ps
+      → SingleValue T (LastGroup T means) (no_gap T) ps v → HasLastText T means names cs v
+  last_by ps v e (of_group g) =
+      let is : own ≡ g.before ++ Two g.key g.word ∷ [] = e ∙ g.is in
+      let all = texts_each g.before g.key g.word g.have_values in
+      record {
+        before = texts_of g.before;
+        text = item_text g.word;
+        texts = ap texts_of is ∙ all.0;
+        each = ap (λ os. length (texts_of os)) is
+            ∙ (all.1 ∙ (ap (λ os. length (map key_of os)) (sym is)
+            ∙ ap length (argument_pieces names cs)));
+        meant = g.meant;
+      }
+  last_by [] v e (of_gap a) = absurd a
+
+  -- Where the last value counts: what the text behind its last key means.
+  pub last_said : (v : T) → SingleValue T (LastGroup T means) (no_gap T) own v
+      → HasLastText T means names cs v
+  last_said v h = last_by own v refl h
+
   optional_by : (ps : List Piece) (r : Option T) → own ≡ ps
       → OptionalValue T (FrontOf T (ArgumentValue means)) (no_gap T) ps r
       → MayHaveText T means names cs r
@@ -272,15 +305,20 @@ module _ {V T A : Type 0} (means : List ℕ → T → Type 0) (argument : KeyWit
       alternative (argument_roles argument.named.names) (ArgumentValue means)
 
   -- it is that of such an argument
-  pub plain_field : argument.named.envs ≡ [] → argument.adjacent ≡ false
+  pub plain_field : argument.named.envs ≡ [] → argument.adjacent ≡ false → argument.last ≡ false
       → IsFieldOf (made (argument_field means argument)) s of → IsFieldOf (made plain_argument) s of
-  plain_field no_envs apart field =
-      subst (λ z. IsFieldOf (made (argument_by means argument.named.names [] z)) s of) apart
-      (subst (λ z. IsFieldOf (made (argument_by means argument.named.names z argument.adjacent)) s of)
-      no_envs field)
+  plain_field no_envs apart once field =
+      subst (λ z. IsFieldOf (made (argument_by means argument.named.names [] false z)) s of) once
+      (subst
+      (λ z. IsFieldOf (made (argument_by means argument.named.names [] z argument.last)) s of) apart
+      (subst
+      (λ z. IsFieldOf (made (argument_by means argument.named.names z argument.adjacent argument.last))
+      s of)
+      no_envs field))
 
 module _ {V T : Type 0} (means : List ℕ → T → Type 0) (argument : KeyWithValue)
-    (no_envs : argument.named.envs ≡ []) (apart : argument.adjacent ≡ false) (s : Shape V)
+    (no_envs : argument.named.envs ≡ []) (apart : argument.adjacent ≡ false)
+    (once : argument.last ≡ false) (s : Shape V)
     (context : Context) (v : V)
     (value : RecordValue (product_roles s) (product_reading s).value context v) where
   -- the names of its key
@@ -292,7 +330,7 @@ module _ {V T : Type 0} (means : List ℕ → T → Type 0) (argument : KeyWithV
       → HasOneText T means names (line_cells context) (of v)
   argument_of of field = argument_said T means names (line_cells context) (of v)
       (field_value s (argument_roles names) _ of (argument_named names)
-      (plain_field means argument field_shape s of no_envs apart field) context v value)
+      (plain_field means argument field_shape s of no_envs apart once field) context v value)
 
   -- under `optional`
   pub optional_of : (of : V → Option T)
@@ -300,7 +338,7 @@ module _ {V T : Type 0} (means : List ℕ → T → Type 0) (argument : KeyWithV
       → MayHaveText T means names (line_cells context) (of v)
   optional_of of field = optional_said T means names (line_cells context) (of v)
       (field_value s (argument_roles names) _ of (argument_named names)
-      (plain_field means argument (λ a. field_shape (optional_shape a)) s of no_envs apart field)
+      (plain_field means argument (λ a. field_shape (optional_shape a)) s of no_envs apart once field)
       context v value)
 
   -- under a fallback
@@ -309,7 +347,7 @@ module _ {V T : Type 0} (means : List ℕ → T → Type 0) (argument : KeyWithV
       → HasTextOr T means (f.yes tt) names (line_cells context) (of v)
   fallback_of f of field = fallback_said T means names (line_cells context) f (of v)
       (field_value s (argument_roles names) _ of (argument_named names)
-      (plain_field means argument (λ a. field_shape (fallback_shape f a)) s of no_envs apart field)
+      (plain_field means argument (λ a. field_shape (fallback_shape f a)) s of no_envs apart once field)
       context v value)
 
   -- under `many`
@@ -318,5 +356,31 @@ module _ {V T : Type 0} (means : List ℕ → T → Type 0) (argument : KeyWithV
       → HaveTexts T means names (line_cells context) (of v).items
   many_of of field = many_said T means names (line_cells context) (of v)
       (field_value s (argument_roles names) _ of (argument_named names)
-      (plain_field means argument (λ a. field_shape (many_shape a)) s of no_envs apart field)
+      (plain_field means argument (λ a. field_shape (many_shape a)) s of no_envs apart once field)
       context v value)
+
+-- The field of an argument that takes its last value.
+module _ {V T : Type 0} (means : List ℕ → T → Type 0) (argument : KeyWithValue)
+    (no_envs : argument.named.envs ≡ []) (apart : argument.adjacent ≡ false)
+    (all : argument.last ≡ true) (s : Shape V) (of : V → T)
+    (field : IsFieldOf (field_shape (argument_field means argument)) s of) where
+  -- it is the field of such an argument
+  last_field : IsFieldOf (field_shape (last_argument means argument.named.names)) s of
+  last_field =
+      subst
+      (λ z. IsFieldOf (field_shape (argument_by means argument.named.names [] false z)) s of) all
+      (subst
+      (λ z. IsFieldOf (field_shape (argument_by means argument.named.names [] z argument.last)) s of)
+      apart
+      (subst
+      (λ z. IsFieldOf (field_shape
+      (argument_by means argument.named.names z argument.adjacent argument.last)) s of)
+      no_envs field))
+
+  -- its value is what the text behind its last key means
+  pub last_of : (context : Context) (v : V)
+      → RecordValue (product_roles s) (product_reading s).value context v
+      → HasLastText T means argument.named.names (line_cells context) (of v)
+  last_of context v value = last_said T means argument.named.names (line_cells context) (of v)
+      (field_value s (argument_roles argument.named.names) _ of
+      (argument_named argument.named.names) last_field context v value)

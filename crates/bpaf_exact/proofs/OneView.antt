@@ -19,7 +19,7 @@ use Rattle.bpaf_exact.specs.Wrappers.{own_value, kept_value}
 use Rattle.bpaf_exact.specs.Derived.{LastOf, list_closure}
 use Rattle.bpaf_exact.specs.Alternative.{pick_type}
 use Rattle.bpaf_exact.specs.Leaves.{FlagValue, ArgumentValue, WordValue, flag_by, flag_field}
-use Rattle.bpaf_exact.specs.Leaves.{argument_by, argument_field, word_field}
+use Rattle.bpaf_exact.specs.Leaves.{LastGroup, argument_by, argument_field, word_field}
 use Rattle.bpaf_exact.specs.Record.{Answer, Accepted, NoMemory, Refusal, RecordValue, IsExact}
 use Rattle.bpaf_exact.specs.Shape.{Shape, not_flat, alternative, single, complete, product}
 use Rattle.bpaf_exact.specs.Shape.{ShapeLaw, Agrees, only_if, closed_shape, either_shape}
@@ -31,6 +31,7 @@ use Rattle.bpaf_exact.specs.OneView.{Alike, OneGroup, HasOneView, Respects, opti
 use Rattle.bpaf_exact.specs.OneView.{LooksLike, RunsToOne}
 use Rattle.bpaf_exact.proofs.Alternative.{alternative_single}
 use Rattle.bpaf_exact.proofs.Cuts.{one_cut}
+use Rattle.bpaf_exact.proofs.LastArguments.{last_same}
 use Rattle.bpaf_exact.proofs.Shape.{record_law}
 use Rattle.bpaf_exact.proofs.Exact.{runs_exactly}
 
@@ -113,17 +114,30 @@ argument_piece : (T X : Type 0) (see : T → X) (means : List ℕ → T → Type
 argument_piece T X see means u (One k) v w a b = absurd a
 argument_piece T X see means u (Two k x) v w a b = u (item_text x) v w a b
 
+-- all keys with their values, of which the last one counts
+last_group : (T X : Type 0) (see : T → X) (means : List ℕ → T → Type 0)
+    → ((text : List ℕ) → Alike see (means text)) → OneGroup see (LastGroup T means)
+last_group T X see means u os rest others v w a b =
+    let same : Two a.key a.word ≡ Two b.key b.word =
+    last_same Piece a.before b.before (Two a.key a.word) (Two b.key b.word) (sym a.is ∙ b.is) in
+    let word : a.word ≡ b.word = cc in (
+      u (item_text b.word) v w (subst (λ x. means (item_text x) v) word a.meant) b.meant,
+      a.none_left ∙ sym b.none_left,
+    )
+
 -- an argument, where what a text means looks alike
 pub argument_view : (T X : Type 0) (see : T → X) (means : List ℕ → T → Type 0)
     → ((text : List ℕ) → Alike see (means text)) → (argument : KeyWithValue)
     → HasOneView see (argument_field means argument)
-argument_view T X see means u argument = by_parts argument.named.envs argument.adjacent
+argument_view T X see means u argument =
+    by_parts argument.named.envs argument.adjacent argument.last
   where
-    by_parts : (envs : List (List ℕ)) (adjacent : Bool)
-        → HasOneView see (argument_by means argument.named.names envs adjacent)
-    by_parts (env ∷ envs) adjacent = tt
-    by_parts [] true = tt
-    by_parts [] false = argument_piece T X see means u
+    by_parts : (envs : List (List ℕ)) (adjacent last : Bool)
+        → HasOneView see (argument_by means argument.named.names envs adjacent last)
+    by_parts (env ∷ envs) adjacent last = tt
+    by_parts [] true last = tt
+    by_parts [] false false = argument_piece T X see means u
+    by_parts [] false true = (last_group T X see means u, λ v w a b. absurd a)
 
 -- a word
 word_piece : (T X : Type 0) (see : T → X) (means : List ℕ → T → Type 0)
@@ -198,15 +212,6 @@ choices_view P T X see keys shape n (p ∷ ps) =
     (only_view T X see (shape p) (n p))
 
 -- Fields without a repeat or default, and what is made of them.
-
--- the last of a list is one
-last_same : (T : Type 0) (xs ys : List T) (v w : T) → xs ++ (v ∷ []) ≡ ys ++ (w ∷ []) → v ≡ w
-last_same T [] [] v w e = cc
-last_same T [] (y ∷ []) v w e = absurd cc
-last_same T [] (y ∷ (z ∷ ys)) v w e = absurd cc
-last_same T (x ∷ []) [] v w e = absurd cc
-last_same T (x ∷ (z ∷ xs)) [] v w e = absurd cc
-last_same T (x ∷ xs) (y ∷ ys) v w e = last_same T xs ys v w cc
 
 -- the view of a list with its last value
 map_last : (T X : Type 0) (see : T → X) (xs : List T) (v : T)

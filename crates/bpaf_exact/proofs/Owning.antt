@@ -9,6 +9,7 @@ use Rattle.bpaf_exact.specs.Pieces.{Role, Foreign, Alone, WithNext, is_own_role,
 use Rattle.bpaf_exact.specs.Pieces.{no_roles}
 use Rattle.bpaf_exact.specs.Flat.{Named, OneWord, EachWord, keys, both_reading}
 use Rattle.bpaf_exact.specs.Leaves.{flag_roles, flag_by, flag_field, argument_by}
+use Rattle.bpaf_exact.specs.Leaves.{argument_roles}
 use Rattle.bpaf_exact.specs.Leaves.{argument_field, word_field}
 use Rattle.bpaf_exact.specs.Names.{Owns}
 use Rattle.bpaf_exact.specs.Shape.{Shape, not_flat, alternative, single, complete, product, only_if}
@@ -42,13 +43,18 @@ flag_has {T = T} clones key present absent = by_envs key.envs absent
 -- an argument's
 argument_has : {T : Type 0} (means : List ℕ → T → Type 0) (argument : KeyWithValue)
     → ShapeOwns (argument.named.names ∷ []) (argument_field means argument)
-argument_has means argument = by_envs argument.named.envs argument.adjacent
+argument_has means argument = by_envs argument.named.envs argument.adjacent argument.last
   where
-    by_envs : (envs : List (List ℕ)) (adjacent : Bool)
-        → ShapeOwns (argument.named.names ∷ []) (argument_by means argument.named.names envs adjacent)
-    by_envs (env ∷ envs) adjacent = tt
-    by_envs [] true = tt
-    by_envs [] false = record { own = λ k. by_key WithNext refl (is_key_of argument.named.names k) }
+    own : Owns (argument_roles argument.named.names) (argument.named.names ∷ [])
+    own = record { own = λ k. by_key WithNext refl (is_key_of argument.named.names k) }
+
+    by_envs : (envs : List (List ℕ)) (adjacent last : Bool)
+        → ShapeOwns (argument.named.names ∷ [])
+        (argument_by means argument.named.names envs adjacent last)
+    by_envs (env ∷ envs) adjacent last = tt
+    by_envs [] true last = tt
+    by_envs [] false false = own
+    by_envs [] false true = own
 
 -- a word has none
 word_by : {T : Type 0} (means : List ℕ → T → Type 0) → ShapeOwns [] (word_field means)

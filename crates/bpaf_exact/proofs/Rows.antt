@@ -1,5 +1,5 @@
 -- What the definitions say of single lines: worked rows, most of them by computing.
-use Rattle.std.proofs.Common.{◌≡◌, ℕ, Bool, true, false, List, [], ◌∷◌, Some, None, refl, ap}
+use Rattle.std.proofs.Common.{◌≡◌, ℕ, Bool, true, false, List, [], ◌∷◌, ◌++◌, Some, None, refl, ap}
 use Rattle.bpaf_doc.specs.Names.{Names}
 use Rattle.bpaf_words.specs.declared.arg.Arg.{Arg}
 use Rattle.bpaf_words.specs.declared.arg.Arg.TheVariants.{Short, Long, ArgWord, Word, PosWord}
@@ -15,6 +15,7 @@ use Rattle.bpaf_exact.specs.Single.{OwnList, listed, listed_and_absent, only_abs
 use Rattle.bpaf_exact.specs.Wrappers.{Closure, ClosedGroup, closed_gap}
 use Rattle.bpaf_exact.specs.Leaves.{flag_roles, argument_roles, FlagValue, ArgumentValue, WordValue}
 use Rattle.bpaf_exact.specs.Leaves.{switch_gap, flag_by, argument_by, word_field}
+use Rattle.bpaf_exact.specs.Leaves.{LastGroup, HaveValues, no_more, one_more}
 use Rattle.bpaf_exact.specs.Alternative.{either_value, bad_here, bad_later}
 use Rattle.bpaf_exact.specs.Record.{line_cells, RecordValue, LastValue, last_reading}
 use Rattle.bpaf_exact.specs.Shape.{Shape, is_record, both_shape, field_shape, alone_shape}
@@ -62,6 +63,10 @@ SwitchValue =
 -- that of the argument
 abbrev NumberValue : List Piece → ℕ → Type 0
 NumberValue = SingleValue ℕ (FrontOf ℕ (ArgumentValue number)) (no_gap ℕ)
+
+-- that of the argument which takes its last value
+abbrev LastValueOf : List Piece → ℕ → Type 0
+LastValueOf = SingleValue ℕ (LastGroup ℕ number) (no_gap ℕ)
 
 -- that of a word
 abbrev TextValue : List Piece → List ℕ → Type 0
@@ -350,7 +355,11 @@ switch_twice =
 
 -- an argument of this name
 abbrev number_of : ℕ → Shape ℕ
-number_of c = argument_by number (short c) [] false
+number_of c = argument_by number (short c) [] false false
+
+-- one that takes its last value
+abbrev last_number_of : ℕ → Shape ℕ
+last_number_of c = argument_by number (short c) [] false true
 
 -- a word
 abbrev text : Shape (List ℕ)
@@ -365,6 +374,15 @@ fields_are = refl
 -- so is the argument alone
 one_is : is_record (number_of 110) ≡ true
 one_is = refl
+
+-- and the argument that takes its last value
+last_is : is_record (last_number_of 110) ≡ true
+last_is = refl
+
+-- which is no alternative of a choice
+choice_of_last_is_not : is_record
+    (choice_shape (short 97 ∷ []) (short 98 ∷ []) (last_number_of 97) (number_of 98)) ≡ false
+choice_of_last_is_not = refl
 
 -- and the choice of two under `many`
 choice_is : is_record (many_shape
@@ -400,3 +418,38 @@ product_inside_is_not : is_record (both_shape (short 118 ∷ []) [] (field_shape
     (both_shape (short 118 ∷ []) (short 110 ∷ []) (field_shape switch)
     (alone_shape (field_shape (number_of 110))))) (alone_shape (field_shape text))) ≡ false
 product_inside_is_not = refl
+
+-- An argument that takes its last value.
+
+-- `-n 3 -n 4`: the pieces of the argument have the last one's value, whatever the first one means
+last_of_two : LastGroup ℕ number (Two n_key (letter 3) ∷ Two n_key (letter 4) ∷ []) 4 []
+last_of_two = record {
+  before = Two n_key (letter 3) ∷ [];
+  key = n_key;
+  word = letter 4;
+  is = refl;
+  have_values = one_more no_more;
+  meant = refl;
+  none_left = refl;
+}
+
+-- so it is without a repeat or default
+last_value : LastValueOf (Two n_key (letter 3) ∷ Two n_key (letter 4) ∷ []) 4
+last_value = of_group last_of_two
+
+-- and the own list has this value alone
+last_list : OwnList ℕ (LastGroup ℕ number) (no_gap ℕ)
+    (Two n_key (letter 3) ∷ Two n_key (letter 4) ∷ []) (4 ∷ [])
+last_list = listed refl (own_more last_of_two own_none)
+
+-- a key without a value is none of keys with values
+bare_before_last : (before rest : List Piece) (k w : Arg) → HaveValues before
+    → One n_key ∷ rest ≡ before ++ Two k w ∷ [] → ⊥
+bare_before_last [] rest k w no_more e = cc
+bare_before_last (o ∷ before) rest k w (one_more h) e = cc
+
+-- `-n -n 4`: so the pieces have no value
+bare_has_no_last : (v : ℕ) (rest : List Piece) → LastGroup ℕ number
+    (One n_key ∷ Two n_key (letter 4) ∷ []) v rest → ⊥
+bare_has_no_last v rest g =
+    bare_before_last g.before (Two n_key (letter 4) ∷ []) g.key g.word g.have_values g.is

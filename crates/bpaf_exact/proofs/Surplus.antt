@@ -91,9 +91,10 @@ flag_no_surplus clones names present (env ∷ envs) absent = tt
 flag_no_surplus clones names present [] None = tt
 flag_no_surplus {T = T} clones names present [] (Some absent) = front_one T _
 
--- nor an argument
+-- nor an argument, but for one that takes all its keys at once
 pub argument_no_surplus : {T : Type 0} (means : List ℕ → T → Type 0) (names : Names)
-    (envs : List (List ℕ)) (adjacent : Bool) → HasNoSurplus (argument_by means names envs adjacent)
+    (envs : List (List ℕ)) (adjacent : Bool)
+    → HasNoSurplus (argument_by means names envs adjacent false)
 argument_no_surplus means names (env ∷ envs) adjacent = tt
 argument_no_surplus means names [] true = tt
 argument_no_surplus means names [] false = tt

@@ -1,7 +1,7 @@
 -- What the value of a record says of one field, by the keys of that field that stand on the line,
 -- whatever the other fields are.
 use Rattle.std.specs.Prelude.{◌≡◌, ℕ, Bool, true, false, List, [], ◌∷◌, Option, Some, None}
-use Rattle.std.specs.Prelude.{if◌then◌else◌, length}
+use Rattle.std.specs.Prelude.{if◌then◌else◌, length, ◌++◌}
 use Rattle.std.specs.List.{AllZip}
 use Rattle.bpaf_doc.specs.Names.{Names}
 use Rattle.bpaf_words.specs.Items.{is_key_of, item_text}
@@ -109,6 +109,16 @@ pub record HasOneText (T : Type 0) (means : List ℕ → T → Type 0) (names : 
   pub text : List ℕ
   pub keys : keys_on names cs ≡ key ∷ []
   pub texts : texts_on names cs ≡ text ∷ []
+  pub meant : means text v
+
+-- one key or more with one of these names stands on the line, each with a text behind it, and the
+-- last of these texts means the value
+pub record HasLastText (T : Type 0) (means : List ℕ → T → Type 0) (names : Names) (cs : Cells)
+    (v : T) : Type 0 where
+  pub before : List (List ℕ)
+  pub text : List ℕ
+  pub texts : texts_on names cs ≡ before ++ text ∷ []
+  pub each : length (texts_on names cs) ≡ length (keys_on names cs)
   pub meant : means text v
 
 -- so it is with Some of a value; None where no key with one of these names stands on the line

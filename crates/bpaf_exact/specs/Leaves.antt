@@ -1,8 +1,9 @@
 -- Flags, arguments and positionals: which items are theirs, and what their pieces mean.
 use Rattle.std.specs.Prelude.{◌≡◌, ℕ, Bool, true, false, List, [], ◌∷◌, Option, Some, None, Result}
-use Rattle.std.specs.Prelude.{Ok, Err, if◌then◌else◌}
+use Rattle.std.specs.Prelude.{Ok, Err, if◌then◌else◌, ◌++◌}
 use Rattle.bpaf_doc.specs.Names.{Names}
 use Rattle.bpaf_text.specs.Named.{Named as Key, KeyWithValue}
+use Rattle.bpaf_words.specs.declared.arg.Arg.{Arg}
 use Rattle.bpaf_words.specs.Items.{is_key_of, is_positional, item_text}
 use Rattle.bpaf_line.specs.declared.error.Error.{Error}
 use Rattle.bpaf_line.specs.Situation.{Situation}
@@ -53,17 +54,40 @@ flag_by {T = T} clones names present [] (Some absent) =
 abbrev pub flag_field : {T : Type 0} → (T → T → Type 0) → Key → T → Option T → Shape T
 flag_field clones key present absent = flag_by clones key.names present key.envs absent
 
+-- each of these pieces is a key with its value
+pub data HaveValues : List Piece → Type 0 where
+  no_more : HaveValues []
+  one_more : {k w : Arg} {os : List Piece} → HaveValues os → HaveValues (Two k w ∷ os)
+
+-- all pieces at once, each a key with its value, of which the last one's text means the value; the
+-- earlier texts need not mean any
+pub record LastGroup (T : Type 0) (means : List ℕ → T → Type 0) (os : List Piece) (v : T)
+    (rest : List Piece) : Type 0 where
+  pub before : List Piece
+  pub key : Arg
+  pub word : Arg
+  pub is : os ≡ before ++ Two key word ∷ []
+  pub have_values : HaveValues before
+  pub meant : means (item_text word) v
+  pub none_left : rest ≡ []
+
+-- an argument that takes all its keys at once
+abbrev pub last_argument : {T : Type 0} → (List ℕ → T → Type 0) → Names → Shape T
+last_argument {T = T} means names =
+    single Named (argument_roles names) (LastGroup T means) (no_gap T)
+
 -- an argument, but for one with a name in the environment, and one that wants an attached value
-abbrev pub argument_by : {T : Type 0} → (List ℕ → T → Type 0) → Names → List (List ℕ) → Bool
+abbrev pub argument_by : {T : Type 0} → (List ℕ → T → Type 0) → Names → List (List ℕ) → Bool → Bool
     → Shape T
-argument_by means names (env ∷ envs) adjacent = not_flat
-argument_by means names [] true = not_flat
-argument_by means names [] false = alternative (argument_roles names) (ArgumentValue means)
+argument_by means names (env ∷ envs) adjacent last = not_flat
+argument_by means names [] true last = not_flat
+argument_by means names [] false false = alternative (argument_roles names) (ArgumentValue means)
+argument_by means names [] false true = last_argument means names
 
 -- an argument
 abbrev pub argument_field : {T : Type 0} → (List ℕ → T → Type 0) → KeyWithValue → Shape T
 argument_field means argument =
-    argument_by means argument.named.names argument.named.envs argument.adjacent
+    argument_by means argument.named.names argument.named.envs argument.adjacent argument.last
 
 -- a positional word on either side of `--`
 abbrev pub word_field : {T : Type 0} → (List ℕ → T → Type 0) → Shape T

@@ -1,0 +1,245 @@
+-- An argument that takes all its keys at once keeps to the laws of a field.
+use Rattle.std.proofs.Common.{◌≡◌, ℕ, true, false, List, [], ◌∷◌, ◌++◌, Ok, refl, sym, ap, ◌∙◌}
+use Rattle.std.proofs.Common.{subst, ⊎_elim}
+use Rattle.bpaf_text.specs.Named.{KeyWithValue, argument_part}
+use Rattle.bpaf_words.specs.declared.arg.Arg.{Arg}
+use Rattle.bpaf_words.specs.Items.{item_text}
+use Rattle.bpaf_line.specs.declared.error.Error.{Error}
+use Rattle.bpaf_line.specs.declared.error.Message.{Message}
+use Rattle.bpaf_line.specs.declared.error.Message.TheVariants.{Memory, NoArgument, ParseFailed}
+use Rattle.bpaf_line.specs.Situation.{Situation}
+use Rattle.bpaf_laws.specs.Argument.{ArgumentOutcome, ArgumentFails, TakesKeysWithTexts}
+use Rattle.bpaf_laws.specs.Argument.{TakesOwnText, TakesBefore, GetsText, is_key_with_value}
+use Rattle.bpaf_exact.specs.Pieces.{WithNext, Roles, Piece, One, Two, pieces}
+use Rattle.bpaf_exact.specs.Pieces.{takes_none, takes_more}
+use Rattle.bpaf_exact.specs.Flat.{class, class_of, cells, IsWhole, Named, Steady, Refused}
+use Rattle.bpaf_exact.specs.Single.{no_gap, TakesAny, SingleOk, took, SingleErr, of_memory}
+use Rattle.bpaf_exact.specs.Single.{of_missing, of_piece, SingleLaw}
+use Rattle.bpaf_exact.specs.Leaves.{argument_roles, HaveValues, no_more, one_more, LastGroup}
+use Rattle.bpaf_exact.proofs.ArgumentPieces.{never_set, TookPair, test, named, took_pair}
+use Rattle.bpaf_exact.proofs.Classes.{missing_class}
+use Rattle.bpaf_exact.proofs.First.{first_takes, first_pieces, takes_nonempty}
+use Rattle.bpaf_exact.proofs.Matching.{match_of, no_pieces, bare_taken, absence_missing}
+use Rattle.bpaf_exact.proofs.Product.{steady_refl, steady_trans}
+
+-- a list with a last element isn't empty
+not_nil : {T : Type 0} (xs : List T) (x : T) → xs ++ x ∷ [] ≡ [] → ⊥
+not_nil [] x e = cc
+not_nil (y ∷ xs) x e = cc
+
+-- the last element of a list is one
+pub last_same : (T : Type 0) (xs ys : List T) (v w : T) → xs ++ (v ∷ []) ≡ ys ++ (w ∷ []) → v ≡ w
+last_same T [] [] v w e = cc
+last_same T [] (y ∷ []) v w e = absurd cc
+last_same T [] (y ∷ (z ∷ ys)) v w e = absurd cc
+last_same T (x ∷ []) [] v w e = absurd cc
+last_same T (x ∷ (z ∷ xs)) [] v w e = absurd cc
+last_same T (x ∷ xs) (y ∷ ys) v w e = last_same T xs ys v w cc
+
+-- a key without a value is none of pieces that each have one
+bare_spoils : (pairs tail before : List Piece) (k j w : Arg) → HaveValues before
+    → pairs ++ One k ∷ tail ≡ before ++ Two j w ∷ [] → ⊥
+bare_spoils [] tail before k j w no_more e = cc
+bare_spoils [] tail before k j w (one_more h) e = cc
+bare_spoils (o ∷ pairs) tail before k j w no_more e = not_there pairs cc
+  where
+    not_there : (ps : List Piece) → ps ++ One k ∷ tail ≡ [] → ⊥
+    not_there [] f = cc
+    not_there (p ∷ ps) f = cc
+bare_spoils (o ∷ pairs) tail before k j w (one_more {os = os} h) e =
+    bare_spoils pairs tail os k j w h cc
+
+module _ (T : Type 0) (means : List ℕ → T → Type 0) (argument : KeyWithValue)
+    (no_envs : argument.named.envs ≡ []) (plain : argument.adjacent ≡ false)
+    (all : argument.last ≡ true) where
+  -- the items of the argument
+  abbrev q : Roles
+  q = argument_roles argument.named.names
+
+  -- keys that were taken with their texts are the first pieces
+  record TookSome (s t : Situation) : Type 0 where
+    pairs : List Piece
+    is : pieces q (cells s) ≡ pairs ++ pieces q (cells t)
+
+  -- some keys with their texts
+  took_some : (s t : Situation) (texts : List (List ℕ)) → TakesKeysWithTexts argument s texts t
+      → TookSome s t
+  took_some s t [] same =
+      record { pairs = []; is = ap (λ z. pieces q (cells z)) (sym same) }
+  took_some s t (text ∷ texts) o =
+      let m = took_pair argument plain s o.0 text o.1 in
+      let rest = took_some o.0 t texts o.2 in
+      record {
+        pairs = Two m.key m.word ∷ rest.pairs;
+        is =
+            first_pieces q (named argument plain) m.takes
+            ∙ ap (λ z. Two m.key m.word ∷ z) rest.is;
+      }
+
+  -- all of them are the pieces, and this is the text of the last one
+  record TookAll (s t : Situation) (text : List ℕ) : Type 0 where
+    before : List Piece
+    key : Arg
+    word : Arg
+    text_is : item_text word ≡ text
+    have_values : HaveValues before
+    is : pieces q (cells s) ≡ before ++ Two key word ∷ pieces q (cells t)
+    any : TakesAny q (cells s) (cells t)
+    steady : Steady s t
+
+  -- one key with its text
+  all_one : (s t : Situation) (text : List ℕ) → TookPair q s t text → TookAll s t text
+  all_one s t text m = record {
+    before = [];
+    key = m.key;
+    word = m.word;
+    text_is = m.text_is;
+    have_values = no_more;
+    is = first_pieces q (named argument plain) m.takes;
+    any = record {
+      piece = Two m.key m.word;
+      middle = cells t;
+      one = first_takes q m.takes;
+      more = takes_none;
+    };
+    steady = m.steady;
+  }
+
+  -- one before others
+  all_more : (s m t : Situation) (x text : List ℕ) → TookPair q s m x → TookAll m t text
+      → TookAll s t text
+  all_more s m t x text first rest = record {
+    before = Two first.key first.word ∷ rest.before;
+    key = rest.key;
+    word = rest.word;
+    text_is = rest.text_is;
+    have_values = one_more rest.have_values;
+    is =
+        first_pieces q (named argument plain) first.takes
+        ∙ ap (λ z. Two first.key first.word ∷ z) rest.is;
+    any = record {
+      piece = Two first.key first.word;
+      middle = cells m;
+      one = first_takes q first.takes;
+      more = takes_more rest.any.one rest.any.more;
+    };
+    steady = steady_trans first.steady rest.steady;
+  }
+
+  -- keys with their texts, of which this is the last
+  took_texts : (s t : Situation) (text : List ℕ) (before : List (List ℕ))
+      → TakesKeysWithTexts argument s (before ++ text ∷ []) t → TookAll s t text
+  took_texts s t text [] o =
+      subst (λ z. TookAll s z text) (sym o.2)
+      (all_one s o.0 text (took_pair argument plain s o.0 text o.1))
+  took_texts s t text (x ∷ before) o =
+      all_more s o.0 t x text (took_pair argument plain s o.0 x o.1)
+      (took_texts o.0 t text before o.2)
+
+  -- the text of an argument is that of the last of its pieces, of which none is left
+  record GotAll (s t : Situation) (text : List ℕ) : Type 0 where
+    pieces_are : TookAll s t text
+    none : pieces q (cells t) ≡ []
+
+  -- all its keys were taken
+  gets_all : (s t : Situation) (text : List ℕ) → GetsText argument s text t → GotAll s t text
+  gets_all s t text gets =
+      ⊎_elim
+      (λ takes.
+      let last = subst (λ b. TakesOwnText b argument s text t) all takes in
+      record {
+        pieces_are = took_texts s t text last.before last.taken;
+        none =
+            no_pieces (is_key_with_value argument) q WithNext t (test argument plain) last.no_more;
+      })
+      (λ variable. absurd (never_set argument no_envs s text variable.set)) gets
+
+  -- the pieces of a text, up to the last one
+  whole : (s t : Situation) (text : List ℕ) (got : GotAll s t text)
+      → pieces q (cells s) ≡ got.pieces_are.before
+      ++ Two got.pieces_are.key got.pieces_are.word ∷ []
+  whole s t text got =
+      let a = got.pieces_are in
+      a.is ∙ ap (λ z. a.before ++ Two a.key a.word ∷ z) got.none
+
+  -- a value is that of the last piece
+  last_ok : (s t : Situation) (v : T) → IsWhole s → ArgumentOutcome means argument s (Ok v) t
+      → SingleOk T Named q (LastGroup T means) (no_gap T) s v t
+  last_ok s t v w o =
+      let got = gets_all s t o.0 o.1 in
+      let a = got.pieces_are in
+      let group : (rest : List Piece) → rest ≡ []
+      → LastGroup T means (pieces q (cells s)) v rest = (λ rest none. record {
+        before = a.before;
+        key = a.key;
+        word = a.word;
+        is = whole s t o.0 got;
+        have_values = a.have_values;
+        meant = subst (λ z. means z v) (sym a.text_is) o.2;
+        none_left = none;
+      }) in
+      took a.steady a.any (takes_nonempty q a.any.one)
+      (λ readable. group (pieces q (cells t)) got.none)
+      (λ x rest g. (group rest g.none_left, got.none ∙ sym g.none_left))
+
+  -- where a last text means no value, the pieces have none
+  fault_group : (s t : Situation) (text : List ℕ) → GotAll s t text
+      → ((v : T) → means text v → ⊥) → (v : T) (rest : List Piece)
+      → LastGroup T means (pieces q (cells s)) v rest → ⊥
+  fault_group s t text got nothing v rest g =
+      let a = got.pieces_are in
+      let same : Two g.key g.word ≡ Two a.key a.word =
+      last_same Piece g.before a.before (Two g.key g.word) (Two a.key a.word)
+      (sym g.is ∙ whole s t text got) in
+      let word : g.word ≡ a.word = cc in
+      nothing v (subst (λ z. means z v) (ap item_text word ∙ a.text_is) g.meant)
+
+  -- where a key has no value, the pieces have none
+  bare_refused : (s t : Situation) (e : Error) (k : Arg) (tail : List Piece) → class e ≡ Refused
+      → TookSome s t → pieces q (cells t) ≡ One k ∷ tail
+      → SingleErr T Named q (LastGroup T means) (no_gap T) s e t
+  bare_refused s t e k tail c some is =
+      let there : pieces q (cells s) ≡ some.pairs ++ One k ∷ tail =
+      some.is ∙ ap (λ z. some.pairs ++ z) is in
+      of_piece c
+      (λ none. not_there some.pairs (sym there ∙ none))
+      (λ v rest g. bare_spoils some.pairs tail g.before k g.key g.word g.have_values
+      (sym there ∙ g.is))
+    where
+      not_there : (ps : List Piece) → ps ++ One k ∷ tail ≡ [] → ⊥
+      not_there [] f = cc
+      not_there (p ∷ ps) f = cc
+
+  -- a refusal: no piece, one without a value, or a last one that means none
+  last_err : (s t : Situation) (e : Error) (m : Message) → class e ≡ class_of m
+      → ArgumentFails means argument s m t
+      → SingleErr T Named q (LastGroup T means) (no_gap T) s e t
+  last_err s t e Memory c o = of_memory c
+  last_err s t e (ParseFailed place fault) c o =
+      let got = gets_all s t o.0 o.1 in
+      let a = got.pieces_are in
+      of_piece c (takes_nonempty q a.any.one) (fault_group s t o.0 got o.2.0)
+  last_err s t e (NoArgument key metavar) c o =
+      let before = subst (λ b. TakesBefore b argument s t) all o.1 in
+      let m = match_of (is_key_with_value argument) t key o.0.0.matches in
+      let b = bare_taken (is_key_with_value argument) q t key (test argument plain) o.0.0 m o.0.1 in
+      bare_refused s t e m.item b.tail c (took_some s t before.0 before.1) b.is
+  last_err s t e other c o =
+      subst (λ z. SingleErr T Named q (LastGroup T means) (no_gap T) s e z) (sym o.2)
+      (of_missing
+      (c ∙ missing_class other
+      (absence_missing s (argument_part argument) argument.named.envs no_envs other o.1.1))
+      refl (no_pieces (is_key_with_value argument) q WithNext s (test argument plain) o.0) refl
+      (steady_refl s))
+
+  -- such an argument keeps to the laws of a field
+  pub last_argument_law : SingleLaw T (ArgumentOutcome means argument) Named q (LastGroup T means)
+      (no_gap T)
+  last_argument_law = record {
+    own = named argument plain;
+    words = tt;
+    starts = λ v rest g. not_nil g.before (Two g.key g.word) (sym g.is);
+    no_absent = λ v none a. a;
+    ok = last_ok;
+    err = λ s t e w o. last_err s t e e.0 refl o;
+  }
