@@ -1,7 +1,7 @@
 //! Keys and their names in the environment.
-ghost use Rattle.std.specs.Prelude.{◌≡◌, IfOk, option_copied, option_map};
+ghost use Rattle.std.specs.Prelude.{◌≡◌, IfOk, false, option_copied, option_map, true};
 ghost use Rattle.bpaf_doc.specs.Shape.{part_of};
-ghost use Rattle.bpaf_laws.specs.Argument.{TakesText};
+ghost use Rattle.bpaf_laws.specs.Argument.{TakesText, TakesAtKey};
 ghost use Rattle.bpaf_laws.specs.Environment.{first_set, IsAbsence};
 ghost use Rattle.bpaf_laws.specs.Flag.{IsPresent};
 
@@ -50,19 +50,62 @@ pub fn is_present(named: &NamedArg, state: &mut State) -> bool
     found || first_set(state, named.envs()).is_some()
 }
 
-/// The text of an argument: that behind its key, or, where there is no key, that of the first name in
-/// the environment that is set (bpaf's `take_argument`).
+/// The text behind the first key of an argument, both of which are taken; None, and nothing changes,
+/// where there is no key. Refused as [`State::take_arg`] is.
+fn take_first_key<T>(
+    argument: &ParseArgument<T>,
+    state: &mut State,
+) -> Result<Option<String>, Error>
+    ensures { TakesAtKey false argument.now state.old result state.new }
+{
+    let named = &argument.named;
+    state.take_arg(
+        named.shorts(),
+        named.longs(),
+        argument.adjacent,
+        argument.metavar,
+    )
+}
+
+/// The text behind the last key of an argument, all of whose keys are taken, each with the text behind
+/// it; None, and nothing changes, where there is no key.
+///
+/// Refused as [`State::take_arg`] is; the keys before the refused one then stay taken.
+fn take_all_keys<T>(argument: &ParseArgument<T>, state: &mut State) -> Result<Option<String>, Error>
+    ensures { TakesAtKey true argument.now state.old result state.new }
+{
+    let mut last = None;
+    while let Some(text) = take_first_key(argument, state)? {
+        last = Some(text);
+    }
+    Ok(last)
+}
+
+/// The text behind the key of an argument that counts: the last one of all, or the first one alone.
+///
+/// None, and nothing changes, where there is no key; refused as these are.
+fn take_key<T>(argument: &ParseArgument<T>, state: &mut State) -> Result<Option<String>, Error>
+    ensures { TakesAtKey argument.now.last argument.now state.old result state.new }
+{
+    if argument.last {
+        take_all_keys(argument, state)
+    } else {
+        take_first_key(argument, state)
+    }
+}
+
+/// The text of an argument: that behind its key, or behind the last of all its keys where that counts;
+/// or, where there is no key, that of the first name in the environment that is set (bpaf's
+/// `take_argument`, which knows no last key).
 pub fn take_argument<T>(argument: &ParseArgument<T>, state: &mut State) -> Result<String, Error>
     ensures { TakesText argument.now state.old result state.new }
 {
     let named = &argument.named;
-    let metavar = argument.metavar;
-    let taken = state.take_arg(named.shorts(), named.longs(), argument.adjacent, metavar)?;
-    if let Some(text) = taken {
+    if let Some(text) = take_key(argument, state)? {
         return Ok(text);
     }
     let Some(value) = first_set(state, named.envs()) else {
-        let item = named.argument_item(state.alloc(), metavar)?;
+        let item = named.argument_item(state.alloc(), argument.metavar)?;
         return Err(absence(state, item, named.envs())?);
     };
     let text = String::from_str(state.alloc(), value)?;
