@@ -8,7 +8,7 @@ use Rattle.bpaf_line.specs.Situation.{Situation, is_taken, is_open, in_scope, wi
 use Rattle.bpaf_line.proofs.Places.{open_in_scope, open_not_taken}
 use Rattle.bpaf_laws.specs.Reading.{Readings, Outcome, Share, IsEmptyShare, HasPlace}
 use Rattle.bpaf_laws.specs.Laws.{Keeps, Reads, Lawful, newly}
-use Rattle.bpaf_laws.specs.Spared.{IsNotMemory, WithoutMemory}
+use Rattle.bpaf_laws.specs.Spared.{IsNotMemory, Spares}
 use Rattle.bpaf_laws.specs.OneRun.{IsRun}
 use Rattle.bpaf_laws.specs.AdjacentGroup.{GroupReads, Failure, longer, taken_by, Probe}
 use Rattle.bpaf_laws.specs.AdjacentGroup.{Narrowed, whole, again, Tries, answered, refused}
@@ -184,28 +184,31 @@ pub group_takes_run : {T : Type 0} {inner : Outcome T} {reads : Readings T} (fir
 group_takes_run first law s (Ok v) t o = ((group_lawful first law).ok s t v o).reading.run
 group_takes_run first law s (Err e) t o = tt
 
-module _ {T : Type 0} (inner : Outcome T) (s : Situation) where
+module _ {T : Type 0} (inner without : Outcome T) (spares : Spares inner without) (s : Situation) where
   -- what ended an attempt with a value isn't want of memory
-  narrowed_spared : (a b : ℕ) → Narrowed T inner s a b → Narrowed T (WithoutMemory inner) s a b
+  narrowed_spared : (a b : ℕ) → Narrowed T inner s a b → Narrowed T without s a b
   narrowed_spared a b (whole stop run) = whole stop run
   narrowed_spared a b (again stop left v t before ran next) =
-      again stop left v t (narrowed_spared a stop before) (ran, tt) next
+      again stop left v t (narrowed_spared a stop before)
+      (spares (with_scope s a stop) t (Ok v) ran tt) next
 
   -- attempts catch no want of memory
   tries_spared : (a : ℕ) (r : Result T Error) (t : Situation) → IsNotMemory r
-      → Tries T inner s a r t → Tries T (WithoutMemory inner) s a r t
+      → Tries T inner s a r t → Tries T without s a r t
   tries_spared a r t spared (answered stop v left narrowed ran none) =
-      answered stop v left (narrowed_spared a stop narrowed) (ran, tt) none
+      answered stop v left (narrowed_spared a stop narrowed)
+      (spares (with_scope s a stop) left (Ok v) ran tt) none
   tries_spared a r t spared (refused stop e left narrowed ran) =
-      refused stop e left (narrowed_spared a stop narrowed) (ran, spared)
+      refused stop e left (narrowed_spared a stop narrowed)
+      (spares (with_scope s a stop) left (Err e) ran spared)
 
   -- nor do probes
   probe_spared : (a stop : ℕ) (Takes : Share → Type 0) → Probe T inner s a stop Takes
-      → Probe T (WithoutMemory inner) s a stop Takes
+      → Probe T without s a stop Takes
   probe_spared a stop Takes probe = record {
     answer = probe.answer;
     left = probe.left;
-    ran = (probe.ran, probe.spared);
+    ran = spares (with_scope s a stop) probe.left probe.answer probe.ran probe.spared;
     spared = probe.spared;
     takes = probe.takes;
   }
@@ -214,7 +217,7 @@ module _ {T : Type 0} (inner : Outcome T) (s : Situation) where
   tried_spared : (a stop : ℕ) (best : Option Failure) (r : Result (Option T) Error)
       (after : Option Failure) (t : Situation) → IsNotMemory r
       → TriesAt T inner s a stop best r after t
-      → TriesAt T (WithoutMemory inner) s a stop best r after t
+      → TriesAt T without s a stop best r after t
   tried_spared a stop best r after t not_memory (skipped probe) =
       skipped (probe_spared a stop IsEmptyShare probe)
   tried_spared a stop best r after t not_memory (failed e left probe tries spared) =
@@ -228,7 +231,7 @@ module _ {T : Type 0} (inner : Outcome T) (s : Situation) where
   -- so an adjacent group catches none
   pub spared_group : (first : Part) (from : ℕ) (best : Option Failure) (r : Result T Error)
       (t : Situation) → Searches T inner s first from best r t → IsNotMemory r
-      → Searches T (WithoutMemory inner) s first from best r t
+      → Searches T without s first from best r t
   spared_group first from best r t (over from' best' e t' none ends) spared =
       over from' best' e t' none ends
   spared_group first from best r t (on from' a best' after r' t' start tried rest) spared =

@@ -18,6 +18,7 @@ pub mod Choosing
 pub mod Leftmost
 pub mod PureLaws
 pub mod ProductLaws
+pub mod ProductSparing
 pub mod AdjacentGroupLaws
 pub mod Shapes
 pub mod ChoicesLaws

@@ -2,6 +2,7 @@
 use Rattle.std.specs.Prelude.{◌≡◌, ◌⊎◌, false, Result, Ok, Err, Option, None}
 use Rattle.bpaf_line.specs.Messages.{is_memory}
 use Rattle.bpaf_line.specs.declared.error.Error.{Error}
+use Rattle.bpaf_line.specs.Situation.{Situation}
 use Rattle.bpaf_laws.specs.Reading.{Outcome}
 
 -- an answer that isn't want of memory
@@ -12,6 +13,12 @@ IsNotMemory (Err e) = is_memory e.0 ≡ false
 -- an outcome's answers that aren't want of memory
 abbrev pub WithoutMemory : {T : Type 0} → Outcome T → Outcome T
 WithoutMemory outcome s r t = outcome s r t × IsNotMemory r
+
+-- of an outcome, what is answered where nothing inside wanted memory: each answer that isn't want of
+-- memory is one of these
+abbrev pub Spares : {T : Type 0} → Outcome T → Outcome T → Type 0
+Spares {T} outcome without = (s t : Situation) (r : Result T Error) → outcome s r t → IsNotMemory r
+    → without s r t
 
 -- None leaves the situation as it was
 abbrev pub NoneTakesNothing : {T : Type 0} → Outcome (Option T)
