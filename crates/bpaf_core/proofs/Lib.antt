@@ -4,3 +4,4 @@ pub mod Ending
 pub mod Commanding
 pub mod Attempting
 pub mod Refusing
+pub mod RunSparing

@@ -25,7 +25,8 @@ use Rattle.bpaf_core.specs.Adjacent.{wants_memory}
 use Rattle.bpaf_core.specs.Adjacent.{EitherCommandOutcome, EitherCommandReads}
 use Rattle.bpaf_core.specs.Ending.{Ending}
 use Rattle.bpaf_core.specs.EndingLaws.{LawfulEnding}
-use Rattle.bpaf_core.specs.CommandLaws.{IsNotWant, command_lawful, command_leaves_nothing}
+use Rattle.bpaf_core.specs.Run.{IsNotWant}
+use Rattle.bpaf_core.specs.CommandLaws.{command_lawful, command_leaves_nothing}
 use Rattle.bpaf_core.specs.CommandLaws.{run_empty, run_read, runs_keeps, spared_command, spared_run}
 
 module _ {T : Type 0} {inner : Outcome T} {ending : Ending} (ends : LawfulEnding ending)

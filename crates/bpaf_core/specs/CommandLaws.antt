@@ -18,15 +18,10 @@ use Rattle.bpaf_laws.proofs.CommandLaws.{inside_read, keeps_inside, keeps_opened
 use Rattle.bpaf_laws.proofs.Keeping.{keeps_trans, keeps_unset}
 use Rattle.bpaf_core.specs.Ending.{Ending}
 use Rattle.bpaf_core.specs.EndingLaws.{LawfulEnding}
-use Rattle.bpaf_core.specs.Run.{Runs, leftover, refused}
+use Rattle.bpaf_core.specs.Run.{IsNotWant, Runs, leftover, refused}
 use Rattle.bpaf_core.specs.Run.{value as run_value}
 use Rattle.bpaf_core.specs.Command.{CommandOutcome, ended, missing, no_memory, value}
 use Rattle.bpaf_parts.specs.Failures.{end_message}
-
--- a run's answer that isn't told as want of memory
-abbrev pub IsNotWant : {T : Type 0} → Result T ParseFailure → Type 0
-IsNotWant (Ok v) = Unit {0}
-IsNotWant (Err f) = is_memory (end_message f) ≡ false
 
 -- after a value of a run nothing is present
 pub run_empty : {T : Type 0} {inner : Outcome T} {ending : Ending} (s : Situation) (v : T) (t : Situation)

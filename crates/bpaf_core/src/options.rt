@@ -11,7 +11,8 @@ ghost use Rattle.bpaf_line.specs.Constructing.{Constructs};
 ghost use Rattle.bpaf_core.specs.Known.{ReadsNames, ShowsNames, TellsOrder};
 ghost use Rattle.bpaf_core.specs.Dealt.{IsDealtOut};
 ghost use Rattle.bpaf_core.specs.Ending.{EndsRefused, EndsRun, IsHelp, ShowsHelp, Tells};
-ghost use Rattle.bpaf_core.specs.Run.{Runs, RunsWords};
+ghost use Rattle.bpaf_core.specs.Run.{IsNotWant, Runs, RunsWords};
+ghost use Rattle.bpaf_laws.specs.Spared.{WithoutMemory};
 ghost use Rattle.bpaf_core.specs.Ending.{PassesOrTells, TellsFault, is_shown};
 ghost use Rattle.bpaf_core.specs.Refusals.{IsOneOfTwelve};
 ghost use Rattle.std.specs.Result.{IfErr};
@@ -211,6 +212,9 @@ impl<T: Drop, P: Parser<T>> OptionParser<T, P> {
     /// value that a check refused; no value of what looks at no item, or of a repeat that wants one;
     /// an item that another excludes; a key once more than it may stand; an item that no parser took.
     /// Or the parser hands on that of a run inside it, as commands do.
+    ///
+    /// Want of memory is caught nowhere: where the answer isn't want of memory, nor is that of the
+    /// parser.
     pub fn run_inner(&self, args: Args<'_>) -> Result<T, ParseFailure>
         requires { P.can_eval self.now.inner }
         ensures outcome { RunsWords T (P.outcome self.now.inner) (P.describes self.now.inner)
@@ -219,6 +223,9 @@ impl<T: Drop, P: Parser<T>> OptionParser<T, P> {
             (P.describes self.now.inner) self.now.info (given_of args.entry)) }
         ensures dealt { IfOk result (λ v. IsDealtOut T (P.reads self.now.inner)
             (P.describes self.now.inner) self.now.info (given_of args.entry) v) }
+        ensures memory_is_never_caught { IsNotWant result →
+            RunsWords T (WithoutMemory (P.outcome self.now.inner)) (P.describes self.now.inner)
+            self.now.info (given_of args.entry) result }
     {
         let Ok((flags, arguments)) = self.names_for(args) else {
             return Err(ParseFailure::Memory);
@@ -426,6 +433,9 @@ impl<T: Drop, P: Parser<T> + Drop> OptionParser<T, P> {
             (P.describes self.inner) self.info (given_of args.entry)) }
         ensures dealt { IfOk result (λ v. IsDealtOut T (P.reads self.inner)
             (P.describes self.inner) self.info (given_of args.entry) v) }
+        ensures memory_is_never_caught { IsNotWant result →
+            RunsWords T (WithoutMemory (P.outcome self.inner)) (P.describes self.inner)
+            self.info (given_of args.entry) result }
     {
         self.run_inner(args)
     }

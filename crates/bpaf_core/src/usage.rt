@@ -15,6 +15,7 @@ pub struct ParseUsage<P> {
 /// The inner answer, with the state that it left.
 impl<T, P: Parser<T>> Parser<T> for ParseUsage<P> {
     ghost use Rattle.bpaf_laws.specs.Hide.{UsageDescribes};
+    ghost use Rattle.bpaf_laws.specs.Spared.{IsNotMemory, WithoutMemory};
 
     ghost can_eval = { λ p. P.can_eval p.inner };
 
@@ -24,7 +25,12 @@ impl<T, P: Parser<T>> Parser<T> for ParseUsage<P> {
 
     ghost outcome = { λ p. P.outcome p.inner };
 
-    fn eval(&self, state: &mut State) -> Result<T, Error> {
+    fn eval(&self, state: &mut State) -> Result<T, Error>
+        requires { P.can_eval self.now.inner }
+        ensures outcome { P.outcome self.now.inner state.old result state.new }
+        ensures memory_is_never_caught { IsNotMemory result →
+            WithoutMemory (P.outcome self.now.inner) state.old result state.new }
+    {
         self.inner.eval(state)
     }
 
@@ -48,6 +54,7 @@ pub struct ParseGroupHelp<P> {
 /// The inner answer, with the state that it left.
 impl<T, P: Parser<T>> Parser<T> for ParseGroupHelp<P> {
     ghost use Rattle.bpaf_laws.specs.Hide.{SectionDescribes};
+    ghost use Rattle.bpaf_laws.specs.Spared.{IsNotMemory, WithoutMemory};
 
     ghost can_eval = { λ p. P.can_eval p.inner };
 
@@ -57,7 +64,12 @@ impl<T, P: Parser<T>> Parser<T> for ParseGroupHelp<P> {
 
     ghost outcome = { λ p. P.outcome p.inner };
 
-    fn eval(&self, state: &mut State) -> Result<T, Error> {
+    fn eval(&self, state: &mut State) -> Result<T, Error>
+        requires { P.can_eval self.now.inner }
+        ensures outcome { P.outcome self.now.inner state.old result state.new }
+        ensures memory_is_never_caught { IsNotMemory result →
+            WithoutMemory (P.outcome self.now.inner) state.old result state.new }
+    {
         self.inner.eval(state)
     }
 
@@ -81,6 +93,7 @@ pub struct ParseWithGroupHelp<P, F> {
 impl<T, P: Parser<T>, F: Fn(MetaInfo<'_>) -> Result<Doc, AllocError>> Parser<T>
     for ParseWithGroupHelp<P, F> {
     ghost use Rattle.bpaf_laws.specs.Hide.{TitledDescribes};
+    ghost use Rattle.bpaf_laws.specs.Spared.{IsNotMemory, WithoutMemory};
 
     ghost can_eval = { λ p. P.can_eval p.inner × F.IsAlwaysCallable p.f };
 
@@ -91,7 +104,13 @@ impl<T, P: Parser<T>, F: Fn(MetaInfo<'_>) -> Result<Doc, AllocError>> Parser<T>
 
     ghost outcome = { λ p. P.outcome p.inner };
 
-    fn eval(&self, state: &mut State) -> Result<T, Error> {
+    fn eval(&self, state: &mut State) -> Result<T, Error>
+        requires inner { P.can_eval self.now.inner }
+        requires callable { F.IsAlwaysCallable self.now.f }
+        ensures outcome { P.outcome self.now.inner state.old result state.new }
+        ensures memory_is_never_caught { IsNotMemory result →
+            WithoutMemory (P.outcome self.now.inner) state.old result state.new }
+    {
         self.inner.eval(state)
     }
 

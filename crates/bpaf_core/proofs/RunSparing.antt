@@ -1,0 +1,25 @@
+-- A run over words catches no want of memory.
+use Rattle.std.specs.Prelude.{◌≡◌, true, false, Result, Ok, Err}
+use Rattle.std.proofs.Common.{true≢false}
+use Rattle.bpaf_doc.specs.Shape.{Shape}
+use Rattle.bpaf_line.specs.declared.failure.ParseFailure.{ParseFailure}
+use Rattle.bpaf_line.specs.Situation.{beginning}
+use Rattle.bpaf_words.specs.Arguments.{Given}
+use Rattle.bpaf_laws.specs.Reading.{Outcome}
+use Rattle.bpaf_laws.specs.Spared.{WithoutMemory}
+use Rattle.bpaf_parts.specs.Info.{RunInfo}
+use Rattle.bpaf_core.specs.CommandLaws.{spared_run}
+use Rattle.bpaf_core.specs.EndingLaws.{run_ending}
+use Rattle.bpaf_core.specs.Run.{IsNotWant, RunsWords, ran, no_line, no_memory}
+
+module _ {T : Type 0} (inner : Outcome T) (describes : Shape → Type 0) (info : RunInfo) where
+  -- an answer that isn't told as want of memory comes of an inner one that isn't it
+  pub words_spared : (given : Given) (r : Result T ParseFailure)
+      → RunsWords T inner describes info given r → IsNotWant r
+      → RunsWords T (WithoutMemory inner) describes info given r
+  words_spared given r (ran context answer t line run) spared =
+      ran context answer t line
+      (spared_run (run_ending describes info) (beginning context) answer t run spared)
+  words_spared given r (no_line shape word number context f shows none empty named renders) spared =
+      no_line shape word number context f shows none empty named renders
+  words_spared given r no_memory spared = absurd (true≢false spared)
