@@ -466,7 +466,7 @@ impl<V: Drop, T: Drop, P: Fields<V>, F: Fn(V) -> T> Parser<T> for ParseAdjacent<
     ghost use Rattle.std.specs.Prelude.{IfOk};
     ghost use Rattle.bpaf_doc.specs.Shape.{part_of};
     ghost use Rattle.bpaf_laws.specs.Laws.{newly};
-    ghost use Rattle.bpaf_laws.specs.Spared.{IsNotMemory, WithoutMemory};
+    ghost use Rattle.bpaf_laws.specs.Spared.{IsNotMemory};
     ghost use Rattle.bpaf_laws.specs.Product.{ProductOutcome, ProductReads, ProductDescribes};
     ghost use Rattle.bpaf_laws.proofs.ProductLaws.{product_lawful};
     ghost use Rattle.bpaf_laws.specs.AdjacentGroup.{GroupDescribes, GroupOutcome, GroupReads};
@@ -491,8 +491,8 @@ impl<V: Drop, T: Drop, P: Fields<V>, F: Fn(V) -> T> Parser<T> for ParseAdjacent<
             state.old result state.new }
         ensures takes_one_run { IfOk result (λ _. IsRun (newly state.old state.new)) }
         ensures memory_is_never_caught { IsNotMemory result →
-            GroupOutcome T (WithoutMemory (ProductOutcome (P.fast_outcome self.now.inner.fields)
-            (λ x y. F.post self.now.inner.make x y))) (part_of self.now.first)
+            GroupOutcome T (ProductOutcome (P.fast_spared_outcome self.now.inner.fields)
+            (λ x y. F.post self.now.inner.make x y)) (part_of self.now.first)
             state.old result state.new }
     {
         let product = FailFast {

@@ -48,7 +48,7 @@ pub fn cargo_helper<P: Drop>(
 impl<T: Drop, P: Parser<T>> Parser<T> for CargoHelper<P> {
     ghost use Rattle.std.specs.Prelude.{◌≡◌, Option};
     ghost use Rattle.bpaf_laws.specs.Product.{ProductOutcome, ProductReads, ProductDescribes};
-    ghost use Rattle.bpaf_laws.specs.Spared.{IsNotMemory, WithoutMemory};
+    ghost use Rattle.bpaf_laws.specs.Spared.{IsNotMemory};
     ghost use Rattle.bpaf_doc.specs.Shape.{Any};
     ghost use Rattle.bpaf_laws.specs.Any.{IsLiteral};
     ghost use Rattle.bpaf_laws.proofs.AnyLaws.{any_lawful};
@@ -74,9 +74,9 @@ impl<T: Drop, P: Parser<T>> Parser<T> for CargoHelper<P> {
         ensures outcome { ProductOutcome
             (⟦<Both<SkippedWord, Last<P>> as Fields<(Option<()>, T)>>⟧.outcome self.now.fields)
             (λ values v. v ≡ values.1) state.old result state.new }
-        ensures memory_is_never_caught { IsNotMemory result → ProductOutcome (WithoutMemory
-            (⟦<Both<SkippedWord, Last<P>> as Fields<(Option<()>, T)>>⟧.outcome self.now.fields))
-            (λ values v. v ≡ values.1) state.old result state.new }
+        ensures memory_is_never_caught { IsNotMemory result → ProductOutcome
+            (⟦<Both<SkippedWord, Last<P>> as Fields<(Option<()>, T)>>⟧.spared_outcome
+            self.now.fields) (λ values v. v ≡ values.1) state.old result state.new }
     {
         let values: Result<(Option<()>, T), Error> = self.fields.eval_fields(state);
         state.set_current(None);

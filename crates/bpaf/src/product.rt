@@ -14,6 +14,7 @@ pub trait Fields<V>: Sized {
     ghost use Rattle.bpaf_doc.specs.Shape.{Shape};
     ghost use Rattle.bpaf_laws.specs.Reading.{Outcome, Readings};
     ghost use Rattle.bpaf_laws.specs.Laws.{Lawful};
+    ghost use Rattle.bpaf_laws.specs.Spared.{Spares};
 
     /// Whether each field may be evaluated.
     ghost can_eval: { Self → Type 0 };
@@ -26,6 +27,9 @@ pub trait Fields<V>: Sized {
 
     /// What an evaluation of all fields may answer, and which situation it leaves.
     ghost outcome: { Self → Outcome V };
+
+    /// The same where none of the fields wanted memory.
+    ghost spared_outcome: { Self → Outcome V };
 
     /// Evaluates every field in order, also after an error; the first failing field's error is the
     /// answer. Want of memory is the answer at once.
@@ -42,6 +46,9 @@ pub trait Fields<V>: Sized {
     /// What such an evaluation may answer where a failing first field is the end.
     ghost fast_outcome: { Self → Outcome V };
 
+    /// The same where none of the fields wanted memory.
+    ghost fast_spared_outcome: { Self → Outcome V };
+
     /// Evaluates the first field, where it fails no other one, and else the others as ever: an
     /// adjacent group finds its first item so.
     fn eval_fail_fast(&self, state: &mut State) -> Result<V, Error>
@@ -53,6 +60,14 @@ pub trait Fields<V>: Sized {
 
     /// What it keeps to where a failing first field is the end.
     ghost fast_lawful: { (p : Self) → Lawful V (fast_outcome p) (reads p) };
+
+    /// No field's want of memory is caught: an answer that isn't want of memory is one where none
+    /// of them wanted it.
+    ghost memory_is_never_caught: { (p : Self) → Spares (outcome p) (spared_outcome p) };
+
+    /// Nor is it where a failing first field is the end.
+    ghost fast_memory_is_never_caught: { (p : Self)
+        → Spares (fast_outcome p) (fast_spared_outcome p) };
 }
 
 /// The last field of a product.
@@ -64,6 +79,7 @@ pub struct Last<A> {
 
 impl<T: Drop, A: Parser<T>> Fields<T> for Last<A> {
     ghost use Rattle.bpaf_laws.specs.Product.{LastDescribes};
+    ghost use Rattle.bpaf_laws.specs.Spared.{WithoutMemory};
 
     ghost can_eval = { λ p. A.can_eval p.last };
 
@@ -91,6 +107,14 @@ impl<T: Drop, A: Parser<T>> Fields<T> for Last<A> {
     ghost lawful = { λ p. A.lawful p.last };
 
     ghost fast_lawful = { λ p. A.lawful p.last };
+
+    ghost spared_outcome = { λ p. WithoutMemory (A.outcome p.last) };
+
+    ghost fast_spared_outcome = { λ p. WithoutMemory (A.outcome p.last) };
+
+    ghost memory_is_never_caught = { λ p s t r answered spared. (answered, spared) };
+
+    ghost fast_memory_is_never_caught = { λ p s t r answered spared. (answered, spared) };
 }
 
 /// A field of a product, and the fields after it.
@@ -103,10 +127,11 @@ pub struct Both<A, R> {
 }
 
 impl<T: Drop, V: Drop, A: Parser<T>, R: Fields<V>> Fields<(T, V)> for Both<A, R> {
-    ghost use Rattle.bpaf_laws.specs.Spared.{IsNotMemory, WithoutMemory};
+    ghost use Rattle.bpaf_laws.specs.Spared.{WithoutMemory};
     ghost use Rattle.bpaf_laws.specs.Product.{BothOutcome, BothReads, BothDescribes};
     ghost use Rattle.bpaf_laws.specs.Product.{FailFastOutcome};
     ghost use Rattle.bpaf_laws.proofs.ProductLaws.{both_lawful, fail_fast_lawful};
+    ghost use Rattle.bpaf_laws.proofs.ProductSparing.{both_spares, fail_fast_spares};
 
     ghost can_eval = { λ p. A.can_eval p.first × R.can_eval p.rest };
 
@@ -116,15 +141,7 @@ impl<T: Drop, V: Drop, A: Parser<T>, R: Fields<V>> Fields<(T, V)> for Both<A, R>
 
     ghost outcome = { λ p. BothOutcome (A.outcome p.first) (R.outcome p.rest) };
 
-    fn eval_fields(&self, state: &mut State) -> Result<(T, V), Error>
-        requires first { A.can_eval self.now.first }
-        requires rest { R.can_eval self.now.rest }
-        ensures outcome { BothOutcome (A.outcome self.now.first) (R.outcome self.now.rest)
-            state.old result state.new }
-        ensures memory_is_never_caught { IsNotMemory result →
-            BothOutcome (WithoutMemory (A.outcome self.now.first))
-            (WithoutMemory (R.outcome self.now.rest)) state.old result state.new }
-    {
+    fn eval_fields(&self, state: &mut State) -> Result<(T, V), Error> {
         match self.first.eval(state) {
             Ok(first) => match self.rest.eval_fields(state) {
                 Ok(rest) => Ok((first, rest)),
@@ -155,15 +172,7 @@ impl<T: Drop, V: Drop, A: Parser<T>, R: Fields<V>> Fields<(T, V)> for Both<A, R>
 
     ghost fast_outcome = { λ p. FailFastOutcome (A.outcome p.first) (R.outcome p.rest) };
 
-    fn eval_fail_fast(&self, state: &mut State) -> Result<(T, V), Error>
-        requires first { A.can_eval self.now.first }
-        requires rest { R.can_eval self.now.rest }
-        ensures outcome { FailFastOutcome (A.outcome self.now.first) (R.outcome self.now.rest)
-            state.old result state.new }
-        ensures memory_is_never_caught { IsNotMemory result →
-            FailFastOutcome (WithoutMemory (A.outcome self.now.first))
-            (WithoutMemory (R.outcome self.now.rest)) state.old result state.new }
-    {
+    fn eval_fail_fast(&self, state: &mut State) -> Result<(T, V), Error> {
         match self.first.eval(state) {
             Ok(first) => match self.rest.eval_fields(state) {
                 Ok(rest) => Ok((first, rest)),
@@ -176,6 +185,18 @@ impl<T: Drop, V: Drop, A: Parser<T>, R: Fields<V>> Fields<(T, V)> for Both<A, R>
     ghost lawful = { λ p. both_lawful (A.lawful p.first) (R.lawful p.rest) };
 
     ghost fast_lawful = { λ p. fail_fast_lawful (A.lawful p.first) (R.lawful p.rest) };
+
+    ghost spared_outcome = { λ p.
+        BothOutcome (WithoutMemory (A.outcome p.first)) (R.spared_outcome p.rest) };
+
+    ghost fast_spared_outcome = { λ p.
+        FailFastOutcome (WithoutMemory (A.outcome p.first)) (R.spared_outcome p.rest) };
+
+    ghost memory_is_never_caught = { λ p. both_spares (A.outcome p.first) (R.outcome p.rest)
+        (R.spared_outcome p.rest) (R.memory_is_never_caught p.rest) };
+
+    ghost fast_memory_is_never_caught = { λ p. fail_fast_spares (A.outcome p.first)
+        (R.outcome p.rest) (R.spared_outcome p.rest) (R.memory_is_never_caught p.rest) };
 }
 
 /// A product: what a constructor makes of the values of fields (bpaf's `ParseCon`, in `structs.rs`).
@@ -210,7 +231,7 @@ impl<V, P, F> ParseCon<V, P, F> {
 }
 
 impl<V: Drop, T: Drop, P: Fields<V>, F: Fn(V) -> T> Parser<T> for ParseCon<V, P, F> {
-    ghost use Rattle.bpaf_laws.specs.Spared.{IsNotMemory, WithoutMemory};
+    ghost use Rattle.bpaf_laws.specs.Spared.{IsNotMemory};
     ghost use Rattle.bpaf_laws.specs.Product.{ProductOutcome, ProductReads, ProductDescribes};
     ghost use Rattle.bpaf_laws.proofs.ProductLaws.{product_lawful};
 
@@ -228,7 +249,7 @@ impl<V: Drop, T: Drop, P: Fields<V>, F: Fn(V) -> T> Parser<T> for ParseCon<V, P,
         ensures outcome { ProductOutcome (P.outcome self.now.fields)
             (λ x y. F.post self.now.make x y) state.old result state.new }
         ensures memory_is_never_caught { IsNotMemory result →
-            ProductOutcome (WithoutMemory (P.outcome self.now.fields))
+            ProductOutcome (P.spared_outcome self.now.fields)
             (λ x y. F.post self.now.make x y) state.old result state.new }
     {
         let values = self.fields.eval_fields(state);

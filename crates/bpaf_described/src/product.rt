@@ -35,6 +35,14 @@ impl<'p, V, P: Fields<V>> Fields<V> for LentFields<'p, P> {
     ghost lawful = { λ p. P.lawful p.inner.now };
 
     ghost fast_lawful = { λ p. P.fast_lawful p.inner.now };
+
+    ghost spared_outcome = { λ p. P.spared_outcome p.inner.now };
+
+    ghost fast_spared_outcome = { λ p. P.fast_spared_outcome p.inner.now };
+
+    ghost memory_is_never_caught = { λ p. P.memory_is_never_caught p.inner.now };
+
+    ghost fast_memory_is_never_caught = { λ p. P.fast_memory_is_never_caught p.inner.now };
 }
 
 /// The product of fields, whose values stay nested pairs.

@@ -2,6 +2,7 @@ use Rattle.std.proofs.Common.{None}
 use Rattle.bpaf_doc.specs.Shape.{part_of}
 use Rattle.bpaf_laws.specs.Product.{ProductOutcome}
 use Rattle.bpaf_laws.proofs.ProductLaws.{product_lawful}
+use Rattle.bpaf_laws.proofs.ProductSparing.{product_spares}
 use Rattle.bpaf_laws.proofs.AdjacentGroupLaws.{group_takes_run, spared_group}
 use Rattle.bpaf.proofs.adjacent.ParseAdjacentParseConParser.eval.Goals as goal
 
@@ -14,7 +15,12 @@ returns-clause-takes_one_run g c =
 
 pub returns-clause-memory_is_never_caught : goal.returns-clause-memory_is_never_caught
 returns-clause-memory_is_never_caught g c =
-    spared_group (ProductOutcome (g.P.Fields.fast_outcome c.args.self.now.inner.fields)
-    (λ x y. g.F.Fn.post c.args.self.now.inner.make (x, tt) y)) c.args.state.now
-    (part_of c.args.self.now.first) c.args.state.now.start None c.search.result
+    let fields = c.args.self.now.inner.fields in
+    let makes : g.row.V.Denot → g.row.T.Denot → Type 0 =
+    λ x y. g.F.Fn.post c.args.self.now.inner.make (x, tt) y in
+    let answers = g.P.Fields.fast_outcome fields in
+    let without = g.P.Fields.fast_spared_outcome fields in
+    spared_group (ProductOutcome answers makes) (ProductOutcome without makes)
+    (product_spares answers without makes (g.met.P.Fields.fast_memory_is_never_caught fields))
+    c.args.state.now (part_of c.args.self.now.first) c.args.state.now.start None c.search.result
     c.search.new.state c.search.ensures

@@ -1,4 +1,5 @@
-use Rattle.std.proofs.Common.{refl}
+use Rattle.std.proofs.Common.{refl, Ok}
+use Rattle.bpaf_laws.proofs.ProductSparing.{both_spares}
 use Rattle.bpaf.proofs.cargo.CargoHelperParser.eval.Goals as goal
 
 pub returns : goal.returns
@@ -8,7 +9,9 @@ returns g c =
     let evaluated = c.in_ok-values.ensures in
     let current = c.set_current.ensures.current in
     record {
-      outcome = (left, values, evaluated.outcome, refl, current);
+      outcome = (left, values, evaluated, refl, current);
       memory_is_never_caught =
-          λ spared. (left, values, (evaluated.outcome, spared), refl, current);
+          λ spared. (left, values,
+          both_spares _ _ _ (λ from to one ran not_memory. (ran, not_memory)) c.args.state.now
+          left (Ok values) evaluated tt, refl, current);
     }
