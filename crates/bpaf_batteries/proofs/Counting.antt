@@ -21,6 +21,9 @@ use Rattle.bpaf_laws.specs.Repeat.{EachReads, ListReads, CountOutcome, CountRead
 use Rattle.bpaf_batteries.proofs.Keys.{not_both}
 use Rattle.bpaf_batteries.specs.Keys.{is_key, MustStand, AreKeysApart, KeyOutcome, KeyReads}
 use Rattle.bpaf_batteries.specs.Level.{level}
+use Rattle.bpaf_laws.specs.Spared.{IsNotMemory, WithoutMemory}
+use Rattle.bpaf_laws.proofs.ProductSparing.{both_spares, product_spares}
+use Rattle.bpaf_batteries.specs.Verbosity.{CountsSpared}
 use Rattle.bpaf_batteries.specs.Verbosity.{CountsOutcome, IsItemAt, IsLevelOf, keys_in, keys_taken}
 use Rattle.bpaf_batteries.specs.Verbosity.{KeysAreCounted, last_place, PicksItem, VerbosityCounts}
 use Rattle.bpaf_batteries.specs.Verbosity.{VerbosityPicks}
@@ -189,6 +192,18 @@ module _ {T : Type 0} (clones : T → T → Type 0) (more fewer : ParseFlag T) (
       s r m → CountsOutcome clones more fewer s r t
   counts_ran (Ok counts) o = (m, counts, o, refl, unset)
   counts_ran (Err e) o = (m, o, unset)
+
+-- two counts catch no want of memory of their keys
+pub counts_spared : {T : Type 0} (clones : T → T → Type 0) (more fewer : ParseFlag T)
+    (s t : Situation) (r : Result (ℕ × ℕ) Error) → CountsOutcome clones more fewer s r t
+    → IsNotMemory r → CountsSpared clones more fewer s r t
+counts_spared clones more fewer s t r answered spared =
+    let first : Outcome ℕ = CountOutcome (KeyOutcome clones more) in
+    let last : Outcome ℕ = CountOutcome (KeyOutcome clones fewer) in
+    product_spares (BothOutcome first last) (BothOutcome (WithoutMemory first) (WithoutMemory last))
+    (λ counts v. v ≡ counts)
+    (both_spares first last (WithoutMemory last) (λ from to one ran not_memory. (ran, not_memory)))
+    s t r answered spared
 
 -- the counts are those of the keys that were newly taken
 pub keys_counted : {T : Type 0} (clones : T → T → Type 0) (more fewer : ParseFlag T)

@@ -11,6 +11,7 @@ use Rattle.bpaf_laws.specs.Choice.{ChoiceDescribes, ChoiceOutcome, ChoiceReads}
 use Rattle.bpaf_laws.specs.Flag.{flag_shape}
 use Rattle.bpaf_laws.specs.Reading.{Outcome, Readings}
 use Rattle.bpaf_laws.specs.Repeat.{ManyDescribes, ManyOutcome, ManyReads}
+use Rattle.bpaf_laws.specs.Spared.{WithoutMemory}
 use Rattle.bpaf_laws.specs.Transform.{MapOutcome, MapReads}
 use Rattle.bpaf_batteries.specs.Keys.{is_key, is_either, AreKeysApart, KeyOutcome, KeyReads}
 
@@ -56,6 +57,13 @@ abbrev pub ToggleOutcome : {T : Type 0} → (T → T → Type 0) → ParseFlag T
     → Outcome (Option T)
 ToggleOutcome clones one other catches =
     MapOutcome (ManyOutcome (EitherOutcome clones one other) catches)
+    (λ values v. IsLastOf values.items v)
+
+-- and where the repeat wanted no memory
+abbrev pub ToggleSpared : {T : Type 0} → (T → T → Type 0) → ParseFlag T → ParseFlag T → Bool
+    → Outcome (Option T)
+ToggleSpared clones one other catches =
+    MapOutcome (ManyOutcome (WithoutMemory (EitherOutcome clones one other)) catches)
     (λ values v. IsLastOf values.items v)
 
 -- what it reads

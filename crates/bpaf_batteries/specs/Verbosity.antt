@@ -13,6 +13,7 @@ use Rattle.bpaf_laws.specs.Product.{ProductDescribes, ProductOutcome, ProductRea
 use Rattle.bpaf_laws.specs.Reading.{Share, Outcome, Readings}
 use Rattle.bpaf_laws.specs.Repeat.{CountOutcome, CountReads, ManyDescribes}
 use Rattle.bpaf_batteries.specs.Level.{level}
+use Rattle.bpaf_laws.specs.Spared.{WithoutMemory}
 use Rattle.bpaf_batteries.specs.Keys.{is_key, KeyOutcome, KeyReads}
 
 -- how many places of a share have a key of a flag
@@ -37,6 +38,15 @@ abbrev pub CountsOutcome : {T : Type 0} → (T → T → Type 0) → ParseFlag T
 CountsOutcome clones more fewer =
     ProductOutcome
     (BothOutcome (CountOutcome (KeyOutcome clones more)) (CountOutcome (KeyOutcome clones fewer)))
+    (λ counts v. v ≡ counts)
+
+-- and where neither count wanted memory
+abbrev pub CountsSpared : {T : Type 0} → (T → T → Type 0) → ParseFlag T → ParseFlag T
+    → Outcome (ℕ × ℕ)
+CountsSpared clones more fewer =
+    ProductOutcome
+    (BothOutcome (WithoutMemory (CountOutcome (KeyOutcome clones more)))
+    (WithoutMemory (CountOutcome (KeyOutcome clones fewer))))
     (λ counts v. v ≡ counts)
 
 -- what they read

@@ -53,7 +53,8 @@ pub(crate) fn verbose_and_quiet(alloc: Global) -> Result<KeyCounts, AllocError>
 impl Parser<(usize, usize)> for KeyCounts {
     ghost use Rattle.std.specs.Prelude.{IfOk};
     ghost use Rattle.bpaf_batteries.specs.Verbosity.{CountsDescribe, CountsOutcome, CountsReads};
-    ghost use Rattle.bpaf_batteries.specs.Verbosity.{KeysAreCounted};
+    ghost use Rattle.bpaf_batteries.specs.Verbosity.{CountsSpared, KeysAreCounted};
+    ghost use Rattle.bpaf_laws.specs.Spared.{IsNotMemory};
     ghost use Rattle.bpaf_batteries.specs.VerbosityLaws.{counts_lawful};
 
     ghost can_eval = { λ p. Unit {0} };
@@ -71,6 +72,9 @@ impl Parser<(usize, usize)> for KeyCounts {
             self.now.fields.rest.last.inner state.old result state.new }
         ensures keys_are_counted { IfOk result (KeysAreCounted self.now.fields.first.inner
             self.now.fields.rest.last.inner state.old state.new) }
+        ensures memory_is_never_caught { IsNotMemory result → CountsSpared
+            ⟦<() as Clone>⟧.is_clone self.now.fields.first.inner
+            self.now.fields.rest.last.inner state.old result state.new }
     {
         let counts = self.fields.eval_fields(state);
         state.set_current(None);

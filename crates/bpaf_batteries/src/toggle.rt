@@ -40,7 +40,8 @@ pub fn toggle_flag<T: Clone + Drop>(a: NamedArg, val_a: T, b: NamedArg, val_b: T
 impl<T: Clone + Drop> Parser<Option<T>> for ToggleFlag<T> {
     ghost use Rattle.std.specs.Prelude.{IfOk};
     ghost use Rattle.bpaf_batteries.specs.Toggle.{LastToggleWins, ToggleDescribes, ToggleOutcome};
-    ghost use Rattle.bpaf_batteries.specs.Toggle.{ToggleReads};
+    ghost use Rattle.bpaf_batteries.specs.Toggle.{ToggleReads, ToggleSpared};
+    ghost use Rattle.bpaf_laws.specs.Spared.{IsNotMemory};
     ghost use Rattle.bpaf_batteries.specs.ToggleLaws.{toggle_lawful};
 
     ghost can_eval = { λ p. Unit {0} };
@@ -57,6 +58,9 @@ impl<T: Clone + Drop> Parser<Option<T>> for ToggleFlag<T> {
             self.now.toggles.inner.that self.now.toggles.catch state.old result state.new }
         ensures last_toggle_wins { IfOk result (LastToggleWins T.is_clone
             self.now.toggles.inner.this self.now.toggles.inner.that state.old) }
+        ensures memory_is_never_caught { IsNotMemory result → ToggleSpared T.is_clone
+            self.now.toggles.inner.this self.now.toggles.inner.that self.now.toggles.catch
+            state.old result state.new }
     {
         match self.toggles.eval(state) {
             Ok(values) => Ok(last_of(values)),

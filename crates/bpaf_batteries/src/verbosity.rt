@@ -67,7 +67,8 @@ impl Parser<isize> for VerboseQuiet {
     ghost use Rattle.bpaf_laws.specs.Transform.{MapOutcome, MapReads};
     ghost use Rattle.bpaf_laws.proofs.TransformLaws.{map_lawful};
     ghost use Rattle.bpaf_batteries.specs.Verbosity.{CountsDescribe, CountsOutcome, CountsReads};
-    ghost use Rattle.bpaf_batteries.specs.Verbosity.{IsLevelOf, VerbosityCounts};
+    ghost use Rattle.bpaf_batteries.specs.Verbosity.{CountsSpared, IsLevelOf, VerbosityCounts};
+    ghost use Rattle.bpaf_laws.specs.Spared.{IsNotMemory};
     ghost use Rattle.bpaf_batteries.specs.VerbosityLaws.{counts_lawful};
 
     ghost can_eval = { λ p. Unit {0} };
@@ -90,6 +91,10 @@ impl Parser<isize> for VerboseQuiet {
         ensures verbosity_counts { IfOk result (VerbosityCounts
             self.now.counts.fields.first.inner self.now.counts.fields.rest.last.inner
             self.now.offset self.now.min self.now.max state.old state.new) }
+        ensures memory_is_never_caught { IsNotMemory result → MapOutcome (CountsSpared
+            ⟦<() as Clone>⟧.is_clone self.now.counts.fields.first.inner
+            self.now.counts.fields.rest.last.inner)
+            (IsLevelOf self.now.offset self.now.min self.now.max) state.old result state.new }
     {
         match self.counts.eval(state) {
             Ok((more, fewer)) => Ok(level(self.offset, self.min, self.max, more, fewer)),
@@ -178,7 +183,8 @@ impl<T: Clone + Drop, const N: usize> Parser<T> for VerboseSlice<T, N> {
     ghost use Rattle.std.specs.Prelude.{ℕ, IfOk};
     ghost use Rattle.bpaf_laws.specs.Transform.{MapReads};
     ghost use Rattle.bpaf_batteries.specs.Verbosity.{CountsDescribe, CountsOutcome, CountsReads};
-    ghost use Rattle.bpaf_batteries.specs.Verbosity.{PickOutcome, VerbosityPicks};
+    ghost use Rattle.bpaf_batteries.specs.Verbosity.{CountsSpared, PickOutcome, VerbosityPicks};
+    ghost use Rattle.bpaf_laws.specs.Spared.{IsNotMemory};
     ghost use Rattle.bpaf_batteries.specs.VerbosityLaws.{counts_lawful, pick_lawful};
 
     ghost can_eval = { λ p. Unit {0} };
@@ -201,6 +207,10 @@ impl<T: Clone + Drop, const N: usize> Parser<T> for VerboseSlice<T, N> {
         ensures verbosity_counts { IfOk result (VerbosityPicks
             self.now.counts.fields.first.inner self.now.counts.fields.rest.last.inner
             T.is_clone self.now.offset self.now.items state.old state.new) }
+        ensures memory_is_never_caught { IsNotMemory result → PickOutcome (CountsSpared
+            ⟦<() as Clone>⟧.is_clone self.now.counts.fields.first.inner
+            self.now.counts.fields.rest.last.inner)
+            (PicksItem T.is_clone self.now.offset self.now.items) state.old result state.new }
     {
         match self.counts.eval(state) {
             Ok((more, fewer)) => Ok(item_at(&self.items, self.offset, more, fewer)?),

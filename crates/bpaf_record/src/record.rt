@@ -13,6 +13,7 @@ pub trait Record<T> {
     ghost use Rattle.std.specs.Result.{IfErr};
     ghost use Rattle.bpaf_line.specs.declared.failure.ParseFailure.{ParseFailure};
     ghost use Rattle.bpaf_words.specs.Arguments.{Given};
+    ghost use Rattle.bpaf_core.specs.Run.{IsNotWant};
 
     /// Whether they are a flat record.
     ghost is_flat: { Self → Bool };
@@ -37,6 +38,9 @@ pub trait Record<T> {
 
     /// Which values are dealt out of words.
     ghost deals: { Self → Given → T → Type 0 };
+
+    /// What a run may answer to words where the parser wanted no memory.
+    ghost answers_spared: { Self → Given → Result T ParseFailure → Type 0 };
 
     /// What a run of a flat record answers to words.
     ghost answers_exactly: { Self → Given → Result T ParseFailure → Type 0 };
@@ -69,6 +73,8 @@ pub trait Record<T> {
         ensures outcome { answers self.now (given_of args.entry) result }
         ensures named { IfErr result (refuses self.now (given_of args.entry)) }
         ensures dealt { IfOk result (deals self.now (given_of args.entry)) }
+        ensures memory_is_never_caught { IsNotWant result →
+            answers_spared self.now (given_of args.entry) result }
         ensures exact { agrees self.now → answers_exactly self.now (given_of args.entry) result }
         ensures each_exact { agrees self.now → (r : Result T ParseFailure)
             → answers self.now (given_of args.entry) r
@@ -106,6 +112,7 @@ impl<T: Drop, P: FlatField<T>> Record<T> for OptionParser<T, P> {
     ghost use Rattle.bpaf_core.specs.Dealt.{IsDealtOut};
     ghost use Rattle.bpaf_core.specs.Refusals.{IsOneOfTwelve};
     ghost use Rattle.bpaf_core.specs.Run.{RunsWords};
+    ghost use Rattle.bpaf_laws.specs.Spared.{WithoutMemory};
 
     ghost is_flat = { λ p. is_flat_record (P.shape p.inner) (P.keys p.inner) p.info };
 
@@ -126,6 +133,9 @@ impl<T: Drop, P: FlatField<T>> Record<T> for OptionParser<T, P> {
 
     ghost refuses = { λ p given.
         IsOneOfTwelve (P.outcome p.inner) (P.describes p.inner) p.info given };
+
+    ghost answers_spared = { λ p given. RunsWords T (WithoutMemory (P.outcome p.inner))
+        (P.describes p.inner) p.info given };
 
     ghost deals = { λ p given.
         IsDealtOut T (P.reads p.inner) (P.describes p.inner) p.info given };
