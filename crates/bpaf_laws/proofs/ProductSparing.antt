@@ -43,15 +43,15 @@ both_spares {A} {B} first rest without rests s t (Ok v) ran spared = record {
 }
 both_spares {A} {B} first rest without rests s t (Err e) ran spared = elim ran [
   | inl both ↦ inl (record {
-      a = both.a;
-      middle = both.middle;
-      b = both.b;
-      first_ran = (both.first_ran, both.spared);
-      rest_ran = rests both.middle t both.b both.rest_ran
+    a = both.a;
+    middle = both.middle;
+    b = both.b;
+    first_ran = (both.first_ran, both.spared);
+    rest_ran = rests both.middle t both.b both.rest_ran
         (rest_spared both.a both.b (Err e) both.answer spared);
-      spared = both.spared;
-      answer = both.answer;
-    })
+    spared = both.spared;
+    answer = both.answer;
+  })
   | inr wanted ↦ absurd (not_both e.0 spared wanted.1)
 ]
 

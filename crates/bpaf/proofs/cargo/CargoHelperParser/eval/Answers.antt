@@ -11,7 +11,12 @@ returns g c =
     record {
       outcome = (left, values, evaluated, refl, current);
       memory_is_never_caught =
-          λ spared. (left, values,
-          both_spares _ _ _ (λ from to one ran not_memory. (ran, not_memory)) c.args.state.now
-          left (Ok values) evaluated tt, refl, current);
+          λ spared. (
+            left,
+            values,
+            both_spares _ _ _ (λ from to one ran not_memory. (ran, not_memory)) c.args.state.now
+                left (Ok values) evaluated tt,
+            refl,
+            current,
+          );
     }

@@ -47,12 +47,12 @@ returns-clause-named g c =
     c.tell_fault.ensures)
 
 pub returns-in_default-clause-memory_is_never_caught
-  : goal.returns-in_default-clause-memory_is_never_caught
+    : goal.returns-in_default-clause-memory_is_never_caught
 returns-in_default-clause-memory_is_never_caught g c =
     words_spared _ _ _ (given_of c.args.args) _ no_memory
 
 pub returns-in-Ok-construct-clause-memory_is_never_caught
-  : goal.returns-in-Ok-construct-clause-memory_is_never_caught
+    : goal.returns-in-Ok-construct-clause-memory_is_never_caught
 returns-in-Ok-construct-clause-memory_is_never_caught g c =
     words_spared _ _ _ (given_of c.args.args) _
     (started (given_of c.args.args) _ _ _ _ _ c.in-Ok.ensures
@@ -67,12 +67,12 @@ returns-clause-memory_is_never_caught g c =
     c.tell_fault.ensures)
 
 pub returns-in_default-clause-memory_is_never_caught
-  : goal.returns-in_default-clause-memory_is_never_caught
+    : goal.returns-in_default-clause-memory_is_never_caught
 returns-in_default-clause-memory_is_never_caught g c =
     words_spared _ _ _ (given_of c.args.args) _ no_memory
 
 pub returns-in-Ok-construct-clause-memory_is_never_caught
-  : goal.returns-in-Ok-construct-clause-memory_is_never_caught
+    : goal.returns-in-Ok-construct-clause-memory_is_never_caught
 returns-in-Ok-construct-clause-memory_is_never_caught g c =
     words_spared _ _ _ (given_of c.args.args) _
     (started (given_of c.args.args) _ _ _ _ _ c.in-Ok.ensures
