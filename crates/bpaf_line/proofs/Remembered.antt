@@ -1,15 +1,16 @@
 -- What is kept of a scope that a parse has left stays right.
 use Rattle.std.proofs.Common.{◌≡◌, ℕ, ◌≤◌, ◌==◌, ◌&&◌, Bool, true, false, ◌∷◌, []}
 use Rattle.std.proofs.Common.{length, take, refl, ap, sym, ◌∙◌, subst, arith, if◌then◌else◌, nat_le}
-use Rattle.std.proofs.Common.{length-append}
-use Rattle.std.proofs.lemmas.Bool.{and_left, and_right, le-ltb, leb-true}
+use Rattle.std.proofs.Common.{length-append, ⊎_elim, nat_lt, not, ◌<◌}
+use Rattle.std.proofs.lemmas.Bool.{and_left, and_right, le-ltb, leb-true, cases_lt, lt-leb, le-leb}
 use Rattle.std.proofs.lemmas.Bool.Decides.{nat_tests}
 use Rattle.std.proofs.lemmas.List.{take-append-le, take-take, take_all, length-take-le}
 use Rattle.bpaf_line.specs.declared.aside.Aside.{Aside}
 use Rattle.bpaf_line.specs.Remembered.{no_aside, IsSurvey, IsRemembered}
 use Rattle.bpaf_line.specs.Situation.{Situation, cut_to, with_trail, with_scope, is_open, open_count}
+use Rattle.bpaf_line.specs.Situation.{is_taken, in_scope}
 use Rattle.bpaf_line.specs.Situation.{IsFirstPresent}
-use Rattle.bpaf_line.proofs.Counts.{count_below-none}
+use Rattle.bpaf_line.proofs.Counts.{count_below-none, count_below-same}
 use Rattle.bpaf_line.proofs.Places.{put}
 
 -- of a scope of no places all is known
@@ -58,6 +59,35 @@ remembers_cut s n aside within h = by_test (nat_le aside.taken n) refl
         remembers_front s (cut_to s n) aside
         (omega (arith, length-take-le n s.trail within))
         (ap (with_trail s) (take-take aside.taken n s.trail fewer)) h
+
+-- a scope that begins later, no later than the first present place, has the same present places
+pub survey_narrowed : (s : Situation) (start end left first : ℕ) → left ≡ open_count s
+    → IsFirstPresent s first → end ≡ s.end → s.start ≤ start → start ≤ first
+    → IsSurvey s start end left first
+survey_narrowed s start end left first counted is_first same later in_front = record {
+  counted = counted ∙ count_below-same (is_open s) (is_open (with_scope s start end))
+      (length s.context.line) (λ q _. open_same q);
+  first = record {
+    from = in_front;
+    within = omega (arith, is_first.within);
+    present = λ below. is_first.present (omega arith);
+    passed = λ q above below. is_first.passed q (omega arith) below;
+  };
+}
+  where
+    open_same : (q : ℕ) → is_open s q ≡ is_open (with_scope s start end) q
+    open_same q = ⊎_elim
+        (λ (before : q < start). by_scope q before (nat_le s.start q) refl
+        ∙ sym (and_left _ _ (and_left _ _ (lt-leb start q before))))
+        (λ (behind : start ≤ q). ap (λ b. (b && nat_lt q s.end) && not (is_taken s q))
+        (le-leb s.start q (omega arith) ∙ sym (le-leb start q behind))
+        ∙ ap (λ n. (nat_le start q && nat_lt q n) && not (is_taken s q)) (sym same))
+        (cases_lt q start)
+      where
+        by_scope : (q : ℕ) → q < start → (b : Bool) → nat_le s.start q ≡ b → is_open s q ≡ false
+        by_scope q before false e = and_left _ _ (and_left _ _ e)
+        by_scope q before true e = and_right (in_scope s q) _
+            (ap not (is_first.passed q (leb-true s.start q e) (omega arith)))
 
 -- the scope that is left is remembered
 pub remembers_left : (s : Situation) (start end left first taken : ℕ) → left ≡ open_count s

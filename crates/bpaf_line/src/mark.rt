@@ -182,11 +182,17 @@ impl State {
     }
 
     /// How many places are present in another scope, and which is the first; its end, where none is.
+    ///
+    /// Nothing is counted where that scope leaves out taken places in front alone, nor where it is the
+    /// one that was left last and as many places are taken as were then.
     fn survey(&self, start: usize, end: usize) -> (usize, usize)
         requires ordered { start ≤ end }
         requires inside { end ≤ length self.now.context.line }
         ensures { IsSurvey self.now start end result.0 result.1 }
     {
+        if end == self.end && self.start <= start && start <= self.first {
+            return (self.left, self.first);
+        }
         if self.aside.is_of(start, end, self.trail.len()) {
             return (self.aside.left, self.aside.first);
         }

@@ -90,8 +90,8 @@ impl State {
 
     /// Makes other places the scope, perhaps none of them.
     ///
-    /// What is present there is counted anew, but where they are those of the scope that was left
-    /// last, and as many places are taken as were then.
+    /// What is present there is counted anew, but where they are the scope without taken places in
+    /// front, or those of the scope that was left last and as many places are taken as were then.
     pub fn set_scope(&mut self, scope: Range<usize>)
         requires ordered { scope.start ≤ scope.end }
         requires inside { scope.end ≤ length self.old.context.line }

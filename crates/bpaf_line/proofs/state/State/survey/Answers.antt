@@ -1,9 +1,19 @@
 use Rattle.std.proofs.Common.{◌≤◌, ◌∙◌, ap, subst, arith, length}
 use Rattle.std.specs.Rc.{rc_slice_items}
 use Rattle.bpaf_line.specs.Bits.{count_clear, IsFirstClear}
+use Rattle.bpaf_line.specs.Inside.{situation_of}
 use Rattle.bpaf_line.specs.Remembered.{IsSurvey}
+use Rattle.bpaf_line.proofs.Remembered.{survey_narrowed}
 use Rattle.bpaf_line.proofs.Sound.{survey_counted}
 use Rattle.bpaf_line.proofs.state.State.survey.Goals as goal
+
+pub returns-then-start-self : goal.returns-then-start-self
+returns-then-start-self c =
+    let s = c.self.inside in
+    subst (λ t. IsSurvey t c.args.start c.args.end s.left s.first) c.self.view_is
+    (survey_narrowed (situation_of s) c.args.start c.args.end s.left s.first
+    c.self.invariant.counted c.self.invariant.first c.if-end-self.true c.if-self-start.true
+    c.if-start-self.true)
 
 pub returns : goal.returns
 returns c =
