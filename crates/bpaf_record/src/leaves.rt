@@ -52,7 +52,8 @@ impl<T> HasKeys for ParseArgument<T> {
     }
 }
 
-/// With a name in the environment, or with `adjacent`, it is no flat field.
+/// With a name in the environment, or with `adjacent`, it is no flat field. With `take_last` it is a
+/// field by itself, and no alternative of a choice.
 impl<T: FromText + Drop> FlatField<T> for ParseArgument<T> {
     ghost use Rattle.bpaf_exact.specs.Leaves.{argument_field};
     ghost use Rattle.bpaf_exact.proofs.Arguments.{argument_field_law};
@@ -64,8 +65,9 @@ impl<T: FromText + Drop> FlatField<T> for ParseArgument<T> {
     ghost agrees = { λ p. Unit {0} };
 
     fn form(&self) -> Form {
-        match (self.named.envs(), self.adjacent) {
-            ([], false) => Form::Alternative,
+        match (self.named.envs(), self.adjacent, self.last) {
+            ([], false, false) => Form::Alternative,
+            ([], false, true) => Form::Named,
             _ => Form::NotFlat,
         }
     }

@@ -14,7 +14,7 @@
 //!   `from_text`.
 //! - [`Record::is_record`] tells, without memory, whether options are a flat record, exactly as
 //!   `is_flat_record` says (specs/Record.antt): at most one repeat or default in a field, choices
-//!   not empty, positional words last, no `strict`, `non_strict`, `catch`, `adjacent` or name in
+//!   not empty and without `take_last`, positional words last, no `strict`, `non_strict`, `catch`, `adjacent` or name in
 //!   the environment, nothing round a product and none inside a field, and no name shared with
 //!   another field, help or version.
 //! - [`Record::run_record`] runs such options as `run_inner` does, and each answer that the table
