@@ -1,7 +1,7 @@
 use crate::answer::{answer, is_answer, is_wanted, run_beginnings};
 use crate::words::{is_separated, quoted, quoted_words, separated_words};
-use bpaf::{OptionParser, Parser};
-use bpaf_described::{Described, Description, Fault, Place, Value, read_parser};
+use bpaf::OptionParser;
+use bpaf_described::{Described, Description, Place, Value, read_options};
 use std::alloc::{AllocError, Global};
 use std::collections::BTreeMap;
 use std::io;
@@ -74,15 +74,6 @@ pub struct Bench<P> {
     parser: Standing<P>,
     variables: BTreeMap<String, String>,
     counts: Counts,
-}
-
-/// The run of a described parser.
-fn options_of<P: Described>(
-    alloc: Global,
-    description: &Description,
-) -> Result<OptionParser<Value, P>, Fault> {
-    let parser: P = read_parser(alloc, description)?;
-    Ok(parser.to_options(alloc)?)
 }
 
 /// The words of a row; nothing where a quote isn't closed.
@@ -238,7 +229,7 @@ impl<P: Described> Bench<P> {
         if self.description.tokens().is_empty() {
             return self.tell("no parser is described", out);
         }
-        match options_of(self.alloc, &self.description) {
+        match read_options(self.alloc, &self.description) {
             Ok(parser) => {
                 self.parser = Standing::Made(parser);
                 Ok(LineEnd::Read)

@@ -1,7 +1,8 @@
 //! Parsers described as data: text is read to a parser that answers as the parsers of `bpaf` do.
 //!
 //! It stands on `bpaf`, and hands on `bpaf_tokens`: a description is a list of tokens
-//! ([`Description`]); docs/BENCH.md says how it is written. [`read_parser`] makes a parser of it. That is a [`Level`] over levels over a [`Leaf`]:
+//! ([`Description`]); docs/BENCH.md says how it is written. [`read_parser`] makes a parser of it, and
+//! [`read_options`] the run of one. That is a [`Level`] over levels over a [`Leaf`]:
 //! a leaf is one option or word, told as a [`Value`], and a level holds its inner parsers once, beside
 //! a [`Kind`], and makes the parser of that kind over lent ones at each evaluation. So a level more
 //! costs a proof nothing, and [`SixLevels`] is enough for the combinations of this repository's rows.
@@ -33,7 +34,7 @@ mod value;
 
 pub use as_value::AsValue;
 pub use bpaf_tokens::{Description, Fault, Place, Problem, Token, Tokens};
-pub use described::{Described, read_parser};
+pub use described::{Described, read_options, read_parser};
 pub use kind::{Kind, Modifier};
 pub use leaf::{Answer, Leaf};
 pub use level::Level;

@@ -14,6 +14,7 @@ mod commands;
 mod keys;
 mod options;
 mod remove;
+mod sum;
 mod toggle;
 mod types;
 
@@ -34,6 +35,7 @@ fn main(rt: HostRuntime) -> io::Result<ExitCode> {
             println!(rt; "size: {size}")?;
             show_backup(&rt)?;
             show_removal(&rt)?;
+            show_sum(&rt)?;
             Ok(ExitCode::SUCCESS)
         }
         Err(status) => Ok(ExitCode::from(status)),
@@ -95,6 +97,21 @@ fn show_removal(rt: &HostRuntime) -> io::Result<()> {
             let forced = removal.force;
             let files = removal.files.len();
             println!(rt; "removal: forced {forced}, {files} file")
+        }
+        Err(failure) => {
+            drop(failure);
+            Ok(())
+        }
+    }
+}
+
+/// Tells what a sum reads off words of its own.
+fn show_sum(rt: &HostRuntime) -> io::Result<()> {
+    match sum::read_sum(rt.alloc(), &["-n", "-2", "-5", "3"]) {
+        Ok(sum) => {
+            let times = sum.times;
+            let terms = sum.terms.len();
+            println!(rt; "sum: {times} times {terms} terms")
         }
         Err(failure) => {
             drop(failure);

@@ -23,6 +23,8 @@ mod groups;
 #[cfg(test)]
 mod laws;
 #[cfg(test)]
+mod numbers;
+#[cfg(test)]
 mod pages;
 #[cfg(test)]
 mod shared;

@@ -80,7 +80,7 @@ fn answer(
 }
 
 /// Makes calls, one after another.
-fn play(
+pub(crate) fn play(
     alloc: Global,
     state: &mut State,
     calls: &[Call<'_>],
@@ -170,7 +170,7 @@ fn tell_taken<T: Debug + Drop>(
 }
 
 /// A refusal in short.
-fn refuse(message: &Message, answers: &mut String) -> Result<(), AllocError> {
+pub(crate) fn refuse(message: &Message, answers: &mut String) -> Result<(), AllocError> {
     match message {
         Message::NoArgument(key, metavar) => write!(answers, "no argument {key} {metavar};"),
         Message::Ambiguity(word, number) => write!(answers, "ambiguity {word} {number};"),

@@ -105,7 +105,8 @@ fn want_of_memory_is_known(rt: HostRuntime) -> Result<(), Fail> {
 
 /// How Rust's Debug prints a copy of what a run knows, where nothing is set.
 const KEYS: &str = "Info { version: None, descr: None, header: None, footer: None, \
-    usage: None, help_arg: None, version_arg: None, help_if_no_args: false, max_width: 100 }";
+    usage: None, help_arg: None, version_arg: None, help_if_no_args: false, max_width: 100, \
+    numbers: false }";
 
 #[test]
 fn keys_of_a_run_are_copied(rt: HostRuntime) -> Result<(), Fail> {

@@ -14,6 +14,8 @@ mod lines;
 #[cfg(test)]
 mod messages;
 #[cfg(test)]
+mod numbers;
+#[cfg(test)]
 mod shared;
 #[cfg(test)]
 mod sources;

@@ -58,7 +58,7 @@ fn split(alloc: Global, word: &str, flags: &[char], arguments: &[char]) -> Resul
     requires { word.now ≢ codes "--" }
 {
     let mut items = Vec::new(alloc);
-    match split_word(alloc, word, flags, arguments, &mut items) {
+    match split_word(alloc, word, flags, arguments, false, &mut items) {
         Ok(()) => Ok(items.len()),
         Err(SplitFault::Ambiguous(number)) => Err(number),
         Err(SplitFault::Memory) => Err(0),

@@ -7,6 +7,8 @@
 #[cfg(test)]
 mod batteries;
 #[cfg(test)]
+mod numbers;
+#[cfg(test)]
 mod programs;
 #[cfg(test)]
 mod record_rows;

@@ -1,0 +1,59 @@
+//! Negative numbers as words, through `run_record`.
+use crate::record_rows::{Row, compare_options};
+use bpaf::{Parser, construct, positional, short};
+use bpaf_record::FlatField;
+use std::fmt::Debug;
+use std::process::Abort;
+use std::test::Fail;
+
+/// Runs a flat record by which negative numbers are words on each row, and compares the answers.
+fn compare_numbers<T: Debug + Drop, P: FlatField<T> + Drop>(
+    rt: &(impl Abort + AllocGlobal),
+    parser: P,
+    rows: &[Row<'_>],
+) -> Result<(), Fail>
+    requires { P.can_eval parser }
+{
+    let options = parser.to_options(rt.alloc())?;
+    compare_options(rt, options.numbers_as_words(), rows)
+}
+
+/// Rows of a number behind a key.
+const BEHIND_KEY: &[Row<'static>] = &[
+    ("-n -5", "ok -5"),
+    ("-n=-5", "ok -5"),
+    ("-n5", "ok 5"),
+    ("-n -- -5", "err `-n` requires an argument `NUM`"),
+    (
+        "-n -5a",
+        "err couldn't parse `-5a`: not a whole number in range",
+    ),
+    (
+        "-n -a",
+        "err `-n` requires an argument `NUM`, got a flag `-a`, try `-n=-a` to use it as an argument",
+    ),
+];
+
+/// Rows of a number behind a key and of any number of words.
+const BESIDE_WORDS: &[Row<'static>] = &[
+    ("-n -5 -1 2", "ok (-5, [-1, 2])"),
+    ("-1 -n -5 -- -2 3", "ok (-5, [-1, -2, 3])"),
+    (
+        "-n -5 -n -6",
+        "err argument `-n` cannot be used multiple times in this context",
+    ),
+    ("-n -5 -6=", "err `-6` is not expected in this context"),
+];
+
+#[test]
+fn negative_numbers_behind_a_key_run_as_records(rt: HostRuntime) -> Result<(), Fail> {
+    let num = short(rt.alloc(), 'n')?.argument::<i64>("NUM");
+    compare_numbers(&rt, num, BEHIND_KEY)
+}
+
+#[test]
+fn negative_numbers_as_words_run_as_records(rt: HostRuntime) -> Result<(), Fail> {
+    let num = short(rt.alloc(), 'n')?.argument::<i64>("NUM");
+    let words = positional::<i64>("X").many();
+    compare_numbers(&rt, construct!(num, words), BESIDE_WORDS)
+}
