@@ -2,7 +2,7 @@
 //! its whole answer. `run_record` runs as `run_inner` does, on which rows.txt has them all.
 use crate::records::{number, switch, word};
 use bpaf::params::ParseArgument;
-use bpaf::{Args, Doc, ParseFailure, Parser, choice, construct};
+use bpaf::{Args, Doc, OptionParser, ParseFailure, Parser, choice, construct};
 use bpaf_record::{FlatField, Record};
 use std::alloc::{AllocError, Global};
 use std::collections::BTreeSet;
@@ -12,7 +12,7 @@ use std::test::Fail;
 
 /// Words, parted by spaces, and the answer: `ok` and the value as Rust's Debug prints it, `err`
 /// and the whole message, or `shown` where a text is shown that was asked for.
-type Row<'a> = (&'a str, &'a str);
+pub(crate) type Row<'a> = (&'a str, &'a str);
 
 /// A refusal as a row tells it.
 fn refused(alloc: Global, failure: ParseFailure) -> Result<String, AllocError> {
@@ -41,8 +41,18 @@ fn compare<T: Debug + Drop, P: FlatField<T> + Drop>(
 ) -> Result<(), Fail>
     requires { P.can_eval parser }
 {
+    compare_options(rt, parser.to_options(rt.alloc())?, rows)
+}
+
+/// The same of options.
+pub(crate) fn compare_options<T: Debug + Drop, P: FlatField<T> + Drop>(
+    rt: &(impl Abort + AllocGlobal),
+    options: OptionParser<T, P>,
+    rows: &[Row<'_>],
+) -> Result<(), Fail>
+    requires { P.can_eval options.inner }
+{
     let alloc = rt.alloc();
-    let options = parser.to_options(alloc)?;
     assert!(rt; options.is_record());
     for (words, wanted) in rows {
         let line: Vec<&str> = words.split_whitespace().collect(alloc)?;
