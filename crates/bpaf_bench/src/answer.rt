@@ -16,7 +16,8 @@ fn push_text(text: &str, out: &mut String) -> Result<(), AllocError> {
 }
 
 /// What a parser answers to words, as one line: `ok` and the value, `err` and the message, `out`
-/// and a text that was asked for, or `full` and one that was asked for in full.
+/// and a text that was asked for, `full` and one that was asked for in full, or `memory` where memory
+/// was wanted.
 pub fn answer<P: Parser<Value> + Drop>(
     alloc: Global,
     options: &OptionParser<Value, P>,
@@ -31,7 +32,7 @@ pub fn answer<P: Parser<Value> + Drop>(
             out.push_str("ok ")?;
             value.print(&mut out)?;
         }
-        Err(ParseFailure::Memory) => return Err(AllocError),
+        Err(ParseFailure::Memory) => out.push_str("memory")?,
         Err(ParseFailure::Stdout(doc, full)) => {
             out.push_str(if full { "full " } else { "out " })?;
             push_text(doc.monochrome(full)?.as_str(), &mut out)?;
@@ -66,9 +67,11 @@ pub fn run_beginnings<P: Parser<Value> + Drop>(
     Ok(ran)
 }
 
-/// Whether a text is an answer: of a value, of a message, or of a text that was asked for.
+/// Whether a text is an answer: of a value, of a message, of a text that was asked for, or of want of
+/// memory.
 pub fn is_answer(text: &str) -> bool {
     text == "err"
+        || text == "memory"
         || text.starts_with("ok ")
         || text.starts_with("err ")
         || text.starts_with("err^")

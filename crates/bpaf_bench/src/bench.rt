@@ -256,7 +256,10 @@ impl<P: Described> Bench<P> {
         };
         let wanted = wanted.filter(|wanted| !wanted.is_empty());
         if !wanted.is_none_or(is_answer) {
-            return self.tell("an answer begins with `ok`, `err`, `out` or `full`", out);
+            return self.tell(
+                "an answer begins with `ok`, `err`, `out` or `full`, or is `memory`",
+                out,
+            );
         }
         let got = match &self.parser {
             Standing::Missing => return self.tell("no parser stands above this row", out),
@@ -272,23 +275,27 @@ impl<P: Described> Bench<P> {
         if self.all || wanted.is_none() {
             writeln!(out, "{text}\t{got}")?;
         }
-        match wanted {
-            Some(wanted) => self.compare(words.as_slice(), wanted, got.as_str(), out),
-            None => Ok(LineEnd::Run),
+        let Some(wanted) = wanted else {
+            return Ok(LineEnd::Run);
+        };
+        if is_wanted(wanted, got.as_str()) {
+            return Ok(LineEnd::Run);
         }
+        self.differ(words.as_slice(), wanted, got.as_str(), out)?;
+        if got.as_str() == "memory" {
+            self.again(words.as_slice(), out)?;
+        }
+        Ok(LineEnd::Differs)
     }
 
     /// Prints a row whose answer isn't the wanted one.
-    fn compare<W: Write>(
+    fn differ<W: Write>(
         &self,
         words: &[String],
         wanted: &str,
         got: &str,
         out: &mut W,
-    ) -> io::Result<LineEnd> {
-        if is_wanted(wanted, got) {
-            return Ok(LineEnd::Run);
-        }
+    ) -> io::Result<()> {
         let file = self.file.as_str();
         let line = self.line;
         let parser = self.description.text()?;
@@ -296,8 +303,17 @@ impl<P: Described> Bench<P> {
         writeln!(out, "{file}:{line}: {parser}")?;
         writeln!(out, "    words   {words}")?;
         writeln!(out, "    wanted  {wanted}")?;
-        writeln!(out, "    got     {got}")?;
-        Ok(LineEnd::Differs)
+        writeln!(out, "    got     {got}")
+    }
+
+    /// Runs the same parser once more, behind a run for which there was no memory, and prints its
+    /// answer.
+    fn again<W: Write>(&self, words: &[String], out: &mut W) -> io::Result<()> {
+        if let Standing::Made(parser) = &self.parser {
+            let got = answer(self.alloc, parser, &self.variables, words)?;
+            writeln!(out, "    again   {got}")?;
+        }
+        Ok(())
     }
 
     /// Prints how many rows there were.

@@ -1,6 +1,7 @@
 use crate::as_value::AsValue;
 use crate::closures::give;
 use crate::one_text::OneText;
+use crate::refused::Refused;
 use crate::value::Value;
 use bpaf::params::{ParseArgument, ParseFlag, ParsePositional};
 use bpaf::parsers::{ParseAppname, ParseFail, ParseLiteral, ParsePure, ParsePureWith};
@@ -60,6 +61,8 @@ pub enum Leaf {
     Integer(AsValue<i64, ParseArgument<i64>>),
     /// An argument that is a text.
     Text(AsValue<String, ParseArgument<String>>),
+    /// An argument whose text is read as nothing, since memory is wanted for it.
+    Unread(AsValue<Refused, ParseArgument<Refused>>),
     /// A word that is a number.
     NumberWord(AsValue<u64, ParsePositional<u64>>),
     /// A word that is a text.
@@ -88,7 +91,7 @@ impl Parser<Value> for Leaf {
     ghost use Rattle.bpaf_described.specs.declared.leaf.Leaf.TheVariants.{Switch, Flag, Number};
     ghost use Rattle.bpaf_described.specs.declared.leaf.Leaf.TheVariants.{Integer, Text, NumberWord};
     ghost use Rattle.bpaf_described.specs.declared.leaf.Leaf.TheVariants.{Word, Pure, PureWith, Fail};
-    ghost use Rattle.bpaf_described.specs.declared.leaf.Leaf.TheVariants.{Literal, Any, Appname};
+    ghost use Rattle.bpaf_described.specs.declared.leaf.Leaf.TheVariants.{Literal, Any, Appname, Unread};
     ghost use Rattle.bpaf_described.specs.Told.{told_lawful};
 
     ghost can_eval = { elim [
@@ -97,6 +100,7 @@ impl Parser<Value> for Leaf {
       | Number p ↦ ⟦<AsValue<u64, ParseArgument<u64>> as Parser<Value>>⟧.can_eval p
       | Integer p ↦ ⟦<AsValue<i64, ParseArgument<i64>> as Parser<Value>>⟧.can_eval p
       | Text p ↦ ⟦<AsValue<String, ParseArgument<String>> as Parser<Value>>⟧.can_eval p
+      | Unread p ↦ ⟦<AsValue<Refused, ParseArgument<Refused>> as Parser<Value>>⟧.can_eval p
       | NumberWord p ↦ ⟦<AsValue<u64, ParsePositional<u64>> as Parser<Value>>⟧.can_eval p
       | Word p ↦ ⟦<AsValue<String, ParsePositional<String>> as Parser<Value>>⟧.can_eval p
       | Literal p ↦ ⟦<AsValue<(), ParseLiteral> as Parser<Value>>⟧.can_eval p
@@ -113,6 +117,7 @@ impl Parser<Value> for Leaf {
       | Number p ↦ ⟦<AsValue<u64, ParseArgument<u64>> as Parser<Value>>⟧.describes p
       | Integer p ↦ ⟦<AsValue<i64, ParseArgument<i64>> as Parser<Value>>⟧.describes p
       | Text p ↦ ⟦<AsValue<String, ParseArgument<String>> as Parser<Value>>⟧.describes p
+      | Unread p ↦ ⟦<AsValue<Refused, ParseArgument<Refused>> as Parser<Value>>⟧.describes p
       | NumberWord p ↦ ⟦<AsValue<u64, ParsePositional<u64>> as Parser<Value>>⟧.describes p
       | Word p ↦ ⟦<AsValue<String, ParsePositional<String>> as Parser<Value>>⟧.describes p
       | Literal p ↦ ⟦<AsValue<(), ParseLiteral> as Parser<Value>>⟧.describes p
@@ -129,6 +134,7 @@ impl Parser<Value> for Leaf {
       | Number p ↦ ⟦<AsValue<u64, ParseArgument<u64>> as Parser<Value>>⟧.reads p
       | Integer p ↦ ⟦<AsValue<i64, ParseArgument<i64>> as Parser<Value>>⟧.reads p
       | Text p ↦ ⟦<AsValue<String, ParseArgument<String>> as Parser<Value>>⟧.reads p
+      | Unread p ↦ ⟦<AsValue<Refused, ParseArgument<Refused>> as Parser<Value>>⟧.reads p
       | NumberWord p ↦ ⟦<AsValue<u64, ParsePositional<u64>> as Parser<Value>>⟧.reads p
       | Word p ↦ ⟦<AsValue<String, ParsePositional<String>> as Parser<Value>>⟧.reads p
       | Literal p ↦ ⟦<AsValue<(), ParseLiteral> as Parser<Value>>⟧.reads p
@@ -145,6 +151,7 @@ impl Parser<Value> for Leaf {
       | Number p ↦ ⟦<AsValue<u64, ParseArgument<u64>> as Parser<Value>>⟧.outcome p
       | Integer p ↦ ⟦<AsValue<i64, ParseArgument<i64>> as Parser<Value>>⟧.outcome p
       | Text p ↦ ⟦<AsValue<String, ParseArgument<String>> as Parser<Value>>⟧.outcome p
+      | Unread p ↦ ⟦<AsValue<Refused, ParseArgument<Refused>> as Parser<Value>>⟧.outcome p
       | NumberWord p ↦ ⟦<AsValue<u64, ParsePositional<u64>> as Parser<Value>>⟧.outcome p
       | Word p ↦ ⟦<AsValue<String, ParsePositional<String>> as Parser<Value>>⟧.outcome p
       | Literal p ↦ ⟦<AsValue<(), ParseLiteral> as Parser<Value>>⟧.outcome p
@@ -162,6 +169,7 @@ impl Parser<Value> for Leaf {
             Leaf::Number(p) => p.eval(state),
             Leaf::Integer(p) => p.eval(state),
             Leaf::Text(p) => p.eval(state),
+            Leaf::Unread(p) => p.eval(state),
             Leaf::NumberWord(p) => p.eval(state),
             Leaf::Word(p) => p.eval(state),
             Leaf::Literal(p) => p.eval(state),
@@ -180,6 +188,7 @@ impl Parser<Value> for Leaf {
             Leaf::Number(p) => p.meta(alloc),
             Leaf::Integer(p) => p.meta(alloc),
             Leaf::Text(p) => p.meta(alloc),
+            Leaf::Unread(p) => p.meta(alloc),
             Leaf::NumberWord(p) => p.meta(alloc),
             Leaf::Word(p) => p.meta(alloc),
             Leaf::Literal(p) => p.meta(alloc),
@@ -197,6 +206,7 @@ impl Parser<Value> for Leaf {
       | Number p ↦ told_lawful _ (argument_lawful _ _ _)
       | Integer p ↦ told_lawful _ (argument_lawful _ _ _)
       | Text p ↦ told_lawful _ (argument_lawful _ _ _)
+      | Unread p ↦ told_lawful _ (argument_lawful _ _ _)
       | NumberWord p ↦ told_lawful _ (positional_lawful _ _ _ _)
       | Word p ↦ told_lawful _ (positional_lawful _ _ _ _)
       | Literal p ↦ told_lawful _ (any_lawful _ _ _ _)

@@ -29,6 +29,7 @@ mod modifiers;
 mod names;
 mod one_text;
 mod product;
+mod refused;
 mod several;
 mod value;
 
@@ -39,6 +40,7 @@ pub use kind::{Kind, Modifier};
 pub use leaf::{Answer, Leaf};
 pub use level::Level;
 pub use one_text::OneText;
+pub use refused::Refused;
 pub use value::{Told, Value};
 
 /// A described parser: six combinations may stand in one another over a leaf.

@@ -2,6 +2,7 @@ use crate::as_value::AsValue;
 use crate::kind::{Kind, Modifier};
 use crate::leaf::{Answer, Leaf};
 use crate::one_text::OneText;
+use crate::refused::Refused;
 use crate::value::Value;
 use bpaf::{NamedArg, appname, fail, literal, positional, pure};
 use std::alloc::{AllocError, Global};
@@ -33,6 +34,7 @@ pub fn bare_leaf(token: &str) -> Option<Leaf> {
         }
         "appname" => Some(Leaf::Appname(as_value(appname()))),
         "fail" => Some(Leaf::Fail(fail::<Value>("no"))),
+        "purer" | "pure_refused" => Some(Leaf::Pure(pure(Value::Refused(Refused)))),
         "pwerr" | "pure_with_fault" => Some(Leaf::PureWith(Answer { number: None })),
         _ => None,
     }
@@ -48,6 +50,7 @@ pub enum Keyed {
     AdjacentNumber,
     Integer,
     Text,
+    Unread,
 }
 
 /// What stands before a key.
@@ -60,6 +63,7 @@ pub fn kind_of_key(token: &str) -> Option<Keyed> {
         "ana" | "argument_adjacent" => Some(Keyed::AdjacentNumber),
         "ai" | "argument_integer" => Some(Keyed::Integer),
         "as" | "argument_text" => Some(Keyed::Text),
+        "ar" | "argument_refused" => Some(Keyed::Unread),
         _ => None,
     }
 }
@@ -74,6 +78,7 @@ pub fn keyed_leaf(keyed: Keyed, key: NamedArg, number: u64) -> Leaf {
         Keyed::AdjacentNumber => { Leaf::Number(as_value(key.argument::<u64>("NUM").adjacent())) }
         Keyed::Integer => Leaf::Integer(as_value(key.argument::<i64>("INT"))),
         Keyed::Text => Leaf::Text(as_value(key.argument::<String>("STR"))),
+        Keyed::Unread => Leaf::Unread(as_value(key.argument::<Refused>("NUM"))),
     }
 }
 

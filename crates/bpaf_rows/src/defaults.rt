@@ -79,3 +79,15 @@ fn answers_of_closures_are_shown(rt: HostRuntime) -> Result<(), Fail> {
     reads(&rt, debugged_answer(rt.alloc()), PAGE)?;
     reads(&rt, formatted_answer(rt.alloc()), FORMATTED)
 }
+
+/// Whether a default is made whose closure refuses for want of memory.
+fn is_shown(alloc: Global) -> Result<bool, AllocError> {
+    let n = num(alloc)?.fallback(7);
+    Ok(n.format_fallback(alloc, |_| Err(AllocError)).is_ok())
+}
+
+#[test]
+fn refused_defaults_are_told(rt: HostRuntime) -> Result<(), Fail> {
+    assert!(rt; !is_shown(rt.alloc())?);
+    Ok(())
+}
