@@ -1,17 +1,20 @@
 -- What is kept of a scope that a parse has left stays right.
-use Rattle.std.proofs.Common.{◌≡◌, ℕ, ◌≤◌, ◌==◌, ◌&&◌, Bool, true, false, ◌∷◌, []}
-use Rattle.std.proofs.Common.{length, take, refl, ap, sym, ◌∙◌, subst, arith, if◌then◌else◌, nat_le}
-use Rattle.std.proofs.Common.{length-append, ⊎_elim, nat_lt, not, ◌<◌}
-use Rattle.std.proofs.lemmas.Bool.{and_left, and_right, le-ltb, leb-true, cases_lt, lt-leb, le-leb}
-use Rattle.std.proofs.lemmas.Bool.Decides.{nat_tests}
-use Rattle.std.proofs.lemmas.List.{take-append-le, take-take, take_all, length-take-le}
+use Rattle.std.proofs.Common.{◌≡◌, ℕ, zero, suc, ◌+◌, ◌-◌, ◌<◌, ◌≤◌, ◌==◌, ◌&&◌, ◌||◌, Bool, true}
+use Rattle.std.proofs.Common.{false, not, ◌∷◌, [], length, take, drop, slice_index, refl, ap}
+use Rattle.std.proofs.Common.{sym, ◌∙◌, subst, arith, ⊎_elim, if◌then◌else◌, nat_le, nat_lt}
+use Rattle.std.proofs.Common.{length-append}
+use Rattle.std.specs.Int.{from_bool}
+use Rattle.std.proofs.lemmas.Bool.{and_left, and_right, or_left, le-ltb, leb-true, cases_lt, lt-leb}
+use Rattle.std.proofs.lemmas.Bool.{le-leb}
+use Rattle.std.proofs.lemmas.List.{take-append-le, take-append-drop, take-take, take_all, take_more}
+use Rattle.std.proofs.lemmas.List.{drop_all, drop_more, length-take-le}
+use Rattle.std.proofs.lemmas.List.Folds.{list_any-append}
 use Rattle.bpaf_line.specs.declared.aside.Aside.{Aside}
-use Rattle.bpaf_line.specs.Remembered.{no_aside, IsSurvey, IsRemembered}
-use Rattle.bpaf_line.specs.Situation.{Situation, cut_to, with_trail, with_scope, is_open, open_count}
-use Rattle.bpaf_line.specs.Situation.{is_taken, in_scope}
-use Rattle.bpaf_line.specs.Situation.{IsFirstPresent}
+use Rattle.bpaf_line.specs.Remembered.{no_aside, count_within, IsSurvey, IsRemembered}
+use Rattle.bpaf_line.specs.Situation.{Situation, cut_to, with_trail, with_scope, is_on, is_open}
+use Rattle.bpaf_line.specs.Situation.{is_taken, in_scope, open_count, TakenInTurn, IsFirstPresent}
 use Rattle.bpaf_line.proofs.Counts.{count_below-none, count_below-same}
-use Rattle.bpaf_line.proofs.Places.{put}
+use Rattle.bpaf_line.proofs.Places.{put, open_count-put}
 
 -- of a scope of no places all is known
 pub remembers_nothing : (s : Situation) → IsRemembered s no_aside
@@ -112,17 +115,70 @@ remembers_left s start end left first taken counted is_first all =
       };
     }
 
--- what is remembered of a scope is so now, where as many places are taken
-pub survey_kept : (s : Situation) (aside : Aside) (start end taken : ℕ) → IsRemembered s aside
-    → taken ≡ length s.trail
-    → (aside.start == start && (aside.end == end && aside.taken == taken)) ≡ true
-    → IsSurvey s start end aside.left aside.first
-survey_kept s aside start end taken h all same =
-    let tested : (aside.start ≡ start) × (aside.end ≡ end) × (aside.taken ≡ taken) =
-    grind (arith, nat_tests) in
-    let whole : cut_to s aside.taken ≡ s = ap (with_trail s)
-    (take_all aside.taken s.trail (omega (arith, tested.2))) in
-    subst (λ t. IsSurvey t start end aside.left aside.first) whole
-    (subst (λ k. IsSurvey (cut_to s aside.taken) start k aside.left aside.first) tested.1
-    (subst (λ k. IsSurvey (cut_to s aside.taken) k aside.end aside.left aside.first) tested.0
-    h.survey))
+-- what was taken when fewer places were is taken
+taken_since : (s : Situation) (n q : ℕ) → is_taken (cut_to s n) q ≡ true → is_taken s q ≡ true
+taken_since s n q = by_parts _ _ (is_on (take n s.trail) q) (is_on s.trail q) on_front
+  where
+    on_front : is_on (take n s.trail) q ≡ true → is_on s.trail q ≡ true
+    on_front on = ap (λ trail. is_on trail q) (sym (take-append-drop n s.trail))
+        ∙ (list_any-append (λ r. r == q) (take n s.trail) (drop n s.trail) ∙ or_left _ _ on)
+
+    by_parts : (past marker front on : Bool) → (front ≡ true → on ≡ true)
+        → (past || (marker || front)) ≡ true → (past || (marker || on)) ≡ true
+    by_parts true marker front on h e = refl
+    by_parts false true front on h e = refl
+    by_parts false false front on h e = h e
+
+-- the places of a scope that were taken since are present there no more
+pub count_since : (s : Situation) (start end : ℕ) → TakenInTurn s → (d n : ℕ)
+    → d + n ≡ length s.trail
+    → open_count (with_scope s start end) + count_within start end (drop n s.trail)
+    ≡ open_count (with_scope (cut_to s n) start end)
+count_since s start end turns zero n all =
+    let whole : take n s.trail ≡ s.trail = take_all n s.trail (omega arith) in
+    let none : drop n s.trail ≡ [] = drop_all n s.trail (omega arith) in
+    let same : open_count (with_scope s start end) + 0 ≡ open_count (with_scope s start end) =
+    omega arith in
+    ap (λ xs. open_count (with_scope s start end) + count_within start end xs) none
+    ∙ (same ∙ ap (λ xs. open_count (with_scope (with_trail s xs) start end)) (sym whole))
+count_since s start end turns (suc d) n all =
+    let p = slice_index s.trail n in
+    let t = cut_to s n in
+    let here : drop n s.trail ≡ p ∷ drop (n + 1) s.trail = drop_more s.trail n 0 (omega arith) in
+    let later = count_since s start end turns d (n + 1) (omega arith) in
+    let step : cut_to s (n + 1) ≡ put t p = ap (with_trail s) (take_more s.trail n 0 (omega arith)) in
+    let one : open_count (with_scope (put t p) start end)
+    + from_bool (nat_le start p && nat_lt p end) ≡ open_count (with_scope t start end) =
+    open_count-put (with_scope t start end) p (turns n (omega arith)) in
+    ap (λ xs. open_count (with_scope s start end) + count_within start end xs) here
+    ∙ omega (arith, later, one, ap (λ u. open_count (with_scope u start end)) step)
+
+-- what is known of the scope that was left, without the places taken since
+pub survey_since : (s : Situation) (aside : Aside) (start end gone left first : ℕ)
+    → IsRemembered s aside → TakenInTurn s → aside.start ≡ start → aside.end ≡ end
+    → gone ≡ count_within start end (drop aside.taken s.trail) → left ≡ aside.left - gone
+    → aside.first ≤ first → first ≤ end
+    → (first < end → is_taken s first ≡ false)
+    → ((q : ℕ) → aside.first ≤ q → q < first → is_taken s q ≡ true)
+    → IsSurvey s start end left first
+survey_since s aside start end gone left first h turns begins ends counted less from within present
+    passed =
+    let since = count_since s start end turns (length s.trail - aside.taken) aside.taken
+    (omega (arith, h.taken)) in
+    let before : aside.left ≡ open_count (with_scope (cut_to s aside.taken) start end) =
+    h.survey.counted
+    ∙ (ap (λ k. open_count (with_scope (cut_to s aside.taken) k aside.end)) begins
+    ∙ ap (λ k. open_count (with_scope (cut_to s aside.taken) start k)) ends) in
+    record {
+      counted = omega (arith, since, before);
+      first = record {
+        from = omega (arith, h.survey.first.from);
+        within = within;
+        present = present;
+        passed = λ q lower upper. ⊎_elim
+            (λ (early : q < aside.first). taken_since s aside.taken q
+            (h.survey.first.passed q (omega arith) early))
+            (λ (late : aside.first ≤ q). passed q late upper)
+            (cases_lt q aside.first);
+      };
+    }

@@ -3,7 +3,7 @@ use Rattle.std.proofs.Common.{◌≡◌, map, string_bytes, None, ◌≢◌, ℕ
 use Rattle.std.proofs.Common.{Bool, true, false, not, List, [], ◌∷◌, ◌++◌, length, refl, ap, sym}
 use Rattle.std.proofs.Common.{◌∙◌, subst, arith, if◌then◌else◌, ⊎_elim, Vec, String, vec_capacity}
 use Rattle.std.proofs.Common.{vec_len, get_or, Option, Some, nat_lt, nat_le, slice_index, slice_get}
-use Rattle.std.proofs.Common.{take, min, max, ◌&&◌, ◌||◌, IfSome}
+use Rattle.std.proofs.Common.{take, drop, ◌==◌, min, max, ◌&&◌, ◌||◌, IfSome}
 use Rattle.std.specs.Vec.{with_items}
 use Rattle.std.specs.Bool.{then_some}
 use Rattle.std.specs.Int.{from_bool}
@@ -18,7 +18,7 @@ use Rattle.std.proofs.lemmas.Option.{slice_get-get_or}
 use Rattle.bpaf_words.specs.declared.arg.Arg.{Arg}
 use Rattle.bpaf_line.specs.declared.state.State.TheInside.{Inside}
 use Rattle.bpaf_line.specs.declared.aside.Aside.{Aside}
-use Rattle.bpaf_line.specs.Remembered.{no_aside, IsSurvey, IsRemembered}
+use Rattle.bpaf_line.specs.Remembered.{no_aside, count_within, IsSurvey, IsRemembered}
 use Rattle.bpaf_line.specs.Bits.{has_bit, is_clear_from, count_clear, ChangesBit, IsFirstClear}
 use Rattle.bpaf_line.specs.Chained.{Chained, class_in, head_of, AreChainsOf, HavePassed, ReachBack}
 use Rattle.bpaf_line.specs.Chained.{IfChained}
@@ -27,7 +27,7 @@ use Rattle.bpaf_line.specs.Situation.{Situation, with_trail, with_scope, cut_to,
 use Rattle.bpaf_line.specs.Situation.{is_taken, is_on, in_scope, open_count, TakenInTurn}
 use Rattle.bpaf_line.specs.Situation.{IsFirstPresent, IsNextOpen, HasNoneOpen}
 use Rattle.bpaf_line.specs.Taking.{open_item}
-use Rattle.bpaf_line.proofs.Remembered.{remembers_nothing, remembers_put, remembers_cut}
+use Rattle.bpaf_line.proofs.Remembered.{survey_since, count_since, remembers_nothing, remembers_put, remembers_cut}
 use Rattle.bpaf_line.proofs.Places.{put, put_here, put_other, put_stays, open_count-put}
 use Rattle.bpaf_line.proofs.Places.{in_turn_put, room_on_trail, last_put, in_turn_cut}
 use Rattle.bpaf_line.proofs.Places.{first_without, present_in_line, open_in_scope, open_not_taken}
@@ -287,6 +287,40 @@ survey_counted s start end left first h ordered inside counted clear = record {
       (with_scope (situation_of s) start end) s.words.items start first inside h.bits (omega arith)
       (λ q lower upper. absurd (omega arith)) clear;
 }
+
+-- the scope that is remembered is the one asked for
+same_scope : (aside : Aside) (start end : ℕ) → (aside.start == start && aside.end == end) ≡ true
+    → (aside.start ≡ start) × (aside.end ≡ end)
+same_scope aside start end same = grind (arith, nat_tests)
+
+-- no more places of it were taken since than were present
+pub gone_were_left : (s : Inside) (start end gone : ℕ) → IsSound s
+    → (s.aside.start == start && s.aside.end == end) ≡ true
+    → gone ≡ count_within start end (drop s.aside.taken s.trail.items) → gone ≤ s.aside.left
+gone_were_left s start end gone h same counted =
+    let t = situation_of s in
+    let scope = same_scope s.aside start end same in
+    let since = count_since t start end h.in_turn (length s.trail.items - s.aside.taken)
+    s.aside.taken (omega (arith, h.aside.taken)) in
+    let before : s.aside.left ≡ open_count (with_scope (cut_to t s.aside.taken) start end) =
+    h.aside.survey.counted
+    ∙ (ap (λ k. open_count (with_scope (cut_to t s.aside.taken) k s.aside.end)) scope.0
+    ∙ ap (λ k. open_count (with_scope (cut_to t s.aside.taken) start k)) scope.1) in
+    omega (arith, since, before)
+
+-- what is remembered of it, without those, is so now
+pub survey_recalled : (s : Inside) (start end gone first : ℕ) → IsSound s
+    → end ≤ length (rc_slice_items s.items)
+    → (s.aside.start == start && s.aside.end == end) ≡ true
+    → gone ≡ count_within start end (drop s.aside.taken s.trail.items)
+    → IsFirstClear s.words.items s.aside.first end first
+    → IsSurvey (situation_of s) start end (s.aside.left - gone) first
+survey_recalled s start end gone first h inside same counted clear =
+    let scope = same_scope s.aside start end same in
+    survey_since (situation_of s) s.aside start end gone (s.aside.left - gone) first h.aside
+    h.in_turn scope.0 scope.1 counted refl clear.from clear.within
+    (λ below. sym (h.bits first (omega arith)) ∙ clear.clear below)
+    (λ q above below. sym (h.bits q (omega (arith, clear.within))) ∙ clear.set q above below)
 
 -- it is sound with another scope
 pub sound_scope : (s : Inside) (start end left first : ℕ) (aside : Aside) → IsSound s

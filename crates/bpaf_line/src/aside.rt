@@ -1,6 +1,8 @@
 //! A scope that a parse has left, to go back to it at no cost.
 ghost use Rattle.std.specs.Prelude.{◌≡◌, ◌&&◌, ◌==◌, if◌then◌else◌, nat_le};
-ghost use Rattle.bpaf_line.specs.Remembered.{no_aside};
+ghost use Rattle.bpaf_line.specs.Remembered.{no_aside, count_within};
+
+use crate::state::lies_within;
 
 /// The places of a scope, how many were present there and which first, when so many places were taken.
 #[derive(Clone, Copy, Debug)]
@@ -37,11 +39,21 @@ impl Aside {
         }
     }
 
-    /// Whether it is that of these places, and as many places were taken then.
-    pub(crate) fn is_of(&self, start: usize, end: usize, taken: usize) -> bool
-        ensures { result ≡ (self.now.start == start && (self.now.end == end
-            && self.now.taken == taken)) }
+    /// Whether it is that of these places.
+    pub(crate) fn is_of(&self, start: usize, end: usize) -> bool
+        ensures { result ≡ (self.now.start == start && self.now.end == end) }
     {
-        self.start == start && self.end == end && self.taken == taken
+        self.start == start && self.end == end
     }
+}
+
+/// How many of some places lie in a scope.
+pub(crate) fn count_within(places: &[usize], start: usize, end: usize) -> usize
+    ensures { result ≡ count_within start end places.now }
+{
+    let mut count = 0;
+    for place in places {
+        count += usize::from(lies_within(*place, start, end));
+    }
+    count
 }

@@ -4,7 +4,7 @@ ghost use Rattle.bpaf_line.specs.Situation.{with_trail, with_scope, cut_to, Pres
 ghost use Rattle.bpaf_line.specs.Remembered.{IsSurvey};
 ghost use Rattle.bpaf_line.specs.Marks.{mark_of, HasReached, Fits, undone, KeepsMarks, steps_since, CanRedo, redone};
 
-use crate::aside::Aside;
+use crate::aside::{Aside, count_within};
 use crate::construct::copy_path;
 use crate::state::{State, lies_within};
 use crate::taken::TakenPlaces;
@@ -183,8 +183,8 @@ impl State {
 
     /// How many places are present in another scope, and which is the first; its end, where none is.
     ///
-    /// Nothing is counted where that scope leaves out taken places in front alone, nor where it is the
-    /// one that was left last and as many places are taken as were then.
+    /// Nothing is counted where that scope leaves out taken places in front alone. Of the scope that was
+    /// left last the places taken since then are looked at alone.
     fn survey(&self, start: usize, end: usize) -> (usize, usize)
         requires ordered { start ≤ end }
         requires inside { end ≤ length self.now.context.line }
@@ -193,8 +193,10 @@ impl State {
         if end == self.end && self.start <= start && start <= self.first {
             return (self.left, self.first);
         }
-        if self.aside.is_of(start, end, self.trail.len()) {
-            return (self.aside.left, self.aside.first);
+        if self.aside.is_of(start, end) {
+            let gone = count_within(&self.trail[self.aside.taken..], start, end);
+            let first = bits::first_clear(&self.words, self.aside.first, end);
+            return (self.aside.left - gone, first);
         }
         let left = bits::count_clear(&self.words, start, end);
         let first = bits::first_clear(&self.words, start, end);

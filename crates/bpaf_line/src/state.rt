@@ -91,7 +91,7 @@ impl State {
     /// Makes other places the scope, perhaps none of them.
     ///
     /// What is present there is counted anew, but where they are the scope without taken places in
-    /// front, or those of the scope that was left last and as many places are taken as were then.
+    /// front, or the scope that was left last: of that the places taken since are looked at alone.
     pub fn set_scope(&mut self, scope: Range<usize>)
         requires ordered { scope.start ≤ scope.end }
         requires inside { scope.end ≤ length self.old.context.line }

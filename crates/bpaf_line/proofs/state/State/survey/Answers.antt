@@ -1,10 +1,11 @@
-use Rattle.std.proofs.Common.{◌≤◌, ◌∙◌, ap, subst, arith, length}
+use Rattle.std.proofs.Common.{◌≤◌, ◌∙◌, ◌-◌, ap, sym, subst, arith, length, drop}
+use Rattle.std.proofs.lemmas.List.{take_rest}
 use Rattle.std.specs.Rc.{rc_slice_items}
 use Rattle.bpaf_line.specs.Bits.{count_clear, IsFirstClear}
 use Rattle.bpaf_line.specs.Inside.{situation_of}
-use Rattle.bpaf_line.specs.Remembered.{IsSurvey}
+use Rattle.bpaf_line.specs.Remembered.{count_within, IsSurvey}
 use Rattle.bpaf_line.proofs.Remembered.{survey_narrowed}
-use Rattle.bpaf_line.proofs.Sound.{survey_counted}
+use Rattle.bpaf_line.proofs.Sound.{survey_counted, survey_recalled, gone_were_left}
 use Rattle.bpaf_line.proofs.state.State.survey.Goals as goal
 
 pub returns-then-start-self : goal.returns-then-start-self
@@ -15,6 +16,28 @@ returns-then-start-self c =
     c.self.invariant.counted c.self.invariant.first c.if-end-self.true c.if-self-start.true
     c.if-start-self.true)
 
+pub overflow_sub-result : goal.overflow_sub-result
+overflow_sub-result c = gone_were_left c.self.inside c.args.start c.args.end
+    c.count_within-gone.result c.self.invariant (sym c.is_of.ensures ∙ c.if-is_of.true)
+    (c.count_within-gone.ensures ∙ ap (count_within c.args.start c.args.end)
+    (take_rest c.deref.result.now c.self.inside.aside.taken
+    ∙ ap (drop c.self.inside.aside.taken) c.deref.ensures.value))
+
+pub returns-then-is_of : goal.returns-then-is_of
+returns-then-is_of c =
+    let s = c.self.inside in
+    let inside : c.args.end ≤ length (rc_slice_items s.items) =
+    (let e = ap (λ t. length t.context.line) c.self.view_is in
+    omega (arith, e, c.requires.inside)) in
+    subst (λ t. IsSurvey t c.args.start c.args.end (s.aside.left - c.count_within-gone.result)
+    c.first_clear-first.result) c.self.view_is
+    (survey_recalled s c.args.start c.args.end c.count_within-gone.result
+    c.first_clear-first.result c.self.invariant inside (sym c.is_of.ensures ∙ c.if-is_of.true)
+    (c.count_within-gone.ensures ∙ ap (count_within c.args.start c.args.end)
+    (take_rest c.deref.result.now s.aside.taken ∙ ap (drop s.aside.taken) c.deref.ensures.value))
+    (subst (λ words. IsFirstClear words s.aside.first c.args.end c.first_clear-first.result)
+    c.deref-then-is_of.ensures.value c.first_clear-first.ensures))
+
 pub returns : goal.returns
 returns c =
     let s = c.self.inside in
@@ -22,9 +45,9 @@ returns c =
     (let e = ap (λ t. length t.context.line) c.self.view_is in
     omega (arith, e, c.requires.inside)) in
     subst (λ t. IsSurvey t c.args.start c.args.end c.count_clear-left.result
-    c.first_clear-first.result) c.self.view_is
+    c.first_clear-first-2.result) c.self.view_is
     (survey_counted s c.args.start c.args.end _ _ c.self.invariant c.requires.ordered inside
     (c.count_clear-left.ensures
-    ∙ ap (λ words. count_clear words c.args.start c.args.end) c.deref.ensures.value)
-    (subst (λ words. IsFirstClear words c.args.start c.args.end c.first_clear-first.result)
-    c.deref-2.ensures.value c.first_clear-first.ensures))
+    ∙ ap (λ words. count_clear words c.args.start c.args.end) c.deref-2.ensures.value)
+    (subst (λ words. IsFirstClear words c.args.start c.args.end c.first_clear-first-2.result)
+    c.deref-3.ensures.value c.first_clear-first-2.ensures))
