@@ -20,7 +20,7 @@ use Rattle.bpaf_demo.specs.Record.{number_key, program_given, program_known}
 abbrev pub verbose_field : Shape Bool
 verbose_field = field_shape (flag_field IsKept (key_named verbose_names) true (Some false))
 
--- the number that the text behind its key spells
+-- the number that the text behind the last of its keys spells
 abbrev pub num_field : Shape ℕ
 num_field = field_shape (argument_field (SpellsUnsigned 64) number_key)
 

@@ -25,9 +25,14 @@ verbose_names = record { shorts = 118 ∷ []; longs = codes "verbose" ∷ [] }
 abbrev pub num_names : Names
 num_names = record { shorts = 110 ∷ []; longs = codes "num" ∷ [] }
 
--- the number: its key, and what stands for its value where it is shown
+-- the number: its key, what stands for its value where it is shown, and that the last one counts
 abbrev pub number_key : KeyWithValue
-number_key = record { named = key_named num_names; metavar = codes "NUM"; adjacent = false }
+number_key = record {
+  named = key_named num_names;
+  metavar = codes "NUM";
+  adjacent = false;
+  last = true;
+}
 
 -- the known short names: those of the switch, of help and of version as flags, and that of the
 -- number

@@ -1,4 +1,5 @@
-//! A program over a record of options: a switch, a number, and any number of files.
+//! A program over a record of options: a switch, a number, of which the last one counts, and any number
+//! of files.
 //!
 //! It stands on `bpaf`, `bpaf_record` and `bpaf_program`, and has no contract for a layer above: it is
 //! the top. `run` is the whole program over two writers; `main` hands it the words, standard output
@@ -7,6 +8,7 @@
 //! ```text
 //! bpaf_demo -v -n 3      verbose: true, num: 3, a line each, status 0
 //! bpaf_demo --num=3      verbose: false, num: 3
+//! bpaf_demo -n 3 -n 4    verbose: false, num: 4
 //! bpaf_demo -n 3 a b     verbose: false, num: 3, file: a, file: b
 //! bpaf_demo --help       the help page, status 0
 //! bpaf_demo -n           Error: `-n` requires an argument `NUM`, on standard error, status 1

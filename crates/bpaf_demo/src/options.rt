@@ -33,7 +33,8 @@ pub fn read_options(alloc: Global, words: &[String]) -> Result<Options, ParseFai
     let num = short(alloc, 'n')?
         .long("num")?
         .help(Doc::from_text(alloc, "A number")?)
-        .argument::<u64>("NUM");
+        .argument::<u64>("NUM")
+        .take_last();
     let files = positional::<String>("FILE")
         .help(Doc::from_text(alloc, "Files to read")?)
         .many();

@@ -28,6 +28,9 @@ fn options_and_files_are_printed(rt: HostRuntime) -> Result<(), Fail> {
         ("--num=3", "verbose: false\nnum: 3\n"),
         ("-n=3 -v", "verbose: true\nnum: 3\n"),
         ("--num 3 --verbose", "verbose: true\nnum: 3\n"),
+        ("-n 3 --num=4", "verbose: false\nnum: 4\n"),
+        ("-n 3 -n 4", "verbose: false\nnum: 4\n"),
+        ("-n x -v -n4", "verbose: true\nnum: 4\n"),
         ("-n 3 x", "verbose: false\nnum: 3\nfile: x\n"),
         ("-n 3 a -v b", "verbose: true\nnum: 3\nfile: a\nfile: b\n"),
     ];
@@ -40,12 +43,13 @@ fn options_and_files_are_printed(rt: HostRuntime) -> Result<(), Fail> {
 #[test]
 fn refusals_print_no_options(rt: HostRuntime) -> Result<(), Fail> {
     let missing = "expected `--num=NUM`, pass `--help` for usage information";
-    let twice = "argument `-n` cannot be used multiple times in this context";
+    let twice = "argument `-v` cannot be used multiple times in this context";
     let unknown = "`--verbos` is not expected in this context";
     let rows = [
         ("", missing),
         ("-n", "`-n` requires an argument `NUM`"),
-        ("-n 3 -n 4", twice),
+        ("-v -n 3 -v", twice),
+        ("-n 3 -n", "`-n` requires an argument `NUM`"),
         ("x", missing),
         ("--verbos -n 3", unknown),
     ];
