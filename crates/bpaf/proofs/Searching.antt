@@ -19,49 +19,6 @@ use Rattle.bpaf_laws.proofs.Keeping.{keeps_of, keeps_scope}
 use Rattle.bpaf.specs.declared.adjacent.Remembered.{Remembered}
 use Rattle.bpaf.specs.Remembering.{IsRemembered, Takes, TakesSome, TriesFrom, failure_of}
 
--- a place of the scope is present and in scope where it isn't taken
-open_is : (s : Situation) (p : ℕ) (present : Bool) → s.start ≤ p → p < s.end
-    → present ≡ not (is_taken s p) → is_open s p ≡ present
-open_is s p present low high is =
-    of_both (in_scope s p) (not (is_taken s p))
-    (and_from _ _ (le-leb s.start p low) (lt-ltb p s.end high)) ∙ sym is
-  where
-    of_both : (x y : Bool) → x ≡ true → (x && y) ≡ y
-    of_both true y e = refl
-    of_both false y e = cc
-
--- the first place that is present and in scope is the next one
-pub next_is : (s : Situation) (from p end : ℕ) (present : Bool) → s.start ≤ from → from ≤ p → p < end
-    → end ≡ s.end → ((q : ℕ) → from ≤ q → q < p → is_open s q ≡ false)
-    → present ≡ not (is_taken s p) → present ≡ true → IsNextOpen s from p
-next_is s from p end present start low high same passed is there = record {
-  from = low;
-  present = open_is s p present (omega arith) (omega arith) is ∙ there;
-  passed = passed;
-}
-
--- with one place more that isn't, none of those so far is
-pub none_yet : (s : Situation) (from p end : ℕ) (present : Bool) → s.start ≤ from → from ≤ p → p < end
-    → end ≡ s.end → ((q : ℕ) → from ≤ q → q < p → is_open s q ≡ false)
-    → present ≡ not (is_taken s p) → present ≡ false
-    → (q : ℕ) → from ≤ q → q < p + 1 → is_open s q ≡ false
-none_yet s from p end present start low high same passed is absent q below above =
-    ⊎_elim
-    (λ (here : q ≡ p). subst (λ x. is_open s x ≡ false) (sym here)
-    (open_is s p present (omega arith) (omega arith) is ∙ absent))
-    (λ (other : q ≢ p). passed q below (omega arith))
-    (cases_eq q p)
-
--- and none is where all places of the scope are passed
-pub none_at_all : (s : Situation) (from p end : ℕ) → end ≤ p → end ≡ s.end
-    → ((q : ℕ) → from ≤ q → q < p → is_open s q ≡ false) → HasNoneOpen s from
-none_at_all s from p end past same passed q below =
-    ⊎_elim
-    (λ (inside : q < p). passed q below inside)
-    (λ (beyond : p ≤ q). false_from_ne_true (is_open s q)
-    (λ there. let within = open_in_scope s q there in absurd (omega arith)))
-    (cases_lt q p)
-
 -- at a scope of its own each place that is left outside is taken
 closes_same : (s t : Situation) → Closes s (with_scope t s.start s.end)
 closes_same s t p within outside = absurd (true≢false (sym within ∙ outside))

@@ -1,9 +1,9 @@
 //! Adjacent groups: products whose items stand next to one another.
-ghost use Rattle.std.specs.Prelude.{◌≡◌, ◌+◌, ◌≤◌, true, false, None, Some, Ok, Err, length, not, IfOk, IfErr, IfSome, OnOk, OnErr, MatchOption, MatchResult};
+ghost use Rattle.std.specs.Prelude.{◌≡◌, ◌+◌, ◌≤◌, true, false, None, Some, Ok, Err, length, IfOk, IfErr, IfSome, OnOk, OnErr, MatchOption, MatchResult};
 ghost use Rattle.bpaf_doc.specs.Shape.{part_of, shape_of};
 ghost use Rattle.bpaf_line.specs.Marks.{Fits, undone};
 ghost use Rattle.bpaf_line.specs.Messages.{is_memory};
-ghost use Rattle.bpaf_line.specs.Situation.{is_taken, open_count, with_scope, HasNoneOpen, IsNextOpen};
+ghost use Rattle.bpaf_line.specs.Situation.{open_count, with_scope, HasNoneOpen, IsNextOpen};
 ghost use Rattle.bpaf_laws.specs.Laws.{Keeps};
 ghost use Rattle.bpaf_laws.specs.Spared.{IsNotMemory};
 ghost use Rattle.bpaf_laws.specs.Product.{ProductDescribes};
@@ -88,24 +88,13 @@ fn width_of(first: &Item) -> usize
     }
 }
 
-/// Whether the item at a place is present, in scope or not.
-fn is_present(state: &State, place: usize) -> bool
-    ensures { result ≡ not (is_taken state.now place) }
-{
-    state.present(place).unwrap_or(false)
-}
-
-/// The first place from one of the scope on that is present and in scope.
+/// The first place from one on that is present and in scope. Taken places at the scope's start
+/// aren't looked at.
 fn first_present(state: &State, from: usize) -> Option<usize>
-    requires { state.now.start ≤ from }
     ensures { MatchOption result (HasNoneOpen state.now from) (IsNextOpen state.now from) }
 {
-    for place in from..state.scope().end {
-        if is_present(state, place) {
-            return Some(place);
-        }
-    }
-    None
+    let (place, _) = state.next_open(from)?;
+    Some(place)
 }
 
 /// So many places of the scope from the first present one on, at one of it or behind that; None where
