@@ -52,7 +52,8 @@ whatever_known numbers names given context alone is others = record {
 -- the context that the words made, by the names that they were read by
 made_context : {describes : Shape → Type 0} {info : RunInfo} (given : Given) (flags arguments : List ℕ)
     (context : Context) → ReadsNames describes info given.words flags arguments
-    → IsContext (known_at info.numbers (record { flags = flags; arguments = arguments })) given context
+    → IsContext (known_at info.numbers (record { flags = flags; arguments = arguments })) given
+    context
     → IsLineContext describes info given context
 made_context {info = info} given flags arguments context names is = ⊎_elim
     (λ shows. inl (

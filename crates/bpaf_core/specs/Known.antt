@@ -26,8 +26,7 @@ pub record ShowsNames (describes : Shape → Type 0) (info : RunInfo) (flags arg
     pub flags_are : flags ≡ (known_names info shape).names.flags
     pub arguments_are : arguments ≡ (known_names info shape).names.arguments
 
--- short names by which words are read: the known ones, or any where no word is joined
--- characters
+-- short names by which words are read: the known ones, or any where no word is joined characters
 abbrev pub ReadsNames : (Shape → Type 0) → RunInfo → List (List ℕ) → List ℕ → List ℕ → Type 0
 ReadsNames describes info words flags arguments =
     ShowsNames describes info flags arguments ⊎ HaveNoJoined info.numbers words

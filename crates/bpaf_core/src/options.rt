@@ -134,13 +134,13 @@ impl<T, P> OptionParser<T, P> {
         self
     }
 
-    /// The parser by which a negative number is a word: before the first `--` a word of `-` and one or
-    /// more ASCII digits, and nothing else, is read as `5` is, so that users need no `=` for it. It
-    /// takes no memory. bpaf has no such call.
+    /// The parser by which a negative number is a word: before the first `--` a word of `-` and one
+    /// or more ASCII digits, and nothing else, is read as `5` is, so that users need no `=` for it.
+    /// It takes no memory. bpaf has no such call.
     ///
-    /// The setting of the parser that runs over the words counts alone: it holds behind the words of
-    /// commands too, and that of a command's own parser has no effect. A flag or an argument whose
-    /// short name is a digit can then no longer be given as `-1`.
+    /// The setting of the parser that runs over the words counts alone: it holds behind the words
+    /// of commands too, and that of a command's own parser has no effect. A flag or an argument
+    /// whose short name is a digit can then no longer be given as `-1`.
     ///
     /// ```text
     /// num.to_options(alloc)?.numbers_as_words()      reads `-n -5`; without it, `-n=-5` alone

@@ -1,5 +1,6 @@
 //! How a state begins, and how it is copied.
-ghost use Rattle.std.specs.Prelude.{ℕ, ◌≡◌, ◌*◌, ◌<◌, ◌≤◌, length, IfOk, OnOk, IfSome, All, IsUtf8, map, option_map, option_to_list, string_bytes, true};
+ghost use Rattle.std.specs.Prelude.{ℕ, ◌≡◌, ◌*◌, ◌<◌, ◌≤◌, length, IfOk, OnOk, IfSome, All, IsUtf8, map, option_map, option_to_list, string_bytes};
+ghost use Rattle.std.specs.Prelude.{true};
 ghost use Rattle.bpaf_words.specs.Arguments.{words_of, given_of, entries_of, env_entries};
 ghost use Rattle.bpaf_words.specs.Spelling.{knowing, known_at};
 ghost use Rattle.bpaf_line.specs.Constructing.{Constructs};

@@ -176,8 +176,8 @@ fn version_doc(alloc: Global, version: &Doc) -> Result<Doc, AllocError>
 }
 
 impl Info {
-    /// The keys `-h`, `--help` and `-V`, `--version`, no version, no texts, 100 columns, and no number that is a word (bpaf's
-    /// `Info::default`). It takes no memory.
+    /// The keys `-h`, `--help` and `-V`, `--version`, no version, no texts, 100 columns, and no number that
+    /// is a word (bpaf's `Info::default`). It takes no memory.
     pub fn new() -> Info
         ensures { result ≡ plain_info }
     {

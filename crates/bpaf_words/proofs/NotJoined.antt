@@ -6,7 +6,8 @@ use Rattle.std.specs.List.{AllZip}
 use Rattle.std.proofs.lemmas.Str.{encode_same, encodes_same}
 use Rattle.bpaf_words.specs.declared.arg.Arg.{Arg}
 use Rattle.bpaf_words.specs.Spelling.{HasNoEquals, IsNotJoined, IsSpelledAlone, Spelling, Items}
-use Rattle.bpaf_words.specs.Spelling.{ShortNames, Known, known_at, Ambiguous, Spells, number_word, by_dash}
+use Rattle.bpaf_words.specs.Spelling.{ShortNames, Known, known_at, Ambiguous, Spells, number_word}
+use Rattle.bpaf_words.specs.Spelling.{by_dash}
 use Rattle.bpaf_words.specs.Spelling.{SpellsByDash}
 use Rattle.bpaf_words.specs.Spelling.{plain, dash, long, long_value, short, short_value}
 use Rattle.bpaf_words.specs.Spelling.{short_long_value, joined}

@@ -230,7 +230,7 @@ finds : (names : ShortNames) (word cs : List ℕ) → word ≡ encode_utf8_all c
 finds names word [] w n = plain (λ rest h. let e : [] ≡ 45 ∷ rest = sym w ∙ h in cc)
 finds names word (c ∷ cs) w n = finds_by names word c cs (c == 45) refl w n
 
--- exactly one case holds for a word that is no number that is a word, with one answer
+-- exactly one case holds of a word that isn't a number, with one answer
 record HasOneByDash (names : ShortNames) (word : List ℕ) : Type 0 where
   spelling : Spelling
   spells : SpellsByDash names word spelling

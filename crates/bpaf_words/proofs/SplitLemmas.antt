@@ -63,7 +63,7 @@ joined_word names word rest tail old result new c u w r d t n s =
     let parts = cons_from_encodes whole.0 tail c (whole.2 ∙ r) in
     joined_by names word rest tail old result new c parts.0 w d t n parts.2 (r ∙ ap (λ x. encode_utf8 c ++ x) (sym parts.2)) s
 
--- an answer for a word that is no number that is a word is one for it by the setting
+-- an answer for a word that isn't a number that is a word is one by the setting
 pub other_than_number : (known : Known) (word : List ℕ) → ¬ (IsNumberWord known.numbers word)
     → (old : List Arg) (result : Result (Unit {0}) SplitFault) (new : List Arg)
     → SplitsByDash known.names word old result new → Splits known word old result new

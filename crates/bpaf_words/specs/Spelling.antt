@@ -80,10 +80,11 @@ pub data SpellsJoined (names : ShortNames) (word : List ℕ) (cs : List ℕ) : S
 abbrev pub HasNoEquals : List ℕ → Type 0
 HasNoEquals n = EachIndex n (λ i. slice_index n i ≢ 61)
 
--- what a word other than `--` spells, where it is no number that is a word
+-- what a word other than `--` spells, where it isn't a number that is a word
 pub data SpellsByDash (names : ShortNames) (word : List ℕ) : Spelling → Type 0 where
   -- empty, or not beginning with `-`
-  plain : ((rest : List ℕ) → word ≢ codes "-" ++ rest) → SpellsByDash names word (Items (Word word ∷ []))
+  plain : ((rest : List ℕ) → word ≢ codes "-" ++ rest)
+      → SpellsByDash names word (Items (Word word ∷ []))
   -- `-`
   dash : word ≡ codes "-" → SpellsByDash names word (Items (Word word ∷ []))
   -- `--n`
@@ -121,7 +122,8 @@ pub record IsNumber (word : List ℕ) : Type 0 where
 abbrev pub IsNumberWord : Bool → List ℕ → Type 0
 IsNumberWord numbers word = (numbers ≡ true) × IsNumber word
 
--- what a word other than `--` spells
+-- what a word other than `--` spells: itself, where it is a number that is a word; else what it
+-- spells by the known names
 pub data Spells (known : Known) (word : List ℕ) : Spelling → Type 0 where
   number_word : IsNumberWord known.numbers word → Spells known word (Items (Word word ∷ []))
   by_dash : (spelling : Spelling) → ¬ (IsNumberWord known.numbers word)
@@ -161,8 +163,9 @@ joined_case_of (argument fs c rest a b d) = JoinedWithArgument
 joined_case_of (neither fs c rest a b d) = JoinedWithNeither
 joined_case_of (both fs c rest a b d) = JoinedWithBoth
 
--- the case of a word that is no number that holds
-abbrev pub dash_case_of : {names : ShortNames} {word : List ℕ} {s : Spelling} → SpellsByDash names word s → Case
+-- the case that holds of a word that isn't a number
+abbrev pub dash_case_of : {names : ShortNames} {word : List ℕ} {s : Spelling}
+    → SpellsByDash names word s → Case
 dash_case_of (plain a) = PlainWord
 dash_case_of (dash a) = DashAlone
 dash_case_of (long n a b d) = LongAlone

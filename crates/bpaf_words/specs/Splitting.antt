@@ -25,7 +25,7 @@ Answers spells old (Err Memory) new = ⊤
 abbrev pub Splits : Known → List ℕ → List Arg → Result (Unit {0}) SplitFault → List Arg → Type 0
 Splits known word old result new = Answers (Spells known word) old result new
 
--- the same for a word that is no number that is a word, by the known names
+-- the same for a word that isn't a number that is a word, by the known names
 abbrev pub SplitsByDash : ShortNames → List ℕ → List Arg → Result (Unit {0}) SplitFault → List Arg
     → Type 0
 SplitsByDash names word old result new = Answers (SpellsByDash names word) old result new

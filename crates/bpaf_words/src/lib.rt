@@ -8,8 +8,8 @@
 //!   an item computes stands in specs/Items.antt.
 //! - [`split_word`] answers the items of one word. Contracts say which by `Spells`
 //!   (specs/Spelling.antt), by the ways in which a word falls into parts and not by a walk over it;
-//!   what a spelling depends on is one record, `Known`: the known short names, and whether a negative
-//!   number such as `-5` is a word. Each word but `--` has exactly one spelling.
+//!   what a spelling depends on is one record, `Known`: the known short names, and whether a
+//!   negative number such as `-5` is a word. Each word but `--` has exactly one spelling.
 //! - [`line_of`] answers the [`Line`] of all words and the place of their first `--`. A line is
 //!   refused exactly where a word is ambiguous (`IsLine` and `HasNoLine`, specs/Line.antt), and for
 //!   want of memory. Words have one line or a first ambiguous word, never both. Where [`any_joined`]

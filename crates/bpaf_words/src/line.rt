@@ -40,8 +40,8 @@ impl From<AllocError> for LineFault {
 }
 
 /// Whether one of the words is joined letters, such as `-vn3`. Where none is, the line of the words
-/// doesn't depend on the known short names. With `numbers`, by which `-12` is a word, it isn't joined
-/// letters. It takes no memory.
+/// doesn't depend on the known short names. With `numbers`, by which `-12` is a word, that isn't
+/// joined letters. It takes no memory.
 pub fn any_joined(words: Words<'_>, numbers: bool) -> bool
     ensures { result ≡ false → HaveNoJoined numbers (words_in words.entry) }
 {
@@ -57,7 +57,9 @@ pub fn any_joined(words: Words<'_>, numbers: bool) -> bool
 /// each later word.
 ///
 /// `flags` and `arguments` are the known short names, by which joined words such as `-vn3` are read.
-/// With `numbers` a word of `-` and digits alone, such as `-12`, is a Word. Refused with Ambiguous exactly where the words have no line, or for want of memory.
+/// With `numbers` a word of `-` and ASCII digits alone, such as `-12`, is a Word.
+///
+/// Refused with Ambiguous exactly where the words have no line, or for want of memory.
 pub fn line_of(
     alloc: Global,
     words: Words<'_>,
@@ -66,7 +68,8 @@ pub fn line_of(
     numbers: bool,
 ) -> Result<Line, LineFault>
     ensures texts { OnOk result (All IsUtf8 (words_in words.entry)) }
-    ensures answer { ReadsLine (known_at numbers (record { flags = flags.now; arguments = arguments.now }))
+    ensures answer { ReadsLine
+        (known_at numbers (record { flags = flags.now; arguments = arguments.now }))
         (words_in words.entry) result }
 {
     let (mut items, before) = split_words(alloc, words, flags, arguments, numbers)?;
@@ -83,7 +86,8 @@ fn split_words(
     arguments: &[char],
     numbers: bool,
 ) -> Result<(Vec<Arg>, usize), LineFault>
-    ensures { SplitsWords (known_at numbers (record { flags = flags.now; arguments = arguments.now }))
+    ensures { SplitsWords
+        (known_at numbers (record { flags = flags.now; arguments = arguments.now }))
         (words_in words.entry) result }
 {
     let mut items = Vec::with_capacity(alloc, words.len())?;

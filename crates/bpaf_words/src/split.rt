@@ -1,7 +1,9 @@
-ghost use Rattle.std.specs.Prelude.{◌≡◌, ◌≢◌, [], ◌∷◌, ◌++◌, false, ◌↔◌, IsTrue, EachIndex, slice_index, codes, encode_utf8, encode_utf8_all, OnOk};
+ghost use Rattle.std.specs.Prelude.{◌≡◌, ◌≢◌, ◌↔◌, [], ◌∷◌, ◌++◌, false, IsTrue, EachIndex, OnOk};
+ghost use Rattle.std.specs.Prelude.{slice_index, codes, encode_utf8, encode_utf8_all};
 ghost use Rattle.std.specs.Bool.{MatchBool};
 ghost use Rattle.std.specs.Char.{IsAsciiDigit};
-ghost use Rattle.bpaf_words.specs.Spelling.{IsNotJoined, IsNumber, IsSpelledAlone, argument_of, known_at};
+ghost use Rattle.bpaf_words.specs.Spelling.{IsNotJoined, IsNumber, IsSpelledAlone, argument_of};
+ghost use Rattle.bpaf_words.specs.Spelling.{known_at};
 ghost use Rattle.bpaf_words.specs.Splitting.{Splits, SplitsByDash, SplitsJoined, SpellsAs};
 
 use crate::arg::Arg;
@@ -72,7 +74,8 @@ fn are_digits(bytes: &[u8]) -> bool
     bytes.iter().all(|b| b.is_ascii_digit())
 }
 
-/// The items of a word that isn't `--`, nor a number that is a word, at the end of the items before it.
+/// The items of a word that is neither `--` nor a number that is a word, at the end of the items
+/// before it.
 fn split_by_dash(
     alloc: Global,
     word: &str,
@@ -112,8 +115,8 @@ fn split_by_dash(
     }
 }
 
-/// Whether a word is joined letters, such as `-vn3`, whose items depend on the known short names; with
-/// `numbers` a number isn't.
+/// Whether a word is joined letters, such as `-vn3`, whose items depend on the known short names;
+/// with `numbers` a number isn't.
 pub(crate) fn is_joined(word: &str, numbers: bool) -> bool
     ensures { result ≡ false → IsSpelledAlone numbers word.now }
 {
