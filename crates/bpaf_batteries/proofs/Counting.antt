@@ -16,7 +16,7 @@ use Rattle.bpaf_laws.specs.Environment.{is_set}
 use Rattle.bpaf_laws.specs.Flag.{FlagReads, IsAbsentValue, at_key, in_environment, nowhere}
 use Rattle.bpaf_laws.specs.Laws.{newly}
 use Rattle.bpaf_laws.specs.Product.{BothOutcome, BothReads}
-use Rattle.bpaf_laws.specs.Reading.{Share, Readings, HasItem, IsPlace, Joins}
+use Rattle.bpaf_laws.specs.Reading.{Outcome, Share, Readings, HasItem, IsPlace, Joins}
 use Rattle.bpaf_laws.specs.Repeat.{EachReads, ListReads, CountOutcome, CountReads}
 use Rattle.bpaf_batteries.proofs.Keys.{not_both}
 use Rattle.bpaf_batteries.specs.Keys.{is_key, MustStand, AreKeysApart, KeyOutcome, KeyReads}
