@@ -113,11 +113,11 @@ fn numbers_run_as_records(rt: HostRuntime) -> Result<(), Fail> {
     compare(&rt, number(rt.alloc(), 'n')?, NUMBER)
 }
 
-const OPTIONS_AND_WORD: &[Row<'static>] = &[
-    ("-vn3 x", "ok (true, 3, \"x\")"),
-    ("x -n 3 -v", "ok (true, 3, \"x\")"),
-    ("-n 3 -vx", "ok (false, 3, \"-vx\")"),
-    ("-n 3 -- -v", "ok (false, 3, \"-v\")"),
+const OPTIONS_AND_WORDS: &[Row<'static>] = &[
+    ("-vn3 x", "ok (true, 3, [\"x\"])"),
+    ("x -n 3 -v y", "ok (true, 3, [\"x\", \"y\"])"),
+    ("-n 3 -vx", "ok (false, 3, [\"-vx\"])"),
+    ("-n 3 -- -v", "ok (false, 3, [\"-v\"])"),
     (
         "-v -v -n 3 x",
         "err argument `-v` cannot be used multiple times in this context",
@@ -129,7 +129,7 @@ const OPTIONS_AND_WORD: &[Row<'static>] = &[
 fn products_of_three_run_as_records(rt: HostRuntime) -> Result<(), Fail> {
     let verbose = switch(rt.alloc(), 'v')?;
     let num = number(rt.alloc(), 'n')?;
-    compare_triple(&rt, verbose, num, word(), OPTIONS_AND_WORD)
+    compare_triple(&rt, verbose, num, word().many(), OPTIONS_AND_WORDS)
 }
 
 const ANY_ORDER: &[Row<'static>] = &[
