@@ -39,3 +39,17 @@ pub fn switches(alloc: Global, line: &[String]) -> Result<u64, ParseFailure> {
     let options = short(alloc, 'v')?.switch().many().to_options(alloc)?;
     Ok(options.run_once(Args::from(line))?.len() as u64)
 }
+
+/// How many numbers there are.
+pub fn numbers(alloc: Global, line: &[String]) -> Result<u64, ParseFailure> {
+    let number = short(alloc, 'n')?.argument::<u64>("NUM");
+    let options = number.many().to_options(alloc)?;
+    Ok(options.run_once(Args::from(line))?.len() as u64)
+}
+
+/// The last of all numbers.
+pub fn last_number(alloc: Global, line: &[String]) -> Result<u64, ParseFailure> {
+    let number = short(alloc, 'n')?.argument::<u64>("NUM");
+    let options = number.take_last().to_options(alloc)?;
+    options.run_once(Args::from(line))
+}

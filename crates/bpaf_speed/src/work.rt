@@ -1,4 +1,4 @@
-use crate::parsers::{flags, record, switches};
+use crate::parsers::{flags, last_number, numbers, record, switches};
 use std::alloc::{AllocError, Global};
 
 /// What is parsed.
@@ -16,6 +16,10 @@ pub enum Work {
     Joined,
     /// A switch, repeated, behind so many keys that no parser knows, which is refused.
     Keys,
+    /// A number, repeated: so many times `-n 1`.
+    Numbers,
+    /// A number of which the last one counts, on the same line.
+    Last,
 }
 
 impl Work {
@@ -28,6 +32,8 @@ impl Work {
             "switches" => Some(Work::Switches),
             "joined" => Some(Work::Joined),
             "keys" => Some(Work::Keys),
+            "numbers" => Some(Work::Numbers),
+            "last" => Some(Work::Last),
             _ => None,
         }
     }
@@ -46,6 +52,7 @@ impl Work {
             Work::Switches => times(alloc, Vec::new(alloc), size, "-v"),
             Work::Joined => joined(alloc, size),
             Work::Keys => keys(alloc, size),
+            Work::Numbers | Work::Last => pairs(alloc, size),
         }
     }
 
@@ -55,6 +62,8 @@ impl Work {
             Work::Record => record(alloc, line).unwrap_or(0),
             Work::Choice | Work::Branch => flags(alloc, line).unwrap_or(0),
             Work::Switches | Work::Joined | Work::Keys => switches(alloc, line).unwrap_or(0),
+            Work::Numbers => numbers(alloc, line).unwrap_or(0),
+            Work::Last => last_number(alloc, line).unwrap_or(0),
         }
     }
 }
@@ -98,6 +107,16 @@ fn keys(alloc: Global, size: u32) -> Result<Vec<String>, AllocError> {
     for number in 0..size {
         line.push(format!(in alloc; "--key{number}")?)?;
         line.push(String::from_str(alloc, "-v")?)?;
+    }
+    Ok(line)
+}
+
+/// So many times a key and its number.
+fn pairs(alloc: Global, size: u32) -> Result<Vec<String>, AllocError> {
+    let mut line = Vec::new(alloc);
+    for _ in 0..size {
+        line.push(String::from_str(alloc, "-n")?)?;
+        line.push(String::from_str(alloc, "1")?)?;
     }
     Ok(line)
 }
