@@ -48,6 +48,8 @@ pub enum Keyed {
     RequiredFlag,
     Number,
     AdjacentNumber,
+    LastNumber,
+    LastAdjacentNumber,
     Integer,
     Text,
     Unread,
@@ -61,6 +63,8 @@ pub fn kind_of_key(token: &str) -> Option<Keyed> {
         "rf" | "required_flag" => Some(Keyed::RequiredFlag),
         "an" | "argument" => Some(Keyed::Number),
         "ana" | "argument_adjacent" => Some(Keyed::AdjacentNumber),
+        "tl" | "take_last" => Some(Keyed::LastNumber),
+        "tla" | "take_last_adjacent" => Some(Keyed::LastAdjacentNumber),
         "ai" | "argument_integer" => Some(Keyed::Integer),
         "as" | "argument_text" => Some(Keyed::Text),
         "ar" | "argument_refused" => Some(Keyed::Unread),
@@ -76,6 +80,10 @@ pub fn keyed_leaf(keyed: Keyed, key: NamedArg, number: u64) -> Leaf {
         Keyed::RequiredFlag => Leaf::Flag(as_value(key.req_flag(number))),
         Keyed::Number => Leaf::Number(as_value(key.argument::<u64>("NUM"))),
         Keyed::AdjacentNumber => { Leaf::Number(as_value(key.argument::<u64>("NUM").adjacent())) }
+        Keyed::LastNumber => Leaf::Number(as_value(key.argument::<u64>("NUM").take_last())),
+        Keyed::LastAdjacentNumber => {
+            Leaf::Number(as_value(key.argument::<u64>("NUM").take_last().adjacent()))
+        }
         Keyed::Integer => Leaf::Integer(as_value(key.argument::<i64>("INT"))),
         Keyed::Text => Leaf::Text(as_value(key.argument::<String>("STR"))),
         Keyed::Unread => Leaf::Unread(as_value(key.argument::<Refused>("NUM"))),

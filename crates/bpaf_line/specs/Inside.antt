@@ -35,7 +35,8 @@ BitsOf s words = (p : ℕ) → p < length s.context.line → has_bit words p ≡
 
 -- each place has its bit, the trail has room for all places, each of which was present when it was
 -- taken, the scope lies in the line, the count of the present ones and the first of them are right,
--- what is kept of a scope that was left was so there, what stands before the chains is taken, and the path begins with the set name
+-- what is kept of a scope that was left was so there, what stands before the chains is taken, and
+-- the path begins with the set name
 pub record IsSound (s : Inside) : Type 0 where
   pub worded : length (rc_slice_items s.items) ≤ 64 * length s.words.items
   pub bits : BitsOf (situation_of s) s.words.items
