@@ -113,6 +113,24 @@ fn numbers_run_as_records(rt: HostRuntime) -> Result<(), Fail> {
     compare(&rt, number(rt.alloc(), 'n')?, NUMBER)
 }
 
+const LAST_NUMBER_ALONE: &[Row<'static>] = &[
+    ("-n 3 -n 4", "ok 4"),
+    (
+        "-n x --num 4",
+        "err `--num` is not expected in this context",
+    ),
+    ("-n x -n4", "ok 4"),
+    (
+        "-n 4 -n x",
+        "err couldn't parse `x`: not a whole number in range",
+    ),
+];
+
+#[test]
+fn last_numbers_run_as_records(rt: HostRuntime) -> Result<(), Fail> {
+    compare(&rt, number(rt.alloc(), 'n')?.take_last(), LAST_NUMBER_ALONE)
+}
+
 const OPTIONS_AND_WORDS: &[Row<'static>] = &[
     ("-vn3 x", "ok (true, 3, [\"x\"])"),
     ("x -n 3 -v y", "ok (true, 3, [\"x\", \"y\"])"),

@@ -97,6 +97,7 @@ fn are_switches_flat(
 fn repeats(alloc: Global) -> Result<bool, AllocError> {
     Ok(
         is_choice_flat(alloc, number(alloc, 'a')?, number(alloc, 'a')?)?
+            || is_choice_flat(alloc, number(alloc, 'a')?.take_last(), number(alloc, 'b')?)?
             || is_catching_flat(alloc, number(alloc, 'n')?)?
             || is_flat(alloc, word().optional().many())?
             || is_flat(alloc, choice(Vec::<ParseArgument<u64>>::new(alloc)))?
