@@ -9,3 +9,4 @@ pub mod Searching
 pub mod Attempting
 pub mod Trying
 pub mod Seeking
+pub mod LeafSparing

@@ -4,3 +4,4 @@ pub mod Matching
 pub mod Asked
 pub mod Marker
 pub mod Remembering
+pub mod Leaves

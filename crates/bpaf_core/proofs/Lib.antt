@@ -5,3 +5,4 @@ pub mod Commanding
 pub mod Attempting
 pub mod Refusing
 pub mod RunSparing
+pub mod LeafSparing

@@ -8,3 +8,4 @@ pub mod EndingLaws
 pub mod CommandLaws
 pub mod Adjacent
 pub mod AdjacentLaws
+pub mod Leaves

@@ -20,6 +20,8 @@ impl<T: FromText + Drop> Parser<T> for ParseArgument<T> {
     ghost use Rattle.bpaf_laws.specs.Argument.{ArgumentOutcome, ArgumentReads, argument_shape};
     ghost use Rattle.bpaf_laws.proofs.ArgumentLaws.{argument_lawful};
     ghost use Rattle.bpaf_laws.specs.KeyFirst.{KeyBeforeEnvironment};
+    ghost use Rattle.std.specs.Result.{IfErr};
+    ghost use Rattle.bpaf_core.specs.Leaves.{FaultsTextAlone};
 
     ghost can_eval = { λ p. Unit {0} };
 
@@ -33,6 +35,8 @@ impl<T: FromText + Drop> Parser<T> for ParseArgument<T> {
         ensures outcome { ArgumentOutcome T.means self.now state.old result state.new }
         ensures key_before_environment { KeyBeforeEnvironment T.means self.now
             state.old result state.new }
+        ensures memory_is_never_caught { IfErr result (FaultsTextAlone T.means self.now
+            state.old state.new) }
     {
         let text = take_argument(self, state)?;
         read_text(state, text.as_str())

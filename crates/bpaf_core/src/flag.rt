@@ -11,9 +11,11 @@ use std::alloc::{AllocError, Global};
 ///
 /// A required flag, which has no absent value, answers Missing where it is absent, or NoEnv where it
 /// has names in the environment alone. The value is a clone of the kept one, which may be refused for
-/// memory.
+/// memory; that is told as nothing else.
 impl<T: Clone + Drop> Parser<T> for ParseFlag<T> {
     ghost use Rattle.std.specs.Prelude.{◌≡◌};
+    ghost use Rattle.std.specs.Result.{IfErr};
+    ghost use Rattle.bpaf_core.specs.Leaves.{ClonesNothing};
     ghost use Rattle.bpaf_laws.specs.Flag.{FlagOutcome, FlagReads, flag_shape};
     ghost use Rattle.bpaf_laws.proofs.FlagLaws.{flag_lawful};
 
@@ -25,7 +27,13 @@ impl<T: Clone + Drop> Parser<T> for ParseFlag<T> {
 
     ghost outcome = { λ p. FlagOutcome T.is_clone p.named p.present p.absent };
 
-    fn eval(&self, state: &mut State) -> Result<T, Error> {
+    #[tactic(auto, using(crate::proofs::LeafSparing::flag_clones_nothing))]
+    fn eval(&self, state: &mut State) -> Result<T, Error>
+        ensures outcome { FlagOutcome T.is_clone self.now.named self.now.present self.now.absent
+            state.old result state.new }
+        ensures memory_is_never_caught { IfErr result (ClonesNothing self.now.named
+            self.now.absent state.old state.new) }
+    {
         if is_present(&self.named, state) {
             return Ok(self.present.clone()?);
         }

@@ -115,6 +115,8 @@ impl<I: FromText, T, F: Fn(I) -> Option<T>> Look<T> for ParseAny<I, T, F> {
 impl<I: FromText, T: Drop, F: Fn(I) -> Option<T>> Parser<T> for ParseAny<I, T, F> {
     ghost use Rattle.std.specs.Prelude.{◌≡◌};
     ghost use Rattle.bpaf_doc.specs.Shape.{Shown, Any};
+    ghost use Rattle.std.specs.Result.{IfErr};
+    ghost use Rattle.bpaf.specs.Leaves.{PassesAll};
     ghost use Rattle.bpaf_laws.specs.Any.{AnyOutcome, AnyReads, ChecksText};
     ghost use Rattle.bpaf_laws.proofs.AnyLaws.{any_lawful};
 
@@ -127,7 +129,15 @@ impl<I: FromText, T: Drop, F: Fn(I) -> Option<T>> Parser<T> for ParseAny<I, T, F
     ghost outcome = { λ p. AnyOutcome (ChecksText I.means (λ x v. F.post p.check x v))
         (Any p.metavar p.help p.anywhere) p.anywhere };
 
-    fn eval(&self, state: &mut State) -> Result<T, Error> {
+    #[tactic(auto, using(crate::proofs::LeafSparing::any_passes_all))]
+    fn eval(&self, state: &mut State) -> Result<T, Error>
+        requires { F.IsAlwaysCallable self.now.check }
+        ensures outcome { AnyOutcome (ChecksText I.means (λ x v. F.post self.now.check x v))
+            (Any self.now.metavar self.now.help self.now.anywhere) self.now.anywhere
+            state.old result state.new }
+        ensures memory_is_never_caught { IfErr result (PassesAll
+            (ChecksText I.means (λ x v. F.post self.now.check x v)) self.now.anywhere state.old) }
+    {
         if let Some(value) = take_match(self, self.anywhere, state)? {
             return Ok(value);
         }

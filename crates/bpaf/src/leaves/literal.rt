@@ -89,6 +89,8 @@ impl Look<()> for ParseLiteral {
 impl Parser<()> for ParseLiteral {
     ghost use Rattle.std.specs.Prelude.{◌≡◌};
     ghost use Rattle.bpaf_doc.specs.Shape.{Shown, Any};
+    ghost use Rattle.std.specs.Result.{IfErr};
+    ghost use Rattle.bpaf.specs.Leaves.{PassesAll};
     ghost use Rattle.bpaf_laws.specs.Any.{AnyOutcome, AnyReads, IsLiteral};
     ghost use Rattle.bpaf_laws.proofs.AnyLaws.{any_lawful};
 
@@ -101,7 +103,14 @@ impl Parser<()> for ParseLiteral {
     ghost outcome = { λ p.
         AnyOutcome (IsLiteral p.text) (Any p.metavar p.help p.anywhere) p.anywhere };
 
-    fn eval(&self, state: &mut State) -> Result<(), Error> {
+    #[tactic(auto, using(crate::proofs::LeafSparing::any_passes_all))]
+    fn eval(&self, state: &mut State) -> Result<(), Error>
+        ensures outcome { AnyOutcome (IsLiteral self.now.text)
+            (Any self.now.metavar self.now.help self.now.anywhere) self.now.anywhere
+            state.old result state.new }
+        ensures memory_is_never_caught { IfErr result (PassesAll (IsLiteral self.now.text)
+            self.now.anywhere state.old) }
+    {
         if take_match(self, self.anywhere, state)?.is_some() {
             return Ok(());
         }

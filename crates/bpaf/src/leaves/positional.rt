@@ -132,6 +132,8 @@ fn misplaced(
 /// taken); or for want of memory.
 impl<T: FromText + Drop> Parser<T> for ParsePositional<T> {
     ghost use Rattle.std.specs.Prelude.{◌≡◌};
+    ghost use Rattle.std.specs.Result.{IfErr};
+    ghost use Rattle.bpaf.specs.Leaves.{FaultsWordAlone};
     ghost use Rattle.bpaf.specs.Positional.{PositionalOutcome, PositionalReads, positional_shape};
     ghost use Rattle.bpaf.specs.PositionalLaws.{positional_lawful};
 
@@ -143,7 +145,12 @@ impl<T: FromText + Drop> Parser<T> for ParsePositional<T> {
 
     ghost outcome = { λ p. PositionalOutcome T.means p.position p.metavar.0.now };
 
-    fn eval(&self, state: &mut State) -> Result<T, Error> {
+    #[tactic(auto, using(crate::proofs::LeafSparing::word_faults_alone))]
+    fn eval(&self, state: &mut State) -> Result<T, Error>
+        ensures outcome { PositionalOutcome T.means self.now.position self.now.metavar.0.now
+            state.old result state.new }
+        ensures memory_is_never_caught { IfErr result (FaultsWordAlone T.means state.old state.new) }
+    {
         let (place, strict, text) = state.positional_word(self.metavar)?;
         if !self.position.accepts(strict) {
             state.remove(place);

@@ -31,6 +31,9 @@ pub fn pure<T>(value: T) -> ParsePure<T>
 impl<T: Clone + Drop> Parser<T> for ParsePure<T> {
     ghost use Rattle.std.specs.Prelude.{◌≡◌};
     ghost use Rattle.bpaf_doc.specs.Shape.{Skip};
+    ghost use Rattle.std.specs.Prelude.{true};
+    ghost use Rattle.std.specs.Result.{IfErr};
+    ghost use Rattle.bpaf_line.specs.Messages.{is_memory};
     ghost use Rattle.bpaf_laws.specs.Default.{GivesClone};
     ghost use Rattle.bpaf_laws.specs.Pure.{PureOutcome, PureReads};
     ghost use Rattle.bpaf_laws.proofs.PureLaws.{pure_lawful};
@@ -43,7 +46,11 @@ impl<T: Clone + Drop> Parser<T> for ParsePure<T> {
 
     ghost outcome = { λ p. PureOutcome (GivesClone T.is_clone p.value) };
 
-    fn eval(&self, state: &mut State) -> Result<T, Error> {
+    fn eval(&self, state: &mut State) -> Result<T, Error>
+        ensures outcome { PureOutcome (GivesClone T.is_clone self.now.value)
+            state.old result state.new }
+        ensures memory_is_never_caught { IfErr result (λ error. is_memory error.0 ≡ true) }
+    {
         state.set_current(None);
         Ok(self.value.clone()?)
     }

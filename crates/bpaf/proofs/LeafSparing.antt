@@ -1,0 +1,57 @@
+-- Leaves tell want of memory as nothing else.
+use Rattle.std.specs.Prelude.{◌≡◌, true, false, ℕ, Bool, List, Result, Ok, Err}
+use Rattle.std.specs.Result.{IfErr}
+use Rattle.std.proofs.Common.{true≢false, subst}
+use Rattle.bpaf_doc.specs.Shape.{Part}
+use Rattle.bpaf_line.specs.declared.error.Error.{Error}
+use Rattle.bpaf_line.specs.declared.error.Message.{Message}
+use Rattle.bpaf_line.specs.declared.error.Message.TheVariants.{Memory, NoEnv, ParseSome, ParseFail}
+use Rattle.bpaf_line.specs.declared.error.Message.TheVariants.{PureFailed, Missing, StrictPos}
+use Rattle.bpaf_line.specs.declared.error.Message.TheVariants.{NonStrictPos, ParseFailed, GuardFailed}
+use Rattle.bpaf_line.specs.declared.error.Message.TheVariants.{NoArgument, Unconsumed, Ambiguity}
+use Rattle.bpaf_line.specs.declared.error.Message.TheVariants.{Conflict, Expected, OnlyOnce}
+use Rattle.bpaf_line.specs.declared.error.Message.TheVariants.{ParseFailure}
+use Rattle.bpaf_line.specs.Messages.{is_memory}
+use Rattle.bpaf_line.specs.Situation.{Situation}
+use Rattle.bpaf_laws.specs.Any.{AnyFails, AnyOutcome, ArePassed, Looks, looked_at}
+use Rattle.bpaf.specs.declared.leaves.positional.Position.{Position}
+use Rattle.bpaf.specs.Leaves.{FaultsWordAlone, PassesAll}
+use Rattle.bpaf.specs.Positional.{PositionalFails, PositionalOutcome}
+
+module _ {T : Type 0} (looks : Looks T) (part : Part) (anywhere : Bool) (s t : Situation) where
+  -- by the message of the refusal
+  by_message : (m : Message) → AnyFails looks part anywhere s m t → is_memory m ≡ false
+      → ArePassed looks (looked_at anywhere s)
+  by_message Memory fails spared = absurd (true≢false spared)
+  by_message (Missing items) fails spared = fails.0.0
+  by_message (NoEnv x) fails spared = absurd fails
+  by_message (ParseSome x) fails spared = absurd fails
+  by_message (ParseFail x) fails spared = absurd fails
+  by_message (PureFailed x) fails spared = absurd fails
+  by_message (StrictPos x y) fails spared = absurd fails
+  by_message (NonStrictPos x y) fails spared = absurd fails
+  by_message (ParseFailed x y) fails spared = absurd fails
+  by_message (GuardFailed x y) fails spared = absurd fails
+  by_message (NoArgument x y) fails spared = absurd fails
+  by_message (Unconsumed x) fails spared = absurd fails
+  by_message (Ambiguity x y) fails spared = absurd fails
+  by_message (Conflict x y) fails spared = absurd fails
+  by_message (Expected x y) fails spared = absurd fails
+  by_message (OnlyOnce x y) fails spared = absurd fails
+  by_message (ParseFailure x) fails spared = absurd fails
+
+  -- an item is passed by where no memory was wanted for it
+  pub any_passes_all : (r : Result T Error) → AnyOutcome looks part anywhere s r t
+      → IfErr r (PassesAll looks anywhere s)
+  any_passes_all (Ok v) answered = tt
+  any_passes_all (Err e) answered = λ spared. by_message e.0 answered spared
+
+module _ {T : Type 0} (means : List ℕ → T → Type 0) (position : Position) (metavar : List ℕ)
+    (s t : Situation) where
+  -- a word tells no fault of a text that means a value
+  pub word_faults_alone : (r : Result T Error) → PositionalOutcome means position metavar s r t
+      → IfErr r (FaultsWordAlone means s t)
+  word_faults_alone (Ok v) answered = tt
+  word_faults_alone (Err e) answered = λ place fault is.
+      let failed = subst (λ m. PositionalFails means position metavar s m t) is answered in
+      (failed.0, failed.2.0)

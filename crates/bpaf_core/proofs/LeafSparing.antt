@@ -1,0 +1,55 @@
+-- Leaves tell want of memory as nothing else.
+use Rattle.std.specs.Prelude.{◌≡◌, true, false, List, ℕ, Option, None, Result, Ok, Err}
+use Rattle.std.specs.Result.{IfErr}
+use Rattle.std.proofs.Common.{true≢false, subst}
+use Rattle.bpaf_line.specs.declared.error.Error.{Error}
+use Rattle.bpaf_line.specs.declared.error.Message.{Message}
+use Rattle.bpaf_line.specs.declared.error.Message.TheVariants.{Memory, NoEnv, ParseSome, ParseFail}
+use Rattle.bpaf_line.specs.declared.error.Message.TheVariants.{PureFailed, Missing, StrictPos}
+use Rattle.bpaf_line.specs.declared.error.Message.TheVariants.{NonStrictPos, ParseFailed, GuardFailed}
+use Rattle.bpaf_line.specs.declared.error.Message.TheVariants.{NoArgument, Unconsumed, Ambiguity}
+use Rattle.bpaf_line.specs.declared.error.Message.TheVariants.{Conflict, Expected, OnlyOnce}
+use Rattle.bpaf_line.specs.declared.error.Message.TheVariants.{ParseFailure}
+use Rattle.bpaf_line.specs.Messages.{is_memory}
+use Rattle.bpaf_line.specs.Situation.{Situation}
+use Rattle.bpaf_text.specs.Named.{KeyWithValue, Named}
+use Rattle.bpaf_laws.specs.Argument.{ArgumentFails, ArgumentOutcome}
+use Rattle.bpaf_laws.specs.Flag.{FlagFails, FlagOutcome, IsFlagAbsent}
+use Rattle.bpaf_core.specs.Leaves.{ClonesNothing, FaultsTextAlone}
+
+module _ {T : Type 0} (named : Named) (absent : Option T) (s t : Situation) where
+  -- by the message of the refusal
+  by_message : (m : Message) → FlagFails named absent s m t → is_memory m ≡ false
+      → IsFlagAbsent named s t × (absent ≡ None)
+  by_message Memory fails spared = absurd (true≢false spared)
+  by_message (NoEnv x) fails spared = (fails.0, fails.1)
+  by_message (ParseSome x) fails spared = (fails.0, fails.1)
+  by_message (ParseFail x) fails spared = (fails.0, fails.1)
+  by_message (PureFailed x) fails spared = (fails.0, fails.1)
+  by_message (Missing x) fails spared = (fails.0, fails.1)
+  by_message (StrictPos x y) fails spared = (fails.0, fails.1)
+  by_message (NonStrictPos x y) fails spared = (fails.0, fails.1)
+  by_message (ParseFailed x y) fails spared = (fails.0, fails.1)
+  by_message (GuardFailed x y) fails spared = (fails.0, fails.1)
+  by_message (NoArgument x y) fails spared = (fails.0, fails.1)
+  by_message (Unconsumed x) fails spared = (fails.0, fails.1)
+  by_message (Ambiguity x y) fails spared = (fails.0, fails.1)
+  by_message (Conflict x y) fails spared = (fails.0, fails.1)
+  by_message (Expected x y) fails spared = (fails.0, fails.1)
+  by_message (OnlyOnce x y) fails spared = (fails.0, fails.1)
+  by_message (ParseFailure x) fails spared = (fails.0, fails.1)
+
+  -- a flag tells a refused clone as want of memory
+  pub flag_clones_nothing : (clones : T → T → Type 0) (present : T) (r : Result T Error)
+      → FlagOutcome clones named present absent s r t → IfErr r (ClonesNothing named absent s t)
+  flag_clones_nothing clones present (Ok v) answered = tt
+  flag_clones_nothing clones present (Err e) answered = λ spared. by_message e.0 answered spared
+
+module _ {T : Type 0} (means : List ℕ → T → Type 0) (argument : KeyWithValue) (s t : Situation) where
+  -- an argument tells no fault of a text that means a value
+  pub argument_faults_alone : (r : Result T Error) → ArgumentOutcome means argument s r t
+      → IfErr r (FaultsTextAlone means argument s t)
+  argument_faults_alone (Ok v) answered = tt
+  argument_faults_alone (Err e) answered = λ place fault is.
+      let failed = subst (λ m. ArgumentFails means argument s m t) is answered in
+      (failed.0, failed.1, failed.2.0)

@@ -1,0 +1,22 @@
+-- Want of memory of leaves: of a clone, and of a text that is read.
+use Rattle.std.specs.Prelude.{◌≡◌, false, ℕ, List, Option, None}
+use Rattle.bpaf_line.specs.declared.error.Error.{Error}
+use Rattle.bpaf_line.specs.declared.error.Message.TheVariants.{ParseFailed}
+use Rattle.bpaf_line.specs.Messages.{is_memory}
+use Rattle.bpaf_line.specs.Situation.{Situation}
+use Rattle.bpaf_text.specs.Named.{KeyWithValue, Named}
+use Rattle.bpaf_laws.specs.Argument.{GetsText}
+use Rattle.bpaf_laws.specs.Flag.{IsFlagAbsent}
+
+-- a refusal of a flag that isn't want of memory is of one that is absent and has no absent value: no
+-- clone was to be made
+abbrev pub ClonesNothing : {T : Type 0} → Named → Option T → Situation → Situation → Error → Type 0
+ClonesNothing named absent s t e =
+    is_memory e.0 ≡ false → IsFlagAbsent named s t × (absent ≡ None)
+
+-- a fault that is told of an argument's text is of one that means no value
+abbrev pub FaultsTextAlone : {T : Type 0} → (List ℕ → T → Type 0) → KeyWithValue → Situation
+    → Situation → Error → Type 0
+FaultsTextAlone {T} means argument s t e = (place : Option ℕ) (fault : List ℕ)
+    → e.0 ≡ ParseFailed place fault
+    → (text : List ℕ) × GetsText argument s text t × ((v : T) → ¬ (means text v))
