@@ -253,7 +253,8 @@ module _ (makes : Makes) (made : MakesRecord makes) (parts : Parts)
       subst (IsDealtLaunch words) (sym (made values v dealt.read.made)) (record {
         context = dealt.context;
         is_context = line_context (RecordDescribes parts) parts.info (program_given words)
-            program_known (known_parts parts program) dealt.context dealt.is_context;
+            program_known (known_parts parts program) (ap (λ info. info.numbers) program.info)
+            dealt.context dealt.is_context;
         verbose_share = read.first_share;
         dry_run_share = others.first_share;
         name_share = positionals.first_share;
