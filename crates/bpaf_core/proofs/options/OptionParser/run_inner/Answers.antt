@@ -56,32 +56,12 @@ pub returns-in-Ok-construct-clause-memory_is_never_caught
 returns-in-Ok-construct-clause-memory_is_never_caught g c =
     words_spared _ _ _ (given_of c.args.args) _
     (started (given_of c.args.args) _ _ _ _ _ c.in-Ok.ensures
-    (rw (c.deref.ensures.value, c.deref-2.ensures.value) at c.in-Ok-construct.ensures.answer)
+    (rw (c.deref.ensures.value, c.deref-2.ensures.value) at c.in-Ok-construct.ensures)
     c.run_from.ensures)
 
 pub returns-clause-memory_is_never_caught : goal.returns-clause-memory_is_never_caught
 returns-clause-memory_is_never_caught g c =
     words_spared _ _ _ (given_of c.args.args) _
     (line_refused (given_of c.args.args) _ _ _ _ c.in-Ok.ensures
-    (rw (c.deref.ensures.value, c.deref-2.ensures.value) at c.in-Err.ensures.answer)
-    c.tell_fault.ensures)
-
-pub returns-in_default-clause-memory_is_never_caught
-    : goal.returns-in_default-clause-memory_is_never_caught
-returns-in_default-clause-memory_is_never_caught g c =
-    words_spared _ _ _ (given_of c.args.args) _ no_memory
-
-pub returns-in-Ok-construct-clause-memory_is_never_caught
-    : goal.returns-in-Ok-construct-clause-memory_is_never_caught
-returns-in-Ok-construct-clause-memory_is_never_caught g c =
-    words_spared _ _ _ (given_of c.args.args) _
-    (started (given_of c.args.args) _ _ _ _ _ c.in-Ok.ensures
-    (rw (c.deref.ensures.value, c.deref-2.ensures.value) at c.in-Ok-construct.ensures.answer)
-    c.run_from.ensures)
-
-pub returns-clause-memory_is_never_caught : goal.returns-clause-memory_is_never_caught
-returns-clause-memory_is_never_caught g c =
-    words_spared _ _ _ (given_of c.args.args) _
-    (line_refused (given_of c.args.args) _ _ _ _ c.in-Ok.ensures
-    (rw (c.deref.ensures.value, c.deref-2.ensures.value) at c.in-Err.ensures.answer)
+    (rw (c.deref.ensures.value, c.deref-2.ensures.value) at c.in-Err.ensures)
     c.tell_fault.ensures)
