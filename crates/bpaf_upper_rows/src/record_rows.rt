@@ -105,7 +105,6 @@ const NUMBER: &[Row<'static>] = &[
         "err couldn't parse `18446744073709551616`: not a whole number in range",
     ),
     ("-n --help", "shown"),
-    ("-- --help", "err `--help` is not expected in this context"),
 ];
 
 #[test]
@@ -115,10 +114,6 @@ fn numbers_run_as_records(rt: HostRuntime) -> Result<(), Fail> {
 
 const LAST_NUMBER_ALONE: &[Row<'static>] = &[
     ("-n 3 -n 4", "ok 4"),
-    (
-        "-n x --num 4",
-        "err `--num` is not expected in this context",
-    ),
     ("-n x -n4", "ok 4"),
     (
         "-n 4 -n x",
