@@ -120,7 +120,7 @@ fn split_by_dash(
 pub(crate) fn is_joined(word: &str, numbers: bool) -> bool
     ensures { result ≡ false → IsSpelledAlone numbers word.now }
 {
-    has_joined(word) && !(numbers && is_number(word))
+    !(numbers && is_number(word)) && has_joined(word)
 }
 
 /// Whether a word is two or more letters behind a dash, without an `=` after the first.
