@@ -1,7 +1,7 @@
 -- Leaves tell want of memory as nothing else.
-use Rattle.std.specs.Prelude.{◌≡◌, true, false, ℕ, Bool, List, Result, Ok, Err}
+use Rattle.std.specs.Prelude.{◌≡◌, true, false, ℕ, Bool, List, Option, Result, Ok, Err, inl, inr}
 use Rattle.std.specs.Result.{IfErr}
-use Rattle.std.proofs.Common.{true≢false, subst}
+use Rattle.std.proofs.Common.{true≢false, subst, sym, ◌∙◌, cong}
 use Rattle.bpaf_doc.specs.Shape.{Part}
 use Rattle.bpaf_line.specs.declared.error.Error.{Error}
 use Rattle.bpaf_line.specs.declared.error.Message.{Message}
@@ -14,8 +14,10 @@ use Rattle.bpaf_line.specs.declared.error.Message.TheVariants.{ParseFailure}
 use Rattle.bpaf_line.specs.Messages.{is_memory}
 use Rattle.bpaf_line.specs.Situation.{Situation}
 use Rattle.bpaf_laws.specs.Any.{AnyFails, AnyOutcome, ArePassed, Looks, looked_at}
+use Rattle.bpaf_laws.specs.Default.{GivesAnswer}
+use Rattle.bpaf_laws.specs.Pure.{GivesRefusal}
 use Rattle.bpaf.specs.declared.leaves.positional.Position.{Position}
-use Rattle.bpaf.specs.Leaves.{FaultsWordAlone, PassesAll}
+use Rattle.bpaf.specs.Leaves.{FaultsWordAlone, PassesAll, TellsAnswer, TellsWhole}
 use Rattle.bpaf.specs.Positional.{PositionalFails, PositionalOutcome}
 
 module _ {T : Type 0} (looks : Looks T) (part : Part) (anywhere : Bool) (s t : Situation) where
@@ -55,3 +57,22 @@ module _ {T : Type 0} (means : List ℕ → T → Type 0) (position : Position) 
   word_faults_alone (Err e) answered = λ place fault is.
       let failed = subst (λ m. PositionalFails means position metavar s m t) is answered in
       (failed.0, failed.2.0)
+
+-- want of memory isn't spared
+not_spared : (m : Message) → m ≡ Memory → is_memory m ≡ false → ⊥
+not_spared m is spared = true≢false (sym (cong is_memory is) ∙ spared)
+
+-- a refusal that is always given is told whole
+pub refusal_told : {T : Type 0} (message : List ℕ) (r : Result T Error) → GivesRefusal message r
+    → IfErr r (TellsWhole message)
+refusal_told message (Ok v) given = absurd given
+refusal_told message (Err e) (inl whole) = λ spared. whole
+refusal_told message (Err e) (inr is) = λ spared. absurd (not_spared e.0 is spared)
+
+-- a closure's fault is told whole
+pub answer_told : {T E : Type 0} (answers : Result T E → Type 0) (shown : E → Option (List ℕ))
+    (r : Result T Error) → GivesAnswer answers shown r → IfErr r (TellsAnswer answers shown)
+answer_told answers shown (Ok v) given = tt
+answer_told answers shown (Err e) (fault, answered, inl is) = λ spared.
+    absurd (not_spared e.0 is spared)
+answer_told answers shown (Err e) (fault, answered, inr told) = λ spared. (fault, answered, told)

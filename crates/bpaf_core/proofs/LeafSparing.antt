@@ -1,7 +1,7 @@
 -- Leaves tell want of memory as nothing else.
 use Rattle.std.specs.Prelude.{◌≡◌, true, false, List, ℕ, Option, None, Result, Ok, Err}
 use Rattle.std.specs.Result.{IfErr}
-use Rattle.std.proofs.Common.{true≢false, subst}
+use Rattle.std.proofs.Common.{true≢false, subst, sym, ◌∙◌, cong}
 use Rattle.bpaf_line.specs.declared.error.Error.{Error}
 use Rattle.bpaf_line.specs.declared.error.Message.{Message}
 use Rattle.bpaf_line.specs.declared.error.Message.TheVariants.{Memory, NoEnv, ParseSome, ParseFail}
@@ -15,7 +15,10 @@ use Rattle.bpaf_line.specs.Situation.{Situation}
 use Rattle.bpaf_text.specs.Named.{KeyWithValue, Named}
 use Rattle.bpaf_laws.specs.Argument.{ArgumentFails, ArgumentOutcome}
 use Rattle.bpaf_laws.specs.Flag.{FlagFails, FlagOutcome, IsFlagAbsent}
-use Rattle.bpaf_core.specs.Leaves.{ClonesNothing, FaultsTextAlone}
+use Rattle.bpaf_parts.specs.Extra.{ExtraOutcome, help, neither, no_memory, version}
+use Rattle.bpaf_parts.specs.Info.{RunInfo}
+use Rattle.bpaf_parts.specs.declared.info.ExtraParams.{ExtraParams}
+use Rattle.bpaf_core.specs.Leaves.{AsksForNeither, ClonesNothing, FaultsTextAlone}
 
 module _ {T : Type 0} (named : Named) (absent : Option T) (s t : Situation) where
   -- by the message of the refusal
@@ -53,3 +56,13 @@ module _ {T : Type 0} (means : List ℕ → T → Type 0) (argument : KeyWithVal
   argument_faults_alone (Err e) answered = λ place fault is.
       let failed = subst (λ m. ArgumentFails means argument s m t) is answered in
       (failed.0, failed.1, failed.2.0)
+
+module _ (info : RunInfo) (s t : Situation) where
+  -- that neither is asked for is told of no want of memory
+  pub neither_asked : (r : Result ExtraParams Error) → ExtraOutcome info s r t
+      → IfErr r (AsksForNeither info s t)
+  neither_asked r (help more m t there again) = tt
+  neither_asked r (version text m t absent is there) = tt
+  neither_asked r (neither e m t absent none is) = λ spared. (m, absent, none)
+  neither_asked r (no_memory e t is keeps) = λ spared.
+      absurd (true≢false (sym (cong is_memory is) ∙ spared))

@@ -7,6 +7,8 @@ use Rattle.bpaf_line.specs.Situation.{Situation}
 use Rattle.bpaf_text.specs.Named.{KeyWithValue, Named}
 use Rattle.bpaf_laws.specs.Argument.{GetsText}
 use Rattle.bpaf_laws.specs.Flag.{IsFlagAbsent}
+use Rattle.bpaf_parts.specs.Extra.{IsNoVersion}
+use Rattle.bpaf_parts.specs.Info.{RunInfo}
 
 -- a refusal of a flag that isn't want of memory is of one that is absent and has no absent value: no
 -- clone was to be made
@@ -20,3 +22,8 @@ abbrev pub FaultsTextAlone : {T : Type 0} → (List ℕ → T → Type 0) → Ke
 FaultsTextAlone {T} means argument s t e = (place : Option ℕ) (fault : List ℕ)
     → e.0 ≡ ParseFailed place fault
     → (text : List ℕ) × GetsText argument s text t × ((v : T) → ¬ (means text v))
+
+-- a refusal that isn't want of memory comes where neither help nor the version is asked for
+abbrev pub AsksForNeither : RunInfo → Situation → Situation → Error → Type 0
+AsksForNeither info s t e =
+    is_memory e.0 ≡ false → (m : Situation) × IsFlagAbsent info.help_arg s m × IsNoVersion info m t

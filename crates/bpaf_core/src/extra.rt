@@ -8,9 +8,12 @@ use std::alloc::{AllocError, Global};
 /// What the run is asked for beside its value, as [`Info::look`] tells it (bpaf's `Info`, in
 /// `info.rs`).
 ///
-/// Refused with ParseFail, where neither help nor the version is asked for; and for want of memory.
+/// Refused with ParseFail, where neither help nor the version is asked for; and for want of memory,
+/// which is told as nothing else.
 impl Parser<ExtraParams> for Info {
     ghost use Rattle.std.specs.Prelude.{◌≡◌};
+    ghost use Rattle.std.specs.Result.{IfErr};
+    ghost use Rattle.bpaf_core.specs.Leaves.{AsksForNeither};
     ghost use Rattle.bpaf_parts.specs.Extra.{ExtraOutcome, ExtraReads, extra_shape};
     ghost use Rattle.bpaf_parts.specs.ExtraLaws.{extra_lawful};
 
@@ -22,7 +25,12 @@ impl Parser<ExtraParams> for Info {
 
     ghost outcome = { λ info. ExtraOutcome info };
 
-    fn eval(&self, state: &mut State) -> Result<ExtraParams, Error> {
+    #[tactic(auto, using(crate::proofs::LeafSparing::neither_asked))]
+    fn eval(&self, state: &mut State) -> Result<ExtraParams, Error>
+        ensures outcome { ExtraOutcome self.now state.old result state.new }
+        ensures memory_is_never_caught { IfErr result
+            (AsksForNeither self.now state.old state.new) }
+    {
         self.look(state)
     }
 

@@ -22,8 +22,10 @@ pub fn appname() -> ParseAppname {
 /// A copy of the first entry of the path, else of `app`; refused only for want of memory. Nothing
 /// changes, the current place neither.
 impl Parser<String> for ParseAppname {
-    ghost use Rattle.std.specs.Prelude.{◌≡◌};
+    ghost use Rattle.std.specs.Prelude.{◌≡◌, true};
+    ghost use Rattle.std.specs.Result.{IfErr};
     ghost use Rattle.bpaf_doc.specs.Shape.{Skip};
+    ghost use Rattle.bpaf_line.specs.Messages.{is_memory};
     ghost use Rattle.bpaf_laws.specs.Appname.{AppnameOutcome, AppnameReads};
     ghost use Rattle.bpaf_laws.proofs.AppnameLaws.{appname_lawful};
 
@@ -35,7 +37,10 @@ impl Parser<String> for ParseAppname {
 
     ghost outcome = { λ p. AppnameOutcome };
 
-    fn eval(&self, state: &mut State) -> Result<String, Error> {
+    fn eval(&self, state: &mut State) -> Result<String, Error>
+        ensures outcome { AppnameOutcome state.old result state.new }
+        ensures memory_is_never_caught { IfErr result (λ error. is_memory error.0 ≡ true) }
+    {
         match state.path().first() {
             Some(entry) => Ok(entry.clone()?),
             None => Ok(String::from_str(state.alloc(), "app")?),

@@ -95,9 +95,11 @@ pub fn pure_with<T, F: Fn() -> Result<T, E>, E: Display>(f: F) -> ParsePureWith<
 impl<T: Drop, F: Fn() -> Result<T, E>, E: Display + Drop> Parser<T> for ParsePureWith<T, F, E> {
     ghost use Rattle.std.specs.Prelude.{◌≡◌};
     ghost use Rattle.bpaf_doc.specs.Shape.{Skip};
+    ghost use Rattle.std.specs.Result.{IfErr};
     ghost use Rattle.bpaf_laws.specs.Default.{GivesAnswer};
     ghost use Rattle.bpaf_laws.specs.Pure.{PureOutcome, PureReads};
     ghost use Rattle.bpaf_laws.proofs.PureLaws.{pure_lawful};
+    ghost use Rattle.bpaf.specs.Leaves.{TellsAnswer};
 
     ghost can_eval = { λ p. F.IsAlwaysCallable p.f };
 
@@ -107,7 +109,13 @@ impl<T: Drop, F: Fn() -> Result<T, E>, E: Display + Drop> Parser<T> for ParsePur
 
     ghost outcome = { λ p. PureOutcome (GivesAnswer (λ r. F.post p.f r) E.output) };
 
-    fn eval(&self, state: &mut State) -> Result<T, Error> {
+    #[tactic(auto, using(crate::proofs::LeafSparing::answer_told))]
+    fn eval(&self, state: &mut State) -> Result<T, Error>
+        ensures outcome { PureOutcome (GivesAnswer (λ r. F.post self.now.f r) E.output)
+            state.old result state.new }
+        ensures memory_is_never_caught { IfErr result
+            (TellsAnswer (λ r. F.post self.now.f r) E.output) }
+    {
         state.set_current(None);
         match (self.f)() {
             Ok(value) => Ok(value),
@@ -152,8 +160,10 @@ pub fn fail<T>(message: &'static str) -> ParseFail<T>
 impl<T: Drop> Parser<T> for ParseFail<T> {
     ghost use Rattle.std.specs.Prelude.{◌≡◌};
     ghost use Rattle.bpaf_doc.specs.Shape.{Skip};
+    ghost use Rattle.std.specs.Result.{IfErr};
     ghost use Rattle.bpaf_laws.specs.Pure.{GivesRefusal, PureOutcome, PureReads};
     ghost use Rattle.bpaf_laws.proofs.PureLaws.{pure_lawful};
+    ghost use Rattle.bpaf.specs.Leaves.{TellsWhole};
 
     ghost can_eval = { λ p. Unit {0} };
 
@@ -163,7 +173,12 @@ impl<T: Drop> Parser<T> for ParseFail<T> {
 
     ghost outcome = { λ p. PureOutcome (GivesRefusal p.message.now) };
 
-    fn eval(&self, state: &mut State) -> Result<T, Error> {
+    #[tactic(auto, using(crate::proofs::LeafSparing::refusal_told))]
+    fn eval(&self, state: &mut State) -> Result<T, Error>
+        ensures outcome { PureOutcome (GivesRefusal self.now.message.now)
+            state.old result state.new }
+        ensures memory_is_never_caught { IfErr result (TellsWhole self.now.message.now) }
+    {
         state.set_current(None);
         let message = Text::new(state.alloc(), self.message)?;
         Err(Error(Message::ParseFail(message)))
