@@ -1,7 +1,7 @@
 -- Leaves tell want of memory as nothing else.
 use Rattle.std.specs.Prelude.{◌≡◌, true, false, ℕ, Bool, List, Option, Result, Ok, Err, inl, inr}
 use Rattle.std.specs.Result.{IfErr}
-use Rattle.std.proofs.Common.{true≢false, subst, sym, ◌∙◌, cong}
+use Rattle.std.proofs.Common.{true≢false, subst, sym, ◌∙◌, ap}
 use Rattle.bpaf_doc.specs.Shape.{Part}
 use Rattle.bpaf_line.specs.declared.error.Error.{Error}
 use Rattle.bpaf_line.specs.declared.error.Message.{Message}
@@ -60,7 +60,7 @@ module _ {T : Type 0} (means : List ℕ → T → Type 0) (position : Position) 
 
 -- want of memory isn't spared
 not_spared : (m : Message) → m ≡ Memory → is_memory m ≡ false → ⊥
-not_spared m is spared = true≢false (sym (cong is_memory is) ∙ spared)
+not_spared m is spared = true≢false (sym (ap is_memory is) ∙ spared)
 
 -- a refusal that is always given is told whole
 pub refusal_told : {T : Type 0} (message : List ℕ) (r : Result T Error) → GivesRefusal message r

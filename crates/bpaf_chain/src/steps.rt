@@ -78,11 +78,11 @@ fn chained<P: Parser<Step> + Drop>(
     descr: &str,
     parser: P,
 ) -> Result<ParseCommand<Step, P>, AllocError>
-    ensures inner { IfOk result (λ command. command.subparser.inner ≡ parser) }
+    ensures inner { IfOk result (λ command. command.inner ≡ parser) }
     ensures names { IfOk result (λ command. command.names ≡ named_only name.now) }
     ensures adjacent { IfOk result (λ command. command.adjacent ≡ true) }
-    ensures help { IfOk result (λ command. command.help ≡ short_descr command.subparser.info) }
-    ensures described { IfOk result (λ command. IsDescribed descr.now command.subparser.info) }
+    ensures help { IfOk result (λ command. command.help ≡ short_descr command.info) }
+    ensures described { IfOk result (λ command. IsDescribed descr.now command.info) }
 {
     let descr = Doc::from_text(alloc, descr)?;
     let options = parser.to_options(alloc)?.descr(descr);

@@ -1,7 +1,7 @@
 -- Leaves tell want of memory as nothing else.
 use Rattle.std.specs.Prelude.{◌≡◌, true, false, List, ℕ, Option, None, Result, Ok, Err}
 use Rattle.std.specs.Result.{IfErr}
-use Rattle.std.proofs.Common.{true≢false, subst, sym, ◌∙◌, cong}
+use Rattle.std.proofs.Common.{true≢false, subst, sym, ◌∙◌, ap}
 use Rattle.bpaf_line.specs.declared.error.Error.{Error}
 use Rattle.bpaf_line.specs.declared.error.Message.{Message}
 use Rattle.bpaf_line.specs.declared.error.Message.TheVariants.{Memory, NoEnv, ParseSome, ParseFail}
@@ -65,4 +65,4 @@ module _ (info : RunInfo) (s t : Situation) where
   neither_asked r (version text m t absent is there) = tt
   neither_asked r (neither e m t absent none is) = λ spared. (m, absent, none)
   neither_asked r (no_memory e t is keeps) = λ spared.
-      absurd (true≢false (sym (cong is_memory is) ∙ spared))
+      absurd (true≢false (sym (ap is_memory is) ∙ spared))

@@ -4,8 +4,8 @@ ghost use Rattle.bpaf_line.specs.Marks.{CanRedo, Fits, KeepsMarks, redone, undon
 ghost use Rattle.bpaf_core.specs.Ending.{EndsRun};
 ghost use Rattle.bpaf_core.specs.Adjacent.{AdjacentRuns, Attempt, Attempts, GivesBack, Retry};
 
-use crate::options::OptionParser;
 use crate::parser::Parser;
+use crate::run::Run;
 use bpaf_line::{Mark, ParseFailure, State, Steps};
 use bpaf_parts::{first_left, resume, wants_memory};
 
@@ -34,14 +34,14 @@ fn first_failure(
     }
 }
 
-impl<T: Drop, P: Parser<T>> OptionParser<T, P> {
+impl<T: Drop, P: Parser<T>> Run<'_, T, P> {
     /// A run over the places from one up to another.
     fn attempt(&self, state: &mut State, from: usize, end: usize) -> Result<T, ParseFailure>
-        requires can { P.can_eval self.now.inner }
+        requires can { P.can_eval self.now.inner.now }
         requires ordered { from ≤ end }
         requires inside { end ≤ length state.old.context.line }
-        ensures runs { Attempt T (P.outcome self.now.inner)
-            (EndsRun (P.describes self.now.inner) self.now.info) state.old from end result state.new }
+        ensures runs { Attempt T (P.outcome self.now.inner.now)
+            (EndsRun (P.describes self.now.inner.now) self.now.info.now) state.old from end result state.new }
         ensures context { state.new.context ≡ state.old.context }
         ensures marks { KeepsMarks state.old state.new }
     {
@@ -60,11 +60,11 @@ impl<T: Drop, P: Parser<T>> OptionParser<T, P> {
         end: usize,
         failure: ParseFailure,
     ) -> Result<T, ParseFailure>
-        requires can { P.can_eval self.now.inner }
+        requires can { P.can_eval self.now.inner.now }
         requires fits { Fits mark state.old }
         requires inside { end ≤ length state.old.context.line }
-        ensures { Retry T (P.outcome self.now.inner)
-            (EndsRun (P.describes self.now.inner) self.now.info) (undone mark state.old) from end failure
+        ensures { Retry T (P.outcome self.now.inner.now)
+            (EndsRun (P.describes self.now.inner.now) self.now.info.now) (undone mark state.old) from end failure
             state.old result state.new }
     {
         if wants_memory(&failure) {
@@ -86,10 +86,10 @@ impl<T: Drop, P: Parser<T>> OptionParser<T, P> {
     /// An attempt over the unbroken run of present places from one on, and what follows where that
     /// fails.
     fn attempts(&self, state: &mut State, from: usize) -> Result<T, ParseFailure>
-        requires can { P.can_eval self.now.inner }
+        requires can { P.can_eval self.now.inner.now }
         requires inside { from ≤ length state.old.context.line }
-        ensures { Attempts T (P.outcome self.now.inner)
-            (EndsRun (P.describes self.now.inner) self.now.info) state.old from result state.new }
+        ensures { Attempts T (P.outcome self.now.inner.now)
+            (EndsRun (P.describes self.now.inner.now) self.now.info.now) state.old from result state.new }
     {
         let mark = state.mark();
         let end = state.adjacently_available_from(from).end;
@@ -102,10 +102,10 @@ impl<T: Drop, P: Parser<T>> OptionParser<T, P> {
     /// The attempts behind a word, which stands where the scope begins. After a value the scope is
     /// again that which it was.
     pub(crate) fn run_adjacent(&self, state: &mut State) -> Result<T, ParseFailure>
-        requires can { P.can_eval self.now.inner }
+        requires can { P.can_eval self.now.inner.now }
         requires word { state.old.start < state.old.end }
-        ensures { AdjacentRuns T (P.outcome self.now.inner)
-            (EndsRun (P.describes self.now.inner) self.now.info) state.old result state.new }
+        ensures { AdjacentRuns T (P.outcome self.now.inner.now)
+            (EndsRun (P.describes self.now.inner.now) self.now.info.now) state.old result state.new }
     {
         let scope = state.scope();
         match self.attempts(state, scope.start + 1) {

@@ -11,10 +11,12 @@ ghost use Rattle.bpaf_parts.specs.Info.{short_descr};
 
 use crate::options::OptionParser;
 use crate::parser::Parser;
+use crate::run::Run;
 use bpaf_doc::{Doc, Item, Meta, Text};
 use bpaf_line::{Error, ParseFailure, State};
-use bpaf_parts::{CommandNames, end_message};
+use bpaf_parts::{CommandNames, Info, end_message};
 use std::alloc::{AllocError, Global};
+use std::marker::PhantomData;
 
 /// A word that opens a run of its own over the items after it (bpaf's `ParseCommand`, in
 /// `params.rs`).
@@ -25,9 +27,15 @@ pub struct ParseCommand<T, P> {
     /// What is shown of it beside its name.
     pub help: Option<Doc>,
     /// What runs behind it.
-    pub subparser: OptionParser<T, P>,
+    pub inner: P,
+    /// The keys of help and of the version behind it, and the texts of its page.
+    pub info: Info,
+    /// From where memory is taken.
+    pub alloc: Global,
     /// Whether it reads the items behind its word without a gap alone.
     pub adjacent: bool,
+    /// The type of the value.
+    pub of: PhantomData<T>,
 }
 
 /// A command of this name, which runs the parser over the items behind it (bpaf's `command`).
@@ -44,16 +52,26 @@ pub fn command<T, P: Drop>(
 ) -> Result<ParseCommand<T, P>, AllocError>
     ensures names { IfOk result (λ command. command.names ≡ named_only name.now) }
     ensures help { IfOk result (λ command. command.help ≡ short_descr subparser.info) }
-    ensures subparser { IfOk result (λ command. command.subparser ≡ subparser) }
+    ensures inner { IfOk result (λ command. command.inner ≡ subparser.inner) }
+    ensures info { IfOk result (λ command. command.info ≡ subparser.info) }
     ensures adjacent { IfOk result (λ command. command.adjacent ≡ false) }
 {
     let names = CommandNames::new(subparser.alloc, name)?;
     let help = subparser.info.short_descr()?;
+    let OptionParser {
+        inner,
+        info,
+        alloc,
+        ..
+    } = subparser;
     Ok(ParseCommand {
         names,
         help,
-        subparser,
+        inner,
+        info,
+        alloc,
         adjacent: false,
+        of: PhantomData,
     })
 }
 
@@ -67,7 +85,8 @@ impl<T, P: Drop> OptionParser<T, P> {
     pub fn command(self, name: &str) -> Result<ParseCommand<T, P>, AllocError>
         ensures names { IfOk result (λ command. command.names ≡ named_only name.now) }
         ensures help { IfOk result (λ command. command.help ≡ short_descr self.info) }
-        ensures subparser { IfOk result (λ command. command.subparser ≡ self) }
+        ensures inner { IfOk result (λ command. command.inner ≡ self.inner) }
+        ensures info { IfOk result (λ command. command.info ≡ self.info) }
         ensures adjacent { IfOk result (λ command. command.adjacent ≡ false) }
     {
         command(name, self)
@@ -117,8 +136,11 @@ impl<T, P: Drop> ParseCommand<T, P> {
         Ok(ParseCommand {
             names: self.names.short(name)?,
             help: self.help,
-            subparser: self.subparser,
+            inner: self.inner,
+            info: self.info,
+            alloc: self.alloc,
             adjacent: self.adjacent,
+            of: PhantomData,
         })
     }
 
@@ -136,8 +158,11 @@ impl<T, P: Drop> ParseCommand<T, P> {
         Ok(ParseCommand {
             names: self.names.long(name)?,
             help: self.help,
-            subparser: self.subparser,
+            inner: self.inner,
+            info: self.info,
+            alloc: self.alloc,
             adjacent: self.adjacent,
+            of: PhantomData,
         })
     }
 }
@@ -145,23 +170,23 @@ impl<T, P: Drop> ParseCommand<T, P> {
 impl<T: Drop, P: Parser<T>> ParseCommand<T, P> {
     /// What it shows; refused only for want of memory.
     fn item(&self, alloc: Global) -> Result<Item, AllocError>
-        requires { P.can_eval self.now.subparser.inner }
+        requires { P.can_eval self.now.inner }
         ensures { IfOk result (λ item. CommandPart self.now.names self.now.help
-            (P.describes self.now.subparser.inner) (part_of item)) }
+            (P.describes self.now.inner) (part_of item)) }
     {
         Ok(Item::Command {
             name: Text::new(alloc, self.names.name())?,
             short: self.names.first_short(),
             help: Doc::copy_of(&self.help)?,
-            meta: Box::new(alloc, self.subparser.inner.meta(alloc)?)?,
+            meta: Box::new(alloc, self.inner.meta(alloc)?)?,
         })
     }
 
     /// That its word isn't there; also the refusal where memory for that is wanted.
     fn missing(&self, state: &State) -> Error
-        requires { P.can_eval self.now.subparser.inner }
+        requires { P.can_eval self.now.inner }
         ensures { IsMissingPart (CommandPart self.now.names self.now.help
-            (P.describes self.now.subparser.inner)) state.now result.0 }
+            (P.describes self.now.inner)) state.now result.0 }
     {
         match self.item(state.alloc()) {
             Ok(item) => match state.missing(Some(item)) {
@@ -175,9 +200,9 @@ impl<T: Drop, P: Parser<T>> ParseCommand<T, P> {
     /// Takes its word, makes the scope run from it to its old end, and puts the name on the path.
     /// Refused where the word isn't there, and for want of memory.
     fn enter(&self, state: &mut State) -> Result<(), Error>
-        requires { P.can_eval self.now.subparser.inner }
+        requires { P.can_eval self.now.inner }
         ensures { Enters self.now.names (CommandPart self.now.names self.now.help
-            (P.describes self.now.subparser.inner)) state.old result state.new }
+            (P.describes self.now.inner)) state.old result state.new }
     {
         if !self.names.open(state) {
             return Err(self.missing(state));
@@ -189,16 +214,17 @@ impl<T: Drop, P: Parser<T>> ParseCommand<T, P> {
     /// The run over all that is in scope; of an adjacent command the attempts behind its word,
     /// which stands where the scope begins.
     fn run_inside(&self, state: &mut State) -> Result<T, ParseFailure>
-        requires can { P.can_eval self.now.subparser.inner }
+        requires can { P.can_eval self.now.inner }
         requires word { state.old.start < state.old.end }
-        ensures { RunsInside self.now.adjacent T (P.outcome self.now.subparser.inner)
-            (EndsRun (P.describes self.now.subparser.inner) self.now.subparser.info)
+        ensures { RunsInside self.now.adjacent T (P.outcome self.now.inner)
+            (EndsRun (P.describes self.now.inner) self.now.info)
             state.old result state.new }
     {
+        let run = Run::new(&self.inner, &self.info, self.alloc);
         if self.adjacent {
-            self.subparser.run_adjacent(state)
+            run.run_adjacent(state)
         } else {
-            self.subparser.run_from(state)
+            run.run_from(state)
         }
     }
 }
@@ -222,23 +248,23 @@ impl<T: Drop, P: Parser<T>> Parser<T> for ParseCommand<T, P> {
     ghost use Rattle.bpaf_core.specs.EndingLaws.{run_ending};
     ghost use Rattle.bpaf_core.specs.AdjacentLaws.{either_lawful};
 
-    ghost can_eval = { λ p. P.can_eval p.subparser.inner };
+    ghost can_eval = { λ p. P.can_eval p.inner };
 
-    ghost describes = { λ p. CommandDescribes p.names p.help (P.describes p.subparser.inner) };
+    ghost describes = { λ p. CommandDescribes p.names p.help (P.describes p.inner) };
 
     ghost reads = { λ p.
-        EitherCommandReads p.adjacent T (opening_words p.names) (P.reads p.subparser.inner) };
+        EitherCommandReads p.adjacent T (opening_words p.names) (P.reads p.inner) };
 
-    ghost outcome = { λ p. EitherCommandOutcome p.adjacent T (P.outcome p.subparser.inner)
-        (EndsRun (P.describes p.subparser.inner) p.subparser.info) p.names
-        (CommandPart p.names p.help (P.describes p.subparser.inner)) };
+    ghost outcome = { λ p. EitherCommandOutcome p.adjacent T (P.outcome p.inner)
+        (EndsRun (P.describes p.inner) p.info) p.names
+        (CommandPart p.names p.help (P.describes p.inner)) };
 
     fn eval(&self, state: &mut State) -> Result<T, Error>
-        requires { P.can_eval self.now.subparser.inner }
+        requires { P.can_eval self.now.inner }
         ensures outcome { EitherCommandOutcome self.now.adjacent T
-            (P.outcome self.now.subparser.inner)
-            (EndsRun (P.describes self.now.subparser.inner) self.now.subparser.info) self.now.names
-            (CommandPart self.now.names self.now.help (P.describes self.now.subparser.inner))
+            (P.outcome self.now.inner)
+            (EndsRun (P.describes self.now.inner) self.now.info) self.now.names
+            (CommandPart self.now.names self.now.help (P.describes self.now.inner))
             state.old result state.new }
         ensures command_leaves_nothing { self.now.adjacent ≡ false →
             IfOk result (λ _. LeavesNothing state.old state.new) }
@@ -246,9 +272,9 @@ impl<T: Drop, P: Parser<T>> Parser<T> for ParseCommand<T, P> {
             IfOk result (λ _. IsRun (newly state.old state.new)) }
         ensures memory_is_never_caught { IsNotMemory result →
             EitherCommandOutcome self.now.adjacent T
-            (WithoutMemory (P.outcome self.now.subparser.inner))
-            (EndsRun (P.describes self.now.subparser.inner) self.now.subparser.info) self.now.names
-            (CommandPart self.now.names self.now.help (P.describes self.now.subparser.inner))
+            (WithoutMemory (P.outcome self.now.inner))
+            (EndsRun (P.describes self.now.inner) self.now.info) self.now.names
+            (CommandPart self.now.names self.now.help (P.describes self.now.inner))
             state.old result state.new }
     {
         self.enter(state)?;
@@ -262,7 +288,7 @@ impl<T: Drop, P: Parser<T>> Parser<T> for ParseCommand<T, P> {
         Ok(Meta::Item(self.item(alloc)?))
     }
 
-    ghost lawful = { λ p. either_lawful (P.lawful p.subparser.inner)
-        (run_ending (P.describes p.subparser.inner) p.subparser.info) p.names
-        (CommandPart p.names p.help (P.describes p.subparser.inner)) p.adjacent };
+    ghost lawful = { λ p. either_lawful (P.lawful p.inner)
+        (run_ending (P.describes p.inner) p.info) p.names
+        (CommandPart p.names p.help (P.describes p.inner)) p.adjacent };
 }

@@ -56,6 +56,7 @@ mod optional;
 mod options;
 mod parser;
 mod repeat;
+mod run;
 mod transform;
 mod usage;
 

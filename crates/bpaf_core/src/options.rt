@@ -1,28 +1,27 @@
-//! A run of a parser over words.
-ghost use Rattle.std.specs.Prelude.{◌≡◌, ◌==◌, ◌&&◌, not, IfOk, List, Ok, Some, true};
+//! A parser that can run over words.
+ghost use Rattle.std.specs.Prelude.{◌≡◌, IfOk, List, Ok, Some, true};
 ghost use Rattle.bpaf_doc.specs.declared.doc.Piece.{Piece};
 ghost use Rattle.bpaf_doc.specs.Prints.{Prints};
 ghost use Rattle.bpaf_doc.specs.Shape.{Shape};
 ghost use Rattle.bpaf_pages.specs.Usage.{usage_text};
-ghost use Rattle.bpaf_line.specs.Situation.{open_count};
 ghost use Rattle.bpaf_words.specs.Arguments.{given_of, name_of, words_of};
 ghost use Rattle.bpaf_words.specs.Spelling.{known_at};
 ghost use Rattle.bpaf_line.specs.Constructing.{Constructs};
 ghost use Rattle.bpaf_core.specs.Known.{ReadsNames, ShowsNames, TellsOrder};
 ghost use Rattle.bpaf_core.specs.Dealt.{IsDealtOut};
-ghost use Rattle.bpaf_core.specs.Ending.{EndsRefused, EndsRun, IsHelp, ShowsHelp, Tells};
-ghost use Rattle.bpaf_core.specs.Run.{IsNotWant, Runs, RunsWords};
+ghost use Rattle.bpaf_core.specs.Run.{IsNotWant, RunsWords};
 ghost use Rattle.bpaf_laws.specs.Spared.{WithoutMemory};
-ghost use Rattle.bpaf_core.specs.Ending.{PassesOrTells, TellsFault, is_shown};
+ghost use Rattle.bpaf_core.specs.Ending.{TellsFault};
 ghost use Rattle.bpaf_core.specs.Refusals.{IsOneOfTwelve};
 ghost use Rattle.std.specs.Result.{IfErr};
 
 use crate::parser::Parser;
+use crate::run::Run;
 use bpaf_doc::Doc;
 use bpaf_line::{Message, ParseFailure, State};
-use bpaf_messages::{leftover, render};
+use bpaf_messages::render;
 use bpaf_pages::usage_of;
-use bpaf_parts::{ExtraParams, Info, renamed, version_page};
+use bpaf_parts::{Info, renamed};
 use bpaf_text::NamedArg;
 use bpaf_words::{Args, any_joined};
 use std::alloc::{AllocError, Global};
@@ -231,7 +230,7 @@ impl<T: Drop, P: Parser<T>> OptionParser<T, P> {
             return Err(ParseFailure::Memory);
         };
         match self.construct(args, &flags, &arguments) {
-            Ok(mut state) => self.run_from(&mut state),
+            Ok(mut state) => Run::new(&self.inner, &self.info, self.alloc).run_from(&mut state),
             Err(message) => Err(tell_fault(self.alloc, args, message)),
         }
     }
@@ -281,123 +280,6 @@ impl<T: Drop, P: Parser<T>> OptionParser<T, P> {
         self.info.push_shorts(&mut flags)?;
         Ok((flags, arguments))
     }
-
-    /// A run from a state on.
-    pub(crate) fn run_from(&self, state: &mut State) -> Result<T, ParseFailure>
-        requires { P.can_eval self.now.inner }
-        ensures { Runs T (P.outcome self.now.inner)
-            (EndsRun (P.describes self.now.inner) self.now.info) state.old result state.new }
-    {
-        let usage = self.wants_usage(state);
-        match self.inner.eval(state) {
-            Ok(value) => {
-                let Some(message) = leftover(state) else {
-                    return Ok(value);
-                };
-                drop(value);
-                Err(self.tell(message, state))
-            }
-            Err(error) => Err(self.end_refused(usage, error.0, state)),
-        }
-    }
-
-    /// Whether help is shown in place of a message: the program wants it so, and there is nothing to
-    /// read.
-    fn wants_usage(&self, state: &State) -> bool
-        ensures { result ≡ (self.now.info.help_if_no_args && (open_count state.now == 0)) }
-    {
-        self.info.help_if_no_args && state.is_empty()
-    }
-
-    /// How a run ends whose parser refused; the flag tells whether help is shown in place of a
-    /// message.
-    fn end_refused(&self, usage: bool, message: Message, state: &mut State) -> ParseFailure
-        requires { P.can_eval self.now.inner }
-        ensures { EndsRefused (P.describes self.now.inner) self.now.info usage message
-            state.old result state.new }
-    {
-        if message.is_memory() {
-            drop(message);
-            return ParseFailure::Memory;
-        }
-        if stands_in(usage, &message) {
-            drop(message);
-            return self.help(state, false);
-        }
-        self.answer(message, state)
-    }
-
-    /// The answer of an inner run as it is, and what is told of any other message.
-    fn answer(&self, message: Message, state: &mut State) -> ParseFailure
-        requires { P.can_eval self.now.inner }
-        ensures { PassesOrTells (P.describes self.now.inner) self.now.info message
-            state.old result state.new }
-    {
-        match message {
-            Message::ParseFailure(failure) => failure,
-            message => self.tell(message, state),
-        }
-    }
-
-    /// What is told of a message: help, or the version, where it is asked for; else the message.
-    fn tell(&self, message: Message, state: &mut State) -> ParseFailure
-        requires { P.can_eval self.now.inner }
-        ensures { Tells (P.describes self.now.inner) self.now.info message
-            state.old result state.new }
-    {
-        match self.info.look(state) {
-            Ok(ExtraParams::Help(full)) => {
-                drop(message);
-                self.help(state, full)
-            }
-            Ok(ExtraParams::Version(version)) => {
-                drop(message);
-                version_page(self.alloc, &version)
-            }
-            Err(error) => {
-                if error.is_memory() {
-                    drop(message);
-                    return ParseFailure::Memory;
-                }
-                drop(error);
-                render(message, state)
-            }
-        }
-    }
-
-    /// The help page, in full or not; or want of memory for it.
-    fn help(&self, state: &State, full: bool) -> ParseFailure
-        requires { P.can_eval self.now.inner }
-        ensures { ShowsHelp (P.describes self.now.inner) self.now.info full state.now result }
-    {
-        match self.help_page(state) {
-            Ok(doc) => ParseFailure::Stdout(doc, full),
-            Err(_) => ParseFailure::Memory,
-        }
-    }
-
-    /// The help page at the path of a state; refused only for want of memory.
-    fn help_page(&self, state: &State) -> Result<Doc, AllocError>
-        requires { P.can_eval self.now.inner }
-        ensures { IfOk result (IsHelp (P.describes self.now.inner) self.now.info state.now) }
-    {
-        let meta = self.inner.meta(self.alloc)?;
-        Ok(self.info.page(self.alloc, state.path(), &meta)?)
-    }
-}
-
-/// Whether help, where it is wanted, stands in for a message: for each but one that shows something.
-fn stands_in(usage: bool, message: &Message) -> bool
-    ensures { result ≡ (usage && not (is_shown message.now)) }
-{
-    usage && !is_shown(message)
-}
-
-/// Whether it is the answer of an inner run that shows what was asked for.
-fn is_shown(message: &Message) -> bool
-    ensures { result ≡ is_shown message.now }
-{
-    matches!(message, Message::ParseFailure(ParseFailure::Stdout(..)))
 }
 
 /// What is told of words that have no line: there is no state, so one without words stands for it,

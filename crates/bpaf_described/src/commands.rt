@@ -1,28 +1,14 @@
-ghost use Rattle.std.specs.Prelude.{◌≡◌, IfOk, None};
+ghost use Rattle.std.specs.Prelude.{IfOk, None};
 ghost use Rattle.bpaf_doc.specs.Shape.{shape_of};
 ghost use Rattle.bpaf_laws.specs.Command.{CommandDescribes};
-ghost use Rattle.bpaf_parts.specs.Info.{plain_info};
 ghost use Rattle.bpaf_described.specs.Commands.{CalledOutcome};
 
 use crate::lent::Lent;
 use crate::value::Value;
 use bpaf::parsers::{CommandNames, ParseCommand};
-use bpaf::{Error, Info, Meta, OptionParser, Parser, State};
+use bpaf::{Error, Info, Meta, Parser, State};
 use std::alloc::{AllocError, Global};
 use std::marker::PhantomData;
-
-/// The run of a parser that is lent.
-fn run_of<'p, P>(inner: &'p P, alloc: Global) -> OptionParser<Value, Lent<'p, P>>
-    ensures inner { result.inner.inner.now ≡ inner.now }
-    ensures info { result.info ≡ plain_info }
-{
-    OptionParser {
-        inner: Lent { inner },
-        info: Info::new(),
-        alloc,
-        of: PhantomData,
-    }
-}
 
 /// The value of a parser that runs behind a command of these names.
 pub fn called<P: Parser<Value>>(
@@ -39,8 +25,11 @@ pub fn called<P: Parser<Value>>(
     let parser: ParseCommand<Value, Lent<'_, P>> = ParseCommand {
         names,
         help: None,
-        subparser: run_of(inner, state.alloc()),
+        inner: Lent { inner },
+        info: Info::new(),
+        alloc: state.alloc(),
         adjacent,
+        of: PhantomData,
     };
     parser.eval(state)
 }
@@ -59,8 +48,11 @@ pub fn called_meta<P: Parser<Value>>(
     let parser: ParseCommand<Value, Lent<'_, P>> = ParseCommand {
         names,
         help: None,
-        subparser: run_of(inner, alloc),
+        inner: Lent { inner },
+        info: Info::new(),
+        alloc,
         adjacent: false,
+        of: PhantomData,
     };
     <ParseCommand<Value, Lent<'_, P>> as Parser<Value>>::meta(&parser, alloc)
 }

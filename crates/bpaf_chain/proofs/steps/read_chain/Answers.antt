@@ -17,16 +17,16 @@ returns g c =
     let same_go : the_go ≡ c.in_ok-go.go = search rules in
     let same_turn : the_turn ≡ c.in_ok-turn.turn = search rules in
     let same_repeat : the_repeat ≡ c.in_ok-repeat.repeat = search rules in
-    let inside_go : the_go.subparser.inner ≡ c.args.go =
-    ap (λ p. p.subparser.inner) same_go ∙ c.in_ok-go.ensures.inner in
+    let inside_go : the_go.inner ≡ c.args.go =
+    ap (λ p. p.inner) same_go ∙ c.in_ok-go.ensures.inner in
     let called_go : the_go.names ≡ named_only move_title.name =
     ap (λ p. p.names) same_go ∙ c.in_ok-go.ensures.names in
-    let inside_turn : the_turn.subparser.inner ≡ c.args.turn =
-    ap (λ p. p.subparser.inner) same_turn ∙ c.in_ok-turn.ensures.inner in
+    let inside_turn : the_turn.inner ≡ c.args.turn =
+    ap (λ p. p.inner) same_turn ∙ c.in_ok-turn.ensures.inner in
     let called_turn : the_turn.names ≡ named_only turn_title.name =
     ap (λ p. p.names) same_turn ∙ c.in_ok-turn.ensures.names in
-    let inside_repeat : the_repeat.subparser.inner ≡ c.args.repeat =
-    ap (λ p. p.subparser.inner) same_repeat ∙ c.in_ok-repeat.ensures.inner in
+    let inside_repeat : the_repeat.inner ≡ c.args.repeat =
+    ap (λ p. p.inner) same_repeat ∙ c.in_ok-repeat.ensures.inner in
     let called_repeat : the_repeat.names ≡ named_only repeat_title.name =
     ap (λ p. p.names) same_repeat ∙ c.in_ok-repeat.ensures.names in
     let go : Command =
@@ -34,39 +34,39 @@ returns g c =
       adjacent = the_go.adjacent;
       called = the_go.names;
       help = the_go.help;
-      info = the_go.subparser.info;
-      describes = g.M.Parser.describes the_go.subparser.inner;
-      outcome = g.M.Parser.outcome the_go.subparser.inner;
-      reads = g.M.Parser.reads the_go.subparser.inner;
+      info = the_go.info;
+      describes = g.M.Parser.describes the_go.inner;
+      outcome = g.M.Parser.outcome the_go.inner;
+      reads = g.M.Parser.reads the_go.inner;
     } in
     let turn : Command =
     record {
       adjacent = the_turn.adjacent;
       called = the_turn.names;
       help = the_turn.help;
-      info = the_turn.subparser.info;
-      describes = g.T.Parser.describes the_turn.subparser.inner;
-      outcome = g.T.Parser.outcome the_turn.subparser.inner;
-      reads = g.T.Parser.reads the_turn.subparser.inner;
+      info = the_turn.info;
+      describes = g.T.Parser.describes the_turn.inner;
+      outcome = g.T.Parser.outcome the_turn.inner;
+      reads = g.T.Parser.reads the_turn.inner;
     } in
     let repeat : Command =
     record {
       adjacent = the_repeat.adjacent;
       called = the_repeat.names;
       help = the_repeat.help;
-      info = the_repeat.subparser.info;
-      describes = g.R.Parser.describes the_repeat.subparser.inner;
-      outcome = g.R.Parser.outcome the_repeat.subparser.inner;
-      reads = g.R.Parser.reads the_repeat.subparser.inner;
+      info = the_repeat.info;
+      describes = g.R.Parser.describes the_repeat.inner;
+      outcome = g.R.Parser.outcome the_repeat.inner;
+      reads = g.R.Parser.reads the_repeat.inner;
     } in
     let go_is : IsTitled move_title go =
     record {
       called_is = called_go;
       help_is = ap (λ p. p.help) same_go
-          ∙ (c.in_ok-go.ensures.help ∙ ap (λ p. short_descr p.subparser.info) (sym same_go));
-      described = subst (IsDescribed _) (sym (ap (λ p. p.subparser.info) same_go))
+          ∙ (c.in_ok-go.ensures.help ∙ ap (λ p. short_descr p.info) (sym same_go));
+      described = subst (IsDescribed _) (sym (ap (λ p. p.info) same_go))
           c.in_ok-go.ensures.described;
-      law = g.met.M.Parser.lawful the_go.subparser.inner;
+      law = g.met.M.Parser.lawful the_go.inner;
       shown = subst
           (λ p. ShowsAs IsMoveShape (g.M.Parser.describes p) (g.M.Parser.outcome p))
           (sym inside_go) c.requires.go_shows;
@@ -75,10 +75,10 @@ returns g c =
     record {
       called_is = called_turn;
       help_is = ap (λ p. p.help) same_turn
-          ∙ (c.in_ok-turn.ensures.help ∙ ap (λ p. short_descr p.subparser.info) (sym same_turn));
-      described = subst (IsDescribed _) (sym (ap (λ p. p.subparser.info) same_turn))
+          ∙ (c.in_ok-turn.ensures.help ∙ ap (λ p. short_descr p.info) (sym same_turn));
+      described = subst (IsDescribed _) (sym (ap (λ p. p.info) same_turn))
           c.in_ok-turn.ensures.described;
-      law = g.met.T.Parser.lawful the_turn.subparser.inner;
+      law = g.met.T.Parser.lawful the_turn.inner;
       shown = subst
           (λ p. ShowsAs IsTurnShape (g.T.Parser.describes p) (g.T.Parser.outcome p))
           (sym inside_turn) c.requires.turn_shows;
@@ -87,10 +87,10 @@ returns g c =
     record {
       called_is = called_repeat;
       help_is = ap (λ p. p.help) same_repeat
-          ∙ (c.in_ok-repeat.ensures.help ∙ ap (λ p. short_descr p.subparser.info) (sym same_repeat));
-      described = subst (IsDescribed _) (sym (ap (λ p. p.subparser.info) same_repeat))
+          ∙ (c.in_ok-repeat.ensures.help ∙ ap (λ p. short_descr p.info) (sym same_repeat));
+      described = subst (IsDescribed _) (sym (ap (λ p. p.info) same_repeat))
           c.in_ok-repeat.ensures.described;
-      law = g.met.R.Parser.lawful the_repeat.subparser.inner;
+      law = g.met.R.Parser.lawful the_repeat.inner;
       shown = subst
           (λ p. ShowsAs IsRepeatShape (g.R.Parser.describes p) (g.R.Parser.outcome p))
           (sym inside_repeat) c.requires.repeat_shows;

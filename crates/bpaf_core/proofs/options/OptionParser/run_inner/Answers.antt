@@ -13,14 +13,7 @@ pub returns-in-Ok-construct-clause-outcome : goal.returns-in-Ok-construct-clause
 returns-in-Ok-construct-clause-outcome g c =
     started (given_of c.args.args) _ _ _ _ _ c.in-Ok.ensures
     (rw (c.deref.ensures.value, c.deref-2.ensures.value) at c.in-Ok-construct.ensures)
-    c.run_from.ensures
-
-pub returns-in-Ok-construct-clause-dealt : goal.returns-in-Ok-construct-clause-dealt
-returns-in-Ok-construct-clause-dealt g c =
-    if_dealt (given_of c.args.args) (g.met.P.Parser.lawful c.args.self.now.inner) _
-    (started (given_of c.args.args) _ _ _ _ _ c.in-Ok.ensures
-    (rw (c.deref.ensures.value, c.deref-2.ensures.value) at c.in-Ok-construct.ensures)
-    c.run_from.ensures)
+    (rw (c.new.ensures.inner, c.new.ensures.info) at c.run_from.ensures)
 
 pub returns-clause-outcome : goal.returns-clause-outcome
 returns-clause-outcome g c =
@@ -28,23 +21,22 @@ returns-clause-outcome g c =
     (rw (c.deref.ensures.value, c.deref-2.ensures.value) at c.in-Err.ensures)
     c.tell_fault.ensures
 
+pub returns-in-Ok-construct-clause-dealt : goal.returns-in-Ok-construct-clause-dealt
+returns-in-Ok-construct-clause-dealt g c =
+    if_dealt (given_of c.args.args) (g.met.P.Parser.lawful c.args.self.now.inner) _
+    (returns-in-Ok-construct-clause-outcome g c)
+
 pub returns-in_default-clause-named : goal.returns-in_default-clause-named
 returns-in_default-clause-named g c =
     memory_is_named _ _ _ (given_of c.args.args)
 
 pub returns-in-Ok-construct-clause-named : goal.returns-in-Ok-construct-clause-named
 returns-in-Ok-construct-clause-named g c =
-    words_are_named _ _ _ (given_of c.args.args) _
-    (started (given_of c.args.args) _ _ _ _ _ c.in-Ok.ensures
-    (rw (c.deref.ensures.value, c.deref-2.ensures.value) at c.in-Ok-construct.ensures)
-    c.run_from.ensures)
+    words_are_named _ _ _ (given_of c.args.args) _ (returns-in-Ok-construct-clause-outcome g c)
 
 pub returns-clause-named : goal.returns-clause-named
 returns-clause-named g c =
-    words_are_named _ _ _ (given_of c.args.args) _
-    (line_refused (given_of c.args.args) _ _ _ _ c.in-Ok.ensures
-    (rw (c.deref.ensures.value, c.deref-2.ensures.value) at c.in-Err.ensures)
-    c.tell_fault.ensures)
+    words_are_named _ _ _ (given_of c.args.args) _ (returns-clause-outcome g c)
 
 pub returns-in_default-clause-memory_is_never_caught
     : goal.returns-in_default-clause-memory_is_never_caught
@@ -54,14 +46,8 @@ returns-in_default-clause-memory_is_never_caught g c =
 pub returns-in-Ok-construct-clause-memory_is_never_caught
     : goal.returns-in-Ok-construct-clause-memory_is_never_caught
 returns-in-Ok-construct-clause-memory_is_never_caught g c =
-    words_spared _ _ _ (given_of c.args.args) _
-    (started (given_of c.args.args) _ _ _ _ _ c.in-Ok.ensures
-    (rw (c.deref.ensures.value, c.deref-2.ensures.value) at c.in-Ok-construct.ensures)
-    c.run_from.ensures)
+    words_spared _ _ _ (given_of c.args.args) _ (returns-in-Ok-construct-clause-outcome g c)
 
 pub returns-clause-memory_is_never_caught : goal.returns-clause-memory_is_never_caught
 returns-clause-memory_is_never_caught g c =
-    words_spared _ _ _ (given_of c.args.args) _
-    (line_refused (given_of c.args.args) _ _ _ _ c.in-Ok.ensures
-    (rw (c.deref.ensures.value, c.deref-2.ensures.value) at c.in-Err.ensures)
-    c.tell_fault.ensures)
+    words_spared _ _ _ (given_of c.args.args) _ (returns-clause-outcome g c)

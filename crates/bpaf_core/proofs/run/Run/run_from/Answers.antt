@@ -1,7 +1,7 @@
 use Rattle.bpaf_core.specs.Ending.{leftover}
 use Rattle.bpaf_core.specs.Run.{refused, value}
 use Rattle.bpaf_core.specs.Run.{leftover as left_over}
-use Rattle.bpaf_core.proofs.options.OptionParser.run_from.Goals as goal
+use Rattle.bpaf_core.proofs.run.Run.run_from.Goals as goal
 
 pub returns-in_default : goal.returns-in_default
 returns-in_default g c = value _ _ c.in-Ok.ensures c.in_default.ensures

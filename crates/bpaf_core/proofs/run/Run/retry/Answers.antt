@@ -4,13 +4,13 @@ use Rattle.bpaf_core.specs.Adjacent.{nothing_left}
 use Rattle.bpaf_core.specs.Ending.{EndsRun}
 use Rattle.bpaf_core.proofs.Attempting.{back_again, led_again, memory_end, memory_refused}
 use Rattle.bpaf_core.proofs.Attempting.{memory_wanted, second_answers, second_refuses}
-use Rattle.bpaf_core.proofs.options.OptionParser.retry.Goals as goal
+use Rattle.bpaf_core.proofs.run.Run.retry.Goals as goal
 
 pub returns-then-wants_memory : goal.returns-then-wants_memory
 returns-then-wants_memory g c =
     let t = c.args.state.now in
-    memory_wanted (g.P.Parser.outcome c.args.self.now.inner)
-    (EndsRun (g.P.Parser.describes c.args.self.now.inner) c.args.self.now.info) (undone c.args.mark t) c.args.from
+    memory_wanted (g.P.Parser.outcome c.args.self.now.inner.now)
+    (EndsRun (g.P.Parser.describes c.args.self.now.inner.now) c.args.self.now.info.now) (undone c.args.mark t) c.args.from
     c.args.end c.args.failure t c.args.failure c.undo.new.self
     (memory_end c.args.failure (sym c.wants_memory.ensures ∙ c.if-wants_memory.true)) c.undo.ensures.undone
 
@@ -21,16 +21,16 @@ returns-in_default g c =
 pub returns-in_err-steps : goal.returns-in_err-steps
 returns-in_err-steps g c =
     let t = c.args.state.now in
-    memory_refused (g.P.Parser.outcome c.args.self.now.inner)
-    (EndsRun (g.P.Parser.describes c.args.self.now.inner) c.args.self.now.info) (undone c.args.mark t) c.args.from
+    memory_refused (g.P.Parser.outcome c.args.self.now.inner.now)
+    (EndsRun (g.P.Parser.describes c.args.self.now.inner.now) c.args.self.now.info.now) (undone c.args.mark t) c.args.from
     c.args.end c.args.failure t c.from_residual.result c.undo-2.new.self c.from_residual.ensures
     c.undo-2.ensures.undone
 
 pub returns-in-Ok : goal.returns-in-Ok
 returns-in-Ok g c =
     let t = c.args.state.now in
-    second_answers (g.P.Parser.outcome c.args.self.now.inner)
-    (EndsRun (g.P.Parser.describes c.args.self.now.inner) c.args.self.now.info) (undone c.args.mark t) c.args.from
+    second_answers (g.P.Parser.outcome c.args.self.now.inner.now)
+    (EndsRun (g.P.Parser.describes c.args.self.now.inner.now) c.args.self.now.info.now) (undone c.args.mark t) c.args.from
     c.args.end c.args.failure t c.in-Some.stop c.undo-2.new.self c.attempt.new.state
     (sym c.wants_memory.ensures ∙ c.if-wants_memory.false) c.in-Some.ensures c.undo-2.ensures.undone
     c.in-Ok.value c.in-Ok.ensures.runs
@@ -44,8 +44,8 @@ returns-in-Err g c =
     let gone = c.undo-2.ensures in
     let marks = c.in-Err.ensures.marks in
     let steps = c.in_ok-steps.steps in
-    second_refuses (g.P.Parser.outcome c.args.self.now.inner)
-    (EndsRun (g.P.Parser.describes c.args.self.now.inner) c.args.self.now.info) (undone mark t) c.args.from
+    second_refuses (g.P.Parser.outcome c.args.self.now.inner.now)
+    (EndsRun (g.P.Parser.describes c.args.self.now.inner.now) c.args.self.now.info.now) (undone mark t) c.args.from
     c.args.end c.args.failure t c.in-Some.stop m u (sym c.wants_memory.ensures ∙ c.if-wants_memory.false)
     c.in-Some.ensures gone.undone c.in-Err.second c.in-Err.ensures.runs
     (redone steps (undone mark u)) c.first_failure.result (undone mark u)

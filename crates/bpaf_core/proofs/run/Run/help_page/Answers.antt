@@ -4,11 +4,11 @@ use Rattle.bpaf_doc.specs.Prints.{Prints}
 use Rattle.bpaf_doc.specs.Shape.{shape_of}
 use Rattle.bpaf_parts.specs.Extra.{extra_shape}
 use Rattle.bpaf_parts.specs.Info.{page_texts}
-use Rattle.bpaf_core.proofs.options.OptionParser.help_page.Goals as goal
+use Rattle.bpaf_core.proofs.run.Run.help_page.Goals as goal
 
 pub returns : goal.returns
 returns g c =
-    let info = c.args.self.now.info in
+    let info = c.args.self.now.info.now in
     let shape = shape_of c.in_ok-meta.meta in
     record {
       shape = shape;

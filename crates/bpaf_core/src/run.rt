@@ -1,0 +1,164 @@
+//! A run of a parser from a state on: its value where nothing is left; else help, the version, or the
+//! message.
+ghost use Rattle.std.specs.Prelude.{◌≡◌, ◌==◌, ◌&&◌, not, IfOk};
+ghost use Rattle.bpaf_line.specs.Situation.{open_count};
+ghost use Rattle.bpaf_core.specs.Ending.{EndsRefused, EndsRun, IsHelp, PassesOrTells, ShowsHelp};
+ghost use Rattle.bpaf_core.specs.Ending.{Tells, is_shown};
+ghost use Rattle.bpaf_core.specs.Run.{Runs};
+
+use crate::parser::Parser;
+use bpaf_doc::Doc;
+use bpaf_line::{Message, ParseFailure, State};
+use bpaf_messages::{leftover, render};
+use bpaf_parts::{ExtraParams, Info, version_page};
+use std::alloc::{AllocError, Global};
+use std::marker::PhantomData;
+
+/// A parser that is run, and what a run of it knows beside it: that of the outermost parser, or of a
+/// command.
+#[derive(Drop)]
+pub(crate) struct Run<'p, T, P> {
+    /// What reads the value.
+    pub inner: &'p P,
+    /// The keys of help and of the version, and the texts of the page.
+    pub info: &'p Info,
+    /// From where memory is taken.
+    pub alloc: Global,
+    /// The type of the value.
+    pub of: PhantomData<T>,
+}
+
+impl<'p, T, P> Run<'p, T, P> {
+    /// The run of a parser.
+    pub(crate) fn new(inner: &'p P, info: &'p Info, alloc: Global) -> Run<'p, T, P>
+        ensures inner { result.inner.now ≡ inner.now }
+        ensures info { result.info.now ≡ info.now }
+    {
+        Run {
+            inner,
+            info,
+            alloc,
+            of: PhantomData,
+        }
+    }
+}
+
+impl<T: Drop, P: Parser<T>> Run<'_, T, P> {
+    /// A run from a state on.
+    pub(crate) fn run_from(&self, state: &mut State) -> Result<T, ParseFailure>
+        requires { P.can_eval self.now.inner.now }
+        ensures { Runs T (P.outcome self.now.inner.now)
+            (EndsRun (P.describes self.now.inner.now) self.now.info.now) state.old result state.new }
+    {
+        let usage = self.wants_usage(state);
+        match self.inner.eval(state) {
+            Ok(value) => {
+                let Some(message) = leftover(state) else {
+                    return Ok(value);
+                };
+                drop(value);
+                Err(self.tell(message, state))
+            }
+            Err(error) => Err(self.end_refused(usage, error.0, state)),
+        }
+    }
+
+    /// Whether help is shown in place of a message: the program wants it so, and there is nothing to
+    /// read.
+    fn wants_usage(&self, state: &State) -> bool
+        ensures { result ≡ (self.now.info.now.help_if_no_args && (open_count state.now == 0)) }
+    {
+        let info = self.info;
+        info.help_if_no_args && state.is_empty()
+    }
+
+    /// How a run ends whose parser refused; the flag tells whether help is shown in place of a
+    /// message.
+    fn end_refused(&self, usage: bool, message: Message, state: &mut State) -> ParseFailure
+        requires { P.can_eval self.now.inner.now }
+        ensures { EndsRefused (P.describes self.now.inner.now) self.now.info.now usage message
+            state.old result state.new }
+    {
+        if message.is_memory() {
+            drop(message);
+            return ParseFailure::Memory;
+        }
+        if stands_in(usage, &message) {
+            drop(message);
+            return self.help(state, false);
+        }
+        self.answer(message, state)
+    }
+
+    /// The answer of an inner run as it is, and what is told of any other message.
+    fn answer(&self, message: Message, state: &mut State) -> ParseFailure
+        requires { P.can_eval self.now.inner.now }
+        ensures { PassesOrTells (P.describes self.now.inner.now) self.now.info.now message
+            state.old result state.new }
+    {
+        match message {
+            Message::ParseFailure(failure) => failure,
+            message => self.tell(message, state),
+        }
+    }
+
+    /// What is told of a message: help, or the version, where it is asked for; else the message.
+    fn tell(&self, message: Message, state: &mut State) -> ParseFailure
+        requires { P.can_eval self.now.inner.now }
+        ensures { Tells (P.describes self.now.inner.now) self.now.info.now message
+            state.old result state.new }
+    {
+        match self.info.look(state) {
+            Ok(ExtraParams::Help(full)) => {
+                drop(message);
+                self.help(state, full)
+            }
+            Ok(ExtraParams::Version(version)) => {
+                drop(message);
+                version_page(self.alloc, &version)
+            }
+            Err(error) => {
+                if error.is_memory() {
+                    drop(message);
+                    return ParseFailure::Memory;
+                }
+                drop(error);
+                render(message, state)
+            }
+        }
+    }
+
+    /// The help page, in full or not; or want of memory for it.
+    fn help(&self, state: &State, full: bool) -> ParseFailure
+        requires { P.can_eval self.now.inner.now }
+        ensures { ShowsHelp (P.describes self.now.inner.now) self.now.info.now full state.now result }
+    {
+        match self.help_page(state) {
+            Ok(doc) => ParseFailure::Stdout(doc, full),
+            Err(_) => ParseFailure::Memory,
+        }
+    }
+
+    /// The help page at the path of a state; refused only for want of memory.
+    fn help_page(&self, state: &State) -> Result<Doc, AllocError>
+        requires { P.can_eval self.now.inner.now }
+        ensures { IfOk result (IsHelp (P.describes self.now.inner.now) self.now.info.now state.now) }
+    {
+        let meta = self.inner.meta(self.alloc)?;
+        Ok(self.info.page(self.alloc, state.path(), &meta)?)
+    }
+}
+
+/// Whether help, where it is wanted, stands in for a message: for each but one that shows something.
+fn stands_in(usage: bool, message: &Message) -> bool
+    ensures { result ≡ (usage && not (is_shown message.now)) }
+{
+    usage && !is_shown(message)
+}
+
+/// Whether it is the answer of an inner run that shows what was asked for.
+fn is_shown(message: &Message) -> bool
+    ensures { result ≡ is_shown message.now }
+{
+    matches!(message, Message::ParseFailure(ParseFailure::Stdout(..)))
+}
