@@ -1,7 +1,7 @@
 -- Leaves tell want of memory as nothing else.
-use Rattle.std.specs.Prelude.{◌≡◌, true, false, ℕ, Bool, List, Option, Result, Ok, Err, inl, inr}
+use Rattle.std.specs.Prelude.{◌≡◌, false, ℕ, Bool, List, Option, Result, Ok, Err}
 use Rattle.std.specs.Result.{IfErr}
-use Rattle.std.proofs.Common.{true≢false, subst, sym, ◌∙◌, ap}
+use Rattle.std.proofs.Common.{true≢false, subst, sym, ◌∙◌, ap, inl, inr}
 use Rattle.bpaf_doc.specs.Shape.{Part}
 use Rattle.bpaf_line.specs.declared.error.Error.{Error}
 use Rattle.bpaf_line.specs.declared.error.Message.{Message}

@@ -1,14 +1,13 @@
 -- How the search of an adjacent group is put together.
-use Rattle.std.proofs.Common.{◌≡◌, ◌≢◌, ℕ, ◌+◌, ◌≤◌, ◌<◌, Bool, true, false, not, ◌&&◌, nat_lt, if◌then◌else◌, Result, Ok, Err, MatchResult, Some, ap, subst, sym, ◌∙◌, arith, refl, ⊎_elim, true≢false}
-use Rattle.std.proofs.lemmas.Bool.{cases_lt, cases_eq, false_from_ne_true, le-leb, lt-ltb, and_from}
+use Rattle.std.proofs.Common.{◌≡◌, ℕ, ◌+◌, ◌≤◌, ◌<◌, Bool, true, false, nat_lt, if◌then◌else◌, Result, Ok, Err, MatchResult, Some, ap, subst, sym, ◌∙◌, arith, true≢false}
+use Rattle.std.proofs.lemmas.Bool.{lt-ltb}
 use Rattle.std.proofs.lemmas.Bool.Decides.{nat_tests}
 use Rattle.bpaf_line.specs.declared.error.Error.{Error}
 use Rattle.bpaf_line.specs.Changes.{Changes}
 use Rattle.bpaf_line.specs.declared.mark.Mark.{Mark}
 use Rattle.bpaf_line.specs.Marks.{CanRedo, redone, undone}
 use Rattle.bpaf_line.specs.Messages.{is_memory}
-use Rattle.bpaf_line.specs.Situation.{Situation, is_open, is_taken, in_scope, open_count, with_scope, IsNextOpen, HasNoneOpen}
-use Rattle.bpaf_line.proofs.Places.{open_in_scope}
+use Rattle.bpaf_line.specs.Situation.{Situation, open_count, with_scope}
 use Rattle.bpaf_laws.specs.AdjacentGroup.{taken_by}
 use Rattle.bpaf_laws.specs.Counting.{taken_count}
 use Rattle.bpaf_laws.specs.Laws.{Keeps, Closes, Lawful, newly}

@@ -1,5 +1,5 @@
 -- How the end of a run that has no value is put together.
-use Rattle.std.proofs.Common.{◌≡◌, ◌==◌, true, false, not, ◌&&◌, Bool, Some}
+use Rattle.std.proofs.Common.{◌≡◌, true, false, not, ◌&&◌, Bool}
 use Rattle.std.proofs.Common.{subst, sym, ◌∙◌, ap}
 use Rattle.std.proofs.Common.{refl}
 use Rattle.bpaf_doc.specs.Shape.{Shape}
@@ -8,8 +8,8 @@ use Rattle.bpaf_line.specs.declared.error.Message.TheVariants as message
 use Rattle.bpaf_line.specs.declared.failure.ParseFailure.{ParseFailure}
 use Rattle.bpaf_line.specs.declared.failure.ParseFailure.TheVariants as failure
 use Rattle.bpaf_line.specs.Messages.{is_memory}
-use Rattle.bpaf_line.specs.Situation.{Situation, open_count}
-use Rattle.bpaf_core.specs.Ending.{EndsRefused, EndsRun, PassesOrTells, ShowsHelp, Tells}
+use Rattle.bpaf_line.specs.Situation.{Situation}
+use Rattle.bpaf_core.specs.Ending.{EndsRefused, PassesOrTells, ShowsHelp, Tells}
 use Rattle.bpaf_core.specs.Ending.{is_answer, is_shown}
 use Rattle.bpaf_core.specs.Ending.{memory, passed_on, refused, usage}
 use Rattle.bpaf_parts.specs.Info.{RunInfo}

@@ -1,5 +1,5 @@
 -- Each refusal of a run is one of the twelve.
-use Rattle.std.proofs.Common.{◌≡◌, Bool, true, false, Option, Some, None, Result, Ok, Err}
+use Rattle.std.proofs.Common.{◌≡◌, Bool, false, Some, None, Result, Ok, Err}
 use Rattle.std.proofs.Common.{◌⊎◌, List, inl, inr, refl, true≢false}
 use Rattle.std.specs.Result.{IfErr}
 use Rattle.bpaf_doc.specs.declared.doc.Piece.{Piece}

@@ -1,5 +1,5 @@
 -- A run over words catches no want of memory.
-use Rattle.std.specs.Prelude.{◌≡◌, true, false, Result, Ok, Err}
+use Rattle.std.specs.Prelude.{Result}
 use Rattle.std.proofs.Common.{true≢false}
 use Rattle.bpaf_doc.specs.Shape.{Shape}
 use Rattle.bpaf_line.specs.declared.failure.ParseFailure.{ParseFailure}

@@ -1,13 +1,10 @@
 -- Commands keep to the laws where their inner parsers do, leave nothing in their scope and catch no
 -- want of memory.
-use Rattle.std.specs.Prelude.{◌≡◌, true, false, Some, None, Result, Ok, Err, refl}
+use Rattle.std.specs.Prelude.{◌≡◌, false, Some, None, Result, Ok, Err, refl}
 use Rattle.std.proofs.Common.{subst}
 use Rattle.bpaf_doc.specs.Shape.{Part}
 use Rattle.bpaf_line.specs.declared.error.Error.{Error}
-use Rattle.bpaf_line.specs.declared.error.Message.{Message}
-use Rattle.bpaf_line.specs.declared.error.Message.TheVariants as message
 use Rattle.bpaf_line.specs.declared.failure.ParseFailure.{ParseFailure}
-use Rattle.bpaf_line.specs.declared.failure.ParseFailure.TheVariants as failure
 use Rattle.bpaf_line.specs.Messages.{is_memory}
 use Rattle.bpaf_line.specs.Situation.{Situation, open_count, with_current}
 use Rattle.bpaf_laws.specs.Reading.{Outcome, Readings}
@@ -21,7 +18,6 @@ use Rattle.bpaf_core.specs.EndingLaws.{LawfulEnding}
 use Rattle.bpaf_core.specs.Run.{IsNotWant, Runs, leftover, refused}
 use Rattle.bpaf_core.specs.Run.{value as run_value}
 use Rattle.bpaf_core.specs.Command.{CommandOutcome, ended, missing, no_memory, value}
-use Rattle.bpaf_parts.specs.Failures.{end_message}
 
 -- after a value of a run nothing is present
 pub run_empty : {T : Type 0} {inner : Outcome T} {ending : Ending} (s : Situation) (v : T) (t : Situation)

@@ -1,6 +1,6 @@
 -- What the ends of runs keep to.
-use Rattle.std.specs.Prelude.{◌≡◌, true, false, Option, Some, None, Ok, Err}
-use Rattle.std.proofs.Common.{sym, true≢false}
+use Rattle.std.specs.Prelude.{◌≡◌, false, Option, Some}
+use Rattle.std.proofs.Common.{true≢false}
 use Rattle.bpaf_doc.specs.Shape.{Shape}
 use Rattle.bpaf_line.specs.declared.error.Message.{Message}
 use Rattle.bpaf_line.specs.declared.failure.ParseFailure.{ParseFailure}

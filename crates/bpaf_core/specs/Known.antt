@@ -1,5 +1,5 @@
 -- The known short names of a run, by which joined words are read, and the order of what is shown.
-use Rattle.std.specs.Prelude.{◌≡◌, ◌⊎◌, ℕ, Bool, false, List, [], ◌∷◌, ◌++◌, codes}
+use Rattle.std.specs.Prelude.{◌≡◌, ◌⊎◌, ℕ, Bool, false, List, ◌++◌}
 use Rattle.bpaf_doc.specs.Order.{in_order}
 use Rattle.bpaf_doc.specs.Shape.{Shape}
 use Rattle.bpaf_doc.specs.Walks.{flag_shorts, argument_shorts}

@@ -111,6 +111,7 @@ impl<T: Drop, F: Fn() -> Result<T, E>, E: Display + Drop> Parser<T> for ParsePur
 
     #[tactic(auto, using(crate::proofs::LeafSparing::answer_told))]
     fn eval(&self, state: &mut State) -> Result<T, Error>
+        requires { F.IsAlwaysCallable self.now.f }
         ensures outcome { PureOutcome (GivesAnswer (λ r. F.post self.now.f r) E.output)
             state.old result state.new }
         ensures memory_is_never_caught { IfErr result
