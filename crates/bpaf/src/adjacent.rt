@@ -3,6 +3,7 @@ ghost use Rattle.std.specs.Prelude.{◌≡◌, ◌+◌, ◌≤◌, true, false, 
 ghost use Rattle.bpaf_doc.specs.Shape.{part_of, shape_of};
 ghost use Rattle.bpaf_line.specs.Marks.{Fits, undone};
 ghost use Rattle.bpaf_line.specs.Messages.{is_memory};
+ghost use Rattle.bpaf_line.specs.Runs.{IsRunFrom};
 ghost use Rattle.bpaf_line.specs.Situation.{open_count, with_scope, HasNoneOpen, IsNextOpen};
 ghost use Rattle.bpaf_laws.specs.Laws.{Keeps};
 ghost use Rattle.bpaf_laws.specs.Spared.{IsNotMemory};
@@ -211,6 +212,24 @@ fn attempt<T: Drop, P: Parser<T>>(
     }
 }
 
+/// Where the unbroken run of present places from one on ends.
+///
+/// Where that is the first present place, and all behind it in the scope are present, they are only
+/// counted, which the state has done already.
+fn run_end(state: &State, place: usize) -> usize
+    ensures run { IsRunFrom state.now place result }
+    ensures inside { place ≤ length state.now.context.line
+        → result ≤ length state.now.context.line }
+{
+    let scope = state.scope();
+    if let Some(first) = first_present(state, scope.start) {
+        if first == place && state.len() == scope.end - first {
+            return scope.end;
+        }
+    }
+    state.adjacently_available_from(place).end
+}
+
 /// The attempts from a place on: over the unbroken run of present places, and then over the run up to
 /// the first place that the attempt before left present.
 fn attempts<T: Drop, P: Parser<T>>(parser: &P, state: &mut State, place: usize) -> Result<T, Error>
@@ -218,7 +237,7 @@ fn attempts<T: Drop, P: Parser<T>>(parser: &P, state: &mut State, place: usize) 
     requires inside { place ≤ length state.old.context.line }
     ensures { Tries T (P.outcome parser.now) state.old place result state.new }
 {
-    let mut end = state.adjacently_available_from(place).end;
+    let mut end = run_end(state, place);
     loop {
         match attempt(parser, state, place, end) {
             Ok(Ending::Whole(value)) => return Ok(value),

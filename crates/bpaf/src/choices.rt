@@ -1,4 +1,4 @@
-ghost use Rattle.std.specs.Prelude.{◌≡◌, IfOk, All};
+ghost use Rattle.std.specs.Prelude.{◌≡◌, ◌==◌, false, length, IfOk, All};
 ghost use Rattle.bpaf_doc.specs.Shape.{shape_of};
 ghost use Rattle.bpaf_laws.specs.Choice.{ChoiceDescribes, ChoiceOutcome};
 ghost use Rattle.bpaf_laws.specs.Choices.{ChoicesOutcome, Nested};
@@ -41,6 +41,23 @@ fn choose_from<T: Drop, P: Parser<T>>(first: &P, rest: &[P], state: &mut State) 
     if rest.is_empty() {
         return first.eval(state);
     }
+    choose_several(first, rest, state)
+}
+
+/// The answer of a parser and of one or more after it, each of which may take its place.
+///
+/// It stands apart, so that a choice of one parser costs no more than that parser.
+fn choose_several<T: Drop, P: Parser<T>>(
+    first: &P,
+    rest: &[P],
+    state: &mut State,
+) -> Result<T, Error>
+    requires first { P.can_eval first.now }
+    requires rest { All P.can_eval rest.now }
+    requires several { (length rest.now == 0) ≡ false }
+    ensures { Nested ChoiceOutcome P.outcome (P.outcome first.now) rest.now
+        state.old result state.new }
+{
     let start = Start::of(state);
     let mut answer = first.eval(state);
     for parser in rest {
@@ -123,6 +140,7 @@ impl<T: Drop, P: Parser<T> + Drop> Parser<T> for ParseChoice<P> {
     fn meta(&self, alloc: Global) -> Result<Meta, AllocError> {
         match self.parsers.as_slice() {
             [] => Ok(Meta::Skip),
+            [only] => only.meta(alloc),
             [first, rest @ ..] => meta_from(first, rest, alloc),
         }
     }

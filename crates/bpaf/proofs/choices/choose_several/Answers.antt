@@ -7,7 +7,7 @@ use Rattle.bpaf_laws.proofs.ChoosingAll.{one_more, wants, want_of}
 use Rattle.bpaf_laws.proofs.Keeping.{keeps_of}
 use Rattle.bpaf_parts.specs.Branches.{LedTo}
 use Rattle.bpaf_parts.proofs.Branching.{start_back, start_kept, second_keeps, branch_kept, chosen_kept}
-use Rattle.bpaf.proofs.choices.choose_from.Goals as goal
+use Rattle.bpaf.proofs.choices.choose_several.Goals as goal
 
 pub undo-requires : goal.undo-requires
 undo-requires g c =
@@ -39,7 +39,7 @@ returns-then-is_want g c =
     c.args.rest.now s c.loop-parser.answer u)
     (sym (c.undo.ensures.undone ∙ start_back s start begins back c.loop-parser.state keeps))
     (wants g.P.Parser.outcome (g.P.Parser.outcome c.args.first.now) s c.loop-parser.answer c.args.rest.now
-    (sym c.is_empty.ensures ∙ c.if-is_empty.false) (sym c.is_want.ensures ∙ c.if-is_want.true))
+    c.requires.several (sym c.is_want.ensures ∙ c.if-is_want.true))
 
 pub leave-requires : goal.leave-requires
 leave-requires g c =
@@ -71,7 +71,7 @@ returns-in_err-this g c =
     c.args.rest.now s c.from_residual.result u)
     (sym (c.leave.ensures.back ∙ start_back s start begins back c.loop-parser.state keeps))
     (wants g.P.Parser.outcome (g.P.Parser.outcome c.args.first.now) s c.from_residual.result c.args.rest.now
-    (sym c.is_empty.ensures ∙ c.if-is_empty.false) (want_of c.from_residual.result c.from_residual.ensures.1))
+    c.requires.several (want_of c.from_residual.result c.from_residual.ensures.1))
 
 pub undo-requires-then-is_want-2 : goal.undo-requires-then-is_want-2
 undo-requires-then-is_want-2 g c =
@@ -107,7 +107,7 @@ returns-then-is_want-2 g c =
     c.args.rest.now s c.eval-other.result u)
     (sym (c.undo-then-is_want-2.ensures.undone ∙ start_back s start begins back c.eval-other.new.state both.1))
     (wants g.P.Parser.outcome (g.P.Parser.outcome c.args.first.now) s c.eval-other.result c.args.rest.now
-    (sym c.is_empty.ensures ∙ c.if-is_empty.false) (sym c.is_want-in-loop-parser.ensures ∙ c.if-is_want-2.true))
+    c.requires.several (sym c.is_want-in-loop-parser.ensures ∙ c.if-is_want-2.true))
 
 pub this_or_that-answer-requires-clause-start : goal.this_or_that-answer-requires-clause-start
 this_or_that-answer-requires-clause-start g c =
