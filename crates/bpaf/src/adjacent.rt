@@ -121,6 +121,9 @@ fn count_present(state: &mut State, start: usize, end: usize) -> usize
     ensures same { state.new ≡ state.old }
 {
     let scope = state.scope();
+    if scope.start == start && scope.end == end {
+        return state.len();
+    }
     state.set_scope(start..end);
     let count = state.len();
     state.set_scope(scope);
@@ -392,14 +395,8 @@ fn search<T: Drop, P: Parser<T>>(parser: &P, first: &Item, state: &mut State) ->
         from = places.start + 1;
         match try_at(parser, state, places.start, places.end, &mut best) {
             Ok(None) => {}
-            Ok(Some(value)) => {
-                drop(best);
-                return Ok(value);
-            }
-            Err(error) => {
-                drop(best);
-                return Err(error);
-            }
+            Ok(Some(value)) => return Ok(value),
+            Err(error) => return Err(error),
         }
     }
     Err(best.end(state, first))
