@@ -13,11 +13,11 @@ use Rattle.bpaf_line.specs.declared.state.State.TheInside.{Inside}
 use Rattle.bpaf_line.specs.Bits.{has_bit, IsFirstClear}
 use Rattle.bpaf_line.specs.Situation.{Situation, Context, beginning, open_count, is_open, is_taken}
 use Rattle.bpaf_line.specs.Situation.{is_marker, is_dealt_place, TakenInTurn, IsFirstPresent}
-use Rattle.bpaf_line.specs.Chained.{Chained, class_in, head_of, AreChainsOf}
+use Rattle.bpaf_line.specs.Chained.{Chained, AreBehind, AreChainsOf}
 use Rattle.bpaf_line.specs.Inside.{situation_of, BitsOf, IsSound}
 use Rattle.bpaf_line.proofs.Remembered.{remembers_nothing}
 use Rattle.bpaf_line.proofs.Counts.{count_below-all, count_below-fewer}
-use Rattle.bpaf_line.proofs.Sound.{first_by_bits}
+use Rattle.bpaf_line.proofs.Sound.{first_by_bits, behind_since}
 
 -- at the beginning of a run all places of the line are present but that of the marker
 pub taken_at_beginning : (context : Context) (p : ℕ) → is_taken (beginning context) p
@@ -81,16 +81,10 @@ path_begins (Some n) = refl
 
 -- no place stands before the chains of a run that begins
 chains_beginning : (context : Context) (chains : Option Chained)
-    → IfSome chains (λ c. c.classes ≡ map (class_in (length c.heads)) context.line)
-    → IfSome chains (λ c. (p : ℕ) → p < length c.classes → head_of c p ≤ p)
+    → IfSome chains (AreBehind context.line (λ p. false))
     → IfSome chains (AreChainsOf (beginning context))
-chains_beginning context None classes heads = tt
-chains_beginning context (Some chains) classes heads =
-    record {
-      classes = classes;
-      passed = λ p within before. absurd
-          (let low = heads p within in omega arith);
-    }
+chains_beginning context chains behind = behind_since context.line (λ p. false)
+    (is_taken (beginning context)) chains (λ q within e. cc) behind
 
 -- a state at the beginning is sound, where its bits, its count of open places and the first are
 -- right
@@ -101,10 +95,9 @@ pub sound_beginning : (i : Inside) (context : Context) → situation_of i ≡ be
     ≤ vec_capacity i.trail
     → i.left ≡ length context.line - from_bool (is_some context.marker)
     → IsFirstClear i.words.items 0 (length context.line) i.first
-    → IfSome i.chains (λ c. c.classes ≡ map (class_in (length c.heads)) context.line)
-    → IfSome i.chains (λ c. (p : ℕ) → p < length c.classes → head_of c p ≤ p)
+    → IfSome i.chains (AreBehind context.line (λ p. false))
     → i.aside ≡ no_aside → IsSound i
-sound_beginning i context e marked worded bits room left clear classes heads aside =
+sound_beginning i context e marked worded bits room left clear behind aside =
     let start = beginning context in
     let size : length (rc_slice_items i.items) ≡ length context.line = ap
     (λ s. length s.context.line) e in
@@ -124,7 +117,7 @@ sound_beginning i context e marked worded bits room left clear classes heads asi
       aside = subst (IsRemembered (situation_of i)) (sym aside)
           (remembers_nothing (situation_of i));
       chained = subst (λ s. IfSome i.chains (AreChainsOf s)) (sym e)
-          (chains_beginning context i.chains classes heads);
+          (chains_beginning context i.chains behind);
       named = subst (λ s. IfSome s.context.name (λ n. slice_get s.path 0 ≡ Some n)) (sym e)
           (path_begins context.name);
     }

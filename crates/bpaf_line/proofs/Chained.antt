@@ -1,18 +1,25 @@
 -- Chains: how a line's places are linked, and how a walk along the links goes.
 use Rattle.std.proofs.Common.{◌≡◌, ◌≢◌, ℕ, zero, suc, refl, ◌+◌, ◌-◌, ◌%◌, ◌<◌, ◌≤◌, true, false, Bool, List, [], ◌∷◌}
+use Rattle.std.proofs.Common.{Option, Some, None, not, ◌||◌, slice_get, replicate}
+use Rattle.std.specs.Option.{option_map_or}
+use Rattle.std.proofs.lemmas.Slice.Eq.{bytes_eq-Decides}
 use Rattle.std.proofs.Common.{length, map, ap, sym, ◌∙◌, subst, arith, ⊎_elim, get_or, slice_index}
 use Rattle.std.proofs.Common.{slice_index_or, slice_set, nat_lt, if◌then◌else◌, length-set, get_or-set_same}
 use Rattle.std.proofs.Common.{get_or-set_other}
 use Rattle.std.specs.Rc.{rc_slice_items}
 use Rattle.std.specs.Vec.{with_item}
 use Rattle.std.proofs.Math.Nat.{mod-lt}
-use Rattle.std.proofs.lemmas.Bool.{cases_lt, cases_eq, ltb-true}
-use Rattle.std.proofs.lemmas.List.{get_or_read, length-map}
+use Rattle.std.proofs.lemmas.Bool.{cases_lt, cases_eq, ltb-true, eq-eqb, eqb-true, or_left}
+use Rattle.std.proofs.lemmas.List.{get_or_read, length-map, get_or-replicate}
+use Rattle.std.proofs.lemmas.Option.{slice_get_past}
 use Rattle.bpaf_words.specs.declared.arg.Arg.{Arg}
+use Rattle.bpaf_words.specs.declared.arg.Arg.TheVariants.{Short, Long, ArgWord, Word, PosWord}
+use Rattle.bpaf_words.specs.Items.{is_key_of}
 use Rattle.bpaf_line.specs.declared.chains.Chains.TheInside.{Inside}
-use Rattle.bpaf_line.specs.Bits.{has_bit}
-use Rattle.bpaf_line.specs.Chained.{IsNextOf, IsPlaceOf, HasWalked, name_number, class_in, class_of}
-use Rattle.bpaf_line.specs.InsideChains.{IsLinked}
+use Rattle.bpaf_line.specs.Chained.{Chained, IsNextOf, IsPlaceOf, IsStart, HasWalked, AreBehind}
+use Rattle.bpaf_line.specs.Chained.{name_number, class_in, class_of, head_of, owner_of, cursor_of, text_number}
+use Rattle.bpaf_line.specs.Chained.{names_of, names_in, named_at, shares_name}
+use Rattle.bpaf_line.specs.InsideChains.{chained_of, IsLinked}
 
 -- the places from one on are linked, and each class to its first place from there on
 pub record IsLinkedFrom (classes next heads : List ℕ) (low : ℕ) : Type 0 where
@@ -22,25 +29,25 @@ pub record IsLinkedFrom (classes next heads : List ℕ) (low : ℕ) : Type 0 whe
   pub first : (k : ℕ) → k < length heads → IsNextOf classes k low (slice_index heads k)
 
 -- at its start a walk has passed no place
-pub walked_none : (classes words : List ℕ) (from : ℕ) → HasWalked classes words from from
-walked_none classes words from = record {
+pub walked_none : (classes : List ℕ) (passes : ℕ → Bool) (from : ℕ)
+    → HasWalked classes passes from from
+walked_none classes passes from = record {
   above = omega arith;
   same = λ k of. of;
-  set = λ k q of above below. absurd (omega arith);
+  passed = λ k q of above below. absurd (omega arith);
 }
 
--- a place that is set is passed
-pub walked_more : (classes words : List ℕ) (from p next : ℕ) → HasWalked classes words from p → p
-    < length classes → has_bit words p ≡ true → IsNextOf classes (slice_index classes p)
-    (p + 1) next
-    → HasWalked classes words from next
-walked_more classes words from p next walked below set link = record {
+-- a place that is to be passed is passed
+pub walked_more : (classes : List ℕ) (passes : ℕ → Bool) (from p next : ℕ)
+    → HasWalked classes passes from p → p < length classes → passes p ≡ true
+    → IsNextOf classes (slice_index classes p) (p + 1) next → HasWalked classes passes from next
+walked_more classes passes from p next walked below set link = record {
   above = omega (arith, walked.above, link.from);
   same = λ k of in_line. link.same in_line ∙ walked.same k of below;
-  set = λ k q of above before mine. ⊎_elim
-      (λ (passed : q < p). walked.set k q of above passed mine)
+  passed = λ k q of above before mine. ⊎_elim
+      (λ (early : q < p). walked.passed k q of above early mine)
       (λ (rest : p ≤ q). ⊎_elim
-      (λ (at : q ≡ p). ap (has_bit words) at ∙ set)
+      (λ (at : q ≡ p). ap passes at ∙ set)
       (λ (behind : q ≢ p). absurd (link.between q (omega arith) before
       (mine ∙ sym (walked.same k of below))))
       (cases_eq q p))
@@ -90,32 +97,72 @@ linked_passed s classes place from head h same within read walked =
     let inside : class < length s.heads.items = subst
     (λ xs. slice_index xs place < length s.heads.items) (sym same) (h.numbered place within) in
     let begins = get_or_read s.heads.items class from inside read 0 in
+    let size = length-set s.heads.items class head in
     record {
-      some = omega (arith, h.some, length-set s.heads.items class head);
+      some = omega (arith, h.some, size);
       whole = h.whole;
       linked = h.linked;
-      numbered = λ q below. omega (arith, h.numbered q below, length-set s.heads.items class head);
+      numbered = λ q below. omega (arith, h.numbered q below, size);
       headed = headed_set (rc_slice_items s.classes) s.heads.items class head h.headed inside
           (walked class (subst (IsPlaceOf (rc_slice_items s.classes) class) (sym begins)
           (h.headed class inside)));
+      owned = omega (arith, h.owned, size);
+      cursors = omega (arith, h.cursors, size);
+      placed = λ k below. h.placed k (omega (arith, size));
     }
 
--- the links are right where they are those of a line's places, and each chain begins at its first
--- place
+-- the class of a place is one of them
+pub class_inside : (s : Inside) (classes : List ℕ) (place : ℕ) → IsLinked s
+    → classes ≡ rc_slice_items s.classes → place < length (rc_slice_items s.classes)
+    → slice_index_or classes place 0 < length s.heads.items
+class_inside s classes place h same within =
+    subst (λ xs. slice_index xs place < length s.heads.items) (sym same) (h.numbered place within)
+
+-- and where the class has another owner, and its cursor stands at another of its places
+pub linked_owned : (s : Inside) (class place cursor : ℕ) → IsLinked s → class < length s.heads.items
+    → IsPlaceOf (rc_slice_items s.classes) class cursor
+    → IsLinked (record s {
+      owners = with_item s.owners class place;
+      cursors = with_item s.cursors class cursor;
+    })
+linked_owned s class place cursor h inside there =
+    let size = length-set s.cursors.items class cursor in
+    record {
+      some = h.some;
+      whole = h.whole;
+      linked = h.linked;
+      numbered = h.numbered;
+      headed = h.headed;
+      owned = omega (arith, h.owned, length-set s.owners.items class place);
+      cursors = omega (arith, h.cursors, size);
+      placed = λ k below. headed_set (rc_slice_items s.classes) s.cursors.items class cursor
+          (λ j short. h.placed j (omega (arith, h.cursors))) (omega (arith, h.cursors)) there k
+          (omega (arith, h.cursors, size));
+    }
+
+-- the links are right where they are those of a line's places, each chain begins at its first place,
+-- and no class has an owner
 pub linked_first : (s : Inside) (classes next heads : List ℕ) → rc_slice_items s.classes ≡ classes
     → rc_slice_items s.next ≡ next → s.heads.items ≡ heads → 128 < length heads → length next
     ≡ length classes
     → ((p : ℕ) → p < length classes → slice_index classes p < length heads)
     → ((p : ℕ) → p < length classes → IsNextOf classes (slice_index classes p) (p + 1)
     (slice_index next p))
-    → ((k : ℕ) → k < length heads → IsNextOf classes k 0 (slice_index heads k)) → IsLinked s
-linked_first s classes next heads same follow begin some whole numbered linked first = record {
-  some = omega (arith, ap length begin);
-  whole = omega (arith, ap length same, ap length follow);
-  linked = λ p within. rw (same, follow) (linked p (omega (arith, ap length same)));
-  numbered = λ p within. rw (same, begin) (numbered p (omega (arith, ap length same)));
-  headed = λ k within. rw (same, begin) (first k (omega (arith, ap length begin))).same;
-}
+    → ((k : ℕ) → k < length heads → IsNextOf classes k 0 (slice_index heads k))
+    → length s.owners.items ≡ length heads → length s.cursors.items ≡ length heads
+    → ((k : ℕ) → k < length heads → slice_index s.cursors.items k ≡ length classes) → IsLinked s
+linked_first s classes next heads same follow begin some whole numbered linked first owned cursors
+    past = record {
+      some = omega (arith, ap length begin);
+      whole = omega (arith, ap length same, ap length follow);
+      linked = λ p within. rw (same, follow) (linked p (omega (arith, ap length same)));
+      numbered = λ p within. rw (same, begin) (numbered p (omega (arith, ap length same)));
+      headed = λ k within. rw (same, begin) (first k (omega (arith, ap length begin))).same;
+      owned = omega (arith, owned, ap length begin);
+      cursors = omega (arith, cursors, ap length begin);
+      placed = λ k within below. absurd (let at = past k (omega (arith, ap length begin)) in
+          omega (arith, ap length same));
+    }
 
 -- a chain that begins at its first place begins at no place behind one of its own
 pub first_not_behind : (classes heads : List ℕ) (p : ℕ)
@@ -139,3 +186,225 @@ pub classes_below : (items : List Arg) (classes : List ℕ) (count : ℕ) → cl
 classes_below items classes count are some p within =
     subst (λ xs. slice_index xs p < count) (sym are)
     (class_below items count some p (omega (arith, classes_size items classes count are)))
+
+-- one of two is true, where the other isn't
+one_of : (b : Bool) → (b || false) ≡ true → b ≡ true
+one_of true e = refl
+one_of false e = e
+
+-- an item that is no key has no name
+nameless : (item : Arg) → is_key_of (record { shorts = []; longs = [] }) item ≡ true → ⊥
+nameless (Short c _ _) e = cc
+nameless (Long name _ _) e = cc
+nameless (ArgWord _) e = cc
+nameless (Word _) e = cc
+nameless (PosWord _) e = cc
+
+-- what has the name of an item has that of each other with that name
+pub same_name : (key : Option Arg) (a b : Arg) → is_key_of (names_of key) a ≡ true
+    → is_key_of (names_of key) b ≡ true → is_key_of (names_of (Some a)) b ≡ true
+same_name None a b e f = absurd (nameless a e)
+same_name (Some (Short d _ _)) (Short c _ _) (Short x _ _) e f =
+    or_left _ _ (eq-eqb c x (sym (eqb-true d c (one_of _ e)) ∙ eqb-true d x (one_of _ f)))
+same_name (Some (Short d _ _)) (Short c _ _) (Long x _ _) e f = cc
+same_name (Some (Short d _ _)) (Short c _ _) (ArgWord _) e f = cc
+same_name (Some (Short d _ _)) (Short c _ _) (Word _) e f = cc
+same_name (Some (Short d _ _)) (Short c _ _) (PosWord _) e f = cc
+same_name (Some (Short d _ _)) (Long name _ _) b e f = cc
+same_name (Some (Short d _ _)) (ArgWord _) b e f = cc
+same_name (Some (Short d _ _)) (Word _) b e f = cc
+same_name (Some (Short d _ _)) (PosWord _) b e f = cc
+same_name (Some (Long text _ _)) (Long name _ _) (Long x _ _) e f =
+    or_left _ _ ((bytes_eq-Decides name x).1 (sym ((bytes_eq-Decides text name).0 (one_of _ e))
+    ∙ (bytes_eq-Decides text x).0 (one_of _ f)))
+same_name (Some (Long text _ _)) (Long name _ _) (Short x _ _) e f = cc
+same_name (Some (Long text _ _)) (Long name _ _) (ArgWord _) e f = cc
+same_name (Some (Long text _ _)) (Long name _ _) (Word _) e f = cc
+same_name (Some (Long text _ _)) (Long name _ _) (PosWord _) e f = cc
+same_name (Some (Long text _ _)) (Short c _ _) b e f = cc
+same_name (Some (Long text _ _)) (ArgWord _) b e f = cc
+same_name (Some (Long text _ _)) (Word _) b e f = cc
+same_name (Some (Long text _ _)) (PosWord _) b e f = cc
+same_name (Some (ArgWord _)) a b e f = absurd (nameless a e)
+same_name (Some (Word _)) a b e f = absurd (nameless a e)
+same_name (Some (PosWord _)) a b e f = absurd (nameless a e)
+
+-- and so at the places of a line
+pub shares_named : (line : List Arg) (key : Option Arg) (owner p : ℕ)
+    → named_at line (names_of key) owner ≡ true → named_at line (names_of key) p ≡ true
+    → shares_name line owner p ≡ true
+shares_named line key owner p = by_items (slice_get line owner) (slice_get line p)
+  where
+    by_items : (a b : Option Arg) → option_map_or (is_key_of (names_of key)) a false ≡ true
+        → option_map_or (is_key_of (names_of key)) b false ≡ true
+        → option_map_or (is_key_of (names_of a)) b false ≡ true
+    by_items None b e f = cc
+    by_items (Some a) None e f = f
+    by_items (Some a) (Some b) e f = same_name key a b e f
+
+-- a key with the name of an item has its number
+pub same_number : (key item : Arg) → is_key_of (names_of (Some key)) item ≡ true
+    → name_number item ≡ name_number key
+same_number (Short d _ _) (Short c _ _) e = sym (eqb-true d c (one_of _ e))
+same_number (Short d _ _) (Long name _ _) e = cc
+same_number (Short d _ _) (ArgWord _) e = cc
+same_number (Short d _ _) (Word _) e = cc
+same_number (Short d _ _) (PosWord _) e = cc
+same_number (Long text _ _) (Long name _ _) e =
+    ap (text_number 0) (sym ((bytes_eq-Decides text name).0 (one_of _ e)))
+same_number (Long text _ _) (Short c _ _) e = cc
+same_number (Long text _ _) (ArgWord _) e = cc
+same_number (Long text _ _) (Word _) e = cc
+same_number (Long text _ _) (PosWord _) e = cc
+same_number (ArgWord _) item e = absurd (nameless item e)
+same_number (Word _) item e = absurd (nameless item e)
+same_number (PosWord _) item e = absurd (nameless item e)
+
+-- what is passed stays so, where the chain of a place's class begins behind places of the set
+pub behind_passed : (line : List Arg) (set : ℕ → Bool) (old : Chained) (place from head : ℕ)
+    → AreBehind line set old → place < length old.classes
+    → slice_index old.classes place < length old.heads → from ≡ head_of old place
+    → IsPlaceOf old.classes (slice_index old.classes place) from
+    → HasWalked old.classes set from head
+    → AreBehind line set
+    (record old { heads = slice_set old.heads (slice_index old.classes place) head })
+behind_passed line set old place from head h within inside read headed walked =
+    let class = slice_index old.classes place in
+    let heads = slice_set old.heads class head in
+    record {
+      classes = h.classes ∙ ap (λ n. map (class_in n) line) (sym (length-set old.heads class head));
+      passed = λ p below before. ⊎_elim
+          (λ (at : slice_index old.classes p ≡ class). ⊎_elim
+          (λ (early : p < from). h.passed p below (let begin : head_of old p ≡ from =
+          ap (slice_index old.heads) at ∙ sym read in omega arith))
+          (λ (behind : from ≤ p). walked.passed class p headed behind
+          (let now : slice_index heads (slice_index old.classes p) ≡ head =
+          ap (slice_index heads) at ∙ get_or-set_same old.heads class head 0 inside in omega arith) at)
+          (cases_lt p from))
+          (λ (other : slice_index old.classes p ≢ class). h.passed p below
+          (let same : slice_index heads (slice_index old.classes p) ≡ head_of old p =
+          get_or-set_other old.heads class (slice_index old.classes p) head 0 other in omega arith))
+          (cases_eq (slice_index old.classes p) class);
+      named = λ p below before shares. h.named p below before shares;
+    }
+
+-- what stands before the start of a name and has it is in the set
+pub early_set : (line : List Arg) (set : ℕ → Bool) (old : Chained) (key : Option Arg)
+    (class from p : ℕ) → AreBehind line set old → IsStart line (names_of key) old class from
+    → p < length old.classes → slice_index old.classes p ≡ class → p < from
+    → named_at line (names_of key) p ≡ true → set p ≡ true
+early_set line set old key class from p h start below at early named = ⊎_elim
+    (λ (before : p < slice_index old.heads class). h.passed p below
+    (let begin : head_of old p ≡ slice_index old.heads class = ap (slice_index old.heads) at in
+    omega arith))
+    (λ (behind : slice_index old.heads class ≤ p). h.named p below
+    (let stand : cursor_of old p ≡ slice_index old.cursors class = ap (slice_index old.cursors) at in
+    omega (arith, start.cursor p early behind))
+    (ap (λ k. shares_name line (slice_index old.owners k) p) at
+    ∙ shares_named line key (slice_index old.owners class) p (start.owner p early behind) named))
+    (cases_lt p (slice_index old.heads class))
+
+-- of two that are true together the first is, where the second isn't
+in_set : (b shares : Bool) → (b || not shares) ≡ true → shares ≡ true → b ≡ true
+in_set true shares e f = refl
+in_set false true e f = e
+in_set false false e f = f
+
+-- and where the class has that place for its owner, and its cursor stands behind places of the set and
+-- such of other names
+pub behind_owned : (line : List Arg) (set : ℕ → Bool) (old : Chained) (place class from cursor : ℕ)
+    → AreBehind line set old → class < length old.owners → class < length old.cursors
+    → IsStart line (names_in line place) old class from
+    → HasWalked old.classes (λ p. set p || not (shares_name line place p)) from cursor
+    → AreBehind line set (record old {
+      owners = slice_set old.owners class place;
+      cursors = slice_set old.cursors class cursor;
+    })
+behind_owned line set old place class from cursor h owned inside start walked =
+    let owners = slice_set old.owners class place in
+    let cursors = slice_set old.cursors class cursor in
+    record {
+      classes = h.classes;
+      passed = λ p below before. h.passed p below before;
+      named = λ p below before shares. ⊎_elim
+          (λ (at : slice_index old.classes p ≡ class).
+          let owner : slice_index owners (slice_index old.classes p) ≡ place =
+          ap (slice_index owners) at ∙ get_or-set_same old.owners class place 0 owned in
+          let now : slice_index cursors (slice_index old.classes p) ≡ cursor =
+          ap (slice_index cursors) at ∙ get_or-set_same old.cursors class cursor 0 inside in
+          let mine : shares_name line place p ≡ true =
+          ap (λ o. shares_name line o p) (sym owner) ∙ shares in ⊎_elim
+          (λ (early : p < from). early_set line set old (slice_get line place) class from p h start below
+          at early mine)
+          (λ (behind : from ≤ p). in_set (set p) (shares_name line place p)
+          (walked.passed class p start.place behind (omega arith) at) mine)
+          (cases_lt p from))
+          (λ (other : slice_index old.classes p ≢ class).
+          let owner : slice_index owners (slice_index old.classes p) ≡ owner_of old p =
+          get_or-set_other old.owners class (slice_index old.classes p) place 0 other in
+          let now : slice_index cursors (slice_index old.classes p) ≡ cursor_of old p =
+          get_or-set_other old.cursors class (slice_index old.classes p) cursor 0 other in
+          h.named p below (omega arith) (ap (λ o. shares_name line o p) (sym owner) ∙ shares))
+          (cases_eq (slice_index old.classes p) class);
+    }
+
+-- and so of what chains are kept as
+pub behind_passed_read : (s : Inside) (line : List Arg) (set : ℕ → Bool) (classes : List ℕ)
+    (place from head : ℕ) → IsLinked s → classes ≡ rc_slice_items s.classes
+    → place < length (rc_slice_items s.classes)
+    → from ≡ get_or s.heads.items (slice_index_or classes place 0) from
+    → AreBehind line set (chained_of s) → HasWalked (rc_slice_items s.classes) set from head
+    → AreBehind line set (chained_of
+    (record s { heads = with_item s.heads (slice_index_or classes place 0) head }))
+behind_passed_read s line set classes place from head h same within read behind walked =
+    let class = slice_index_or classes place 0 in
+    let inside = class_inside s classes place h same within in
+    let at : slice_index (rc_slice_items s.classes) place ≡ class =
+    ap (λ xs. slice_index xs place) (sym same) in
+    let begins = get_or_read s.heads.items class from inside read 0 in
+    subst (λ k. AreBehind line set (record (chained_of s) { heads = slice_set s.heads.items k head }))
+    at (behind_passed line set (chained_of s) place from head behind within
+    (h.numbered place within) (begins ∙ ap (slice_index s.heads.items) (sym at))
+    (subst (IsPlaceOf (rc_slice_items s.classes) (slice_index (rc_slice_items s.classes) place))
+    (ap (slice_index s.heads.items) at ∙ sym begins)
+    (h.headed (slice_index (rc_slice_items s.classes) place) (h.numbered place within))) walked)
+
+-- no item has the name of a place past the line
+past_nameless : (line : List Arg) (owner p : ℕ) → slice_get line owner ≡ None
+    → shares_name line owner p ≡ true → ⊥
+past_nameless line owner p past shares = by_item (slice_get line p)
+    (ap (λ found. option_map_or (is_key_of (names_of found)) (slice_get line p) false) (sym past)
+    ∙ shares)
+  where
+    by_item : (item : Option Arg) → option_map_or (is_key_of (names_of None)) item false ≡ true → ⊥
+    by_item None e = cc
+    by_item (Some item) e = nameless item e
+
+-- chains that begin at their first places, and have no owners, stand behind nothing
+pub behind_nothing : (chains : Chained) (line : List Arg) (classes heads : List ℕ) (count : ℕ)
+    → chains.classes ≡ classes → chains.heads ≡ heads → length heads ≡ count
+    → chains.owners ≡ replicate count (length line) → classes ≡ map (class_in count) line
+    → 128 < count → ((k : ℕ) → k < length heads → IsNextOf classes k 0 (slice_index heads k))
+    → AreBehind line (λ p. false) chains
+behind_nothing chains line classes heads count same begin size none are some first =
+    let count_is : length chains.heads ≡ count = ap length begin ∙ size in
+    record {
+      classes = same ∙ (are ∙ ap (λ n. map (class_in n) line) (sym count_is));
+      passed = λ p within before.
+          let inside : p < length classes = omega (arith, ap length same) in
+          let low = first_not_behind classes heads p (first (slice_index classes p)
+          (omega (arith, classes_below line classes count are some p inside))) in
+          let begins : head_of chains p ≡ slice_index heads (slice_index classes p) =
+          ap (λ xs. slice_index xs (slice_index chains.classes p)) begin
+          ∙ ap (λ xs. slice_index heads (slice_index xs p)) same in
+          absurd (omega arith);
+      named = λ p within before shares.
+          let inside : p < length classes = omega (arith, ap length same) in
+          let owner : owner_of chains p ≡ length line =
+          ap (λ xs. slice_index xs (slice_index chains.classes p)) none
+          ∙ (ap (λ xs. slice_index (replicate count (length line)) (slice_index xs p)) same
+          ∙ get_or-replicate count (slice_index classes p) (length line) 0
+          (classes_below line classes count are some p inside)) in
+          absurd (past_nameless line (length line) p (slice_get_past line (length line) (omega arith))
+          (ap (λ o. shares_name line o p) (sym owner) ∙ shares));
+    }

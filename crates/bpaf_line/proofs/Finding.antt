@@ -1,27 +1,26 @@
--- Finding: a key with one of some names has a number of one of those.
-use Rattle.std.proofs.Common.{◌≡◌, ◌≢◌, ℕ, ◌+◌, ◌<◌, ◌≤◌, ◌==◌, Bool, true, false, not, ◌&&◌, ◌||◌}
-use Rattle.std.proofs.Common.{List, [], ◌∷◌, ◌++◌, Option, Some, None, length, map, refl, ap, sym}
+-- Finding: the first key with one of some names, along the chains of those.
+use Rattle.std.proofs.Common.{◌≡◌, ℕ, ◌<◌, ◌≤◌, ◌==◌, Bool, true, false, not, ◌&&◌, ◌||◌}
+use Rattle.std.proofs.Common.{List, [], ◌++◌, Option, Some, None, length, refl, ap, sym}
 use Rattle.std.proofs.Common.{◌∙◌, subst, arith, ⊎_elim, if◌then◌else◌, nat_lt, slice_get}
 use Rattle.std.proofs.Common.{slice_index, bytes_eq, MatchOption}
 use Rattle.std.specs.Bool.{then_some}
 use Rattle.std.specs.Option.{option_map_or}
-use Rattle.std.proofs.lemmas.Bool.{cases_lt, cases_eq, cases_Bool, true≢false, ltb-true, ltb-false}
-use Rattle.std.proofs.lemmas.Bool.{le-ltb, lt-leb, eq-eqb, ne_eqb, and_left, and_right, or_left, or_right}
+use Rattle.std.proofs.lemmas.Bool.{cases_lt, cases_Bool, true≢false, ltb-true, ltb-false}
+use Rattle.std.proofs.lemmas.Bool.{le-ltb, lt-leb, and_left, and_right}
 use Rattle.std.proofs.lemmas.List.{get_or-map}
 use Rattle.std.proofs.lemmas.List.Folds.{list_any-append}
-use Rattle.std.proofs.lemmas.Slice.Eq.{bytes_eq-Decides}
 use Rattle.std.proofs.lemmas.Option.{get_or_from_slice_get, slice_get_within}
 use Rattle.bpaf_doc.specs.Names.{Names}
 use Rattle.bpaf_words.specs.declared.arg.Arg.{Arg}
 use Rattle.bpaf_words.specs.declared.arg.Arg.TheVariants.{Short, Long, ArgWord, Word, PosWord}
-use Rattle.bpaf_words.specs.Items.{is_among, is_text_among, is_argument_key}
-use Rattle.bpaf_line.specs.Chained.{Chained, text_number, name_number, class_in, class_of, IsNextOf}
-use Rattle.bpaf_line.specs.Chained.{IsPlaceOf, AreChainsOf}
-use Rattle.bpaf_line.specs.Finding.{HasNoneAmong, IsFirstAmong}
-use Rattle.bpaf_line.specs.Situation.{Situation, is_marker, in_scope, is_open, item_at}
+use Rattle.bpaf_words.specs.Items.{is_key_of, is_argument_key}
+use Rattle.bpaf_line.specs.Chained.{Chained, name_number, names_of, class_in, class_of, IsStart}
+use Rattle.bpaf_line.specs.Chained.{HasWalked, AreChainsOf}
+use Rattle.bpaf_line.specs.Finding.{IsFirstAmong, IsFirstAlong}
+use Rattle.bpaf_line.specs.Situation.{Situation, is_marker, in_scope, is_open, is_taken, item_at}
 use Rattle.bpaf_line.specs.Situation.{IsFirstPresent}
 use Rattle.bpaf_line.specs.Taking.{open_item, is_match, HasNone, IsFirst}
-use Rattle.bpaf_line.proofs.Chained.{classes_size}
+use Rattle.bpaf_line.proofs.Chained.{classes_size, same_number, early_set}
 use Rattle.bpaf_line.proofs.Matches.{open_item_there}
 use Rattle.bpaf_line.proofs.Places.{open_not_taken}
 
@@ -61,63 +60,96 @@ class_at s chains p item h there =
     (slice_get_within s.context.line p item at) ∙ ap (class_in (length chains.heads))
     (get_or_from_slice_get s.context.line p item item at))
 
--- a number that isn't the one is not among it alone
-not_among_one : (number other : ℕ) → other ≢ number → is_among (number ∷ []) other ≡ false
-not_among_one number other differ = ap (λ b. b || false) (ne_eqb number other (λ e. differ (sym e)))
+-- the class of an open item with the name of a key is that of the key's number
+class_named : (s : Situation) (chains : Chained) (key : Arg) (q : ℕ) (item : Arg)
+    → AreChainsOf s chains → open_item s q ≡ Some item
+    → is_key_of (names_of (Some key)) item ≡ true
+    → slice_index chains.classes q ≡ class_of (length chains.heads) (name_number key)
+class_named s chains key q item h there named = class_at s chains q item h there
+    ∙ ap (class_of (length chains.heads)) (same_number key item named)
 
--- no item of the number stands before the beginning of the number's chain
-pub none_before_head : (test : Arg → Bool) (s : Situation) (chains : Chained) (number head : ℕ)
-    → AreChainsOf s chains → head ≡ slice_index chains.heads
-    (class_of (length chains.heads) number)
-    → HasNoneAmong test (number ∷ []) s head
-none_before_head test s chains number head h is q item before there passes =
-    not_among_one number (name_number item) (λ same.
-    let class : slice_index chains.classes q ≡ class_of (length chains.heads) number =
-    class_at s chains q item h there ∙ ap (class_of (length chains.heads)) same in
-    let begin : slice_index chains.heads (slice_index chains.classes q)
-    ≡ head = ap (slice_index chains.heads) class ∙ sym is in
+-- no open item with a name stands before the start of that name
+none_before_start : (s : Situation) (chains : Chained) (key : Arg) (start q : ℕ) (item : Arg)
+    → AreChainsOf s chains
+    → IsStart s.context.line (names_of (Some key)) chains
+    (class_of (length chains.heads) (name_number key)) start
+    → q < start → open_item s q ≡ Some item → is_key_of (names_of (Some key)) item ≡ true
+    → true ≡ false
+none_before_start s chains key start q item h begins before there named =
+    let at = item_of_line s q item there in
     let inside : q < length chains.classes = omega (
       arith,
       classes_size s.context.line chains.classes
           (length chains.heads) h.classes,
-      slice_get_within s.context.line q item
-          (item_of_line s q item there),
+      slice_get_within s.context.line q item at,
     ) in
-    absurd (true≢false (sym (h.passed q inside (omega arith))
-    ∙ open_not_taken s q (open_item_there s q item there).0)))
+    sym (early_set s.context.line (is_taken s) chains (Some key)
+    (class_of (length chains.heads) (name_number key)) start q h begins inside
+    (class_named s chains key q item h there named) before
+    (ap (λ found. option_map_or (is_key_of (names_of (Some key))) found false) at ∙ named))
+    ∙ open_not_taken s q (open_item_there s q item there).0
 
--- nor before the next place of a chain, where the one before it has no such item
-pub none_before_next : (test : Arg → Bool) (s : Situation) (chains : Chained) (number p next : ℕ)
-    → AreChainsOf s chains → p < length chains.classes
-    → IsPlaceOf chains.classes (class_of (length chains.heads) number) p
-    → is_match test s p ≡ false → IsNextOf chains.classes (slice_index chains.classes p)
-    (p + 1) next → HasNoneAmong test (number ∷ []) s p → HasNoneAmong test (number ∷ []) s next
-none_before_next test s chains number p next h below here closed link none q item before there
-    passes = ⊎_elim
-    (λ (early : q < p). none q item early there passes)
-    (λ (rest : p ≤ q). not_among_one number (name_number item) (λ same. ⊎_elim
-    (λ (at : q ≡ p). true≢false (sym (ap (λ found. option_map_or test found false) there ∙ passes)
-    ∙ (ap (is_match test s) at ∙ closed)))
-    (λ (behind : q ≢ p). link.between q (omega arith) before
-    (class_at s chains q item h there ∙ (ap (class_of (length chains.heads)) same
-    ∙ sym (here below))))
-    (cases_eq q p)))
-    (cases_lt q p)
+-- the first along the chain from that start on is the first with the name
+pub first_named : (test : Arg → Bool) (s : Situation) (chains : Chained) (key : Arg)
+    (start end p : ℕ) → AreChainsOf s chains
+    → IsStart s.context.line (names_of (Some key)) chains
+    (class_of (length chains.heads) (name_number key)) start
+    → IsFirstAlong test s chains.classes start end p
+    → IsFirstAmong test (names_of (Some key)) s end p
+first_named test s chains key start end p h begins along = record {
+  within = along.within;
+  matches = along.matches;
+  none = λ q item before there passes. ⊎_elim
+      (λ (named : is_key_of (names_of (Some key)) item ≡ true). absurd (true≢false (⊎_elim
+      (λ (early : q < start). none_before_start s chains key start q item h begins early there named)
+      (λ (behind : start ≤ q). sym (ap (λ found. option_map_or test found false) there ∙ passes)
+      ∙ along.none (class_of (length chains.heads) (name_number key)) q begins.place behind before
+      (class_named s chains key q item h there named))
+      (cases_lt q start))))
+      (λ (other : is_key_of (names_of (Some key)) item ≡ false). other)
+      (cases_Bool (is_key_of (names_of (Some key)) item));
+}
 
--- of one number more
-pub among_more : (test : Arg → Bool) (numbers : List ℕ) (number : ℕ) (s : Situation)
-    (end p next : ℕ) → IsFirstAmong test numbers s end p → IsFirstAmong test (number ∷ []) s p next
-    → IsFirstAmong test (numbers ++ number ∷ []) s end next
-among_more test numbers number s end p next old new = record {
+-- a walk along a chain that passed what doesn't match found the first, where it ends at the end
+pub first_along : (test : Arg → Bool) (s : Situation) (classes : List ℕ) (low end p q : ℕ)
+    → HasWalked classes (λ r. not (is_match test s r)) low p → q ≤ p → q ≤ end
+    → (q < end → is_match test s q ≡ true) → IsFirstAlong test s classes low end q
+first_along test s classes low end p q walked before within matches = record {
+  within = within;
+  matches = matches;
+  none = λ k r of above below mine. not_true _ (walked.passed k r of above (omega arith) mine);
+}
+  where
+    not_true : (b : Bool) → not b ≡ true → b ≡ false
+    not_true false e = refl
+    not_true true e = sym e
+
+-- a key with the names of two has those of one or of the other
+key_of_more : (a b : Names) (item : Arg)
+    → is_key_of (record { shorts = a.shorts ++ b.shorts; longs = a.longs ++ b.longs }) item
+    ≡ (is_key_of a item || is_key_of b item)
+key_of_more a b (Short c _ _) = list_any-append (λ d. d == c) a.shorts b.shorts
+key_of_more a b (Long name _ _) = list_any-append (λ other. bytes_eq other name) a.longs b.longs
+key_of_more a b (ArgWord _) = refl
+key_of_more a b (Word _) = refl
+key_of_more a b (PosWord _) = refl
+
+-- of one name more
+pub among_more : (test : Arg → Bool) (names one : Names) (s : Situation)
+    (end p next : ℕ) → IsFirstAmong test names s end p → IsFirstAmong test one s p next
+    → IsFirstAmong test (record {
+      shorts = names.shorts ++ one.shorts;
+      longs = names.longs ++ one.longs;
+    }) s end next
+among_more test names one s end p next old new = record {
   within = omega (arith, old.within, new.within);
   matches = λ below. ⊎_elim
       (λ (nearer : next < p). new.matches nearer)
       (λ (past : p ≤ next). let at : next ≡ p = omega (arith, new.within) in
       ap (is_match test s) at ∙ old.matches (omega arith))
       (cases_lt next p);
-  none = λ q item before there passes.
-      list_any-append (λ d. d == name_number item) numbers (number ∷ [])
-      ∙ (ap (λ b. b || is_among (number ∷ []) (name_number item))
+  none = λ q item before there passes. key_of_more names one item
+      ∙ (ap (λ b. b || is_key_of one item)
       (old.none q item (omega (arith, new.within)) there passes)
       ∙ new.none q item before there passes);
 }
@@ -127,38 +159,23 @@ first_of : (a b : Bool) → (a && b) ≡ true → a ≡ true
 first_of true b e = refl
 first_of false b e = e
 
--- a long name that is among some has a number among theirs
-text_numbered : (longs : List (List ℕ)) (name : List ℕ) → is_text_among longs name ≡ true
-    → is_among (map (text_number 0) longs) (text_number 0 name) ≡ true
-text_numbered [] name e = e
-text_numbered (long ∷ longs) name e = by_first (bytes_eq long name) refl (text_numbered longs name)
-  where
-    by_first : (b : Bool) → bytes_eq long name ≡ b →
-        (is_text_among longs name ≡ true → is_among (map (text_number 0) longs)
-        (text_number 0 name) ≡ true)
-        → is_among (map (text_number 0) (long ∷ longs)) (text_number 0 name) ≡ true
-    by_first true same later = or_left _ _ (eq-eqb _ _
-        (ap (text_number 0) ((bytes_eq-Decides long name).0 same)))
-    by_first false differ later = or_right (text_number 0 long == text_number 0 name) _
-        (later (sym (ap (λ b. b || is_text_among longs name) differ) ∙ e))
+-- a key with one of the names has one of the short ones or one of the long ones
+key_named : (names : Names) (adjacent : Bool) (item : Arg) → is_argument_key names adjacent item
+    ≡ true → is_key_of (record { shorts = names.shorts; longs = [] }) item ≡ false
+    → is_key_of (record { shorts = []; longs = names.longs }) item ≡ false → true ≡ false
+key_named names adjacent (Short c attached word) key short long = sym (first_of _ _ key) ∙ short
+key_named names adjacent (Long name attached word) key short long = sym (first_of _ _ key) ∙ long
+key_named names adjacent (ArgWord text) key short long = sym key
+key_named names adjacent (Word text) key short long = sym key
+key_named names adjacent (PosWord text) key short long = sym key
 
--- a key with one of the names has a number among theirs
-key_numbered : (names : Names) (adjacent : Bool) (item : Arg) → is_argument_key names adjacent item
-    ≡ true → is_among names.shorts (name_number item) ≡ false
-    → is_among (map (text_number 0) names.longs) (name_number item) ≡ false → true ≡ false
-key_numbered names adjacent (Short c attached word) key short long = sym (first_of _ _ key) ∙ short
-key_numbered names adjacent (Long name attached word) key short long =
-    sym (text_numbered names.longs name (first_of _ _ key)) ∙ long
-key_numbered names adjacent (ArgWord text) key short long = sym key
-key_numbered names adjacent (Word text) key short long = sym key
-key_numbered names adjacent (PosWord text) key short long = sym key
-
--- the first key of the numbers of all names is the first key
+-- the first key of the short names and of the long ones is the first key
 pub key_found : (names : Names) (adjacent : Bool) (s : Situation) (short place : ℕ)
     (found : Option ℕ)
-    → IsFirstAmong (is_argument_key names adjacent) names.shorts s s.end short
     → IsFirstAmong (is_argument_key names adjacent)
-    (map (text_number 0) names.longs) s short place → found
+    (record { shorts = names.shorts; longs = [] }) s s.end short
+    → IsFirstAmong (is_argument_key names adjacent)
+    (record { shorts = []; longs = names.longs }) s short place → found
     ≡ then_some (nat_lt place s.end) place
     → MatchOption found (HasNone (is_argument_key names adjacent) s)
     (IsFirst (is_argument_key names adjacent) s)
@@ -174,7 +191,7 @@ key_found names adjacent s short place found shorts longs is =
     none_at q before None e = refl
     none_at q before (Some item) e = ⊎_elim
         (λ (key : test item ≡ true). absurd (true≢false
-        (key_numbered names adjacent item key (shorts.none q item
+        (key_named names adjacent item key (shorts.none q item
         (omega (arith, longs.within)) e key) (longs.none q item before e key))))
         (λ (other : test item ≡ false). other)
         (cases_Bool (test item))

@@ -20,8 +20,8 @@ use Rattle.bpaf_line.specs.declared.state.State.TheInside.{Inside}
 use Rattle.bpaf_line.specs.declared.aside.Aside.{Aside}
 use Rattle.bpaf_line.specs.Remembered.{no_aside, count_within, IsSurvey, IsRemembered}
 use Rattle.bpaf_line.specs.Bits.{has_bit, is_clear_from, count_clear, ChangesBit, IsFirstClear}
-use Rattle.bpaf_line.specs.Chained.{Chained, class_in, head_of, AreChainsOf, HavePassed, ReachBack}
-use Rattle.bpaf_line.specs.Chained.{IfChained}
+use Rattle.bpaf_line.specs.Chained.{Chained, class_in, head_of, cursor_of, AreBehind, AreChainsOf}
+use Rattle.bpaf_line.specs.Chained.{ReachBack, IfChained}
 use Rattle.bpaf_line.specs.Inside.{situation_of, BitsOf, IsSound}
 use Rattle.bpaf_line.specs.Situation.{Situation, with_trail, with_scope, cut_to, is_open, is_marker}
 use Rattle.bpaf_line.specs.Situation.{is_taken, is_on, in_scope, open_count, TakenInTurn}
@@ -57,28 +57,29 @@ first_by_bits s words from p inside bits above passed first = record {
       (cases_lt q from);
 }
 
--- what stands before the chains is taken, where they begin behind it and one place more is taken
-pub chains_put : (s : Situation) (p : ℕ) (words : List ℕ) (old new : Option Chained)
-    → BitsOf (put s p) words → IfSome old (AreChainsOf s) → IfChained (HavePassed words) old new
-    → IfSome new (AreChainsOf (put s p))
-chains_put s p words None None bits h passed = tt
-chains_put s p words None (Some new) bits h passed = absurd passed
-chains_put s p words (Some old) None bits h passed = tt
-chains_put s p words (Some old) (Some new) bits h passed =
-    let size : length old.classes ≡ length s.context.line =
-    classes_size s.context.line old.classes (length old.heads) h.classes in
+-- what chains passed is in another set too, where that has all of the line that is in the first
+pub behind_since : (line : List Arg) (old new : ℕ → Bool) (chains : Option Chained)
+    → ((q : ℕ) → q < length line → old q ≡ true → new q ≡ true)
+    → IfSome chains (AreBehind line old) → IfSome chains (AreBehind line new)
+behind_since line old new None grown h = tt
+behind_since line old new (Some chains) grown h =
+    let size : length chains.classes ≡ length line =
+    classes_size line chains.classes (length chains.heads) h.classes in
     record {
-      classes = passed.classes ∙ (h.classes ∙ ap (λ n. map (class_in n) s.context.line)
-          (sym passed.count));
-      passed = λ q within before. let inside : q < length old.classes = omega
-          (arith, ap length passed.classes) in ⊎_elim
-          (λ (early : q < head_of old q). put_stays s p q (h.passed q inside early))
-          (λ (behind : head_of old q ≤ q). sym (bits q (omega arith))
-          ∙ passed.passed q inside behind before)
-          (cases_lt q (head_of old q));
+      classes = h.classes;
+      passed = λ q within before. grown q (omega arith) (h.passed q within before);
+      named = λ q within before shares. grown q (omega arith) (h.named q within before shares);
     }
 
--- and where they begin no later, also not behind the place that is taken no more
+-- the bits of what chains passed are set, where one place more is taken
+pub behind_bits : (s : Situation) (p : ℕ) (words : List ℕ) (chains : Option Chained)
+    → BitsOf (put s p) words → IfSome chains (AreChainsOf s)
+    → IfSome chains (AreBehind s.context.line (has_bit words))
+behind_bits s p words chains bits h = behind_since s.context.line (is_taken s) (has_bit words) chains
+    (λ q within taken. bits q within ∙ put_stays s p q taken) h
+
+-- and where the chains begin no later, nor their cursors stand later, also not behind the place that is
+-- taken no more
 pub chains_untake : (s : Situation) (p : ℕ) (old new : Option Chained)
     → IfSome old (AreChainsOf (put s p)) → IfChained (ReachBack p) old new
     → IfSome new (AreChainsOf s)
@@ -94,17 +95,24 @@ chains_untake s p (Some old) (Some new) h back = record {
       (λ (other : q ≢ p). sym (put_other s p q other) ∙ h.passed q inside
       (omega (arith, back.earlier q inside)))
       (cases_eq q p);
+  named = λ q within before shares. let inside : q < length old.classes = omega
+      (arith, ap length back.classes) in ⊎_elim
+      (λ (at : q ≡ p). absurd (let low : cursor_of new q ≤ q = subst (λ x. cursor_of new x ≤ x)
+      (sym at) back.there in omega arith))
+      (λ (other : q ≢ p). sym (put_other s p q other) ∙ h.named q inside
+      (omega (arith, back.nearer q inside))
+      (rw (sym back.owners, sym back.classes) shares))
+      (cases_eq q p);
 }
 
 -- and where the same is taken on the same line
 pub chains_same : (s t : Situation) (chains : Option Chained) → t.context ≡ s.context
     → ((p : ℕ) → is_taken t p ≡ is_taken s p) → IfSome chains (AreChainsOf s)
     → IfSome chains (AreChainsOf t)
-chains_same s t None context taken h = tt
-chains_same s t (Some chains) context taken h = record {
-  classes = h.classes ∙ ap (λ c. map (class_in (length chains.heads)) c.line) (sym context);
-  passed = λ q within before. taken q ∙ h.passed q within before;
-}
+chains_same s t chains context taken h = subst
+    (λ c. IfSome chains (AreBehind c.line (is_taken t))) (sym context)
+    (behind_since s.context.line (is_taken s) (is_taken t) chains
+    (λ q within set. taken q ∙ set) h)
 
 -- a state with other bits and another trail, counted anew
 abbrev pub with_parts : Inside → List ℕ → Vec ℕ Global → ℕ → ℕ → Option Chained → Inside
@@ -128,7 +136,7 @@ pub sound_put : (s : Inside) (p : ℕ) (words : List ℕ) (trail : Vec ℕ Globa
     → vec_capacity s.trail ≤ vec_capacity trail
     → left ≡ s.left - from_bool (in_scope (situation_of s) p)
     → IsFirstClear words s.first s.end first
-    → IfChained (HavePassed words) s.chains chains → IsSound
+    → IfSome chains (AreBehind (rc_slice_items s.items) (has_bit words)) → IsSound
     (with_parts s words trail left first chains)
 sound_put s p words trail left first chains h free change pushed grown counted next passed =
     let means : situation_of (with_parts s words trail left first chains)
@@ -154,9 +162,17 @@ sound_put s p words trail left first chains h free change pushed grown counted n
       aside = subst (λ t. IsRemembered t s.aside) (sym means)
           (remembers_put (situation_of s) p s.aside h.aside);
       chained = subst (λ t. IfSome chains (AreChainsOf t)) (sym means)
-          (chains_put (situation_of s) p words s.chains chains bits h.chained passed);
+          (behind_since new.context.line (has_bit words) (is_taken new) chains
+          (λ q within set. sym (bits q within) ∙ set) passed);
       named = h.named;
     }
+
+-- and the bits of what the chains passed are set then
+pub behind_put : (s : Inside) (p : ℕ) (words : List ℕ) → IsSound s
+    → ChangesBit s.words.items words p true
+    → IfSome s.chains (AreBehind (rc_slice_items s.items) (has_bit words))
+behind_put s p words h change = behind_bits (situation_of s) p words s.chains
+    (bits_put (situation_of s) s.words.items words p h.bits change) h.chained
 
 -- what is subtracted from the count of those left is no more than they are
 pub left_enough : (s : Inside) (p n : ℕ) → IsSound s → is_taken (situation_of s) p ≡ false → n

@@ -1,10 +1,13 @@
 -- The places of a line, chained by the names of their items. No contract above this crate speaks of
 -- them.
 use Rattle.std.specs.Prelude.{ℕ, ◌≡◌, ◌≢◌, ◌+◌, ◌*◌, ◌%◌, ◌^◌, ◌<◌, ◌≤◌, true, List, [], ◌∷◌}
-use Rattle.std.specs.Prelude.{length, map, slice_index, Option, Some, None, ⊤, nat_lt, ◌-◌, if◌then◌else◌}
+use Rattle.std.specs.Prelude.{length, map, slice_index, slice_get, Option, Some, None, ⊤, nat_lt, ◌-◌}
+use Rattle.std.specs.Prelude.{Bool, false, if◌then◌else◌}
+use Rattle.std.specs.Option.{option_map_or}
+use Rattle.bpaf_doc.specs.Names.{Names}
 use Rattle.bpaf_words.specs.declared.arg.Arg.{Arg}
 use Rattle.bpaf_words.specs.declared.arg.Arg.TheVariants.{Short, Long, ArgWord, Word, PosWord}
-use Rattle.bpaf_line.specs.Bits.{has_bit}
+use Rattle.bpaf_words.specs.Items.{is_key_of}
 use Rattle.bpaf_line.specs.Situation.{Situation, is_taken}
 
 -- a number of a text, below 128 only of the empty one
@@ -28,14 +31,46 @@ class_of count number = if nat_lt number 128 then number else 128 + number % (co
 abbrev pub class_in : ℕ → Arg → ℕ
 class_in count item = class_of count (name_number item)
 
--- the class of each place, and for each class the place at which its chain begins
+-- the name of an item alone, where it is a key
+abbrev pub names_of : Option Arg → Names
+names_of (Some (Short c attached word)) = record { shorts = c ∷ []; longs = [] }
+names_of (Some (Long name attached word)) = record { shorts = []; longs = name ∷ [] }
+names_of (Some (ArgWord text)) = record { shorts = []; longs = [] }
+names_of (Some (Word text)) = record { shorts = []; longs = [] }
+names_of (Some (PosWord text)) = record { shorts = []; longs = [] }
+names_of None = record { shorts = []; longs = [] }
+
+-- the name of the item at a place of a line
+abbrev pub names_in : List Arg → ℕ → Names
+names_in line p = names_of (slice_get line p)
+
+-- the item at a place of a line is a key with one of the names
+abbrev pub named_at : List Arg → Names → ℕ → Bool
+named_at line names p = option_map_or (is_key_of names) (slice_get line p) false
+
+-- the item at a place of a line is a key with the name of that at another
+abbrev pub shares_name : List Arg → ℕ → ℕ → Bool
+shares_name line owner p = named_at line (names_in line owner) p
+
+-- the class of each place; for each class the place at which its chain begins, a place with the name
+-- that owns it, and the place in front of which those of that name were passed
 pub record Chained : Type 0 where
   pub classes : List ℕ
   pub heads : List ℕ
+  pub owners : List ℕ
+  pub cursors : List ℕ
 
 -- the place at which the chain of a place's class begins
 abbrev pub head_of : Chained → ℕ → ℕ
 head_of chains p = slice_index chains.heads (slice_index chains.classes p)
+
+-- the owner of a place's class
+abbrev pub owner_of : Chained → ℕ → ℕ
+owner_of chains p = slice_index chains.owners (slice_index chains.classes p)
+
+-- the cursor of a place's class
+abbrev pub cursor_of : Chained → ℕ → ℕ
+cursor_of chains p = slice_index chains.cursors (slice_index chains.classes p)
 
 -- the first place of a class from one on; the number of places, where there is none
 pub record IsNextOf (classes : List ℕ) (class low p : ℕ) : Type 0 where
@@ -48,32 +83,44 @@ pub record IsNextOf (classes : List ℕ) (class low p : ℕ) : Type 0 where
 abbrev pub IsPlaceOf : List ℕ → ℕ → ℕ → Type 0
 IsPlaceOf classes class p = p < length classes → slice_index classes p ≡ class
 
--- a chain was walked from one place to another, whose class is the same; the bits of all places of
--- the class that were passed are set
-pub record HasWalked (classes words : List ℕ) (low p : ℕ) : Type 0 where
+-- a chain was walked from one place to another, whose class is the same; all places of the class that
+-- were passed are to be passed
+pub record HasWalked (classes : List ℕ) (passes : ℕ → Bool) (low p : ℕ) : Type 0 where
   pub above : low ≤ p
   pub same : (k : ℕ) → IsPlaceOf classes k low → IsPlaceOf classes k p
-  pub set : (k q : ℕ) → IsPlaceOf classes k low → low ≤ q → q < p → slice_index classes q ≡ k
-      → has_bit words q ≡ true
+  pub passed : (k q : ℕ) → IsPlaceOf classes k low → low ≤ q → q < p → slice_index classes q ≡ k
+      → passes q ≡ true
 
--- the chains are those of the situation's line, and what stands before their beginnings is taken
-pub record AreChainsOf (s : Situation) (chains : Chained) : Type 0 where
-  pub classes : chains.classes ≡ map (class_in (length chains.heads)) s.context.line
-  pub passed : (p : ℕ) → p < length chains.classes → p < head_of chains p → is_taken s p ≡ true
+-- a place of a class, or one past them all: what stands before it, but not before the beginning of the
+-- chain, stands before the cursor, and then the owner has one of the names
+pub record IsStart (line : List Arg) (names : Names) (chains : Chained) (class p : ℕ) : Type 0 where
+  pub place : IsPlaceOf chains.classes class p
+  pub cursor : (q : ℕ) → q < p → slice_index chains.heads class ≤ q
+      → q < slice_index chains.cursors class
+  pub owner : (q : ℕ) → q < p → slice_index chains.heads class ≤ q
+      → named_at line names (slice_index chains.owners class) ≡ true
 
--- the chains begin later now, where the bits of all places passed are set
-pub record HavePassed (words : List ℕ) (old new : Chained) : Type 0 where
-  pub classes : new.classes ≡ old.classes
-  pub count : length new.heads ≡ length old.heads
-  pub passed : (p : ℕ) → p < length old.classes → head_of old p ≤ p → p < head_of new p
-      → has_bit words p ≡ true
+-- the chains are those of the line; what stands before their beginnings is in a set, and so is what
+-- stands before their cursors and has the name of their owners
+pub record AreBehind (line : List Arg) (set : ℕ → Bool) (chains : Chained) : Type 0 where
+  pub classes : chains.classes ≡ map (class_in (length chains.heads)) line
+  pub passed : (p : ℕ) → p < length chains.classes → p < head_of chains p → set p ≡ true
+  pub named : (p : ℕ) → p < length chains.classes → p < cursor_of chains p
+      → shares_name line (owner_of chains p) p ≡ true → set p ≡ true
 
--- no chain begins later now, and that of a place not behind it
+-- the chains are those of the situation's line, and what they passed is taken
+abbrev pub AreChainsOf : Situation → Chained → Type 0
+AreChainsOf s chains = AreBehind s.context.line (is_taken s) chains
+
+-- no chain begins later now, and no cursor stands later, and those of a place not behind it
 pub record ReachBack (place : ℕ) (old new : Chained) : Type 0 where
   pub classes : new.classes ≡ old.classes
   pub count : length new.heads ≡ length old.heads
+  pub owners : new.owners ≡ old.owners
   pub earlier : (p : ℕ) → p < length old.classes → head_of new p ≤ head_of old p
+  pub nearer : (p : ℕ) → p < length old.classes → cursor_of new p ≤ cursor_of old p
   pub here : head_of new place ≤ place
+  pub there : cursor_of new place ≤ place
 
 -- two lines have chains that are so related, or both have none
 abbrev pub IfChained : (Chained → Chained → Type 0) → Option Chained → Option Chained → Type 0

@@ -1,21 +1,31 @@
--- The first key, looked for among those whose names have some numbers.
-use Rattle.std.specs.Prelude.{ℕ, ◌≡◌, ◌<◌, ◌≤◌, Bool, true, false, List, Some}
+-- The first key, looked for along the chains of its names.
+use Rattle.std.specs.Prelude.{ℕ, ◌≡◌, ◌<◌, ◌≤◌, Bool, true, false, List, Some, slice_index}
+use Rattle.bpaf_doc.specs.Names.{Names}
 use Rattle.bpaf_words.specs.declared.arg.Arg.{Arg}
-use Rattle.bpaf_words.specs.Items.{is_among}
-use Rattle.bpaf_line.specs.Chained.{name_number}
+use Rattle.bpaf_words.specs.Items.{is_key_of}
+use Rattle.bpaf_line.specs.Chained.{IsPlaceOf}
 use Rattle.bpaf_line.specs.Situation.{Situation}
 use Rattle.bpaf_line.specs.Taking.{open_item, is_match}
 
--- of the items before a place none that is present, in scope, and passes the test has such a number
-abbrev pub HasNoneAmong : (Arg → Bool) → List ℕ → Situation → ℕ → Type 0
-HasNoneAmong test numbers s p =
+-- of the items before a place none that is present, in scope, and passes the test has such a name
+abbrev pub HasNoneAmong : (Arg → Bool) → Names → Situation → ℕ → Type 0
+HasNoneAmong test names s p =
     (q : ℕ) (item : Arg) → q < p → open_item s q ≡ Some item → test item ≡ true
-    → is_among numbers (name_number item) ≡ false
+    → is_key_of names item ≡ false
 
 -- a place below the end, at which an item is present, in scope, and passes the test, or the end; no
--- such item before it has one of the numbers
-pub record IsFirstAmong (test : Arg → Bool) (numbers : List ℕ) (s : Situation)
+-- such item before it has one of the names
+pub record IsFirstAmong (test : Arg → Bool) (names : Names) (s : Situation)
     (end p : ℕ) : Type 0 where
   pub within : p ≤ end
   pub matches : p < end → is_match test s p ≡ true
-  pub none : HasNoneAmong test numbers s p
+  pub none : HasNoneAmong test names s p
+
+-- a place below the end, at which an item is present, in scope, and passes the test, or the end; no
+-- such item is before it at a place of the class of another place, from that one on
+pub record IsFirstAlong (test : Arg → Bool) (s : Situation) (classes : List ℕ)
+    (low end p : ℕ) : Type 0 where
+  pub within : p ≤ end
+  pub matches : p < end → is_match test s p ≡ true
+  pub none : (k q : ℕ) → IsPlaceOf classes k low → low ≤ q → q < p → slice_index classes q ≡ k
+      → is_match test s q ≡ false

@@ -4,12 +4,17 @@ use Rattle.std.specs.Rc.{rc_slice_items}
 use Rattle.bpaf_line.specs.declared.chains.Chains.TheInside.{Inside}
 use Rattle.bpaf_line.specs.Chained.{Chained, IsNextOf, IsPlaceOf}
 
--- the classes and the beginnings
+-- the classes, the beginnings, the owners and the cursors
 abbrev pub chained_of : Inside → Chained
-chained_of s = record { classes = rc_slice_items s.classes; heads = s.heads.items }
+chained_of s = record {
+  classes = rc_slice_items s.classes;
+  heads = s.heads.items;
+  owners = s.owners.items;
+  cursors = s.cursors.items;
+}
 
--- each place has its next one, each class is one of them, and each chain begins at one of its
--- places
+-- each place has its next one, each class is one of them, each chain begins at one of its places, and
+-- its cursor stands at one
 pub record IsLinked (s : Inside) : Type 0 where
   pub some : 128 < length s.heads.items
   pub whole : length (rc_slice_items s.next) ≡ length (rc_slice_items s.classes)
@@ -20,3 +25,7 @@ pub record IsLinked (s : Inside) : Type 0 where
       → slice_index (rc_slice_items s.classes) p < length s.heads.items
   pub headed : (k : ℕ) → k < length s.heads.items → IsPlaceOf (rc_slice_items s.classes) k
       (slice_index s.heads.items k)
+  pub owned : length s.owners.items ≡ length s.heads.items
+  pub cursors : length s.cursors.items ≡ length s.heads.items
+  pub placed : (k : ℕ) → k < length s.heads.items → IsPlaceOf (rc_slice_items s.classes) k
+      (slice_index s.cursors.items k)

@@ -1,12 +1,17 @@
 //! The places of a line, chained by the names of their items.
-ghost use Rattle.std.specs.Prelude.{ℕ, ◌≡◌, ◌*◌, ◌+◌, ◌<◌, ◌≤◌, IfOk, IfSome, MatchOption, length, map, slice_index};
-ghost use Rattle.bpaf_line.specs.Chained.{text_number, name_number, class_in, class_of, head_of, IsNextOf, IsPlaceOf, HasWalked, HavePassed, ReachBack, IfChained};
+ghost use Rattle.std.specs.Prelude.{ℕ, ◌≡◌, ◌*◌, ◌+◌, ◌<◌, ◌≤◌, ◌||◌, not, IfOk, IfSome, MatchOption, length, map, slice_index, false};
+ghost use Rattle.bpaf_words.specs.declared.arg.Arg.{Arg};
+ghost use Rattle.bpaf_words.specs.Items.{is_key_of};
+ghost use Rattle.bpaf_line.specs.Bits.{has_bit};
+ghost use Rattle.bpaf_line.specs.Chained.{text_number, name_number, class_in, class_of, named_at, names_in, shares_name, IsNextOf, IsPlaceOf, IsStart, HasWalked, AreBehind, ReachBack, IfChained};
 
 use crate::bits;
-use bpaf_words::Arg;
+use bpaf_doc::Text;
+use bpaf_words::{Arg, is_key_of};
 use std::alloc::{AllocError, Global};
 use std::marker::Model;
 use std::rc::RcSlice;
+use std::slice;
 
 /// A line of no more places has no chains: to look at all of them costs less.
 const SHORT_LINE: usize = 32;
@@ -17,12 +22,17 @@ const OWN_CLASSES: usize = 128;
 /// The places of a line, each linked to the next one of its class, and for each class the place at
 /// which its chain begins. Items of the same name are of one class.
 ///
-/// Contracts see the classes and the beginnings (`Chained`).
+/// Items of other names may be of that class too. So each class has an owner, which is a place with the
+/// name that was taken last behind another one, and a cursor: what has that name in front of it is taken.
+///
+/// Contracts see the classes, the beginnings, the owners and the cursors (`Chained`).
 #[derive(Drop)]
 pub(crate) struct Chains {
     classes: RcSlice<usize>,
     next: RcSlice<usize>,
     heads: Vec<usize>,
+    owners: Vec<usize>,
+    cursors: Vec<usize>,
 }
 
 impl Model for Chains {
@@ -43,10 +53,7 @@ impl Chains {
     ///
     /// Refused only for want of memory.
     pub(crate) fn of_line(alloc: Global, items: &[Arg]) -> Result<Option<Chains>, AllocError>
-        ensures classes { IfOk result (λ found. IfSome found (λ chains. chains.classes
-            ≡ map (class_in (length chains.heads)) items.now)) }
-        ensures heads { IfOk result (λ found. IfSome found (λ chains. (p : ℕ)
-            → p < length chains.classes → head_of chains p ≤ p)) }
+        ensures { IfOk result (λ found. IfSome found (AreBehind items.now (λ p. false))) }
     {
         if items.len() <= SHORT_LINE {
             return Ok(None);
@@ -57,10 +64,7 @@ impl Chains {
     /// The chains of a line, also of a short one; refused only for want of memory.
     fn of_long_line(alloc: Global, items: &[Arg]) -> Result<Chains, AllocError>
         requires { 0 < length items.now }
-        ensures classes { IfOk result (λ chains. chains.classes
-            ≡ map (class_in (length chains.heads)) items.now) }
-        ensures heads { IfOk result (λ chains. (p : ℕ)
-            → p < length chains.classes → head_of chains p ≤ p) }
+        ensures { IfOk result (AreBehind items.now (λ p. false)) }
     {
         let places = items.len();
         let count = OWN_CLASSES + places;
@@ -68,10 +72,14 @@ impl Chains {
         let mut next = vec![in alloc; places; places]?;
         let mut heads = vec![in alloc; places; count]?;
         link(&classes, &mut next, &mut heads);
+        let owners = vec![in alloc; places; count]?;
+        let cursors = vec![in alloc; places; count]?;
         Ok(Chains {
             classes: RcSlice::from_vec(classes)?,
             next: RcSlice::from_vec(next)?,
             heads,
+            owners,
+            cursors,
         })
     }
 
@@ -79,11 +87,13 @@ impl Chains {
     pub(crate) fn copy(&self) -> Result<Chains, AllocError>
         ensures { IfOk result (λ chains. chains ≡ self.now) }
     {
-        let heads = Vec::from_slice(*self.heads.allocator(), self.heads.as_slice())?;
+        let alloc = *self.heads.allocator();
         Ok(Chains {
             classes: self.classes.clone()?,
             next: self.next.clone()?,
-            heads,
+            heads: Vec::from_slice(alloc, self.heads.as_slice())?,
+            owners: Vec::from_slice(alloc, self.owners.as_slice())?,
+            cursors: Vec::from_slice(alloc, self.cursors.as_slice())?,
         })
     }
 
@@ -97,14 +107,44 @@ impl Chains {
         }
     }
 
-    /// The place at which the chain of a name begins.
-    pub(crate) fn head(&self, number: usize) -> usize
-        ensures head { result ≡ slice_index self.now.heads
-            (class_of (length self.now.heads) number) }
-        ensures place { IsPlaceOf self.now.classes
+    /// The place at which to begin to look for one name, which has this number.
+    pub(crate) fn start(
+        &self,
+        items: &[Arg],
+        number: usize,
+        shorts: &[char],
+        longs: &[Text],
+    ) -> usize
+        ensures { IsStart items.now (record { shorts = shorts.now; longs = longs.now }) self.now
             (class_of (length self.now.heads) number) result }
     {
-        self.heads[class_of(number, self.heads.len())]
+        self.start_in(items, class_of(number, self.heads.len()), shorts, longs)
+    }
+
+    /// The place at which to begin to look for the name of a place, which is of this class.
+    fn start_at(&self, items: &[Arg], class: usize, place: usize) -> usize
+        requires { class < length self.now.heads }
+        ensures { IsStart items.now (names_in items.now place) self.now class result }
+    {
+        match items.get(place) {
+            Some(Arg::Short(c, _, _)) => self.start_in(items, class, slice::from_ref(c), &[]),
+            Some(Arg::Long(name, _, _)) => self.start_in(items, class, &[], slice::from_ref(name)),
+            _ => self.start_in(items, class, &[], &[]),
+        }
+    }
+
+    /// The place at which to begin to look for a name of this class.
+    fn start_in(&self, items: &[Arg], class: usize, shorts: &[char], longs: &[Text]) -> usize
+        requires { class < length self.now.heads }
+        ensures { IsStart items.now (record { shorts = shorts.now; longs = longs.now }) self.now
+            class result }
+    {
+        let head = self.heads[class];
+        if is_named_at(items, self.owners[class], shorts, longs) {
+            head.max(self.cursors[class])
+        } else {
+            head
+        }
     }
 
     /// The next place of a place's class.
@@ -125,7 +165,7 @@ impl Chains {
     /// The first place from one on along its chain whose bit is not set.
     fn first_clear(&self, words: &[u64], from: usize) -> usize
         requires { length self.now.classes ≤ 64 * length words.now }
-        ensures { HasWalked self.now.classes words.now from result }
+        ensures { HasWalked self.now.classes (has_bit words.now) from result }
     {
         let mut place = from;
         while place < self.len() && bits::is_set(words, place) {
@@ -134,40 +174,120 @@ impl Chains {
         place
     }
 
-    /// Lets the chain of a place's class begin later, past places whose bits are set.
-    fn pass(&mut self, words: &[u64], place: usize)
+    /// The first place from one on along its chain whose bit is not set, and which has the name of another.
+    fn first_of_name(&self, items: &[Arg], words: &[u64], owner: usize, from: usize) -> usize
+        requires { length self.now.classes ≤ 64 * length words.now }
+        ensures { HasWalked self.now.classes
+            (λ p. has_bit words.now p || not (shares_name items.now owner p)) from result }
+    {
+        let mut place = from;
+        while place < self.len() && is_passed(items, words, owner, place) {
+            place = self.after(place);
+        }
+        place
+    }
+
+    /// Lets the chain of a place's class begin later, and its cursor stand later, past places whose bits
+    /// are set; the cursor also past places with other names.
+    fn pass(&mut self, items: &[Arg], words: &[u64], place: usize)
         requires within { place < length self.old.classes }
         requires worded { length self.old.classes ≤ 64 * length words.now }
-        ensures { HavePassed words.now self.old self.new }
+        requires behind { AreBehind items.now (has_bit words.now) self.old }
+        ensures { AreBehind items.now (has_bit words.now) self.new }
+    {
+        let class = self.classes.as_slice()[place];
+        let head = self.heads[class];
+        self.pass_taken(items, words, place);
+        if place != head && class >= OWN_CLASSES {
+            self.pass_others(items, words, place);
+        }
+    }
+
+    /// Lets the chain of a place's class begin later, past places whose bits are set.
+    fn pass_taken(&mut self, items: &[Arg], words: &[u64], place: usize)
+        requires within { place < length self.old.classes }
+        requires worded { length self.old.classes ≤ 64 * length words.now }
+        requires behind { AreBehind items.now (has_bit words.now) self.old }
+        ensures classes { self.new.classes ≡ self.old.classes }
+        ensures behind { AreBehind items.now (has_bit words.now) self.new }
     {
         let class = self.classes.as_slice()[place];
         let head = self.first_clear(words, self.heads[class]);
         self.heads[class] = head;
     }
 
-    /// Lets the chain of a place's class begin no later than there.
+    /// Makes a place the owner of its class, and lets the cursor stand behind places whose bits are set
+    /// and places with other names.
+    fn pass_others(&mut self, items: &[Arg], words: &[u64], place: usize)
+        requires within { place < length self.old.classes }
+        requires worded { length self.old.classes ≤ 64 * length words.now }
+        requires behind { AreBehind items.now (has_bit words.now) self.old }
+        ensures { AreBehind items.now (has_bit words.now) self.new }
+    {
+        let class = self.classes.as_slice()[place];
+        let from = self.start_at(items, class, place);
+        let cursor = self.first_of_name(items, words, place, from);
+        self.owners[class] = place;
+        self.cursors[class] = cursor;
+    }
+
+    /// Lets the chain of a place's class begin no later than there, nor its cursor stand later.
     fn reach_back(&mut self, place: usize)
         requires { place < length self.old.classes }
         ensures { ReachBack place self.old self.new }
     {
         let class = self.classes.as_slice()[place];
         let head = self.heads[class].min(place);
+        let cursor = self.cursors[class].min(place);
         self.heads[class] = head;
+        self.cursors[class] = cursor;
     }
 }
 
-/// Lets the chain of a place's class begin later, past places whose bits are set.
-pub(crate) fn pass(chains: &mut Option<Chains>, words: &[u64], place: usize)
+/// Lets the chain of a place's class begin later, and its cursor stand later, past places whose bits are
+/// set; the cursor also past places with other names.
+pub(crate) fn pass(chains: &mut Option<Chains>, items: &[Arg], words: &[u64], place: usize)
     requires within { IfSome chains.old (λ c. place < length c.classes) }
     requires worded { IfSome chains.old (λ c. length c.classes ≤ 64 * length words.now) }
-    ensures { IfChained (HavePassed words.now) chains.old chains.new }
+    requires behind { IfSome chains.old (AreBehind items.now (has_bit words.now)) }
+    ensures { IfSome chains.new (AreBehind items.now (has_bit words.now)) }
 {
     if let Some(chains) = chains {
-        chains.pass(words, place);
+        chains.pass(items, words, place);
     }
 }
 
-/// Lets the chain of a place's class begin no later than there.
+/// Whether the item at a place is a key with one of the names.
+fn is_named_at(items: &[Arg], place: usize, shorts: &[char], longs: &[Text]) -> bool
+    ensures { result ≡ named_at items.now
+        (record { shorts = shorts.now; longs = longs.now }) place }
+{
+    match items.get(place) {
+        Some(item) => is_key_of(item, shorts, longs),
+        None => false,
+    }
+}
+
+/// Whether the item at a place is a key with the name of that at another.
+fn is_of_name(items: &[Arg], owner: usize, place: usize) -> bool
+    ensures { result ≡ shares_name items.now owner place }
+{
+    match items.get(owner) {
+        Some(Arg::Short(c, _, _)) => is_named_at(items, place, slice::from_ref(c), &[]),
+        Some(Arg::Long(name, _, _)) => is_named_at(items, place, &[], slice::from_ref(name)),
+        _ => is_named_at(items, place, &[], &[]),
+    }
+}
+
+/// Whether the bit of a place is set, or its item is no key with the name of another.
+fn is_passed(items: &[Arg], words: &[u64], owner: usize, place: usize) -> bool
+    requires { place < 64 * length words.now }
+    ensures { result ≡ (has_bit words.now place || not (shares_name items.now owner place)) }
+{
+    bits::is_set(words, place) || !is_of_name(items, owner, place)
+}
+
+/// Lets the chain of a place's class begin no later than there, nor its cursor stand later.
 pub(crate) fn reach_back(chains: &mut Option<Chains>, place: usize)
     requires { IfSome chains.old (λ c. place < length c.classes) }
     ensures { IfChained (ReachBack place) chains.old chains.new }

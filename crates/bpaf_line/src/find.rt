@@ -1,14 +1,15 @@
 //! The first key with one of some names, found along the chains of those names.
-ghost use Rattle.std.specs.Prelude.{◌≡◌, ◌≤◌, [], ◌∷◌, IfSome, MatchOption, length, map};
+ghost use Rattle.std.specs.Prelude.{◌≡◌, ◌≤◌, [], IfSome, MatchOption, length};
 ghost use Rattle.bpaf_words.specs.Items.{is_argument_key};
-ghost use Rattle.bpaf_line.specs.Chained.{AreChainsOf, text_number};
-ghost use Rattle.bpaf_line.specs.Finding.{IsFirstAmong};
+ghost use Rattle.bpaf_line.specs.Chained.{AreChainsOf};
+ghost use Rattle.bpaf_line.specs.Finding.{IsFirstAmong, IsFirstAlong};
 ghost use Rattle.bpaf_line.specs.Taking.{is_match, HasNone, IsFirst};
 
 use crate::chains::{Chains, text_number};
 use crate::state::State;
 use bpaf_doc::Text;
 use bpaf_words::is_argument_key;
+use std::slice;
 
 /// A scope with no more places from the first present one on is narrow: to look at all of them costs
 /// less than a walk along chains that begin in front of it.
@@ -51,8 +52,7 @@ impl State {
         self.chains.as_ref()
     }
 
-    /// The first such key with a number that is that of a short name; the scope's end, where there is
-    /// none.
+    /// The first such key with one of the short names; the scope's end, where there is none.
     fn first_short_key(
         &self,
         chains: &Chains,
@@ -63,17 +63,18 @@ impl State {
         requires { AreChainsOf self.now chains.now }
         ensures { IsFirstAmong
             (is_argument_key (record { shorts = shorts.now; longs = longs.now }) adjacent)
-            shorts.now self.now self.now.end result }
+            (record { shorts = shorts.now; longs = [] }) self.now self.now.end result }
     {
+        let items = self.items.as_slice();
         let mut place = self.end;
         for short in shorts {
-            place = self.first_numbered(chains, *short as usize, place, shorts, longs, adjacent);
+            let start = chains.start(items, *short as usize, slice::from_ref(short), &[]);
+            place = self.first_along(chains, start, place, shorts, longs, adjacent);
         }
         place
     }
 
-    /// The first such key below a place with a number that is that of a long name; that place, where
-    /// there is none.
+    /// The first such key below a place with one of the long names; that place, where there is none.
     fn first_long_key(
         &self,
         chains: &Chains,
@@ -86,21 +87,24 @@ impl State {
         requires inside { end ≤ length self.now.context.line }
         ensures { IsFirstAmong
             (is_argument_key (record { shorts = shorts.now; longs = longs.now }) adjacent)
-            (map (text_number 0) longs.now) self.now end result }
+            (record { shorts = []; longs = longs.now }) self.now end result }
     {
+        let items = self.items.as_slice();
         let mut place = end;
         for long in longs {
             let number = text_number(long.as_str());
-            place = self.first_numbered(chains, number, place, shorts, longs, adjacent);
+            let start = chains.start(items, number, &[], slice::from_ref(long));
+            place = self.first_along(chains, start, place, shorts, longs, adjacent);
         }
         place
     }
 
-    /// The first such key below a place with this number; that place, where there is none.
-    fn first_numbered(
+    /// The first such key below a place, along the chain from another on; that place, where there is
+    /// none.
+    fn first_along(
         &self,
         chains: &Chains,
-        number: usize,
+        start: usize,
         end: usize,
         shorts: &[char],
         longs: &[Text],
@@ -108,11 +112,11 @@ impl State {
     ) -> usize
         requires chains { AreChainsOf self.now chains.now }
         requires inside { end ≤ length self.now.context.line }
-        ensures { IsFirstAmong
+        ensures { IsFirstAlong
             (is_argument_key (record { shorts = shorts.now; longs = longs.now }) adjacent)
-            (number ∷ []) self.now end result }
+            self.now chains.now.classes start end result }
     {
-        let mut place = chains.head(number);
+        let mut place = start;
         while place < end {
             if self.is_key_at(place, shorts, longs, adjacent) {
                 return place;

@@ -324,7 +324,7 @@ impl State {
         let _ = self.trail.push(place);
         self.left -= usize::from(lies_within(place, self.start, self.end));
         self.first = bits::first_clear(&self.words, self.first, self.end);
-        chains::pass(&mut self.chains, &self.words, place);
+        chains::pass(&mut self.chains, self.items.as_slice(), &self.words, place);
     }
 
     /// The text of the place after a key, where that is present, in scope, and a Word or an

@@ -1,5 +1,5 @@
 use Rattle.std.proofs.Common.{◌≡◌, length, ap, ◌∙◌, refl, None, ◌-◌, option_to_list, subst, All}
-use Rattle.std.proofs.Common.{IsUtf8, is_some, arith, IfSome, map}
+use Rattle.std.proofs.Common.{IsUtf8, is_some, arith, IfSome, false}
 use Rattle.std.specs.Int.{from_bool}
 use Rattle.bpaf_words.specs.Arguments.{env_of, name_of}
 use Rattle.bpaf_words.specs.Spelling.{known_at}
@@ -8,7 +8,7 @@ use Rattle.bpaf_words.proofs.Fronts.{marker_of_line}
 use Rattle.bpaf_line.specs.Situation.{Context, beginning}
 use Rattle.bpaf_line.specs.declared.state.State.TheInside.{Inside}
 use Rattle.bpaf_line.specs.Bits.{IsFirstClear}
-use Rattle.bpaf_line.specs.Chained.{class_in}
+use Rattle.bpaf_line.specs.Chained.{AreBehind}
 use Rattle.bpaf_line.specs.Inside.{situation_of}
 use Rattle.bpaf_line.proofs.Beginning.{sound_beginning, begins}
 use Rattle.bpaf_line.proofs.state.State.construct_by.Goals as goal
@@ -69,10 +69,8 @@ invariant_of-result c =
     (subst (λ words. IsFirstClear words 0 n c.first_clear-first.result) c.deref.ensures.value
     (subst (λ m. IsFirstClear c.deref.result.now 0 m c.first_clear-first.result)
     (size c) c.first_clear-first.ensures))
-    (subst (λ items. IfSome c.in_ok-chains.chains
-    (λ chains. chains.classes ≡ map (class_in
-    (length chains.heads)) items)) c.deref-2.ensures.value c.in_ok-chains.ensures.classes)
-    c.in_ok-chains.ensures.heads c.nothing.ensures
+    (subst (λ items. IfSome c.in_ok-chains.chains (AreBehind items (λ p. false)))
+    c.deref-2.ensures.value c.in_ok-chains.ensures) c.nothing.ensures
 
 pub returns-clause-texts : goal.returns-clause-texts
 returns-clause-texts c = subst (All IsUtf8) c.words.ensures c.in_ok-line.ensures.texts

@@ -1,10 +1,9 @@
-use Rattle.std.proofs.Common.{take, map}
+use Rattle.std.proofs.Common.{take, []}
 use Rattle.bpaf_words.specs.Items.{is_argument_key}
-use Rattle.bpaf_line.specs.Chained.{text_number}
 use Rattle.bpaf_line.specs.Finding.{IsFirstAmong}
 use Rattle.bpaf_line.proofs.state.State.first_long_key.Given as goal
 
 abbrev pub invariant-loop-long : goal.invariant-loop-long
 invariant-loop-long l =
     IsFirstAmong (is_argument_key (record { shorts = l.shorts; longs = l.longs }) l.adjacent)
-    (map (text_number 0) (take l.long-index l.longs)) l.self l.end l.place
+    (record { shorts = []; longs = take l.long-index l.longs }) l.self l.end l.place

@@ -1,8 +1,10 @@
-use Rattle.std.proofs.Common.{◌++◌, ◌∷◌, [], ◌∙◌, ap, sym, subst, take}
+use Rattle.std.proofs.Common.{◌++◌, ◌∷◌, [], ◌∙◌, ap, sym, subst, take, false, length}
 use Rattle.std.proofs.lemmas.List.{take_more}
+use Rattle.bpaf_words.specs.declared.arg.Arg.TheVariants.{Short}
 use Rattle.bpaf_words.specs.Items.{is_argument_key}
+use Rattle.bpaf_line.specs.Chained.{name_number, class_of, IsStart}
 use Rattle.bpaf_line.specs.Finding.{IsFirstAmong}
-use Rattle.bpaf_line.proofs.Finding.{among_more}
+use Rattle.bpaf_line.proofs.Finding.{among_more, first_named}
 use Rattle.bpaf_line.proofs.state.State.first_short_key.Goals as goal
 
 pub loop-short-preserved : goal.loop-short-preserved
@@ -14,9 +16,21 @@ loop-short-preserved c =
     }) c.args.adjacent in
     let shorts = c.args.shorts.now in
     let i = c.loop-short.short-index in
-    let number = c.short-item.result in
-    subst (λ ns. IsFirstAmong test ns c.args.self.now c.args.self.now.end
-    c.first_numbered-place.result) (sym (take_more shorts i number c.loop-short-test.true
+    let name = c.short-item.result in
+    let key = Short name false [] in
+    let s = c.args.self.now in
+    let chains = c.args.chains.now in
+    let class = class_of (length chains.heads) (name_number key) in
+    let line = c.as_slice-items.ensures.value ∙ ap (λ t. t.context.line) c.self.view_is in
+    let begins = subst (λ ns. IsStart s.context.line (record { shorts = ns; longs = [] }) chains class c.start-start.result)
+    c.from_ref.ensures.value (subst (λ items. IsStart items (record { shorts = c.from_ref.result.now; longs = [] }) chains class
+    c.start-start.result) line c.start-start.ensures) in
+    subst (λ ns. IsFirstAmong test (record { shorts = ns; longs = [] }) s s.end
+    c.first_along-place.result) (sym (take_more shorts i name c.loop-short-test.true
     ∙ ap (λ n. take i shorts ++ n ∷ []) (sym c.short-item.is)))
-    (among_more test (take i shorts) number c.args.self.now c.args.self.now.end c.loop-short.place
-    c.first_numbered-place.result c.loop-short.invariant c.first_numbered-place.ensures)
+    (among_more test (record { shorts = take i shorts; longs = [] })
+    (record { shorts = name ∷ []; longs = [] }) s s.end c.loop-short.place
+    c.first_along-place.result c.loop-short.invariant
+    (first_named test s chains key c.start-start.result
+    c.loop-short.place c.first_along-place.result c.requires begins
+    c.first_along-place.ensures))

@@ -1,4 +1,4 @@
-use Rattle.std.proofs.Common.{take}
+use Rattle.std.proofs.Common.{take, []}
 use Rattle.bpaf_words.specs.Items.{is_argument_key}
 use Rattle.bpaf_line.specs.Finding.{IsFirstAmong}
 use Rattle.bpaf_line.proofs.state.State.first_short_key.Given as goal
@@ -6,4 +6,4 @@ use Rattle.bpaf_line.proofs.state.State.first_short_key.Given as goal
 abbrev pub invariant-loop-short : goal.invariant-loop-short
 invariant-loop-short l =
     IsFirstAmong (is_argument_key (record { shorts = l.shorts; longs = l.longs }) l.adjacent)
-    (take l.short-index l.shorts) l.self l.self.end l.place
+    (record { shorts = take l.short-index l.shorts; longs = [] }) l.self l.self.end l.place

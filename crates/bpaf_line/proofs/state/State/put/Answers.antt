@@ -1,18 +1,31 @@
-use Rattle.std.proofs.Common.{◌∙◌, ◌-◌, ap, sym, subst, true}
+use Rattle.std.proofs.Common.{◌∙◌, ◌-◌, ap, sym, subst, true, IfSome}
 use Rattle.std.specs.Int.{from_bool}
 use Rattle.std.proofs.lemmas.List.{with_items_is}
-use Rattle.bpaf_line.specs.Bits.{ChangesBit, IsFirstClear}
-use Rattle.bpaf_line.specs.Chained.{IfChained, HavePassed}
+use Rattle.std.specs.Rc.{rc_slice_items}
+use Rattle.bpaf_line.specs.Bits.{has_bit, ChangesBit, IsFirstClear}
+use Rattle.bpaf_line.specs.Chained.{AreBehind}
 use Rattle.bpaf_line.specs.Inside.{situation_of}
 use Rattle.bpaf_line.specs.Situation.{is_taken, with_trail}
 use Rattle.bpaf_line.proofs.Places.{put}
-use Rattle.bpaf_line.proofs.Sound.{sound_put, left_enough, pushed_place}
+use Rattle.bpaf_line.proofs.Sound.{sound_put, behind_put, left_enough, pushed_place}
 use Rattle.bpaf_line.proofs.state.State.put.Goals as goal
 
 pub overflow_sub-self : goal.overflow_sub-self
 overflow_sub-self c = left_enough c.self.inside c.args.place c.from.result c.self.invariant
     (ap (λ s. is_taken s c.args.place) c.self.view_is ∙ c.requires)
     (c.from.ensures ∙ ap from_bool c.lies_within.ensures)
+
+pub pass-requires-clause-behind : goal.pass-requires-clause-behind
+pass-requires-clause-behind c =
+    let s = c.self.inside in
+    let changed = subst (λ old.
+    ChangesBit old c.set.new.words c.args.place true) c.deref_mut.ensures.value c.set.ensures in
+    let written = with_items_is s.words c.set.new.words (changed.kept ∙ sym s.words.ok.0) in
+    subst (λ items. IfSome s.chains (AreBehind items (has_bit c.deref-2.result.now)))
+    (sym c.as_slice.ensures.value)
+    (subst (λ words. IfSome s.chains (AreBehind (rc_slice_items s.items) (has_bit words)))
+    (sym (c.deref-2.ensures.value ∙ written))
+    (behind_put s c.args.place c.set.new.words c.self.invariant changed))
 
 pub invariant_of-self : goal.invariant_of-self
 invariant_of-self c =
@@ -28,8 +41,10 @@ invariant_of-self c =
     (ap (λ n. s.left - n) (c.from.ensures ∙ ap from_bool c.lies_within.ensures))
     (subst (λ words. IsFirstClear words s.first s.end c.first_clear-self-inside.result)
     (c.deref.ensures.value ∙ written) c.first_clear-self-inside.ensures)
-    (subst (λ words. IfChained (HavePassed words) s.chains c.pass.new.chains)
-    (c.deref-2.ensures.value ∙ written) c.pass.ensures)
+    (subst (λ words. IfSome c.pass.new.chains (AreBehind (rc_slice_items s.items) (has_bit words)))
+    (c.deref-2.ensures.value ∙ written)
+    (subst (λ items. IfSome c.pass.new.chains (AreBehind items (has_bit c.deref-2.result.now)))
+    c.as_slice.ensures.value c.pass.ensures))
 
 pub returns : goal.returns
 returns c =

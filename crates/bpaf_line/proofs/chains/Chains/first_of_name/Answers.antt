@@ -1,0 +1,18 @@
+use Rattle.std.proofs.Common.{◌∙◌, ◌||◌, sym, arith, not}
+use Rattle.bpaf_line.specs.Bits.{has_bit}
+use Rattle.bpaf_line.specs.Chained.{shares_name}
+use Rattle.bpaf_line.proofs.Chained.{walked_none, walked_more}
+use Rattle.bpaf_line.proofs.chains.Chains.first_of_name.Goals as goal
+
+pub loop-place-init : goal.loop-place-init
+loop-place-init c = walked_none c.args.self.now.classes
+    (λ p. has_bit c.args.words.now p || not (shares_name c.args.items.now c.args.owner p))
+    c.args.from
+
+pub loop-place-preserved : goal.loop-place-preserved
+loop-place-preserved c =
+    walked_more c.args.self.now.classes
+    (λ p. has_bit c.args.words.now p || not (shares_name c.args.items.now c.args.owner p))
+    c.args.from c.loop-place.place c.after-place.result c.loop-place.invariant
+    (omega (arith, c.loop-place-test.true, c.len.ensures))
+    (sym c.is_passed.ensures ∙ c.if-is_passed.true) c.after-place.ensures

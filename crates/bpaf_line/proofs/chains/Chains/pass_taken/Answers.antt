@@ -1,0 +1,35 @@
+use Rattle.std.proofs.Common.{ap, sym, subst, arith, length}
+use Rattle.bpaf_line.specs.Bits.{has_bit}
+use Rattle.bpaf_line.specs.Chained.{IsPlaceOf, HasWalked, AreBehind}
+use Rattle.bpaf_line.proofs.Chained.{linked_passed, behind_passed_read}
+use Rattle.bpaf_line.proofs.chains.Chains.pass_taken.Goals as goal
+
+pub invariant_of-self : goal.invariant_of-self
+invariant_of-self c =
+    linked_passed c.self.inside c.as_slice.result.now c.args.place c.index.result.now
+    c.first_clear-head.result c.self.invariant c.as_slice.ensures.value
+    (omega (
+      arith,
+      ap (λ t.
+          length t.classes) c.self.view_is,
+      c.requires.within,
+    )) c.index.ensures
+    (λ k. subst (λ t. IsPlaceOf t.classes k c.index.result.now
+    → IsPlaceOf t.classes k c.first_clear-head.result) (sym c.self.view_is)
+    (c.first_clear-head.ensures.same k))
+
+pub returns-clause-behind : goal.returns-clause-behind
+returns-clause-behind c =
+    behind_passed_read c.self.inside c.args.items.now (has_bit c.args.words.now)
+    c.as_slice.result.now c.args.place c.index.result.now c.first_clear-head.result c.self.invariant
+    c.as_slice.ensures.value
+    (omega (
+      arith,
+      ap (λ t.
+          length t.classes) c.self.view_is,
+      c.requires.within,
+    )) c.index.ensures
+    (subst (AreBehind c.args.items.now (has_bit c.args.words.now)) (sym c.self.view_is)
+    c.requires.behind)
+    (subst (λ t. HasWalked t.classes (has_bit c.args.words.now) c.index.result.now
+    c.first_clear-head.result) (sym c.self.view_is) c.first_clear-head.ensures)

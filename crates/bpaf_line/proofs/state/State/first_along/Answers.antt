@@ -1,0 +1,32 @@
+use Rattle.std.proofs.Common.{◌∙◌, ap, sym, arith, length, not}
+use Rattle.bpaf_words.specs.Items.{is_argument_key}
+use Rattle.bpaf_line.proofs.Chained.{classes_size, walked_none, walked_more}
+use Rattle.bpaf_line.proofs.Finding.{first_along}
+use Rattle.bpaf_line.proofs.state.State.first_along.Goals as goal
+
+pub loop-place-init : goal.loop-place-init
+loop-place-init c = walked_none c.args.chains.now.classes _ c.args.start
+
+pub loop-place-preserved : goal.loop-place-preserved
+loop-place-preserved c =
+    let chains = c.args.chains.now in
+    walked_more chains.classes _ c.args.start c.loop-place.place c.after-place.result
+    c.loop-place.invariant
+    (omega (
+      arith,
+      classes_size c.args.self.now.context.line chains.classes
+          (length chains.heads) c.requires.chains.classes,
+      c.loop-place-test.true,
+      c.requires.inside,
+    ))
+    (ap not (sym c.is_key_at.ensures ∙ c.if-is_key_at.false)) c.after-place.ensures
+
+pub returns-then-is_key_at : goal.returns-then-is_key_at
+returns-then-is_key_at c =
+    first_along (is_argument_key (record {
+      shorts = c.args.shorts.now;
+      longs = c.args.longs.now;
+    }) c.args.adjacent) c.args.self.now c.args.chains.now.classes c.args.start c.args.end
+    c.loop-place.place c.loop-place.place c.loop-place.invariant (omega arith)
+    (omega (arith, c.loop-place-test.true))
+    (λ below. sym c.is_key_at.ensures ∙ c.if-is_key_at.true)
