@@ -1,5 +1,5 @@
 -- How the answers of a run are put together.
-use Rattle.std.proofs.Common.{◌≡◌, ◌==◌, ℕ, ◌<◌, Bool, true, false, List, [], ◌∷◌, ◌++◌, Option, Result, Ok, Err, ⊎_elim, ◌∙◌, inl, inr, subst, sym, refl}
+use Rattle.std.proofs.Common.{◌≡◌, ◌==◌, ℕ, ◌<◌, Bool, true, false, List, [], ◌∷◌, ◌++◌, Option, IfSome, length, ap, Result, Ok, Err, ⊎_elim, ◌∙◌, inl, inr, subst, sym, refl}
 use Rattle.std.proofs.lemmas.Bool.Decides.{nat_tests}
 use Rattle.std.proofs.Common.{arith}
 use Rattle.bpaf_line.specs.declared.error.Message.{Message}
@@ -7,18 +7,22 @@ use Rattle.bpaf_line.specs.declared.error.Message.TheVariants.{Memory, Ambiguity
 use Rattle.bpaf_line.specs.declared.failure.ParseFailure.{ParseFailure}
 use Rattle.bpaf_line.specs.declared.failure.ParseFailure.TheVariants as failure
 use Rattle.bpaf_line.specs.Situation.{Situation, Context, beginning}
-use Rattle.bpaf_line.specs.Constructing.{Constructs, IsContext, RefusesLine}
+use Rattle.bpaf_line.specs.Constructing.{Constructs, message_of}
 use Rattle.bpaf_laws.specs.Reading.{Outcome}
 use Rattle.bpaf_doc.specs.Shape.{Shape}
 use Rattle.bpaf_parts.specs.Info.{RunInfo}
-use Rattle.bpaf_core.specs.Known.{known_names, ShowsNames, ReadsNames, IsLineContext}
+use Rattle.bpaf_core.specs.Known.{known_names, ReadsLineOf, ShowsNames, Starts}
 use Rattle.bpaf_words.specs.Arguments.{Given}
 use Rattle.bpaf_words.specs.declared.arg.Arg.{Arg}
 use Rattle.std.specs.List.{AllZip}
 use Rattle.std.specs.Prelude.{codes, flat_map}
-use Rattle.bpaf_words.specs.Line.{HasNoLine, HaveNoJoined, IsLine, marked, unmarked}
-use Rattle.bpaf_words.specs.Spelling.{ShortNames, Items, Known, Spells, known_at}
-use Rattle.bpaf_words.proofs.NotJoined.{line_alone, never_without_line}
+use Rattle.bpaf_words.specs.Line.{HasNoLine, IsLine, marked, unmarked}
+use Rattle.bpaf_words.specs.Spelling.{Items, Known, Spells, known_at}
+use Rattle.bpaf_words.proofs.Fronts.{marker_of_line}
+use Rattle.bpaf_words.specs.Splitting.{IsLineByAny, ReadsLine}
+use Rattle.bpaf_words.specs.declared.line.Line.{Line}
+use Rattle.bpaf_words.specs.declared.line.LineFault.{LineFault}
+use Rattle.bpaf_words.specs.declared.line.LineFault.TheVariants as fault
 use Rattle.bpaf_messages.specs.Rendering.{Renders}
 use Rattle.bpaf_core.specs.Ending.{EndsRun, TellsFault}
 use Rattle.bpaf_core.specs.Run.{Runs, RunsWords, ran, no_line, no_memory}
@@ -38,32 +42,97 @@ known_are : (describes : Shape → Type 0) (info : RunInfo) (flags arguments : L
     ≡ known_names info n.shape
 known_are describes info flags arguments n = rw (n.flags_are, n.arguments_are) refl
 
--- the line of words of which none is joined is their line whatever names are known
-whatever_known : (numbers : Bool) (names : ShortNames) (given : Given) (context : Context)
-    → HaveNoJoined numbers given.words → IsContext (known_at numbers names) given context
-    → (others : ShortNames) → IsContext (known_at numbers others) given context
-whatever_known numbers names given context alone is others = record {
-  is_line =
-      line_alone numbers given.words alone names others context.line context.marker is.is_line;
-  env = is.env;
-  name = is.name;
-}
-
--- the context that the words made, by the names that they were read by
-made_context : {describes : Shape → Type 0} {info : RunInfo} (given : Given) (flags arguments : List ℕ)
-    (context : Context) → ReadsNames describes info given.words flags arguments
-    → IsContext (known_at info.numbers (record { flags = flags; arguments = arguments })) given
-    context
-    → IsLineContext describes info given context
-made_context {info = info} given flags arguments context names is = ⊎_elim
-    (λ shows. inl (
+-- what was read by names that are shown was read by the known ones
+pub read_by_shown : (describes : Shape → Type 0) (info : RunInfo) (words : List (List ℕ))
+    (numbers : Bool) (flags arguments : List ℕ) (result : Result Line LineFault)
+    → numbers ≡ info.numbers → ShowsNames describes info flags arguments
+    → ReadsLine (known_at numbers (record { flags = flags; arguments = arguments })) words result
+    → ReadsLineOf describes info words result
+read_by_shown describes info words numbers flags arguments (Ok line) setting shows is = inl (
+  shows.shape,
+  shows.shown,
+  subst (λ known. IsLine known words line.items.items line.marker)
+      (ap (λ n. known_at n (record { flags = flags; arguments = arguments })) setting
+      ∙ known_are describes info flags arguments shows) is,
+)
+read_by_shown describes info words numbers flags arguments (Err (fault.Ambiguous word number)) setting
+    shows lacks = (
       shows.shape,
       shows.shown,
-      subst (λ known. IsContext known given context) (known_are _ _ flags arguments shows) is,
-    ))
-    (λ alone. inr (whatever_known info.numbers (record { flags = flags; arguments = arguments })
-    given context alone is))
-    names
+      subst (λ known. HasNoLine known words word number)
+          (ap (λ n. known_at n (record { flags = flags; arguments = arguments })) setting
+          ∙ known_are describes info flags arguments shows) lacks,
+    )
+read_by_shown describes info words numbers flags arguments (Err fault.Memory) setting shows none = tt
+
+-- the line that was read whatever names are known is the words' line
+pub read_by_any : (describes : Shape → Type 0) (info : RunInfo) (words : List (List ℕ))
+    (numbers : Bool) (line : Line) → numbers ≡ info.numbers → IsLineByAny numbers words line
+    → ReadsLineOf describes info words (Ok line)
+read_by_any describes info words numbers line setting is =
+    inr (subst (λ n. IsLineByAny n words line) setting is)
+
+-- the marker of a line that was read lies in it
+pub marker_within : (describes : Shape → Type 0) (info : RunInfo) (words : List (List ℕ))
+    (line : Line) → ReadsLineOf describes info words (Ok line)
+    → IfSome line.marker (λ p. p < length line.items.items)
+marker_within describes info words line reads = ⊎_elim
+    (λ shown. marker_of_line (known_names info shown.0) words line.items.items line.marker shown.2)
+    (λ by_any. marker_of_line (known_at info.numbers (record { flags = []; arguments = [] })) words
+    line.items.items line.marker (by_any (record { flags = []; arguments = [] })))
+    reads
+
+-- a run starts at the beginning of the line that was read
+pub starts_at : (describes : Shape → Type 0) (info : RunInfo) (given : Given)
+    (words : List (List ℕ)) (line : Line) (s : Situation) → words ≡ given.words
+    → ReadsLineOf describes info words (Ok line) → s ≡ beginning (record {
+      line = line.items.items;
+      marker = line.marker;
+      env = given.env;
+      name = given.name;
+    })
+    → Starts describes info given (Ok s)
+starts_at describes info given words line s same reads begun = (
+  record {
+    line = line.items.items;
+    marker = line.marker;
+    env = given.env;
+    name = given.name;
+  },
+  ⊎_elim
+      (λ shown. inl (
+        shown.0,
+        shown.1,
+        record {
+          is_line = subst (λ xs. IsLine (known_names info shown.0) xs line.items.items line.marker)
+              same shown.2;
+          env = refl;
+          name = refl;
+        },
+      ))
+      (λ by_any. inr (λ names. record {
+        is_line = subst (λ xs. IsLine (known_at info.numbers names) xs line.items.items line.marker)
+            same (by_any names);
+        env = refl;
+        name = refl;
+      }))
+      reads,
+  begun,
+)
+
+-- a run over words whose line couldn't be read doesn't start
+pub starts_not : (describes : Shape → Type 0) (info : RunInfo) (given : Given)
+    (words : List (List ℕ)) (f : LineFault) (m : Message) → words ≡ given.words
+    → ReadsLineOf describes info words (Err f) → m ≡ message_of f
+    → Starts describes info given (Err m)
+starts_not describes info given words (fault.Ambiguous word number) m same lacks is =
+    subst (λ x. Starts describes info given (Err x)) (sym is) (
+      lacks.0,
+      lacks.1,
+      subst (λ xs. HasNoLine (known_names info lacks.0) xs word number) same lacks.2,
+    )
+starts_not describes info given words fault.Memory m same none is =
+    subst (λ x. Starts describes info given (Err x)) (sym is) tt
 
 -- no words have the empty line
 no_words : (known : Known) (line : List Arg) (marker : Option ℕ) → IsLine known [] line marker
@@ -100,53 +169,27 @@ fault_told known given name s none named made m f told = inr (
 module _ {T : Type 0} {inner : Outcome T} {describes : Shape → Type 0} {info : RunInfo} (given : Given)
   where
     -- a run from the state that the words made
-    pub started : (flags arguments : List ℕ) (s : Situation) (r : Result T ParseFailure)
-        (t : Situation) → ReadsNames describes info given.words flags arguments
-        → Constructs (known_at info.numbers (record { flags = flags; arguments = arguments })) given
-        (Ok s)
-        → Runs T inner (EndsRun describes info) s r t → RunsWords T inner describes info given r
-    started flags arguments s r t names made run =
-        ran made.0 r t (made_context given flags arguments made.0 names made.1)
-        (subst (λ from. Runs T inner (EndsRun describes info) from r t) made.2 run)
-
-    -- words that have no line by the names that they were read by have none by those that are shown
-    line_lacks : (flags arguments : List ℕ) (word : List ℕ) (number : ℕ) (context : Context)
-        (f : ParseFailure) → ReadsNames describes info given.words flags arguments
-        → HasNoLine (known_at info.numbers (record { flags = flags; arguments = arguments }))
-        given.words word number
-        → context.line ≡ [] → context.name ≡ given.name
-        → Renders (Ambiguity word number) (beginning context) f
-        → RunsWords T inner describes info given (Err f)
-    line_lacks flags arguments word number context f names lacks empty named told = ⊎_elim
-        (λ shows. no_line shows.shape word number context f shows.shown
-        (subst (λ known. HasNoLine known given.words word number)
-        (known_are describes info flags arguments shows) lacks) empty named told)
-        (λ alone. absurd (never_without_line
-        (known_at info.numbers (record { flags = flags; arguments = arguments })) given.words alone
-        word number lacks))
-        names
+    pub started : (s : Situation) (r : Result T ParseFailure) (t : Situation)
+        → Starts describes info given (Ok s) → Runs T inner (EndsRun describes info) s r t
+        → RunsWords T inner describes info given r
+    started s r t starts run = ran starts.0 r t starts.1
+        (subst (λ from. Runs T inner (EndsRun describes info) from r t) starts.2 run)
 
     -- words without a line, or no memory for it
-    pub line_refused : (flags arguments : List ℕ) (m : Message) (f : ParseFailure)
-        → ReadsNames describes info given.words flags arguments
-        → RefusesLine (known_at info.numbers (record { flags = flags; arguments = arguments }))
-        given.words m
+    pub line_refused : (m : Message) (f : ParseFailure) → Starts describes info given (Err m)
         → TellsFault given.name m f → RunsWords T inner describes info given (Err f)
-    line_refused flags arguments m f names refuses tells = ⊎_elim
+    line_refused m f refuses tells = ⊎_elim
         (λ (wanted : f ≡ failure.Memory).
         subst (λ x. RunsWords T inner describes info given (Err x)) (sym wanted) no_memory)
-        (λ told. told_line flags arguments m f names refuses told.0 told.1 told.2 told.3)
+        (λ told. told_line m f refuses told.0 told.1 told.2 told.3)
         tells
       where
         -- a message of the line is told
-        told_line : (flags arguments : List ℕ) (m : Message) (f : ParseFailure)
-            → ReadsNames describes info given.words flags arguments
-            → RefusesLine (known_at info.numbers (record { flags = flags; arguments = arguments }))
-            given.words m
+        told_line : (m : Message) (f : ParseFailure) → Starts describes info given (Err m)
             → (context : Context) → context.line ≡ [] → context.name ≡ given.name
             → Renders m (beginning context) f → RunsWords T inner describes info given (Err f)
-        told_line flags arguments Memory f names refuses context empty named told =
+        told_line Memory f refuses context empty named told =
             subst (λ x. RunsWords T inner describes info given (Err x)) (sym told) no_memory
-        told_line flags arguments (Ambiguity word number) f names refuses context empty named told =
-            line_lacks flags arguments word number context f names refuses empty named told
-        told_line flags arguments other f names refuses context empty named told = absurd refuses
+        told_line (Ambiguity word number) f refuses context empty named told =
+            no_line refuses.0 word number context f refuses.1 refuses.2 empty named told
+        told_line other f refuses context empty named told = absurd refuses

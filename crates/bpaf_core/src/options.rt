@@ -4,10 +4,8 @@ ghost use Rattle.bpaf_doc.specs.declared.doc.Piece.{Piece};
 ghost use Rattle.bpaf_doc.specs.Prints.{Prints};
 ghost use Rattle.bpaf_doc.specs.Shape.{Shape};
 ghost use Rattle.bpaf_pages.specs.Usage.{usage_text};
-ghost use Rattle.bpaf_words.specs.Arguments.{given_of, name_of, words_of};
-ghost use Rattle.bpaf_words.specs.Spelling.{known_at};
-ghost use Rattle.bpaf_line.specs.Constructing.{Constructs};
-ghost use Rattle.bpaf_core.specs.Known.{ReadsNames, ShowsNames, TellsOrder};
+ghost use Rattle.bpaf_words.specs.Arguments.{given_of, name_of, words_in};
+ghost use Rattle.bpaf_core.specs.Known.{ReadsLineOf, ShowsNames, Starts, TellsOrder};
 ghost use Rattle.bpaf_core.specs.Dealt.{IsDealtOut};
 ghost use Rattle.bpaf_core.specs.Run.{IsNotWant, RunsWords};
 ghost use Rattle.bpaf_laws.specs.Spared.{WithoutMemory};
@@ -23,7 +21,7 @@ use bpaf_messages::render;
 use bpaf_pages::usage_of;
 use bpaf_parts::{Info, renamed};
 use bpaf_text::NamedArg;
-use bpaf_words::{Args, any_joined};
+use bpaf_words::{Args, Front, Line, LineFault, Words};
 use std::alloc::{AllocError, Global};
 use std::marker::PhantomData;
 
@@ -226,44 +224,34 @@ impl<T: Drop, P: Parser<T>> OptionParser<T, P> {
             RunsWords T (WithoutMemory (P.outcome self.now.inner)) (P.describes self.now.inner)
             self.now.info (given_of args.entry) result }
     {
-        let Ok((flags, arguments)) = self.names_for(args) else {
-            return Err(ParseFailure::Memory);
-        };
-        match self.construct(args, &flags, &arguments) {
+        match self.construct(args) {
             Ok(mut state) => Run::new(&self.inner, &self.info, self.alloc).run_from(&mut state),
             Err(message) => Err(tell_fault(self.alloc, args, message)),
         }
     }
 
-    /// The state at the beginning of the words' line, in which numbers are words by the setting.
-    fn construct(
-        &self,
-        args: Args<'_>,
-        flags: &[char],
-        arguments: &[char],
-    ) -> Result<State, Message>
-        ensures { Constructs (known_at self.now.info.numbers
-            (record { flags = flags.now; arguments = arguments.now }))
-            (given_of args.entry) result }
+    /// The state at the beginning of the words' line.
+    fn construct(&self, args: Args<'_>) -> Result<State, Message>
+        requires { P.can_eval self.now.inner }
+        ensures { Starts (P.describes self.now.inner) self.now.info (given_of args.entry) result }
     {
-        if self.info.numbers {
-            State::construct_numbers(self.alloc, args, flags, arguments)
-        } else {
-            State::construct(self.alloc, args, flags, arguments)
-        }
+        let line = self.line(args.words())?;
+        Ok(State::of_line(self.alloc, args, line)?)
     }
 
-    /// The short names by which the words are read: the known ones, where a word is joined letters;
-    /// else none, since they don't count.
-    fn names_for(&self, args: Args<'_>) -> Result<(Vec<char>, Vec<char>), AllocError>
+    /// The line of the words: by the known short names, where a word is joined letters; else it is the
+    /// same whatever names are known, and the parser isn't asked for them.
+    fn line(&self, words: Words<'_>) -> Result<Line, LineFault>
         requires { P.can_eval self.now.inner }
-        ensures { IfOk result (λ r. ReadsNames (P.describes self.now.inner) self.now.info
-            (words_of args.entry) r.0.items r.1.items) }
+        ensures { ReadsLineOf (P.describes self.now.inner) self.now.info (words_in words.entry)
+            result }
     {
-        if any_joined(args.words(), self.info.numbers) {
-            return self.known_shorts();
+        let front = Front::new(self.alloc, words, self.info.numbers)?;
+        if front.is_whole(words) {
+            return Ok(front.line(self.alloc, words)?);
         }
-        Ok((Vec::new(self.alloc), Vec::new(self.alloc)))
+        let (flags, arguments) = self.known_shorts()?;
+        front.line_by(self.alloc, words, &flags, &arguments)
     }
 
     /// The known short names, by which joined words are read: those of the shown flags, of help and of

@@ -1,11 +1,12 @@
 //! How a state begins, and how it is copied.
 ghost use Rattle.std.specs.Prelude.{ℕ, ◌≡◌, ◌*◌, ◌<◌, ◌≤◌, length, IfOk, OnOk, IfSome, All, IsUtf8, map, option_map, option_to_list, string_bytes};
 ghost use Rattle.std.specs.Prelude.{true};
-ghost use Rattle.bpaf_words.specs.Arguments.{words_of, given_of, entries_of, env_entries};
+ghost use Rattle.bpaf_words.specs.Arguments.{words_of, given_of, name_of, env_of, entries_of};
+ghost use Rattle.bpaf_words.specs.Arguments.{env_entries};
 ghost use Rattle.bpaf_words.specs.Spelling.{knowing, known_at};
 ghost use Rattle.bpaf_line.specs.Constructing.{Constructs};
 ghost use Rattle.bpaf_line.specs.Bits.{has_bit};
-ghost use Rattle.bpaf_line.specs.Situation.{is_marker};
+ghost use Rattle.bpaf_line.specs.Situation.{is_marker, beginning};
 
 use crate::aside::Aside;
 use crate::bits;
@@ -13,7 +14,7 @@ use crate::chains::Chains;
 use crate::error::Message;
 use crate::state::State;
 use bpaf_doc::Text;
-use bpaf_words::{Args, line_of};
+use bpaf_words::{Args, Line, line_of};
 use std::alloc::{AllocError, Global};
 use std::collections::BTreeMap;
 use std::rc::RcSlice;
@@ -75,6 +76,23 @@ impl State {
             (given_of args.entry) result }
     {
         let line = line_of(alloc, args.words(), short_flags, short_args, numbers)?;
+        Ok(State::of_line(alloc, args, line)?)
+    }
+
+    /// The state at the beginning of a line, with the name and the environment that a run is given:
+    /// all of the line is present but the first `--`, the scope is the whole line, and the path is the
+    /// set name. bpaf has no such call.
+    ///
+    /// Refused only for want of memory.
+    pub fn of_line(alloc: Global, args: Args<'_>, line: Line) -> Result<State, AllocError>
+        requires { IfSome line.marker (λ p. p < length line.items.items) }
+        ensures { IfOk result (λ state. state ≡ beginning (record {
+          line = line.items.items;
+          marker = line.marker;
+          env = env_of args.entry;
+          name = name_of args.entry;
+        })) }
+    {
         let entries = copy_env(alloc, args.env())?;
         let end = line.items.len();
         let words = first_words(alloc, line.marker, end)?;

@@ -6,4 +6,3 @@ pub mod OneSpelling
 pub mod LineLemmas
 pub mod OneLine
 pub mod Fronts
-pub mod NotJoined

@@ -1,5 +1,5 @@
 -- From what the calls on text say to the cases of a spelling.
-use Rattle.std.proofs.Common.{◌≡◌, ◌≢◌, ◌==◌, ℕ, zero, suc, true, false, List, [], ◌∷◌, ◌++◌, length, refl, ap, sym, ◌∙◌, subst, arith, lit<, None, Some, Result, Ok, Err, encode_utf8, encode_utf8_all, IsUtf8}
+use Rattle.std.proofs.Common.{◌≡◌, ◌≢◌, ◌==◌, ℕ, zero, suc, Bool, true, false, List, [], ◌∷◌, ◌++◌, length, refl, ap, sym, ◌∙◌, subst, arith, lit<, Option, None, Some, IfOk, Result, Ok, Err, encode_utf8, encode_utf8_all, IsUtf8}
 use Rattle.std.specs.Str.Pattern.{FindsChar, FindsCharPrefix, StripsPrefix}
 use Rattle.std.specs.Borrow.{Bor}
 use Rattle.std.proofs.lemmas.Str.{encode_ascii, cons_from_encodes}
@@ -10,7 +10,9 @@ use Rattle.bpaf_words.specs.declared.arg.Arg.TheVariants.{Short, ArgWord}
 use Rattle.bpaf_words.specs.declared.split.SplitFault.{SplitFault}
 use Rattle.bpaf_words.specs.declared.split.SplitFault.TheVariants.{Ambiguous, Memory}
 use Rattle.bpaf_words.specs.Spelling.{ShortNames, Known, IsNumberWord, HasNoEquals, Spelling, Items, Ambiguous as NoItems, Spells, by_dash, SpellsByDash, SpellsJoined, short_value, short_long_value, joined}
-use Rattle.bpaf_words.specs.Splitting.{Answers, Splits, SplitsByDash, SplitsJoined}
+use Rattle.bpaf_words.specs.Splitting.{Answers, Splits, SplitsJoined, AreJoined}
+use Rattle.bpaf_words.specs.Splitting.{SplitsDashed, SplitsAlone, SpellsByAny}
+use Rattle.std.specs.declared.alloc.AllocError.{AllocError}
 
 -- a text in which no `=` was found has none
 pub no_equals : (bs : List ℕ) → FindsChar 61 bs None → HasNoEquals bs
@@ -47,29 +49,76 @@ answers_weaker P Q f old (Ok u) new a = (a.0, f (Items a.0) a.1, a.2)
 answers_weaker P Q f old (Err (Ambiguous n)) new a = f (NoItems n) a
 answers_weaker P Q f old (Err Memory) new a = a
 
--- an answer for joined letters is one for their word, given the characters after the first
-joined_by : (names : ShortNames) (word rest tail : List ℕ) (old : List Arg) (result : Result (Unit {0}) SplitFault) (new : List Arg) (c : ℕ) (fs : List ℕ) → word ≡ 45 ∷ rest → c ≢ 45
-    → length tail ≢ 0 → HasNoEquals tail → encode_utf8_all fs ≡ tail → rest ≡ encode_utf8_all (c ∷ fs)
-    → SplitsJoined names word rest old result new → SplitsByDash names word old result new
-joined_by names word rest tail old result new c [] w d t n f r s = absurd (t (ap length (sym f)))
-joined_by names word rest tail old result new c (g ∷ fs) w d t n f r s =
-    answers_weaker (SpellsJoined names word (c ∷ g ∷ fs)) (SpellsByDash names word) (λ x j. joined c g fs x (w ∙ ap (λ y. 45 ∷ y) r) d (subst HasNoEquals (sym f) n) j) old result new (s (c ∷ g ∷ fs) r)
+-- letters behind a dash are joined, given the characters after the first
+joined_by : (word rest tail : List ℕ) (c : ℕ) (fs : List ℕ) → word ≡ 45 ∷ rest → c ≢ 45
+    → length tail ≢ 0 → HasNoEquals tail → encode_utf8_all fs ≡ tail
+    → rest ≡ encode_utf8_all (c ∷ fs) → AreJoined word rest
+joined_by word rest tail c [] whole other some none is starts = absurd (some (ap length (sym is)))
+joined_by word rest tail c (d ∷ ds) whole other some none is starts = record {
+  first = c;
+  second = d;
+  others = ds;
+  word_is = whole;
+  letters_are = starts;
+  no_dash = other;
+  no_equals = subst HasNoEquals (sym is) none;
+}
 
--- an answer for the joined letters behind `-` is one for their word
-pub joined_word : (names : ShortNames) (word rest tail : List ℕ) (old : List Arg) (result : Result (Unit {0}) SplitFault) (new : List Arg) (c : ℕ) → IsUtf8 word → word ≡ 45 ∷ rest → rest ≡ encode_utf8 c ++ tail → c ≢ 45
-    → length tail ≢ 0 → HasNoEquals tail → SplitsJoined names word rest old result new → SplitsByDash names word old result new
-joined_word names word rest tail old result new c u w r d t n s =
-    let whole = cons_from_encodes u.0 rest 45 (u.1.1 ∙ (w ∙ ap (λ x. x ++ rest) (sym (encode_ascii 45 (lit< tt))))) in
-    let parts = cons_from_encodes whole.0 tail c (whole.2 ∙ r) in
-    joined_by names word rest tail old result new c parts.0 w d t n parts.2 (r ∙ ap (λ x. encode_utf8 c ++ x) (sym parts.2)) s
+-- two or more letters behind a dash, the first of them no dash, without an `=` behind it, are joined
+pub are_joined : (word rest tail : List ℕ) (c : ℕ) → IsUtf8 word → word ≡ 45 ∷ rest
+    → rest ≡ encode_utf8 c ++ tail → c ≢ 45 → length tail ≢ 0 → HasNoEquals tail
+    → AreJoined word rest
+are_joined word rest tail c text whole starts other some none =
+    let all = cons_from_encodes text.0 rest 45
+    (text.1.1 ∙ (whole ∙ ap (λ x. x ++ rest) (sym (encode_ascii 45 (lit< tt))))) in
+    let parts = cons_from_encodes all.0 tail c (all.2 ∙ starts) in
+    joined_by word rest tail c parts.0 whole other some none parts.2
+    (starts ∙ ap (λ x. encode_utf8 c ++ x) (sym parts.2))
 
--- an answer for a word that isn't a number that is a word is one by the setting
-pub other_than_number : (known : Known) (word : List ℕ) → ¬ (IsNumberWord known.numbers word)
-    → (old : List Arg) (result : Result (Unit {0}) SplitFault) (new : List Arg)
-    → SplitsByDash known.names word old result new → Splits known word old result new
-other_than_number known word none old result new answers =
-    answers_weaker (SpellsByDash known.names word) (Spells known word) (λ s a. by_dash s none a) old
-    result new answers
+-- an answer for joined letters is one for their word
+pub joined_word : (known : Known) (word letters : List ℕ) (old between : List Arg)
+    (result : Result (Unit {0}) SplitFault) (new : List Arg) → ¬ (IsNumberWord known.numbers word)
+    → AreJoined word letters → between ≡ old
+    → SplitsJoined known.names word letters between result new → Splits known word old result new
+joined_word known word letters old between result new other are same answers =
+    let characters = are.first ∷ are.second ∷ are.others in
+    answers_weaker (SpellsJoined known.names word characters) (Spells known word)
+    (λ s spelled. by_dash s other (joined are.first are.second are.others s
+    (are.word_is ∙ ap (λ x. 45 ∷ x) are.letters_are) are.no_dash are.no_equals spelled))
+    old result new
+    (subst (λ xs. Answers (SpellsJoined known.names word characters) xs result new) same
+    (answers characters are.letters_are))
+
+-- what is answered of a word behind a dash that isn't a number is answered of it by any setting
+pub alone_by_any : (numbers : Bool) (word : List ℕ)
+    (result : Result (Option (Bor (List ℕ))) AllocError) (old new : List Arg)
+    → ¬ (IsNumberWord numbers word)
+    → IfOk result (λ joined. SplitsDashed word old joined new)
+    → IfOk result (λ joined. SplitsAlone numbers word old joined new)
+alone_by_any numbers word (Ok None) old new other spells = λ names.
+    let spelled = spells names in (spelled.0, by_dash (Items spelled.0) other spelled.1, spelled.2)
+alone_by_any numbers word (Ok (Some letters)) old new other are = (other, are.0, are.1)
+alone_by_any numbers word (Err e) old new other none = tt
+
+-- a word whose letters aren't answered spells the new items by any names
+pub alone : (numbers : Bool) (word : List ℕ) (letters : Option (Bor (List ℕ))) (old new : List Arg)
+    → letters ≡ None → SplitsAlone numbers word old letters new → SpellsByAny numbers word old new
+alone numbers word letters old new is answers =
+    subst (λ j. SplitsAlone numbers word old j new) is answers
+
+-- letters that are answered are joined, and no item is new
+pub with_names : (numbers : Bool) (word : List ℕ) (letters : Option (Bor (List ℕ)))
+    (old new : List Arg) (found : Bor (List ℕ)) → letters ≡ Some found
+    → SplitsAlone numbers word old letters new
+    → ¬ (IsNumberWord numbers word) × AreJoined word found.now × (new ≡ old)
+with_names numbers word letters old new found is answers =
+    subst (λ j. SplitsAlone numbers word old j new) is answers
+
+-- letters begin with the one that was read off them
+pub first_letter : (letters all : List ℕ) (c : ℕ) (rest tail : List ℕ) → all ≡ letters
+    → all ≡ encode_utf8 c ++ rest → tail ≡ rest → letters ≡ encode_utf8 c ++ tail
+first_letter letters all c rest tail from is left =
+    sym from ∙ (is ∙ ap (λ x. encode_utf8 c ++ x) (sym left))
 
 -- a length that is zero doesn't fail the test for zero
 pub not_both : (n : ℕ) → n ≡ 0 → (n == 0) ≡ false → ⊥

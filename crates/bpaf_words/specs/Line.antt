@@ -1,10 +1,10 @@
 -- The line of a list of words.
-use Rattle.std.specs.Prelude.{◌≡◌, ◌≢◌, ℕ, Bool, List, ◌∷◌, ◌++◌, length, codes, map, flat_map, All}
+use Rattle.std.specs.Prelude.{◌≡◌, ◌≢◌, ℕ, List, ◌∷◌, ◌++◌, length, codes, map, flat_map, All}
 use Rattle.std.specs.Prelude.{IsUtf8, Option, Some, None, ◌⊎◌}
 use Rattle.std.specs.List.{AllZip}
 use Rattle.bpaf_words.specs.declared.arg.Arg.{Arg}
 use Rattle.bpaf_words.specs.declared.arg.Arg.TheVariants.{PosWord}
-use Rattle.bpaf_words.specs.Spelling.{Known, Items, Ambiguous, Spells, IsSpelledAlone}
+use Rattle.bpaf_words.specs.Spelling.{Known, Items, Ambiguous, Spells}
 
 -- each word spells its items, and these are all of them in order
 pub record SpellAll (known : Known) (words : List (List ℕ)) (items : List Arg) : Type 0 where
@@ -15,11 +15,6 @@ pub record SpellAll (known : Known) (words : List (List ℕ)) (items : List Arg)
 -- words without `--`
 abbrev pub HasNoMarker : List (List ℕ) → Type 0
 HasNoMarker words = All (λ word. word ≢ codes "--") words
-
--- words of which none is joined characters, but for numbers that are words, so that their line
--- doesn't depend on the known names
-abbrev pub HaveNoJoined : Bool → List (List ℕ) → Type 0
-HaveNoJoined numbers words = All (IsSpelledAlone numbers) words
 
 -- the line of words, and the place of the marker, where one stands there
 pub data IsLine (known : Known) (words : List (List ℕ)) : List Arg → Option ℕ → Type 0 where

@@ -1,7 +1,7 @@
 -- How a word spells items: the ways in which its bytes fall into parts.
 use Rattle.std.specs.Prelude.{◌≡◌, ◌≢◌, ℕ, ◌+◌, Bool, true, false, List, [], ◌∷◌, ◌++◌, length}
 use Rattle.std.specs.Prelude.{codes, encode_utf8, encode_utf8_all, EachIndex, slice_index, All}
-use Rattle.std.specs.Prelude.{IsUtf8, ◌⊎◌}
+use Rattle.std.specs.Prelude.{IsUtf8}
 use Rattle.std.specs.Char.{IsAsciiDigit}
 use Rattle.bpaf_words.specs.Items.{is_among}
 use Rattle.bpaf_words.specs.declared.arg.Arg.{Arg}
@@ -128,17 +128,6 @@ pub data Spells (known : Known) (word : List ℕ) : Spelling → Type 0 where
   number_word : IsNumberWord known.numbers word → Spells known word (Items (Word word ∷ []))
   by_dash : (spelling : Spelling) → ¬ (IsNumberWord known.numbers word)
       → SpellsByDash known.names word spelling → Spells known word spelling
-
--- a word that isn't joined characters
-abbrev pub IsNotJoined : List ℕ → Type 0
-IsNotJoined word =
-    (c d : ℕ) (cs : List ℕ) → word ≡ codes "-" ++ encode_utf8_all (c ∷ d ∷ cs) → c ≢ 45
-    → HasNoEquals (encode_utf8_all (d ∷ cs)) → ⊥
-
--- a word whose spelling doesn't depend on the known names: a number that is a word, or one that
--- isn't joined characters
-abbrev pub IsSpelledAlone : Bool → List ℕ → Type 0
-IsSpelledAlone numbers word = IsNumberWord numbers word ⊎ IsNotJoined word
 
 -- the cases of a spelling
 pub data Case : Type 0 where

@@ -12,8 +12,10 @@
 //!   negative number such as `-5` is a word. Each word but `--` has exactly one spelling.
 //! - [`line_of`] answers the [`Line`] of all words and the place of their first `--`. A line is
 //!   refused exactly where a word is ambiguous (`IsLine` and `HasNoLine`, specs/Line.antt), and for
-//!   want of memory. Words have one line or a first ambiguous word, never both. Where [`any_joined`]
-//!   answers false their line doesn't depend on the known short names.
+//!   want of memory. Words have one line or a first ambiguous word, never both.
+//! - [`Front`] is the beginning of a line that is the same whatever short names are known. So a line
+//!   without joined words such as `-vn3` is read before anything is known, and of any other the rest
+//!   is read when the names are there.
 //!
 //! The source of the design is bpaf's `arg.rs` and `args.rs`.
 #![tactic(auto)]
@@ -30,5 +32,5 @@ pub use arg::{
 };
 pub use args::{Args, LentWord, Words};
 pub use laws::{lines_are_unique, spellings_are_unique};
-pub use line::{Line, LineFault, any_joined, line_of};
+pub use line::{Front, Line, LineFault, line_of};
 pub use split::{SplitFault, split_word};

@@ -1,10 +1,10 @@
-ghost use Rattle.std.specs.Prelude.{◌≡◌, ◌≢◌, ◌↔◌, [], ◌∷◌, ◌++◌, false, IsTrue, EachIndex, OnOk};
+ghost use Rattle.std.specs.Prelude.{◌≡◌, ◌≢◌, ◌↔◌, [], ◌∷◌, ◌++◌, false, IsTrue, EachIndex, IfOk, OnOk};
 ghost use Rattle.std.specs.Prelude.{slice_index, codes, encode_utf8, encode_utf8_all};
 ghost use Rattle.std.specs.Bool.{MatchBool};
 ghost use Rattle.std.specs.Char.{IsAsciiDigit};
-ghost use Rattle.bpaf_words.specs.Spelling.{IsNotJoined, IsNumber, IsSpelledAlone, argument_of};
-ghost use Rattle.bpaf_words.specs.Spelling.{known_at};
-ghost use Rattle.bpaf_words.specs.Splitting.{Splits, SplitsByDash, SplitsJoined, SpellsAs};
+ghost use Rattle.bpaf_words.specs.Spelling.{IsNumber, argument_of, known_at};
+ghost use Rattle.bpaf_words.specs.Splitting.{Splits, SplitsAlone, SplitsDashed, SplitsJoined};
+ghost use Rattle.bpaf_words.specs.Splitting.{SpellsAs};
 
 use crate::arg::Arg;
 use bpaf_doc::Text;
@@ -51,20 +51,49 @@ pub fn split_word(
     ensures { Splits (known_at numbers (record { flags = flags.now; arguments = arguments.now }))
         word.now items.old.items result items.new.items }
 {
-    if numbers && is_number(word) {
-        return Ok(push_word(alloc, word, items)?);
+    match split_alone(alloc, word, numbers, items)? {
+        None => Ok(()),
+        Some(letters) => split_joined(alloc, word, letters, flags, arguments, items),
     }
-    split_by_dash(alloc, word, flags, arguments, items)
 }
 
-/// Whether a word is `-` and one or more ASCII digits, and nothing else.
-fn is_number(word: &str) -> bool
-    ensures { MatchBool result (IsNumber word.now) (¬ (IsNumber word.now)) }
+/// The items of a word that isn't `--`, at the end of the items before it, where they don't depend on
+/// the known short names; else the letters of the word, which are joined, and no items.
+///
+/// Refused only for want of memory.
+///
+/// ```text
+/// -v --num=3 word    their items
+/// -12                with `numbers` its item, else its letters
+/// -vn3               its letters
+/// ```
+pub(crate) fn split_alone<'a>(
+    alloc: Global,
+    word: &'a str,
+    numbers: bool,
+    items: &mut Vec<Arg>,
+) -> Result<Option<&'a str>, AllocError>
+    requires { word.now ≢ codes "--" }
+    ensures { IfOk result (λ joined.
+        SplitsAlone numbers word.now items.old.items joined items.new.items) }
 {
-    match word.strip_prefix('-') {
-        None => false,
-        Some(digits) => !digits.is_empty() && are_digits(digits.as_bytes()),
+    let Some(rest) = word.strip_prefix('-') else {
+        push_word(alloc, word, items)?;
+        return Ok(None);
+    };
+    if numbers && is_number(rest) {
+        push_word(alloc, word, items)?;
+        return Ok(None);
     }
+    split_dashed(alloc, word, rest, items)
+}
+
+/// Whether what stands behind the dash of a word is one or more ASCII digits, and nothing else.
+fn is_number(rest: &str) -> bool
+    ensures { MatchBool result (IsNumber (codes "-" ++ rest.now))
+        (¬ (IsNumber (codes "-" ++ rest.now))) }
+{
+    !rest.is_empty() && are_digits(rest.as_bytes())
 }
 
 /// Whether all bytes are ASCII digits.
@@ -74,74 +103,40 @@ fn are_digits(bytes: &[u8]) -> bool
     bytes.iter().all(|b| b.is_ascii_digit())
 }
 
-/// The items of a word that is neither `--` nor a number that is a word, at the end of the items
-/// before it.
-fn split_by_dash(
+/// The items of a word that begins with a dash and is neither `--` nor a number that is a word; the
+/// letters behind the dash where they are joined, and then no items.
+fn split_dashed<'a>(
     alloc: Global,
-    word: &str,
-    flags: &[char],
-    arguments: &[char],
+    word: &'a str,
+    rest: &'a str,
     items: &mut Vec<Arg>,
-) -> Result<(), SplitFault>
-    requires { word.now ≢ codes "--" }
-    ensures { SplitsByDash (record { flags = flags.now; arguments = arguments.now })
-        word.now items.old.items result items.new.items }
+) -> Result<Option<&'a str>, AllocError>
+    requires dashed { word.now ≡ codes "-" ++ rest.now }
+    requires other { word.now ≢ codes "--" }
+    ensures { IfOk result (λ joined.
+        SplitsDashed word.now items.old.items joined items.new.items) }
 {
-    let Some(rest) = word.strip_prefix('-') else {
-        return Ok(push_word(alloc, word, items)?);
-    };
     if let Some(name) = rest.strip_prefix('-') {
-        return Ok(split_long(alloc, word, name, items)?);
+        split_long(alloc, word, name, items)?;
+        return Ok(None);
     }
     let mut letters = rest.chars();
     let Some(c) = letters.next() else {
-        return Ok(push_word(alloc, word, items)?);
+        push_word(alloc, word, items)?;
+        return Ok(None);
     };
     let tail = letters.as_str();
     if tail.is_empty() {
-        return Ok(push_flag(alloc, c, word, items)?);
+        push_flag(alloc, c, word, items)?;
+        return Ok(None);
     }
-    match tail.split_once('=') {
-        Some((name, value)) => {
-            let value = if name.is_empty() { value } else { tail };
-            Ok(push_attached(
-                alloc,
-                Arg::Short(c, true, Text::new(alloc, word)?),
-                value,
-                items,
-            )?)
-        }
-        None => split_joined(alloc, word, rest, flags, arguments, items),
-    }
-}
-
-/// Whether a word is joined letters, such as `-vn3`, whose items depend on the known short names;
-/// with `numbers` a number isn't.
-pub(crate) fn is_joined(word: &str, numbers: bool) -> bool
-    ensures { result ≡ false → IsSpelledAlone numbers word.now }
-{
-    !(numbers && is_number(word)) && has_joined(word)
-}
-
-/// Whether a word is two or more letters behind a dash, without an `=` after the first.
-fn has_joined(word: &str) -> bool
-    ensures { result ≡ false → IsNotJoined word.now }
-{
-    let Some(rest) = word.strip_prefix('-') else {
-        return false;
+    let Some((name, value)) = tail.split_once('=') else {
+        return Ok(Some(rest));
     };
-    let mut letters = rest.chars();
-    let Some(c) = letters.next() else {
-        return false;
-    };
-    let tail = letters.as_str();
-    if tail.is_empty() {
-        return false;
-    }
-    match tail.split_once('=') {
-        Some(_) => false,
-        None => c != '-',
-    }
+    let value = if name.is_empty() { value } else { tail };
+    let key = Arg::Short(c, true, Text::new(alloc, word)?);
+    push_attached(alloc, key, value, items)?;
+    Ok(None)
 }
 
 /// A Word behind the items; refused only for want of memory.

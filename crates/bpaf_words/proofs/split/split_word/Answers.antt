@@ -1,22 +1,16 @@
-use Rattle.std.proofs.Common.{◌≡◌, [], ◌∷◌, true, false, sym, ◌∙◌}
-use Rattle.bpaf_words.specs.declared.arg.Arg.TheVariants.{Word}
-use Rattle.bpaf_words.specs.Spelling.{number_word}
-use Rattle.bpaf_words.proofs.SplitLemmas.{other_than_number}
+use Rattle.bpaf_words.specs.Spelling.{known_at}
+use Rattle.bpaf_words.proofs.SplitLemmas.{alone, with_names, joined_word}
 use Rattle.bpaf_words.proofs.split.split_word.Goals as goal
-use Rattle.bpaf_words.proofs.split.split_word.Goals.{else-numbers-via-then-numbers+else-is_number, else-numbers-via-else-numbers}
 
-pub returns-then-is_number : goal.returns-then-is_number
-returns-then-is_number c = (
-  Word c.args.word.now ∷ [],
-  number_word (c.if-numbers.true, c.if-is_number.ensures),
-  c.in_ok-push_word.ensures,
-)
+pub returns-in-None : goal.returns-in-None
+returns-in-None c = alone c.args.numbers c.args.word.now c.in_ok-split_alone.field-0 _ _ c.in-None.is
+    c.in_ok-split_alone.ensures
+    (record { flags = c.args.flags.now; arguments = c.args.arguments.now })
 
-pub returns : goal.returns
-returns c = other_than_number _ c.args.word.now
-    (λ is. elim c.else-numbers.branch [
-      | else-numbers-via-then-numbers+else-is_number w ↦ w.if-is_number.ensures is.1
-      | else-numbers-via-else-numbers w ↦
-          (let e : false ≡ true = sym w.if-numbers.false ∙ is.0 in cc)
-    ])
-    _ _ _ c.split_by_dash.ensures
+pub returns-in-Some : goal.returns-in-Some
+returns-in-Some c =
+    let found = with_names c.args.numbers c.args.word.now c.in_ok-split_alone.field-0 _ _
+    c.in-Some.letters c.in-Some.is c.in_ok-split_alone.ensures in
+    joined_word
+    (known_at c.args.numbers (record { flags = c.args.flags.now; arguments = c.args.arguments.now }))
+    c.args.word.now c.in-Some.letters.now _ _ _ _ found.0 found.1 found.2 c.split_joined.ensures

@@ -1,0 +1,74 @@
+use Rattle.std.proofs.Common.{◌≡◌, length, ap, ◌∙◌, refl, None, ◌-◌, option_to_list, subst}
+use Rattle.std.proofs.Common.{is_some, arith, IfSome, false}
+use Rattle.std.specs.Int.{from_bool}
+use Rattle.bpaf_words.specs.Arguments.{env_of, name_of}
+use Rattle.bpaf_line.specs.Situation.{Context, beginning}
+use Rattle.bpaf_line.specs.declared.state.State.TheInside.{Inside}
+use Rattle.bpaf_line.specs.Bits.{IsFirstClear}
+use Rattle.bpaf_line.specs.Chained.{AreBehind}
+use Rattle.bpaf_line.specs.Inside.{situation_of}
+use Rattle.bpaf_line.proofs.Beginning.{sound_beginning, begins}
+use Rattle.bpaf_line.proofs.state.State.of_line.Goals as goal
+use Rattle.bpaf_line.proofs.state.State.of_line.Goals.{After-nothing}
+
+-- the context of the line
+context_is : After-nothing → Context
+context_is c = record {
+  line = c.args.line.items.items;
+  marker = c.args.line.marker;
+  env = env_of c.args.args;
+  name = name_of c.args.args;
+}
+
+-- what the state is made of
+inside : After-nothing → Inside
+inside c = record {
+  items = c.in_ok-from_vec.field-0;
+  marker = c.args.line.marker;
+  env = c.in_ok-from_vec-2.field-0;
+  chains = c.in_ok-chains.chains;
+  words = c.in_ok-words.words;
+  trail = c.in_ok-with_capacity.field-0;
+  conflicts = c.new.result;
+  start = 0;
+  end = c.len-end.result;
+  left = c.len-end.result - c.from.result;
+  first = c.first_clear-first.result;
+  aside = c.nothing.result;
+  path = c.in_ok-path.path;
+  name = c.in_ok-path.name;
+  current = None;
+}
+
+-- the end of the scope is the end of the line
+size : (c : After-nothing) → c.len-end.result ≡ length c.args.line.items.items
+size c = c.len-end.ensures ∙ c.args.line.items.ok.0
+
+-- it is at the beginning of that line
+start : (c : After-nothing) → situation_of (inside c) ≡ beginning (context_is c)
+unfolding inside context_is
+start c = begins (inside c) (context_is c) c.in_ok-from_vec.ensures refl
+    (c.in_ok-from_vec-2.ensures ∙ (c.in_ok-entries.ensures ∙ c.env.ensures))
+    (c.in_ok-path.ensures.name ∙ c.name.ensures)
+    c.in_ok-with_capacity.ensures.items c.new.ensures.items refl (size c)
+    (c.in_ok-path.ensures.path ∙ ap option_to_list c.name.ensures) refl
+
+pub invariant_of-result : goal.invariant_of-result
+unfolding context_is inside
+invariant_of-result c =
+    let n = length c.args.line.items.items in
+    sound_beginning (inside c) (context_is c) (start c)
+    c.requires
+    (omega (arith, size c, c.in_ok-words.ensures.room)) c.in_ok-words.ensures.bits
+    (omega (arith, size c, c.in_ok-with_capacity.ensures.capacity))
+    (ap (λ k. c.len-end.result - k) (c.from.ensures ∙ ap from_bool c.is_some.ensures)
+    ∙ ap (λ m. m - from_bool (is_some c.args.line.marker)) (size c))
+    (subst (λ words. IsFirstClear words 0 n c.first_clear-first.result) c.deref.ensures.value
+    (subst (λ m. IsFirstClear c.deref.result.now 0 m c.first_clear-first.result)
+    (size c) c.first_clear-first.ensures))
+    (subst (λ items. IfSome c.in_ok-chains.chains (AreBehind items (λ p. false)))
+    c.deref-2.ensures.value c.in_ok-chains.ensures) c.nothing.ensures
+
+pub returns : goal.returns
+unfolding context_is inside
+returns c = start c

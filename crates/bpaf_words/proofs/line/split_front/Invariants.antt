@@ -1,0 +1,6 @@
+use Rattle.bpaf_words.specs.Arguments.{words_in}
+use Rattle.bpaf_words.specs.Splitting.{BeginsByAny}
+use Rattle.bpaf_words.proofs.line.split_front.Given as goal
+
+abbrev pub invariant-loop-index : goal.invariant-loop-index
+invariant-loop-index l = BeginsByAny l.numbers (words_in l.words) l.items.items l.index
