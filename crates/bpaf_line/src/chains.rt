@@ -195,16 +195,14 @@ impl Chains {
         requires behind { AreBehind items.now (has_bit words.now) self.old }
         ensures { AreBehind items.now (has_bit words.now) self.new }
     {
-        let class = self.classes.as_slice()[place];
-        let head = self.heads[class];
-        self.pass_taken(items, words, place);
-        if place != head && class >= OWN_CLASSES {
+        if self.pass_taken(items, words, place) {
             self.pass_others(items, words, place);
         }
     }
 
-    /// Lets the chain of a place's class begin later, past places whose bits are set.
-    fn pass_taken(&mut self, items: &[Arg], words: &[u64], place: usize)
+    /// Lets the chain of a place's class begin later, past places whose bits are set: whether it began
+    /// in front of the place, and the class may hold other names.
+    fn pass_taken(&mut self, items: &[Arg], words: &[u64], place: usize) -> bool
         requires within { place < length self.old.classes }
         requires worded { length self.old.classes ≤ 64 * length words.now }
         requires behind { AreBehind items.now (has_bit words.now) self.old }
@@ -212,12 +210,16 @@ impl Chains {
         ensures behind { AreBehind items.now (has_bit words.now) self.new }
     {
         let class = self.classes.as_slice()[place];
-        let head = self.first_clear(words, self.heads[class]);
-        self.heads[class] = head;
+        let head = self.heads[class];
+        let first = self.first_clear(words, head);
+        self.heads[class] = first;
+        class >= OWN_CLASSES && head != place
     }
 
     /// Makes a place the owner of its class, and lets the cursor stand behind places whose bits are set
-    /// and places with other names.
+    /// and places with other names. It is called on few lines, so it stays out of what each take
+    /// runs.
+    #[inline(never)]
     fn pass_others(&mut self, items: &[Arg], words: &[u64], place: usize)
         requires within { place < length self.old.classes }
         requires worded { length self.old.classes ≤ 64 * length words.now }

@@ -6,30 +6,30 @@ use Rattle.bpaf_line.proofs.chains.Chains.pass_taken.Goals as goal
 
 pub invariant_of-self : goal.invariant_of-self
 invariant_of-self c =
-    linked_passed c.self.inside c.as_slice.result.now c.args.place c.index.result.now
-    c.first_clear-head.result c.self.invariant c.as_slice.ensures.value
+    linked_passed c.self.inside c.as_slice.result.now c.args.place c.index-head.result.now
+    c.first_clear-first.result c.self.invariant c.as_slice.ensures.value
     (omega (
       arith,
       ap (λ t.
           length t.classes) c.self.view_is,
       c.requires.within,
-    )) c.index.ensures
-    (λ k. subst (λ t. IsPlaceOf t.classes k c.index.result.now
-    → IsPlaceOf t.classes k c.first_clear-head.result) (sym c.self.view_is)
-    (c.first_clear-head.ensures.same k))
+    )) c.index-head.ensures
+    (λ k. subst (λ t. IsPlaceOf t.classes k c.index-head.result.now
+    → IsPlaceOf t.classes k c.first_clear-first.result) (sym c.self.view_is)
+    (c.first_clear-first.ensures.same k))
 
 pub returns-clause-behind : goal.returns-clause-behind
 returns-clause-behind c =
     behind_passed_read c.self.inside c.args.items.now (has_bit c.args.words.now)
-    c.as_slice.result.now c.args.place c.index.result.now c.first_clear-head.result c.self.invariant
+    c.as_slice.result.now c.args.place c.index-head.result.now c.first_clear-first.result c.self.invariant
     c.as_slice.ensures.value
     (omega (
       arith,
       ap (λ t.
           length t.classes) c.self.view_is,
       c.requires.within,
-    )) c.index.ensures
+    )) c.index-head.ensures
     (subst (AreBehind c.args.items.now (has_bit c.args.words.now)) (sym c.self.view_is)
     c.requires.behind)
-    (subst (λ t. HasWalked t.classes (has_bit c.args.words.now) c.index.result.now
-    c.first_clear-head.result) (sym c.self.view_is) c.first_clear-head.ensures)
+    (subst (λ t. HasWalked t.classes (has_bit c.args.words.now) c.index-head.result.now
+    c.first_clear-first.result) (sym c.self.view_is) c.first_clear-first.ensures)
