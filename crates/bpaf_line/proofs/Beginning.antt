@@ -13,7 +13,7 @@ use Rattle.bpaf_line.specs.declared.state.State.TheInside.{Inside}
 use Rattle.bpaf_line.specs.Bits.{has_bit, IsFirstClear}
 use Rattle.bpaf_line.specs.Situation.{Situation, Context, beginning, open_count, is_open, is_taken}
 use Rattle.bpaf_line.specs.Situation.{is_marker, is_dealt_place, TakenInTurn, IsFirstPresent}
-use Rattle.bpaf_line.specs.Chained.{Chained, AreBehind, AreChainsOf}
+use Rattle.bpaf_line.specs.Chained.{Chained, AreBehind, AreChainsOf, HasNoKeyFrom}
 use Rattle.bpaf_line.specs.Inside.{situation_of, BitsOf, IsSound}
 use Rattle.bpaf_line.proofs.Remembered.{remembers_nothing}
 use Rattle.bpaf_line.proofs.Counts.{count_below-all, count_below-fewer}
@@ -95,9 +95,10 @@ pub sound_beginning : (i : Inside) (context : Context) → situation_of i ≡ be
     ≤ vec_capacity i.trail
     → i.left ≡ length context.line - from_bool (is_some context.marker)
     → IsFirstClear i.words.items 0 (length context.line) i.first
+    → HasNoKeyFrom context.line i.keys
     → IfSome i.chains (AreBehind context.line (λ p. false))
     → i.aside ≡ no_aside → IsSound i
-sound_beginning i context e marked worded bits room left clear behind aside =
+sound_beginning i context e marked worded bits room left clear keyless behind aside =
     let start = beginning context in
     let size : length (rc_slice_items i.items) ≡ length context.line = ap
     (λ s. length s.context.line) e in
@@ -118,6 +119,7 @@ sound_beginning i context e marked worded bits room left clear behind aside =
           (remembers_nothing (situation_of i));
       chained = subst (λ s. IfSome i.chains (AreChainsOf s)) (sym e)
           (chains_beginning context i.chains behind);
+      keyless = subst (λ s. HasNoKeyFrom s.context.line i.keys) (sym e) keyless;
       named = subst (λ s. IfSome s.context.name (λ n. slice_get s.path 0 ≡ Some n)) (sym e)
           (path_begins context.name);
     }

@@ -3,22 +3,25 @@ use Rattle.std.proofs.Common.{◌≡◌, ◌≢◌, ℕ, zero, suc, refl, ◌+�
 use Rattle.std.proofs.Common.{Option, Some, None, not, ◌||◌, slice_get, replicate}
 use Rattle.std.specs.Option.{option_map_or}
 use Rattle.std.proofs.lemmas.Slice.Eq.{bytes_eq-Decides}
-use Rattle.std.proofs.Common.{length, map, ap, sym, ◌∙◌, subst, arith, ⊎_elim, get_or, slice_index}
-use Rattle.std.proofs.Common.{slice_index_or, slice_set, nat_lt, if◌then◌else◌, length-set, get_or-set_same}
-use Rattle.std.proofs.Common.{get_or-set_other}
+use Rattle.std.proofs.Common.{length, map, take, ap, sym, ◌∙◌, subst, arith, ⊎_elim, get_or}
+use Rattle.std.proofs.Common.{slice_index, slice_index_or, slice_set, nat_lt, if◌then◌else◌}
+use Rattle.std.proofs.Common.{length-set, get_or-set_same, get_or-set_other}
 use Rattle.std.specs.Rc.{rc_slice_items}
 use Rattle.std.specs.Vec.{with_item}
 use Rattle.std.proofs.Math.Nat.{mod-lt}
 use Rattle.std.proofs.lemmas.Bool.{cases_lt, cases_eq, ltb-true, eq-eqb, eqb-true, or_left}
-use Rattle.std.proofs.lemmas.List.{get_or_read, length-map, get_or-replicate}
-use Rattle.std.proofs.lemmas.Option.{slice_get_past}
+use Rattle.std.proofs.lemmas.List.{get_or_read, length-map, length-take, length-take-le}
+use Rattle.std.proofs.lemmas.List.{get_or-replicate}
+use Rattle.std.proofs.lemmas.Option.{slice_get_past, slice_get_read}
+use Rattle.bpaf_doc.specs.Names.{Names}
 use Rattle.bpaf_words.specs.declared.arg.Arg.{Arg}
 use Rattle.bpaf_words.specs.declared.arg.Arg.TheVariants.{Short, Long, ArgWord, Word, PosWord}
 use Rattle.bpaf_words.specs.Items.{is_key_of}
 use Rattle.bpaf_line.specs.declared.chains.Chains.TheInside.{Inside}
 use Rattle.bpaf_line.specs.Chained.{Chained, IsNextOf, IsPlaceOf, IsStart, HasWalked, AreBehind}
 use Rattle.bpaf_line.specs.Chained.{name_number, class_in, class_of, head_of, owner_of, cursor_of, text_number}
-use Rattle.bpaf_line.specs.Chained.{names_of, names_in, named_at, shares_name}
+use Rattle.bpaf_line.specs.Chained.{names_of, names_in, named_at, shares_name, is_key}
+use Rattle.bpaf_line.specs.Chained.{HasNoKeyFrom}
 use Rattle.bpaf_line.specs.InsideChains.{chained_of, IsLinked}
 
 -- the places from one on are linked, and each class to its first place from there on
@@ -187,6 +190,43 @@ classes_below items classes count are some p within =
     subst (λ xs. slice_index xs p < count) (sym are)
     (class_below items count some p (omega (arith, classes_size items classes count are)))
 
+-- the chains have no more places than the line
+pub behind_within : (line : List Arg) (set : ℕ → Bool) (chains : Chained)
+    → AreBehind line set chains → length chains.classes ≤ length line
+behind_within line set chains h =
+    let size = classes_size (take (length chains.classes) line) chains.classes
+    (length chains.heads) h.classes in
+    let cut = length-take (length chains.classes) line in
+    omega (arith, size, cut)
+
+-- an item that is no key has none of the names
+no_key : (names : Names) (item : Arg) → is_key item ≡ false → is_key_of names item ≡ false
+no_key names (Short c _ _) e = cc
+no_key names (Long name _ _) e = cc
+no_key names (ArgWord _) e = refl
+no_key names (Word _) e = refl
+no_key names (PosWord _) e = refl
+
+-- no key stands behind a line
+pub keyless_past : (line : List Arg) (low : ℕ) → length line ≤ low → HasNoKeyFrom line low
+keyless_past line low past = record {
+  none = λ names p above. ap (λ found. option_map_or (is_key_of names) found false)
+      (slice_get_past line p (omega arith));
+}
+
+-- nor from a place on, where its item is none and no key stands behind it
+pub keyless_more : (line : List Arg) (p : ℕ) (item : Arg) → p < length line
+    → item ≡ get_or line p item → is_key item ≡ false → HasNoKeyFrom line (p + 1)
+    → HasNoKeyFrom line p
+keyless_more line p item within read other h = record {
+  none = λ names q above. ⊎_elim
+      (λ (at : q ≡ p). ap (named_at line names) at
+      ∙ (ap (λ found. option_map_or (is_key_of names) found false)
+      (slice_get_read line (length line) p item refl within read) ∙ no_key names item other))
+      (λ (behind : q ≢ p). h.none names q (omega (arith, behind)))
+      (cases_eq q p);
+}
+
 -- one of two is true, where the other isn't
 one_of : (b : Bool) → (b || false) ≡ true → b ≡ true
 one_of true e = refl
@@ -272,7 +312,9 @@ behind_passed line set old place from head h within inside read headed walked =
     let class = slice_index old.classes place in
     let heads = slice_set old.heads class head in
     record {
-      classes = h.classes ∙ ap (λ n. map (class_in n) line) (sym (length-set old.heads class head));
+      classes = h.classes ∙ ap (λ n. map (class_in n) (take (length old.classes) line))
+          (sym (length-set old.heads class head));
+      keyless = h.keyless;
       passed = λ p below before. ⊎_elim
           (λ (at : slice_index old.classes p ≡ class). ⊎_elim
           (λ (early : p < from). h.passed p below (let begin : head_of old p ≡ from =
@@ -325,6 +367,7 @@ behind_owned line set old place class from cursor h owned inside start walked =
     let cursors = slice_set old.cursors class cursor in
     record {
       classes = h.classes;
+      keyless = h.keyless;
       passed = λ p below before. h.passed p below before;
       named = λ p below before shares. ⊎_elim
           (λ (at : slice_index old.classes p ≡ class).
@@ -381,19 +424,25 @@ past_nameless line owner p past shares = by_item (slice_get line p)
     by_item (Some item) e = nameless item e
 
 -- chains that begin at their first places, and have no owners, stand behind nothing
-pub behind_nothing : (chains : Chained) (line : List Arg) (classes heads : List ℕ) (count : ℕ)
-    → chains.classes ≡ classes → chains.heads ≡ heads → length heads ≡ count
-    → chains.owners ≡ replicate count (length line) → classes ≡ map (class_in count) line
+pub behind_nothing : (chains : Chained) (line : List Arg) (keys : ℕ) (classes heads : List ℕ)
+    (count : ℕ) → chains.classes ≡ classes → chains.heads ≡ heads → length heads ≡ count
+    → chains.owners ≡ replicate count (length line) → keys ≤ length line
+    → HasNoKeyFrom line keys → classes ≡ map (class_in count) (take keys line)
     → 128 < count → ((k : ℕ) → k < length heads → IsNextOf classes k 0 (slice_index heads k))
     → AreBehind line (λ p. false) chains
-behind_nothing chains line classes heads count same begin size none are some first =
+behind_nothing chains line keys classes heads count same begin size none short keyless are some
+    first =
     let count_is : length chains.heads ≡ count = ap length begin ∙ size in
+    let keys_is : length chains.classes ≡ keys = ap length same
+    ∙ (classes_size (take keys line) classes count are ∙ length-take-le keys line short) in
     record {
-      classes = same ∙ (are ∙ ap (λ n. map (class_in n) line) (sym count_is));
+      classes = same ∙ (are ∙ (ap (λ n. map (class_in n) (take keys line)) (sym count_is)
+          ∙ ap (λ k. map (class_in (length chains.heads)) (take k line)) (sym keys_is)));
+      keyless = subst (HasNoKeyFrom line) (sym keys_is) keyless;
       passed = λ p within before.
           let inside : p < length classes = omega (arith, ap length same) in
           let low = first_not_behind classes heads p (first (slice_index classes p)
-          (omega (arith, classes_below line classes count are some p inside))) in
+          (omega (arith, classes_below (take keys line) classes count are some p inside))) in
           let begins : head_of chains p ≡ slice_index heads (slice_index classes p) =
           ap (λ xs. slice_index xs (slice_index chains.classes p)) begin
           ∙ ap (λ xs. slice_index heads (slice_index xs p)) same in
@@ -404,7 +453,7 @@ behind_nothing chains line classes heads count same begin size none are some fir
           ap (λ xs. slice_index xs (slice_index chains.classes p)) none
           ∙ (ap (λ xs. slice_index (replicate count (length line)) (slice_index xs p)) same
           ∙ get_or-replicate count (slice_index classes p) (length line) 0
-          (classes_below line classes count are some p inside)) in
+          (classes_below (take keys line) classes count are some p inside)) in
           absurd (past_nameless line (length line) p (slice_get_past line (length line) (omega arith))
           (ap (λ o. shares_name line o p) (sym owner) ∙ shares));
     }

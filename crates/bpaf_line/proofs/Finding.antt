@@ -2,36 +2,33 @@
 use Rattle.std.proofs.Common.{◌≡◌, ℕ, ◌<◌, ◌≤◌, ◌==◌, Bool, true, false, not, ◌&&◌, ◌||◌}
 use Rattle.std.proofs.Common.{List, [], ◌++◌, Option, Some, None, length, refl, ap, sym}
 use Rattle.std.proofs.Common.{◌∙◌, subst, arith, ⊎_elim, if◌then◌else◌, nat_lt, slice_get}
-use Rattle.std.proofs.Common.{slice_index, bytes_eq, MatchOption}
+use Rattle.std.proofs.Common.{slice_index, bytes_eq, MatchOption, take, min}
 use Rattle.std.specs.Bool.{then_some}
 use Rattle.std.specs.Option.{option_map_or}
 use Rattle.std.proofs.lemmas.Bool.{cases_lt, cases_Bool, true≢false, ltb-true, ltb-false}
 use Rattle.std.proofs.lemmas.Bool.{le-ltb, lt-leb, and_left, and_right}
-use Rattle.std.proofs.lemmas.List.{get_or-map}
+use Rattle.std.proofs.lemmas.List.{get_or-map, get_or-take, length-take-le}
 use Rattle.std.proofs.lemmas.List.Folds.{list_any-append}
-use Rattle.std.proofs.lemmas.Option.{get_or_from_slice_get, slice_get_within}
+use Rattle.std.proofs.lemmas.Option.{get_or_from_slice_get}
 use Rattle.bpaf_doc.specs.Names.{Names}
 use Rattle.bpaf_words.specs.declared.arg.Arg.{Arg}
 use Rattle.bpaf_words.specs.declared.arg.Arg.TheVariants.{Short, Long, ArgWord, Word, PosWord}
 use Rattle.bpaf_words.specs.Items.{is_key_of, is_argument_key}
 use Rattle.bpaf_line.specs.Chained.{Chained, name_number, names_of, class_in, class_of, IsStart}
-use Rattle.bpaf_line.specs.Chained.{HasWalked, AreChainsOf}
+use Rattle.bpaf_line.specs.Chained.{HasWalked, AreChainsOf, HasNoKeyFrom}
 use Rattle.bpaf_line.specs.Finding.{IsFirstAmong, IsFirstAlong}
 use Rattle.bpaf_line.specs.Situation.{Situation, is_marker, in_scope, is_open, is_taken, item_at}
 use Rattle.bpaf_line.specs.Situation.{IsFirstPresent}
 use Rattle.bpaf_line.specs.Taking.{open_item, is_match, HasNone, IsFirst}
-use Rattle.bpaf_line.proofs.Chained.{classes_size, same_number, early_set}
+use Rattle.bpaf_line.proofs.Chained.{behind_within, same_number, early_set}
 use Rattle.bpaf_line.proofs.Matches.{open_item_there}
 use Rattle.bpaf_line.proofs.Places.{open_not_taken}
 
--- the first present place of the scope has the first item that passes a test, where its item does
-pub first_at_front : (test : Arg → Bool) (s : Situation) (p : ℕ) → IsFirstPresent s p
-    → is_match test s p ≡ true → IsFirst test s p
-first_at_front test s p front passes = record {
-  matches = passes;
-  first = λ q below. ap (λ b. option_map_or test (if b then item_at s q else None) false)
-      (closed q below);
-}
+-- no item in front of the first present place of the scope passes a test
+pub none_in_front : (test : Arg → Bool) (s : Situation) (p : ℕ) → IsFirstPresent s p → (q : ℕ)
+    → q < p → is_match test s q ≡ false
+none_in_front test s p front q before =
+    ap (λ b. option_map_or test (if b then item_at s q else None) false) (closed q before)
   where
     closed : (q : ℕ) → q < p → is_open s q ≡ false
     closed q below = ⊎_elim
@@ -39,6 +36,14 @@ first_at_front test s p front passes = record {
         (λ (behind : s.start ≤ q). and_right (in_scope s q) _
         (ap not (front.passed q behind below)))
         (cases_lt q s.start)
+
+-- that place has the first item that passes it, where its item does
+pub first_at_front : (test : Arg → Bool) (s : Situation) (p : ℕ) → IsFirstPresent s p
+    → is_match test s p ≡ true → IsFirst test s p
+first_at_front test s p front passes = record {
+  matches = passes;
+  first = none_in_front test s p front;
+}
 
 -- an open item is the one that the line has there
 item_of_line : (s : Situation) (p : ℕ) (item : Arg) → open_item s p ≡ Some item
@@ -52,20 +57,24 @@ item_of_line s p item there = of_test (is_marker s.context.marker p) (slice_get 
 
 -- its class is that of its number
 class_at : (s : Situation) (chains : Chained) (p : ℕ) (item : Arg) → AreChainsOf s chains
-    → open_item s p ≡ Some item → slice_index chains.classes p ≡ class_in (length chains.heads) item
-class_at s chains p item h there =
+    → p < length chains.classes → open_item s p ≡ Some item
+    → slice_index chains.classes p ≡ class_in (length chains.heads) item
+class_at s chains p item h inside there =
     let at = item_of_line s p item there in
+    let size = length-take-le (length chains.classes) s.context.line
+    (behind_within s.context.line (is_taken s) chains h) in
     ap (λ xs. slice_index xs p) h.classes
-    ∙ (get_or-map (class_in (length chains.heads)) s.context.line p item 0
-    (slice_get_within s.context.line p item at) ∙ ap (class_in (length chains.heads))
-    (get_or_from_slice_get s.context.line p item item at))
+    ∙ (get_or-map (class_in (length chains.heads)) (take (length chains.classes) s.context.line) p
+    item 0 (omega (arith, size, inside)) ∙ ap (class_in (length chains.heads))
+    (get_or-take (length chains.classes) s.context.line p item inside
+    ∙ get_or_from_slice_get s.context.line p item item at))
 
 -- the class of an open item with the name of a key is that of the key's number
 class_named : (s : Situation) (chains : Chained) (key : Arg) (q : ℕ) (item : Arg)
-    → AreChainsOf s chains → open_item s q ≡ Some item
+    → AreChainsOf s chains → q < length chains.classes → open_item s q ≡ Some item
     → is_key_of (names_of (Some key)) item ≡ true
     → slice_index chains.classes q ≡ class_of (length chains.heads) (name_number key)
-class_named s chains key q item h there named = class_at s chains q item h there
+class_named s chains key q item h inside there named = class_at s chains q item h inside there
     ∙ ap (class_of (length chains.heads)) (same_number key item named)
 
 -- no open item with a name stands before the start of that name
@@ -73,38 +82,33 @@ none_before_start : (s : Situation) (chains : Chained) (key : Arg) (start q : �
     → AreChainsOf s chains
     → IsStart s.context.line (names_of (Some key)) chains
     (class_of (length chains.heads) (name_number key)) start
-    → q < start → open_item s q ≡ Some item → is_key_of (names_of (Some key)) item ≡ true
-    → true ≡ false
-none_before_start s chains key start q item h begins before there named =
+    → q < length chains.classes → q < start → open_item s q ≡ Some item
+    → is_key_of (names_of (Some key)) item ≡ true → true ≡ false
+none_before_start s chains key start q item h begins inside before there named =
     let at = item_of_line s q item there in
-    let inside : q < length chains.classes = omega (
-      arith,
-      classes_size s.context.line chains.classes
-          (length chains.heads) h.classes,
-      slice_get_within s.context.line q item at,
-    ) in
     sym (early_set s.context.line (is_taken s) chains (Some key)
     (class_of (length chains.heads) (name_number key)) start q h begins inside
-    (class_named s chains key q item h there named) before
+    (class_named s chains key q item h inside there named) before
     (ap (λ found. option_map_or (is_key_of (names_of (Some key))) found false) at ∙ named))
     ∙ open_not_taken s q (open_item_there s q item there).0
 
 -- the first along the chain from that start on is the first with the name
 pub first_named : (test : Arg → Bool) (s : Situation) (chains : Chained) (key : Arg)
-    (start end p : ℕ) → AreChainsOf s chains
+    (start end p : ℕ) → AreChainsOf s chains → end ≤ length chains.classes
     → IsStart s.context.line (names_of (Some key)) chains
     (class_of (length chains.heads) (name_number key)) start
     → IsFirstAlong test s chains.classes start end p
     → IsFirstAmong test (names_of (Some key)) s end p
-first_named test s chains key start end p h begins along = record {
+first_named test s chains key start end p h inside begins along = record {
   within = along.within;
   matches = along.matches;
   none = λ q item before there passes. ⊎_elim
       (λ (named : is_key_of (names_of (Some key)) item ≡ true). absurd (true≢false (⊎_elim
-      (λ (early : q < start). none_before_start s chains key start q item h begins early there named)
+      (λ (early : q < start). none_before_start s chains key start q item h begins
+      (omega (arith, along.within)) early there named)
       (λ (behind : start ≤ q). sym (ap (λ found. option_map_or test found false) there ∙ passes)
       ∙ along.none (class_of (length chains.heads) (name_number key)) q begins.place behind before
-      (class_named s chains key q item h there named))
+      (class_named s chains key q item h (omega (arith, along.within)) there named))
       (cases_lt q start))))
       (λ (other : is_key_of (names_of (Some key)) item ≡ false). other)
       (cases_Bool (is_key_of (names_of (Some key)) item));
@@ -169,19 +173,48 @@ key_named names adjacent (ArgWord text) key short long = sym key
 key_named names adjacent (Word text) key short long = sym key
 key_named names adjacent (PosWord text) key short long = sym key
 
--- the first key of the short names and of the long ones is the first key
-pub key_found : (names : Names) (adjacent : Bool) (s : Situation) (short place : ℕ)
+-- what stands at a place from which on the line has no key is none
+pub no_key_there : (names : Names) (adjacent : Bool) (s : Situation) (low q : ℕ)
+    → HasNoKeyFrom s.context.line low → low ≤ q
+    → is_match (is_argument_key names adjacent) s q ≡ false
+no_key_there names adjacent s low q h above = by_item (open_item s q) refl
+  where
+    by_item : (at : Option Arg) → open_item s q ≡ at
+        → option_map_or (is_argument_key names adjacent) at false ≡ false
+    by_item None e = refl
+    by_item (Some item) e = and_left (is_key_of names item) _
+        (sym (ap (λ found. option_map_or (is_key_of names) found false) (item_of_line s q item e))
+        ∙ h.none names q above)
+
+-- no key is past the scope
+pub past_scope : (test : Arg → Bool) (s : Situation) (q : ℕ) → s.end ≤ q
+    → is_match test s q ≡ false
+past_scope test s q past = ap (λ b. option_map_or test (if b then item_at s q else None) false)
+    (and_left (in_scope s q) _ (and_right _ _ (le-ltb q s.end past)))
+
+-- so none is from the lesser of those two places on
+pub none_past : (names : Names) (adjacent : Bool) (s : Situation) (low end q : ℕ)
+    → HasNoKeyFrom s.context.line low → end ≡ min s.end low → end ≤ q
+    → is_match (is_argument_key names adjacent) s q ≡ false
+none_past names adjacent s low end q h is past = ⊎_elim
+    (λ (before : q < s.end). no_key_there names adjacent s low q h (omega (arith, is)))
+    (λ (behind : s.end ≤ q). past_scope (is_argument_key names adjacent) s q behind)
+    (cases_lt q s.end)
+
+-- the first key of the short names and of the long ones is the first key, where none is behind
+pub key_found : (names : Names) (adjacent : Bool) (s : Situation) (end short place : ℕ)
     (found : Option ℕ)
+    → ((q : ℕ) → end ≤ q → is_match (is_argument_key names adjacent) s q ≡ false)
     → IsFirstAmong (is_argument_key names adjacent)
-    (record { shorts = names.shorts; longs = [] }) s s.end short
+    (record { shorts = names.shorts; longs = [] }) s end short
     → IsFirstAmong (is_argument_key names adjacent)
     (record { shorts = []; longs = names.longs }) s short place → found
-    ≡ then_some (nat_lt place s.end) place
+    ≡ then_some (nat_lt place end) place
     → MatchOption found (HasNone (is_argument_key names adjacent) s)
     (IsFirst (is_argument_key names adjacent) s)
-key_found names adjacent s short place found shorts longs is =
+key_found names adjacent s end short place found past_end shorts longs is =
     subst (λ r. MatchOption r (HasNone test s) (IsFirst test s)) (sym is)
-    (by_test (nat_lt place s.end) refl)
+    (by_test (nat_lt place end) refl)
   where
     test : Arg → Bool
     test = is_argument_key names adjacent
@@ -199,14 +232,10 @@ key_found names adjacent s short place found shorts longs is =
     before_it : (q : ℕ) → q < place → is_match test s q ≡ false
     before_it q before = none_at q before (open_item s q) refl
 
-    past_scope : (q : ℕ) → s.end ≤ q → is_match test s q ≡ false
-    past_scope q past = ap (λ b. option_map_or test (if b then item_at s q else None) false)
-        (and_left (in_scope s q) _ (and_right _ _ (le-ltb q s.end past)))
-
-    by_test : (b : Bool) → nat_lt place s.end ≡ b → MatchOption (then_some b place)
+    by_test : (b : Bool) → nat_lt place end ≡ b → MatchOption (then_some b place)
         (HasNone test s) (IsFirst test s)
     by_test true e =
-        let below : place < s.end = ltb-true place s.end e in
+        let below : place < end = ltb-true place end e in
         record {
           matches = ⊎_elim
               (λ (nearer : place < short). longs.matches nearer)
@@ -216,5 +245,5 @@ key_found names adjacent s short place found shorts longs is =
           first = before_it;
         }
     by_test false e = λ q. ⊎_elim (λ (before : q < place). before_it q before)
-        (λ (past : place ≤ q). past_scope q (let far = ltb-false place s.end e in omega arith))
+        (λ (past : place ≤ q). past_end q (let far = ltb-false place end e in omega arith))
         (cases_lt q place)

@@ -21,7 +21,7 @@ use Rattle.bpaf_line.specs.declared.aside.Aside.{Aside}
 use Rattle.bpaf_line.specs.Remembered.{no_aside, count_within, IsSurvey, IsRemembered}
 use Rattle.bpaf_line.specs.Bits.{has_bit, is_clear_from, count_clear, ChangesBit, IsFirstClear}
 use Rattle.bpaf_line.specs.Chained.{Chained, class_in, head_of, cursor_of, AreBehind, AreChainsOf}
-use Rattle.bpaf_line.specs.Chained.{ReachBack, IfChained}
+use Rattle.bpaf_line.specs.Chained.{ReachBack, IfChained, HasNoKeyFrom}
 use Rattle.bpaf_line.specs.Inside.{situation_of, BitsOf, IsSound}
 use Rattle.bpaf_line.specs.Situation.{Situation, with_trail, with_scope, cut_to, is_open, is_marker}
 use Rattle.bpaf_line.specs.Situation.{is_taken, is_on, in_scope, open_count, TakenInTurn}
@@ -32,7 +32,7 @@ use Rattle.bpaf_line.proofs.Places.{put, put_here, put_other, put_stays, open_co
 use Rattle.bpaf_line.proofs.Places.{in_turn_put, room_on_trail, last_put, in_turn_cut}
 use Rattle.bpaf_line.proofs.Places.{first_without, present_in_line, open_in_scope, open_not_taken}
 use Rattle.bpaf_line.proofs.Counts.{count_below-same, count_below-cut, count_below-most}
-use Rattle.bpaf_line.proofs.Chained.{classes_size}
+use Rattle.bpaf_line.proofs.Chained.{behind_within}
 
 -- the bits of a situation with one place more
 pub bits_put : (s : Situation) (old new : List ℕ) (p : ℕ) → BitsOf s old
@@ -63,10 +63,10 @@ pub behind_since : (line : List Arg) (old new : ℕ → Bool) (chains : Option C
     → IfSome chains (AreBehind line old) → IfSome chains (AreBehind line new)
 behind_since line old new None grown h = tt
 behind_since line old new (Some chains) grown h =
-    let size : length chains.classes ≡ length line =
-    classes_size line chains.classes (length chains.heads) h.classes in
+    let size = behind_within line old chains h in
     record {
       classes = h.classes;
+      keyless = h.keyless;
       passed = λ q within before. grown q (omega arith) (h.passed q within before);
       named = λ q within before shares. grown q (omega arith) (h.named q within before shares);
     }
@@ -87,18 +87,22 @@ chains_untake s p None None h back = tt
 chains_untake s p None (Some new) h back = absurd back
 chains_untake s p (Some old) None h back = tt
 chains_untake s p (Some old) (Some new) h back = record {
-  classes = back.classes ∙ (h.classes ∙ ap (λ n. map (class_in n) s.context.line) (sym back.count));
+  classes = back.classes ∙ (h.classes
+      ∙ (ap (λ n. map (class_in n) (take (length old.classes) s.context.line)) (sym back.count)
+      ∙ ap (λ k. map (class_in (length new.heads)) (take k s.context.line))
+      (sym (ap length back.classes))));
+  keyless = subst (HasNoKeyFrom s.context.line) (sym (ap length back.classes)) h.keyless;
   passed = λ q within before. let inside : q < length old.classes = omega
       (arith, ap length back.classes) in ⊎_elim
       (λ (at : q ≡ p). absurd (let low : head_of new q ≤ q = subst (λ x. head_of new x ≤ x)
-      (sym at) back.here in omega arith))
+      (sym at) (back.here (omega (arith, at, inside))) in omega arith))
       (λ (other : q ≢ p). sym (put_other s p q other) ∙ h.passed q inside
       (omega (arith, back.earlier q inside)))
       (cases_eq q p);
   named = λ q within before shares. let inside : q < length old.classes = omega
       (arith, ap length back.classes) in ⊎_elim
       (λ (at : q ≡ p). absurd (let low : cursor_of new q ≤ q = subst (λ x. cursor_of new x ≤ x)
-      (sym at) back.there in omega arith))
+      (sym at) (back.there (omega (arith, at, inside))) in omega arith))
       (λ (other : q ≢ p). sym (put_other s p q other) ∙ h.named q inside
       (omega (arith, back.nearer q inside))
       (rw (sym back.owners, sym back.classes) shares))
@@ -164,6 +168,7 @@ sound_put s p words trail left first chains h free change pushed grown counted n
       chained = subst (λ t. IfSome chains (AreChainsOf t)) (sym means)
           (behind_since new.context.line (has_bit words) (is_taken new) chains
           (λ q within set. sym (bits q within) ∙ set) passed);
+      keyless = h.keyless;
       named = h.named;
     }
 
@@ -252,6 +257,7 @@ sound_untake s p words trail left first aside chains h some last change shorter 
       chained = subst (λ t. IfSome chains (AreChainsOf t)) (sym means)
           (chains_untake new p s.chains chains (subst (λ t. IfSome s.chains (AreChainsOf t))
           (sym before) h.chained) back);
+      keyless = h.keyless;
       named = h.named;
     }
 
@@ -356,6 +362,7 @@ sound_scope s start end left first aside h ordered inside survey kept = record {
   aside = kept;
   chained = chains_same (situation_of s) (with_scope (situation_of s) start end) s.chains refl
       (λ q. refl) h.chained;
+  keyless = h.keyless;
   named = h.named;
 }
 
@@ -407,6 +414,7 @@ sound_path s conflicts path h named = record {
   };
   chained = chains_same (situation_of s) (situation_of
       (record s { conflicts = conflicts; path = path })) s.chains refl (λ q. refl) h.chained;
+  keyless = h.keyless;
   named = named;
 }
 
@@ -523,11 +531,12 @@ next_found s from place found h some clear is =
     by_test false e = none (ltb-false place s.end e)
 
 -- a state of the same situation, with equal bits and first place, is sound too
-pub sound_copy : (i j : Inside) → situation_of i ≡ situation_of j → i.chains ≡ j.chains
+pub sound_copy : (i j : Inside) → situation_of i ≡ situation_of j → i.keys ≡ j.keys
+    → i.chains ≡ j.chains
     → i.words.items ≡ j.words.items → i.left ≡ j.left → i.first ≡ j.first
     → i.aside ≡ no_aside
     → length (rc_slice_items i.items) ≤ vec_capacity i.trail → IsSound j → IsSound i
-sound_copy i j same chains words left first aside room h =
+sound_copy i j same keys chains words left first aside room h =
     let count : length (rc_slice_items i.items) ≡ length (rc_slice_items j.items) = ap
     (λ s. length s.context.line) same in
     let end : i.end ≡ j.end = ap (λ s. s.end) same in
@@ -547,6 +556,8 @@ sound_copy i j same chains words left first aside room h =
           (remembers_nothing (situation_of i));
       chained = subst (λ c. IfSome c (AreChainsOf (situation_of i))) (sym chains)
           (subst (λ s. IfSome j.chains (AreChainsOf s)) (sym same) h.chained);
+      keyless = subst (HasNoKeyFrom (rc_slice_items i.items)) (sym keys)
+          (subst (λ s. HasNoKeyFrom s.context.line j.keys) (sym same) h.keyless);
       named = subst (λ s. IfSome s.context.name (λ n. slice_get s.path 0 ≡ Some n))
           (sym same) h.named;
     }

@@ -1,8 +1,8 @@
 -- The places of a line, chained by the names of their items. No contract above this crate speaks of
 -- them.
 use Rattle.std.specs.Prelude.{ℕ, ◌≡◌, ◌≢◌, ◌+◌, ◌*◌, ◌%◌, ◌^◌, ◌<◌, ◌≤◌, true, List, [], ◌∷◌}
-use Rattle.std.specs.Prelude.{length, map, slice_index, slice_get, Option, Some, None, ⊤, nat_lt, ◌-◌}
-use Rattle.std.specs.Prelude.{Bool, false, if◌then◌else◌}
+use Rattle.std.specs.Prelude.{length, map, take, slice_index, slice_get, Option, Some, None, ⊤}
+use Rattle.std.specs.Prelude.{nat_lt, ◌-◌, Bool, false, if◌then◌else◌}
 use Rattle.std.specs.Option.{option_map_or}
 use Rattle.bpaf_doc.specs.Names.{Names}
 use Rattle.bpaf_words.specs.declared.arg.Arg.{Arg}
@@ -47,6 +47,18 @@ names_in line p = names_of (slice_get line p)
 -- the item at a place of a line is a key with one of the names
 abbrev pub named_at : List Arg → Names → ℕ → Bool
 named_at line names p = option_map_or (is_key_of names) (slice_get line p) false
+
+-- an item is a key
+abbrev pub is_key : Arg → Bool
+is_key (Short c attached word) = true
+is_key (Long name attached word) = true
+is_key (ArgWord text) = false
+is_key (Word text) = false
+is_key (PosWord text) = false
+
+-- no place of a line from one on has a key
+pub record HasNoKeyFrom (line : List Arg) (low : ℕ) : Type 0 where
+  pub none : (names : Names) (p : ℕ) → low ≤ p → named_at line names p ≡ false
 
 -- the item at a place of a line is a key with the name of that at another
 abbrev pub shares_name : List Arg → ℕ → ℕ → Bool
@@ -100,10 +112,13 @@ pub record IsStart (line : List Arg) (names : Names) (chains : Chained) (class p
   pub owner : (q : ℕ) → q < p → slice_index chains.heads class ≤ q
       → named_at line names (slice_index chains.owners class) ≡ true
 
--- the chains are those of the line; what stands before their beginnings is in a set, and so is what
--- stands before their cursors and has the name of their owners
+-- the chains are those of the first places of the line, behind which is no key; what stands before
+-- their beginnings is in a set, and so is what stands before their cursors and has the name of
+-- their owners
 pub record AreBehind (line : List Arg) (set : ℕ → Bool) (chains : Chained) : Type 0 where
-  pub classes : chains.classes ≡ map (class_in (length chains.heads)) line
+  pub classes : chains.classes
+      ≡ map (class_in (length chains.heads)) (take (length chains.classes) line)
+  pub keyless : HasNoKeyFrom line (length chains.classes)
   pub passed : (p : ℕ) → p < length chains.classes → p < head_of chains p → set p ≡ true
   pub named : (p : ℕ) → p < length chains.classes → p < cursor_of chains p
       → shares_name line (owner_of chains p) p ≡ true → set p ≡ true
@@ -119,8 +134,8 @@ pub record ReachBack (place : ℕ) (old new : Chained) : Type 0 where
   pub owners : new.owners ≡ old.owners
   pub earlier : (p : ℕ) → p < length old.classes → head_of new p ≤ head_of old p
   pub nearer : (p : ℕ) → p < length old.classes → cursor_of new p ≤ cursor_of old p
-  pub here : head_of new place ≤ place
-  pub there : cursor_of new place ≤ place
+  pub here : place < length old.classes → head_of new place ≤ place
+  pub there : place < length old.classes → cursor_of new place ≤ place
 
 -- two lines have chains that are so related, or both have none
 abbrev pub IfChained : (Chained → Chained → Type 0) → Option Chained → Option Chained → Type 0

@@ -6,7 +6,7 @@ use Rattle.bpaf_line.specs.declared.state.State.TheInside.{Inside}
 use Rattle.bpaf_line.specs.declared.mark.Steps.TheInside.{Inside as InsideSteps}
 use Rattle.bpaf_line.specs.Remembered.{IsRemembered}
 use Rattle.bpaf_line.specs.Bits.{has_bit}
-use Rattle.bpaf_line.specs.Chained.{AreChainsOf}
+use Rattle.bpaf_line.specs.Chained.{AreChainsOf, HasNoKeyFrom}
 use Rattle.bpaf_line.specs.Changes.{Changes}
 use Rattle.bpaf_line.specs.TakenPlaces.{places_of}
 use Rattle.bpaf_line.specs.Situation.{Situation, is_taken, open_count, TakenInTurn, IsFirstPresent}
@@ -35,8 +35,8 @@ BitsOf s words = (p : ℕ) → p < length s.context.line → has_bit words p ≡
 
 -- each place has its bit, the trail has room for all places, each of which was present when it was
 -- taken, the scope lies in the line, the count of the present ones and the first of them are right,
--- what is kept of a scope that was left was so there, what stands before the chains is taken, and
--- the path begins with the set name
+-- what is kept of a scope that was left was so there, what stands before the chains is taken, no
+-- key stands from the kept place on, and the path begins with the set name
 pub record IsSound (s : Inside) : Type 0 where
   pub worded : length (rc_slice_items s.items) ≤ 64 * length s.words.items
   pub bits : BitsOf (situation_of s) s.words.items
@@ -48,6 +48,7 @@ pub record IsSound (s : Inside) : Type 0 where
   pub first : IsFirstPresent (situation_of s) s.first
   pub aside : IsRemembered (situation_of s) s.aside
   pub chained : IfSome s.chains (AreChainsOf (situation_of s))
+  pub keyless : HasNoKeyFrom (rc_slice_items s.items) s.keys
   pub named : IfSome s.name (λ n. slice_get (map string_bytes s.path.items) 0 ≡ Some n)
 
 -- the changes that kept steps mean

@@ -1,9 +1,10 @@
 //! The places of a line, chained by the names of their items.
-ghost use Rattle.std.specs.Prelude.{ℕ, ◌≡◌, ◌*◌, ◌+◌, ◌<◌, ◌≤◌, ◌||◌, not, IfOk, IfSome, MatchOption, length, map, slice_index, false};
+ghost use Rattle.std.specs.Prelude.{ℕ, ◌≡◌, ◌*◌, ◌+◌, ◌<◌, ◌≤◌, ◌||◌, not, IfOk, IfSome, MatchOption, length, map, slice_get, slice_index, take, ◌-◌, false, true};
+ghost use Rattle.std.specs.Option.{option_map_or};
 ghost use Rattle.bpaf_words.specs.declared.arg.Arg.{Arg};
 ghost use Rattle.bpaf_words.specs.Items.{is_key_of};
 ghost use Rattle.bpaf_line.specs.Bits.{has_bit};
-ghost use Rattle.bpaf_line.specs.Chained.{text_number, name_number, class_in, class_of, named_at, names_in, shares_name, IsNextOf, IsPlaceOf, IsStart, HasWalked, AreBehind, ReachBack, IfChained};
+ghost use Rattle.bpaf_line.specs.Chained.{is_key, text_number, name_number, class_in, class_of, named_at, names_in, shares_name, IsNextOf, IsPlaceOf, IsStart, HasWalked, AreBehind, ReachBack, IfChained, HasNoKeyFrom};
 
 use crate::bits;
 use bpaf_doc::Text;
@@ -13,14 +14,14 @@ use std::marker::Model;
 use std::rc::RcSlice;
 use std::slice;
 
-/// A line of no more places has no chains: to look at all of them costs less.
+/// A line with no more places up to its last key has no chains: to look at all of them costs less.
 const SHORT_LINE: usize = 32;
 
 /// So many classes hold one short name each, which are those of ASCII.
 const OWN_CLASSES: usize = 128;
 
-/// The places of a line, each linked to the next one of its class, and for each class the place at
-/// which its chain begins. Items of the same name are of one class.
+/// The places of a line up to its last key, each linked to the next one of its class, and for each
+/// class the place at which its chain begins. Items of the same name are of one class.
 ///
 /// Items of other names may be of that class too. So each class has an owner, which is a place with the
 /// name that was taken last behind another one, and a cursor: what has that name in front of it is taken.
@@ -48,32 +49,40 @@ impl Model for Chains {
 }
 
 impl Chains {
-    /// The chains of a line, where it isn't a short one: as many classes as places, and one for each short name
-    /// of ASCII.
+    /// The chains of the first places of a line, behind which it has no key, where these aren't
+    /// few: as many classes as such places, and one for each short name of ASCII.
     ///
     /// Refused only for want of memory.
-    pub(crate) fn of_line(alloc: Global, items: &[Arg]) -> Result<Option<Chains>, AllocError>
+    pub(crate) fn of_line(
+        alloc: Global,
+        items: &[Arg],
+        keys: usize,
+    ) -> Result<Option<Chains>, AllocError>
+        requires within { keys ≤ length items.now }
+        requires keyless { HasNoKeyFrom items.now keys }
         ensures { IfOk result (λ found. IfSome found (AreBehind items.now (λ p. false))) }
     {
-        if items.len() <= SHORT_LINE {
+        if keys <= SHORT_LINE {
             return Ok(None);
         }
-        Ok(Some(Chains::of_long_line(alloc, items)?))
+        Ok(Some(Chains::of_long_line(alloc, items, keys)?))
     }
 
-    /// The chains of a line, also of a short one; refused only for want of memory.
-    fn of_long_line(alloc: Global, items: &[Arg]) -> Result<Chains, AllocError>
-        requires { 0 < length items.now }
+    /// The chains of such places, also of few; refused only for want of memory.
+    fn of_long_line(alloc: Global, items: &[Arg], keys: usize) -> Result<Chains, AllocError>
+        requires some { 0 < keys }
+        requires within { keys ≤ length items.now }
+        requires keyless { HasNoKeyFrom items.now keys }
         ensures { IfOk result (AreBehind items.now (λ p. false)) }
     {
         let places = items.len();
-        let count = OWN_CLASSES + places;
-        let classes = classes_of(alloc, items, count)?;
-        let mut next = vec![in alloc; places; places]?;
-        let mut heads = vec![in alloc; places; count]?;
+        let count = OWN_CLASSES + keys;
+        let classes = classes_of(alloc, &items[..keys], count)?;
+        let mut next = vec![in alloc; keys; keys]?;
+        let mut heads = vec![in alloc; keys; count]?;
         link(&classes, &mut next, &mut heads);
         let owners = vec![in alloc; places; count]?;
-        let cursors = vec![in alloc; places; count]?;
+        let cursors = vec![in alloc; keys; count]?;
         Ok(Chains {
             classes: RcSlice::from_vec(classes)?,
             next: RcSlice::from_vec(next)?,
@@ -156,7 +165,7 @@ impl Chains {
     }
 
     /// How many places there are.
-    fn len(&self) -> usize
+    pub(crate) fn len(&self) -> usize
         ensures { result ≡ length self.now.classes }
     {
         self.classes.as_slice().len()
@@ -187,15 +196,15 @@ impl Chains {
         place
     }
 
-    /// Lets the chain of a place's class begin later, and its cursor stand later, past places whose bits
-    /// are set; the cursor also past places with other names.
+    /// Lets the chain of a place's class begin later, and its cursor stand later, past places
+    /// whose bits are set; the cursor also past places with other names. At a place behind the
+    /// last key nothing changes.
     fn pass(&mut self, items: &[Arg], words: &[u64], place: usize)
-        requires within { place < length self.old.classes }
         requires worded { length self.old.classes ≤ 64 * length words.now }
         requires behind { AreBehind items.now (has_bit words.now) self.old }
         ensures { AreBehind items.now (has_bit words.now) self.new }
     {
-        if self.pass_taken(items, words, place) {
+        if place < self.len() && self.pass_taken(items, words, place) {
             self.pass_others(items, words, place);
         }
     }
@@ -233,11 +242,14 @@ impl Chains {
         self.cursors[class] = cursor;
     }
 
-    /// Lets the chain of a place's class begin no later than there, nor its cursor stand later.
+    /// Lets the chain of a place's class begin no later than there, nor its cursor stand later. At
+    /// a place behind the last key nothing changes.
     fn reach_back(&mut self, place: usize)
-        requires { place < length self.old.classes }
         ensures { ReachBack place self.old self.new }
     {
+        if place >= self.len() {
+            return;
+        }
         let class = self.classes.as_slice()[place];
         let head = self.heads[class].min(place);
         let cursor = self.cursors[class].min(place);
@@ -249,7 +261,6 @@ impl Chains {
 /// Lets the chain of a place's class begin later, and its cursor stand later, past places whose bits are
 /// set; the cursor also past places with other names.
 pub(crate) fn pass(chains: &mut Option<Chains>, items: &[Arg], words: &[u64], place: usize)
-    requires within { IfSome chains.old (λ c. place < length c.classes) }
     requires worded { IfSome chains.old (λ c. length c.classes ≤ 64 * length words.now) }
     requires behind { IfSome chains.old (AreBehind items.now (has_bit words.now)) }
     ensures { IfSome chains.new (AreBehind items.now (has_bit words.now)) }
@@ -291,11 +302,36 @@ fn is_passed(items: &[Arg], words: &[u64], owner: usize, place: usize) -> bool
 
 /// Lets the chain of a place's class begin no later than there, nor its cursor stand later.
 pub(crate) fn reach_back(chains: &mut Option<Chains>, place: usize)
-    requires { IfSome chains.old (λ c. place < length c.classes) }
     ensures { IfChained (ReachBack place) chains.old chains.new }
 {
     if let Some(chains) = chains {
         chains.reach_back(place);
+    }
+}
+
+/// How many places there are up to a line's last key and with it; none, where it has no key. It
+/// stays a call, so that its loop keeps no count of its caller's.
+#[inline(never)]
+pub(crate) fn count_to_last_key(items: &[Arg]) -> usize
+    ensures within { result ≤ length items.now }
+    ensures keyless { HasNoKeyFrom items.now result }
+    ensures last { 0 < result
+        → option_map_or is_key (slice_get items.now (result - 1)) false ≡ true }
+{
+    let mut count = items.len();
+    while count > 0 && !is_key(&items[count - 1]) {
+        count -= 1;
+    }
+    count
+}
+
+/// Whether an item is a key.
+fn is_key(item: &Arg) -> bool
+    ensures { result ≡ is_key item.now }
+{
+    match item {
+        Arg::Short(..) | Arg::Long(..) => true,
+        Arg::ArgWord(_) | Arg::Word(_) | Arg::PosWord(_) => false,
     }
 }
 

@@ -10,7 +10,7 @@ ghost use Rattle.bpaf_line.specs.Situation.{is_marker, beginning};
 
 use crate::aside::Aside;
 use crate::bits;
-use crate::chains::Chains;
+use crate::chains::{Chains, count_to_last_key};
 use crate::error::Message;
 use crate::state::State;
 use bpaf_doc::Text;
@@ -99,11 +99,13 @@ impl State {
         let (path, name) = first_path(alloc, args.name())?;
         let left = end - usize::from(line.marker.is_some());
         let first = bits::first_clear(&words, 0, end);
-        let chains = Chains::of_line(alloc, &line.items)?;
+        let keys = count_to_last_key(&line.items);
+        let chains = Chains::of_line(alloc, &line.items, keys)?;
         Ok(State {
             items: RcSlice::from_vec(line.items)?,
             marker: line.marker,
             env: RcSlice::from_vec(entries)?,
+            keys,
             chains,
             words,
             trail: Vec::with_capacity(alloc, end)?,
@@ -138,6 +140,7 @@ impl State {
             items,
             marker: self.marker,
             env,
+            keys: self.keys,
             chains,
             words,
             trail,

@@ -11,8 +11,8 @@ use bpaf_doc::Text;
 use bpaf_words::is_argument_key;
 use std::slice;
 
-/// A scope with no more places from the first present one on is narrow: to look at all of them costs
-/// less than a walk along chains that begin in front of it.
+/// A scope with no more places from the first present one on, up to the line's last key, is
+/// narrow: to look at all of them costs less than a walk along chains that begin in front of it.
 const NARROW_SCOPE: usize = 8;
 
 impl State {
@@ -20,7 +20,8 @@ impl State {
     /// attached one. It takes no memory.
     ///
     /// On a long line the first present place of the scope is looked at, and then only the places
-    /// chained with one of the names; in a narrow scope each of its places.
+    /// chained with one of the names; in a narrow scope each of its places. Places behind the
+    /// line's last key aren't looked at.
     pub(crate) fn first_key(&self, shorts: &[char], longs: &[Text], adjacent: bool) -> Option<usize>
         ensures { MatchOption result
             (HasNone (is_argument_key (record { shorts = shorts.now; longs = longs.now }) adjacent)
@@ -29,44 +30,64 @@ impl State {
             self.now) }
     {
         let Some(chains) = self.chains_of_scope() else {
-            let (place, _) = self.first_open(move |item| is_argument_key(
-                item, shorts, longs, adjacent,
-            ))?;
-            return Some(place);
+            return self.first_in_turn(shorts, longs, adjacent);
         };
         if self.is_key_at(self.first, shorts, longs, adjacent) {
             return Some(self.first);
         }
-        let place = self.first_short_key(chains, shorts, longs, adjacent);
+        let end = self.end.min(chains.len());
+        let place = self.first_short_key(chains, end, shorts, longs, adjacent);
         let place = self.first_long_key(chains, place, shorts, longs, adjacent);
-        (place < self.end).then_some(place)
+        (place < end).then_some(place)
     }
 
     /// The chains of the line, where it has some and the scope isn't narrow.
     fn chains_of_scope(&self) -> Option<&Chains>
         ensures { IfSome result (λ chains. AreChainsOf self.now chains.now) }
     {
-        if self.end - self.first <= NARROW_SCOPE {
+        if self.end.min(self.keys).saturating_sub(self.first) <= NARROW_SCOPE {
             return None;
         }
         self.chains.as_ref()
     }
 
-    /// The first such key with one of the short names; the scope's end, where there is none.
+    /// The first such key, looked for at each place from the first present one on.
+    fn first_in_turn(&self, shorts: &[char], longs: &[Text], adjacent: bool) -> Option<usize>
+        ensures { MatchOption result
+            (HasNone (is_argument_key (record { shorts = shorts.now; longs = longs.now }) adjacent)
+            self.now)
+            (IsFirst (is_argument_key (record { shorts = shorts.now; longs = longs.now }) adjacent)
+            self.now) }
+    {
+        let end = self.end.min(self.keys);
+        let mut place = self.first;
+        while place < end {
+            if self.is_key_at(place, shorts, longs, adjacent) {
+                return Some(place);
+            }
+            place += 1;
+        }
+        None
+    }
+
+    /// The first such key below a place with one of the short names; that place, where there is
+    /// none.
     fn first_short_key(
         &self,
         chains: &Chains,
+        end: usize,
         shorts: &[char],
         longs: &[Text],
         adjacent: bool,
     ) -> usize
-        requires { AreChainsOf self.now chains.now }
+        requires chains { AreChainsOf self.now chains.now }
+        requires inside { end ≤ length chains.now.classes }
         ensures { IsFirstAmong
             (is_argument_key (record { shorts = shorts.now; longs = longs.now }) adjacent)
-            (record { shorts = shorts.now; longs = [] }) self.now self.now.end result }
+            (record { shorts = shorts.now; longs = [] }) self.now end result }
     {
         let items = self.items.as_slice();
-        let mut place = self.end;
+        let mut place = end;
         for short in shorts {
             let start = chains.start(items, *short as usize, slice::from_ref(short), &[]);
             place = self.first_along(chains, start, place, shorts, longs, adjacent);
@@ -84,7 +105,7 @@ impl State {
         adjacent: bool,
     ) -> usize
         requires chains { AreChainsOf self.now chains.now }
-        requires inside { end ≤ length self.now.context.line }
+        requires inside { end ≤ length chains.now.classes }
         ensures { IsFirstAmong
             (is_argument_key (record { shorts = shorts.now; longs = longs.now }) adjacent)
             (record { shorts = []; longs = longs.now }) self.now end result }
@@ -111,7 +132,7 @@ impl State {
         adjacent: bool,
     ) -> usize
         requires chains { AreChainsOf self.now chains.now }
-        requires inside { end ≤ length self.now.context.line }
+        requires inside { end ≤ length chains.now.classes }
         ensures { IsFirstAlong
             (is_argument_key (record { shorts = shorts.now; longs = longs.now }) adjacent)
             self.now chains.now.classes start end result }

@@ -32,6 +32,7 @@ pub struct State {
     pub(crate) items: RcSlice<Arg>,
     pub(crate) marker: Option<usize>,
     pub(crate) env: RcSlice<(Text, Text)>,
+    pub(crate) keys: usize,
     pub(crate) chains: Option<Chains>,
     pub(crate) words: Vec<u64>,
     pub(crate) trail: Vec<usize>,

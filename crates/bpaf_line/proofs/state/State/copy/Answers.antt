@@ -25,7 +25,7 @@ invariant_of-result c =
       path,
       c.in_ok-name.ensures,
     ) refl)
-    c.in_ok-chains.ensures (c.in_ok-words.ensures.items ∙ c.as_slice.ensures.value) refl refl
+    refl c.in_ok-chains.ensures (c.in_ok-words.ensures.items ∙ c.as_slice.ensures.value) refl refl
     c.nothing.ensures
     (omega (
       arith,

@@ -1,6 +1,6 @@
-use Rattle.std.proofs.Common.{◌∙◌, ap, sym, arith, length, not}
+use Rattle.std.proofs.Common.{◌∙◌, ap, sym, arith, not}
 use Rattle.bpaf_words.specs.Items.{is_argument_key}
-use Rattle.bpaf_line.proofs.Chained.{classes_size, walked_none, walked_more}
+use Rattle.bpaf_line.proofs.Chained.{walked_none, walked_more}
 use Rattle.bpaf_line.proofs.Finding.{first_along}
 use Rattle.bpaf_line.proofs.state.State.first_along.Goals as goal
 
@@ -12,13 +12,7 @@ loop-place-preserved c =
     let chains = c.args.chains.now in
     walked_more chains.classes _ c.args.start c.loop-place.place c.after-place.result
     c.loop-place.invariant
-    (omega (
-      arith,
-      classes_size c.args.self.now.context.line chains.classes
-          (length chains.heads) c.requires.chains.classes,
-      c.loop-place-test.true,
-      c.requires.inside,
-    ))
+    (omega (arith, c.loop-place-test.true, c.requires.inside))
     (ap not (sym c.is_key_at.ensures ∙ c.if-is_key_at.false)) c.after-place.ensures
 
 pub returns-then-is_key_at : goal.returns-then-is_key_at

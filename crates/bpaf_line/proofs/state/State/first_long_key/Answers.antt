@@ -1,4 +1,4 @@
-use Rattle.std.proofs.Common.{◌++◌, ◌∷◌, [], ◌∙◌, ap, sym, subst, take, false, length}
+use Rattle.std.proofs.Common.{◌++◌, ◌∷◌, [], ◌∙◌, ap, sym, subst, take, false, length, arith}
 use Rattle.std.proofs.lemmas.List.{take_more}
 use Rattle.bpaf_words.specs.declared.arg.Arg.TheVariants.{Long}
 use Rattle.bpaf_words.specs.Items.{is_argument_key}
@@ -35,5 +35,6 @@ loop-long-preserved c =
     (record { shorts = []; longs = name ∷ [] }) s c.args.end c.loop-long.place
     c.first_along-place.result c.loop-long.invariant
     (first_named test s chains key c.start-start.result
-    c.loop-long.place c.first_along-place.result c.requires.chains begins
+    c.loop-long.place c.first_along-place.result c.requires.chains
+    (omega (arith, c.loop-long.invariant.within, c.requires.inside)) begins
     c.first_along-place.ensures))

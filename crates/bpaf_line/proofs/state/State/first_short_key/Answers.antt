@@ -1,4 +1,4 @@
-use Rattle.std.proofs.Common.{◌++◌, ◌∷◌, [], ◌∙◌, ap, sym, subst, take, false, length}
+use Rattle.std.proofs.Common.{◌++◌, ◌∷◌, [], ◌∙◌, ap, sym, subst, take, false, length, arith}
 use Rattle.std.proofs.lemmas.List.{take_more}
 use Rattle.bpaf_words.specs.declared.arg.Arg.TheVariants.{Short}
 use Rattle.bpaf_words.specs.Items.{is_argument_key}
@@ -25,12 +25,13 @@ loop-short-preserved c =
     let begins = subst (λ ns. IsStart s.context.line (record { shorts = ns; longs = [] }) chains class c.start-start.result)
     c.from_ref.ensures.value (subst (λ items. IsStart items (record { shorts = c.from_ref.result.now; longs = [] }) chains class
     c.start-start.result) line c.start-start.ensures) in
-    subst (λ ns. IsFirstAmong test (record { shorts = ns; longs = [] }) s s.end
+    subst (λ ns. IsFirstAmong test (record { shorts = ns; longs = [] }) s c.args.end
     c.first_along-place.result) (sym (take_more shorts i name c.loop-short-test.true
     ∙ ap (λ n. take i shorts ++ n ∷ []) (sym c.short-item.is)))
     (among_more test (record { shorts = take i shorts; longs = [] })
-    (record { shorts = name ∷ []; longs = [] }) s s.end c.loop-short.place
+    (record { shorts = name ∷ []; longs = [] }) s c.args.end c.loop-short.place
     c.first_along-place.result c.loop-short.invariant
     (first_named test s chains key c.start-start.result
-    c.loop-short.place c.first_along-place.result c.requires begins
+    c.loop-short.place c.first_along-place.result c.requires.chains
+    (omega (arith, c.loop-short.invariant.within, c.requires.inside)) begins
     c.first_along-place.ensures))

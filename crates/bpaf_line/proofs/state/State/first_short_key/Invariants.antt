@@ -6,4 +6,4 @@ use Rattle.bpaf_line.proofs.state.State.first_short_key.Given as goal
 abbrev pub invariant-loop-short : goal.invariant-loop-short
 invariant-loop-short l =
     IsFirstAmong (is_argument_key (record { shorts = l.shorts; longs = l.longs }) l.adjacent)
-    (record { shorts = take l.short-index l.shorts; longs = [] }) l.self l.self.end l.place
+    (record { shorts = take l.short-index l.shorts; longs = [] }) l.self l.end l.place

@@ -5,7 +5,7 @@ use Rattle.bpaf_words.specs.Arguments.{env_of, name_of}
 use Rattle.bpaf_line.specs.Situation.{Context, beginning}
 use Rattle.bpaf_line.specs.declared.state.State.TheInside.{Inside}
 use Rattle.bpaf_line.specs.Bits.{IsFirstClear}
-use Rattle.bpaf_line.specs.Chained.{AreBehind}
+use Rattle.bpaf_line.specs.Chained.{AreBehind, HasNoKeyFrom}
 use Rattle.bpaf_line.specs.Inside.{situation_of}
 use Rattle.bpaf_line.proofs.Beginning.{sound_beginning, begins}
 use Rattle.bpaf_line.proofs.state.State.of_line.Goals as goal
@@ -26,6 +26,7 @@ inside c = record {
   items = c.in_ok-from_vec.field-0;
   marker = c.args.line.marker;
   env = c.in_ok-from_vec-2.field-0;
+  keys = c.count_to_last_key-keys.result;
   chains = c.in_ok-chains.chains;
   words = c.in_ok-words.words;
   trail = c.in_ok-with_capacity.field-0;
@@ -66,8 +67,10 @@ invariant_of-result c =
     (subst (λ words. IsFirstClear words 0 n c.first_clear-first.result) c.deref.ensures.value
     (subst (λ m. IsFirstClear c.deref.result.now 0 m c.first_clear-first.result)
     (size c) c.first_clear-first.ensures))
+    (subst (λ items. HasNoKeyFrom items c.count_to_last_key-keys.result) c.deref-2.ensures.value
+    c.count_to_last_key-keys.ensures.keyless)
     (subst (λ items. IfSome c.in_ok-chains.chains (AreBehind items (λ p. false)))
-    c.deref-2.ensures.value c.in_ok-chains.ensures) c.nothing.ensures
+    c.deref-3.ensures.value c.in_ok-chains.ensures) c.nothing.ensures
 
 pub returns : goal.returns
 unfolding context_is inside
