@@ -1,9 +1,8 @@
 -- Arguments: a key and the text behind it.
 use Rattle.std.specs.Prelude.{◌≡◌, ◌⊎◌, ℕ, zero, suc, ◌+◌, ◌≤◌, Bool, true, false, ◌||◌, List, []}
-use Rattle.std.specs.Prelude.{◌∷◌, ◌++◌, Result, Ok, Err, Some, None, String, string_bytes}
+use Rattle.std.specs.Prelude.{◌∷◌, ◌++◌, Result, Ok, Err, Some, None}
 use Rattle.std.specs.Prelude.{Option, option_and_then}
 use Rattle.std.specs.Option.{option_map_or}
-use Rattle.std.specs.declared.alloc.Global.{Global}
 use Rattle.bpaf_doc.specs.Shape.{Shape, Shown, Skip}
 use Rattle.bpaf_text.specs.Named.{KeyWithValue, argument_part}
 use Rattle.bpaf_words.specs.declared.arg.Arg.{Arg}
@@ -133,9 +132,9 @@ RefusesKey last argument s m t = ⊥
 
 -- the text behind the first key, or behind the last of all keys; or there is no key, and nothing
 -- changes; or a refusal
-abbrev pub TakesAtKey : Bool → KeyWithValue → Situation → Result (Option (String Global)) Error
+abbrev pub TakesAtKey : Bool → KeyWithValue → Situation → Result (Option (List ℕ)) Error
     → Situation → Type 0
-TakesAtKey last argument s (Ok (Some text)) t = TakesOwnText last argument s (string_bytes text) t
+TakesAtKey last argument s (Ok (Some text)) t = TakesOwnText last argument s text t
 TakesAtKey last argument s (Ok None) t = HasNoKey argument s × (t ≡ s)
 TakesAtKey last argument s (Err e) t = RefusesKey last argument s e.0 t
 
@@ -154,8 +153,8 @@ RefusesText argument s Memory t = TakesBefore argument.last argument s t
 RefusesText argument s m t = HasNoKey argument s × IsNowhere argument s m × (t ≡ s)
 
 -- the text of an argument, or a refusal
-abbrev pub TakesText : KeyWithValue → Situation → Result (String Global) Error → Situation → Type 0
-TakesText argument s (Ok text) t = GetsText argument s (string_bytes text) t
+abbrev pub TakesText : KeyWithValue → Situation → Result (List ℕ) Error → Situation → Type 0
+TakesText argument s (Ok text) t = GetsText argument s text t
 TakesText argument s (Err e) t = RefusesText argument s e.0 t
 
 -- a refusal: no text; or a text that means no value, its places taken; or want of memory for its

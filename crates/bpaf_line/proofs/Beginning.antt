@@ -14,7 +14,7 @@ use Rattle.bpaf_line.specs.Bits.{has_bit, IsFirstClear}
 use Rattle.bpaf_line.specs.Situation.{Situation, Context, beginning, open_count, is_open, is_taken}
 use Rattle.bpaf_line.specs.Situation.{is_marker, is_dealt_place, TakenInTurn, IsFirstPresent}
 use Rattle.bpaf_line.specs.Chained.{Chained, AreBehind, AreChainsOf, HasNoKeyFrom}
-use Rattle.bpaf_line.specs.Inside.{situation_of, BitsOf, IsSound}
+use Rattle.bpaf_line.specs.Inside.{situation_of, BitsOf, IsSound, shared_entries}
 use Rattle.bpaf_line.proofs.Remembered.{remembers_nothing}
 use Rattle.bpaf_line.proofs.Counts.{count_below-all, count_below-fewer}
 use Rattle.bpaf_line.proofs.Sound.{first_by_bits, behind_since}
@@ -126,7 +126,7 @@ sound_beginning i context e marked worded bits room left clear keyless behind as
 
 -- a state whose fields are those of the beginning is at the beginning
 pub begins : (i : Inside) (context : Context) → rc_slice_items i.items ≡ context.line → i.marker
-    ≡ context.marker → rc_slice_items i.env ≡ context.env → i.name ≡ context.name
+    ≡ context.marker → shared_entries i.env ≡ context.env → i.name ≡ context.name
     → i.trail.items ≡ [] → i.conflicts.items ≡ [] → i.start ≡ 0 → i.end ≡ length context.line
     → map string_bytes i.path.items ≡ option_to_list context.name → i.current ≡ None
     → situation_of i ≡ beginning context

@@ -9,7 +9,7 @@ use Rattle.std.proofs.lemmas.Nat.Bits.{bit_at-zero, bit_at_not, bit_at-trailing_
 use Rattle.std.proofs.lemmas.Nat.Bits.{ones_shr, bit_at-lt, bit_at_ones}
 use lib.Pow.{mod-pow-add}
 use lib.Count.{ones_step, trailing_of_zero}
-use Rattle.bpaf_line.specs.Bits.{clear_within, IsClearRun}
+use Rattle.bpaf_line.specs.Bits.{clear_within, IsClearRun, IsSetRun}
 use Rattle.bpaf_line.specs.Situation.{count_below}
 use Rattle.bpaf_line.proofs.Counts.{count_below-same, count_below-all, count_below-none}
 
@@ -122,3 +122,22 @@ zeros_run word low n fits inside is = ⊎_elim
     (omega (arith, shr_le word low)) in
     run_part word low (trailing_zeros w64 (word / 2 ^ low)) n fits inside h.1 h.2 is)
     (cases_eq (word / 2 ^ low) 0)
+
+-- what is clear in the complement of a word is set in it
+pub run_flipped : (word low n : ℕ) → word < 2 ^ 64 → IsClearRun (bit_not w64 word) low n
+    → IsSetRun word low n
+run_flipped word low n fits run = record {
+  within = run.within;
+  set = λ i above below. omega (
+    arith,
+    run.clear i above below,
+    bit_at_not w64 word i fits (omega (arith, run.within)),
+    bit_at-lt word i,
+  );
+  clear = λ below. omega (
+    arith,
+    run.set below,
+    bit_at_not w64 word (low + n) fits below,
+    bit_at-lt word (low + n),
+  );
+}

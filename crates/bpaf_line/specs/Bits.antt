@@ -35,6 +35,12 @@ pub record IsClearRun (word low n : ℕ) : Type 0 where
   pub clear : (i : ℕ) → low ≤ i → i < low + n → bit_at word i ≡ 0
   pub set : low + n < 64 → bit_at word (low + n) ≡ 1
 
+-- so many bits of a word of 64, from one on, are set, and the next one isn't
+pub record IsSetRun (word low n : ℕ) : Type 0 where
+  pub within : low + n ≤ 64
+  pub set : (i : ℕ) → low ≤ i → i < low + n → bit_at word i ≡ 1
+  pub clear : low + n < 64 → bit_at word (low + n) ≡ 0
+
 -- how many of so many bits of a word, from one on, are clear
 abbrev pub clear_within : ℕ → ℕ → ℕ → ℕ
 clear_within word low wide = count_below (λ i. not (bit_at word (low + i) == 1)) wide

@@ -1,6 +1,9 @@
 -- What a `State` and its `Steps` are kept as, and what they then mean.
 use Rattle.std.specs.Prelude.{◌≡◌, ◌≤◌, ◌<◌, ◌*◌, ℕ, List, length, map, string_bytes, IfSome}
-use Rattle.std.specs.Prelude.{slice_get, Some, vec_capacity}
+use Rattle.std.specs.Prelude.{slice_get, Some, vec_capacity, Option, []}
+use Rattle.std.specs.Option.{option_map_or}
+use Rattle.std.specs.declared.alloc.Global.{Global}
+use Rattle.std.specs.declared.rc.RcSlice.{RcSlice}
 use Rattle.std.specs.Rc.{rc_slice_items}
 use Rattle.bpaf_line.specs.declared.state.State.TheInside.{Inside}
 use Rattle.bpaf_line.specs.declared.mark.Steps.TheInside.{Inside as InsideSteps}
@@ -11,6 +14,10 @@ use Rattle.bpaf_line.specs.Changes.{Changes}
 use Rattle.bpaf_line.specs.TakenPlaces.{places_of}
 use Rattle.bpaf_line.specs.Situation.{Situation, is_taken, open_count, TakenInTurn, IsFirstPresent}
 
+-- the entries of an environment that is kept where there is one
+abbrev pub shared_entries : Option (RcSlice (List ℕ × List ℕ) Global) → List (List ℕ × List ℕ)
+shared_entries env = option_map_or rc_slice_items env []
+
 -- the situation that a kept state means
 abbrev pub situation_of : Inside → Situation
 situation_of s = record {
@@ -18,7 +25,7 @@ situation_of s = record {
       record {
         line = rc_slice_items s.items;
         marker = s.marker;
-        env = rc_slice_items s.env;
+        env = shared_entries s.env;
         name = s.name;
       };
   trail = s.trail.items;

@@ -68,6 +68,23 @@ TakesArgument names adjacent metavar s (Ok None) t = HasNone (is_argument_key na
 TakesArgument names adjacent metavar s (Err e) t = RefusesArgument names adjacent metavar s e.0 ×
     (t ≡ s)
 
+-- `take_text`: the same, with the bytes of the text
+abbrev pub TakesKeyText : Names → Bool → List ℕ → Situation → Result (Option (List ℕ)) Error
+    → Situation → Type 0
+TakesKeyText names adjacent metavar s (Ok (Some text)) t = TakesValue names adjacent s text t
+TakesKeyText names adjacent metavar s (Ok None) t = HasNone (is_argument_key names adjacent) s ×
+    (t ≡ s)
+TakesKeyText names adjacent metavar s (Err e) t = RefusesArgument names adjacent metavar s e.0 ×
+    (t ≡ s)
+
+-- the first key and the text of its value; or there is no key; or a refusal
+abbrev pub FindsArgument : Names → Bool → List ℕ → Situation
+    → Result (Option (ℕ × Bor (List ℕ))) Error → Type 0
+FindsArgument names adjacent metavar s (Ok (Some r)) =
+    IsFirst (is_argument_key names adjacent) s r.0 × (value_after s r.0 ≡ Some r.1.now)
+FindsArgument names adjacent metavar s (Ok None) = HasNone (is_argument_key names adjacent) s
+FindsArgument names adjacent metavar s (Err e) = RefusesArgument names adjacent metavar s e.0
+
 -- the first Word or PosWord is at this place, has this text, and is taken
 pub record TakesText (s : Situation) (place : ℕ) (strict : Bool) (text : List ℕ) (t : Situation) :
     Type 0 where

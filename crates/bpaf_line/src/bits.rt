@@ -1,6 +1,6 @@
 //! A set of places, as bits in words of 64.
 ghost use Rattle.std.specs.Prelude.{ℕ, ◌≡◌, ◌+◌, ◌*◌, ◌<◌, ◌≤◌, length, true, false};
-ghost use Rattle.bpaf_line.specs.Bits.{has_bit, count_clear, clear_within, lesser_of, is_on_as, is_in_first, AreWithin, ChangesBit, ChangesBits, IsClearRun, IsFirstClear, IsFirstSet, IsLeastIn};
+ghost use Rattle.bpaf_line.specs.Bits.{has_bit, count_clear, clear_within, lesser_of, is_on_as, is_in_first, AreWithin, ChangesBit, ChangesBits, IsClearRun, IsSetRun, IsFirstClear, IsFirstSet, IsLeastIn};
 ghost use Rattle.bpaf_line.specs.Situation.{is_on};
 
 /// Whether the bit of a place is set.
@@ -29,7 +29,7 @@ pub(crate) fn clear(words: &mut [u64], place: usize)
 
 /// The first place from one on, below the end, whose bit is not set; the end, where there is none.
 ///
-/// A word whose bits are all set is one step.
+/// A word of 64 places is one step.
 pub(crate) fn first_clear(words: &[u64], from: usize, end: usize) -> usize
     requires ordered { from ≤ end }
     requires inside { end ≤ 64 * length words.now }
@@ -37,13 +37,11 @@ pub(crate) fn first_clear(words: &[u64], from: usize, end: usize) -> usize
 {
     let mut place = from;
     while place < end {
-        if words[place / 64] == u64::MAX {
-            place += (64 - place % 64).min(end - place);
-        } else if is_set(words, place) {
-            place += 1;
-        } else {
-            return place;
+        let set = set_run(words[place / 64], place % 64);
+        if place % 64 + set < 64 {
+            return (place + set).min(end);
         }
+        place += set.min(end - place);
     }
     end
 }
@@ -74,6 +72,14 @@ fn clear_run(word: u64, low: usize) -> usize
 {
     let clear = (word >> low).trailing_zeros() as usize;
     clear.min(64 - low)
+}
+
+/// How many bits of a word from one on are set in a row.
+fn set_run(word: u64, low: usize) -> usize
+    requires { low < 64 }
+    ensures { IsSetRun word low result }
+{
+    clear_run(!word, low)
 }
 
 /// How many places from one on, below the end, have no bit set.

@@ -6,6 +6,7 @@ ghost use Rattle.bpaf_words.specs.Arguments.{env_entries};
 ghost use Rattle.bpaf_words.specs.Spelling.{knowing, known_at};
 ghost use Rattle.bpaf_line.specs.Constructing.{Constructs};
 ghost use Rattle.bpaf_line.specs.Bits.{has_bit};
+ghost use Rattle.bpaf_line.specs.Inside.{shared_entries};
 ghost use Rattle.bpaf_line.specs.Situation.{is_marker, beginning};
 
 use crate::aside::Aside;
@@ -93,7 +94,7 @@ impl State {
           name = name_of args.entry;
         })) }
     {
-        let entries = copy_env(alloc, args.env())?;
+        let env = copy_env(alloc, args.env())?;
         let end = line.items.len();
         let words = first_words(alloc, line.marker, end)?;
         let (path, name) = first_path(alloc, args.name())?;
@@ -104,7 +105,7 @@ impl State {
         Ok(State {
             items: RcSlice::from_vec(line.items)?,
             marker: line.marker,
-            env: RcSlice::from_vec(entries)?,
+            env,
             keys,
             chains,
             words,
@@ -127,7 +128,7 @@ impl State {
         ensures { IfOk result (λ state. state ≡ self.now) }
     {
         let items = self.items.clone()?;
-        let env = self.env.clone()?;
+        let env = share_env(&self.env)?;
         let alloc = self.alloc();
         let chains = Chains::copy_of(&self.chains)?;
         let words = Vec::from_slice(alloc, self.words.as_slice())?;
@@ -187,16 +188,28 @@ fn first_path(alloc: Global, name: Option<&str>) -> Result<(Vec<String>, Option<
     }
 }
 
-/// The entries of an environment; none is the empty one.
+/// The entries of an environment, where there is one.
 fn copy_env(
     alloc: Global,
     env: Option<&BTreeMap<String, String>>,
-) -> Result<Vec<(Text, Text)>, AllocError>
-    ensures { IfOk result (λ entries. entries.items ≡ env_entries env.entry) }
+) -> Result<Option<RcSlice<(Text, Text)>>, AllocError>
+    ensures { IfOk result (λ entries. shared_entries entries ≡ env_entries env.entry) }
 {
     match env {
-        None => Ok(Vec::new(alloc)),
-        Some(env) => copy_entries(alloc, env),
+        None => Ok(None),
+        Some(env) => Ok(Some(RcSlice::from_vec(copy_entries(alloc, env)?)?)),
+    }
+}
+
+/// The same entries, shared; refused only for want of memory.
+fn share_env(
+    env: &Option<RcSlice<(Text, Text)>>,
+) -> Result<Option<RcSlice<(Text, Text)>>, AllocError>
+    ensures { IfOk result (λ copy. shared_entries copy ≡ shared_entries env.now) }
+{
+    match env {
+        Some(env) => Ok(Some(env.clone()?)),
+        None => Ok(None),
     }
 }
 

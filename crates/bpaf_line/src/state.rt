@@ -31,7 +31,7 @@ use std::rc::RcSlice;
 pub struct State {
     pub(crate) items: RcSlice<Arg>,
     pub(crate) marker: Option<usize>,
-    pub(crate) env: RcSlice<(Text, Text)>,
+    pub(crate) env: Option<RcSlice<(Text, Text)>>,
     pub(crate) keys: usize,
     pub(crate) chains: Option<Chains>,
     pub(crate) words: Vec<u64>,
@@ -229,7 +229,8 @@ impl State {
     pub fn env(&self, name: &str) -> Option<&str>
         ensures { option_copied result ≡ entry_of self.now.context.env name.now }
     {
-        value_of(self.env.as_slice(), name)
+        let env = self.env.as_ref()?;
+        value_of(env.as_slice(), name)
     }
 
     /// That an item was looked for in vain in the scope; of a key that shows no name, nothing.

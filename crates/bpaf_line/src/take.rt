@@ -1,8 +1,9 @@
 //! The calls of a state that look for an item and take it.
 ghost use Rattle.bpaf_words.specs.Items.{any_item, is_command_word};
 ghost use Rattle.bpaf_line.specs.Marks.{KeepsMarks};
-ghost use Rattle.bpaf_line.specs.Taking.{TakesFlag, TakesArgument, FindsWord, TakesWord, TakesCommand, HasNoCommand, IsCommandAt};
-ghost use Rattle.std.specs.Prelude.{◌≡◌, MatchOption};
+ghost use Rattle.bpaf_line.specs.Taking.{TakesFlag, TakesArgument, TakesKeyText, FindsArgument};
+ghost use Rattle.bpaf_line.specs.Taking.{FindsWord, TakesWord, TakesCommand, HasNoCommand, IsCommandAt};
+ghost use Rattle.std.specs.Prelude.{◌≡◌, ◌+◌, ◌<◌, ◌^◌, IfOk, IfSome, MatchOption};
 
 use crate::error::{Error, Message};
 use crate::state::State;
@@ -42,17 +43,60 @@ impl State {
         ensures taken { TakesArgument (record { shorts = shorts.now; longs = longs.now }) adjacent
             metavar.0.now self.old result self.new }
     {
-        let Some(key) = self.first_key(shorts, longs, adjacent) else {
+        let Some((key, value)) = self.find_arg(shorts, longs, adjacent, metavar)? else {
             return Ok(None);
-        };
-        let Some(value) = self.value_after(key) else {
-            let metavar = Text::new(self.alloc(), metavar.0)?;
-            return Err(Error(Message::NoArgument(key, metavar)));
         };
         let text = String::from_str(self.alloc(), value.as_str())?;
         self.take(key);
         self.take(key + 1);
         Ok(Some(text))
+    }
+
+    /// The same as [`State::take_arg`], with the text as a [`Text`], which takes no memory where it is
+    /// short. bpaf has no such call.
+    pub fn take_text(
+        &mut self,
+        shorts: &[char],
+        longs: &[Text],
+        adjacent: bool,
+        metavar: Metavar,
+    ) -> Result<Option<Text>, Error>
+        ensures marks { KeepsMarks self.old self.new }
+        ensures taken { TakesKeyText (record { shorts = shorts.now; longs = longs.now }) adjacent
+            metavar.0.now self.old result self.new }
+    {
+        let Some((key, value)) = self.find_arg(shorts, longs, adjacent, metavar)? else {
+            return Ok(None);
+        };
+        let text = value.copy()?;
+        self.take(key);
+        self.take(key + 1);
+        Ok(Some(text))
+    }
+
+    /// The first present key in scope with one of the names (under `adjacent` an attached one), and
+    /// the text behind it. Refused as [`State::take_arg`] is.
+    fn find_arg(
+        &self,
+        shorts: &[char],
+        longs: &[Text],
+        adjacent: bool,
+        metavar: Metavar,
+    ) -> Result<Option<(usize, &Text)>, Error>
+        ensures found { FindsArgument (record { shorts = shorts.now; longs = longs.now }) adjacent
+            metavar.0.now self.now result }
+        ensures fits { IfOk result (λ found. IfSome found (λ r. r.0 + 1 < 2 ^ 64)) }
+    {
+        let Some(key) = self.first_key(shorts, longs, adjacent) else {
+            return Ok(None);
+        };
+        match self.value_after(key) {
+            Some(value) => Ok(Some((key, value))),
+            None => {
+                let metavar = Text::new(self.alloc(), metavar.0)?;
+                Err(Error(Message::NoArgument(key, metavar)))
+            }
+        }
     }
 
     /// The first present Word or PosWord in scope: its place, whether it is a PosWord, its text.

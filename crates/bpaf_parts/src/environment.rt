@@ -51,15 +51,12 @@ pub fn is_present(named: &NamedArg, state: &mut State) -> bool
 }
 
 /// The text behind the first key of an argument, both of which are taken; None, and nothing changes,
-/// where there is no key. Refused as [`State::take_arg`] is.
-fn take_first_key<T>(
-    argument: &ParseArgument<T>,
-    state: &mut State,
-) -> Result<Option<String>, Error>
+/// where there is no key. Refused as [`State::take_text`] is.
+fn take_first_key<T>(argument: &ParseArgument<T>, state: &mut State) -> Result<Option<Text>, Error>
     ensures { TakesAtKey false argument.now state.old result state.new }
 {
     let named = &argument.named;
-    state.take_arg(
+    state.take_text(
         named.shorts(),
         named.longs(),
         argument.adjacent,
@@ -70,8 +67,8 @@ fn take_first_key<T>(
 /// The text behind the last key of an argument, all of whose keys are taken, each with the text behind
 /// it; None, and nothing changes, where there is no key.
 ///
-/// Refused as [`State::take_arg`] is; the keys before the refused one then stay taken.
-fn take_all_keys<T>(argument: &ParseArgument<T>, state: &mut State) -> Result<Option<String>, Error>
+/// Refused as [`State::take_text`] is; the keys before the refused one then stay taken.
+fn take_all_keys<T>(argument: &ParseArgument<T>, state: &mut State) -> Result<Option<Text>, Error>
     ensures { TakesAtKey true argument.now state.old result state.new }
 {
     let mut last = None;
@@ -84,7 +81,7 @@ fn take_all_keys<T>(argument: &ParseArgument<T>, state: &mut State) -> Result<Op
 /// The text behind the key of an argument that counts: the last one of all, or the first one alone.
 ///
 /// None, and nothing changes, where there is no key; refused as these are.
-fn take_key<T>(argument: &ParseArgument<T>, state: &mut State) -> Result<Option<String>, Error>
+fn take_key<T>(argument: &ParseArgument<T>, state: &mut State) -> Result<Option<Text>, Error>
     ensures { TakesAtKey argument.now.last argument.now state.old result state.new }
 {
     if argument.last {
@@ -97,7 +94,7 @@ fn take_key<T>(argument: &ParseArgument<T>, state: &mut State) -> Result<Option<
 /// The text of an argument: that behind its key, or behind the last of all its keys where that counts;
 /// or, where there is no key, that of the first name in the environment that is set (bpaf's
 /// `take_argument`, which knows no last key).
-pub fn take_argument<T>(argument: &ParseArgument<T>, state: &mut State) -> Result<String, Error>
+pub fn take_argument<T>(argument: &ParseArgument<T>, state: &mut State) -> Result<Text, Error>
     ensures { TakesText argument.now state.old result state.new }
 {
     let named = &argument.named;
@@ -108,7 +105,7 @@ pub fn take_argument<T>(argument: &ParseArgument<T>, state: &mut State) -> Resul
         let item = named.argument_item(state.alloc(), argument.metavar)?;
         return Err(absence(state, item, named.envs())?);
     };
-    let text = String::from_str(state.alloc(), value)?;
+    let text = Text::new(state.alloc(), value)?;
     state.set_current(None);
     Ok(text)
 }

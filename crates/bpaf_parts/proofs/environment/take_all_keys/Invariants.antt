@@ -1,6 +1,5 @@
 -- The keys so far were taken in turn, and the last text is that of those.
-use Rattle.std.proofs.Common.{ℕ, List, string_bytes}
-use Rattle.std.specs.Prelude.{option_map}
+use Rattle.std.proofs.Common.{ℕ, List}
 use Rattle.bpaf_line.specs.Situation.{open_count}
 use Rattle.bpaf_laws.specs.Argument.{TakesKeysWithTexts}
 use Rattle.bpaf_laws.proofs.Repeating.{EndsIn}
@@ -9,7 +8,7 @@ use Rattle.bpaf_parts.proofs.environment.take_all_keys.Given as goal
 abbrev pub invariant-loop-last : goal.invariant-loop-last
 invariant-loop-last g l =
     (texts : List (List ℕ)) × TakesKeysWithTexts l.argument l.fn.state texts l.state
-    × EndsIn texts (option_map string_bytes l.last)
+    × EndsIn texts l.last
 
 abbrev pub decreases-loop-last : goal.decreases-loop-last
 decreases-loop-last g l = open_count l.state

@@ -14,11 +14,11 @@ handed_on holds e held (Err f) is = subst (λ x. holds (Err x)) (sym is.1) held
 
 pub returns-clause-outcome : goal.returns-clause-outcome
 returns-clause-outcome g c =
-    value_read _ _ _ _ _ _ c.in_ok-text.ensures (rw c.as_str.ensures.value at c.read_text.ensures)
+    value_read _ _ _ _ _ _ c.in_ok-text.ensures (rw c.as_str.ensures at c.read_text.ensures)
 
 pub returns-clause-key_before_environment : goal.returns-clause-key_before_environment
 returns-clause-key_before_environment g c =
-    key_first _ _ _ _ _ _ c.in_ok-text.ensures (rw c.as_str.ensures.value at c.read_text.ensures)
+    key_first _ _ _ _ _ _ c.in_ok-text.ensures (rw c.as_str.ensures at c.read_text.ensures)
 
 pub returns-in_err-text-clause-key_before_environment :
     goal.returns-in_err-text-clause-key_before_environment

@@ -19,7 +19,7 @@ invariant_of-result c =
     sound_copy _ s
     (rw (
       items,
-      c.in_ok-env.ensures.cases,
+      c.in_ok-env.ensures,
       trail,
       conflicts,
       path,

@@ -25,7 +25,7 @@ inside : After-nothing → Inside
 inside c = record {
   items = c.in_ok-from_vec.field-0;
   marker = c.args.line.marker;
-  env = c.in_ok-from_vec-2.field-0;
+  env = c.in_ok-env.env;
   keys = c.count_to_last_key-keys.result;
   chains = c.in_ok-chains.chains;
   words = c.in_ok-words.words;
@@ -49,7 +49,7 @@ size c = c.len-end.ensures ∙ c.args.line.items.ok.0
 start : (c : After-nothing) → situation_of (inside c) ≡ beginning (context_is c)
 unfolding inside context_is
 start c = begins (inside c) (context_is c) c.in_ok-from_vec.ensures refl
-    (c.in_ok-from_vec-2.ensures ∙ (c.in_ok-entries.ensures ∙ c.env.ensures))
+    (c.in_ok-env.ensures ∙ c.env.ensures)
     (c.in_ok-path.ensures.name ∙ c.name.ensures)
     c.in_ok-with_capacity.ensures.items c.new.ensures.items refl (size c)
     (c.in_ok-path.ensures.path ∙ ap option_to_list c.name.ensures) refl
