@@ -1,3 +1,4 @@
 pub mod Meaning
 pub mod Named
 pub mod Filled
+pub mod Members

@@ -29,6 +29,7 @@
 #![tactic(auto)]
 
 mod fault;
+mod few;
 mod from_list;
 mod from_text;
 mod named;

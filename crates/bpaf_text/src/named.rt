@@ -4,6 +4,7 @@ ghost use Rattle.bpaf_doc.specs.Shape.{name_of, part_of, shown_name};
 ghost use Rattle.bpaf_text.specs.Named.{flag_part, argument_part, first_text};
 ghost use Rattle.bpaf_text.specs.Named.{nothing_named, with_short, with_long, with_env, with_help};
 
+use crate::few::Few;
 use crate::params::{ParseArgument, ParseFlag, build_argument, build_flag_parser};
 use bpaf_doc::{Doc, Item, Metavar, ShortLong, Text};
 use std::alloc::{AllocError, Global};
@@ -24,8 +25,8 @@ use std::marker::Model;
 /// Unlike in bpaf the names are copies, so they need not live for the whole program.
 #[derive(Debug)]
 pub struct NamedArg {
-    shorts: Vec<char>,
-    longs: Vec<Text>,
+    shorts: Few<char>,
+    longs: Few<Text>,
     envs: Vec<Text>,
     help: Option<Doc>,
 }
@@ -37,7 +38,7 @@ impl Model for NamedArg {
 
     ghost view = { λ named.
         record {
-          names = record { shorts = named.shorts.items; longs = named.longs.items };
+          names = record { shorts = named.shorts; longs = named.longs };
           envs = named.envs.items;
           help = named.help;
         } };
@@ -60,8 +61,8 @@ fn unnamed(alloc: Global) -> NamedArg
     ensures { result ≡ nothing_named }
 {
     NamedArg {
-        shorts: Vec::new(alloc),
-        longs: Vec::new(alloc),
+        shorts: Few::new(alloc),
+        longs: Few::new(alloc),
         envs: Vec::new(alloc),
         help: None,
     }
@@ -98,21 +99,43 @@ pub fn env(alloc: Global, name: &str) -> Result<NamedArg, AllocError>
 impl NamedArg {
     /// The key with one more short name, behind those that it has; refused only for want of memory,
     /// and then the key is gone.
-    pub fn short(mut self, name: char) -> Result<NamedArg, AllocError>
+    pub fn short(self, name: char) -> Result<NamedArg, AllocError>
         ensures { IfOk result (λ named. named ≡ with_short self name) }
     {
-        self.shorts.push(name)?;
-        Ok(self)
+        let NamedArg {
+            shorts,
+            longs,
+            envs,
+            help,
+        } = self;
+        let shorts = shorts.push(*envs.allocator(), name)?;
+        Ok(NamedArg {
+            shorts,
+            longs,
+            envs,
+            help,
+        })
     }
 
     /// The key with one more long name, behind those that it has; refused only for want of memory,
     /// and then the key is gone.
-    pub fn long(mut self, name: &str) -> Result<NamedArg, AllocError>
+    pub fn long(self, name: &str) -> Result<NamedArg, AllocError>
         ensures { IfOk result (λ named. named ≡ with_long self name.now) }
     {
-        let name = Text::new(*self.longs.allocator(), name)?;
-        self.longs.push(name)?;
-        Ok(self)
+        let NamedArg {
+            shorts,
+            longs,
+            envs,
+            help,
+        } = self;
+        let alloc = *envs.allocator();
+        let longs = longs.push(alloc, Text::new(alloc, name)?)?;
+        Ok(NamedArg {
+            shorts,
+            longs,
+            envs,
+            help,
+        })
     }
 
     /// The key with one more name in the environment, behind those that it has; refused only for
@@ -246,7 +269,7 @@ impl NamedArg {
     fn shown_name(&self, alloc: Global) -> Result<Option<ShortLong>, AllocError>
         ensures { IfOk result (λ name. option_map name_of name ≡ shown_name self.now.names) }
     {
-        match (self.shorts.first(), self.longs.first()) {
+        match (self.shorts().first(), self.longs().first()) {
             (None, None) => Ok(None),
             (Some(short), None) => Ok(Some(ShortLong::Short(*short))),
             (None, Some(long)) => Ok(Some(ShortLong::Long(Text::new(alloc, long.as_str())?))),
@@ -261,12 +284,10 @@ impl NamedArg {
     pub fn copy(&self) -> Result<NamedArg, AllocError>
         ensures { IfOk result (λ named. named ≡ self.now) }
     {
-        let alloc = *self.longs.allocator();
-        let shorts = Vec::from_slice(alloc, &self.shorts)?;
         Ok(NamedArg {
-            shorts,
-            longs: copy_texts(alloc, &self.longs)?,
-            envs: copy_texts(alloc, &self.envs)?,
+            shorts: self.shorts.copy()?,
+            longs: self.longs.copy()?,
+            envs: copy_texts(*self.envs.allocator(), &self.envs)?,
             help: Doc::copy_of(&self.help)?,
         })
     }
