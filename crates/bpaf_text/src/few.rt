@@ -48,6 +48,15 @@ impl<T> Few<T> {
         }
     }
 
+    /// A list of one member.
+    pub(crate) fn one(member: T) -> Few<T>
+        ensures { result ≡ member ∷ [] }
+    {
+        Few {
+            kept: Kept::One(member),
+        }
+    }
+
     /// The members, in the order in which they were given.
     pub(crate) fn as_slice(&self) -> &[T]
         requires { FitsInMemory T.row }

@@ -2,7 +2,8 @@ ghost use Rattle.std.specs.Prelude.{◌≡◌, Some, None, true, false, IfOk};
 ghost use Rattle.std.specs.Option.{option_map};
 ghost use Rattle.bpaf_doc.specs.Shape.{name_of, part_of, shown_name};
 ghost use Rattle.bpaf_text.specs.Named.{flag_part, argument_part, first_text};
-ghost use Rattle.bpaf_text.specs.Named.{nothing_named, with_short, with_long, with_env, with_help};
+ghost use Rattle.bpaf_text.specs.Named.{key_named, nothing_named};
+ghost use Rattle.bpaf_text.specs.Named.{with_short, with_long, with_env, with_help};
 
 use crate::few::Few;
 use crate::params::{ParseArgument, ParseFlag, build_argument, build_flag_parser};
@@ -56,13 +57,13 @@ impl Drop for NamedArg {
     }
 }
 
-/// A key that holds nothing, which no public call makes. It takes no memory.
-fn unnamed(alloc: Global) -> NamedArg
-    ensures { result ≡ nothing_named }
+/// A key with these names and nothing else. It takes no memory.
+fn build_named(alloc: Global, shorts: Few<char>, longs: Few<Text>) -> NamedArg
+    ensures { result ≡ key_named (record { shorts = shorts; longs = longs }) }
 {
     NamedArg {
-        shorts: Few::new(alloc),
-        longs: Few::new(alloc),
+        shorts,
+        longs,
         envs: Vec::new(alloc),
         help: None,
     }
@@ -73,7 +74,7 @@ fn unnamed(alloc: Global) -> NamedArg
 pub fn short(alloc: Global, name: char) -> Result<NamedArg, AllocError>
     ensures { IfOk result (λ named. named ≡ with_short nothing_named name) }
 {
-    unnamed(alloc).short(name)
+    Ok(build_named(alloc, Few::one(name), Few::new(alloc)))
 }
 
 /// A key with one long name, such as `size` for `--size` (bpaf's `long`, in `lib.rs`); refused
@@ -81,7 +82,8 @@ pub fn short(alloc: Global, name: char) -> Result<NamedArg, AllocError>
 pub fn long(alloc: Global, name: &str) -> Result<NamedArg, AllocError>
     ensures { IfOk result (λ named. named ≡ with_long nothing_named name.now) }
 {
-    unnamed(alloc).long(name)
+    let name = Text::new(alloc, name)?;
+    Ok(build_named(alloc, Few::new(alloc), Few::one(name)))
 }
 
 /// A key with one name in the environment and none on the line (bpaf's `env`, in `lib.rs`); refused
@@ -93,7 +95,7 @@ pub fn long(alloc: Global, name: &str) -> Result<NamedArg, AllocError>
 pub fn env(alloc: Global, name: &str) -> Result<NamedArg, AllocError>
     ensures { IfOk result (λ named. named ≡ with_env nothing_named name.now) }
 {
-    unnamed(alloc).env(name)
+    build_named(alloc, Few::new(alloc), Few::new(alloc)).env(name)
 }
 
 impl NamedArg {
