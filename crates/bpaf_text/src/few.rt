@@ -71,6 +71,9 @@ impl<T> Few<T> {
 
 impl<T: Drop> Few<T> {
     /// The list with one more member, behind those that it has; refused only for want of memory.
+    ///
+    /// It stands in its callers, where it is mostly known that the list has no member yet.
+    #[inline(always)]
     pub(crate) fn push(self, alloc: Global, member: T) -> Result<Few<T>, AllocError>
         ensures { IfOk result (λ few. few ≡ self ++ member ∷ []) }
     {

@@ -101,6 +101,8 @@ pub fn env(alloc: Global, name: &str) -> Result<NamedArg, AllocError>
 impl NamedArg {
     /// The key with one more short name, behind those that it has; refused only for want of memory,
     /// and then the key is gone.
+    // In its caller's place, so that a key is put together where it is to stand.
+    #[inline(always)]
     pub fn short(self, name: char) -> Result<NamedArg, AllocError>
         ensures { IfOk result (λ named. named ≡ with_short self name) }
     {
@@ -121,6 +123,8 @@ impl NamedArg {
 
     /// The key with one more long name, behind those that it has; refused only for want of memory,
     /// and then the key is gone.
+    // In its caller's place, as `short`.
+    #[inline(always)]
     pub fn long(self, name: &str) -> Result<NamedArg, AllocError>
         ensures { IfOk result (λ named. named ≡ with_long self name.now) }
     {
