@@ -105,9 +105,9 @@ impl Doc {
     pub fn from_text(alloc: Global, text: &str) -> Result<Doc, AllocError>
         ensures { IfOk result (TextPieces text.now) }
     {
-        let mut doc = Doc::new(alloc);
-        doc.text(text)?;
-        Ok(doc)
+        Ok(Doc {
+            pieces: text_pieces(alloc, text)?,
+        })
     }
 
     /// A document of one piece for each text, the text as it is (bpaf's `From<&[(&str, Style)]>`);
