@@ -33,7 +33,12 @@ pub struct ParseCollect<P, C, T> {
 
 impl<P, C, T> ParseCollect<P, C, T> {
     /// This repeat, but each error other than wrong input and want of memory ends the list (bpaf's
-    /// `ParseCollect::catch`).
+    /// `ParseCollect::catch`). What can't be read stays on the line.
+    ///
+    /// ```text
+    /// let nums = positional::<u64>("N").collect::<VecDeque<u64>>().catch();
+    /// construct!(nums, words)      ([3, 1], ["x"]) off `3 1 x`
+    /// ```
     pub fn catch(mut self) -> ParseCollect<P, C, T>
         ensures { result ≡ record self { catch = true } }
     {

@@ -62,7 +62,12 @@ pub struct ParseOptional<P> {
 
 impl<P> ParseOptional<P> {
     /// This parser, but each error other than wrong input and want of memory gives None (bpaf's
-    /// `ParseOptional::catch`).
+    /// `ParseOptional::catch`). What can't be read stays on the line.
+    ///
+    /// ```text
+    /// let num = positional::<u64>("N").optional().catch();
+    /// construct!(num, words)      (None, ["x"]) off `x`, where `words` reads all words
+    /// ```
     pub fn catch(mut self) -> ParseOptional<P>
         ensures { result ≡ record self { catch = true } }
     {

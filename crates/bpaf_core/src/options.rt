@@ -65,6 +65,12 @@ impl<T, P> OptionParser<T, P> {
 
     /// The parser with this text behind the usage (bpaf's `OptionParser::header`). It takes no
     /// memory.
+    ///
+    /// ```text
+    /// switch.to_options(alloc)?.header(Doc::from_text(alloc, "This is a header")?)
+    /// ```
+    ///
+    /// Off `--help` a paragraph `This is a header` stands between `Usage: [-s]` and the options.
     pub fn header(mut self, header: Doc) -> OptionParser<T, P>
         ensures { result ≡ record self { info = record self.info { header = Some header } } }
     {
@@ -74,6 +80,12 @@ impl<T, P> OptionParser<T, P> {
 
     /// The parser with this text at the end of the help page (bpaf's `OptionParser::footer`). It
     /// takes no memory.
+    ///
+    /// ```text
+    /// switch.to_options(alloc)?.footer(Doc::from_text(alloc, "This is a footer")?)
+    /// ```
+    ///
+    /// Off `--help` the page ends in a paragraph `This is a footer`.
     pub fn footer(mut self, footer: Doc) -> OptionParser<T, P>
         ensures { result ≡ record self { info = record self.info { footer = Some footer } } }
     {
@@ -83,6 +95,12 @@ impl<T, P> OptionParser<T, P> {
 
     /// The parser with this text as the whole usage paragraph, in place of the one that is made
     /// (bpaf's `OptionParser::usage`). It takes no memory.
+    ///
+    /// ```text
+    /// switch.to_options(alloc)?.usage(Doc::from_text(alloc, "Use it")?)
+    /// ```
+    ///
+    /// Off `--help` the page has `Use it` in place of `Usage: [-s]`.
     pub fn usage(mut self, usage: Doc) -> OptionParser<T, P>
         ensures { result ≡ record self { info = record self.info { usage = Some usage } } }
     {
@@ -115,6 +133,10 @@ impl<T, P> OptionParser<T, P> {
 
     /// The parser which shows help, where there is nothing to read and it would refuse (bpaf's
     /// `OptionParser::fallback_to_usage`). It takes no memory.
+    ///
+    /// ```text
+    /// num.to_options(alloc)?.fallback_to_usage()      help off no words; `-v` is refused as ever
+    /// ```
     pub fn fallback_to_usage(mut self) -> OptionParser<T, P>
         ensures { result ≡ record self { info = record self.info { help_if_no_args = true } } }
     {
@@ -212,6 +234,12 @@ impl<T: Drop, P: Parser<T>> OptionParser<T, P> {
     ///
     /// Want of memory is caught nowhere: where the answer isn't want of memory, nor is that of the
     /// parser.
+    ///
+    /// ```text
+    /// let options = construct!(verbose, num).to_options(alloc)?;
+    /// options.run_inner(Args::from(&["-v", "-n", "3"]))           Ok((true, 3))
+    /// options.run_inner(Args::from(&["-v", "-n", "3", "x"]))      refused: `x` is not expected ..
+    /// ```
     pub fn run_inner(&self, args: Args<'_>) -> Result<T, ParseFailure>
         requires { P.can_eval self.now.inner }
         ensures outcome { RunsWords T (P.outcome self.now.inner) (P.describes self.now.inner)

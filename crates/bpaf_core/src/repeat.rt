@@ -59,7 +59,12 @@ pub struct ParseMany<P> {
 
 impl<P> ParseMany<P> {
     /// This repeat, but each error other than wrong input and want of memory ends the list (bpaf's
-    /// `ParseMany::catch`).
+    /// `ParseMany::catch`). What can't be read stays on the line.
+    ///
+    /// ```text
+    /// let nums = positional::<u64>("N").many().catch();
+    /// construct!(nums, words)      ([1, 2], ["x", "3"]) off `1 2 x 3`
+    /// ```
     pub fn catch(mut self) -> ParseMany<P>
         ensures { result ≡ record self { catch = true } }
     {
@@ -133,7 +138,12 @@ pub struct ParseSome<'m, P> {
 
 impl<'m, P> ParseSome<'m, P> {
     /// This repeat, but each error other than wrong input and want of memory ends the list (bpaf's
-    /// `ParseSome::catch`).
+    /// `ParseSome::catch`). What can't be read stays on the line.
+    ///
+    /// ```text
+    /// let nums = positional::<u64>("N").some("need one").catch();
+    /// construct!(nums, words)      ([1], ["x", "3"]) off `1 x 3`
+    /// ```
     pub fn catch(mut self) -> ParseSome<'m, P>
         ensures { result ≡ record self.entry { catch = true } }
     {

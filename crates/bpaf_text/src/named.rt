@@ -71,6 +71,10 @@ fn build_named(alloc: Global, shorts: Few<char>, longs: Few<Text>) -> NamedArg
 
 /// A key with one short name, such as `v` for `-v` (bpaf's `short`, in `lib.rs`); refused only
 /// for want of memory.
+///
+/// ```text
+/// short(alloc, 'v')?.switch()      true off `-v`, false off no words
+/// ```
 pub fn short(alloc: Global, name: char) -> Result<NamedArg, AllocError>
     ensures { IfOk result (λ named. named ≡ with_short nothing_named name) }
 {
@@ -79,6 +83,10 @@ pub fn short(alloc: Global, name: char) -> Result<NamedArg, AllocError>
 
 /// A key with one long name, such as `size` for `--size` (bpaf's `long`, in `lib.rs`); refused
 /// only for want of memory.
+///
+/// ```text
+/// long(alloc, "accept")?.req_flag(7)      7 off `--accept`
+/// ```
 pub fn long(alloc: Global, name: &str) -> Result<NamedArg, AllocError>
     ensures { IfOk result (λ named. named ≡ with_long nothing_named name.now) }
 {
@@ -101,6 +109,10 @@ pub fn env(alloc: Global, name: &str) -> Result<NamedArg, AllocError>
 impl NamedArg {
     /// The key with one more short name, behind those that it has; refused only for want of memory,
     /// and then the key is gone.
+    ///
+    /// ```text
+    /// long(alloc, "verbose")?.short('v')?.short('w')?.switch()      true off `-w`
+    /// ```
     // In its caller's place, so that a key is put together where it is to stand.
     #[inline(always)]
     pub fn short(self, name: char) -> Result<NamedArg, AllocError>
@@ -123,6 +135,10 @@ impl NamedArg {
 
     /// The key with one more long name, behind those that it has; refused only for want of memory,
     /// and then the key is gone.
+    ///
+    /// ```text
+    /// short(alloc, 'n')?.long("num")?.argument::<u64>("NUM")      3 off `--num=3`
+    /// ```
     // In its caller's place, as `short`.
     #[inline(always)]
     pub fn long(self, name: &str) -> Result<NamedArg, AllocError>
@@ -148,6 +164,12 @@ impl NamedArg {
     /// want of memory, and then the key is gone.
     ///
     /// Where no key stands on the line, the first of these names that is set counts in its place.
+    ///
+    /// ```text
+    /// short(alloc, 'n')?.env("NUM")?.argument::<u64>("NUM")
+    /// ```
+    ///
+    /// Where `NUM` is `5`, that is 5 off no words, and 3 off `-n 3`.
     pub fn env(mut self, name: &str) -> Result<NamedArg, AllocError>
         ensures { IfOk result (λ named. named ≡ with_env self name.now) }
     {
@@ -159,8 +181,11 @@ impl NamedArg {
     /// The key with this help, in place of the one that it has. It takes no memory.
     ///
     /// ```text
-    /// let size = long(alloc, "size")?.help(Doc::from_text(alloc, "Width of a line")?);
+    /// let verbose = short(alloc, 'v')?.long("verbose")?;
+    /// let verbose = verbose.help(Doc::from_text(alloc, "Print more")?).switch();
     /// ```
+    ///
+    /// The help page has the line `-v, --verbose  Print more` of it.
     pub fn help(mut self, help: Doc) -> NamedArg
         ensures { result ≡ with_help self help }
     {
@@ -190,6 +215,10 @@ impl NamedArg {
     }
 
     /// A flag that is true where the key stands on the line, and false where it does not.
+    ///
+    /// ```text
+    /// short(alloc, 'v')?.long("verbose")?.switch()      true off `-v` and `--verbose`, else false
+    /// ```
     pub fn switch(self) -> ParseFlag<bool>
         ensures { result ≡ record { present = true; absent = Some false; named = self } }
     {
@@ -209,6 +238,10 @@ impl NamedArg {
     }
 
     /// A flag that must stand on the line, and then has the value `present`.
+    ///
+    /// ```text
+    /// long(alloc, "accept")?.req_flag(7)      7 off `--accept`; off no words it is refused
+    /// ```
     pub fn req_flag<T>(self, present: T) -> ParseFlag<T>
         ensures { result ≡ record { present = present; absent = None; named = self } }
     {

@@ -79,6 +79,11 @@ impl<I, T, F> ParseAny<I, T, F> {
 
     /// This parser, but each present item is looked at, in order, until one is wanted (bpaf's
     /// `ParseAny::anywhere`).
+    ///
+    /// ```text
+    /// let go = any::<String, String, _>(alloc, "ANY", |text| only_go(text))?.anywhere();
+    /// construct!(go, word)      ("go", "x") off `x go`
+    /// ```
     pub fn anywhere(mut self) -> ParseAny<I, T, F>
         ensures { result ≡ record self { anywhere = true } }
     {

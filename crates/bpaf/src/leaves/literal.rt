@@ -60,6 +60,11 @@ impl ParseLiteral {
     }
 
     /// This parser, but each present item is looked at, in order, until one has the text.
+    ///
+    /// ```text
+    /// let go = literal(alloc, "go")?.anywhere();
+    /// construct!(go, word)      ((), "x") off `x go`
+    /// ```
     pub fn anywhere(mut self) -> ParseLiteral
         ensures { result ≡ record self { anywhere = true } }
     {

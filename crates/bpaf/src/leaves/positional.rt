@@ -91,6 +91,10 @@ impl<T> ParsePositional<T> {
 
     /// The word must stand on the right side of `--` (bpaf's `ParsePositional::strict`); one that does
     /// not is taken and refused.
+    ///
+    /// ```text
+    /// positional::<String>("S").strict()      "a" off `-- a`; `a` is refused
+    /// ```
     pub fn strict(mut self) -> ParsePositional<T>
         ensures { result ≡ record self { position = Position.Strict } }
     {
@@ -100,6 +104,10 @@ impl<T> ParsePositional<T> {
 
     /// The word must stand on the left side of `--` (bpaf's `ParsePositional::non_strict`); one that
     /// does not is taken and refused.
+    ///
+    /// ```text
+    /// positional::<String>("S").non_strict()      "a" off `a`; `-- a` is refused
+    /// ```
     pub fn non_strict(mut self) -> ParsePositional<T>
         ensures { result ≡ record self { position = Position.NonStrict } }
     {
