@@ -3,7 +3,8 @@ ghost use Rattle.bpaf_words.specs.Items.{any_item, is_command_word};
 ghost use Rattle.bpaf_line.specs.Marks.{KeepsMarks};
 ghost use Rattle.bpaf_line.specs.Taking.{TakesFlag, TakesArgument, TakesKeyText, FindsArgument};
 ghost use Rattle.bpaf_line.specs.Taking.{FindsWord, TakesWord, TakesCommand, HasNoCommand, IsCommandAt};
-ghost use Rattle.std.specs.Prelude.{◌≡◌, ◌+◌, ◌<◌, ◌^◌, IfOk, IfSome, MatchOption};
+ghost use Rattle.bpaf_line.specs.Situation.{is_open, take_place};
+ghost use Rattle.std.specs.Prelude.{◌≡◌, ◌+◌, ◌<◌, ◌^◌, true, IfOk, IfSome, MatchOption};
 
 use crate::error::{Error, Message};
 use crate::state::State;
@@ -47,8 +48,7 @@ impl State {
             return Ok(None);
         };
         let text = String::from_str(self.alloc(), value.as_str())?;
-        self.take(key);
-        self.take(key + 1);
+        self.take_pair(key);
         Ok(Some(text))
     }
 
@@ -69,9 +69,20 @@ impl State {
             return Ok(None);
         };
         let text = value.copy()?;
+        self.take_pair(key);
+        Ok(Some(text))
+    }
+
+    /// Takes a place that is present and in scope, and the next one, which is so too.
+    fn take_pair(&mut self, key: usize)
+        requires key { is_open self.old key ≡ true }
+        requires value { is_open self.old (key + 1) ≡ true }
+        requires fits { key + 1 < 2 ^ 64 }
+        ensures taken { self.new ≡ take_place (take_place self.old key) (key + 1) }
+        ensures marks { KeepsMarks self.old self.new }
+    {
         self.take(key);
         self.take(key + 1);
-        Ok(Some(text))
     }
 
     /// The first present key in scope with one of the names (under `adjacent` an attached one), and
