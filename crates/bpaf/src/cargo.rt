@@ -1,3 +1,4 @@
+//! A parser whose line may begin with cargo's own name of the subcommand.
 ghost use Rattle.std.specs.Prelude.{◌≡◌, IfOk, false};
 
 use crate::leaves::literal::{ParseLiteral, literal};

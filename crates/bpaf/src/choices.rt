@@ -1,3 +1,4 @@
+//! A choice of any number of parsers of one type.
 ghost use Rattle.std.specs.Prelude.{◌≡◌, ◌==◌, false, length, IfOk, All};
 ghost use Rattle.bpaf_doc.specs.Shape.{shape_of};
 ghost use Rattle.bpaf_laws.specs.Choice.{ChoiceDescribes, ChoiceOutcome};

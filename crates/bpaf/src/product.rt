@@ -1,3 +1,4 @@
+//! Products: the fields of a record, read one after another.
 ghost use Rattle.std.specs.Prelude.{◌≡◌, OnOk, map};
 ghost use Rattle.bpaf_doc.specs.Shape.{shape_of};
 ghost use Rattle.bpaf_laws.specs.Product.{AppendsShapes};

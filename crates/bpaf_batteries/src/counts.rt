@@ -1,3 +1,4 @@
+//! How often the keys for more and for less are given.
 ghost use Rattle.std.specs.Prelude.{◌≡◌, ◌∷◌, [], IfOk, IsTrue, None};
 ghost use Rattle.bpaf_batteries.specs.Keys.{AreKeysApart, AreVerboseAndQuiet, IsCountedKey};
 

@@ -1,3 +1,4 @@
+//! Two flags of which the last one given counts.
 ghost use Rattle.std.specs.Prelude.{◌≡◌, None, false};
 ghost use Rattle.bpaf_batteries.specs.Toggle.{IsLastOf};
 

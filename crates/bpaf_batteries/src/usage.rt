@@ -1,3 +1,4 @@
+//! The usage text of a parser, without a run.
 ghost use Rattle.std.specs.Prelude.{IfOk, option_map, string_bytes};
 ghost use Rattle.bpaf_core.specs.Run.{RunsWords};
 ghost use Rattle.bpaf_batteries.specs.Usage.{TellsText, TellsUsage, help_asked};

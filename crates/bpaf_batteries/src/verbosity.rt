@@ -1,3 +1,4 @@
+//! How much a program tells, as a number or as a member of a list.
 ghost use Rattle.std.specs.Prelude.{◌≡◌, ◌<◌, ◌≤◌, ◌≤ℤ◌, ◌-ℤ◌, IfOk, length, pos};
 ghost use Rattle.bpaf_batteries.specs.Keys.{AreVerboseAndQuiet};
 ghost use Rattle.bpaf_batteries.specs.Level.{level};

@@ -1,3 +1,4 @@
+//! The answer of a parser for some words, as the text of a row.
 use bpaf::{Args, OptionParser, ParseFailure, Parser};
 use bpaf_described::Value;
 use std::alloc::{AllocError, Global};

@@ -1,3 +1,4 @@
+//! The rows of a file, read line by line, and what they come to.
 use crate::answer::{answer, is_answer, is_wanted, run_beginnings};
 use crate::words::{is_separated, quoted, quoted_words, separated_words};
 use bpaf::OptionParser;

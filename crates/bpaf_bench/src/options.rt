@@ -1,3 +1,4 @@
+//! The options of the bench itself.
 use bpaf::{Args, Doc, ParseFailure, Parser, construct, long, positional};
 use std::alloc::Global;
 

@@ -1,3 +1,4 @@
+//! The files of the bench, one after another, and its status.
 use crate::bench::{Bench, Counts};
 use crate::options::Options;
 use bpaf_described::Described;

@@ -1,3 +1,4 @@
+//! The words of a row, separated by a character or quoted.
 use std::alloc::{AllocError, Global};
 
 /// What parts the words of a row that a program wrote.

@@ -1,3 +1,4 @@
+//! What the steps of a chain print.
 ghost use Rattle.std.specs.Prelude.{◌≡◌, ◌++◌, IfOk, OnOk, map, string_bytes};
 ghost use Rattle.bpaf_program.specs.Running.{AnswersText};
 ghost use Rattle.bpaf_chain.specs.Lines.{step_line, step_lines, turn_line};

@@ -1,3 +1,4 @@
+//! The steps of a chain, as adjacent commands.
 ghost use Rattle.std.specs.Prelude.{◌≡◌, IfOk, map, string_bytes, true};
 ghost use Rattle.std.specs.Result.{IfErr};
 ghost use Rattle.bpaf_laws.specs.Command.{named_only};

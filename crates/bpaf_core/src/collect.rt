@@ -1,3 +1,4 @@
+//! All values of a parser, in a collection of the caller's choice.
 ghost use Rattle.std.specs.Prelude.{◌≡◌, true};
 ghost use Rattle.bpaf_laws.specs.Repeat.{CollectOutcome};
 

@@ -1,3 +1,4 @@
+//! How many values a parser gives, and the last of them.
 ghost use Rattle.bpaf_laws.specs.Repeat.{CountOutcome, LastOutcome};
 
 use crate::optional::parse_option;

@@ -1,3 +1,4 @@
+//! A value that stands in where a parser gives none.
 ghost use Rattle.std.specs.Prelude.{◌≡◌, IfOk};
 ghost use Rattle.std.specs.Fn.{FnReturnsAt};
 ghost use Rattle.bpaf_doc.specs.Shape.{shape_of};

@@ -1,3 +1,4 @@
+//! The trait of all parsers: what one answers, what it shows, and its laws.
 ghost use Rattle.std.specs.Prelude.{◌≡◌, IfOk, false, Some, None};
 ghost use Rattle.bpaf_doc.specs.Shape.{shape_of};
 ghost use Rattle.bpaf_parts.specs.Info.{plain_info};

@@ -1,3 +1,4 @@
+//! All values of a parser, in a list.
 ghost use Rattle.std.specs.Prelude.{◌≡◌, ◌++◌, ◌∷◌, [], IfOk, OnOk, true};
 ghost use Rattle.bpaf_doc.specs.Shape.{shape_of};
 ghost use Rattle.bpaf_laws.specs.Repeat.{ManyOutcome, SomeOutcome, ManyDescribes, SomeDescribes};

@@ -1,3 +1,4 @@
+//! What closures make of a parser's value, and the checks that they do.
 use crate::parser::Parser;
 use bpaf_doc::{Meta, Text};
 use bpaf_line::{Error, Message, State};

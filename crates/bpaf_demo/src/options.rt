@@ -1,3 +1,4 @@
+//! The options of the program, as a flat record.
 ghost use Rattle.std.specs.Prelude.{IfOk, map, string_bytes};
 ghost use Rattle.std.specs.Result.{IfErr};
 ghost use Rattle.bpaf_demo.specs.Exact.{AnswersExactly};

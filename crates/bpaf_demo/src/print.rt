@@ -1,3 +1,4 @@
+//! What the options print.
 ghost use Rattle.std.specs.Prelude.{◌≡◌, ◌++◌, IfOk, OnOk, map, string_bytes};
 ghost use Rattle.bpaf_demo.specs.Lines.{lines, file_lines};
 ghost use Rattle.bpaf_demo.specs.Running.{AnswersLines};

@@ -1,3 +1,4 @@
+//! The program from its words to its bytes and its status.
 ghost use Rattle.std.specs.Prelude.{map, string_bytes};
 ghost use Rattle.bpaf_program.specs.Running.{RunsTo};
 ghost use Rattle.bpaf_demo.specs.Running.{Answers, RunsExactly};

@@ -1,3 +1,4 @@
+//! A parser of any type, as one of the bench's values.
 use crate::value::{Told, Value};
 use bpaf::{Error, Meta, Parser, State};
 use std::alloc::{AllocError, Global};

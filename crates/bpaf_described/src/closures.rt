@@ -1,3 +1,4 @@
+//! The closures that descriptions may name.
 ghost use Rattle.std.specs.Prelude.{◌≡◌, IfErr, codes, is_ok, string_bytes};
 ghost use Rattle.bpaf_described.specs.Closures.{Accepts, Given, IsHalf};
 ghost use Rattle.bpaf_described.specs.OneText.{AcceptsText};

@@ -1,3 +1,4 @@
+//! A described command, made anew for each evaluation.
 ghost use Rattle.std.specs.Prelude.{IfOk, None};
 ghost use Rattle.bpaf_doc.specs.Shape.{shape_of};
 ghost use Rattle.bpaf_laws.specs.Command.{CommandDescribes};

@@ -1,3 +1,4 @@
+//! Adjacent groups of described parsers.
 ghost use Rattle.std.specs.Prelude.{All, IfOk};
 ghost use Rattle.bpaf_doc.specs.Shape.{shape_of};
 ghost use Rattle.bpaf_laws.specs.AdjacentGroup.{GroupDescribes};

@@ -1,3 +1,4 @@
+//! Which combinator a token names.
 use bpaf::parsers::CommandNames;
 
 /// What is made of one parser.

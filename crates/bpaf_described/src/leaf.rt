@@ -1,3 +1,4 @@
+//! The parsers of one item.
 use crate::as_value::AsValue;
 use crate::closures::give;
 use crate::one_text::OneText;

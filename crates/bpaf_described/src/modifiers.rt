@@ -1,3 +1,4 @@
+//! The combinators over one described parser.
 ghost use Rattle.std.specs.Prelude.{IfOk, true};
 ghost use Rattle.bpaf_doc.specs.Shape.{shape_of};
 ghost use Rattle.bpaf_laws.specs.Hide.{HideOutcome};

@@ -1,3 +1,4 @@
+//! Which leaf and which combinator a token of a description means.
 use crate::as_value::AsValue;
 use crate::kind::{Kind, Modifier};
 use crate::leaf::{Answer, Leaf};

@@ -1,3 +1,4 @@
+//! The parsers that one text makes.
 ghost use Rattle.std.specs.Prelude.{None, Option, String, string_bytes};
 ghost use Rattle.std.specs.declared.alloc.Global.{Global};
 ghost use Rattle.bpaf_doc.specs.Shape.{Any};

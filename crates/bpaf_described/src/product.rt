@@ -1,3 +1,4 @@
+//! Products of lent parsers.
 use bpaf::parsers::ParseCon;
 use bpaf::{Error, Fields, Meta, Parser, State};
 use std::alloc::{AllocError, Global};

@@ -1,3 +1,4 @@
+//! Products and choices of several described parsers.
 ghost use Rattle.std.specs.Prelude.{◌≡◌, All, IfOk};
 ghost use Rattle.bpaf_doc.specs.Shape.{shape_of};
 ghost use Rattle.bpaf_laws.specs.Product.{ProductDescribes};

@@ -1,3 +1,4 @@
+//! Equal copies of items and of trees of them.
 ghost use Rattle.std.specs.Prelude.{◌≡◌, IfOk, map};
 ghost use Rattle.bpaf_doc.specs.Shape.{shape_of, part_of, name_of, Any, Flag, Argument};
 

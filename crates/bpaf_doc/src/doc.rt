@@ -1,3 +1,4 @@
+//! Documents: texts in styles, one after another.
 ghost use Rattle.std.specs.Prelude.{◌≡◌, ◌==◌, Bool, true, IfOk, OnOk, OnErr, List, [], ◌∷◌, ◌++◌, map, string_bytes};
 ghost use Rattle.std.specs.List.{before_first};
 ghost use Rattle.bpaf_doc.specs.Prints.{prints, is_empty};

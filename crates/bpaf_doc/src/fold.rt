@@ -1,3 +1,4 @@
+//! The lines of a help text, folded into paragraphs.
 ghost use Rattle.std.specs.Prelude.{◌≡◌, ◌++◌, ◌∷◌, [], IfOk, OnOk, MatchOption, string_bytes};
 ghost use Rattle.bpaf_doc.specs.Print.{shown_as};
 ghost use Rattle.bpaf_doc.specs.Fold.{folded, keeps_break, break_between, HasNoBreak, TextPieces};

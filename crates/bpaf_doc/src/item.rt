@@ -1,3 +1,4 @@
+//! What a parser of one item shows.
 use crate::doc::Doc;
 use crate::meta::Meta;
 use crate::text::Text;

@@ -1,3 +1,4 @@
+//! The tree of what a parser shows.
 ghost use Rattle.std.specs.Prelude.{◌≡◌};
 
 use crate::doc::Doc;

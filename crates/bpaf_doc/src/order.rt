@@ -1,3 +1,4 @@
+//! Whether a key stands behind a word in what is shown.
 ghost use Rattle.std.specs.Prelude.{◌≡◌, ◌||◌, false};
 ghost use Rattle.bpaf_doc.specs.Shape.{shape_of, part_of, members_of, Shown};
 ghost use Rattle.bpaf_doc.specs.Order.{in_order, all_in_order, each_in_order};

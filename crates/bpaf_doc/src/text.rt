@@ -1,3 +1,4 @@
+//! Texts, of which short ones take no memory.
 ghost use Rattle.std.specs.Prelude.{◌≡◌, IfOk};
 
 use crate::short::{ROOM, ShortText};

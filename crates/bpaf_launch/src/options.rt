@@ -1,3 +1,4 @@
+//! The words of a launcher, and those that it passes on.
 ghost use Rattle.std.specs.Prelude.{IfOk, map, string_bytes};
 ghost use Rattle.std.specs.Result.{IfErr};
 ghost use Rattle.bpaf_launch.specs.Dealing.{IsLaunchOf};

@@ -1,3 +1,4 @@
+//! What the launcher prints.
 ghost use Rattle.std.specs.Prelude.{◌≡◌, ◌++◌, IfOk, OnOk, map, string_bytes};
 ghost use Rattle.bpaf_program.specs.Running.{AnswersText};
 ghost use Rattle.bpaf_launch.specs.Lines.{lines, word_lines};

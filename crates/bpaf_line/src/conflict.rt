@@ -1,3 +1,4 @@
+//! Which of two branches wins, and the conflict marks of the other's places.
 ghost use Rattle.std.specs.Prelude.{ℕ, ◌≡◌, ◌&&◌, ◌++◌, List, not, OnOk, OnErr, None, Some, if◌then◌else◌};
 ghost use Rattle.bpaf_line.specs.Situation.{is_on, is_taken, conflict_at, last_of};
 ghost use Rattle.bpaf_line.specs.Marks.{HasReached, CanRedo, KeepsMarks, undone, redone};

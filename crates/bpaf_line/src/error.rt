@@ -1,3 +1,4 @@
+//! What an evaluation refuses with, and which refusals are caught.
 ghost use Rattle.std.specs.Prelude.{◌≡◌, if◌then◌else◌};
 ghost use Rattle.bpaf_line.specs.Combining.{Combines, CombinesSpared};
 ghost use Rattle.bpaf_line.specs.Messages.{is_memory, can_catch, is_wrong_input};

@@ -1,3 +1,4 @@
+//! How a run ends that gives no value.
 ghost use Rattle.std.specs.Prelude.{◌≡◌, IfOk, option_map, string_bytes};
 ghost use Rattle.bpaf_line.specs.Failure.{stdout_text, stderr_text, exit_code};
 

@@ -1,3 +1,4 @@
+//! The present items in scope, one after another.
 use crate::state::State;
 use bpaf_words::Arg;
 

@@ -1,3 +1,4 @@
+//! What was looked for in vain, and where.
 ghost use Rattle.std.specs.Prelude.{◌≡◌, IfOk, [], ◌∷◌, ◌++◌, map};
 ghost use Rattle.bpaf_line.specs.Missing.{missed_of};
 

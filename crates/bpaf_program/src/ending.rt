@@ -1,3 +1,4 @@
+//! The end of a program: the value, or its text is written and its status told.
 ghost use Rattle.std.specs.Prelude.{ℕ, List, Option, string_bytes};
 ghost use Rattle.bpaf_line.specs.declared.failure.ParseFailure.{ParseFailure};
 ghost use Rattle.bpaf_line.specs.declared.failure.ParseFailure.TheVariants.{Stderr, Stdout};

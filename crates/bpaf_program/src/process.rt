@@ -1,3 +1,4 @@
+//! The words that the process was given.
 ghost use Rattle.std.specs.Prelude.{◌≡◌, ◌⊎◌, List, codes};
 ghost use Rattle.std.specs.Result.{IfErr};
 ghost use Rattle.bpaf_doc.specs.declared.doc.Piece.{Piece};

@@ -1,3 +1,4 @@
+//! A text that is written, or a beginning of it where a write fails.
 ghost use Rattle.std.specs.Prelude.{OnErr, OnOk};
 ghost use Rattle.std.specs.Io.KnownBytes.{Appends};
 ghost use Rattle.bpaf_program.specs.Ending.{AppendsPart, error_line};

@@ -1,3 +1,4 @@
+//! Choices as fields of a flat record.
 ghost use Rattle.std.specs.Prelude.{◌≡◌, ◌≤◌, length, take, drop, flat_map};
 ghost use Rattle.std.specs.List.{list_all};
 ghost use Rattle.bpaf_exact.specs.Shape.{choices_shape};

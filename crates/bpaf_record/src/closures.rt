@@ -1,3 +1,4 @@
+//! Fields whose value a closure makes or checks.
 ghost use Rattle.std.specs.Prelude.{◌≡◌};
 
 use crate::field::FlatField;

@@ -1,3 +1,4 @@
+//! Fields that may be missing.
 ghost use Rattle.std.specs.Prelude.{◌≡◌};
 
 use crate::field::FlatField;

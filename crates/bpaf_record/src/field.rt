@@ -1,3 +1,4 @@
+//! The traits of the parsers that are fields of a flat record.
 ghost use Rattle.std.specs.Prelude.{◌≡◌};
 
 use crate::form::Form;

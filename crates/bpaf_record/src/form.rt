@@ -1,3 +1,4 @@
+//! What kind of field a parser is, as far as a flat record goes.
 ghost use Rattle.std.specs.Prelude.{◌≡◌};
 ghost use Rattle.bpaf_record.specs.Form.{closed_form, joined_form, completed_form, field_form};
 ghost use Rattle.bpaf_record.specs.Form.{alternative_form, alone_form, before_form};

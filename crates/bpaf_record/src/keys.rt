@@ -1,3 +1,4 @@
+//! The names of fields, and whether they are apart.
 ghost use Rattle.std.specs.Prelude.{◌≡◌, not, ◌&&◌};
 ghost use Rattle.std.specs.List.{list_all};
 ghost use Rattle.bpaf_words.specs.Items.{is_among, is_text_among};

@@ -1,3 +1,4 @@
+//! Flags, arguments and words as fields.
 ghost use Rattle.std.specs.Prelude.{◌≡◌};
 
 use crate::field::FlatField;

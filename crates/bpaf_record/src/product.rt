@@ -1,3 +1,4 @@
+//! Products of fields.
 ghost use Rattle.std.specs.Prelude.{◌≡◌};
 
 use crate::field::{FlatField, FlatFields};

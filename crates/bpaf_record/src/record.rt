@@ -1,3 +1,4 @@
+//! Whether options are a flat record, and the run of one.
 ghost use Rattle.std.specs.Prelude.{◌≡◌, Result, true};
 ghost use Rattle.std.specs.List.{list_all};
 ghost use Rattle.bpaf_words.specs.Arguments.{given_of};

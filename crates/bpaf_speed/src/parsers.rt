@@ -1,3 +1,4 @@
+//! The parsers whose cost is counted.
 use bpaf::{Args, Doc, ParseFailure, Parser, construct, positional, short};
 use std::alloc::Global;
 

@@ -1,3 +1,4 @@
+//! The works that are counted, and their words.
 use crate::parsers::{flags, last_number, numbers, record, switches};
 use std::alloc::{AllocError, Global};
 

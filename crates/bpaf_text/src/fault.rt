@@ -1,3 +1,4 @@
+//! Why a text gives no value.
 use std::alloc::AllocError;
 
 /// Why reading a text gave no value.

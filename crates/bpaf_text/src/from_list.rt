@@ -1,3 +1,4 @@
+//! The collections that are filled from a list of values.
 use std::alloc::AllocError;
 use std::collections::{BTreeSet, VecDeque};
 

@@ -1,3 +1,4 @@
+//! The types that are read off a text.
 ghost use Rattle.std.specs.Prelude.{◌≡◌, ℕ, List, IfOk, codes, string_bytes};
 ghost use Rattle.std.specs.Int.{w8, w16, w32, w64, w128};
 ghost use Rattle.bpaf_text.specs.Meaning.{ReadsText};

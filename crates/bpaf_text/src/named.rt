@@ -1,3 +1,4 @@
+//! Keys by their names, before it is said what they give.
 ghost use Rattle.std.specs.Prelude.{◌≡◌, Some, None, true, false, IfOk};
 ghost use Rattle.std.specs.Option.{option_map};
 ghost use Rattle.bpaf_doc.specs.Shape.{name_of, part_of, shown_name};

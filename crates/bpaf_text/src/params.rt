@@ -1,3 +1,4 @@
+//! Flags and arguments.
 ghost use Rattle.std.specs.Prelude.{◌≡◌, IfOk, IsSomeAnd, MatchOption, None, false, true};
 ghost use Rattle.bpaf_text.specs.Named.{with_help};
 

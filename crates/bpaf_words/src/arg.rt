@@ -1,3 +1,4 @@
+//! The items of a line, and tests on one.
 ghost use Rattle.std.specs.Prelude.{◌≡◌, option_copied};
 ghost use Rattle.bpaf_words.specs.Items.{is_text_among, is_key_of, is_argument_key, is_attached, is_positional, value_text, item_text, is_command_word};
 

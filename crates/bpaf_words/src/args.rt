@@ -1,3 +1,4 @@
+//! What a run is given.
 ghost use Rattle.std.specs.Prelude.{◌≡◌, ◌<◌, Some, length, slice_get, List, ℕ, map, option_map, string_bytes};
 ghost use Rattle.bpaf_words.specs.Arguments.{words_in, words_of, name_of, env_of, entries_of, env_entries};
 

@@ -1,3 +1,4 @@
+//! The items of one word.
 ghost use Rattle.std.specs.Prelude.{◌≡◌, ◌≢◌, ◌↔◌, [], ◌∷◌, ◌++◌, false, IsTrue, EachIndex, IfOk, OnOk};
 ghost use Rattle.std.specs.Prelude.{slice_index, codes, encode_utf8, encode_utf8_all};
 ghost use Rattle.std.specs.Bool.{MatchBool};

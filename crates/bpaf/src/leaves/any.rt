@@ -1,3 +1,4 @@
+//! An item of any kind, as far as a check takes it.
 ghost use Rattle.std.specs.Prelude.{◌≡◌, ◌∷◌, [], IfOk, Some, None, true, false};
 ghost use Rattle.bpaf_doc.specs.Print.{shown_as};
 

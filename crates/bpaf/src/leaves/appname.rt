@@ -1,3 +1,4 @@
+//! The name under which a program runs.
 use bpaf_core::Parser;
 use bpaf_doc::Meta;
 use bpaf_line::{Error, State};

@@ -1,3 +1,4 @@
+//! A word that stands on the line as it is.
 ghost use Rattle.std.specs.Prelude.{◌≡◌, ◌∷◌, [], IfOk, Some, None, true, false};
 ghost use Rattle.bpaf_doc.specs.Print.{shown_as};
 

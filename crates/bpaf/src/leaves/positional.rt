@@ -1,3 +1,4 @@
+//! A word of the line, by its place and not by a name.
 ghost use Rattle.std.specs.Prelude.{◌≡◌, IfOk, Some, None};
 ghost use Rattle.bpaf.specs.Positional.{accepts, misplaced};
 

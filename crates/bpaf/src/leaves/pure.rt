@@ -1,3 +1,4 @@
+//! Parsers that look at no item: a value, a closure's value, a refusal.
 ghost use Rattle.std.specs.Prelude.{◌≡◌};
 
 use bpaf_core::Parser;
