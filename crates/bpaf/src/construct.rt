@@ -1,4 +1,5 @@
 //! The macro that joins parsers into a product or a choice.
+
 /// Combines parsers into one: a product of its fields, whose values make a tuple or a value by name, or
 /// a choice of them.
 ///
