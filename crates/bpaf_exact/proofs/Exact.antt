@@ -13,14 +13,14 @@ use Rattle.bpaf_exact.specs.Flat.{cells, NonePresent, IsWhole, FieldsLaw, Fields
 use Rattle.bpaf_exact.specs.Record.{line_cells, RecordValue, Answer, Accepted, NoMemory, Refusal}
 use Rattle.bpaf_exact.specs.Record.{RunRan, run_value, run_leftover, run_memory, run_refusal}
 use Rattle.bpaf_exact.specs.Record.{IsNoValue, IsAnswer, IsExact}
-use Rattle.bpaf_exact.specs.Shape.{Shape, ShapeLaw, is_record, product_roles, product_reading}
-use Rattle.bpaf_exact.specs.Shape.{record_shape}
+use Rattle.bpaf_exact.specs.FlatForm.{FlatForm, FormLaw, is_record, product_roles, product_reading}
+use Rattle.bpaf_exact.specs.FlatForm.{flat_record}
 use Rattle.bpaf_exact.specs.Theorem.{RunsExactly}
 use Rattle.bpaf_exact.proofs.Counts.{open_present}
 use Rattle.bpaf_exact.proofs.Cuts.{one_cut}
 use Rattle.bpaf_exact.proofs.Places.{same_cells}
 use Rattle.bpaf_exact.proofs.Records.{none_counted, count_none}
-use Rattle.bpaf_exact.proofs.Shape.{record_law}
+use Rattle.bpaf_exact.proofs.FlatForm.{record_law}
 
 -- at the beginning each item is present, but for the marker
 open_at_first : (context : Context) (p : ℕ) → p < length context.line
@@ -127,9 +127,9 @@ pub uncut_refused : (V : Type 0) (r : Roles) (reading : FieldsReading V) (contex
 uncut_refused V r reading context a v e n h = let i = e.sound v h in n i.cut_into i.cut
 
 -- each answer of a run of a flat record is exact
-pub runs_exactly : (V : Type 0) (outcome : Outcome V) (names : List Names) (s : Shape V)
-    → is_record s ≡ true → ShapeLaw outcome names s → (context : Context)
+pub runs_exactly : (V : Type 0) (outcome : Outcome V) (names : List Names) (s : FlatForm V)
+    → is_record s ≡ true → FormLaw outcome names s → (context : Context)
     → RunsExactly outcome s context
 runs_exactly V outcome names s h l context a r =
-    exact V outcome (product_roles (record_shape s)) (product_reading (record_shape s))
+    exact V outcome (product_roles (flat_record s)) (product_reading (flat_record s))
     (record_law V outcome names s h l) context a r

@@ -11,11 +11,11 @@ use Rattle.bpaf_exact.specs.Pieces.{pieces}
 use Rattle.bpaf_exact.specs.Flat.{Kind, Named, OneWord, EachWord, BothValue, both_reading, keys, left}
 use Rattle.bpaf_exact.specs.Names.{Owns, are_all_apart}
 use Rattle.bpaf_exact.specs.Record.{RecordValue, line_cells}
-use Rattle.bpaf_exact.specs.Shape.{Shape, not_flat, alternative, single, complete, product}
-use Rattle.bpaf_exact.specs.Shape.{product_roles, product_reading, both_shape, alone_shape, con_shape}
-use Rattle.bpaf_exact.specs.Shape.{may_follow, only_if, record_shape}
+use Rattle.bpaf_exact.specs.FlatForm.{FlatForm, not_flat, alternative, single, complete, product}
+use Rattle.bpaf_exact.specs.FlatForm.{product_roles, product_reading, flat_both, flat_alone, flat_con}
+use Rattle.bpaf_exact.specs.FlatForm.{may_follow, only_if, flat_record}
 use Rattle.bpaf_exact.specs.Wrappers.{Closure}
-use Rattle.bpaf_exact.specs.Fields.{IsPart, ReadsOwn, FieldBy, IsFieldOf, ShapeOwns, OwnsKeys}
+use Rattle.bpaf_exact.specs.Fields.{IsPart, ReadsOwn, FieldBy, IsFieldOf, FormOwns, OwnsKeys}
 use Rattle.bpaf_exact.proofs.Cells.{pieces_of_cut}
 use Rattle.bpaf_exact.proofs.Names.{apart_of_names}
 
@@ -94,8 +94,8 @@ part_of_none q r none part k =
     (λ e. sym (ap is_own_role (part.same k e) ∙ e) ∙ none.own k)
 
 -- a field with keys that stands first
-first_by : {A B : Type 0} (own behind_it : List Names) (a : Shape A) (s : Shape B)
-    → FieldBy a (both_shape own behind_it a s) (λ v. v.0)
+first_by : {A B : Type 0} (own behind_it : List Names) (a : FlatForm A) (s : FlatForm B)
+    → FieldBy a (flat_both own behind_it a s) (λ v. v.0)
 first_by own behind_it not_flat s = tt
 first_by own behind_it (alternative q value) s = tt
 first_by own behind_it (single k q group gap) s = tt
@@ -116,9 +116,9 @@ first_by {A = A} {B = B} own behind_it (complete Named q value) (product r field
     by_names false = tt
 
 -- a field with keys that stands behind another one with keys
-later_by : {A B C : Type 0} (own behind_it : List Names) (a : Shape A) (b : Shape B)
-    (s : Shape C) (of : C → B) → ShapeOwns own a → ShapeOwns behind_it s → FieldBy b s of
-    → FieldBy b (both_shape own behind_it a s) (λ v. of v.1)
+later_by : {A B C : Type 0} (own behind_it : List Names) (a : FlatForm A) (b : FlatForm B)
+    (s : FlatForm C) (of : C → B) → FormOwns own a → FormOwns behind_it s → FieldBy b s of
+    → FieldBy b (flat_both own behind_it a s) (λ v. of v.1)
 later_by own behind_it a not_flat s of owned owned_behind h = tt
 later_by own behind_it a (alternative q value) s of owned owned_behind h = tt
 later_by own behind_it a (single k q group gap) s of owned owned_behind h = tt
@@ -182,7 +182,7 @@ later_by {A = A} {B = B} {C = C} own behind_it (complete k p first) (complete Na
     by_kind k o false e = tt
 
 -- the last field, where it has keys
-last_by : {A : Type 0} (a : Shape A) → FieldBy a (alone_shape a) (λ v. v)
+last_by : {A : Type 0} (a : FlatForm A) → FieldBy a (flat_alone a) (λ v. v)
 last_by not_flat = tt
 last_by (alternative q value) = tt
 last_by (single k q group gap) = tt
@@ -195,9 +195,9 @@ last_by (complete Named q value) = record {
 }
 
 -- a field of what a constructor makes, read off what that is made of
-made_by : {A B C : Type 0} (f : Closure A B) (a : Shape C) (s : Shape A) (of : A → C)
+made_by : {A B C : Type 0} (f : Closure A B) (a : FlatForm C) (s : FlatForm A) (of : A → C)
     (from : B → C) → ((x : A) (v : B) → f.yes x v → from v ≡ of x) → FieldBy a s of
-    → FieldBy a (con_shape f s) from
+    → FieldBy a (flat_con f s) from
 made_by f not_flat s of from same h = tt
 made_by f (alternative q value) s of from same h = tt
 made_by f (single k q group gap) s of from same h = tt
@@ -215,29 +215,29 @@ made_by f (complete Named q value) (product r fields) of from same h = record {
 }
 
 -- The first of two is a field of both,
-pub first_field : {A B : Type 0} (own behind : List Names) (a : Shape A) (s : Shape B)
-    → IsFieldOf a (both_shape own behind a s) (λ v. v.0)
+pub first_field : {A B : Type 0} (own behind : List Names) (a : FlatForm A) (s : FlatForm B)
+    → IsFieldOf a (flat_both own behind a s) (λ v. v.0)
 first_field own behind a s = record { by = first_by own behind a s }
 
 -- a field of the others is one of all, where each has items of its names alone;
-pub later_field : {A B C : Type 0} (own behind : List Names) (a : Shape A) (b : Shape B)
-    (s : Shape C) (of : C → B) → OwnsKeys own a → OwnsKeys behind s → IsFieldOf b s of
-    → IsFieldOf b (both_shape own behind a s) (λ v. of v.1)
+pub later_field : {A B C : Type 0} (own behind : List Names) (a : FlatForm A) (b : FlatForm B)
+    (s : FlatForm C) (of : C → B) → OwnsKeys own a → OwnsKeys behind s → IsFieldOf b s of
+    → IsFieldOf b (flat_both own behind a s) (λ v. of v.1)
 later_field own behind a b s of owned owned_behind h =
     record { by = later_by own behind a b s of owned.by owned_behind.by h.by }
 
 -- so is the last one,
-pub last_field : {A : Type 0} (a : Shape A) → IsFieldOf a (alone_shape a) (λ v. v)
+pub last_field : {A : Type 0} (a : FlatForm A) → IsFieldOf a (flat_alone a) (λ v. v)
 last_field a = record { by = last_by a }
 
 -- and one of what a constructor makes.
-pub made_field : {A B C : Type 0} (f : Closure A B) (a : Shape C) (s : Shape A) (of : A → C)
+pub made_field : {A B C : Type 0} (f : Closure A B) (a : FlatForm C) (s : FlatForm A) (of : A → C)
     (from : B → C) → ((x : A) (v : B) → f.yes x v → from v ≡ of x) → IsFieldOf a s of
-    → IsFieldOf a (record_shape (con_shape f s)) from
+    → IsFieldOf a (flat_record (flat_con f s)) from
 made_field {A = A} f a s of from same h = record { by = of_record s (made_by f a s of from same h.by) }
   where
-    of_record : (s : Shape A) → FieldBy a (con_shape f s) from
-        → FieldBy a (record_shape (con_shape f s)) from
+    of_record : (s : FlatForm A) → FieldBy a (flat_con f s) from
+        → FieldBy a (flat_record (flat_con f s)) from
     of_record not_flat h = h
     of_record (alternative q value) h = h
     of_record (single k q group gap) h = h
@@ -245,7 +245,7 @@ made_field {A = A} f a s of from same h = record { by = of_record s (made_by f a
     of_record (product q fields) h = h
 
 -- What a value of the record says of its field: it is read off the field's own keys on the line.
-pub field_value : {V A : Type 0} (s : Shape V) (q : Roles) (own : List Piece → A → Type 0)
+pub field_value : {V A : Type 0} (s : FlatForm V) (q : Roles) (own : List Piece → A → Type 0)
     (of : V → A) → IsNamed q → IsFieldOf (complete Named q own) s of → (context : Context) (v : V)
     → RecordValue (product_roles s) (product_reading s).value context v
     → own (pieces q (line_cells context)) (of v)

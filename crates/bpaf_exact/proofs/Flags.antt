@@ -17,7 +17,7 @@ use Rattle.bpaf_exact.specs.Single.{of_memory, SingleLaw}
 use Rattle.bpaf_exact.specs.Alternative.{AlternativeOk, AlternativeErr, alternative_memory}
 use Rattle.bpaf_exact.specs.Alternative.{AlternativeLaw}
 use Rattle.bpaf_exact.specs.Leaves.{flag_roles, FlagValue, switch_gap, flag_by, flag_field}
-use Rattle.bpaf_exact.specs.Shape.{ShapeLaw}
+use Rattle.bpaf_exact.specs.FlatForm.{FormLaw}
 use Rattle.bpaf_exact.proofs.Classes.{missing_class}
 use Rattle.bpaf_exact.proofs.Product.{steady_refl}
 use Rattle.bpaf_exact.proofs.First.{first_takes, first_pieces, takes_nonempty}
@@ -139,15 +139,15 @@ module _ (T : Type 0) (clones : T → T → Type 0) (key : Key) (present : T)
       err = λ s t e w o. switch_err s t e e.0 refl o;
     }
 
--- a flag keeps to the laws of its shape
+-- a flag keeps to the laws of its form
 pub flag_field_law : (T : Type 0) (clones : T → T → Type 0) (key : Key) (present : T)
     (absent : Option T)
-    → ShapeLaw (FlagOutcome clones key present absent) (key.names ∷ [])
+    → FormLaw (FlagOutcome clones key present absent) (key.names ∷ [])
     (flag_field clones key present absent)
 flag_field_law T clones key present absent = by_envs key.envs refl absent
   where
     by_envs : (envs : List (List ℕ)) → key.envs ≡ envs → (absent : Option T)
-        → ShapeLaw (FlagOutcome clones key present absent) (key.names ∷ [])
+        → FormLaw (FlagOutcome clones key present absent) (key.names ∷ [])
         (flag_by clones key.names present envs absent)
     by_envs (env ∷ envs) e absent = tt
     by_envs [] e None = (flag_law T clones key present e, names_own key.names Alone refl)

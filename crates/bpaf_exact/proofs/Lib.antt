@@ -21,7 +21,7 @@ pub mod Combining
 pub mod Choice
 pub mod Records
 pub mod Narrow
-pub mod Shape
+pub mod FlatForm
 pub mod Exact
 pub mod Twins
 pub mod SameParts

@@ -15,15 +15,15 @@ use Rattle.bpaf_exact.specs.Leaves.{flag_roles, argument_roles, FlagValue, Argum
 use Rattle.bpaf_exact.specs.Wrappers.{Closure, ClosedValue, OptionalValue, some_value, no_value}
 use Rattle.bpaf_exact.specs.Wrappers.{FallbackValue, own_value, kept_value}
 use Rattle.bpaf_exact.specs.Derived.{list_closure}
-use Rattle.bpaf_exact.specs.Shape.{Shape, ShapeLaw, not_flat, alternative, single, complete, product}
-use Rattle.bpaf_exact.specs.Fields.{keys_on, texts_of, ShapeOwns, IsSwitched, switched_on}
+use Rattle.bpaf_exact.specs.FlatForm.{FlatForm, FormLaw, not_flat, alternative, single, complete, product}
+use Rattle.bpaf_exact.specs.Fields.{keys_on, texts_of, FormOwns, IsSwitched, switched_on}
 use Rattle.bpaf_exact.specs.Fields.{switched_off, HasOneText, MayHaveText, HasTextOr, its_text}
 use Rattle.bpaf_exact.specs.Fields.{in_its_place, HaveTexts, HasLastText, IsFieldOf, IsSwitchOf}
 use Rattle.bpaf_exact.specs.Leaves.{flag_field, flag_by, argument_field, argument_by}
 use Rattle.bpaf_exact.specs.Leaves.{last_argument, LastGroup, HaveValues, no_more, one_more}
 use Rattle.bpaf_exact.specs.Record.{RecordValue, line_cells}
-use Rattle.bpaf_exact.specs.Shape.{field_shape, product_roles, product_reading, optional_shape}
-use Rattle.bpaf_exact.specs.Shape.{fallback_shape, many_shape}
+use Rattle.bpaf_exact.specs.FlatForm.{flat_field, product_roles, product_reading, flat_optional}
+use Rattle.bpaf_exact.specs.FlatForm.{flat_fallback, flat_many}
 use Rattle.bpaf_exact.proofs.Fields.{field_value}
 use Rattle.bpaf_line.specs.Situation.{Context}
 use Rattle.bpaf_text.specs.Named.{Named as Key, KeyWithValue}
@@ -31,8 +31,8 @@ use Rattle.bpaf_exact.proofs.Names.{named_key}
 use Rattle.bpaf_laws.specs.Reading.{Outcome}
 
 -- what keeps to its law has items of its own names alone
-pub owns_of_law : {T : Type 0} (outcome : Outcome T) (names : List Names) (s : Shape T)
-    → ShapeLaw outcome names s → ShapeOwns names s
+pub owns_of_law : {T : Type 0} (outcome : Outcome T) (names : List Names) (s : FlatForm T)
+    → FormLaw outcome names s → FormOwns names s
 owns_of_law outcome names not_flat h = tt
 owns_of_law outcome names (alternative q value) h = h.1
 owns_of_law outcome names (single k q group gap) h = h.1
@@ -278,29 +278,29 @@ argument_named names = record { only_keys = λ k other. by_key k (is_key_of name
 -- the field of a switch
 pub switch_of : {V : Type 0} (clones : Bool → Bool → Type 0)
     → ((x y : Bool) → clones x y → y ≡ x) → (names : Names) (key : Key) (present : Bool)
-    (absent : Option Bool) → IsSwitchOf names key present absent → (s : Shape V) (of : V → Bool)
-    → IsFieldOf (field_shape (flag_field clones key present absent)) s of
+    (absent : Option Bool) → IsSwitchOf names key present absent → (s : FlatForm V) (of : V → Bool)
+    → IsFieldOf (flat_field (flag_field clones key present absent)) s of
     → (context : Context) (v : V)
     → RecordValue (product_roles s) (product_reading s).value context v
     → IsSwitched names (line_cells context) (of v)
 switch_of clones same names key present absent is s of field context v value =
-    let named = subst (λ z. IsFieldOf (field_shape (flag_by clones z present key.envs absent)) s of)
+    let named = subst (λ z. IsFieldOf (flat_field (flag_by clones z present key.envs absent)) s of)
     is.names_are field in
-    let plain = subst (λ z. IsFieldOf (field_shape (flag_by clones names present z absent)) s of)
+    let plain = subst (λ z. IsFieldOf (flat_field (flag_by clones names present z absent)) s of)
     is.no_envs named in
-    let on = subst (λ z. IsFieldOf (field_shape (flag_by clones names z [] absent)) s of)
+    let on = subst (λ z. IsFieldOf (flat_field (flag_by clones names z [] absent)) s of)
     is.is_true plain in
-    let off = subst (λ z. IsFieldOf (field_shape (flag_by clones names true [] z)) s of)
+    let off = subst (λ z. IsFieldOf (flat_field (flag_by clones names true [] z)) s of)
     is.is_false on in
     switch_said clones same names (line_cells context) (of v)
     (field_value s (flag_roles names) _ of (flag_named names) off context v value)
 
 -- An argument may be read so as a field by itself, under `optional`, a fallback or `many`, which
--- make a field of its shape.
+-- make a field of its form.
 module _ {V T A : Type 0} (means : List ℕ → T → Type 0) (argument : KeyWithValue)
-    (made : Shape T → Shape A) (s : Shape V) (of : V → A) where
-  -- the shape of an argument without a name in the environment, which may stand apart from its value
-  abbrev plain_argument : Shape T
+    (made : FlatForm T → FlatForm A) (s : FlatForm V) (of : V → A) where
+  -- the form of an argument without a name in the environment, which may stand apart from its value
+  abbrev plain_argument : FlatForm T
   plain_argument =
       alternative (argument_roles argument.named.names) (ArgumentValue means)
 
@@ -318,7 +318,7 @@ module _ {V T A : Type 0} (means : List ℕ → T → Type 0) (argument : KeyWit
 
 module _ {V T : Type 0} (means : List ℕ → T → Type 0) (argument : KeyWithValue)
     (no_envs : argument.named.envs ≡ []) (apart : argument.adjacent ≡ false)
-    (once : argument.last ≡ false) (s : Shape V)
+    (once : argument.last ≡ false) (s : FlatForm V)
     (context : Context) (v : V)
     (value : RecordValue (product_roles s) (product_reading s).value context v) where
   -- the names of its key
@@ -326,54 +326,54 @@ module _ {V T : Type 0} (means : List ℕ → T → Type 0) (argument : KeyWithV
   names = argument.named.names
 
   -- the field of an argument without a repeat or default
-  pub argument_of : (of : V → T) → IsFieldOf (field_shape (argument_field means argument)) s of
+  pub argument_of : (of : V → T) → IsFieldOf (flat_field (argument_field means argument)) s of
       → HasOneText T means names (line_cells context) (of v)
   argument_of of field = argument_said T means names (line_cells context) (of v)
       (field_value s (argument_roles names) _ of (argument_named names)
-      (plain_field means argument field_shape s of no_envs apart once field) context v value)
+      (plain_field means argument flat_field s of no_envs apart once field) context v value)
 
   -- under `optional`
   pub optional_of : (of : V → Option T)
-      → IsFieldOf (field_shape (optional_shape (argument_field means argument))) s of
+      → IsFieldOf (flat_field (flat_optional (argument_field means argument))) s of
       → MayHaveText T means names (line_cells context) (of v)
   optional_of of field = optional_said T means names (line_cells context) (of v)
       (field_value s (argument_roles names) _ of (argument_named names)
-      (plain_field means argument (λ a. field_shape (optional_shape a)) s of no_envs apart once field)
+      (plain_field means argument (λ a. flat_field (flat_optional a)) s of no_envs apart once field)
       context v value)
 
   -- under a fallback
   pub fallback_of : (f : Closure (Unit {0}) T) (of : V → T)
-      → IsFieldOf (field_shape (fallback_shape f (argument_field means argument))) s of
+      → IsFieldOf (flat_field (flat_fallback f (argument_field means argument))) s of
       → HasTextOr T means (f.yes tt) names (line_cells context) (of v)
   fallback_of f of field = fallback_said T means names (line_cells context) f (of v)
       (field_value s (argument_roles names) _ of (argument_named names)
-      (plain_field means argument (λ a. field_shape (fallback_shape f a)) s of no_envs apart once field)
+      (plain_field means argument (λ a. flat_field (flat_fallback f a)) s of no_envs apart once field)
       context v value)
 
   -- under `many`
   pub many_of : (of : V → Vec T)
-      → IsFieldOf (field_shape (many_shape (argument_field means argument))) s of
+      → IsFieldOf (flat_field (flat_many (argument_field means argument))) s of
       → HaveTexts T means names (line_cells context) (of v).items
   many_of of field = many_said T means names (line_cells context) (of v)
       (field_value s (argument_roles names) _ of (argument_named names)
-      (plain_field means argument (λ a. field_shape (many_shape a)) s of no_envs apart once field)
+      (plain_field means argument (λ a. flat_field (flat_many a)) s of no_envs apart once field)
       context v value)
 
 -- The field of an argument that takes its last value.
 module _ {V T : Type 0} (means : List ℕ → T → Type 0) (argument : KeyWithValue)
     (no_envs : argument.named.envs ≡ []) (apart : argument.adjacent ≡ false)
-    (all : argument.last ≡ true) (s : Shape V) (of : V → T)
-    (field : IsFieldOf (field_shape (argument_field means argument)) s of) where
+    (all : argument.last ≡ true) (s : FlatForm V) (of : V → T)
+    (field : IsFieldOf (flat_field (argument_field means argument)) s of) where
   -- it is the field of such an argument
-  last_field : IsFieldOf (field_shape (last_argument means argument.named.names)) s of
+  last_field : IsFieldOf (flat_field (last_argument means argument.named.names)) s of
   last_field =
       subst
-      (λ z. IsFieldOf (field_shape (argument_by means argument.named.names [] false z)) s of) all
+      (λ z. IsFieldOf (flat_field (argument_by means argument.named.names [] false z)) s of) all
       (subst
-      (λ z. IsFieldOf (field_shape (argument_by means argument.named.names [] z argument.last)) s of)
+      (λ z. IsFieldOf (flat_field (argument_by means argument.named.names [] z argument.last)) s of)
       apart
       (subst
-      (λ z. IsFieldOf (field_shape
+      (λ z. IsFieldOf (flat_field
       (argument_by means argument.named.names z argument.adjacent argument.last)) s of)
       no_envs field))
 

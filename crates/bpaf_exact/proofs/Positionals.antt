@@ -17,7 +17,7 @@ use Rattle.bpaf_exact.specs.Single.{of_missing, of_piece, WordByWord, SingleLaw}
 use Rattle.bpaf_exact.specs.Alternative.{TakesFirst, first_one, first_two, first_later}
 use Rattle.bpaf_exact.specs.Leaves.{WordValue, word_field, WordRan, word_read, word_fault}
 use Rattle.bpaf_exact.specs.Leaves.{word_missing, word_memory}
-use Rattle.bpaf_exact.specs.Shape.{ShapeLaw}
+use Rattle.bpaf_exact.specs.FlatForm.{FormLaw}
 use Rattle.bpaf_exact.proofs.Product.{steady_refl}
 use Rattle.bpaf_exact.proofs.First.{first_takes, takes_nonempty, begin_at}
 use Rattle.bpaf_exact.proofs.Places.{take_steady}
@@ -150,7 +150,7 @@ module _ (T : Type 0) (means : List ℕ → T → Type 0) where
     err = word_err;
   }
 
--- a positional keeps to the laws of its shape
+-- a positional keeps to the laws of its form
 pub word_field_law : (T : Type 0) (means : List ℕ → T → Type 0)
-    → ShapeLaw (WordRan T means) [] (word_field means)
+    → FormLaw (WordRan T means) [] (word_field means)
 word_field_law T means = (word_law T means, record { own = λ k. refl })

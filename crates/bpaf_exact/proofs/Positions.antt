@@ -15,12 +15,12 @@ use Rattle.bpaf_exact.specs.Names.{Owns}
 use Rattle.bpaf_exact.specs.Single.{FrontOf, Own, own_none, own_more, OwnList, listed}
 use Rattle.bpaf_exact.specs.Single.{listed_and_absent, only_absent, SingleValue, of_group, of_gap}
 use Rattle.bpaf_exact.specs.Single.{no_gap}
-use Rattle.bpaf_exact.specs.Shape.{Shape, not_flat, alternative, single, complete, product}
-use Rattle.bpaf_exact.specs.Shape.{both_shape, alone_shape, con_shape, may_follow, only_if}
-use Rattle.bpaf_exact.specs.Shape.{record_shape}
+use Rattle.bpaf_exact.specs.FlatForm.{FlatForm, not_flat, alternative, single, complete, product}
+use Rattle.bpaf_exact.specs.FlatForm.{flat_both, flat_alone, flat_con, may_follow, only_if}
+use Rattle.bpaf_exact.specs.FlatForm.{flat_record}
 use Rattle.bpaf_exact.specs.Wrappers.{Closure, ClosedValue}
 use Rattle.bpaf_exact.specs.Derived.{list_closure}
-use Rattle.bpaf_exact.specs.Fields.{words_behind_field, ReadsWords, WordsBy, IsWordsOf, ShapeOwns, OwnsKeys}
+use Rattle.bpaf_exact.specs.Fields.{words_behind_field, ReadsWords, WordsBy, IsWordsOf, FormOwns, OwnsKeys}
 use Rattle.bpaf_exact.specs.Fields.{word_texts, IsFirstWord}
 
 -- where no item is one's own, each piece is another's
@@ -67,8 +67,8 @@ none_behind r own [] owned e k = owned.own k
 none_behind r own (names ∷ behind) owned e k = absurd cc
 
 -- a positional field that stands first among those of its kind
-first_words_by : {A B : Type 0} (own behind : List Names) (a : Shape A) (s : Shape B)
-    → ShapeOwns behind s → WordsBy a (λ os. os) (both_shape own behind a s) (λ v. v.0)
+first_words_by : {A B : Type 0} (own behind : List Names) (a : FlatForm A) (s : FlatForm B)
+    → FormOwns behind s → WordsBy a (λ os. os) (flat_both own behind a s) (λ v. v.0)
 first_words_by own behind not_flat s owned = tt
 first_words_by own behind (alternative q value) s owned = tt
 first_words_by own behind (single k q group gap) s owned = tt
@@ -144,9 +144,9 @@ module _ {A B C : Type 0} (own behind : List Names) (k : Kind) (p : Roles)
       by_kind EachWord e = behind_words (λ os. []) (none_behind r own behind owned e) _
 
 -- a positional field of those that stand behind another field
-later_words_by : {A B C : Type 0} (own behind : List Names) (a : Shape A) (b : Shape B) (s : Shape C)
-    (rest : List Piece → List Piece) (of : C → B) → ShapeOwns behind s → WordsBy b rest s of
-    → WordsBy b (λ os. rest (words_behind_field a os)) (both_shape own behind a s) (λ v. of v.1)
+later_words_by : {A B C : Type 0} (own behind : List Names) (a : FlatForm A) (b : FlatForm B) (s : FlatForm C)
+    (rest : List Piece → List Piece) (of : C → B) → FormOwns behind s → WordsBy b rest s of
+    → WordsBy b (λ os. rest (words_behind_field a os)) (flat_both own behind a s) (λ v. of v.1)
 later_words_by own behind a not_flat s rest of owned h = tt
 later_words_by own behind a (alternative q value) s rest of owned h = tt
 later_words_by own behind a (single k q group gap) s rest of owned h = tt
@@ -198,7 +198,7 @@ later_words_by {A = A} {B = B} {C = C} own behind (complete k p first) (complete
     by_names false e = tt
 
 -- the last field, where it is positional
-last_words_by : {A : Type 0} (a : Shape A) → WordsBy a (λ os. os) (alone_shape a) (λ v. v)
+last_words_by : {A : Type 0} (a : FlatForm A) → WordsBy a (λ os. os) (flat_alone a) (λ v. v)
 last_words_by not_flat = tt
 last_words_by (alternative q value) = tt
 last_words_by (single k q group gap) = tt
@@ -214,10 +214,10 @@ last_words_by (complete EachWord q value) = record {
 }
 
 -- a positional field of what a constructor makes
-made_words_by : {A B C : Type 0} (f : Closure A B) (a : Shape C) (rest : List Piece → List Piece)
-    (s : Shape A) (of : A → C) (from : B → C)
+made_words_by : {A B C : Type 0} (f : Closure A B) (a : FlatForm C) (rest : List Piece → List Piece)
+    (s : FlatForm A) (of : A → C) (from : B → C)
     → ((x : A) (v : B) → f.yes x v → from v ≡ of x) → WordsBy a rest s of
-    → WordsBy a rest (record_shape (con_shape f s)) from
+    → WordsBy a rest (flat_record (flat_con f s)) from
 made_words_by f not_flat rest s of from same h = tt
 made_words_by f (alternative q value) rest s of from same h = tt
 made_words_by f (single k q group gap) rest s of from same h = tt
@@ -241,26 +241,27 @@ made_words_by f (complete EachWord q value) rest (product r fields) of from same
 }
 
 -- The first of two is a positional field of both,
-pub first_words : {A B : Type 0} (own behind : List Names) (a : Shape A) (s : Shape B)
-    → OwnsKeys behind s → IsWordsOf a (λ os. os) (both_shape own behind a s) (λ v. v.0)
+pub first_words : {A B : Type 0} (own behind : List Names) (a : FlatForm A) (s : FlatForm B)
+    → OwnsKeys behind s → IsWordsOf a (λ os. os) (flat_both own behind a s) (λ v. v.0)
 first_words own behind a s owned = record { by = first_words_by own behind a s owned.by }
 
 -- one of the others gets what the first leaves,
-pub later_words : {A B C : Type 0} (own behind : List Names) (a : Shape A) (b : Shape B) (s : Shape C)
+pub later_words : {A B C : Type 0} (own behind : List Names) (a : FlatForm A) (b : FlatForm B) (s : FlatForm C)
     (rest : List Piece → List Piece) (of : C → B) → OwnsKeys behind s → IsWordsOf b rest s of
-    → IsWordsOf b (λ os. rest (words_behind_field a os)) (both_shape own behind a s) (λ v. of v.1)
+    → IsWordsOf b (λ os. rest (words_behind_field a os)) (flat_both own behind a s) (λ v. of v.1)
 later_words own behind a b s rest of owned h =
     record { by = later_words_by own behind a b s rest of owned.by h.by }
 
 -- the last one is one too,
-pub last_words : {A : Type 0} (a : Shape A) → IsWordsOf a (λ os. os) (alone_shape a) (λ v. v)
+pub last_words : {A : Type 0} (a : FlatForm A) → IsWordsOf a (λ os. os) (flat_alone a) (λ v. v)
 last_words a = record { by = last_words_by a }
 
 -- and so is one of what a constructor makes.
-pub made_words : {A B C : Type 0} (f : Closure A B) (a : Shape C) (rest : List Piece → List Piece)
-    (s : Shape A) (of : A → C) (from : B → C)
+pub made_words : {A B C : Type 0} (f : Closure A B) (a : FlatForm C)
+    (rest : List Piece → List Piece)
+    (s : FlatForm A) (of : A → C) (from : B → C)
     → ((x : A) (v : B) → f.yes x v → from v ≡ of x) → IsWordsOf a rest s of
-    → IsWordsOf a rest (record_shape (con_shape f s)) from
+    → IsWordsOf a rest (flat_record (flat_con f s)) from
 made_words f a rest s of from same h = record { by = made_words_by f a rest s of from same h.by }
 
 -- What a positional field's value is.

@@ -18,8 +18,8 @@ use Rattle.bpaf_exact.specs.Leaves.{switch_gap, flag_by, argument_by, word_field
 use Rattle.bpaf_exact.specs.Leaves.{LastGroup, HaveValues, no_more, one_more}
 use Rattle.bpaf_exact.specs.Alternative.{either_value, bad_here, bad_later}
 use Rattle.bpaf_exact.specs.Record.{line_cells, RecordValue, LastValue, last_reading}
-use Rattle.bpaf_exact.specs.Shape.{Shape, is_record, both_shape, field_shape, alone_shape}
-use Rattle.bpaf_exact.specs.Shape.{many_shape, choice_shape, optional_shape}
+use Rattle.bpaf_exact.specs.FlatForm.{FlatForm, is_record, flat_both, flat_field, flat_alone}
+use Rattle.bpaf_exact.specs.FlatForm.{flat_many, flat_choice, flat_optional}
 use Rattle.bpaf_exact.specs.Accepted.{HasItsValue, HoldsTogether}
 use Rattle.bpaf_exact.proofs.Accepted.{cut_holds_together, attached_to}
 use Rattle.bpaf_exact.proofs.Surplus.{bad_occurrence, field_no_surplus, first_part, front_one}
@@ -341,7 +341,7 @@ failed_alternative =
     unread n e = cc
 
 -- the switch
-abbrev switch : Shape Bool
+abbrev switch : FlatForm Bool
 switch = flag_by (λ kept v. v ≡ kept) (short 118) true [] (Some false)
 
 -- `-v -v` to the switch and a word: one occurrence too many
@@ -354,21 +354,21 @@ switch_twice =
     (One v_key) (One v_key) [] refl
 
 -- an argument of this name
-abbrev number_of : ℕ → Shape ℕ
+abbrev number_of : ℕ → FlatForm ℕ
 number_of c = argument_by number (short c) [] false false
 
 -- one that takes its last value
-abbrev last_number_of : ℕ → Shape ℕ
+abbrev last_number_of : ℕ → FlatForm ℕ
 last_number_of c = argument_by number (short c) [] false true
 
 -- a word
-abbrev text : Shape (List ℕ)
+abbrev text : FlatForm (List ℕ)
 text = word_field itself
 
 -- the switch, the argument and words are a record
-fields_are : is_record (both_shape (short 118 ∷ []) (short 110 ∷ []) (field_shape switch)
-    (both_shape (short 110 ∷ []) [] (field_shape (number_of 110))
-    (alone_shape (field_shape (many_shape text))))) ≡ true
+fields_are : is_record (flat_both (short 118 ∷ []) (short 110 ∷ []) (flat_field switch)
+    (flat_both (short 110 ∷ []) [] (flat_field (number_of 110))
+    (flat_alone (flat_field (flat_many text))))) ≡ true
 fields_are = refl
 
 -- so is the argument alone
@@ -381,42 +381,42 @@ last_is = refl
 
 -- which is no alternative of a choice
 choice_of_last_is_not : is_record
-    (choice_shape (short 97 ∷ []) (short 98 ∷ []) (last_number_of 97) (number_of 98)) ≡ false
+    (flat_choice (short 97 ∷ []) (short 98 ∷ []) (last_number_of 97) (number_of 98)) ≡ false
 choice_of_last_is_not = refl
 
 -- and the choice of two under `many`
-choice_is : is_record (many_shape
-    (choice_shape (short 97 ∷ []) (short 98 ∷ []) (number_of 97) (number_of 98))) ≡ true
+choice_is : is_record (flat_many
+    (flat_choice (short 97 ∷ []) (short 98 ∷ []) (number_of 97) (number_of 98))) ≡ true
 choice_is = refl
 
 -- a word before a switch is none
 word_before_is_not : is_record
-    (both_shape [] (short 118 ∷ []) (field_shape text) (alone_shape (field_shape switch))) ≡ false
+    (flat_both [] (short 118 ∷ []) (flat_field text) (flat_alone (flat_field switch))) ≡ false
 word_before_is_not = refl
 
 -- nor are two of one name
-twice_is_not : is_record (both_shape (short 110 ∷ []) (short 110 ∷ []) (field_shape (number_of 110))
-    (alone_shape (field_shape (number_of 110)))) ≡ false
+twice_is_not : is_record (flat_both (short 110 ∷ []) (short 110 ∷ []) (flat_field (number_of 110))
+    (flat_alone (flat_field (number_of 110)))) ≡ false
 twice_is_not = refl
 
 -- also in one choice
 choice_twice_is_not : is_record
-    (choice_shape (short 110 ∷ []) (short 110 ∷ []) (number_of 110) (number_of 110)) ≡ false
+    (flat_choice (short 110 ∷ []) (short 110 ∷ []) (number_of 110) (number_of 110)) ≡ false
 choice_twice_is_not = refl
 
 -- nor is a repeat of what may be left out
-repeat_of_optional_is_not : is_record (many_shape (optional_shape text)) ≡ false
+repeat_of_optional_is_not : is_record (flat_many (flat_optional text)) ≡ false
 repeat_of_optional_is_not = refl
 
 -- nor a choice that holds a switch
 choice_of_switch_is_not : is_record
-    (choice_shape (short 118 ∷ []) (short 113 ∷ []) switch switch) ≡ false
+    (flat_choice (short 118 ∷ []) (short 113 ∷ []) switch switch) ≡ false
 choice_of_switch_is_not = refl
 
 -- nor a product inside a product
-product_inside_is_not : is_record (both_shape (short 118 ∷ []) [] (field_shape
-    (both_shape (short 118 ∷ []) (short 110 ∷ []) (field_shape switch)
-    (alone_shape (field_shape (number_of 110))))) (alone_shape (field_shape text))) ≡ false
+product_inside_is_not : is_record (flat_both (short 118 ∷ []) [] (flat_field
+    (flat_both (short 118 ∷ []) (short 110 ∷ []) (flat_field switch)
+    (flat_alone (flat_field (number_of 110))))) (flat_alone (flat_field text))) ≡ false
 product_inside_is_not = refl
 
 -- An argument that takes its last value.

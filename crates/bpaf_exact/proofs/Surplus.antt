@@ -11,9 +11,9 @@ use Rattle.bpaf_exact.specs.Derived.{LastOf}
 use Rattle.bpaf_exact.specs.Alternative.{HasBad}
 use Rattle.bpaf_exact.specs.Record.{last_reading}
 use Rattle.bpaf_exact.specs.Leaves.{flag_by, argument_by, word_field}
-use Rattle.bpaf_exact.specs.Shape.{Shape, not_flat, alternative, single, complete, product}
-use Rattle.bpaf_exact.specs.Shape.{closed_shape, optional_shape, fallback_shape, field_shape}
-use Rattle.bpaf_exact.specs.Shape.{unless}
+use Rattle.bpaf_exact.specs.FlatForm.{FlatForm, not_flat, alternative, single, complete, product}
+use Rattle.bpaf_exact.specs.FlatForm.{flat_closed, flat_optional, flat_fallback, flat_field}
+use Rattle.bpaf_exact.specs.FlatForm.{unless}
 use Rattle.bpaf_exact.specs.Accepted.{OneByOne, AtMostOne, HasNoSurplus, IsPartOf}
 use Rattle.bpaf_exact.proofs.Alternative.{own_bad}
 
@@ -43,8 +43,8 @@ module _ (T : Type 0) (group : Groups T) (gap : Gap T) (one : OneByOne group) wh
   fallback_once f o p os v (own_value h) = single_once o p os v h
 
 -- a closure round a field keeps that
-pub closed_no_surplus : {A B : Type 0} (f : Closure A B) (s : Shape A) → HasNoSurplus s
-    → HasNoSurplus (closed_shape f s)
+pub closed_no_surplus : {A B : Type 0} (f : Closure A B) (s : FlatForm A) → HasNoSurplus s
+    → HasNoSurplus (flat_closed f s)
 closed_no_surplus f not_flat h = tt
 closed_no_surplus f (alternative q value) h = tt
 closed_no_surplus f (single k q group gap) h = λ os rest v g. h os rest g.from g.read
@@ -52,7 +52,7 @@ closed_no_surplus f (complete k q value) h = λ o p os v i. h o p os i.from i.re
 closed_no_surplus f (product q fields) h = tt
 
 -- a field without a repeat or default has no surplus
-pub field_no_surplus : {T : Type 0} (s : Shape T) → HasNoSurplus s → HasNoSurplus (field_shape s)
+pub field_no_surplus : {T : Type 0} (s : FlatForm T) → HasNoSurplus s → HasNoSurplus (flat_field s)
 field_no_surplus not_flat h = tt
 field_no_surplus {T = T} (alternative q value) h = single_once T _ _ (front_one T value)
 field_no_surplus {T = T} (single k q group gap) h = single_once T group gap h
@@ -60,8 +60,8 @@ field_no_surplus (complete k q value) h = h
 field_no_surplus (product q fields) h = tt
 
 -- nor has what may be left out
-pub optional_no_surplus : {T : Type 0} (s : Shape T) → HasNoSurplus s
-    → HasNoSurplus (optional_shape s)
+pub optional_no_surplus : {T : Type 0} (s : FlatForm T) → HasNoSurplus s
+    → HasNoSurplus (flat_optional s)
 optional_no_surplus not_flat h = tt
 optional_no_surplus {T = T} (alternative q value) h = optional_once T _ _ (front_one T value)
 optional_no_surplus {T = T} (single k q group gap) h = optional_once T group gap h
@@ -69,8 +69,8 @@ optional_no_surplus (complete k q value) h = tt
 optional_no_surplus (product q fields) h = tt
 
 -- nor what has a value that stands for it
-pub fallback_no_surplus : {T : Type 0} (f : Closure (Unit {0}) T) (s : Shape T) → HasNoSurplus s
-    → HasNoSurplus (fallback_shape f s)
+pub fallback_no_surplus : {T : Type 0} (f : Closure (Unit {0}) T) (s : FlatForm T) → HasNoSurplus s
+    → HasNoSurplus (flat_fallback f s)
 fallback_no_surplus f not_flat h = tt
 fallback_no_surplus {T = T} f (alternative q value) h = fallback_once T _ _ (front_one T value) f
 fallback_no_surplus {T = T} f (single k q group gap) h = fallback_once T group gap h f
@@ -78,7 +78,7 @@ fallback_no_surplus f (complete k q value) h = tt
 fallback_no_surplus f (product q fields) h = tt
 
 -- whether `catch` is set changes nothing there
-pub unless_no_surplus : {T : Type 0} (catch : Bool) (s : Shape T) → HasNoSurplus s
+pub unless_no_surplus : {T : Type 0} (catch : Bool) (s : FlatForm T) → HasNoSurplus s
     → HasNoSurplus (unless catch s)
 unless_no_surplus true s h = tt
 unless_no_surplus false s h = h

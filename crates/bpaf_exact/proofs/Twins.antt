@@ -26,14 +26,15 @@ use Rattle.bpaf_exact.specs.Wrappers.{fallback_ok, fallback_given, fallback_no, 
 use Rattle.bpaf_exact.specs.Wrappers.{fallback_err}
 use Rattle.bpaf_exact.specs.Derived.{list_closure, some_closure, count_closure, collect_closure}
 use Rattle.bpaf_exact.specs.Derived.{LastRan, last_of, last_err, last_again}
-use Rattle.bpaf_exact.specs.Shape.{Shape, ShapeLaw, Agrees, closed_shape, repeat_shape, many_shape}
-use Rattle.bpaf_exact.specs.Shape.{some_shape, count_shape, collect_shape, last_shape}
-use Rattle.bpaf_exact.specs.Shape.{optional_shape, fallback_shape, unless}
+use Rattle.bpaf_exact.specs.FlatForm.{FlatForm, FormLaw, Agrees, flat_closed, flat_repeat}
+use Rattle.bpaf_exact.specs.FlatForm.{flat_many}
+use Rattle.bpaf_exact.specs.FlatForm.{flat_some, flat_count, flat_collect, flat_last}
+use Rattle.bpaf_exact.specs.FlatForm.{flat_optional, flat_fallback, unless}
 use Rattle.bpaf_exact.proofs.Classes.{memory_class, caught_class, kept_class, stop_class}
 use Rattle.bpaf_exact.proofs.Classes.{no_stop_class}
-use Rattle.bpaf_exact.proofs.Narrow.{AllowsNoMore, narrower_shape}
-use Rattle.bpaf_exact.proofs.Shape.{closed_shape_law, never_refuses, listed_shape_law, some_agrees}
-use Rattle.bpaf_exact.proofs.Shape.{last_shape_law, optional_shape_law, fallback_shape_law}
+use Rattle.bpaf_exact.proofs.Narrow.{AllowsNoMore, narrower_form}
+use Rattle.bpaf_exact.proofs.FlatForm.{flat_closed_law, never_refuses, flat_listed_law, some_agrees}
+use Rattle.bpaf_exact.proofs.FlatForm.{flat_last_law, flat_optional_law, flat_fallback_law}
 
 -- map
 map_within : (A B : Type 0) (inner : Outcome A) (answers : A → B → Type 0)
@@ -45,13 +46,13 @@ map_within A B inner answers = record { within = by_answer }
     by_answer s t (Ok v) o = closed_yes o.1 o.2
     by_answer s t (Err e) o = closed_err o
 
--- keeps to the laws of its shape
+-- keeps to the laws of its form
 pub map_field_law : (A B : Type 0) (inner : Outcome A) (answers : A → B → Type 0)
-    (names : List Names) (s : Shape A) → ShapeLaw inner names s
-    → ShapeLaw (MapOutcome inner answers) names (closed_shape (map_closure answers) s)
+    (names : List Names) (s : FlatForm A) → FormLaw inner names s
+    → FormLaw (MapOutcome inner answers) names (flat_closed (map_closure answers) s)
 map_field_law A B inner answers names s l =
-    narrower_shape B _ _ (map_within A B inner answers) names _
-    (closed_shape_law A B inner (map_closure answers) names s
+    narrower_form B _ _ (map_within A B inner answers) names _
+    (flat_closed_law A B inner (map_closure answers) names s
     (never_refuses A B (map_closure answers) (λ x n. n) s) l)
 
 -- parse
@@ -69,15 +70,15 @@ parse_within A B E inner answers shown = record { within = by_answer }
         (λ memory. closed_memory o.1 (ap class_of memory))
         (λ told. closed_no o.1 (o.2, o.3) (ap class_of told.1)) o.4
 
--- keeps to the laws of its shape
+-- keeps to the laws of its form
 pub parse_field_law : (A B E : Type 0) (inner : Outcome A) (answers : A → Result B E → Type 0)
-    (shown : E → Option (List ℕ)) (names : List Names) (s : Shape A)
+    (shown : E → Option (List ℕ)) (names : List Names) (s : FlatForm A)
     → Agrees (parse_closure answers) s
-    → ShapeLaw inner names s
-    → ShapeLaw (ParseOutcome inner answers shown) names (closed_shape (parse_closure answers) s)
+    → FormLaw inner names s
+    → FormLaw (ParseOutcome inner answers shown) names (flat_closed (parse_closure answers) s)
 parse_field_law A B E inner answers shown names s g l =
-    narrower_shape B _ _ (parse_within A B E inner answers shown) names _
-    (closed_shape_law A B inner (parse_closure answers) names s g l)
+    narrower_form B _ _ (parse_within A B E inner answers shown) names _
+    (flat_closed_law A B inner (parse_closure answers) names s g l)
 
 -- guard
 guard_within : (A : Type 0) (inner : Outcome A) (checks : A → Bool → Type 0) (message : List ℕ)
@@ -93,14 +94,14 @@ guard_within A inner checks message = record { within = by_answer }
         (λ told. closed_no o.1 o.2 (ap class_of told))
         (λ memory. closed_memory o.1 (ap class_of memory)) o.3
 
--- keeps to the laws of its shape
+-- keeps to the laws of its form
 pub guard_field_law : (A : Type 0) (inner : Outcome A) (checks : A → Bool → Type 0)
-    (message : List ℕ) (names : List Names) (s : Shape A) → Agrees (guard_closure checks) s
-    → ShapeLaw inner names s
-    → ShapeLaw (GuardOutcome inner checks message) names (closed_shape (guard_closure checks) s)
+    (message : List ℕ) (names : List Names) (s : FlatForm A) → Agrees (guard_closure checks) s
+    → FormLaw inner names s
+    → FormLaw (GuardOutcome inner checks message) names (flat_closed (guard_closure checks) s)
 guard_field_law A inner checks message names s g l =
-    narrower_shape A _ _ (guard_within A inner checks message) names _
-    (closed_shape_law A A inner (guard_closure checks) names s g l)
+    narrower_form A _ _ (guard_within A inner checks message) names _
+    (flat_closed_law A A inner (guard_closure checks) names s g l)
 
 -- Steps.
 
@@ -133,14 +134,14 @@ optional_within T inner = record { within = by_answer }
     by_answer s t (Err e) (inl o) = optional_err o.0 (goes_on e s t o.1)
     by_answer s t (Err e) (inr o) = optional_memory (memory_class e.0 o.0)
 
--- keeps to the laws of its shape
+-- keeps to the laws of its form
 pub optional_field_law : (T : Type 0) (inner : Outcome T) (catch : Bool) (names : List Names)
-    (s : Shape T) → ShapeLaw inner names s
-    → ShapeLaw (StepOutcome inner catch true) names (unless catch (optional_shape s))
+    (s : FlatForm T) → FormLaw inner names s
+    → FormLaw (StepOutcome inner catch true) names (unless catch (flat_optional s))
 optional_field_law T inner true names s l = tt
 optional_field_law T inner false names s l =
-    narrower_shape (Option T) _ _ (optional_within T inner) names _
-    (optional_shape_law T inner names s l)
+    narrower_form (Option T) _ _ (optional_within T inner) names _
+    (flat_optional_law T inner names s l)
 
 -- Repeats.
 
@@ -247,15 +248,15 @@ many_within T inner = record { within = by_answer }
     by_answer s t (Err e) o =
         closed_err (all_fault T inner false true o.values s o.last t e o.steps o.fails)
 
--- keeps to the laws of its shape
+-- keeps to the laws of its form
 pub many_field_law : (T : Type 0) (inner : Outcome T) (catch : Bool) (names : List Names)
-    (s : Shape T) → ShapeLaw inner names s
-    → ShapeLaw (ManyOutcome inner catch) names (unless catch (many_shape s))
+    (s : FlatForm T) → FormLaw inner names s
+    → FormLaw (ManyOutcome inner catch) names (unless catch (flat_many s))
 many_field_law T inner true names s l = tt
 many_field_law T inner false names s l =
-    narrower_shape (Vec T) _ _ (many_within T inner) names _
-    (listed_shape_law T (Vec T) inner false (list_closure T) Refused names s
-    (never_refuses (List T) (Vec T) (list_closure T) (λ x n. n) (repeat_shape s)) l)
+    narrower_form (Vec T) _ _ (many_within T inner) names _
+    (flat_listed_law T (Vec T) inner false (list_closure T) Refused names s
+    (never_refuses (List T) (Vec T) (list_closure T) (λ x n. n) (flat_repeat s)) l)
 
 -- some
 not_nil : (T : Type 0) (values : List T) → is_nil values ≡ false → values ≡ [] → ⊥
@@ -280,14 +281,14 @@ some_within T inner message = record { within = by_answer }
         ⊎_elim (λ told. closed_no steps refl (ap class_of told))
         (λ memory. closed_memory steps (ap class_of memory)) o.1
 
--- keeps to the laws of its shape
+-- keeps to the laws of its form
 pub some_field_law : (T : Type 0) (inner : Outcome T) (catch : Bool) (message : List ℕ)
-    (names : List Names) (s : Shape T) → ShapeLaw inner names s
-    → ShapeLaw (SomeOutcome inner catch message) names (unless catch (some_shape s))
+    (names : List Names) (s : FlatForm T) → FormLaw inner names s
+    → FormLaw (SomeOutcome inner catch message) names (unless catch (flat_some s))
 some_field_law T inner true message names s l = tt
 some_field_law T inner false message names s l =
-    narrower_shape (Vec T) _ _ (some_within T inner message) names _
-    (listed_shape_law T (Vec T) inner false (some_closure T) Caught names s
+    narrower_form (Vec T) _ _ (some_within T inner message) names _
+    (flat_listed_law T (Vec T) inner false (some_closure T) Caught names s
     (some_agrees T inner names s l) l)
 
 -- collect
@@ -306,15 +307,15 @@ collect_within T C inner fills = record { within = by_answer }
         closed_memory (all_values T inner false true o.0 s o.1.last t o.1.steps o.1.stop)
         (memory_class e.0 o.2)
 
--- keeps to the laws of its shape
+-- keeps to the laws of its form
 pub collect_field_law : (T C : Type 0) (inner : Outcome T) (catch : Bool)
-    (fills : List T → C → Type 0) (names : List Names) (s : Shape T) → ShapeLaw inner names s
-    → ShapeLaw (CollectOutcome inner catch fills) names (unless catch (collect_shape fills s))
+    (fills : List T → C → Type 0) (names : List Names) (s : FlatForm T) → FormLaw inner names s
+    → FormLaw (CollectOutcome inner catch fills) names (unless catch (flat_collect fills s))
 collect_field_law T C inner true fills names s l = tt
 collect_field_law T C inner false fills names s l =
-    narrower_shape C _ _ (collect_within T C inner fills) names _
-    (listed_shape_law T C inner false (collect_closure fills) Refused names s
-    (never_refuses (List T) C (collect_closure fills) (λ x n. n) (repeat_shape s)) l)
+    narrower_form C _ _ (collect_within T C inner fills) names _
+    (flat_listed_law T C inner false (collect_closure fills) Refused names s
+    (never_refuses (List T) C (collect_closure fills) (λ x n. n) (flat_repeat s)) l)
 
 -- count
 count_within : (T : Type 0) (inner : Outcome T)
@@ -327,13 +328,13 @@ count_within T inner = record { within = by_answer }
     by_answer s t (Ok n) o = closed_yes (rest_values T inner s t o.0 o.1) o.2
     by_answer s t (Err e) o = closed_err (rest_fault T inner s t e o)
 
--- keeps to the laws of its shape
-pub count_field_law : (T : Type 0) (inner : Outcome T) (names : List Names) (s : Shape T)
-    → ShapeLaw inner names s → ShapeLaw (CountOutcome inner) names (count_shape s)
+-- keeps to the laws of its form
+pub count_field_law : (T : Type 0) (inner : Outcome T) (names : List Names) (s : FlatForm T)
+    → FormLaw inner names s → FormLaw (CountOutcome inner) names (flat_count s)
 count_field_law T inner names s l =
-    narrower_shape ℕ _ _ (count_within T inner) names _
-    (listed_shape_law T ℕ inner true (count_closure T) Refused names s
-    (never_refuses (List T) ℕ (count_closure T) (λ x n. n) (repeat_shape s)) l)
+    narrower_form ℕ _ _ (count_within T inner) names _
+    (flat_listed_law T ℕ inner true (count_closure T) Refused names s
+    (never_refuses (List T) ℕ (count_closure T) (λ x n. n) (flat_repeat s)) l)
 
 -- last
 last_within : (T : Type 0) (inner : Outcome T)
@@ -348,11 +349,11 @@ last_within T inner = record { within = by_answer }
     by_answer s t (Err e) (inl o) = last_err (rest_fault T inner s t e o)
     by_answer s t (Err e) (inr o) = last_again (rest_values T inner s o.0 [] o.1) o.2
 
--- keeps to the laws of its shape
-pub last_field_law : (T : Type 0) (inner : Outcome T) (names : List Names) (s : Shape T)
-    → ShapeLaw inner names s → ShapeLaw (LastOutcome inner) names (last_shape s)
+-- keeps to the laws of its form
+pub last_field_law : (T : Type 0) (inner : Outcome T) (names : List Names) (s : FlatForm T)
+    → FormLaw inner names s → FormLaw (LastOutcome inner) names (flat_last s)
 last_field_law T inner names s l =
-    narrower_shape T _ _ (last_within T inner) names _ (last_shape_law T inner names s l)
+    narrower_form T _ _ (last_within T inner) names _ (flat_last_law T inner names s l)
 
 -- Defaults.
 
@@ -392,27 +393,27 @@ fallback_within T inner gives f given = record { within = by_answer }
 
 -- a kept value
 pub fallback_field_law : (T : Type 0) (inner : Outcome T) (clones : T → T → Type 0) (kept : T)
-    (names : List Names) (s : Shape T) → ShapeLaw inner names s
-    → ShapeLaw (FallbackOutcome inner (GivesClone clones kept)) names
-    (fallback_shape (kept_closure (clones kept)) s)
+    (names : List Names) (s : FlatForm T) → FormLaw inner names s
+    → FormLaw (FallbackOutcome inner (GivesClone clones kept)) names
+    (flat_fallback (kept_closure (clones kept)) s)
 fallback_field_law T inner clones kept names s l =
-    narrower_shape T _ _
+    narrower_form T _ _
     (fallback_within T inner (GivesClone clones kept) (kept_closure (clones kept))
     (record { yes = λ v g. g; no = λ e g. inl (memory_class e.0 g) })) names _
-    (fallback_shape_law T inner (kept_closure (clones kept)) (λ u v y n. n) names s l)
+    (flat_fallback_law T inner (kept_closure (clones kept)) (λ u v y n. n) names s l)
 
 -- a closure's value
 pub fallback_with_field_law : (T E : Type 0) (inner : Outcome T) (answers : Result T E → Type 0)
-    (shown : E → Option (List ℕ)) (names : List Names) (s : Shape T)
+    (shown : E → Option (List ℕ)) (names : List Names) (s : FlatForm T)
     → Decides (answer_closure answers)
-    → ShapeLaw inner names s
-    → ShapeLaw (FallbackOutcome inner (GivesAnswer answers shown)) names
-    (fallback_shape (answer_closure answers) s)
+    → FormLaw inner names s
+    → FormLaw (FallbackOutcome inner (GivesAnswer answers shown)) names
+    (flat_fallback (answer_closure answers) s)
 fallback_with_field_law T E inner answers shown names s decides l =
-    narrower_shape T _ _
+    narrower_form T _ _
     (fallback_within T inner (GivesAnswer answers shown) (answer_closure answers) (record {
       yes = λ v g. g;
       no = λ e g. ⊎_elim (λ memory. inl (ap class_of memory))
           (λ told. inr ((g.0, g.1), ap class_of told.1)) g.2;
     })) names _
-    (fallback_shape_law T inner (answer_closure answers) decides names s l)
+    (flat_fallback_law T inner (answer_closure answers) decides names s l)

@@ -8,7 +8,7 @@ use Rattle.bpaf_words.specs.declared.arg.Arg.TheVariants.{ArgWord}
 use Rattle.bpaf_exact.specs.Pieces.{Cells, Roles, WithNext, Piece, One, Two, is_value, is_key}
 use Rattle.bpaf_exact.specs.Pieces.{is_own_role, others, Cut}
 use Rattle.bpaf_exact.specs.Single.{Groups}
-use Rattle.bpaf_exact.specs.Shape.{Shape, not_flat, alternative, single, complete, product}
+use Rattle.bpaf_exact.specs.FlatForm.{FlatForm, not_flat, alternative, single, complete, product}
 
 -- Behind an argument's key stands its value. Both are one piece, and the words left to positional
 -- fields are those before the key and those behind the value.
@@ -62,7 +62,7 @@ AtMostOne {T = T} value = (o p : Piece) (os : List Piece) (v : T) → value (o �
 
 -- A field without a repeat has no surplus: two occurrences or more have no value. An alternative
 -- reads one piece in any case.
-abbrev pub HasNoSurplus : {T : Type 0} → Shape T → Type 0
+abbrev pub HasNoSurplus : {T : Type 0} → FlatForm T → Type 0
 HasNoSurplus not_flat = Unit {0}
 HasNoSurplus (alternative q value) = Unit {0}
 HasNoSurplus (single k q group gap) = OneByOne group

@@ -12,7 +12,7 @@ use Rattle.bpaf_exact.specs.Flat.{Named}
 use Rattle.bpaf_text.specs.Named.{Named as Key}
 use Rattle.bpaf_exact.specs.Names.{Owns}
 use Rattle.bpaf_exact.specs.Flat.{Kind, OneWord, EachWord, keys, front, back}
-use Rattle.bpaf_exact.specs.Shape.{Shape, not_flat, alternative, single, complete, product}
+use Rattle.bpaf_exact.specs.FlatForm.{FlatForm, not_flat, alternative, single, complete, product}
 
 -- the keys with one of these names that stand on a line, in line order
 abbrev pub keys_on : Names → Cells → List Arg
@@ -31,18 +31,18 @@ pub record ReadsOwn (V A : Type 0) (r : Roles) (value : List Piece → V → Typ
   pub part : IsPart q r
   pub read : (os : List Piece) (v : V) → value os v → own (mine q os) (of v)
 
--- a record has such a field, of this shape
-abbrev pub FieldBy : {V A : Type 0} → Shape A → Shape V → (V → A) → Type 0
+-- a record has such a field, of this form
+abbrev pub FieldBy : {V A : Type 0} → FlatForm A → FlatForm V → (V → A) → Type 0
 FieldBy {V = V} {A = A} (complete Named q own) (product r fields) of =
     ReadsOwn V A r fields.value q own of
 FieldBy _ _ of = Unit {0}
 
--- a shape is that of a field with keys, whose value is so read off that of the whole
-pub record IsFieldOf {V A : Type 0} (a : Shape A) (s : Shape V) (of : V → A) : Type 0 where
+-- a form is that of a field with keys, whose value is so read off that of the whole
+pub record IsFieldOf {V A : Type 0} (a : FlatForm A) (s : FlatForm V) (of : V → A) : Type 0 where
   pub by : FieldBy a s of
 
 -- which of the words that are left to a field it leaves to those behind it; one with keys all
-abbrev pub words_behind_field : {A : Type 0} → Shape A → List Piece → List Piece
+abbrev pub words_behind_field : {A : Type 0} → FlatForm A → List Piece → List Piece
 words_behind_field (complete OneWord q own) os = back OneWord os
 words_behind_field (complete EachWord q own) os = []
 words_behind_field _ os = os
@@ -53,8 +53,8 @@ pub record ReadsWords (V A : Type 0) (r : Roles) (value : List Piece → V → T
     (rest : List Piece → List Piece) (own : List Piece → A → Type 0) (of : V → A) : Type 0 where
   pub read : (os : List Piece) (v : V) → value os v → own (front k (rest (others r os))) (of v)
 
--- a record has such a field, of this shape
-abbrev pub WordsBy : {V A : Type 0} → Shape A → (List Piece → List Piece) → Shape V → (V → A)
+-- a record has such a field, of this form
+abbrev pub WordsBy : {V A : Type 0} → FlatForm A → (List Piece → List Piece) → FlatForm V → (V → A)
     → Type 0
 WordsBy {V = V} {A = A} (complete OneWord q own) rest (product r fields) of =
     ReadsWords V A r fields.value OneWord rest own of
@@ -62,22 +62,23 @@ WordsBy {V = V} {A = A} (complete EachWord q own) rest (product r fields) of =
     ReadsWords V A r fields.value EachWord rest own of
 WordsBy _ rest _ of = Unit {0}
 
--- a shape is that of a positional field, whose value is so read off that of the whole
-pub record IsWordsOf {V A : Type 0} (a : Shape A) (rest : List Piece → List Piece) (s : Shape V)
+-- a form is that of a positional field, whose value is so read off that of the whole
+pub record IsWordsOf {V A : Type 0} (a : FlatForm A) (rest : List Piece → List Piece)
+    (s : FlatForm V)
     (of : V → A) : Type 0 where
   pub by : WordsBy a rest s of
 
 -- a field's own items are those with one of its names
-abbrev pub ShapeOwns : {T : Type 0} → List Names → Shape T → Type 0
-ShapeOwns names not_flat = Unit {0}
-ShapeOwns names (alternative q value) = Owns q names
-ShapeOwns names (single k q group gap) = Owns (keys k q) names
-ShapeOwns names (complete k q value) = Owns (keys k q) names
-ShapeOwns names (product q fields) = Owns q names
+abbrev pub FormOwns : {T : Type 0} → List Names → FlatForm T → Type 0
+FormOwns names not_flat = Unit {0}
+FormOwns names (alternative q value) = Owns q names
+FormOwns names (single k q group gap) = Owns (keys k q) names
+FormOwns names (complete k q value) = Owns (keys k q) names
+FormOwns names (product q fields) = Owns q names
 
--- a shape whose own items are those with one of these names
-pub record OwnsKeys {T : Type 0} (names : List Names) (s : Shape T) : Type 0 where
-  pub by : ShapeOwns names s
+-- a form whose own items are those with one of these names
+pub record OwnsKeys {T : Type 0} (names : List Names) (s : FlatForm T) : Type 0 where
+  pub by : FormOwns names s
 
 -- the key of a switch with these names, and no name in the environment
 pub record IsSwitchOf (names : Names) (key : Key) (present : Bool) (absent : Option Bool) : Type 0

@@ -11,7 +11,7 @@ use Rattle.bpaf_line.specs.Taking.{TakesText, HasNone}
 use Rattle.bpaf_exact.specs.Pieces.{Roles, Foreign, Alone, WithNext, Piece, One, Two, word_roles}
 use Rattle.bpaf_exact.specs.Flat.{Named, OneWord, OfMemory, OfMissing, Refused, class}
 use Rattle.bpaf_exact.specs.Single.{Gap, FrontOf, no_gap}
-use Rattle.bpaf_exact.specs.Shape.{Shape, not_flat, alternative, single}
+use Rattle.bpaf_exact.specs.FlatForm.{FlatForm, not_flat, alternative, single}
 
 -- the items of a flag: keys with one of its names, each by itself
 abbrev pub flag_roles : Names → Roles
@@ -42,7 +42,7 @@ switch_gap absent = record { has = true; absent = absent }
 
 -- a flag that must be there, or one with an absent value; with a name in the environment neither
 abbrev pub flag_by : {T : Type 0} → (T → T → Type 0) → Names → T → List (List ℕ) → Option T
-    → Shape T
+    → FlatForm T
 flag_by clones names present (env ∷ envs) absent = not_flat
 flag_by clones names present [] None =
     alternative (flag_roles names) (FlagValue (clones present))
@@ -51,7 +51,7 @@ flag_by {T = T} clones names present [] (Some absent) =
     (switch_gap (clones absent))
 
 -- a flag
-abbrev pub flag_field : {T : Type 0} → (T → T → Type 0) → Key → T → Option T → Shape T
+abbrev pub flag_field : {T : Type 0} → (T → T → Type 0) → Key → T → Option T → FlatForm T
 flag_field clones key present absent = flag_by clones key.names present key.envs absent
 
 -- each of these pieces is a key with its value
@@ -72,25 +72,25 @@ pub record LastGroup (T : Type 0) (means : List ℕ → T → Type 0) (os : List
   pub none_left : rest ≡ []
 
 -- an argument that takes all its keys at once
-abbrev pub last_argument : {T : Type 0} → (List ℕ → T → Type 0) → Names → Shape T
+abbrev pub last_argument : {T : Type 0} → (List ℕ → T → Type 0) → Names → FlatForm T
 last_argument {T = T} means names =
     single Named (argument_roles names) (LastGroup T means) (no_gap T)
 
 -- an argument, but for one with a name in the environment, and one that wants an attached value
 abbrev pub argument_by : {T : Type 0} → (List ℕ → T → Type 0) → Names → List (List ℕ) → Bool → Bool
-    → Shape T
+    → FlatForm T
 argument_by means names (env ∷ envs) adjacent last = not_flat
 argument_by means names [] true last = not_flat
 argument_by means names [] false false = alternative (argument_roles names) (ArgumentValue means)
 argument_by means names [] false true = last_argument means names
 
 -- an argument
-abbrev pub argument_field : {T : Type 0} → (List ℕ → T → Type 0) → KeyWithValue → Shape T
+abbrev pub argument_field : {T : Type 0} → (List ℕ → T → Type 0) → KeyWithValue → FlatForm T
 argument_field means argument =
     argument_by means argument.named.names argument.named.envs argument.adjacent argument.last
 
 -- a positional word on either side of `--`
-abbrev pub word_field : {T : Type 0} → (List ℕ → T → Type 0) → Shape T
+abbrev pub word_field : {T : Type 0} → (List ℕ → T → Type 0) → FlatForm T
 word_field {T = T} means = single OneWord word_roles (FrontOf T (WordValue means)) (no_gap T)
 
 -- the first word taken and its value; its text means none; there is none; or want of memory

@@ -7,8 +7,8 @@ use Rattle.bpaf_exact.specs.Pieces.{Piece}
 use Rattle.bpaf_exact.specs.Single.{Groups}
 use Rattle.bpaf_exact.specs.Wrappers.{Closure}
 use Rattle.bpaf_exact.specs.Record.{Answer, Accepted, NoMemory, Refusal, RecordValue, RunRan}
-use Rattle.bpaf_exact.specs.Shape.{Shape, not_flat, alternative, single, complete, product}
-use Rattle.bpaf_exact.specs.Shape.{product_roles, product_reading, record_shape}
+use Rattle.bpaf_exact.specs.FlatForm.{FlatForm, not_flat, alternative, single, complete, product}
+use Rattle.bpaf_exact.specs.FlatForm.{product_roles, product_reading, flat_record}
 
 -- all these values look alike
 abbrev pub Alike : {T X : Type 0} → (T → X) → (T → Type 0) → Type 0
@@ -20,7 +20,7 @@ OneGroup {T = T} see group = (os rest others : List Piece) (v w : T) → group o
     → group os w others → (see v ≡ see w) × (rest ≡ others)
 
 -- the values of the same pieces look alike
-abbrev pub HasOneView : {T X : Type 0} → (T → X) → Shape T → Type 0
+abbrev pub HasOneView : {T X : Type 0} → (T → X) → FlatForm T → Type 0
 HasOneView see not_flat = Unit {0}
 HasOneView see (alternative q value) = (o : Piece) → Alike see (value o)
 HasOneView see (single k q group gap) = OneGroup see group × Alike see gap.absent
@@ -49,8 +49,8 @@ LooksLike see v NoMemory = Unit {0}
 LooksLike see v Refusal = ⊥
 
 -- Where the record has a value v, each answer looks like v, or is want of memory.
-abbrev pub RunsToOne : {V X : Type 0} → (V → X) → Outcome V → Shape V → Context → Type 0
+abbrev pub RunsToOne : {V X : Type 0} → (V → X) → Outcome V → FlatForm V → Context → Type 0
 RunsToOne {V = V} see outcome s context =
     (a : Answer V) (v : V) → RunRan V outcome (beginning context) a
-    → RecordValue (product_roles (record_shape s)) (product_reading (record_shape s)).value context v
+    → RecordValue (product_roles (flat_record s)) (product_reading (flat_record s)).value context v
     → LooksLike see v a

@@ -5,7 +5,7 @@ use Rattle.std.proofs.Common.{if◌then◌else◌, ⊎_elim, slice_get}
 use Rattle.std.specs.Prelude.{flat_map}
 use Rattle.std.specs.List.{AllZip, Contains, AllByRecursion}
 use Rattle.bpaf_doc.specs.Names.{Names}
-use Rattle.bpaf_doc.specs.Shape.{Shape as ShownShape}
+use Rattle.bpaf_doc.specs.Shape.{Shape}
 use Rattle.bpaf_words.specs.Arguments.{Given}
 use Rattle.bpaf_words.specs.Items.{is_key_of}
 use Rattle.bpaf_words.specs.Line.{IsLine, unmarked, marked, SpellAll}
@@ -139,7 +139,7 @@ module _ (known : Known) (names : Names) where
       record { word = by.0; before = by.1; spells = by.2 }
 
 -- So it is on the line by which a run reads the words.
-pub key_was_spelled : {describes : ShownShape → Type 0} (info : RunInfo) (given : Given)
+pub key_was_spelled : {describes : Shape → Type 0} (info : RunInfo) (given : Given)
     (context : Context) → IsLineContext describes info given context → (names : Names) (k : Arg)
     (ks : List Arg) → keys_on names (line_cells context) ≡ k ∷ ks → WasSpelled names given.words
 key_was_spelled info given context is names k ks e = ⊎_elim
