@@ -111,13 +111,13 @@ alternatives (Or all) = shapes_of all
 alternatives shape = shape ∷ []
 
 -- the choice of two shapes
-abbrev pub either : Shape → Shape → Shape
-either first second = Or (members (alternatives first ++ alternatives second))
+abbrev pub either_shape : Shape → Shape → Shape
+either_shape first second = Or (members (alternatives first ++ alternatives second))
 
 -- a choice shows what both branches show
 abbrev pub ChoiceDescribes : (Shape → Type 0) → (Shape → Type 0) → Shape → Type 0
 ChoiceDescribes first second shape =
-    (a : Shape) × (b : Shape) × first a × second b × (shape ≡ either a b)
+    (a : Shape) × (b : Shape) × first a × second b × (shape ≡ either_shape a b)
 
 -- a branch is the chosen one: its value is the answer, and what it took is taken
 pub record IsChosen {T : Type 0} (a : Result T Error) (sa : Situation) (v : T)
