@@ -4,7 +4,7 @@ use Rattle.bpaf_doc.specs.Shape.{Part}
 use Rattle.bpaf_line.specs.declared.error.Error.{Error}
 use Rattle.bpaf_line.specs.Messages.{is_memory}
 use Rattle.bpaf_line.specs.Situation.{Situation}
-use Rattle.bpaf_laws.specs.AdjacentGroup.{Failure, GroupOutcome, HasNoStart, IsStart, Searches, TriesAt, width_of}
+use Rattle.bpaf_laws.specs.AdjacentGroup.{Failure, GroupOutcome, HasNoStart, IsGroupStart, Searches, TriesAt, width_of}
 use Rattle.bpaf_laws.specs.AdjacentGroup.{failed, found, no_memory, on, over, skipped, value, wanted}
 use Rattle.bpaf_laws.specs.Reading.{Outcome}
 use Rattle.bpaf.specs.declared.adjacent.Remembered.{Remembered}
@@ -41,14 +41,14 @@ module _ (T : Type 0) (inner : Outcome T) (s : Situation) (first : Part) where
 
   module _ (b : Situation) (same : b ≡ s) (from : ℕ) (best : Remembered) (rest : Rest from best)
       (width : ℕ) (wide : width ≡ width_of first) where
-    module _ (place stop : ℕ) (start : IsStart b width from place × (stop ≡ place + width))
+    module _ (place stop : ℕ) (start : IsGroupStart b width from place × (stop ≡ place + width))
         (r : Result (Option T) Error) (after : Remembered) (t : Situation)
         (tried : TriesAt T inner b place stop (failure_of b best) r (failure_of b after) t) where
       -- the place begins a first item
-      starts : IsStart s (width_of first) from place
+      starts : IsGroupStart s (width_of first) from place
       starts =
-          subst (λ x. IsStart x (width_of first) from place) same
-          (subst (λ w. IsStart b w from place) wide start.0)
+          subst (λ x. IsGroupStart x (width_of first) from place) same
+          (subst (λ w. IsGroupStart b w from place) wide start.0)
 
       -- and is tried from the group's situation
       tried_here : TriesAt T inner s place (place + width_of first) (failure_of s best) r

@@ -9,7 +9,7 @@ ghost use Rattle.bpaf_laws.specs.Laws.{Keeps};
 ghost use Rattle.bpaf_laws.specs.Spared.{IsNotMemory};
 ghost use Rattle.bpaf_laws.specs.Product.{ProductDescribes};
 ghost use Rattle.bpaf_laws.specs.AdjacentGroup.{GroupDescribes, GroupOutcome, Tries, TriesAt};
-ghost use Rattle.bpaf_laws.specs.AdjacentGroup.{HasNoStart, IsStart, width_of};
+ghost use Rattle.bpaf_laws.specs.AdjacentGroup.{HasNoStart, IsGroupStart, width_of};
 ghost use Rattle.bpaf.specs.Remembering.{EndsAttempt, IsEnd, IsFirstOf, IsMissingFirst, IsRefused, IsRemembered};
 ghost use Rattle.bpaf.specs.Remembering.{Takes, TriesFrom, failure_of};
 
@@ -103,7 +103,7 @@ fn first_present(state: &State, from: usize) -> Option<usize>
 fn next_start(state: &State, from: usize, width: usize) -> Option<Range<usize>>
     requires { state.now.start ≤ from }
     ensures start { MatchOption result (HasNoStart state.now width from)
-        (λ r. IsStart state.now width from r.start × (r.end ≡ r.start + width)) }
+        (λ r. IsGroupStart state.now width from r.start × (r.end ≡ r.start + width)) }
     ensures inside { IfSome result (λ r. r.end ≤ length state.now.context.line) }
 {
     let place = first_present(state, from)?;

@@ -51,7 +51,7 @@ EndsWith s first None e t =
     × (t ≡ s)
 
 -- the next place to try: the first present one, where so many places of the scope begin with it
-pub record IsStart (s : Situation) (width from place : ℕ) : Type 0 where
+pub record IsGroupStart (s : Situation) (width from place : ℕ) : Type 0 where
   pub next : IsNextOpen s from place
   pub fits : place + width ≤ s.end
 
@@ -103,11 +103,11 @@ module _ (T : Type 0) (inner : Outcome T) (s : Situation) where
         → HasNoStart s (width_of first) from → EndsWith s first best e t
         → Searches first from best (Err e) t
     on : (from place : ℕ) (best after : Option Failure) (r : Result T Error) (t : Situation)
-        → IsStart s (width_of first) from place
+        → IsGroupStart s (width_of first) from place
         → TriesAt place (place + width_of first) best (Ok None) after s
         → Searches first (place + 1) after r t → Searches first from best r t
     value : (from place : ℕ) (best after : Option Failure) (v : T) (t : Situation)
-        → IsStart s (width_of first) from place
+        → IsGroupStart s (width_of first) from place
         → TriesAt place (place + width_of first) best (Ok (Some v)) after t
         → Searches first from best (Ok v) t
     wanted : (from : ℕ) (best : Option Failure) (e : Error) → is_memory e.0 ≡ true
