@@ -53,9 +53,9 @@ IsEnd s first best e t =
     EndsWith s first (failure_of s best) e t ⊎ ((is_memory e.0 ≡ true) × (t ≡ s))
 
 -- some places are taken, or none
-abbrev pub TakesSome : Bool → Share → Type 0
-TakesSome true = HasPlace
-TakesSome false = IsEmptyShare
+abbrev pub HasPlaceIf : Bool → Share → Type 0
+HasPlaceIf true = HasPlace
+HasPlaceIf false = IsEmptyShare
 
 -- whether an evaluation over the places from one on up to another takes one of them
 pub record Takes (T : Type 0) (inner : Outcome T) (s : Situation) (place stop : ℕ)
@@ -64,7 +64,7 @@ pub record Takes (T : Type 0) (inner : Outcome T) (s : Situation) (place stop : 
   pub left : Situation
   pub ran : inner (with_scope s place stop) answer left
   pub spared : IsNotMemory answer
-  pub taken : TakesSome takes (newly s left)
+  pub taken : HasPlaceIf takes (newly s left)
 
 -- an attempt over the places from one on up to another left none of them present, or this is the
 -- first one; or it failed

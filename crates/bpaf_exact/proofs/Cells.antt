@@ -7,8 +7,8 @@ use Rattle.bpaf_words.specs.Items.{is_positional}
 use Rattle.bpaf_exact.specs.Pieces.{Cells, Role, Foreign, Alone, WithNext, Roles, Piece, One, Two}
 use Rattle.bpaf_exact.specs.Pieces.{is_value, is_key, is_own_role, is_own, mine, others}
 use Rattle.bpaf_exact.specs.Pieces.{either_role, either, IsNamed, Apart, Cut, at_end, passed, flag}
-use Rattle.bpaf_exact.specs.Pieces.{argument, word, with_next, begin_piece, pieces, Takes}
-use Rattle.bpaf_exact.specs.Pieces.{takes_one, takes_two, takes_later, TakesSome, takes_none}
+use Rattle.bpaf_exact.specs.Pieces.{argument, word, with_next, begin_piece, pieces, TakesPiece}
+use Rattle.bpaf_exact.specs.Pieces.{takes_one, takes_two, takes_later, TakesPieces, takes_none}
 use Rattle.bpaf_exact.specs.Pieces.{takes_more}
 
 -- a value is no key
@@ -63,7 +63,7 @@ no_value_next : (k w : Arg) (cs : Cells) → is_value w ≡ false → with_next 
 no_value_next k w cs h = ap (λ b. if b then Two k w else One k) h
 
 -- taking a piece leaves what a key before it has next to it
-pub same_next : (q : Roles) (k : Arg) {cs ds : Cells} {o : Piece} → IsNamed q → Takes q cs o ds
+pub same_next : (q : Roles) (k : Arg) {cs ds : Cells} {o : Piece} → IsNamed q → TakesPiece q cs o ds
     → with_next k ds ≡ with_next k cs
 same_next q k n (takes_one {k = j} {cs = cs} e) =
     sym (no_value_next k j cs (own_not_value q j n (ap is_own_role e)))
@@ -74,7 +74,7 @@ same_next q k n (takes_later {c = Some j} t) = refl
 
 -- What one takes of its own leaves the pieces of another as they are.
 pub keeps_other : (q r : Roles) {cs ds : Cells} {o : Piece} → IsNamed q → IsNamed r → Apart q r
-    → Takes q cs o ds → pieces r ds ≡ pieces r cs
+    → TakesPiece q cs o ds → pieces r ds ≡ pieces r cs
 keeps_other q r nq nr a (takes_one {k = k} {cs = cs} e) =
     sym (begin_foreign k cs (pieces r cs) (a.left k (ap is_own_role e)))
 keeps_other q r nq nr a (takes_two {k = k} {w = w} {cs = cs} e v) =
@@ -86,7 +86,7 @@ keeps_other q r nq nr a (takes_later {c = Some k} {cs = cs} {ds = ds} t) =
 
 -- so do some pieces
 pub keeps_other_some : (q r : Roles) {cs ds : Cells} → IsNamed q → IsNamed r → Apart q r
-    → TakesSome q cs ds → pieces r ds ≡ pieces r cs
+    → TakesPieces q cs ds → pieces r ds ≡ pieces r cs
 keeps_other_some q r nq nr a takes_none = refl
 keeps_other_some q r nq nr a (takes_more t more) = keeps_other_some q r nq nr a more
     ∙ keeps_other q r nq nr a t
@@ -164,7 +164,7 @@ pub record CutAlike (q r : Roles) (cs : Cells) (os : List Piece) : Type 0 where
   pub alike : others q now ≡ others q os
 
 -- a piece given back to its place is cut off there again
-pub put_back : (q r : Roles) {cs ds : Cells} {o : Piece} {os : List Piece} → Takes q cs o ds
+pub put_back : (q r : Roles) {cs ds : Cells} {o : Piece} {os : List Piece} → TakesPiece q cs o ds
     → Cut (either q r) ds os → CutAlike q (either q r) cs os
 put_back q r (takes_one {k = k} {cs = cs} e) (passed {os = os} c) =
     record {
@@ -209,7 +209,7 @@ put_back q r (takes_later {c = Some k} t) (word h c) =
     }
 
 -- so are some pieces
-pub put_back_some : (q r : Roles) {cs ds : Cells} {os : List Piece} → TakesSome q cs ds
+pub put_back_some : (q r : Roles) {cs ds : Cells} {os : List Piece} → TakesPieces q cs ds
     → Cut (either q r) ds os → CutAlike q (either q r) cs os
 put_back_some q r {os = os} takes_none c = record { now = os; cut = c; alike = refl }
 put_back_some q r (takes_more t more) c =
@@ -225,7 +225,7 @@ either_not x y z u e h g = sym (either_own x y z e h) ∙ g
 
 -- what is left of a cut when a piece is taken
 pub take_from : (q r : Roles) {cs ds : Cells} {o : Piece} {os : List Piece} → IsNamed q
-    → Takes q cs o ds → Cut (either q r) cs os → CutAlike q (either q r) ds os
+    → TakesPiece q cs o ds → Cut (either q r) cs os → CutAlike q (either q r) ds os
 take_from q r n (takes_one {k = k} e) (flag {os = os} g c) =
     record { now = os; cut = passed c; alike = sym (others_own q (One k) os (ap is_own_role e)) }
 take_from q r n (takes_one {k = k} e) (argument g v c) = let h =
@@ -273,7 +273,8 @@ take_from q r n (takes_later {c = Some k} t) (word h c) =
     }
 
 -- when some pieces are
-pub take_some_from : (q r : Roles) {cs ds : Cells} {os : List Piece} → IsNamed q → TakesSome q cs ds
+pub take_some_from : (q r : Roles) {cs ds : Cells} {os : List Piece} → IsNamed q
+    → TakesPieces q cs ds
     → Cut (either q r) cs os → CutAlike q (either q r) ds os
 take_some_from q r {os = os} n takes_none c = record { now = os; cut = c; alike = refl }
 take_some_from q r n (takes_more t more) c =

@@ -19,7 +19,7 @@ use Rattle.bpaf_laws.specs.Reading.{Outcome}
 use Rattle.bpaf_laws.specs.Spared.{IsNotMemory}
 use Rattle.bpaf_laws.specs.Step.{is_untouched}
 use Rattle.bpaf_exact.specs.Pieces.{Cells, Roles, Piece, One, Two, is_own_role, is_own, Apart}
-use Rattle.bpaf_exact.specs.Pieces.{either, pieces, Takes, takes_one, takes_two, takes_later}
+use Rattle.bpaf_exact.specs.Pieces.{either, pieces, TakesPiece, takes_one, takes_two, takes_later}
 use Rattle.bpaf_exact.specs.Flat.{OfMemory, OfMissing, Refused, class, cells, first_cells, IsWhole}
 use Rattle.bpaf_exact.specs.Flat.{Steady}
 use Rattle.bpaf_exact.specs.Alternative.{TakesFirst, HasBad, AlternativeOk, AlternativeErr}
@@ -139,14 +139,14 @@ saved_steady s other t place c =
     record { context = c.context; start = c.start; end = c.end; path = c.path }
 
 -- a piece that was taken is one of the field's own
-pub takes_own : (q : Roles) {cs ds : Cells} {o : Piece} → Takes q cs o ds → is_own q o ≡ true
+pub takes_own : (q : Roles) {cs ds : Cells} {o : Piece} → TakesPiece q cs o ds → is_own q o ≡ true
 takes_own q (takes_one e) = ap is_own_role e
 takes_own q (takes_two e v) = ap is_own_role e
 takes_own q (takes_later t) = takes_own q t
 
 -- what the other branch did
 data Other (T : Type 0) (qb : Roles) (vb : Piece → T → Type 0) (cs cm : Cells) : Type 0 where
-  other_took : {cn : Cells} {ob : Piece} → Takes qb cs ob cn → TookLeft cm cn
+  other_took : {cn : Cells} {ob : Piece} → TakesPiece qb cs ob cn → TookLeft cm cn
       → TakesFirst qb cs ob cn ⊎ HasBad T vb (pieces qb cn)
       → ((o : Piece) (os : List Piece) (w : T) → pieces qb cs ≡ o ∷ os → vb o w
       → TakesFirst qb cs ob cn) → Other T qb vb cs cm
@@ -160,14 +160,14 @@ module _ (T : Type 0) (qa qb r : Roles) (u : Union qa qb r) (va vb vr : Piece �
     (from_a : (o : Piece) (v : T) → is_own qa o ≡ true → vr o v → va o v)
     (from_b : (o : Piece) (v : T) → is_own qb o ≡ true → vr o v → vb o v) where
   -- a piece of the other branch that can't be read stays one
-  kept_bad : {cs cm : Cells} {oa : Piece} → Takes qa cs oa cm → HasBad T vb (pieces qb cs)
+  kept_bad : {cs cm : Cells} {oa : Piece} → TakesPiece qa cs oa cm → HasBad T vb (pieces qb cs)
       → HasBad T vr (pieces r cm)
   kept_bad {cs = cs} {cm = cm} t h =
       bad_left T vb vr qb qa r (swap_union qa qb r u) from_b cm
       (subst (HasBad T vb) (sym (keeps_other qa qb u.named_left u.named_right u.apart t)) h)
 
   -- the winner took the first piece of both, or one that can't be read stays
-  won_first : {cs cm : Cells} {oa : Piece} → Takes qa cs oa cm → Other T qb vb cs cm
+  won_first : {cs cm : Cells} {oa : Piece} → TakesPiece qa cs oa cm → Other T qb vb cs cm
       → TakesFirst qa cs oa cm ⊎ HasBad T va (pieces qa cm)
       → TakesFirst r cs oa cm ⊎ HasBad T vr (pieces r cm)
   won_first {cm = cm} t o (inr h) = inr (bad_left T va vr qa qb r u from_a cm h)
@@ -178,7 +178,7 @@ module _ (T : Type 0) (qa qb r : Roles) (u : Union qa qb r) (va vb vr : Piece �
   won_first t (other_refused b n) (inl h) = inr (kept_bad t b)
 
   -- where the first piece of both can be read, the winner took it
-  won_readable : {cs cm : Cells} {oa : Piece} → Takes qa cs oa cm → Other T qb vb cs cm
+  won_readable : {cs cm : Cells} {oa : Piece} → TakesPiece qa cs oa cm → Other T qb vb cs cm
       → ((o : Piece) (os : List Piece) (w : T) → pieces qa cs ≡ o ∷ os → va o w
       → TakesFirst qa cs oa cm)
       → (o : Piece) (os : List Piece) (w : T) → pieces r cs ≡ o ∷ os → vr o w
@@ -201,7 +201,7 @@ module _ (T : Type 0) (qa qb r : Roles) (u : Union qa qb r) (va vb vr : Piece �
   won s m t x a o st e = record {
     steady = steady_trans a.steady st;
     piece = a.piece;
-    takes = subst (Takes r (cells s) a.piece) (sym e) (takes_left qa qb r u a.takes);
+    takes = subst (TakesPiece r (cells s) a.piece) (sym e) (takes_left qa qb r u a.takes);
     means = gives a.piece x (takes_own qa a.takes) a.means;
     first = subst (λ ct. TakesFirst r (cells s) a.piece ct ⊎ HasBad T vr (pieces r ct)) (sym e)
         (won_first a.takes o a.first);

@@ -4,14 +4,16 @@ use Rattle.std.proofs.Common.{None, refl, sym, ap, ◌∙◌, subst, inl, inr, �
 use Rattle.bpaf_words.specs.declared.arg.Arg.{Arg}
 use Rattle.bpaf_exact.specs.Pieces.{Cells, Role, Foreign, Alone, WithNext, Roles, Piece, One, Two}
 use Rattle.bpaf_exact.specs.Pieces.{is_value, is_own_role, is_own, IsNamed, Apart, either}
-use Rattle.bpaf_exact.specs.Pieces.{either_role, with_next, begin_piece, pieces, Takes, takes_one}
+use Rattle.bpaf_exact.specs.Pieces.{either_role, with_next, begin_piece, pieces, TakesPiece}
+use Rattle.bpaf_exact.specs.Pieces.{takes_one}
 use Rattle.bpaf_exact.specs.Pieces.{takes_two, takes_later}
 use Rattle.bpaf_exact.specs.Alternative.{TakesFirst, first_one, first_two, first_later, HasBad}
 use Rattle.bpaf_exact.specs.Alternative.{bad_here, bad_later}
 use Rattle.bpaf_exact.proofs.Cells.{value_not_key, keeps_other, same_next}
 
 -- taking the first piece is taking one
-pub first_takes : (q : Roles) {cs ds : Cells} {o : Piece} → TakesFirst q cs o ds → Takes q cs o ds
+pub first_takes : (q : Roles) {cs ds : Cells} {o : Piece} → TakesFirst q cs o ds
+    → TakesPiece q cs o ds
 first_takes q (first_one e) = takes_one e
 first_takes q (first_two e v) = takes_two e v
 first_takes q (first_later n t) = takes_later (first_takes q t)
@@ -65,7 +67,8 @@ nil_foreign Alone k cs os e = cc
 nil_foreign WithNext k cs os e = cc
 
 -- what was taken was there
-pub takes_nonempty : (q : Roles) {cs ds : Cells} {o : Piece} → Takes q cs o ds → pieces q cs ≡ []
+pub takes_nonempty : (q : Roles) {cs ds : Cells} {o : Piece} → TakesPiece q cs o ds
+    → pieces q cs ≡ []
     → ⊥
 takes_nonempty q (takes_one {k = k} {cs = cs} e) h = let f =
     nil_foreign (q k) k cs (pieces q cs) h in cc
@@ -97,7 +100,7 @@ module _ (T : Type 0) (value : Piece → T → Type 0) where
       by_next x y e (bad_later h) = bad_later (f h)
 
   -- A piece that can't be read stays one when others are given back.
-  pub bad_given_back : (q : Roles) {cs ds : Cells} {o : Piece} → IsNamed q → Takes q cs o ds
+  pub bad_given_back : (q : Roles) {cs ds : Cells} {o : Piece} → IsNamed q → TakesPiece q cs o ds
       → HasBad T value (pieces q ds) → HasBad T value (pieces q cs)
   bad_given_back q n (takes_one {k = k} {cs = cs} e) h =
       subst (HasBad T value) (sym (begin_at k cs (pieces q cs) e)) (bad_later h)
@@ -166,8 +169,9 @@ left_role : (qa qb r : Roles) (k : Arg) (x : Role) → Union qa qb r → is_own_
 left_role qa qb r k x u h e = u.left k (ap is_own_role e ∙ h) ∙ e
 
 -- what the first takes both take
-pub takes_left : (qa qb r : Roles) {cs ds : Cells} {o : Piece} → Union qa qb r → Takes qa cs o ds
-    → Takes r cs o ds
+pub takes_left : (qa qb r : Roles) {cs ds : Cells} {o : Piece} → Union qa qb r
+    → TakesPiece qa cs o ds
+    → TakesPiece r cs o ds
 takes_left qa qb r u (takes_one {k = k} e) = takes_one (left_role qa qb r k Alone u refl e)
 takes_left qa qb r u (takes_two {k = k} e v) = takes_two (left_role qa qb r k WithNext u refl e) v
 takes_left qa qb r u (takes_later t) = takes_later (takes_left qa qb r u t)
@@ -348,7 +352,7 @@ first_both qa qb r u (first_later {c = Some k} n s) (first_two e v) (left_later 
 -- further left.
 pub not_left : (qa qb r : Roles) {cs ca cb : Cells} {oa ob o : Piece} {os : List Piece}
     → Union qa qb r → pieces r cs ≡ o ∷ os → is_own qb o ≡ true
-    → Takes qa cs oa ca → TakesFirst qb cs ob cb → TookLeft ca cb → ⊥
+    → TakesPiece qa cs oa ca → TakesFirst qb cs ob cb → TookLeft ca cb → ⊥
 not_left qa qb r u e h (takes_later t) (first_one x) (left_later same l) = cc
 not_left qa qb r u e h (takes_later t) (first_two x v) (left_later same l) = cc
 not_left qa qb r u e h (takes_later {c = None} t) (first_later n s) (left_later same l) =
@@ -385,7 +389,7 @@ begin_length Alone k cs ds os ps h = omega arith
 begin_length WithNext k cs ds os ps h = omega arith
 
 -- taking a piece leaves fewer
-takes_shorter : (q : Roles) {cs ds : Cells} {o : Piece} → IsNamed q → Takes q cs o ds
+takes_shorter : (q : Roles) {cs ds : Cells} {o : Piece} → IsNamed q → TakesPiece q cs o ds
     → length (pieces q ds) < length (pieces q cs)
 takes_shorter q n (takes_one {k = k} {cs = cs} e) = let d =
     ap length (begin_at k cs (pieces q cs) e) in omega arith
@@ -396,14 +400,15 @@ takes_shorter q n (takes_later {c = Some k} {cs = cs} {ds = ds} t) =
     begin_length (q k) k ds cs (pieces q ds) (pieces q cs) (takes_shorter q n t)
 
 -- so it changes the cells
-pub takes_changes : (q : Roles) {cs ds : Cells} {o : Piece} → IsNamed q → Takes q cs o ds → ds ≡ cs
+pub takes_changes : (q : Roles) {cs ds : Cells} {o : Piece} → IsNamed q → TakesPiece q cs o ds
+    → ds ≡ cs
     → ⊥
 takes_changes q n t e = let a = takes_shorter q n t in let b = ap (λ z. length (pieces q z)) e in
     omega arith
 
 -- two that share no item never leave the same cells
 pub never_same : (qa qb r : Roles) {cs ca cb : Cells} {oa ob : Piece} → Union qa qb r
-    → Takes qa cs oa ca → Takes qb cs ob cb → ca ≡ cb → ⊥
+    → TakesPiece qa cs oa ca → TakesPiece qb cs ob cb → ca ≡ cb → ⊥
 never_same qa qb r {ca = ca} {cb = cb} u s t e =
     let a = takes_shorter qa u.named_left s in
     let b = ap length

@@ -11,7 +11,7 @@ use Rattle.bpaf_laws.specs.Spared.{IsNotMemory}
 use Rattle.bpaf_exact.specs.Pieces.{Cells, Role, Foreign, Alone, WithNext, Roles, Piece, One, Two}
 use Rattle.bpaf_exact.specs.Pieces.{is_own_role, is_own, others, either_role, either, IsNamed}
 use Rattle.bpaf_exact.specs.Pieces.{Apart, Cut, at_end, passed, flag, argument, word, begin_piece}
-use Rattle.bpaf_exact.specs.Pieces.{pieces, TakesSome}
+use Rattle.bpaf_exact.specs.Pieces.{pieces, TakesPieces}
 use Rattle.bpaf_exact.specs.Flat.{cells, NonePresent, IsWhole, Steady, Kind, Named, OneWord}
 use Rattle.bpaf_exact.specs.Flat.{EachWord, front, back, share, left, keys, IsWords, OwnItems}
 use Rattle.bpaf_exact.specs.Flat.{LeavesNone, FieldTook, FieldLaw, ReadOff, GivesAll, FieldsLaw}
@@ -175,7 +175,7 @@ pub record StepBack (k : Kind) (q r : Roles) (cs : Cells) (after : List Piece) :
 
 -- that of a named field
 named_back : (q r : Roles) {cs ds : Cells} {os : List Piece} → IsNamed q → Apart q r
-    → TakesSome q cs ds → Cut r ds os → StepBack Named q r cs os
+    → TakesPieces q cs ds → Cut r ds os → StepBack Named q r cs os
 named_back q r n a t c =
     let w = widen q r n a c in
     let p = put_back_some q r t w.cut in
@@ -189,7 +189,7 @@ named_back q r n a t c =
 
 -- of a positional one with a repeat
 each_back : (q r : Roles) {cs ds : Cells} {os : List Piece} → IsWords q → NoKeys r
-    → TakesSome q cs ds → pieces q ds ≡ [] → Cut r ds os → StepBack EachWord q r cs os
+    → TakesPieces q cs ds → pieces q ds ≡ [] → Cut r ds os → StepBack EachWord q r cs os
 each_back q r n f t e c =
     let p = put_words_back q r n f t c in
     let all = words_of_cut q r n f p.cut in
@@ -197,7 +197,7 @@ each_back q r n f t e c =
 
 -- of one without
 one_back : (q r : Roles) {cs ds : Cells} {os : List Piece} → IsWords q → NoKeys r
-    → TakesSome q cs ds → pieces q ds ≡ back OneWord (pieces q cs) → Cut r ds os
+    → TakesPieces q cs ds → pieces q ds ≡ back OneWord (pieces q cs) → Cut r ds os
     → StepBack OneWord q r cs os
 one_back q r {cs = cs} {os = os} n f t e c =
     let p = put_words_back q r n f t c in
@@ -238,7 +238,7 @@ own_share EachWord q r n b c = words_of_cut q r n (record { none = b }) c
 
 -- the cut after a field was evaluated
 pub step_on : (k : Kind) (q r : Roles) {cs ds : Cells} {os : List Piece} → OwnItems k q
-    → Before k q r → TakesSome q cs ds → pieces q ds ≡ back k (pieces q cs)
+    → Before k q r → TakesPieces q cs ds → pieces q ds ≡ back k (pieces q cs)
     → Cut (either (keys k q) r) cs os → Cut r ds (left k q os)
 step_on Named q r n b t e c =
     let p = take_some_from q r n t c in

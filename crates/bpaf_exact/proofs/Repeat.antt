@@ -4,7 +4,8 @@ use Rattle.std.proofs.Common.{None, Result, Ok, Err, refl, sym, ap, ◌∙◌, s
 use Rattle.bpaf_line.specs.declared.error.Error.{Error}
 use Rattle.bpaf_line.specs.Situation.{Situation, open_count}
 use Rattle.bpaf_laws.specs.Reading.{Outcome}
-use Rattle.bpaf_exact.specs.Pieces.{Cells, Roles, Piece, pieces, TakesSome, takes_none, takes_more}
+use Rattle.bpaf_exact.specs.Pieces.{Cells, Roles, Piece, pieces, TakesPieces, takes_none}
+use Rattle.bpaf_exact.specs.Pieces.{takes_more}
 use Rattle.bpaf_exact.specs.Flat.{ErrorClass, OfMemory, OfMissing, Caught, Refused, class, cells}
 use Rattle.bpaf_exact.specs.Flat.{IsWhole, Steady, Kind, Named, OneWord, EachWord, front, back}
 use Rattle.bpaf_exact.specs.Flat.{OwnItems, FieldLaw, Gives}
@@ -18,18 +19,18 @@ use Rattle.bpaf_exact.proofs.Product.{whole_after, steady_refl, steady_trans}
 use Rattle.bpaf_exact.proofs.Counts.{open_present, takes_any_fewer}
 
 -- one piece at least is some
-pub any_some : (q : Roles) {cs ds : Cells} → TakesAny q cs ds → TakesSome q cs ds
+pub any_some : (q : Roles) {cs ds : Cells} → TakesAny q cs ds → TakesPieces q cs ds
 any_some q t = takes_more t.one t.more
 
 -- some pieces, and some more
-pub some_trans : (q : Roles) {cs ds es : Cells} → TakesSome q cs ds → TakesSome q ds es
-    → TakesSome q cs es
+pub some_trans : (q : Roles) {cs ds es : Cells} → TakesPieces q cs ds → TakesPieces q ds es
+    → TakesPieces q cs es
 some_trans q takes_none b = b
 some_trans q (takes_more t more) b = takes_more t (some_trans q more b)
 
 -- where the cells are the same none was taken
-pub same_takes : (q : Roles) {cs ds : Cells} → ds ≡ cs → TakesSome q cs ds
-same_takes q {cs = cs} e = subst (TakesSome q cs) (sym e) takes_none
+pub same_takes : (q : Roles) {cs ds : Cells} → ds ≡ cs → TakesPieces q cs ds
+same_takes q {cs = cs} e = subst (TakesPieces q cs) (sym e) takes_none
 
 -- what has an own list can be read
 readable : {T : Type 0} (k : Kind) (group : Groups T) {os : List Piece} {vs : List T}
@@ -43,7 +44,7 @@ module _ (T : Type 0) (inner : Outcome T) (k : Kind) (q : Roles) (group : Groups
   -- what a repeat took, once it has the first value
   record Took (s : Situation) (vs : List T) (t : Situation) : Type 0 where
     steady : Steady s t
-    takes : TakesSome q (cells s) (cells t)
+    takes : TakesPieces q (cells s) (cells t)
     none : pieces q (cells t) ≡ []
     list : Own T group (pieces q (cells s)) vs
     absent : gap.has ≡ true → (a : T) × gap.absent a
@@ -153,7 +154,7 @@ module _ (T : Type 0) (inner : Outcome T) (k : Kind) (q : Roles) (group : Groups
   -- a repeat from its start
   pub record RepeatTook (s : Situation) (vs : List T) (t : Situation) : Type 0 where
     pub steady : Steady s t
-    pub takes : TakesSome q (cells s) (cells t)
+    pub takes : TakesPieces q (cells s) (cells t)
     pub none : pieces q (cells t) ≡ []
     pub list : OwnList T group gap (pieces q (cells s)) vs
 

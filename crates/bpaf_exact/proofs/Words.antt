@@ -5,7 +5,8 @@ use Rattle.bpaf_words.specs.declared.arg.Arg.{Arg}
 use Rattle.bpaf_words.specs.Items.{is_positional}
 use Rattle.bpaf_exact.specs.Pieces.{Cells, Role, Foreign, Alone, WithNext, Roles, Piece, One, Cut}
 use Rattle.bpaf_exact.specs.Pieces.{at_end, passed, flag, argument, word, begin_piece, pieces}
-use Rattle.bpaf_exact.specs.Pieces.{Takes, takes_one, takes_two, takes_later, TakesSome, takes_none}
+use Rattle.bpaf_exact.specs.Pieces.{TakesPiece, takes_one, takes_two, takes_later, TakesPieces}
+use Rattle.bpaf_exact.specs.Pieces.{takes_none}
 use Rattle.bpaf_exact.specs.Pieces.{takes_more}
 use Rattle.bpaf_exact.specs.Flat.{IsWords, NonePresent, no_place, none_here}
 
@@ -40,7 +41,7 @@ pub record WordCut (r : Roles) (cs : Cells) : Type 0 where
 
 -- a word given back to its place
 pub put_word_back : (q r : Roles) {cs ds : Cells} {o : Piece} {os : List Piece} → IsWords q
-    → NoKeys r → Takes q cs o ds → Cut r ds os → WordCut r cs
+    → NoKeys r → TakesPiece q cs o ds → Cut r ds os → WordCut r cs
 put_word_back q r n f (takes_one {k = k} {cs = cs} e) (passed {os = os} c) =
     record { words = One k ∷ os; cut = word (word_of q k n e) c }
 put_word_back q r n f (takes_two {k = k} e v) c = absurd (never_two q k n e)
@@ -53,7 +54,7 @@ put_word_back q r n f (takes_later {c = Some k} t) (word h c) = let i = put_word
 
 -- a word taken from a cut
 pub take_word_from : (q r : Roles) {cs ds : Cells} {o : Piece} {os : List Piece} → IsWords q
-    → NoKeys r → Takes q cs o ds → Cut r cs os → WordCut r ds
+    → NoKeys r → TakesPiece q cs o ds → Cut r cs os → WordCut r ds
 take_word_from q r n f (takes_one {k = k} e) (flag g c) = record { words = _; cut = passed c }
 take_word_from q r n f (takes_one {k = k} e) (argument g v c) = let h = f.none k in absurd cc
 take_word_from q r n f (takes_one {k = k} e) (word h c) = record { words = _; cut = passed c }
@@ -67,14 +68,14 @@ take_word_from q r n f (takes_later {c = Some k} t) (word h c) = let i =
 
 -- some words given back
 pub put_words_back : (q r : Roles) {cs ds : Cells} {os : List Piece} → IsWords q → NoKeys r
-    → TakesSome q cs ds → Cut r ds os → WordCut r cs
+    → TakesPieces q cs ds → Cut r ds os → WordCut r cs
 put_words_back q r n f takes_none c = record { words = _; cut = c }
 put_words_back q r n f (takes_more t more) c =
     put_word_back q r n f t (put_words_back q r n f more c).cut
 
 -- some words taken
 pub take_words_from : (q r : Roles) {cs ds : Cells} {os : List Piece} → IsWords q → NoKeys r
-    → TakesSome q cs ds → Cut r cs os → WordCut r ds
+    → TakesPieces q cs ds → Cut r cs os → WordCut r ds
 take_words_from q r n f takes_none c = record { words = _; cut = c }
 take_words_from q r n f (takes_more t more) c =
     take_words_from q r n f more (take_word_from q r n f t c).cut

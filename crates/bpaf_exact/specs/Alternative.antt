@@ -6,7 +6,7 @@ use Rattle.bpaf_line.specs.declared.error.Error.{Error}
 use Rattle.bpaf_line.specs.Situation.{Situation}
 use Rattle.bpaf_laws.specs.Reading.{Outcome}
 use Rattle.bpaf_exact.specs.Pieces.{Cells, Roles, Foreign, Alone, WithNext, Piece, One, Two}
-use Rattle.bpaf_exact.specs.Pieces.{is_value, is_own, pieces, Takes, IsNamed}
+use Rattle.bpaf_exact.specs.Pieces.{is_value, is_own, pieces, TakesPiece, IsNamed}
 use Rattle.bpaf_exact.specs.Flat.{OfMemory, OfMissing, Refused, class, cells, IsWhole, Steady}
 
 -- no item of the field's own
@@ -32,7 +32,7 @@ pub record AlternativeOk (T : Type 0) (q : Roles) (value : Piece → T → Type 
     (v : T) (t : Situation) : Type 0 where
   pub steady : Steady s t
   pub piece : Piece
-  pub takes : Takes q (cells s) piece (cells t)
+  pub takes : TakesPiece q (cells s) piece (cells t)
   pub means : value piece v
   -- it took the first piece, or a piece that can't be read stays
   pub first : TakesFirst q (cells s) piece (cells t) ⊎ HasBad T value (pieces q (cells t))

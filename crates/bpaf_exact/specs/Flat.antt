@@ -11,7 +11,7 @@ use Rattle.bpaf_line.specs.Situation.{Situation}
 use Rattle.bpaf_line.specs.Taking.{open_item}
 use Rattle.bpaf_laws.specs.Reading.{Outcome}
 use Rattle.bpaf_exact.specs.Pieces.{Cells, Roles, Foreign, Piece, mine, others, no_roles}
-use Rattle.bpaf_exact.specs.Pieces.{word_roles, IsNamed, Apart, Cut, pieces, TakesSome}
+use Rattle.bpaf_exact.specs.Pieces.{word_roles, IsNamed, Apart, Cut, pieces, TakesPieces}
 
 -- the classes of refusals
 pub data ErrorClass : Type 0 where
@@ -123,7 +123,7 @@ LeavesNone EachWord q cs = Unit {0}
 pub record FieldTook (T : Type 0) (k : Kind) (q : Roles) (value : List Piece → T → Type 0)
     (s : Situation) (v : T) (t : Situation) : Type 0 where
   pub steady : Steady s t
-  pub takes : TakesSome q (cells s) (cells t)
+  pub takes : TakesPieces q (cells s) (cells t)
   pub read : LeavesNone k q (cells t) → value (front k (pieces q (cells s))) v
   pub rest : LeavesNone k q (cells t) → pieces q (cells t) ≡ back k (pieces q (cells s))
 

@@ -117,15 +117,15 @@ pieces r (None ∷ cs) = pieces r cs
 pieces r (Some k ∷ cs) = begin_piece (r k) k cs (pieces r cs)
 
 -- one piece of a field's own taken
-pub data Takes (r : Roles) : Cells → Piece → Cells → Type 0 where
-  takes_one : {k : Arg} {cs : Cells} → r k ≡ Alone → Takes r (Some k ∷ cs) (One k) (None ∷ cs)
+pub data TakesPiece (r : Roles) : Cells → Piece → Cells → Type 0 where
+  takes_one : {k : Arg} {cs : Cells} → r k ≡ Alone → TakesPiece r (Some k ∷ cs) (One k) (None ∷ cs)
   takes_two : {k w : Arg} {cs : Cells} → r k ≡ WithNext → is_value w ≡ true
-      → Takes r (Some k ∷ (Some w ∷ cs)) (Two k w) (None ∷ (None ∷ cs))
-  takes_later : {c : Option Arg} {cs ds : Cells} {o : Piece} → Takes r cs o ds
-      → Takes r (c ∷ cs) o (c ∷ ds)
+      → TakesPiece r (Some k ∷ (Some w ∷ cs)) (Two k w) (None ∷ (None ∷ cs))
+  takes_later : {c : Option Arg} {cs ds : Cells} {o : Piece} → TakesPiece r cs o ds
+      → TakesPiece r (c ∷ cs) o (c ∷ ds)
 
 -- some pieces of a field's own taken, in any order
-pub data TakesSome (r : Roles) : Cells → Cells → Type 0 where
-  takes_none : {cs : Cells} → TakesSome r cs cs
-  takes_more : {cs ds es : Cells} {o : Piece} → Takes r cs o ds → TakesSome r ds es
-      → TakesSome r cs es
+pub data TakesPieces (r : Roles) : Cells → Cells → Type 0 where
+  takes_none : {cs : Cells} → TakesPieces r cs cs
+  takes_more : {cs ds es : Cells} {o : Piece} → TakesPiece r cs o ds → TakesPieces r ds es
+      → TakesPieces r cs es

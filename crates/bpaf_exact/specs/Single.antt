@@ -5,7 +5,7 @@ use Rattle.std.specs.Prelude.{None, Result, Ok, Err}
 use Rattle.bpaf_line.specs.declared.error.Error.{Error}
 use Rattle.bpaf_line.specs.Situation.{Situation, open_count}
 use Rattle.bpaf_laws.specs.Reading.{Outcome}
-use Rattle.bpaf_exact.specs.Pieces.{Cells, Roles, Piece, pieces, Takes, TakesSome}
+use Rattle.bpaf_exact.specs.Pieces.{Cells, Roles, Piece, pieces, TakesPiece, TakesPieces}
 use Rattle.bpaf_exact.specs.Flat.{OfMemory, OfMissing, Caught, Refused, class, cells, IsWhole}
 use Rattle.bpaf_exact.specs.Flat.{Steady, Kind, Named, OneWord, EachWord, front, back, OwnItems}
 
@@ -30,8 +30,8 @@ pub data Own (T : Type 0) (group : Groups T) : List Piece → List T → Type 0 
 pub record TakesAny (q : Roles) (cs ds : Cells) : Type 0 where
   pub piece : Piece
   pub middle : Cells
-  pub one : Takes q cs piece middle
-  pub more : TakesSome q middle ds
+  pub one : TakesPiece q cs piece middle
+  pub more : TakesPieces q middle ds
 
 -- the pieces can all be read; of a positional field those after the first need not be
 abbrev pub Readable : {T : Type 0} → Kind → Groups T → List Piece → Type 0
