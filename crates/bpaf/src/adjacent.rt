@@ -9,7 +9,7 @@ ghost use Rattle.bpaf_laws.specs.Laws.{Keeps};
 ghost use Rattle.bpaf_laws.specs.Spared.{IsNotMemory};
 ghost use Rattle.bpaf_laws.specs.Product.{ProductDescribes};
 ghost use Rattle.bpaf_laws.specs.AdjacentGroup.{GroupDescribes, GroupOutcome, Tries, TriesAt};
-ghost use Rattle.bpaf_laws.specs.AdjacentGroup.{HasNoStart, IsGroupStart, width_of};
+ghost use Rattle.bpaf_laws.specs.AdjacentGroup.{HasNoStart, IsGroupStart, place_count};
 ghost use Rattle.bpaf.specs.Remembering.{EndsAttempt, IsEnd, IsFirstOf, IsMissingFirst, IsRefused, IsRemembered};
 ghost use Rattle.bpaf.specs.Remembering.{Takes, TriesFrom, failure_of};
 
@@ -77,8 +77,8 @@ impl<'p, V: Drop, T: Drop, P: Fields<V>, F: Fn(V) -> T> Parser<T>
 }
 
 /// How many places the first item of a group has.
-fn width_of(first: &Item) -> usize
-    ensures { result ≡ width_of (part_of first.now) }
+fn place_count(first: &Item) -> usize
+    ensures { result ≡ place_count (part_of first.now) }
 {
     match first {
         Item::Argument { .. } => 2,
@@ -388,7 +388,7 @@ fn search<T: Drop, P: Parser<T>>(parser: &P, first: &Item, state: &mut State) ->
     ensures { GroupOutcome T (P.outcome parser.now) (part_of first.now)
         state.old result state.new }
 {
-    let width = width_of(first);
+    let width = place_count(first);
     let mut from = state.scope().start;
     let mut best = Remembered::nothing(state);
     while let Some(places) = next_start(state, from, width) {

@@ -13,7 +13,7 @@ use Rattle.bpaf_laws.specs.OneRun.{IsRun}
 use Rattle.bpaf_laws.specs.AdjacentGroup.{GroupReads, Failure, longer, taken_by, Probe}
 use Rattle.bpaf_laws.specs.AdjacentGroup.{Narrowed, whole, again, Tries, answered, refused}
 use Rattle.bpaf_laws.specs.AdjacentGroup.{TriesAt, skipped, failed, found, no_memory}
-use Rattle.bpaf_laws.specs.AdjacentGroup.{Searches, over, on, value, wanted, GroupOutcome, EndsWith, width_of}
+use Rattle.bpaf_laws.specs.AdjacentGroup.{Searches, over, on, value, wanted, GroupOutcome, EndsWith, place_count}
 use Rattle.bpaf_laws.specs.Counting.{taken_count}
 use Rattle.bpaf_laws.proofs.Keeping.{keeps_of, keeps_refl, keeps_same, keeps_trans, keeps_scope}
 use Rattle.bpaf_laws.proofs.Sparing.{not_both}
@@ -164,9 +164,9 @@ module _ {T : Type 0} {inner : Outcome T} {reads : Readings T} (law : Lawful T i
       end_keeps first best' e t' before ends
   searches_good first from best r t before (on from' a best' after r' t' start tried rest) =
       searches_good first (a + 1) after r' t'
-      (tried_keeps a (a + width_of first) best' (Ok None) after s tried before) rest
+      (tried_keeps a (a + place_count first) best' (Ok None) after s tried before) rest
   searches_good first from best r t before (value from' a best' after v t' start tried) =
-      tried_reads a (a + width_of first) best' (Ok (Some v)) after t' tried
+      tried_reads a (a + place_count first) best' (Ok (Some v)) after t' tried
   searches_good first from best r t before (wanted from' best' e memory) = keeps_refl s
 
 -- adjacent groups keep to the laws
@@ -236,10 +236,10 @@ module _ {T : Type 0} (inner without : Outcome T) (spares : Spares inner without
       over from' best' e t' none ends
   spared_group first from best r t (on from' a best' after r' t' start tried rest) spared =
       on from' a best' after r' t' start
-      (tried_spared a (a + width_of first) best' (Ok None) after s tt tried)
+      (tried_spared a (a + place_count first) best' (Ok None) after s tt tried)
       (spared_group first (a + 1) after r' t' rest spared)
   spared_group first from best r t (value from' a best' after v t' start tried) spared =
       value from' a best' after v t' start
-      (tried_spared a (a + width_of first) best' (Ok (Some v)) after t' tt tried)
+      (tried_spared a (a + place_count first) best' (Ok (Some v)) after t' tt tried)
   spared_group first from best r t (wanted from' best' e memory) spared =
       absurd (not_both e.0 spared memory)

@@ -22,9 +22,9 @@ pub record GroupReads (T : Type 0) (inner : Readings T) (context : Context) (sha
   pub run : IsRun share
 
 -- how many places the first item of a group has: an argument two, each other one
-abbrev pub width_of : Part → ℕ
-width_of (Argument name shorts metavar env help) = 2
-width_of _ = 1
+abbrev pub place_count : Part → ℕ
+place_count (Argument name shorts metavar env help) = 2
+place_count _ = 1
 
 -- how an attempt failed: its error, and the situation that it left
 pub record Failure : Type 0 where
@@ -100,15 +100,15 @@ module _ (T : Type 0) (inner : Outcome T) (s : Situation) where
   -- the places are tried one after the other, until one gives a value
   pub data Searches (first : Part) : ℕ → Option Failure → Result T Error → Situation → Type 0 where
     over : (from : ℕ) (best : Option Failure) (e : Error) (t : Situation)
-        → HasNoStart s (width_of first) from → EndsWith s first best e t
+        → HasNoStart s (place_count first) from → EndsWith s first best e t
         → Searches first from best (Err e) t
     on : (from place : ℕ) (best after : Option Failure) (r : Result T Error) (t : Situation)
-        → IsGroupStart s (width_of first) from place
-        → TriesAt place (place + width_of first) best (Ok None) after s
+        → IsGroupStart s (place_count first) from place
+        → TriesAt place (place + place_count first) best (Ok None) after s
         → Searches first (place + 1) after r t → Searches first from best r t
     value : (from place : ℕ) (best after : Option Failure) (v : T) (t : Situation)
-        → IsGroupStart s (width_of first) from place
-        → TriesAt place (place + width_of first) best (Ok (Some v)) after t
+        → IsGroupStart s (place_count first) from place
+        → TriesAt place (place + place_count first) best (Ok (Some v)) after t
         → Searches first from best (Ok v) t
     wanted : (from : ℕ) (best : Option Failure) (e : Error) → is_memory e.0 ≡ true
         → Searches first from best (Err e) s

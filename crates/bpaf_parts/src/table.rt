@@ -186,7 +186,8 @@ fn alternatives(alloc: Global, meta: Meta) -> Result<Vec<Meta>, AllocError>
 ///
 /// It is public for choices in the crates of this repository, not for callers.
 pub fn or_meta(alloc: Global, first: Meta, second: Meta) -> Result<Meta, AllocError>
-    ensures { IfOk result (λ meta. shape_of meta ≡ either_shape (shape_of first) (shape_of second)) }
+    ensures { IfOk result (λ meta.
+        shape_of meta ≡ either_shape (shape_of first) (shape_of second)) }
 {
     let mut all = alternatives(alloc, first)?;
     let mut others = alternatives(alloc, second)?;
