@@ -4,7 +4,8 @@ use Rattle.bpaf_line.specs.declared.error.Error.{Error}
 use Rattle.bpaf_line.specs.Situation.{Situation}
 use Rattle.bpaf_laws.specs.Reading.{Outcome}
 use Rattle.bpaf_exact.specs.Pieces.{Roles, Piece, pieces, takes_none}
-use Rattle.bpaf_exact.specs.Flat.{Refused, class, cells, IsWhole, Kind, Named, OneWord, EachWord}
+use Rattle.bpaf_exact.specs.Flat.{Refused, class, cells, IsWhole, FieldKind, Named, OneWord}
+use Rattle.bpaf_exact.specs.Flat.{EachWord}
 use Rattle.bpaf_exact.specs.Single.{Groups, FrontOf, Own, own_none, own_more, Readable, Gap, no_gap}
 use Rattle.bpaf_exact.specs.Single.{SingleOk, gave_absent, took, SingleErr, of_memory, of_missing}
 use Rattle.bpaf_exact.specs.Single.{of_absent, of_piece, ReadsWords, SingleLaw}
@@ -150,7 +151,7 @@ module _ (A B : Type 0) (inner : Outcome A) (q : Roles) (value : Piece → A →
   }
 
 -- inner closures round a field without a repeat or default
-module _ (A B : Type 0) (inner : Outcome A) (k : Kind) (q : Roles) (group : Groups A) (gap : Gap A)
+module _ (A B : Type 0) (inner : Outcome A) (k : FieldKind) (q : Roles) (group : Groups A) (gap : Gap A)
     (l : SingleLaw A inner k q group gap) (f : Closure A B)
     (agrees : (os rest : List Piece) → AgreesOn (λ v. group os v rest) f)
     (gap_agrees : AgreesOn gap.absent f) where
@@ -167,14 +168,14 @@ module _ (A B : Type 0) (inner : Outcome A) (k : Kind) (q : Roles) (group : Grou
       record { list = g.from ∷ i.list; own = own_more g.read i.own }
 
   -- the same, by the kind of the field
-  inner_readable : (z : Kind) (os : List Piece) → Readable z (ClosedGroup A B group f) os
+  inner_readable : (z : FieldKind) (os : List Piece) → Readable z (ClosedGroup A B group f) os
       → Readable z group os
   inner_readable Named os r = let i = inner_list os r.0 r.1 in (i.list, i.own)
   inner_readable OneWord os r = tt
   inner_readable EachWord os r = tt
 
   -- with a closure a field reads words as before
-  closed_words : (z : Kind) → ReadsWords z group → ReadsWords z (ClosedGroup A B group f)
+  closed_words : (z : FieldKind) → ReadsWords z group → ReadsWords z (ClosedGroup A B group f)
   closed_words Named u = tt
   closed_words OneWord u = record {
     by_front = λ os v rest g. let a = u.by_front os g.from rest g.read in

@@ -5,7 +5,8 @@ use Rattle.bpaf_line.specs.declared.error.Error.{Error}
 use Rattle.bpaf_line.specs.Situation.{Situation}
 use Rattle.bpaf_laws.specs.Reading.{Outcome}
 use Rattle.bpaf_exact.specs.Pieces.{Roles, Piece, pieces}
-use Rattle.bpaf_exact.specs.Flat.{cells, IsWhole, Kind, front, back, FieldTook, FieldLaw, Gives}
+use Rattle.bpaf_exact.specs.Flat.{cells, IsWhole, FieldKind, front, back, FieldTook, FieldLaw}
+use Rattle.bpaf_exact.specs.Flat.{Gives}
 use Rattle.bpaf_exact.specs.Single.{Groups, Gap, SingleOk, gave_absent, took, SingleLaw, OwnList}
 use Rattle.bpaf_exact.specs.Single.{listed, listed_and_absent, only_absent, Own, own_none, own_more}
 use Rattle.bpaf_exact.specs.Single.{repeated, StepsRan}
@@ -23,7 +24,7 @@ no_last T vs v l e = by_before l.before (sym l.is ∙ e)
     by_before [] h = cc
     by_before (x ∷ xs) h = cc
 
-module _ (T : Type 0) (inner : Outcome T) (k : Kind) (q : Roles) (group : Groups T) (gap : Gap T)
+module _ (T : Type 0) (inner : Outcome T) (k : FieldKind) (q : Roles) (group : Groups T) (gap : Gap T)
     (l : SingleLaw T inner k q group gap) where
   -- the laws of the list
   rl : FieldLaw (List T) (λ s r t. StepsRan T inner true None s r t) (repeated k) q

@@ -8,7 +8,7 @@ use Rattle.bpaf_exact.specs.Pieces.{Cells, Role, Foreign, Alone, WithNext, Roles
 use Rattle.bpaf_exact.specs.Pieces.{is_own_role, is_own, mine, others, either, either_role, no_roles}
 use Rattle.bpaf_exact.specs.Pieces.{IsNamed, Apart, Cut, at_end, passed, flag, argument, word}
 use Rattle.bpaf_exact.specs.Pieces.{pieces}
-use Rattle.bpaf_exact.specs.Flat.{Kind, Named, OneWord, EachWord, BothValue, both_reading, keys, left}
+use Rattle.bpaf_exact.specs.Flat.{FieldKind, Named, OneWord, EachWord, BothValue, both_reading, keys, left}
 use Rattle.bpaf_exact.specs.Names.{Owns, are_all_apart}
 use Rattle.bpaf_exact.specs.Record.{RecordValue, line_cells}
 use Rattle.bpaf_exact.specs.FlatForm.{FlatForm, not_flat, alternative, single, complete, product}
@@ -159,7 +159,7 @@ later_by {A = A} {B = B} {C = C} own behind_it (complete k p first) (complete Na
     none_own (names ∷ behind_it) none e = absurd cc
 
     -- where the keys of the first are apart from the behind_it
-    behind : (k : Kind) → Owns (keys k p) own → may_follow k own behind_it ≡ true
+    behind : (k : FieldKind) → Owns (keys k p) own → may_follow k own behind_it ≡ true
         → ReadsOwn (A × C) B (either (keys k p) r) (BothValue k p first fields.value) q value
         (λ v. of v.1)
     behind Named o e =
@@ -174,7 +174,8 @@ later_by {A = A} {B = B} {C = C} own behind_it (complete k p first) (complete Na
     behind OneWord o e = behind_words (left OneWord p) (none_own behind_it owned_behind e) _
     behind EachWord o e = behind_words (left EachWord p) (none_own behind_it owned_behind e) _
 
-    by_kind : (k : Kind) → Owns (keys k p) own → (may : Bool) → may_follow k own behind_it ≡ may
+    by_kind : (k : FieldKind) → Owns (keys k p) own → (may : Bool)
+        → may_follow k own behind_it ≡ may
         → FieldBy {V = A × C} (complete Named q value)
         (only_if may (product (either (keys k p) r) (both_reading k p first fields)))
         (λ v. of v.1)

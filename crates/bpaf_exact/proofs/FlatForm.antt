@@ -9,7 +9,8 @@ use Rattle.bpaf_laws.specs.Reading.{Outcome}
 use Rattle.bpaf_exact.specs.Pieces.{Role, Foreign, Alone, WithNext, Roles, is_own_role, no_roles}
 use Rattle.bpaf_exact.specs.Pieces.{either}
 use Rattle.bpaf_exact.specs.Names.{Owns, are_all_apart}
-use Rattle.bpaf_exact.specs.Flat.{ErrorClass, Refused, Kind, Named, OneWord, EachWord, FieldsLaw}
+use Rattle.bpaf_exact.specs.Flat.{ErrorClass, Refused, FieldKind, Named, OneWord, EachWord}
+use Rattle.bpaf_exact.specs.Flat.{FieldsLaw}
 use Rattle.bpaf_exact.specs.Flat.{keys, Before}
 use Rattle.bpaf_exact.specs.Single.{StepsRan, repeated}
 use Rattle.bpaf_exact.specs.Wrappers.{Closure, Decides, map_closure, ClosedRan, OptionalRan}
@@ -145,7 +146,7 @@ flat_choices_law P T outcome keys form agrees law (p ∷ ps) each =
     (only_law T (outcome p) (keys p) (form p) (law p each.0)))
 
 -- a repeat has the keys of the field
-repeated_keys : (k : Kind) (q : Roles) (names : List Names) → Owns (keys k q) names
+repeated_keys : (k : FieldKind) (q : Roles) (names : List Names) → Owns (keys k q) names
     → Owns (keys (repeated k) q) names
 repeated_keys Named q names o = o
 repeated_keys OneWord q names o = o
@@ -229,7 +230,8 @@ foreign_of Alone e = cc
 foreign_of WithNext e = cc
 
 -- fields that may follow keep apart
-follows : (k : Kind) (q r : Roles) (own others : List Names) → Owns (keys k q) own → Owns r others
+follows : (k : FieldKind) (q r : Roles) (own others : List Names) → Owns (keys k q) own
+    → Owns r others
     → may_follow k own others ≡ true → Before k q r
 follows Named q r own others a b h = apart_of_names q r own others a b h
 follows OneWord q r own [] a b h = λ i. foreign_of (r i) (b.own i)

@@ -10,7 +10,7 @@ use Rattle.bpaf_line.specs.Situation.{Context}
 use Rattle.bpaf_laws.specs.Reading.{Outcome}
 use Rattle.bpaf_exact.specs.Pieces.{Roles, Piece, One, Two, is_own}
 use Rattle.bpaf_exact.specs.Names.{are_all_apart}
-use Rattle.bpaf_exact.specs.Flat.{FieldsLaw, FieldsReading, Kind, Named}
+use Rattle.bpaf_exact.specs.Flat.{FieldsLaw, FieldsReading, FieldKind, Named}
 use Rattle.bpaf_exact.specs.Single.{Groups, Gap, FrontOf, Own, own_none, own_more, SingleLaw}
 use Rattle.bpaf_exact.specs.Single.{SingleValue, of_group, of_gap, OwnList, listed}
 use Rattle.bpaf_exact.specs.Single.{listed_and_absent, only_absent}
@@ -219,7 +219,7 @@ map_last : (T X : Type 0) (see : T → X) (xs : List T) (v : T)
 map_last T X see [] v = refl
 map_last T X see (x ∷ xs) v = ap (λ z. see x ∷ z) (map_last T X see xs v)
 
-module _ (T X : Type 0) (see : T → X) (inner : Outcome T) (k : Kind) (q : Roles) (group : Groups T)
+module _ (T X : Type 0) (see : T → X) (inner : Outcome T) (k : FieldKind) (q : Roles) (group : Groups T)
     (gap : Gap T) (l : SingleLaw T inner k q group gap) (one : OneGroup see group)
     (absent : Alike see gap.absent) where
   -- own lists of the same pieces look alike

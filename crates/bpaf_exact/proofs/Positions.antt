@@ -8,7 +8,8 @@ use Rattle.bpaf_words.specs.Items.{item_text}
 use Rattle.bpaf_words.specs.declared.arg.Arg.{Arg}
 use Rattle.bpaf_exact.specs.Pieces.{Role, Foreign, Alone, WithNext, Roles, Piece, One, Two}
 use Rattle.bpaf_exact.specs.Pieces.{is_own_role, others, either, either_role, no_roles}
-use Rattle.bpaf_exact.specs.Flat.{Kind, Named, OneWord, EachWord, BothValue, both_reading, keys}
+use Rattle.bpaf_exact.specs.Flat.{FieldKind, Named, OneWord, EachWord, BothValue, both_reading}
+use Rattle.bpaf_exact.specs.Flat.{keys}
 use Rattle.bpaf_exact.specs.Flat.{front, back, FieldsReading}
 use Rattle.bpaf_exact.specs.Leaves.{WordValue}
 use Rattle.bpaf_exact.specs.Names.{Owns}
@@ -106,14 +107,14 @@ first_words_by {A = A} {B = B} own behind (complete EachWord q value) (product r
     by_names false e = tt
 
 -- the kinds of positional fields
-data IsWordKind : Kind → Type 0 where
+data IsWordKind : FieldKind → Type 0 where
   one_word : IsWordKind OneWord
   each_word : IsWordKind EachWord
 
 -- a positional field of fields that stand behind another
-module _ {A B C : Type 0} (own behind : List Names) (k : Kind) (p : Roles)
+module _ {A B C : Type 0} (own behind : List Names) (k : FieldKind) (p : Roles)
     (first : List Piece → A → Type 0) (r : Roles) (fields : FieldsReading C)
-    (owned : Owns r behind) (j : Kind) (rest : List Piece → List Piece)
+    (owned : Owns r behind) (j : FieldKind) (rest : List Piece → List Piece)
     (value : List Piece → B → Type 0) (of : C → B)
     (h : ReadsWords C B r fields.value j rest value of) where
   -- whichever kind that one is of
@@ -133,7 +134,7 @@ module _ {A B C : Type 0} (own behind : List Names) (k : Kind) (p : Roles)
             (h.read (l os) v.1 i.1);
       }
 
-      by_kind : (k : Kind) → may_follow k own behind ≡ true
+      by_kind : (k : FieldKind) → may_follow k own behind ≡ true
           → ReadsWords (A × C) B (either (keys k p) r) (BothValue k p first fields.value) j
           (λ os. rest (words_behind_field {A = A} (complete k p first) os)) value (λ v. of v.1)
       by_kind Named e = record {

@@ -12,7 +12,7 @@ use Rattle.bpaf_exact.specs.Pieces.{Cells, Role, Foreign, Alone, WithNext, Roles
 use Rattle.bpaf_exact.specs.Pieces.{is_own_role, is_own, others, either_role, either, IsNamed}
 use Rattle.bpaf_exact.specs.Pieces.{Apart, Cut, at_end, passed, flag, argument, word, begin_piece}
 use Rattle.bpaf_exact.specs.Pieces.{pieces, TakesPieces}
-use Rattle.bpaf_exact.specs.Flat.{cells, NonePresent, IsWhole, Steady, Kind, Named, OneWord}
+use Rattle.bpaf_exact.specs.Flat.{cells, NonePresent, IsWhole, Steady, FieldKind, Named, OneWord}
 use Rattle.bpaf_exact.specs.Flat.{EachWord, front, back, share, left, keys, IsWords, OwnItems}
 use Rattle.bpaf_exact.specs.Flat.{LeavesNone, FieldTook, FieldLaw, ReadOff, GivesAll, FieldsLaw}
 use Rattle.bpaf_exact.specs.Flat.{Before, FieldsReading, Gives, both_reading, class, OfMemory}
@@ -167,7 +167,7 @@ narrow q r n p (word {w = w} {cs = cs} {os = os} h c) =
 -- What is read off the pieces, seen from before a field was evaluated.
 
 -- a cut from before a field was evaluated, with its share and what it left
-pub record StepBack (k : Kind) (q r : Roles) (cs : Cells) (after : List Piece) : Type 0 where
+pub record StepBack (k : FieldKind) (q r : Roles) (cs : Cells) (after : List Piece) : Type 0 where
   pub before : List Piece
   pub cut : Cut (either (keys k q) r) cs before
   pub leaves : left k q before ≡ after
@@ -212,7 +212,7 @@ one_back q r {cs = cs} {os = os} n f t e c =
     }
 
 -- of any field
-pub step_back : (k : Kind) (q r : Roles) (T : Type 0)
+pub step_back : (k : FieldKind) (q r : Roles) (T : Type 0)
     (value : List Piece → T → Type 0) {s m : Situation} {v : T} {os : List Piece}
     → OwnItems k q → Before k q r → FieldTook T k q value s v m → Cut r (cells m) os
     → StepBack k q r (cells s) os
@@ -221,7 +221,7 @@ step_back OneWord q r T value n b f c = one_back q r n (record { none = b }) f.t
 step_back EachWord q r T value n b f c = each_back q r n (record { none = b }) f.takes (f.rest tt) c
 
 -- a field that left nothing of its own
-pub none_left : (k : Kind) (q r : Roles) {cs : Cells} {os : List Piece} → OwnItems k q
+pub none_left : (k : FieldKind) (q r : Roles) {cs : Cells} {os : List Piece} → OwnItems k q
     → Before k q r → Cut r cs os → LeavesNone k q cs
 none_left Named q r n b c = no_own_in_cut q r n b c
 none_left OneWord q r n b c = tt
@@ -230,14 +230,14 @@ none_left EachWord q r n b c = tt
 -- The cut after a field was evaluated.
 
 -- a field's own pieces are its share of the cut
-pub own_share : (k : Kind) (q r : Roles) {cs : Cells} {os : List Piece} → OwnItems k q
+pub own_share : (k : FieldKind) (q r : Roles) {cs : Cells} {os : List Piece} → OwnItems k q
     → Before k q r → Cut (either (keys k q) r) cs os → front k (pieces q cs) ≡ share k q os
 own_share Named q r n b c = pieces_of_cut q r n c
 own_share OneWord q r n b c = ap (front OneWord) (words_of_cut q r n (record { none = b }) c)
 own_share EachWord q r n b c = words_of_cut q r n (record { none = b }) c
 
 -- the cut after a field was evaluated
-pub step_on : (k : Kind) (q r : Roles) {cs ds : Cells} {os : List Piece} → OwnItems k q
+pub step_on : (k : FieldKind) (q r : Roles) {cs ds : Cells} {os : List Piece} → OwnItems k q
     → Before k q r → TakesPieces q cs ds → pieces q ds ≡ back k (pieces q cs)
     → Cut (either (keys k q) r) cs os → Cut r ds (left k q os)
 step_on Named q r n b t e c =
@@ -258,7 +258,8 @@ step_on EachWord q r n b t e c =
 -- Fields before others keep to the laws.
 
 -- the keys of all are keys
-both_named : (k : Kind) (q r : Roles) → OwnItems k q → IsNamed r → IsNamed (either (keys k q) r)
+both_named : (k : FieldKind) (q r : Roles) → OwnItems k q → IsNamed r
+    → IsNamed (either (keys k q) r)
 both_named Named q r n m =
     record {
       only_keys =
@@ -298,7 +299,7 @@ module _ (A B : Type 0) (first : Outcome A) (rest : Outcome B) where
       → ValuesOfBoth A B first rest s v t
   values_of_both s t v o = joined_values s o.middle t o.a o.b v o.first_ran o.rest_ran o.answer
 
-module _ (A B : Type 0) (first : Outcome A) (rest : Outcome B) (k : Kind) (q r : Roles)
+module _ (A B : Type 0) (first : Outcome A) (rest : Outcome B) (k : FieldKind) (q r : Roles)
     (fv : List Piece → A → Type 0) (others_read : FieldsReading B)
     (lf : FieldLaw A first k q fv) (lr : FieldsLaw B rest r others_read) (b : Before k q r) where
   -- how both read the pieces

@@ -7,7 +7,8 @@ use Rattle.bpaf_laws.specs.Product.{ProductOutcome}
 use Rattle.bpaf_laws.specs.Reading.{Outcome}
 use Rattle.bpaf_exact.specs.Pieces.{Cells, Roles, Role, Foreign, Alone, WithNext, Piece, IsNamed}
 use Rattle.bpaf_exact.specs.Pieces.{Cut, either, either_role, no_roles}
-use Rattle.bpaf_exact.specs.Flat.{cells, NonePresent, no_place, none_here, IsWhole, Steady, Kind}
+use Rattle.bpaf_exact.specs.Flat.{cells, NonePresent, no_place, none_here, IsWhole, Steady}
+use Rattle.bpaf_exact.specs.Flat.{FieldKind}
 use Rattle.bpaf_exact.specs.Flat.{Named, OneWord, EachWord, keys, OwnItems, FieldLaw, FieldsLaw}
 use Rattle.bpaf_exact.specs.Flat.{ReadOff, GivesAll, Before, FieldsReading}
 use Rattle.bpaf_exact.specs.Single.{present_count}
@@ -29,13 +30,13 @@ count_none no_place = refl
 count_none (none_here n) = count_none n
 
 -- The last field of a product, or a record of one field alone.
-module _ (T : Type 0) (outcome : Outcome T) (k : Kind) (q : Roles) (value : List Piece → T → Type 0)
+module _ (T : Type 0) (outcome : Outcome T) (k : FieldKind) (q : Roles) (value : List Piece → T → Type 0)
     (l : FieldLaw T outcome k q value) where
   -- a field may stand before none
   before_none : Before k q no_roles
   before_none = by_kind k
     where
-      by_kind : (z : Kind) → Before z q no_roles
+      by_kind : (z : FieldKind) → Before z q no_roles
       by_kind Named = record { left = λ a h. refl; right = λ a h. absurd cc }
       by_kind OneWord = λ a. refl
       by_kind EachWord = λ a. refl
@@ -49,7 +50,7 @@ module _ (T : Type 0) (outcome : Outcome T) (k : Kind) (q : Roles) (value : List
       alone Alone e = absurd cc
       alone WithNext e = absurd cc
 
-      by_kind : (z : Kind) → OwnItems z q → IsNamed (either (keys z q) no_roles)
+      by_kind : (z : FieldKind) → OwnItems z q → IsNamed (either (keys z q) no_roles)
       by_kind Named n = record { only_keys = λ a h. alone (q a) (n.only_keys a h) }
       by_kind OneWord n = record { only_keys = λ a h. refl }
       by_kind EachWord n = record { only_keys = λ a h. refl }

@@ -7,7 +7,7 @@ use Rattle.bpaf_laws.specs.Reading.{Outcome}
 use Rattle.bpaf_exact.specs.Pieces.{Cells, Roles, Piece, pieces, TakesPieces, takes_none}
 use Rattle.bpaf_exact.specs.Pieces.{takes_more}
 use Rattle.bpaf_exact.specs.Flat.{ErrorClass, OfMemory, OfMissing, Caught, Refused, class, cells}
-use Rattle.bpaf_exact.specs.Flat.{IsWhole, Steady, Kind, Named, OneWord, EachWord, front, back}
+use Rattle.bpaf_exact.specs.Flat.{IsWhole, Steady, FieldKind, Named, OneWord, EachWord, front, back}
 use Rattle.bpaf_exact.specs.Flat.{OwnItems, FieldLaw, Gives}
 use Rattle.bpaf_exact.specs.Single.{Groups, Own, own_none, own_more, TakesAny, Readable, Gap}
 use Rattle.bpaf_exact.specs.Single.{SingleOk, gave_absent, took, SingleErr, of_memory, of_missing}
@@ -33,13 +33,13 @@ pub same_takes : (q : Roles) {cs ds : Cells} → ds ≡ cs → TakesPieces q cs 
 same_takes q {cs = cs} e = subst (TakesPieces q cs) (sym e) takes_none
 
 -- what has an own list can be read
-readable : {T : Type 0} (k : Kind) (group : Groups T) {os : List Piece} {vs : List T}
+readable : {T : Type 0} (k : FieldKind) (group : Groups T) {os : List Piece} {vs : List T}
     → Own T group os vs → Readable k group os
 readable Named group {vs = vs} o = (vs, o)
 readable OneWord group o = tt
 readable EachWord group o = tt
 
-module _ (T : Type 0) (inner : Outcome T) (k : Kind) (q : Roles) (group : Groups T) (gap : Gap T)
+module _ (T : Type 0) (inner : Outcome T) (k : FieldKind) (q : Roles) (group : Groups T) (gap : Gap T)
     (l : SingleLaw T inner k q group gap) (idle : Bool) where
   -- what a repeat took, once it has the first value
   record Took (s : Situation) (vs : List T) (t : Situation) : Type 0 where
@@ -479,7 +479,7 @@ module _ (T : Type 0) (inner : Outcome T) (k : Kind) (q : Roles) (group : Groups
   front_all : (os : List Piece) → front (repeated k) os ≡ os
   front_all os = by_kind k
     where
-      by_kind : (z : Kind) → front (repeated z) os ≡ os
+      by_kind : (z : FieldKind) → front (repeated z) os ≡ os
       by_kind Named = refl
       by_kind OneWord = refl
       by_kind EachWord = refl
@@ -488,7 +488,7 @@ module _ (T : Type 0) (inner : Outcome T) (k : Kind) (q : Roles) (group : Groups
   back_none : (os : List Piece) → back (repeated k) os ≡ []
   back_none os = by_kind k
     where
-      by_kind : (z : Kind) → back (repeated z) os ≡ []
+      by_kind : (z : FieldKind) → back (repeated z) os ≡ []
       by_kind Named = refl
       by_kind OneWord = refl
       by_kind EachWord = refl
@@ -497,7 +497,7 @@ module _ (T : Type 0) (inner : Outcome T) (k : Kind) (q : Roles) (group : Groups
   own_repeated : OwnItems (repeated k) q
   own_repeated = by_kind k l.own
     where
-      by_kind : (z : Kind) → OwnItems z q → OwnItems (repeated z) q
+      by_kind : (z : FieldKind) → OwnItems z q → OwnItems (repeated z) q
       by_kind Named o = o
       by_kind OneWord o = o
       by_kind EachWord o = o

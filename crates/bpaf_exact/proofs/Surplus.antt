@@ -2,7 +2,7 @@
 use Rattle.std.proofs.Common.{◌≡◌, ℕ, Bool, true, false, List, [], ◌∷◌, Option, Some, None, subst}
 use Rattle.bpaf_doc.specs.Names.{Names}
 use Rattle.bpaf_exact.specs.Pieces.{Roles, Piece}
-use Rattle.bpaf_exact.specs.Flat.{Kind, FieldsReading, HasValue, both_reading, share, left}
+use Rattle.bpaf_exact.specs.Flat.{FieldKind, FieldsReading, HasValue, both_reading, share, left}
 use Rattle.bpaf_exact.specs.Single.{Groups, Gap, FrontOf, own_none, own_more, OwnList, listed}
 use Rattle.bpaf_exact.specs.Single.{listed_and_absent, only_absent, SingleValue, of_group, of_gap}
 use Rattle.bpaf_exact.specs.Wrappers.{Closure, OptionalValue, some_value}
@@ -137,7 +137,7 @@ module _ (T : Type 0) (value : Piece → T → Type 0) (gap : Gap T) where
   fallback_bad f os v b (kept_value h a) = elim b [ ]
 
 -- Which parts a record has: each of its fields, and that no piece is left.
-module _ {A B : Type 0} (k : Kind) (q : Roles) (first : List Piece → A → Type 0)
+module _ {A B : Type 0} (k : FieldKind) (q : Roles) (first : List Piece → A → Type 0)
     (rest : FieldsReading B) where
   -- a field before others
   pub first_part : IsPartOf (both_reading k q first rest).each (share k q) (HasValue first)
@@ -149,7 +149,7 @@ module _ {A B : Type 0} (k : Kind) (q : Roles) (first : List Piece → A → Typ
       → IsPartOf (both_reading k q first rest).each (λ os. own (left k q os)) part
   later_part own part is = λ os h. is (left k q os) h.1
 
-module _ {T : Type 0} (k : Kind) (q : Roles) (value : List Piece → T → Type 0) where
+module _ {T : Type 0} (k : FieldKind) (q : Roles) (value : List Piece → T → Type 0) where
   -- the last field
   pub last_part : IsPartOf (last_reading k q value).each (share k q) (HasValue value)
   last_part = λ os h. h.0

@@ -6,7 +6,7 @@ use Rattle.bpaf_line.specs.Situation.{Situation, open_count}
 use Rattle.bpaf_laws.specs.Reading.{Outcome}
 use Rattle.bpaf_exact.specs.Pieces.{Roles, Piece, pieces, takes_none}
 use Rattle.bpaf_exact.specs.Flat.{ErrorClass, OfMemory, OfMissing, Caught, Refused, class, cells}
-use Rattle.bpaf_exact.specs.Flat.{IsWhole, Steady, Kind, Named, OneWord, EachWord, front, back}
+use Rattle.bpaf_exact.specs.Flat.{IsWhole, Steady, FieldKind, Named, OneWord, EachWord, front, back}
 use Rattle.bpaf_exact.specs.Flat.{LeavesNone, FieldTook, FieldLaw, Gives}
 use Rattle.bpaf_exact.specs.Single.{Groups, Own, own_none, Readable, Gap, SingleOk, gave_absent}
 use Rattle.bpaf_exact.specs.Single.{took, SingleErr, of_memory, of_missing, of_absent, of_piece}
@@ -24,26 +24,26 @@ use Rattle.bpaf_exact.proofs.Counts.{open_present}
 use Rattle.bpaf_exact.proofs.Repeat.{any_some, same_takes}
 
 -- of no piece none is taken
-front_nil : (k : Kind) → front k [] ≡ []
+front_nil : (k : FieldKind) → front k [] ≡ []
 front_nil Named = refl
 front_nil OneWord = refl
 front_nil EachWord = refl
 
 -- and none left
-back_nil : (k : Kind) → back k [] ≡ []
+back_nil : (k : FieldKind) → back k [] ≡ []
 back_nil Named = refl
 back_nil OneWord = refl
 back_nil EachWord = refl
 
 -- where none is taken there is none
-nil_front : (k : Kind) (os : List Piece) → front k os ≡ [] → os ≡ []
+nil_front : (k : FieldKind) (os : List Piece) → front k os ≡ [] → os ≡ []
 nil_front Named os e = e
 nil_front OneWord [] e = refl
 nil_front OneWord (o ∷ os) e = absurd cc
 nil_front EachWord os e = e
 
 -- outer closures
-module _ (A B : Type 0) (inner : Outcome A) (k : Kind) (q : Roles) (value : List Piece → A → Type 0)
+module _ (A B : Type 0) (inner : Outcome A) (k : FieldKind) (q : Roles) (value : List Piece → A → Type 0)
     (l : FieldLaw A inner k q value) (f : Closure A B)
     (agrees : (os : List Piece) → AgreesOn (value os) f) (c : ErrorClass) where
   -- a value that the closure gave
@@ -77,7 +77,7 @@ module _ (A B : Type 0) (inner : Outcome A) (k : Kind) (q : Roles) (value : List
   pub closed_law : FieldLaw B (ClosedRan A B inner f c) k q (ClosedValue A B value f)
   closed_law = record { own = l.own; ok = closed_ok; answers = closed_answers }
 
-module _ (T : Type 0) (inner : Outcome T) (k : Kind) (q : Roles) (group : Groups T) (gap : Gap T)
+module _ (T : Type 0) (inner : Outcome T) (k : FieldKind) (q : Roles) (group : Groups T) (gap : Gap T)
     (l : SingleLaw T inner k q group gap) where
   -- the value of a single field: of a group, or the absent one
   data SingleView (os : List Piece) (v : T) : Type 0 where
@@ -100,7 +100,8 @@ module _ (T : Type 0) (inner : Outcome T) (k : Kind) (q : Roles) (group : Groups
   nothing_left os ps e h = h ∙ sym (ap (back k) e ∙ back_nil k)
 
   -- what was taken is the front
-  took_read : (z : Kind) (s t : Situation) (v : T) → ReadsWords z group → LeavesNone z q (cells t)
+  took_read : (z : FieldKind) (s t : Situation) (v : T) → ReadsWords z group
+      → LeavesNone z q (cells t)
       → (Readable z group (pieces q (cells t)) → group (pieces q (cells s)) v (pieces q (cells t)))
       → group (front z (pieces q (cells s))) v []
       × (pieces q (cells t) ≡ back z (pieces q (cells s)))
@@ -132,14 +133,15 @@ module _ (T : Type 0) (inner : Outcome T) (k : Kind) (q : Roles) (group : Groups
   }
 
   -- what the front means the pieces mean
-  of_front : (z : Kind) (os : List Piece) (v : T) → ReadsWords z group → group (front z os) v []
+  of_front : (z : FieldKind) (os : List Piece) (v : T) → ReadsWords z group
+      → group (front z os) v []
       → group os v (back z os)
   of_front Named os v u g = g
   of_front OneWord os v u g = u.of_front os v g
   of_front EachWord os v u g = absurd u
 
   -- and the other way
-  to_front : (z : Kind) (os : List Piece) (v : T) → ReadsWords z group → group os v (back z os)
+  to_front : (z : FieldKind) (os : List Piece) (v : T) → ReadsWords z group → group os v (back z os)
       → group (front z os) v []
   to_front Named os v u g = g
   to_front OneWord os v u g = (u.by_front os v (back OneWord os) g).0

@@ -11,7 +11,7 @@ use Rattle.bpaf_exact.specs.Pieces.{Cells, Roles, Piece, One, Two, is_own_role, 
 use Rattle.bpaf_exact.specs.Flat.{Named}
 use Rattle.bpaf_text.specs.Named.{Named as Key}
 use Rattle.bpaf_exact.specs.Names.{Owns}
-use Rattle.bpaf_exact.specs.Flat.{Kind, OneWord, EachWord, keys, front, back}
+use Rattle.bpaf_exact.specs.Flat.{FieldKind, OneWord, EachWord, keys, front, back}
 use Rattle.bpaf_exact.specs.FlatForm.{FlatForm, not_flat, alternative, single, complete, product}
 
 -- the keys with one of these names that stand on a line, in line order
@@ -49,7 +49,7 @@ words_behind_field _ os = os
 
 -- A positional field of a record: its value is that of the words which the fields before it leave, of
 -- those that belong to no key.
-pub record ReadsWords (V A : Type 0) (r : Roles) (value : List Piece → V → Type 0) (k : Kind)
+pub record ReadsWords (V A : Type 0) (r : Roles) (value : List Piece → V → Type 0) (k : FieldKind)
     (rest : List Piece → List Piece) (own : List Piece → A → Type 0) (of : V → A) : Type 0 where
   pub read : (os : List Piece) (v : V) → value os v → own (front k (rest (others r os))) (of v)
 

@@ -64,19 +64,19 @@ pub record Steady (s t : Situation) : Type 0 where
   pub path : t.path ≡ s.path
 
 -- a named field; a positional field without a repeat; a positional field with one
-pub data Kind : Type 0 where
-  Named OneWord EachWord : Kind
+pub data FieldKind : Type 0 where
+  Named OneWord EachWord : FieldKind
 
 -- Of its own pieces a field takes all; a positional field without a repeat takes the first, if
 -- there is one.
-abbrev pub front : Kind → List Piece → List Piece
+abbrev pub front : FieldKind → List Piece → List Piece
 front Named os = os
 front EachWord os = os
 front OneWord [] = []
 front OneWord (o ∷ os) = o ∷ []
 
 -- and leaves the others
-abbrev pub back : Kind → List Piece → List Piece
+abbrev pub back : FieldKind → List Piece → List Piece
 back Named os = []
 back EachWord os = []
 back OneWord [] = []
@@ -85,19 +85,19 @@ back OneWord (o ∷ os) = os
 -- Of the pieces that the fields before it left, a field's share: for a named field those that begin
 -- with one of its
 -- names; for a positional field one while any is left, or with a repeat all.
-abbrev pub share : Kind → Roles → List Piece → List Piece
+abbrev pub share : FieldKind → Roles → List Piece → List Piece
 share Named q os = mine q os
 share EachWord q os = os
 share OneWord q os = front OneWord os
 
 -- what it leaves to the fields after it
-abbrev pub left : Kind → Roles → List Piece → List Piece
+abbrev pub left : FieldKind → Roles → List Piece → List Piece
 left Named q os = others q os
 left EachWord q os = []
 left OneWord q os = back OneWord os
 
 -- the keys of a field
-abbrev pub keys : Kind → Roles → Roles
+abbrev pub keys : FieldKind → Roles → Roles
 keys Named q = q
 keys OneWord q = no_roles
 keys EachWord q = no_roles
@@ -107,20 +107,20 @@ pub record IsWords (q : Roles) : Type 0 where
   pub words : (k : Arg) → q k ≡ word_roles k
 
 -- a field's own items are keys; a positional field's are the words
-abbrev pub OwnItems : Kind → Roles → Type 0
+abbrev pub OwnItems : FieldKind → Roles → Type 0
 OwnItems Named q = IsNamed q
 OwnItems OneWord q = IsWords q
 OwnItems EachWord q = IsWords q
 
 -- a named field leaves none of its own keys
-abbrev pub LeavesNone : Kind → Roles → Cells → Type 0
+abbrev pub LeavesNone : FieldKind → Roles → Cells → Type 0
 LeavesNone Named q cs = pieces q cs ≡ []
 LeavesNone OneWord q cs = Unit {0}
 LeavesNone EachWord q cs = Unit {0}
 
 -- An answer of a field: it takes pieces of its own alone, and if none of a named field's is left
 -- over, the answer is a value of its share.
-pub record FieldTook (T : Type 0) (k : Kind) (q : Roles) (value : List Piece → T → Type 0)
+pub record FieldTook (T : Type 0) (k : FieldKind) (q : Roles) (value : List Piece → T → Type 0)
     (s : Situation) (v : T) (t : Situation) : Type 0 where
   pub steady : Steady s t
   pub takes : TakesPieces q (cells s) (cells t)
@@ -134,7 +134,7 @@ Gives q value rest (Ok v) t = value v × (pieces q (cells t) ≡ rest)
 Gives q value rest (Err e) t = class e ≡ OfMemory
 
 -- the laws of a flat field; where its share has a value, each answer is one, or want of memory
-pub record FieldLaw (T : Type 0) (outcome : Outcome T) (k : Kind) (q : Roles)
+pub record FieldLaw (T : Type 0) (outcome : Outcome T) (k : FieldKind) (q : Roles)
     (value : List Piece → T → Type 0) : Type 0 where
   pub own : OwnItems k q
   pub ok : (s t : Situation) (v : T) → IsWhole s → outcome s (Ok v) t → FieldTook T k q value s v t
@@ -177,18 +177,18 @@ pub record FieldsLaw (V : Type 0) (outcome : Outcome V) (r : Roles)
       → outcome s a t → Cut r (cells s) os → reading.each os → GivesAll (reading.value os) a t
 
 -- a field before others: their keys are apart, and after a positional field no named one stands
-abbrev pub Before : Kind → Roles → Roles → Type 0
+abbrev pub Before : FieldKind → Roles → Roles → Type 0
 Before Named q r = Apart q r
 Before OneWord q r = (k : Arg) → r k ≡ Foreign
 Before EachWord q r = (k : Arg) → r k ≡ Foreign
 
 -- the values of a field and of those after it
-abbrev pub BothValue : {A B : Type 0} → Kind → Roles → (List Piece → A → Type 0)
+abbrev pub BothValue : {A B : Type 0} → FieldKind → Roles → (List Piece → A → Type 0)
     → (List Piece → B → Type 0) → List Piece → A × B → Type 0
 BothValue k q first rest os v = first (share k q os) v.0 × rest (left k q os) v.1
 
 -- how they read the pieces
-abbrev pub both_reading : {A B : Type 0} → Kind → Roles → (List Piece → A → Type 0)
+abbrev pub both_reading : {A B : Type 0} → FieldKind → Roles → (List Piece → A → Type 0)
     → FieldsReading B → FieldsReading (A × B)
 both_reading k q first rest = record {
   value = BothValue k q first rest.value;

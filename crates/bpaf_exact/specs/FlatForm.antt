@@ -5,7 +5,7 @@ use Rattle.bpaf_doc.specs.Names.{Names}
 use Rattle.bpaf_laws.specs.Reading.{Outcome}
 use Rattle.bpaf_exact.specs.Pieces.{Roles, Piece, either, no_roles}
 use Rattle.bpaf_exact.specs.Names.{Owns, are_all_apart}
-use Rattle.bpaf_exact.specs.Flat.{Kind, Named, OneWord, EachWord, FieldLaw, FieldsLaw, keys}
+use Rattle.bpaf_exact.specs.Flat.{FieldKind, Named, OneWord, EachWord, FieldLaw, FieldsLaw, keys}
 use Rattle.bpaf_exact.specs.Flat.{FieldsReading, both_reading}
 use Rattle.bpaf_exact.specs.Single.{Groups, Gap, FrontOf, no_gap, SingleLaw, SingleValue, OwnList}
 use Rattle.bpaf_exact.specs.Single.{repeated}
@@ -23,9 +23,9 @@ pub data FlatForm (T : Type 0) : Type 1 where
   -- a required flag or argument, or a choice of them, with the value of each piece
   alternative : Roles → (Piece → T → Type 0) → FlatForm T
   -- another field without a repeat or default
-  single : Kind → Roles → Groups T → Gap T → FlatForm T
+  single : FieldKind → Roles → Groups T → Gap T → FlatForm T
   -- a field with a repeat or default
-  complete : Kind → Roles → (List Piece → T → Type 0) → FlatForm T
+  complete : FieldKind → Roles → (List Piece → T → Type 0) → FlatForm T
   -- a product of flat fields: a record, and no field of another
   product : Roles → FieldsReading T → FlatForm T
 
@@ -176,7 +176,7 @@ flat_field (complete k q value) = complete k q value
 flat_field (product q fields) = not_flat
 
 -- keys may stand after a field: those that are apart from its own; after a positional field none
-abbrev pub may_follow : Kind → List Names → List Names → Bool
+abbrev pub may_follow : FieldKind → List Names → List Names → Bool
 may_follow Named own others = are_all_apart own others
 may_follow OneWord own [] = true
 may_follow OneWord own (names ∷ others) = false

@@ -4,7 +4,7 @@ use Rattle.bpaf_line.specs.declared.error.Error.{Error}
 use Rattle.bpaf_line.specs.Situation.{Context, Situation, item_in, open_count}
 use Rattle.bpaf_laws.specs.Reading.{Outcome}
 use Rattle.bpaf_exact.specs.Pieces.{Cells, Roles, Piece, Cut}
-use Rattle.bpaf_exact.specs.Flat.{OfMemory, class, first_cells, Kind, ReadOff, share, left}
+use Rattle.bpaf_exact.specs.Flat.{OfMemory, class, first_cells, FieldKind, ReadOff, share, left}
 use Rattle.bpaf_exact.specs.Flat.{FieldsReading, HasValue}
 
 -- each item of a line is present at first, but for the marker
@@ -61,13 +61,14 @@ pub record IsExact (V : Type 0) (r : Roles) (reading : FieldsReading V) (context
       → (v : V) → ¬ (a ≡ Accepted v)
 
 -- the last field of a product, or a record of one field alone: no piece is left to others
-pub record LastValue (T : Type 0) (k : Kind) (q : Roles) (value : List Piece → T → Type 0)
+pub record LastValue (T : Type 0) (k : FieldKind) (q : Roles) (value : List Piece → T → Type 0)
     (os : List Piece) (v : T) : Type 0 where
   pub read : value (share k q os) v
   pub none_left : left k q os ≡ []
 
 -- how it reads the pieces
-abbrev pub last_reading : {T : Type 0} → Kind → Roles → (List Piece → T → Type 0) → FieldsReading T
+abbrev pub last_reading : {T : Type 0} → FieldKind → Roles → (List Piece → T → Type 0)
+    → FieldsReading T
 last_reading {T = T} k q value = record {
   value = LastValue T k q value;
   each = λ os. HasValue value (share k q os) × (left k q os ≡ []);

@@ -7,7 +7,8 @@ use Rattle.bpaf_line.specs.Situation.{Situation, open_count}
 use Rattle.bpaf_laws.specs.Reading.{Outcome}
 use Rattle.bpaf_exact.specs.Pieces.{Cells, Roles, Piece, pieces, TakesPiece, TakesPieces}
 use Rattle.bpaf_exact.specs.Flat.{OfMemory, OfMissing, Caught, Refused, class, cells, IsWhole}
-use Rattle.bpaf_exact.specs.Flat.{Steady, Kind, Named, OneWord, EachWord, front, back, OwnItems}
+use Rattle.bpaf_exact.specs.Flat.{Steady, FieldKind, Named, OneWord, EachWord, front, back}
+use Rattle.bpaf_exact.specs.Flat.{OwnItems}
 
 -- how one evaluation reads a value off the front of the own pieces, and which it leaves
 abbrev pub Groups : Type 0 → Type 1
@@ -34,7 +35,7 @@ pub record TakesAny (q : Roles) (cs ds : Cells) : Type 0 where
   pub more : TakesPieces q middle ds
 
 -- the pieces can all be read; of a positional field those after the first need not be
-abbrev pub Readable : {T : Type 0} → Kind → Groups T → List Piece → Type 0
+abbrev pub Readable : {T : Type 0} → FieldKind → Groups T → List Piece → Type 0
 Readable {T = T} Named group os = (vs : List T) × Own T group os vs
 Readable OneWord group os = Unit {0}
 Readable EachWord group os = Unit {0}
@@ -45,7 +46,7 @@ pub record Gap (T : Type 0) : Type 1 where
   pub absent : T → Type 0
 
 -- a value of one evaluation
-pub data SingleOk (T : Type 0) (k : Kind) (q : Roles) (group : Groups T) (gap : Gap T)
+pub data SingleOk (T : Type 0) (k : FieldKind) (q : Roles) (group : Groups T) (gap : Gap T)
     (s : Situation) (v : T) (t : Situation) : Type 0 where
   -- no piece: the absent value, and nothing is taken
   gave_absent : gap.has ≡ true → pieces q (cells s) ≡ [] → gap.absent v → cells t ≡ cells s
@@ -59,7 +60,7 @@ pub data SingleOk (T : Type 0) (k : Kind) (q : Roles) (group : Groups T) (gap : 
       → SingleOk T k q group gap s v t
 
 -- a refusal of one evaluation
-pub data SingleErr (T : Type 0) (k : Kind) (q : Roles) (group : Groups T) (gap : Gap T)
+pub data SingleErr (T : Type 0) (k : FieldKind) (q : Roles) (group : Groups T) (gap : Gap T)
     (s : Situation) (e : Error) (t : Situation) : Type 0 where
   of_memory : class e ≡ OfMemory → SingleErr T k q group gap s e t
   -- no piece, and no value for that
@@ -81,13 +82,13 @@ pub record WordByWord (T : Type 0) (group : Groups T) : Type 0 where
       → group os v (back OneWord os)
 
 -- how a field of a kind reads words
-abbrev pub ReadsWords : {T : Type 0} → Kind → Groups T → Type 0
+abbrev pub ReadsWords : {T : Type 0} → FieldKind → Groups T → Type 0
 ReadsWords Named group = Unit {0}
 ReadsWords {T = T} OneWord group = WordByWord T group
 ReadsWords EachWord group = ⊥
 
 -- the laws of a field without a repeat or default
-pub record SingleLaw (T : Type 0) (outcome : Outcome T) (k : Kind) (q : Roles) (group : Groups T)
+pub record SingleLaw (T : Type 0) (outcome : Outcome T) (k : FieldKind) (q : Roles) (group : Groups T)
     (gap : Gap T) : Type 0 where
   pub own : OwnItems k q
   pub words : ReadsWords k group
@@ -113,7 +114,7 @@ pub data SingleValue (T : Type 0) (group : Groups T) (gap : Gap T) : List Piece 
   of_gap : {v : T} → gap.absent v → SingleValue T group gap [] v
 
 -- with a repeat a positional field gets all words
-abbrev pub repeated : Kind → Kind
+abbrev pub repeated : FieldKind → FieldKind
 repeated Named = Named
 repeated OneWord = EachWord
 repeated EachWord = EachWord
