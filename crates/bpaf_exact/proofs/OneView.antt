@@ -20,7 +20,7 @@ use Rattle.bpaf_exact.specs.Derived.{LastOf, list_closure}
 use Rattle.bpaf_exact.specs.Alternative.{pick_type}
 use Rattle.bpaf_exact.specs.Leaves.{FlagValue, ArgumentValue, WordValue, flag_by, flag_field}
 use Rattle.bpaf_exact.specs.Leaves.{LastGroup, argument_by, argument_field, word_field}
-use Rattle.bpaf_exact.specs.Record.{Answer, Accepted, NoMemory, Refusal, RecordValue, IsExact}
+use Rattle.bpaf_exact.specs.Record.{RunAnswer, Accepted, NoMemory, Refusal, RecordValue, IsExact}
 use Rattle.bpaf_exact.specs.FlatForm.{FlatForm, not_flat, alternative, single, complete, product}
 use Rattle.bpaf_exact.specs.FlatForm.{FormLaw, Agrees, only_if, flat_closed, flat_either}
 use Rattle.bpaf_exact.specs.FlatForm.{flat_choice, choices_rest, alternative_only, flat_choices}
@@ -431,7 +431,7 @@ module _ (T X : Type 0) (see : T → X) where
   -- an exact answer looks like each value of the record
   like_this : (inner : Outcome T) (r : Roles) (reading : FieldsReading T) (context : Context)
       → FieldsLaw T inner r reading
-      → Alike see (λ v. RecordValue r reading.value context v) → (a : Answer T) (v : T)
+      → Alike see (λ v. RecordValue r reading.value context v) → (a : RunAnswer T) (v : T)
       → IsExact T r reading context a
       → RecordValue r reading.value context v → LooksLike see v a
   like_this inner r reading context l one (Accepted w) v e h = one w v (e.sound w refl) h

@@ -6,7 +6,7 @@ use Rattle.bpaf_laws.specs.Reading.{Outcome}
 use Rattle.bpaf_exact.specs.Pieces.{Piece}
 use Rattle.bpaf_exact.specs.Single.{Groups}
 use Rattle.bpaf_exact.specs.Wrappers.{Closure}
-use Rattle.bpaf_exact.specs.Record.{Answer, Accepted, NoMemory, Refusal, RecordValue, RunRan}
+use Rattle.bpaf_exact.specs.Record.{RunAnswer, Accepted, NoMemory, Refusal, RecordValue, RunRan}
 use Rattle.bpaf_exact.specs.FlatForm.{FlatForm, not_flat, alternative, single, complete, product}
 use Rattle.bpaf_exact.specs.FlatForm.{product_roles, product_reading, flat_record}
 
@@ -43,7 +43,7 @@ abbrev pub pair_view : {A B X Y : Type 0} → (A → X) → (B → Y) → A × B
 pair_view see look v = (see v.0, look v.1)
 
 -- the answer looks like v, or is want of memory
-abbrev pub LooksLike : {V X : Type 0} → (V → X) → V → Answer V → Type 0
+abbrev pub LooksLike : {V X : Type 0} → (V → X) → V → RunAnswer V → Type 0
 LooksLike see v (Accepted w) = see w ≡ see v
 LooksLike see v NoMemory = Unit {0}
 LooksLike see v Refusal = ⊥
@@ -51,6 +51,6 @@ LooksLike see v Refusal = ⊥
 -- Where the record has a value v, each answer looks like v, or is want of memory.
 abbrev pub RunsToOne : {V X : Type 0} → (V → X) → Outcome V → FlatForm V → Context → Type 0
 RunsToOne {V = V} see outcome s context =
-    (a : Answer V) (v : V) → RunRan V outcome (beginning context) a
+    (a : RunAnswer V) (v : V) → RunRan V outcome (beginning context) a
     → RecordValue (product_roles (flat_record s)) (product_reading (flat_record s)).value context v
     → LooksLike see v a

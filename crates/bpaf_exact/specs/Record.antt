@@ -18,13 +18,13 @@ abbrev pub RecordValue : {V : Type 0} → Roles → (List Piece → V → Type 0
 RecordValue {V = V} r value context v = ReadOff V r value (line_cells context) v
 
 -- what a run may answer
-pub data Answer (V : Type 0) : Type 0 where
-  Accepted : V → Answer V
-  NoMemory : Answer V
-  Refusal : Answer V
+pub data RunAnswer (V : Type 0) : Type 0 where
+  Accepted : V → RunAnswer V
+  NoMemory : RunAnswer V
+  Refusal : RunAnswer V
 
 -- no value is answered
-abbrev pub IsNoValue : {V : Type 0} → Answer V → Type 0
+abbrev pub IsNoValue : {V : Type 0} → RunAnswer V → Type 0
 IsNoValue (Accepted v) = ⊥
 IsNoValue NoMemory = Unit {0}
 IsNoValue Refusal = Unit {0}
@@ -32,25 +32,25 @@ IsNoValue Refusal = Unit {0}
 -- What the steps of a run after the parser make of its answer: a value only where nothing is left
 -- present.
 -- Any other end, as a message, a help text or want of memory for it, is no value.
-pub data RunRan (V : Type 0) (outcome : Outcome V) (s : Situation) : Answer V → Type 0 where
+pub data RunRan (V : Type 0) (outcome : Outcome V) (s : Situation) : RunAnswer V → Type 0 where
   run_value : {v : V} {t : Situation} → outcome s (Ok v) t → open_count t ≡ 0
       → RunRan V outcome s (Accepted v)
-  run_leftover : {a : Answer V} {v : V} {t : Situation} → outcome s (Ok v) t
+  run_leftover : {a : RunAnswer V} {v : V} {t : Situation} → outcome s (Ok v) t
       → (open_count t ≡ 0 → ⊥) → IsNoValue a → RunRan V outcome s a
   run_memory : {e : Error} {t : Situation} → outcome s (Err e) t → class e ≡ OfMemory
       → RunRan V outcome s NoMemory
-  run_refusal : {a : Answer V} {e : Error} {t : Situation} → outcome s (Err e) t
+  run_refusal : {a : RunAnswer V} {e : Error} {t : Situation} → outcome s (Err e) t
       → (class e ≡ OfMemory → ⊥) → IsNoValue a → RunRan V outcome s a
 
 -- an answer is one of these values, or want of memory
-abbrev pub IsAnswer : {V : Type 0} → (V → Type 0) → Answer V → Type 0
+abbrev pub IsAnswer : {V : Type 0} → (V → Type 0) → RunAnswer V → Type 0
 IsAnswer value (Accepted v) = value v
 IsAnswer value NoMemory = Unit {0}
 IsAnswer value Refusal = ⊥
 
 -- an answer of a run is exact
 pub record IsExact (V : Type 0) (r : Roles) (reading : FieldsReading V) (context : Context)
-    (a : Answer V) : Type 0 where
+    (a : RunAnswer V) : Type 0 where
   -- a value only where it is one of the record's
   pub sound : (v : V) → a ≡ Accepted v → RecordValue r reading.value context v
   -- where each field has a value on its share, one of the record's values, or want of memory

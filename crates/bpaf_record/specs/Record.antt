@@ -14,7 +14,7 @@ use Rattle.bpaf_core.specs.Run.{RunsWords}
 use Rattle.bpaf_exact.specs.Accepted.{HoldsTogether}
 use Rattle.bpaf_exact.specs.Names.{are_apart}
 use Rattle.bpaf_exact.specs.Pieces.{Piece, Cut}
-use Rattle.bpaf_exact.specs.Record.{Answer, Accepted, NoMemory, Refusal, RecordValue}
+use Rattle.bpaf_exact.specs.Record.{RunAnswer, Accepted, NoMemory, Refusal, RecordValue}
 use Rattle.bpaf_exact.specs.Record.{line_cells}
 use Rattle.bpaf_exact.specs.FlatForm.{FlatForm, is_record, product_roles, product_reading}
 use Rattle.bpaf_exact.specs.FlatForm.{flat_record}
@@ -27,7 +27,7 @@ is_flat_record form keys info =
     && list_all (are_apart info.version_arg.names) keys)
 
 -- the answer of a run, as exactness sees it: a text that was asked for is no value
-abbrev pub answer_of : {T : Type 0} → Result T ParseFailure → Answer T
+abbrev pub answer_of : {T : Type 0} → Result T ParseFailure → RunAnswer T
 answer_of (Ok v) = Accepted v
 answer_of (Err (failure.Stdout doc full)) = Refusal
 answer_of (Err (failure.Stderr doc)) = Refusal
