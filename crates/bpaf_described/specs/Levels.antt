@@ -28,7 +28,7 @@ use Rattle.bpaf_laws.specs.AdjacentGroup.{GroupDescribes}
 use Rattle.bpaf_described.specs.Groups.{TogetherOutcome, TogetherReads, together_lawful}
 use Rattle.bpaf_described.specs.Told.{ToldOutcome, told_lawful}
 use Rattle.bpaf_described.specs.Values.{ToldOption, ToldQueue}
-use Rattle.bpaf_described.specs.Closures.{IsHalf, Accepts, Checks, Given, untold}
+use Rattle.bpaf_described.specs.Closures.{IsHalf, Accepts, Checks, AnswersNumber, untold}
 use Rattle.bpaf_described.specs.Several.{TupleOutcome, TupleReads, TupleDescribes, tuple_lawful}
 use Rattle.bpaf_described.specs.Several.{OrElseOutcome, OrElseReads, OrElseDescribes}
 use Rattle.bpaf_described.specs.Several.{or_else_lawful}
@@ -65,7 +65,7 @@ too_much = codes "too much"
 
 -- a number, or a refusal without one
 abbrev pub GivesNumber : Option ℕ → Gives Value
-GivesNumber number = GivesAnswer {T = Value} {E = Unit {0}} (Given number) untold
+GivesNumber number = GivesAnswer {T = Value} {E = Unit {0}} (AnswersNumber number) untold
 
 -- an inner value that is accepted; or a refusal of it
 abbrev pub AcceptOutcome : Outcome Value → Outcome Value

@@ -12,7 +12,7 @@ use Rattle.bpaf_doc.specs.Shape.{Argument, Name, Short, Long, Both}
 use Rattle.bpaf_pages.specs.Usage.{usage_text}
 
 -- the texts that a program gives; each may be missing
-pub record Given : Type 0 where
+pub record PageTexts : Type 0 where
   pub usage : Option (List Piece)
   pub descr : Option (List Piece)
   pub header : Option (List Piece)
@@ -119,7 +119,7 @@ sections width all number (title ∷ rest) =
     section width all number title ∷ sections width all (number + 1) rest
 
 -- the paragraphs before the lists
-abbrev pub opening : List (List ℕ) → Given → Print → List Print
+abbrev pub opening : List (List ℕ) → PageTexts → Print → List Print
 opening path given usage =
     paragraph (prints_of given.descr)
     ∷ usage_paragraph path given.usage usage
@@ -135,7 +135,8 @@ lists width all =
     ∷ []
 
 -- all paragraphs of a page with these lines and titles
-abbrev pub paragraphs : List (List ℕ) → Given → Print → List Line → List (List Piece) → List Print
+abbrev pub paragraphs : List (List ℕ) → PageTexts → Print → List Line → List (List Piece)
+    → List Print
 paragraphs path given usage all names =
     let width = widest all in
     opening path given usage
@@ -147,7 +148,7 @@ abbrev pub page : List Print → Print
 page all = joined (codes "\n") all
 
 -- the page of a shape at this path; what `extra` shows, help and the version, stands behind it
-unfoldable pub help_text : List (List ℕ) → Given → Shape → Shape → Print
+unfoldable pub help_text : List (List ℕ) → PageTexts → Shape → Shape → Print
 help_text path given shape extra =
     let whole = And (shape then extra then none) in
     page (paragraphs path given (usage_text shape) (lines whole None 0) (titles whole))

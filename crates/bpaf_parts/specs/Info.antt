@@ -3,7 +3,7 @@ use Rattle.std.specs.Prelude.{ℕ, Bool, false, List, [], ◌∷◌, Option, Som
 use Rattle.std.specs.Prelude.{option_and_then}
 use Rattle.bpaf_doc.specs.declared.doc.Piece.{Piece}
 use Rattle.bpaf_doc.specs.declared.doc.Style.TheVariants as style
-use Rattle.bpaf_pages.specs.Help.{Given}
+use Rattle.bpaf_pages.specs.Help.{PageTexts}
 use Rattle.bpaf_doc.specs.Names.{Names}
 use Rattle.bpaf_doc.specs.Print.{first_line, shown_as}
 use Rattle.bpaf_text.specs.Named.{Named}
@@ -64,7 +64,7 @@ abbrev pub short_descr : RunInfo → Option (List Piece)
 short_descr info = option_and_then first_line info.descr
 
 -- the texts around the help page
-abbrev pub page_texts : RunInfo → Given
+abbrev pub page_texts : RunInfo → PageTexts
 page_texts info = record {
   usage = info.usage;
   descr = info.descr;
