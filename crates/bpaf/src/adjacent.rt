@@ -177,7 +177,7 @@ fn takes_item<T: Drop, P: Parser<T>>(
 
 /// How an attempt with a value ends.
 #[derive(Drop)]
-enum Ending<T> {
+enum AttemptEnd<T> {
     /// Nothing is left present in its scope: its value is that of the group.
     Whole(T),
     /// This is the first place that it left present.
@@ -191,7 +191,7 @@ fn attempt<T: Drop, P: Parser<T>>(
     state: &mut State,
     place: usize,
     end: usize,
-) -> Result<Ending<T>, Error>
+) -> Result<AttemptEnd<T>, Error>
     requires can { P.can_eval parser.now }
     requires ordered { place ≤ end }
     requires inside { end ≤ length state.old.context.line }
@@ -205,12 +205,12 @@ fn attempt<T: Drop, P: Parser<T>>(
     match first_present(state, place) {
         None => {
             state.set_scope(scope);
-            Ok(Ending::Whole(value))
+            Ok(AttemptEnd::Whole(value))
         }
         Some(left) => {
             drop(value);
             state.undo(mark);
-            Ok(Ending::Left(left))
+            Ok(AttemptEnd::Left(left))
         }
     }
 }
@@ -243,8 +243,8 @@ fn attempts<T: Drop, P: Parser<T>>(parser: &P, state: &mut State, place: usize) 
     let mut end = run_end(state, place);
     loop {
         match attempt(parser, state, place, end) {
-            Ok(Ending::Whole(value)) => return Ok(value),
-            Ok(Ending::Left(left)) => end = left,
+            Ok(AttemptEnd::Whole(value)) => return Ok(value),
+            Ok(AttemptEnd::Left(left)) => end = left,
             Err(error) => return Err(error),
         }
     }
