@@ -70,7 +70,8 @@ module _ (T : Type 0) (inner : Outcome T) (s : Situation) (first : Part) where
       pub unchanged : r ≡ Ok None → t ≡ s
       unchanged is =
           subst (λ x. Leaves s x t) is
-          (leaves inner s place (place + place_count first) (failure_of s best) r (failure_of s after)
+          (leaves inner s place (place + place_count first) (failure_of s best) r
+          (failure_of s after)
           t tried_here)
 
       -- and the places behind it give what the group gives
@@ -86,7 +87,8 @@ module _ (T : Type 0) (inner : Outcome T) (s : Situation) (first : Part) where
       pub refused_at : (e : Error) → r ≡ Err e → GroupOutcome T inner first s (Err e) t
       refused_at e is =
           let left = subst (λ x. Leaves s x t) is
-          (leaves inner s place (place + place_count first) (failure_of s best) r (failure_of s after)
+          (leaves inner s place (place + place_count first) (failure_of s best) r
+          (failure_of s after)
           t tried_here) in
           subst (λ x. GroupOutcome T inner first s (Err e) x) (sym left.1)
           (rest (Err e) s (wanted from (failure_of s best) e left.0))

@@ -151,7 +151,8 @@ module _ (A B : Type 0) (inner : Outcome A) (q : Roles) (value : Piece → A →
   }
 
 -- inner closures round a field without a repeat or default
-module _ (A B : Type 0) (inner : Outcome A) (k : FieldKind) (q : Roles) (group : Groups A) (gap : Gap A)
+module _ (A B : Type 0) (inner : Outcome A)
+    (k : FieldKind) (q : Roles) (group : Groups A) (gap : Gap A)
     (l : SingleLaw A inner k q group gap) (f : Closure A B)
     (agrees : (os rest : List Piece) → AgreesOn (λ v. group os v rest) f)
     (gap_agrees : AgreesOn gap.absent f) where

@@ -24,7 +24,8 @@ no_last T vs v l e = by_before l.before (sym l.is ∙ e)
     by_before [] h = cc
     by_before (x ∷ xs) h = cc
 
-module _ (T : Type 0) (inner : Outcome T) (k : FieldKind) (q : Roles) (group : Groups T) (gap : Gap T)
+module _ (T : Type 0) (inner : Outcome T)
+    (k : FieldKind) (q : Roles) (group : Groups T) (gap : Gap T)
     (l : SingleLaw T inner k q group gap) where
   -- the laws of the list
   rl : FieldLaw (List T) (λ s r t. StepsRan T inner true None s r t) (repeated k) q

@@ -219,7 +219,8 @@ map_last : (T X : Type 0) (see : T → X) (xs : List T) (v : T)
 map_last T X see [] v = refl
 map_last T X see (x ∷ xs) v = ap (λ z. see x ∷ z) (map_last T X see xs v)
 
-module _ (T X : Type 0) (see : T → X) (inner : Outcome T) (k : FieldKind) (q : Roles) (group : Groups T)
+module _ (T X : Type 0) (see : T → X) (inner : Outcome T)
+    (k : FieldKind) (q : Roles) (group : Groups T)
     (gap : Gap T) (l : SingleLaw T inner k q group gap) (one : OneGroup see group)
     (absent : Alike see gap.absent) where
   -- own lists of the same pieces look alike

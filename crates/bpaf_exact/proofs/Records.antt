@@ -30,7 +30,8 @@ count_none no_place = refl
 count_none (none_here n) = count_none n
 
 -- The last field of a product, or a record of one field alone.
-module _ (T : Type 0) (outcome : Outcome T) (k : FieldKind) (q : Roles) (value : List Piece → T → Type 0)
+module _ (T : Type 0) (outcome : Outcome T)
+    (k : FieldKind) (q : Roles) (value : List Piece → T → Type 0)
     (l : FieldLaw T outcome k q value) where
   -- a field may stand before none
   before_none : Before k q no_roles

@@ -39,7 +39,8 @@ readable Named group {vs = vs} o = (vs, o)
 readable OneWord group o = tt
 readable EachWord group o = tt
 
-module _ (T : Type 0) (inner : Outcome T) (k : FieldKind) (q : Roles) (group : Groups T) (gap : Gap T)
+module _ (T : Type 0) (inner : Outcome T)
+    (k : FieldKind) (q : Roles) (group : Groups T) (gap : Gap T)
     (l : SingleLaw T inner k q group gap) (idle : Bool) where
   -- what a repeat took, once it has the first value
   record Took (s : Situation) (vs : List T) (t : Situation) : Type 0 where

@@ -43,7 +43,8 @@ nil_front OneWord (o ∷ os) e = absurd cc
 nil_front EachWord os e = e
 
 -- outer closures
-module _ (A B : Type 0) (inner : Outcome A) (k : FieldKind) (q : Roles) (value : List Piece → A → Type 0)
+module _ (A B : Type 0) (inner : Outcome A)
+    (k : FieldKind) (q : Roles) (value : List Piece → A → Type 0)
     (l : FieldLaw A inner k q value) (f : Closure A B)
     (agrees : (os : List Piece) → AgreesOn (value os) f) (c : ErrorClass) where
   -- a value that the closure gave
@@ -77,7 +78,8 @@ module _ (A B : Type 0) (inner : Outcome A) (k : FieldKind) (q : Roles) (value :
   pub closed_law : FieldLaw B (ClosedRan A B inner f c) k q (ClosedValue A B value f)
   closed_law = record { own = l.own; ok = closed_ok; answers = closed_answers }
 
-module _ (T : Type 0) (inner : Outcome T) (k : FieldKind) (q : Roles) (group : Groups T) (gap : Gap T)
+module _ (T : Type 0) (inner : Outcome T)
+    (k : FieldKind) (q : Roles) (group : Groups T) (gap : Gap T)
     (l : SingleLaw T inner k q group gap) where
   -- the value of a single field: of a group, or the absent one
   data SingleView (os : List Piece) (v : T) : Type 0 where

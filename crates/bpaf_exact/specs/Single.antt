@@ -88,7 +88,8 @@ ReadsWords {T = T} OneWord group = WordByWord T group
 ReadsWords EachWord group = ⊥
 
 -- the laws of a field without a repeat or default
-pub record SingleLaw (T : Type 0) (outcome : Outcome T) (k : FieldKind) (q : Roles) (group : Groups T)
+pub record SingleLaw (T : Type 0) (outcome : Outcome T)
+    (k : FieldKind) (q : Roles) (group : Groups T)
     (gap : Gap T) : Type 0 where
   pub own : OwnItems k q
   pub words : ReadsWords k group

@@ -208,7 +208,12 @@ impl<'a> Lines<'a> {
     }
 
     /// The lines that stand in one place, where names have this width.
-    pub(crate) fn rows(&self, alloc: Global, width: usize, place: ListPlace) -> Result<Doc, AllocError>
+    pub(crate) fn rows(
+        &self,
+        alloc: Global,
+        width: usize,
+        place: ListPlace,
+    ) -> Result<Doc, AllocError>
         ensures { IfOk result (Prints
             (rows width (lines_at (place_of place) (map line_of self.now.all.items)))) }
     {

@@ -53,4 +53,5 @@ returns g c =
     search_ends g.row.T.Denot (g.P.Parser.outcome c.args.parser.now) c.args.state.now
     (part_of c.args.first.now) c.loop-places.state c.loop-places.invariant.same c.loop-places.from
     c.loop-places.best c.loop-places.invariant.rest c.place_count-width.result
-    c.place_count-width.ensures c.end.result c.end.new.state c.in_default.ensures.start c.end.ensures
+    c.place_count-width.ensures c.end.result c.end.new.state c.in_default.ensures.start
+    c.end.ensures
