@@ -4,7 +4,7 @@ use Rattle.bpaf_line.specs.declared.error.Error.{Error}
 use Rattle.bpaf_line.specs.Situation.{Situation}
 use Rattle.bpaf_laws.specs.Reading.{Outcome}
 use Rattle.bpaf_exact.specs.Pieces.{Roles, Piece, pieces, takes_none}
-use Rattle.bpaf_exact.specs.Flat.{Refused, class, cells, IsWhole, FieldKind, Named, OneWord}
+use Rattle.bpaf_exact.specs.Flat.{Refused, class, cells, IsWhole, FieldKind, ByName, OneWord}
 use Rattle.bpaf_exact.specs.Flat.{EachWord}
 use Rattle.bpaf_exact.specs.Single.{Groups, FrontOf, Own, own_none, own_more, Readable, Gap, no_gap}
 use Rattle.bpaf_exact.specs.Single.{SingleOk, gave_absent, took, SingleErr, of_memory, of_missing}
@@ -42,7 +42,7 @@ module _ (T : Type 0) (outcome : Outcome T) (q : Roles) (value : Piece → T →
 
   -- its value, as that of one evaluation
   alternative_ok : (s t : Situation) (v : T) → IsWhole s → outcome s (Ok v) t
-      → SingleOk T Named q (FrontOf T value) (no_gap T) s v t
+      → SingleOk T ByName q (FrontOf T value) (no_gap T) s v t
   alternative_ok s t v w o =
       let a = l.ok s t v w o in
       took a.steady (record { piece = a.piece; middle = cells t; one = a.takes; more = takes_none })
@@ -57,14 +57,14 @@ module _ (T : Type 0) (outcome : Outcome T) (q : Roles) (value : Piece → T →
 
   -- its refusal, as that of one evaluation
   alternative_err : (s t : Situation) (e : Error) → AlternativeErr T q value s e t
-      → SingleErr T Named q (FrontOf T value) (no_gap T) s e t
+      → SingleErr T ByName q (FrontOf T value) (no_gap T) s e t
   alternative_err s t e (alternative_memory c) = of_memory c
   alternative_err s t e (alternative_missing c p same st) = of_missing c refl p same st
   alternative_err s t e (alternative_refused c p b n) =
       of_piece c (bad_nonempty T value _ b) (λ w rest g. n g.piece rest w g.is g.means)
 
   -- so it keeps to the laws of one evaluation
-  pub alternative_single : SingleLaw T outcome Named q (FrontOf T value) (no_gap T)
+  pub alternative_single : SingleLaw T outcome ByName q (FrontOf T value) (no_gap T)
   alternative_single = record {
     own = l.named;
     words = tt;
@@ -171,13 +171,13 @@ module _ (A B : Type 0) (inner : Outcome A)
   -- the same, by the kind of the field
   inner_readable : (z : FieldKind) (os : List Piece) → Readable z (ClosedGroup A B group f) os
       → Readable z group os
-  inner_readable Named os r = let i = inner_list os r.0 r.1 in (i.list, i.own)
+  inner_readable ByName os r = let i = inner_list os r.0 r.1 in (i.list, i.own)
   inner_readable OneWord os r = tt
   inner_readable EachWord os r = tt
 
   -- with a closure a field reads words as before
   closed_words : (z : FieldKind) → ReadsWords z group → ReadsWords z (ClosedGroup A B group f)
-  closed_words Named u = tt
+  closed_words ByName u = tt
   closed_words OneWord u = record {
     by_front = λ os v rest g. let a = u.by_front os g.from rest g.read in
         (record { from = g.from; read = a.0; made = g.made }, a.1);

@@ -8,7 +8,7 @@ use Rattle.bpaf_exact.specs.Pieces.{Cells, Role, Foreign, Alone, WithNext, Roles
 use Rattle.bpaf_exact.specs.Pieces.{is_own_role, is_own, mine, others, either, either_role, no_roles}
 use Rattle.bpaf_exact.specs.Pieces.{IsNamed, Apart, Cut, at_end, passed, flag, argument, word}
 use Rattle.bpaf_exact.specs.Pieces.{pieces}
-use Rattle.bpaf_exact.specs.Flat.{FieldKind, Named, OneWord, EachWord, BothValue, both_reading, keys, left}
+use Rattle.bpaf_exact.specs.Flat.{FieldKind, ByName, OneWord, EachWord, BothValue, both_reading, keys, left}
 use Rattle.bpaf_exact.specs.Names.{Owns, are_all_apart}
 use Rattle.bpaf_exact.specs.Record.{RecordValue, line_cells}
 use Rattle.bpaf_exact.specs.FlatForm.{FlatForm, not_flat, alternative, single, complete, product}
@@ -102,16 +102,16 @@ first_by own behind_it (single k q group gap) s = tt
 first_by own behind_it (product q fields) s = tt
 first_by own behind_it (complete OneWord q value) s = tt
 first_by own behind_it (complete EachWord q value) s = tt
-first_by own behind_it (complete Named q value) not_flat = tt
-first_by own behind_it (complete Named q value) (alternative r other) = tt
-first_by own behind_it (complete Named q value) (single k r group gap) = tt
-first_by own behind_it (complete Named q value) (complete k r other) = tt
-first_by {A = A} {B = B} own behind_it (complete Named q value) (product r fields) =
+first_by own behind_it (complete ByName q value) not_flat = tt
+first_by own behind_it (complete ByName q value) (alternative r other) = tt
+first_by own behind_it (complete ByName q value) (single k r group gap) = tt
+first_by own behind_it (complete ByName q value) (complete k r other) = tt
+first_by {A = A} {B = B} own behind_it (complete ByName q value) (product r fields) =
     by_names (are_all_apart own behind_it)
   where
     by_names : (apart : Bool)
-        → FieldBy {V = A × B} (complete Named q value)
-        (only_if apart (product (either q r) (both_reading Named q value fields))) (λ v. v.0)
+        → FieldBy {V = A × B} (complete ByName q value)
+        (only_if apart (product (either q r) (both_reading ByName q value fields))) (λ v. v.0)
     by_names true = record { part = first_is_part q r; read = λ os v i. i.0 }
     by_names false = tt
 
@@ -125,19 +125,19 @@ later_by own behind_it a (single k q group gap) s of owned owned_behind h = tt
 later_by own behind_it a (product q fields) s of owned owned_behind h = tt
 later_by own behind_it a (complete OneWord q value) s of owned owned_behind h = tt
 later_by own behind_it a (complete EachWord q value) s of owned owned_behind h = tt
-later_by own behind_it not_flat (complete Named q value) s of owned owned_behind h = tt
-later_by own behind_it (alternative p first) (complete Named q value) s of owned owned_behind h = tt
-later_by own behind_it (single k p group gap) (complete Named q value) s of owned owned_behind h = tt
-later_by own behind_it (product p fields) (complete Named q value) s of owned owned_behind h = tt
-later_by own behind_it (complete k p first) (complete Named q value) not_flat of owned owned_behind h =
+later_by own behind_it not_flat (complete ByName q value) s of owned owned_behind h = tt
+later_by own behind_it (alternative p first) (complete ByName q value) s of owned owned_behind h = tt
+later_by own behind_it (single k p group gap) (complete ByName q value) s of owned owned_behind h = tt
+later_by own behind_it (product p fields) (complete ByName q value) s of owned owned_behind h = tt
+later_by own behind_it (complete k p first) (complete ByName q value) not_flat of owned owned_behind h =
     tt
-later_by own behind_it (complete k p first) (complete Named q value) (alternative r other) of owned
+later_by own behind_it (complete k p first) (complete ByName q value) (alternative r other) of owned
     owned_behind h = tt
-later_by own behind_it (complete k p first) (complete Named q value) (single j r group gap) of
+later_by own behind_it (complete k p first) (complete ByName q value) (single j r group gap) of
     owned owned_behind h = tt
-later_by own behind_it (complete k p first) (complete Named q value) (complete j r other) of owned
+later_by own behind_it (complete k p first) (complete ByName q value) (complete j r other) of owned
     owned_behind h = tt
-later_by {A = A} {B = B} {C = C} own behind_it (complete k p first) (complete Named q value)
+later_by {A = A} {B = B} {C = C} own behind_it (complete k p first) (complete ByName q value)
     (product r fields) of owned owned_behind h =
     by_kind k owned (may_follow k own behind_it) refl
   where
@@ -162,7 +162,7 @@ later_by {A = A} {B = B} {C = C} own behind_it (complete k p first) (complete Na
     behind : (k : FieldKind) → Owns (keys k p) own → may_follow k own behind_it ≡ true
         → ReadsOwn (A × C) B (either (keys k p) r) (BothValue k p first fields.value) q value
         (λ v. of v.1)
-    behind Named o e =
+    behind ByName o e =
         let apart = apart_of_names p r own behind_it o owned_behind e in
         record {
           part = later_is_part p q r apart h.part;
@@ -176,7 +176,7 @@ later_by {A = A} {B = B} {C = C} own behind_it (complete k p first) (complete Na
 
     by_kind : (k : FieldKind) → Owns (keys k p) own → (may : Bool)
         → may_follow k own behind_it ≡ may
-        → FieldBy {V = A × C} (complete Named q value)
+        → FieldBy {V = A × C} (complete ByName q value)
         (only_if may (product (either (keys k p) r) (both_reading k p first fields)))
         (λ v. of v.1)
     by_kind k o true e = behind k o e
@@ -190,7 +190,7 @@ last_by (single k q group gap) = tt
 last_by (product q fields) = tt
 last_by (complete OneWord q value) = tt
 last_by (complete EachWord q value) = tt
-last_by (complete Named q value) = record {
+last_by (complete ByName q value) = record {
   part = first_is_part q no_roles;
   read = λ os v i. i.read;
 }
@@ -205,11 +205,11 @@ made_by f (single k q group gap) s of from same h = tt
 made_by f (product q fields) s of from same h = tt
 made_by f (complete OneWord q value) s of from same h = tt
 made_by f (complete EachWord q value) s of from same h = tt
-made_by f (complete Named q value) not_flat of from same h = tt
-made_by f (complete Named q value) (alternative r other) of from same h = tt
-made_by f (complete Named q value) (single k r group gap) of from same h = tt
-made_by f (complete Named q value) (complete k r other) of from same h = tt
-made_by f (complete Named q value) (product r fields) of from same h = record {
+made_by f (complete ByName q value) not_flat of from same h = tt
+made_by f (complete ByName q value) (alternative r other) of from same h = tt
+made_by f (complete ByName q value) (single k r group gap) of from same h = tt
+made_by f (complete ByName q value) (complete k r other) of from same h = tt
+made_by f (complete ByName q value) (product r fields) of from same h = record {
   part = h.part;
   read = λ os v i. subst (λ x. value (mine q os) x) (sym (same i.from v i.made))
       (h.read os i.from i.read);
@@ -247,7 +247,7 @@ made_field {A = A} f a s of from same h = record { by = of_record s (made_by f a
 
 -- What a value of the record says of its field: it is read off the field's own keys on the line.
 pub field_value : {V A : Type 0} (s : FlatForm V) (q : Roles) (own : List Piece → A → Type 0)
-    (of : V → A) → IsNamed q → IsFieldOf (complete Named q own) s of → (context : Context) (v : V)
+    (of : V → A) → IsNamed q → IsFieldOf (complete ByName q own) s of → (context : Context) (v : V)
     → RecordValue (product_roles s) (product_reading s).value context v
     → own (pieces q (line_cells context)) (of v)
 field_value not_flat q own of n h context v i = absurd i.read

@@ -9,7 +9,7 @@ use Rattle.bpaf_laws.specs.Reading.{Outcome}
 use Rattle.bpaf_exact.specs.Pieces.{Role, Foreign, Alone, WithNext, Roles, is_own_role, no_roles}
 use Rattle.bpaf_exact.specs.Pieces.{either}
 use Rattle.bpaf_exact.specs.Names.{Owns, are_all_apart}
-use Rattle.bpaf_exact.specs.Flat.{ErrorClass, Refused, FieldKind, Named, OneWord, EachWord}
+use Rattle.bpaf_exact.specs.Flat.{ErrorClass, Refused, FieldKind, ByName, OneWord, EachWord}
 use Rattle.bpaf_exact.specs.Flat.{FieldsLaw}
 use Rattle.bpaf_exact.specs.Flat.{keys, Before}
 use Rattle.bpaf_exact.specs.Single.{StepsRan, repeated}
@@ -148,7 +148,7 @@ flat_choices_law P T outcome keys form agrees law (p ∷ ps) each =
 -- a repeat has the keys of the field
 repeated_keys : (k : FieldKind) (q : Roles) (names : List Names) → Owns (keys k q) names
     → Owns (keys (repeated k) q) names
-repeated_keys Named q names o = o
+repeated_keys ByName q names o = o
 repeated_keys OneWord q names o = o
 repeated_keys EachWord q names o = o
 
@@ -160,8 +160,8 @@ pub flat_listed_law : (T B : Type 0) (inner : Outcome T) (idle : Bool) (f : Clos
     (flat_closed f (flat_repeat s))
 flat_listed_law T B inner idle f c names not_flat g l = tt
 flat_listed_law T B inner idle f c names (alternative q value) g l = let m =
-    repeat_law T inner Named q _ _ (alternative_single T inner q value l.0) idle in
-    (closed_law (List T) B _ Named q _ m f g c, l.1)
+    repeat_law T inner ByName q _ _ (alternative_single T inner q value l.0) idle in
+    (closed_law (List T) B _ ByName q _ m f g c, l.1)
 flat_listed_law T B inner idle f c names (single k q group gap) g l = let m =
     repeat_law T inner k q group gap l.0 idle in
     (closed_law (List T) B _ (repeated k) q _ m f g c, repeated_keys k q names l.1)
@@ -173,7 +173,7 @@ pub some_agrees : (T : Type 0) (inner : Outcome T) (names : List Names) (s : Fla
     → FormLaw inner names s → Agrees (some_closure T) (flat_repeat s)
 some_agrees T inner names not_flat l = tt
 some_agrees T inner names (alternative q value) l =
-    some_agrees_on T inner Named q _ _ (alternative_single T inner q value l.0)
+    some_agrees_on T inner ByName q _ _ (alternative_single T inner q value l.0)
 some_agrees T inner names (single k q group gap) l = some_agrees_on T inner k q group gap l.0
 some_agrees T inner names (complete k q value) l = tt
 some_agrees T inner names (product q fields) l = tt
@@ -183,7 +183,7 @@ pub flat_last_law : (T : Type 0) (inner : Outcome T) (names : List Names) (s : F
     → FormLaw inner names s → FormLaw (LastRan T inner) names (flat_last s)
 flat_last_law T inner names not_flat l = tt
 flat_last_law T inner names (alternative q value) l =
-    (last_of_law T inner Named q _ _ (alternative_single T inner q value l.0), l.1)
+    (last_of_law T inner ByName q _ _ (alternative_single T inner q value l.0), l.1)
 flat_last_law T inner names (single k q group gap) l =
     (last_of_law T inner k q group gap l.0, repeated_keys k q names l.1)
 flat_last_law T inner names (complete k q value) l = tt
@@ -194,7 +194,7 @@ pub flat_optional_law : (T : Type 0) (inner : Outcome T) (names : List Names) (s
     → FormLaw inner names s → FormLaw (OptionalRan T inner) names (flat_optional s)
 flat_optional_law T inner names not_flat l = tt
 flat_optional_law T inner names (alternative q value) l =
-    (optional_law T inner Named q _ _ (alternative_single T inner q value l.0), l.1)
+    (optional_law T inner ByName q _ _ (alternative_single T inner q value l.0), l.1)
 flat_optional_law T inner names (single k q group gap) l =
     (optional_law T inner k q group gap l.0, l.1)
 flat_optional_law T inner names (complete k q value) l = tt
@@ -206,7 +206,7 @@ pub flat_fallback_law : (T : Type 0) (inner : Outcome T) (f : Closure (Unit {0})
     → FormLaw (FallbackRan T inner f) names (flat_fallback f s)
 flat_fallback_law T inner f decides names not_flat l = tt
 flat_fallback_law T inner f decides names (alternative q value) l =
-    (fallback_law T inner Named q _ _ (alternative_single T inner q value l.0) f decides, l.1)
+    (fallback_law T inner ByName q _ _ (alternative_single T inner q value l.0) f decides, l.1)
 flat_fallback_law T inner f decides names (single k q group gap) l =
     (fallback_law T inner k q group gap l.0 f decides, l.1)
 flat_fallback_law T inner f decides names (complete k q value) l = tt
@@ -217,7 +217,7 @@ pub flat_field_law : (T : Type 0) (outcome : Outcome T) (names : List Names) (s 
     → FormLaw outcome names s → FormLaw outcome names (flat_field s)
 flat_field_law T outcome names not_flat l = tt
 flat_field_law T outcome names (alternative q value) l =
-    (single_law T outcome Named q _ _ (alternative_single T outcome q value l.0), l.1)
+    (single_law T outcome ByName q _ _ (alternative_single T outcome q value l.0), l.1)
 flat_field_law T outcome names (single k q group gap) l =
     (single_law T outcome k q group gap l.0, l.1)
 flat_field_law T outcome names (complete k q value) l = l
@@ -233,7 +233,7 @@ foreign_of WithNext e = cc
 follows : (k : FieldKind) (q r : Roles) (own others : List Names) → Owns (keys k q) own
     → Owns r others
     → may_follow k own others ≡ true → Before k q r
-follows Named q r own others a b h = apart_of_names q r own others a b h
+follows ByName q r own others a b h = apart_of_names q r own others a b h
 follows OneWord q r own [] a b h = λ i. foreign_of (r i) (b.own i)
 follows OneWord q r own (names ∷ others) a b h = absurd cc
 follows EachWord q r own [] a b h = λ i. foreign_of (r i) (b.own i)

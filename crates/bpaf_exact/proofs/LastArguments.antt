@@ -1,7 +1,7 @@
 -- An argument that takes all its keys at once keeps to the laws of a field.
 use Rattle.std.proofs.Common.{◌≡◌, ℕ, true, false, List, [], ◌∷◌, ◌++◌, Ok, refl, sym, ap, ◌∙◌}
 use Rattle.std.proofs.Common.{subst, ⊎_elim}
-use Rattle.bpaf_text.specs.Named.{KeyWithValue, argument_part}
+use Rattle.bpaf_text.specs.ByName.{KeyWithValue, argument_part}
 use Rattle.bpaf_words.specs.declared.arg.Arg.{Arg}
 use Rattle.bpaf_words.specs.Items.{item_text}
 use Rattle.bpaf_line.specs.declared.error.Error.{Error}
@@ -12,7 +12,7 @@ use Rattle.bpaf_laws.specs.Argument.{ArgumentOutcome, ArgumentFails, TakesKeysWi
 use Rattle.bpaf_laws.specs.Argument.{TakesOwnText, TakesBefore, GetsText, is_key_with_value}
 use Rattle.bpaf_exact.specs.Pieces.{WithNext, Roles, Piece, One, Two, pieces}
 use Rattle.bpaf_exact.specs.Pieces.{takes_none, takes_more}
-use Rattle.bpaf_exact.specs.Flat.{class, class_of, cells, IsWhole, Named, Steady, Refused}
+use Rattle.bpaf_exact.specs.Flat.{class, class_of, cells, IsWhole, ByName, Steady, Refused}
 use Rattle.bpaf_exact.specs.Single.{no_gap, TakesAny, SingleOk, took, SingleErr, of_memory}
 use Rattle.bpaf_exact.specs.Single.{of_missing, of_piece, SingleLaw}
 use Rattle.bpaf_exact.specs.Leaves.{argument_roles, HaveValues, no_more, one_more, LastGroup}
@@ -164,7 +164,7 @@ module _ (T : Type 0) (means : List ℕ → T → Type 0) (argument : KeyWithVal
 
   -- a value is that of the last piece
   last_ok : (s t : Situation) (v : T) → IsWhole s → ArgumentOutcome means argument s (Ok v) t
-      → SingleOk T Named q (LastGroup T means) (no_gap T) s v t
+      → SingleOk T ByName q (LastGroup T means) (no_gap T) s v t
   last_ok s t v w o =
       let got = gets_all s t o.0 o.1 in
       let a = got.pieces_are in
@@ -197,7 +197,7 @@ module _ (T : Type 0) (means : List ℕ → T → Type 0) (argument : KeyWithVal
   -- where a key has no value, the pieces have none
   bare_refused : (s t : Situation) (e : Error) (k : Arg) (tail : List Piece) → class e ≡ Refused
       → TookSome s t → pieces q (cells t) ≡ One k ∷ tail
-      → SingleErr T Named q (LastGroup T means) (no_gap T) s e t
+      → SingleErr T ByName q (LastGroup T means) (no_gap T) s e t
   bare_refused s t e k tail c some is =
       let there : pieces q (cells s) ≡ some.pairs ++ One k ∷ tail =
       some.is ∙ ap (λ z. some.pairs ++ z) is in
@@ -213,7 +213,7 @@ module _ (T : Type 0) (means : List ℕ → T → Type 0) (argument : KeyWithVal
   -- a refusal: no piece, one without a value, or a last one that means none
   last_err : (s t : Situation) (e : Error) (m : Message) → class e ≡ class_of m
       → ArgumentFails means argument s m t
-      → SingleErr T Named q (LastGroup T means) (no_gap T) s e t
+      → SingleErr T ByName q (LastGroup T means) (no_gap T) s e t
   last_err s t e Memory c o = of_memory c
   last_err s t e (ParseFailed place fault) c o =
       let got = gets_all s t o.0 o.1 in
@@ -225,7 +225,7 @@ module _ (T : Type 0) (means : List ℕ → T → Type 0) (argument : KeyWithVal
       let b = bare_taken (is_key_with_value argument) q t key (test argument plain) o.0.0 m o.0.1 in
       bare_refused s t e m.item b.tail c (took_some s t before.0 before.1) b.is
   last_err s t e other c o =
-      subst (λ z. SingleErr T Named q (LastGroup T means) (no_gap T) s e z) (sym o.2)
+      subst (λ z. SingleErr T ByName q (LastGroup T means) (no_gap T) s e z) (sym o.2)
       (of_missing
       (c ∙ missing_class other
       (absence_missing s (argument_part argument) argument.named.envs no_envs other o.1.1))
@@ -233,7 +233,7 @@ module _ (T : Type 0) (means : List ℕ → T → Type 0) (argument : KeyWithVal
       (steady_refl s))
 
   -- such an argument keeps to the laws of a field
-  pub last_argument_law : SingleLaw T (ArgumentOutcome means argument) Named q (LastGroup T means)
+  pub last_argument_law : SingleLaw T (ArgumentOutcome means argument) ByName q (LastGroup T means)
       (no_gap T)
   last_argument_law = record {
     own = named argument plain;

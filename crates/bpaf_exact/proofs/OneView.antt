@@ -4,13 +4,13 @@ use Rattle.std.proofs.Common.{◌≡◌, ℕ, Bool, true, false, List, [], ◌�
 use Rattle.std.proofs.Common.{None, refl, sym, ap, ◌∙◌, subst}
 use Rattle.std.specs.Global.{Vec}
 use Rattle.bpaf_doc.specs.Names.{Names}
-use Rattle.bpaf_text.specs.Named.{Named as Key, KeyWithValue}
+use Rattle.bpaf_text.specs.ByName.{ByName as Key, KeyWithValue}
 use Rattle.bpaf_words.specs.Items.{item_text}
 use Rattle.bpaf_line.specs.Situation.{Context}
 use Rattle.bpaf_laws.specs.Reading.{Outcome}
 use Rattle.bpaf_exact.specs.Pieces.{Roles, Piece, One, Two, is_own}
 use Rattle.bpaf_exact.specs.Names.{are_all_apart}
-use Rattle.bpaf_exact.specs.Flat.{FieldsLaw, FieldsReading, FieldKind, Named}
+use Rattle.bpaf_exact.specs.Flat.{FieldsLaw, FieldsReading, FieldKind, ByName}
 use Rattle.bpaf_exact.specs.Single.{Groups, Gap, FrontOf, Own, own_none, own_more, SingleLaw}
 use Rattle.bpaf_exact.specs.Single.{SingleValue, of_group, of_gap, OwnList, listed}
 use Rattle.bpaf_exact.specs.Single.{listed_and_absent, only_absent}
@@ -309,7 +309,7 @@ module _ (T X : Type 0) (see : T → X) (inner : Outcome T) where
       → HasOneView (map see) (flat_repeat s)
   repeat_view names not_flat l u = tt
   repeat_view names (alternative q value) l u =
-      list_view T X see inner Named q _ _ (alternative_single T inner q value l.0)
+      list_view T X see inner ByName q _ _ (alternative_single T inner q value l.0)
       (front_view T X see value u) (λ v w a b. absurd a)
   repeat_view names (single k q group gap) l u = list_view T X see inner k q group gap l.0 u.0 u.1
   repeat_view names (complete k q value) l u = tt
@@ -321,7 +321,7 @@ module _ (T X : Type 0) (see : T → X) (inner : Outcome T) where
       → HasOneView see (flat_last s)
   last_of_view names not_flat l u = tt
   last_of_view names (alternative q value) l u =
-      last_view T X see inner Named q _ _ (alternative_single T inner q value l.0)
+      last_view T X see inner ByName q _ _ (alternative_single T inner q value l.0)
       (front_view T X see value u) (λ v w a b. absurd a)
   last_of_view names (single k q group gap) l u = last_view T X see inner k q group gap l.0 u.0 u.1
   last_of_view names (complete k q value) l u = tt
@@ -332,7 +332,7 @@ module _ (T X : Type 0) (see : T → X) (inner : Outcome T) where
       → HasOneView see s → HasOneView (option_view see) (flat_optional s)
   optional_field_view names not_flat l u = tt
   optional_field_view names (alternative q value) l u =
-      optional_value_view T X see inner Named q _ _ (alternative_single T inner q value l.0)
+      optional_value_view T X see inner ByName q _ _ (alternative_single T inner q value l.0)
       (front_view T X see value u) (λ v w a b. absurd a)
   optional_field_view names (single k q group gap) l u =
       optional_value_view T X see inner k q group gap l.0 u.0 u.1
@@ -345,7 +345,7 @@ module _ (T X : Type 0) (see : T → X) (inner : Outcome T) where
       → HasOneView see (flat_fallback f s)
   fallback_view f given names not_flat l u = tt
   fallback_view f given names (alternative q value) l u =
-      fallback_value_view T X see inner Named q _ _ (alternative_single T inner q value l.0)
+      fallback_value_view T X see inner ByName q _ _ (alternative_single T inner q value l.0)
       (front_view T X see value u) (λ v w a b. absurd a) f given
   fallback_view f given names (single k q group gap) l u =
       fallback_value_view T X see inner k q group gap l.0 u.0 u.1 f given
@@ -357,7 +357,7 @@ module _ (T X : Type 0) (see : T → X) (inner : Outcome T) where
       → HasOneView see (flat_field s)
   field_view names not_flat l u = tt
   field_view names (alternative q value) l u =
-      value_view T X see inner Named q _ _ (alternative_single T inner q value l.0)
+      value_view T X see inner ByName q _ _ (alternative_single T inner q value l.0)
       (front_view T X see value u) (λ v w a b. absurd a)
   field_view names (single k q group gap) l u = value_view T X see inner k q group gap l.0 u.0 u.1
   field_view names (complete k q value) l u = u

@@ -3,11 +3,11 @@ use Rattle.std.proofs.Common.{◌≡◌, ℕ, Bool, true, false, ◌||◌, List,
 use Rattle.std.proofs.Common.{refl, subst, if◌then◌else◌}
 use Rattle.std.proofs.lemmas.List.{append-nil}
 use Rattle.bpaf_doc.specs.Names.{Names}
-use Rattle.bpaf_text.specs.Named.{Named as Key, KeyWithValue}
+use Rattle.bpaf_text.specs.ByName.{ByName as Key, KeyWithValue}
 use Rattle.bpaf_words.specs.Items.{is_key_of}
 use Rattle.bpaf_exact.specs.Pieces.{Role, Foreign, Alone, WithNext, is_own_role, either}
 use Rattle.bpaf_exact.specs.Pieces.{no_roles}
-use Rattle.bpaf_exact.specs.Flat.{Named, OneWord, EachWord, keys, both_reading}
+use Rattle.bpaf_exact.specs.Flat.{ByName, OneWord, EachWord, keys, both_reading}
 use Rattle.bpaf_exact.specs.Leaves.{flag_roles, flag_by, flag_field, argument_by}
 use Rattle.bpaf_exact.specs.Leaves.{argument_roles}
 use Rattle.bpaf_exact.specs.Leaves.{argument_field, word_field}
@@ -94,7 +94,7 @@ repeat_by : {T : Type 0} (names : List Names) (s : FlatForm T) → FormOwns name
     → FormOwns names (flat_repeat s)
 repeat_by names not_flat h = tt
 repeat_by names (alternative q value) h = h
-repeat_by names (single Named q group gap) h = h
+repeat_by names (single ByName q group gap) h = h
 repeat_by names (single OneWord q group gap) h = h
 repeat_by names (single EachWord q group gap) h = h
 repeat_by names (complete k q value) h = tt

@@ -8,7 +8,7 @@ use Rattle.bpaf_words.specs.Items.{item_text}
 use Rattle.bpaf_words.specs.declared.arg.Arg.{Arg}
 use Rattle.bpaf_exact.specs.Pieces.{Role, Foreign, Alone, WithNext, Roles, Piece, One, Two}
 use Rattle.bpaf_exact.specs.Pieces.{is_own_role, others, either, either_role, no_roles}
-use Rattle.bpaf_exact.specs.Flat.{FieldKind, Named, OneWord, EachWord, BothValue, both_reading}
+use Rattle.bpaf_exact.specs.Flat.{FieldKind, ByName, OneWord, EachWord, BothValue, both_reading}
 use Rattle.bpaf_exact.specs.Flat.{keys}
 use Rattle.bpaf_exact.specs.Flat.{front, back, FieldsReading}
 use Rattle.bpaf_exact.specs.Leaves.{WordValue}
@@ -74,7 +74,7 @@ first_words_by own behind not_flat s owned = tt
 first_words_by own behind (alternative q value) s owned = tt
 first_words_by own behind (single k q group gap) s owned = tt
 first_words_by own behind (product q fields) s owned = tt
-first_words_by own behind (complete Named q value) s owned = tt
+first_words_by own behind (complete ByName q value) s owned = tt
 first_words_by own behind (complete OneWord q value) not_flat owned = tt
 first_words_by own behind (complete OneWord q value) (alternative r other) owned = tt
 first_words_by own behind (complete OneWord q value) (single k r group gap) owned = tt
@@ -137,7 +137,7 @@ module _ {A B C : Type 0} (own behind : List Names) (k : FieldKind) (p : Roles)
       by_kind : (k : FieldKind) → may_follow k own behind ≡ true
           → ReadsWords (A × C) B (either (keys k p) r) (BothValue k p first fields.value) j
           (λ os. rest (words_behind_field {A = A} (complete k p first) os)) value (λ v. of v.1)
-      by_kind Named e = record {
+      by_kind ByName e = record {
         read = λ os v i. subst (λ z. value (front j (rest z)) (of v.1)) (others_both p r os)
             (h.read (others p os) v.1 i.1);
       }
@@ -152,7 +152,7 @@ later_words_by own behind a not_flat s rest of owned h = tt
 later_words_by own behind a (alternative q value) s rest of owned h = tt
 later_words_by own behind a (single k q group gap) s rest of owned h = tt
 later_words_by own behind a (product q fields) s rest of owned h = tt
-later_words_by own behind a (complete Named q value) s rest of owned h = tt
+later_words_by own behind a (complete ByName q value) s rest of owned h = tt
 later_words_by own behind not_flat (complete OneWord q value) s rest of owned h = tt
 later_words_by own behind (alternative p first) (complete OneWord q value) s rest of owned h = tt
 later_words_by own behind (single k p group gap) (complete OneWord q value) s rest of owned h = tt
@@ -204,7 +204,7 @@ last_words_by not_flat = tt
 last_words_by (alternative q value) = tt
 last_words_by (single k q group gap) = tt
 last_words_by (product q fields) = tt
-last_words_by (complete Named q value) = tt
+last_words_by (complete ByName q value) = tt
 last_words_by (complete OneWord q value) = record {
   read = λ os v i. subst (λ z. value (front OneWord z) v)
       (sym (others_none (either no_roles no_roles) (λ k. refl) os)) i.read;
@@ -223,7 +223,7 @@ made_words_by f not_flat rest s of from same h = tt
 made_words_by f (alternative q value) rest s of from same h = tt
 made_words_by f (single k q group gap) rest s of from same h = tt
 made_words_by f (product q fields) rest s of from same h = tt
-made_words_by f (complete Named q value) rest s of from same h = tt
+made_words_by f (complete ByName q value) rest s of from same h = tt
 made_words_by f (complete OneWord q value) rest not_flat of from same h = tt
 made_words_by f (complete OneWord q value) rest (alternative r other) of from same h = tt
 made_words_by f (complete OneWord q value) rest (single k r group gap) of from same h = tt

@@ -12,7 +12,7 @@ use Rattle.bpaf_exact.specs.Pieces.{Cells, Role, Foreign, Alone, WithNext, Roles
 use Rattle.bpaf_exact.specs.Pieces.{is_own_role, is_own, others, either_role, either, IsNamed}
 use Rattle.bpaf_exact.specs.Pieces.{Apart, Cut, at_end, passed, flag, argument, word, begin_piece}
 use Rattle.bpaf_exact.specs.Pieces.{pieces, TakesPieces}
-use Rattle.bpaf_exact.specs.Flat.{cells, NonePresent, IsWhole, Steady, FieldKind, Named, OneWord}
+use Rattle.bpaf_exact.specs.Flat.{cells, NonePresent, IsWhole, Steady, FieldKind, ByName, OneWord}
 use Rattle.bpaf_exact.specs.Flat.{EachWord, front, back, share, left, keys, IsWords, OwnItems}
 use Rattle.bpaf_exact.specs.Flat.{LeavesNone, FieldTook, FieldLaw, ReadOff, GivesAll, FieldsLaw}
 use Rattle.bpaf_exact.specs.Flat.{Before, FieldsReading, Gives, both_reading, class, OfMemory}
@@ -175,7 +175,7 @@ pub record StepBack (k : FieldKind) (q r : Roles) (cs : Cells) (after : List Pie
 
 -- that of a named field
 named_back : (q r : Roles) {cs ds : Cells} {os : List Piece} → IsNamed q → Apart q r
-    → TakesPieces q cs ds → Cut r ds os → StepBack Named q r cs os
+    → TakesPieces q cs ds → Cut r ds os → StepBack ByName q r cs os
 named_back q r n a t c =
     let w = widen q r n a c in
     let p = put_back_some q r t w.cut in
@@ -216,14 +216,14 @@ pub step_back : (k : FieldKind) (q r : Roles) (T : Type 0)
     (value : List Piece → T → Type 0) {s m : Situation} {v : T} {os : List Piece}
     → OwnItems k q → Before k q r → FieldTook T k q value s v m → Cut r (cells m) os
     → StepBack k q r (cells s) os
-step_back Named q r T value n b f c = named_back q r n b f.takes c
+step_back ByName q r T value n b f c = named_back q r n b f.takes c
 step_back OneWord q r T value n b f c = one_back q r n (record { none = b }) f.takes (f.rest tt) c
 step_back EachWord q r T value n b f c = each_back q r n (record { none = b }) f.takes (f.rest tt) c
 
 -- a field that left nothing of its own
 pub none_left : (k : FieldKind) (q r : Roles) {cs : Cells} {os : List Piece} → OwnItems k q
     → Before k q r → Cut r cs os → LeavesNone k q cs
-none_left Named q r n b c = no_own_in_cut q r n b c
+none_left ByName q r n b c = no_own_in_cut q r n b c
 none_left OneWord q r n b c = tt
 none_left EachWord q r n b c = tt
 
@@ -232,7 +232,7 @@ none_left EachWord q r n b c = tt
 -- a field's own pieces are its share of the cut
 pub own_share : (k : FieldKind) (q r : Roles) {cs : Cells} {os : List Piece} → OwnItems k q
     → Before k q r → Cut (either (keys k q) r) cs os → front k (pieces q cs) ≡ share k q os
-own_share Named q r n b c = pieces_of_cut q r n c
+own_share ByName q r n b c = pieces_of_cut q r n c
 own_share OneWord q r n b c = ap (front OneWord) (words_of_cut q r n (record { none = b }) c)
 own_share EachWord q r n b c = words_of_cut q r n (record { none = b }) c
 
@@ -240,7 +240,7 @@ own_share EachWord q r n b c = words_of_cut q r n (record { none = b }) c
 pub step_on : (k : FieldKind) (q r : Roles) {cs ds : Cells} {os : List Piece} → OwnItems k q
     → Before k q r → TakesPieces q cs ds → pieces q ds ≡ back k (pieces q cs)
     → Cut (either (keys k q) r) cs os → Cut r ds (left k q os)
-step_on Named q r n b t e c =
+step_on ByName q r n b t e c =
     let p = take_some_from q r n t c in
     let i = narrow q r n e p.cut in
     subst (Cut r _) (sym i.all ∙ p.alike) i.cut
@@ -260,7 +260,7 @@ step_on EachWord q r n b t e c =
 -- the keys of all are keys
 both_named : (k : FieldKind) (q r : Roles) → OwnItems k q → IsNamed r
     → IsNamed (either (keys k q) r)
-both_named Named q r n m =
+both_named ByName q r n m =
     record {
       only_keys =
           λ a h. either_foreign (q a) (r a) Foreign (n.only_keys a h) (m.only_keys a h);

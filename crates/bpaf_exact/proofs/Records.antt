@@ -9,7 +9,7 @@ use Rattle.bpaf_exact.specs.Pieces.{Cells, Roles, Role, Foreign, Alone, WithNext
 use Rattle.bpaf_exact.specs.Pieces.{Cut, either, either_role, no_roles}
 use Rattle.bpaf_exact.specs.Flat.{cells, NonePresent, no_place, none_here, IsWhole, Steady}
 use Rattle.bpaf_exact.specs.Flat.{FieldKind}
-use Rattle.bpaf_exact.specs.Flat.{Named, OneWord, EachWord, keys, OwnItems, FieldLaw, FieldsLaw}
+use Rattle.bpaf_exact.specs.Flat.{ByName, OneWord, EachWord, keys, OwnItems, FieldLaw, FieldsLaw}
 use Rattle.bpaf_exact.specs.Flat.{ReadOff, GivesAll, Before, FieldsReading}
 use Rattle.bpaf_exact.specs.Single.{present_count}
 use Rattle.bpaf_exact.specs.Wrappers.{map_closure}
@@ -38,7 +38,7 @@ module _ (T : Type 0) (outcome : Outcome T)
   before_none = by_kind k
     where
       by_kind : (z : FieldKind) → Before z q no_roles
-      by_kind Named = record { left = λ a h. refl; right = λ a h. absurd cc }
+      by_kind ByName = record { left = λ a h. refl; right = λ a h. absurd cc }
       by_kind OneWord = λ a. refl
       by_kind EachWord = λ a. refl
 
@@ -52,7 +52,7 @@ module _ (T : Type 0) (outcome : Outcome T)
       alone WithNext e = absurd cc
 
       by_kind : (z : FieldKind) → OwnItems z q → IsNamed (either (keys z q) no_roles)
-      by_kind Named n = record { only_keys = λ a h. alone (q a) (n.only_keys a h) }
+      by_kind ByName n = record { only_keys = λ a h. alone (q a) (n.only_keys a h) }
       by_kind OneWord n = record { only_keys = λ a h. refl }
       by_kind EachWord n = record { only_keys = λ a h. refl }
 

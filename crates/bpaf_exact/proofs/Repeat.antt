@@ -7,7 +7,8 @@ use Rattle.bpaf_laws.specs.Reading.{Outcome}
 use Rattle.bpaf_exact.specs.Pieces.{Cells, Roles, Piece, pieces, TakesPieces, takes_none}
 use Rattle.bpaf_exact.specs.Pieces.{takes_more}
 use Rattle.bpaf_exact.specs.Flat.{ErrorClass, OfMemory, OfMissing, Caught, Refused, class, cells}
-use Rattle.bpaf_exact.specs.Flat.{IsWhole, Steady, FieldKind, Named, OneWord, EachWord, front, back}
+use Rattle.bpaf_exact.specs.Flat.{IsWhole, Steady, FieldKind, ByName, OneWord, EachWord, front}
+use Rattle.bpaf_exact.specs.Flat.{back}
 use Rattle.bpaf_exact.specs.Flat.{OwnItems, FieldLaw, Gives}
 use Rattle.bpaf_exact.specs.Single.{Groups, Own, own_none, own_more, TakesAny, Readable, Gap}
 use Rattle.bpaf_exact.specs.Single.{SingleOk, gave_absent, took, SingleErr, of_memory, of_missing}
@@ -35,7 +36,7 @@ same_takes q {cs = cs} e = subst (TakesPieces q cs) (sym e) takes_none
 -- what has an own list can be read
 readable : {T : Type 0} (k : FieldKind) (group : Groups T) {os : List Piece} {vs : List T}
     → Own T group os vs → Readable k group os
-readable Named group {vs = vs} o = (vs, o)
+readable ByName group {vs = vs} o = (vs, o)
 readable OneWord group o = tt
 readable EachWord group o = tt
 
@@ -481,7 +482,7 @@ module _ (T : Type 0) (inner : Outcome T)
   front_all os = by_kind k
     where
       by_kind : (z : FieldKind) → front (repeated z) os ≡ os
-      by_kind Named = refl
+      by_kind ByName = refl
       by_kind OneWord = refl
       by_kind EachWord = refl
 
@@ -490,7 +491,7 @@ module _ (T : Type 0) (inner : Outcome T)
   back_none os = by_kind k
     where
       by_kind : (z : FieldKind) → back (repeated z) os ≡ []
-      by_kind Named = refl
+      by_kind ByName = refl
       by_kind OneWord = refl
       by_kind EachWord = refl
 
@@ -499,7 +500,7 @@ module _ (T : Type 0) (inner : Outcome T)
   own_repeated = by_kind k l.own
     where
       by_kind : (z : FieldKind) → OwnItems z q → OwnItems (repeated z) q
-      by_kind Named o = o
+      by_kind ByName o = o
       by_kind OneWord o = o
       by_kind EachWord o = o
 

@@ -8,7 +8,7 @@ use Rattle.bpaf_exact.specs.Pieces.{Foreign, Roles, Piece, One, Two, IsNamed, Cu
 use Rattle.bpaf_exact.specs.Pieces.{flag, argument, word, either, no_roles, word_roles, mine}
 use Rattle.bpaf_exact.specs.Pieces.{others}
 use Rattle.bpaf_exact.specs.Pieces.{is_key}
-use Rattle.bpaf_exact.specs.Flat.{Named, OneWord, EachWord, BothValue, both_reading, keys}
+use Rattle.bpaf_exact.specs.Flat.{ByName, OneWord, EachWord, BothValue, both_reading, keys}
 use Rattle.bpaf_exact.specs.Single.{FrontOf, own_none, own_more, no_gap, SingleValue, of_group}
 use Rattle.bpaf_exact.specs.Single.{of_gap}
 use Rattle.bpaf_exact.specs.Single.{OwnList, listed, listed_and_absent, only_absent}
@@ -87,14 +87,14 @@ letter c = Word (c ∷ [])
 -- the items of the switch, the argument and a word
 abbrev three_roles : Roles
 three_roles =
-    either (keys Named v_roles)
-    (either (keys Named n_roles) (either (keys OneWord word_roles) no_roles))
+    either (keys ByName v_roles)
+    (either (keys ByName n_roles) (either (keys OneWord word_roles) no_roles))
 
 -- their values
 abbrev ThreeValue : List Piece → Bool × (ℕ × List ℕ) → Type 0
 ThreeValue =
-    BothValue Named v_roles SwitchValue
-    (BothValue Named n_roles NumberValue (LastValue (List ℕ) OneWord word_roles TextValue))
+    BothValue ByName v_roles SwitchValue
+    (BothValue ByName n_roles NumberValue (LastValue (List ℕ) OneWord word_roles TextValue))
 
 -- a piece alone, and its value
 one_front : {T : Type 0} (value : Piece → T → Type 0) (o : Piece) (v : T) → value o v
@@ -190,7 +190,7 @@ word_too_many =
 
 -- the items of the argument and a word
 abbrev two_roles : Roles
-two_roles = either (keys Named n_roles) (either (keys OneWord word_roles) no_roles)
+two_roles = either (keys ByName n_roles) (either (keys OneWord word_roles) no_roles)
 
 -- they are keys
 two_named : IsNamed two_roles
@@ -211,7 +211,7 @@ two_pieces o p v os e (of_gap a) = a
 -- `-n 3 -n 4` to an argument and a word: there is no value, since `4` belongs to its key
 value_of_a_key : (v : ℕ × List ℕ)
     → RecordValue two_roles
-    (BothValue Named n_roles NumberValue (LastValue (List ℕ) OneWord word_roles TextValue))
+    (BothValue ByName n_roles NumberValue (LastValue (List ℕ) OneWord word_roles TextValue))
     (line_of (n_key ∷ letter 3 ∷ n_key ∷ letter 4 ∷ [])) v
     → ⊥
 value_of_a_key v r =
@@ -225,11 +225,11 @@ value_of_a_key v r =
 -- the switch under `many`
 abbrev SwitchesValue : List Piece → List Bool → Type 0
 SwitchesValue =
-    LastValue (List Bool) Named v_roles
+    LastValue (List Bool) ByName v_roles
     (OwnList Bool (FrontOf Bool (FlagValue (exactly true))) (switch_gap (exactly false)))
 
 -- the empty line gives the absent value once
-switch_repeated_absent : RecordValue (either (keys Named v_roles) no_roles) SwitchesValue
+switch_repeated_absent : RecordValue (either (keys ByName v_roles) no_roles) SwitchesValue
     (line_of []) (false ∷ [])
 switch_repeated_absent = record {
   cut_into = [];
@@ -238,7 +238,7 @@ switch_repeated_absent = record {
 }
 
 -- `-v` gives the present value alone
-switch_repeated_present : RecordValue (either (keys Named v_roles) no_roles) SwitchesValue
+switch_repeated_present : RecordValue (either (keys ByName v_roles) no_roles) SwitchesValue
     (line_of (v_key ∷ [])) (true ∷ [])
 switch_repeated_present = record {
   cut_into = One v_key ∷ [];
@@ -310,8 +310,8 @@ abbrev b_key : Arg
 b_key = Short 98 false []
 
 -- a choice under `many` gathers in line order
-line_order : RecordValue (either (keys Named choice_roles) no_roles)
-    (LastValue (List ℕ) Named choice_roles (OwnList ℕ (FrontOf ℕ ChoiceValue) (no_gap ℕ)))
+line_order : RecordValue (either (keys ByName choice_roles) no_roles)
+    (LastValue (List ℕ) ByName choice_roles (OwnList ℕ (FrontOf ℕ ChoiceValue) (no_gap ℕ)))
     (line_of (b_key ∷ letter 3 ∷ a_key ∷ letter 1 ∷ b_key ∷ letter 2 ∷ [])) (3 ∷ 1 ∷ 2 ∷ [])
 line_order = record {
   cut_into = Two b_key (letter 3) ∷ Two a_key (letter 1) ∷ Two b_key (letter 2) ∷ [];
@@ -327,14 +327,14 @@ line_order = record {
 }
 
 -- `-b 3 -a xy` to it: `-a` can't read its value, so there is none
-failed_alternative : ¬ ((last_reading Named choice_roles
+failed_alternative : ¬ ((last_reading ByName choice_roles
     (OwnList ℕ (FrontOf ℕ ChoiceValue) (no_gap ℕ))).each
     (Two b_key (letter 3) ∷ Two a_key (Word (9 ∷ 8 ∷ [])) ∷ []))
 failed_alternative =
     bad_occurrence _ _ (Two b_key (letter 3) ∷ Two a_key (Word (9 ∷ 8 ∷ [])) ∷ []) ChoiceValue
     (OwnList ℕ (FrontOf ℕ ChoiceValue) (no_gap ℕ))
     (repeat_bad ℕ ChoiceValue (no_gap ℕ))
-    (last_part Named choice_roles (OwnList ℕ (FrontOf ℕ ChoiceValue) (no_gap ℕ)))
+    (last_part ByName choice_roles (OwnList ℕ (FrontOf ℕ ChoiceValue) (no_gap ℕ)))
     (bad_later {o = Two b_key (letter 3)} (bad_here {o = Two a_key (Word (9 ∷ 8 ∷ []))} unread))
   where
     unread : (n : ℕ) → ChoiceValue (Two a_key (Word (9 ∷ 8 ∷ []))) n → ⊥
@@ -345,12 +345,12 @@ abbrev switch : FlatForm Bool
 switch = flag_by (λ kept v. v ≡ kept) (short 118) true [] (Some false)
 
 -- `-v -v` to the switch and a word: one occurrence too many
-switch_twice : ¬ ((both_reading Named v_roles SwitchValue
+switch_twice : ¬ ((both_reading ByName v_roles SwitchValue
     (last_reading OneWord word_roles TextValue)).each (One v_key ∷ One v_key ∷ []))
 switch_twice =
     surplus_occurrence _ _ (One v_key ∷ One v_key ∷ []) SwitchValue
     (field_no_surplus switch (front_one Bool (FlagValue (exactly true))))
-    (first_part Named v_roles SwitchValue (last_reading OneWord word_roles TextValue))
+    (first_part ByName v_roles SwitchValue (last_reading OneWord word_roles TextValue))
     (One v_key) (One v_key) [] refl
 
 -- an argument of this name

@@ -6,7 +6,8 @@ use Rattle.bpaf_line.specs.Situation.{Situation, open_count}
 use Rattle.bpaf_laws.specs.Reading.{Outcome}
 use Rattle.bpaf_exact.specs.Pieces.{Roles, Piece, pieces, takes_none}
 use Rattle.bpaf_exact.specs.Flat.{ErrorClass, OfMemory, OfMissing, Caught, Refused, class, cells}
-use Rattle.bpaf_exact.specs.Flat.{IsWhole, Steady, FieldKind, Named, OneWord, EachWord, front, back}
+use Rattle.bpaf_exact.specs.Flat.{IsWhole, Steady, FieldKind, ByName, OneWord, EachWord, front}
+use Rattle.bpaf_exact.specs.Flat.{back}
 use Rattle.bpaf_exact.specs.Flat.{LeavesNone, FieldTook, FieldLaw, Gives}
 use Rattle.bpaf_exact.specs.Single.{Groups, Own, own_none, Readable, Gap, SingleOk, gave_absent}
 use Rattle.bpaf_exact.specs.Single.{took, SingleErr, of_memory, of_missing, of_absent, of_piece}
@@ -25,19 +26,19 @@ use Rattle.bpaf_exact.proofs.Repeat.{any_some, same_takes}
 
 -- of no piece none is taken
 front_nil : (k : FieldKind) → front k [] ≡ []
-front_nil Named = refl
+front_nil ByName = refl
 front_nil OneWord = refl
 front_nil EachWord = refl
 
 -- and none left
 back_nil : (k : FieldKind) → back k [] ≡ []
-back_nil Named = refl
+back_nil ByName = refl
 back_nil OneWord = refl
 back_nil EachWord = refl
 
 -- where none is taken there is none
 nil_front : (k : FieldKind) (os : List Piece) → front k os ≡ [] → os ≡ []
-nil_front Named os e = e
+nil_front ByName os e = e
 nil_front OneWord [] e = refl
 nil_front OneWord (o ∷ os) e = absurd cc
 nil_front EachWord os e = e
@@ -107,7 +108,7 @@ module _ (T : Type 0) (inner : Outcome T)
       → (Readable z group (pieces q (cells t)) → group (pieces q (cells s)) v (pieces q (cells t)))
       → group (front z (pieces q (cells s))) v []
       × (pieces q (cells t) ≡ back z (pieces q (cells s)))
-  took_read Named s t v u n up = (
+  took_read ByName s t v u n up = (
     subst (group (pieces q (cells s)) v) n
         (up ([], subst (λ os. Own T group os []) (sym n) own_none)),
     n,
@@ -138,14 +139,14 @@ module _ (T : Type 0) (inner : Outcome T)
   of_front : (z : FieldKind) (os : List Piece) (v : T) → ReadsWords z group
       → group (front z os) v []
       → group os v (back z os)
-  of_front Named os v u g = g
+  of_front ByName os v u g = g
   of_front OneWord os v u g = u.of_front os v g
   of_front EachWord os v u g = absurd u
 
   -- and the other way
   to_front : (z : FieldKind) (os : List Piece) (v : T) → ReadsWords z group → group os v (back z os)
       → group (front z os) v []
-  to_front Named os v u g = g
+  to_front ByName os v u g = g
   to_front OneWord os v u g = (u.by_front os v (back OneWord os) g).0
   to_front EachWord os v u g = absurd u
 

@@ -8,8 +8,8 @@ use Rattle.bpaf_words.specs.Items.{is_key_of, item_text}
 use Rattle.bpaf_words.specs.declared.arg.Arg.{Arg}
 use Rattle.bpaf_exact.specs.Leaves.{argument_roles}
 use Rattle.bpaf_exact.specs.Pieces.{Cells, Roles, Piece, One, Two, is_own_role, mine, others, pieces}
-use Rattle.bpaf_exact.specs.Flat.{Named}
-use Rattle.bpaf_text.specs.Named.{Named as Key}
+use Rattle.bpaf_exact.specs.Flat.{ByName}
+use Rattle.bpaf_text.specs.ByName.{ByName as Key}
 use Rattle.bpaf_exact.specs.Names.{Owns}
 use Rattle.bpaf_exact.specs.Flat.{FieldKind, OneWord, EachWord, keys, front, back}
 use Rattle.bpaf_exact.specs.FlatForm.{FlatForm, not_flat, alternative, single, complete, product}
@@ -33,7 +33,7 @@ pub record ReadsOwn (V A : Type 0) (r : Roles) (value : List Piece → V → Typ
 
 -- a record has such a field, of this form
 abbrev pub FieldBy : {V A : Type 0} → FlatForm A → FlatForm V → (V → A) → Type 0
-FieldBy {V = V} {A = A} (complete Named q own) (product r fields) of =
+FieldBy {V = V} {A = A} (complete ByName q own) (product r fields) of =
     ReadsOwn V A r fields.value q own of
 FieldBy _ _ of = Unit {0}
 

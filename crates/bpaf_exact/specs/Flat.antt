@@ -65,19 +65,19 @@ pub record Steady (s t : Situation) : Type 0 where
 
 -- a named field; a positional field without a repeat; a positional field with one
 pub data FieldKind : Type 0 where
-  Named OneWord EachWord : FieldKind
+  ByName OneWord EachWord : FieldKind
 
 -- Of its own pieces a field takes all; a positional field without a repeat takes the first, if
 -- there is one.
 abbrev pub front : FieldKind → List Piece → List Piece
-front Named os = os
+front ByName os = os
 front EachWord os = os
 front OneWord [] = []
 front OneWord (o ∷ os) = o ∷ []
 
 -- and leaves the others
 abbrev pub back : FieldKind → List Piece → List Piece
-back Named os = []
+back ByName os = []
 back EachWord os = []
 back OneWord [] = []
 back OneWord (o ∷ os) = os
@@ -86,19 +86,19 @@ back OneWord (o ∷ os) = os
 -- with one of its
 -- names; for a positional field one while any is left, or with a repeat all.
 abbrev pub share : FieldKind → Roles → List Piece → List Piece
-share Named q os = mine q os
+share ByName q os = mine q os
 share EachWord q os = os
 share OneWord q os = front OneWord os
 
 -- what it leaves to the fields after it
 abbrev pub left : FieldKind → Roles → List Piece → List Piece
-left Named q os = others q os
+left ByName q os = others q os
 left EachWord q os = []
 left OneWord q os = back OneWord os
 
 -- the keys of a field
 abbrev pub keys : FieldKind → Roles → Roles
-keys Named q = q
+keys ByName q = q
 keys OneWord q = no_roles
 keys EachWord q = no_roles
 
@@ -108,13 +108,13 @@ pub record IsWords (q : Roles) : Type 0 where
 
 -- a field's own items are keys; a positional field's are the words
 abbrev pub OwnItems : FieldKind → Roles → Type 0
-OwnItems Named q = IsNamed q
+OwnItems ByName q = IsNamed q
 OwnItems OneWord q = IsWords q
 OwnItems EachWord q = IsWords q
 
 -- a named field leaves none of its own keys
 abbrev pub LeavesNone : FieldKind → Roles → Cells → Type 0
-LeavesNone Named q cs = pieces q cs ≡ []
+LeavesNone ByName q cs = pieces q cs ≡ []
 LeavesNone OneWord q cs = Unit {0}
 LeavesNone EachWord q cs = Unit {0}
 
@@ -178,7 +178,7 @@ pub record FieldsLaw (V : Type 0) (outcome : Outcome V) (r : Roles)
 
 -- a field before others: their keys are apart, and after a positional field no named one stands
 abbrev pub Before : FieldKind → Roles → Roles → Type 0
-Before Named q r = Apart q r
+Before ByName q r = Apart q r
 Before OneWord q r = (k : Arg) → r k ≡ Foreign
 Before EachWord q r = (k : Arg) → r k ≡ Foreign
 

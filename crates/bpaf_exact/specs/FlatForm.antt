@@ -5,7 +5,7 @@ use Rattle.bpaf_doc.specs.Names.{Names}
 use Rattle.bpaf_laws.specs.Reading.{Outcome}
 use Rattle.bpaf_exact.specs.Pieces.{Roles, Piece, either, no_roles}
 use Rattle.bpaf_exact.specs.Names.{Owns, are_all_apart}
-use Rattle.bpaf_exact.specs.Flat.{FieldKind, Named, OneWord, EachWord, FieldLaw, FieldsLaw, keys}
+use Rattle.bpaf_exact.specs.Flat.{FieldKind, ByName, OneWord, EachWord, FieldLaw, FieldsLaw, keys}
 use Rattle.bpaf_exact.specs.Flat.{FieldsReading, both_reading}
 use Rattle.bpaf_exact.specs.Single.{Groups, Gap, FrontOf, no_gap, SingleLaw, SingleValue, OwnList}
 use Rattle.bpaf_exact.specs.Single.{repeated}
@@ -114,7 +114,7 @@ flat_choices names form (p ∷ ps) =
 abbrev pub flat_repeat : {T : Type 0} → FlatForm T → FlatForm (List T)
 flat_repeat not_flat = not_flat
 flat_repeat {T = T} (alternative q value) =
-    complete Named q (OwnList T (FrontOf T value) (no_gap T))
+    complete ByName q (OwnList T (FrontOf T value) (no_gap T))
 flat_repeat {T = T} (single k q group gap) = complete (repeated k) q (OwnList T group gap)
 flat_repeat (complete k q value) = not_flat
 flat_repeat (product q fields) = not_flat
@@ -138,7 +138,7 @@ flat_collect fills s = flat_closed (collect_closure fills) (flat_repeat s)
 -- the last of them
 abbrev pub flat_last : {T : Type 0} → FlatForm T → FlatForm T
 flat_last not_flat = not_flat
-flat_last {T = T} (alternative q value) = complete Named q (LastOf T (FrontOf T value) (no_gap T))
+flat_last {T = T} (alternative q value) = complete ByName q (LastOf T (FrontOf T value) (no_gap T))
 flat_last {T = T} (single k q group gap) = complete (repeated k) q (LastOf T group gap)
 flat_last (complete k q value) = not_flat
 flat_last (product q fields) = not_flat
@@ -147,7 +147,7 @@ flat_last (product q fields) = not_flat
 abbrev pub flat_optional : {T : Type 0} → FlatForm T → FlatForm (Option T)
 flat_optional not_flat = not_flat
 flat_optional {T = T} (alternative q value) =
-    complete Named q (OptionalValue T (FrontOf T value) (no_gap T))
+    complete ByName q (OptionalValue T (FrontOf T value) (no_gap T))
 flat_optional {T = T} (single k q group gap) = complete k q (OptionalValue T group gap)
 flat_optional (complete k q value) = not_flat
 flat_optional (product q fields) = not_flat
@@ -156,7 +156,7 @@ flat_optional (product q fields) = not_flat
 abbrev pub flat_fallback : {T : Type 0} → Closure (Unit {0}) T → FlatForm T → FlatForm T
 flat_fallback f not_flat = not_flat
 flat_fallback {T = T} f (alternative q value) =
-    complete Named q (FallbackValue T (FrontOf T value) (no_gap T) f)
+    complete ByName q (FallbackValue T (FrontOf T value) (no_gap T) f)
 flat_fallback {T = T} f (single k q group gap) = complete k q (FallbackValue T group gap f)
 flat_fallback f (complete k q value) = not_flat
 flat_fallback f (product q fields) = not_flat
@@ -170,14 +170,14 @@ unless false s = s
 abbrev pub flat_field : {T : Type 0} → FlatForm T → FlatForm T
 flat_field not_flat = not_flat
 flat_field {T = T} (alternative q value) =
-    complete Named q (SingleValue T (FrontOf T value) (no_gap T))
+    complete ByName q (SingleValue T (FrontOf T value) (no_gap T))
 flat_field {T = T} (single k q group gap) = complete k q (SingleValue T group gap)
 flat_field (complete k q value) = complete k q value
 flat_field (product q fields) = not_flat
 
 -- keys may stand after a field: those that are apart from its own; after a positional field none
 abbrev pub may_follow : FieldKind → List Names → List Names → Bool
-may_follow Named own others = are_all_apart own others
+may_follow ByName own others = are_all_apart own others
 may_follow OneWord own [] = true
 may_follow OneWord own (names ∷ others) = false
 may_follow EachWord own [] = true

@@ -2,14 +2,14 @@
 use Rattle.std.specs.Prelude.{◌≡◌, ℕ, Bool, true, false, List, [], ◌∷◌, Option, Some, None, Result}
 use Rattle.std.specs.Prelude.{Ok, Err, if◌then◌else◌, ◌++◌}
 use Rattle.bpaf_doc.specs.Names.{Names}
-use Rattle.bpaf_text.specs.Named.{Named as Key, KeyWithValue}
+use Rattle.bpaf_text.specs.ByName.{ByName as Key, KeyWithValue}
 use Rattle.bpaf_words.specs.declared.arg.Arg.{Arg}
 use Rattle.bpaf_words.specs.Items.{is_key_of, is_positional, item_text}
 use Rattle.bpaf_line.specs.declared.error.Error.{Error}
 use Rattle.bpaf_line.specs.Situation.{Situation}
 use Rattle.bpaf_line.specs.Taking.{TakesText, HasNone}
 use Rattle.bpaf_exact.specs.Pieces.{Roles, Foreign, Alone, WithNext, Piece, One, Two, word_roles}
-use Rattle.bpaf_exact.specs.Flat.{Named, OneWord, OfMemory, OfMissing, Refused, class}
+use Rattle.bpaf_exact.specs.Flat.{ByName, OneWord, OfMemory, OfMissing, Refused, class}
 use Rattle.bpaf_exact.specs.Single.{Gap, FrontOf, no_gap}
 use Rattle.bpaf_exact.specs.FlatForm.{FlatForm, not_flat, alternative, single}
 
@@ -47,7 +47,7 @@ flag_by clones names present (env ∷ envs) absent = not_flat
 flag_by clones names present [] None =
     alternative (flag_roles names) (FlagValue (clones present))
 flag_by {T = T} clones names present [] (Some absent) =
-    single Named (flag_roles names) (FrontOf T (FlagValue (clones present)))
+    single ByName (flag_roles names) (FrontOf T (FlagValue (clones present)))
     (switch_gap (clones absent))
 
 -- a flag
@@ -74,7 +74,7 @@ pub record LastGroup (T : Type 0) (means : List ℕ → T → Type 0) (os : List
 -- an argument that takes all its keys at once
 abbrev pub last_argument : {T : Type 0} → (List ℕ → T → Type 0) → Names → FlatForm T
 last_argument {T = T} means names =
-    single Named (argument_roles names) (LastGroup T means) (no_gap T)
+    single ByName (argument_roles names) (LastGroup T means) (no_gap T)
 
 -- an argument, but for one with a name in the environment, and one that wants an attached value
 abbrev pub argument_by : {T : Type 0} → (List ℕ → T → Type 0) → Names → List (List ℕ) → Bool → Bool

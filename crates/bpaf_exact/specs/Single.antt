@@ -7,7 +7,7 @@ use Rattle.bpaf_line.specs.Situation.{Situation, open_count}
 use Rattle.bpaf_laws.specs.Reading.{Outcome}
 use Rattle.bpaf_exact.specs.Pieces.{Cells, Roles, Piece, pieces, TakesPiece, TakesPieces}
 use Rattle.bpaf_exact.specs.Flat.{OfMemory, OfMissing, Caught, Refused, class, cells, IsWhole}
-use Rattle.bpaf_exact.specs.Flat.{Steady, FieldKind, Named, OneWord, EachWord, front, back}
+use Rattle.bpaf_exact.specs.Flat.{Steady, FieldKind, ByName, OneWord, EachWord, front, back}
 use Rattle.bpaf_exact.specs.Flat.{OwnItems}
 
 -- how one evaluation reads a value off the front of the own pieces, and which it leaves
@@ -36,7 +36,7 @@ pub record TakesAny (q : Roles) (cs ds : Cells) : Type 0 where
 
 -- the pieces can all be read; of a positional field those after the first need not be
 abbrev pub Readable : {T : Type 0} → FieldKind → Groups T → List Piece → Type 0
-Readable {T = T} Named group os = (vs : List T) × Own T group os vs
+Readable {T = T} ByName group os = (vs : List T) × Own T group os vs
 Readable OneWord group os = Unit {0}
 Readable EachWord group os = Unit {0}
 
@@ -83,7 +83,7 @@ pub record WordByWord (T : Type 0) (group : Groups T) : Type 0 where
 
 -- how a field of a kind reads words
 abbrev pub ReadsWords : {T : Type 0} → FieldKind → Groups T → Type 0
-ReadsWords Named group = Unit {0}
+ReadsWords ByName group = Unit {0}
 ReadsWords {T = T} OneWord group = WordByWord T group
 ReadsWords EachWord group = ⊥
 
@@ -116,7 +116,7 @@ pub data SingleValue (T : Type 0) (group : Groups T) (gap : Gap T) : List Piece 
 
 -- with a repeat a positional field gets all words
 abbrev pub repeated : FieldKind → FieldKind
-repeated Named = Named
+repeated ByName = ByName
 repeated OneWord = EachWord
 repeated EachWord = EachWord
 

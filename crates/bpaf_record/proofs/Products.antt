@@ -9,7 +9,7 @@ use Rattle.std.proofs.lemmas.List.Folds.{list_all-append}
 use Rattle.bpaf_doc.specs.Names.{Names}
 use Rattle.bpaf_exact.specs.Names.{are_all_apart}
 use Rattle.bpaf_exact.specs.Pieces.{Roles}
-use Rattle.bpaf_exact.specs.Flat.{FieldsReading, Named, OneWord, EachWord}
+use Rattle.bpaf_exact.specs.Flat.{FieldsReading, ByName, OneWord, EachWord}
 use Rattle.bpaf_exact.specs.FlatForm.{FlatForm, not_flat, alternative, single, complete, product}
 use Rattle.bpaf_exact.specs.FlatForm.{only_if}
 use Rattle.bpaf_exact.specs.FlatForm.{flat_either, flat_choice, choices_rest, alternative_only}
@@ -29,10 +29,10 @@ pub alone_is : {T : Type 0} (s : FlatForm T)
     → alone_form (field_form (form_of s)) ≡ form_of (flat_alone (flat_field s))
 alone_is not_flat = refl
 alone_is (alternative q value) = refl
-alone_is (single Named q group gap) = refl
+alone_is (single ByName q group gap) = refl
 alone_is (single OneWord q group gap) = refl
 alone_is (single EachWord q group gap) = refl
-alone_is (complete Named q value) = refl
+alone_is (complete ByName q value) = refl
 alone_is (complete OneWord q value) = refl
 alone_is (complete EachWord q value) = refl
 alone_is (product q fields) = refl
@@ -42,10 +42,10 @@ pub con_is : {A B : Type 0} (f : Closure A B) (s : FlatForm A)
     → made_form (form_of s) ≡ form_of (flat_con f s)
 con_is f not_flat = refl
 con_is f (alternative q value) = refl
-con_is f (single Named q group gap) = refl
+con_is f (single ByName q group gap) = refl
 con_is f (single OneWord q group gap) = refl
 con_is f (single EachWord q group gap) = refl
-con_is f (complete Named q value) = refl
+con_is f (complete ByName q value) = refl
 con_is f (complete OneWord q value) = refl
 con_is f (complete EachWord q value) = refl
 con_is f (product q fields) = refl
@@ -55,10 +55,10 @@ only_is : {T : Type 0} (s : FlatForm T)
     → alternative_form (form_of s) ≡ form_of (alternative_only s)
 only_is not_flat = refl
 only_is (alternative q value) = refl
-only_is (single Named q group gap) = refl
+only_is (single ByName q group gap) = refl
 only_is (single OneWord q group gap) = refl
 only_is (single EachWord q group gap) = refl
-only_is (complete Named q value) = refl
+only_is (complete ByName q value) = refl
 only_is (complete OneWord q value) = refl
 only_is (complete EachWord q value) = refl
 only_is (product q fields) = refl
@@ -69,17 +69,17 @@ either_is : {T : Type 0} (s t : FlatForm T)
 either_is not_flat t = refl
 either_is (alternative q value) not_flat = refl
 either_is (alternative q value) (alternative r other) = refl
-either_is (alternative q value) (single Named r group gap) = refl
+either_is (alternative q value) (single ByName r group gap) = refl
 either_is (alternative q value) (single OneWord r group gap) = refl
 either_is (alternative q value) (single EachWord r group gap) = refl
-either_is (alternative q value) (complete Named r other) = refl
+either_is (alternative q value) (complete ByName r other) = refl
 either_is (alternative q value) (complete OneWord r other) = refl
 either_is (alternative q value) (complete EachWord r other) = refl
 either_is (alternative q value) (product r other) = refl
-either_is (single Named q group gap) t = refl
+either_is (single ByName q group gap) t = refl
 either_is (single OneWord q group gap) t = refl
 either_is (single EachWord q group gap) t = refl
-either_is (complete Named q value) t = refl
+either_is (complete ByName q value) t = refl
 either_is (complete OneWord q value) t = refl
 either_is (complete EachWord q value) t = refl
 either_is (product q fields) t = refl
@@ -109,69 +109,69 @@ pub both_is : {A B : Type 0} (own others : List Names) (s : FlatForm A) (t : Fla
 both_is own others not_flat t = refl
 both_is own others (alternative q value) not_flat = refl
 both_is own others (alternative q value) (alternative r other) = refl
-both_is own others (alternative q value) (single Named r group gap) = refl
+both_is own others (alternative q value) (single ByName r group gap) = refl
 both_is own others (alternative q value) (single OneWord r group gap) = refl
 both_is own others (alternative q value) (single EachWord r group gap) = refl
-both_is own others (alternative q value) (complete Named r other) = refl
+both_is own others (alternative q value) (complete ByName r other) = refl
 both_is own others (alternative q value) (complete OneWord r other) = refl
 both_is own others (alternative q value) (complete EachWord r other) = refl
 both_is own others (alternative q value) (product r other) = named_is (are_all_apart own others) _ _
-both_is own others (single Named q group gap) not_flat = refl
-both_is own others (single Named q group gap) (alternative r other) = refl
-both_is own others (single Named q group gap) (single Named r other rest) = refl
-both_is own others (single Named q group gap) (single OneWord r other rest) = refl
-both_is own others (single Named q group gap) (single EachWord r other rest) = refl
-both_is own others (single Named q group gap) (complete Named r other) = refl
-both_is own others (single Named q group gap) (complete OneWord r other) = refl
-both_is own others (single Named q group gap) (complete EachWord r other) = refl
-both_is own others (single Named q group gap) (product r other) =
+both_is own others (single ByName q group gap) not_flat = refl
+both_is own others (single ByName q group gap) (alternative r other) = refl
+both_is own others (single ByName q group gap) (single ByName r other rest) = refl
+both_is own others (single ByName q group gap) (single OneWord r other rest) = refl
+both_is own others (single ByName q group gap) (single EachWord r other rest) = refl
+both_is own others (single ByName q group gap) (complete ByName r other) = refl
+both_is own others (single ByName q group gap) (complete OneWord r other) = refl
+both_is own others (single ByName q group gap) (complete EachWord r other) = refl
+both_is own others (single ByName q group gap) (product r other) =
     named_is (are_all_apart own others) _ _
 both_is own others (single OneWord q group gap) not_flat = refl
 both_is own others (single OneWord q group gap) (alternative r other) = refl
-both_is own others (single OneWord q group gap) (single Named r other rest) = refl
+both_is own others (single OneWord q group gap) (single ByName r other rest) = refl
 both_is own others (single OneWord q group gap) (single OneWord r other rest) = refl
 both_is own others (single OneWord q group gap) (single EachWord r other rest) = refl
-both_is own others (single OneWord q group gap) (complete Named r other) = refl
+both_is own others (single OneWord q group gap) (complete ByName r other) = refl
 both_is own others (single OneWord q group gap) (complete OneWord r other) = refl
 both_is own others (single OneWord q group gap) (complete EachWord r other) = refl
 both_is own [] (single OneWord q group gap) (product r other) = refl
 both_is own (names ∷ others) (single OneWord q group gap) (product r other) = refl
 both_is own others (single EachWord q group gap) not_flat = refl
 both_is own others (single EachWord q group gap) (alternative r other) = refl
-both_is own others (single EachWord q group gap) (single Named r other rest) = refl
+both_is own others (single EachWord q group gap) (single ByName r other rest) = refl
 both_is own others (single EachWord q group gap) (single OneWord r other rest) = refl
 both_is own others (single EachWord q group gap) (single EachWord r other rest) = refl
-both_is own others (single EachWord q group gap) (complete Named r other) = refl
+both_is own others (single EachWord q group gap) (complete ByName r other) = refl
 both_is own others (single EachWord q group gap) (complete OneWord r other) = refl
 both_is own others (single EachWord q group gap) (complete EachWord r other) = refl
 both_is own [] (single EachWord q group gap) (product r other) = refl
 both_is own (names ∷ others) (single EachWord q group gap) (product r other) = refl
-both_is own others (complete Named q value) not_flat = refl
-both_is own others (complete Named q value) (alternative r other) = refl
-both_is own others (complete Named q value) (single Named r group gap) = refl
-both_is own others (complete Named q value) (single OneWord r group gap) = refl
-both_is own others (complete Named q value) (single EachWord r group gap) = refl
-both_is own others (complete Named q value) (complete Named r other) = refl
-both_is own others (complete Named q value) (complete OneWord r other) = refl
-both_is own others (complete Named q value) (complete EachWord r other) = refl
-both_is own others (complete Named q value) (product r other) =
+both_is own others (complete ByName q value) not_flat = refl
+both_is own others (complete ByName q value) (alternative r other) = refl
+both_is own others (complete ByName q value) (single ByName r group gap) = refl
+both_is own others (complete ByName q value) (single OneWord r group gap) = refl
+both_is own others (complete ByName q value) (single EachWord r group gap) = refl
+both_is own others (complete ByName q value) (complete ByName r other) = refl
+both_is own others (complete ByName q value) (complete OneWord r other) = refl
+both_is own others (complete ByName q value) (complete EachWord r other) = refl
+both_is own others (complete ByName q value) (product r other) =
     named_is (are_all_apart own others) _ _
 both_is own others (complete OneWord q value) not_flat = refl
 both_is own others (complete OneWord q value) (alternative r other) = refl
-both_is own others (complete OneWord q value) (single Named r group gap) = refl
+both_is own others (complete OneWord q value) (single ByName r group gap) = refl
 both_is own others (complete OneWord q value) (single OneWord r group gap) = refl
 both_is own others (complete OneWord q value) (single EachWord r group gap) = refl
-both_is own others (complete OneWord q value) (complete Named r other) = refl
+both_is own others (complete OneWord q value) (complete ByName r other) = refl
 both_is own others (complete OneWord q value) (complete OneWord r other) = refl
 both_is own others (complete OneWord q value) (complete EachWord r other) = refl
 both_is own [] (complete OneWord q value) (product r other) = refl
 both_is own (names ∷ others) (complete OneWord q value) (product r other) = refl
 both_is own others (complete EachWord q value) not_flat = refl
 both_is own others (complete EachWord q value) (alternative r other) = refl
-both_is own others (complete EachWord q value) (single Named r group gap) = refl
+both_is own others (complete EachWord q value) (single ByName r group gap) = refl
 both_is own others (complete EachWord q value) (single OneWord r group gap) = refl
 both_is own others (complete EachWord q value) (single EachWord r group gap) = refl
-both_is own others (complete EachWord q value) (complete Named r other) = refl
+both_is own others (complete EachWord q value) (complete ByName r other) = refl
 both_is own others (complete EachWord q value) (complete OneWord r other) = refl
 both_is own others (complete EachWord q value) (complete EachWord r other) = refl
 both_is own [] (complete EachWord q value) (product r other) = refl

@@ -1,7 +1,7 @@
 -- What a parser is to a flat record, as the program tells it.
 use Rattle.std.specs.Prelude.{Bool, true, false, List, [], ◌∷◌, ◌++◌}
 use Rattle.bpaf_doc.specs.Names.{Names}
-use Rattle.bpaf_exact.specs.Flat.{FieldKind, Named as NamedKind, OneWord, EachWord}
+use Rattle.bpaf_exact.specs.Flat.{FieldKind, ByName, OneWord, EachWord}
 use Rattle.bpaf_exact.specs.Names.{are_all_apart}
 use Rattle.bpaf_exact.specs.FlatForm.{FlatForm, not_flat, alternative, single, complete, product}
 use Rattle.bpaf_record.specs.declared.form.Form.{Form}
@@ -10,13 +10,13 @@ use Rattle.bpaf_record.specs.declared.form.Form.TheVariants.{NamedComplete, Word
 
 -- that of a field without a repeat or default
 abbrev pub single_form : FieldKind → Form
-single_form NamedKind = Named
+single_form ByName = Named
 single_form OneWord = Word
 single_form EachWord = Word
 
 -- that of a field with one
 abbrev pub complete_form : FieldKind → Form
-complete_form NamedKind = NamedComplete
+complete_form ByName = NamedComplete
 complete_form OneWord = WordComplete
 complete_form EachWord = WordComplete
 
