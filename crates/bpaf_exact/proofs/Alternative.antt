@@ -3,7 +3,7 @@ use Rattle.std.proofs.Common.{◌≡◌, List, [], ◌∷◌, Ok, Err, refl, sym
 use Rattle.bpaf_line.specs.declared.error.Error.{Error}
 use Rattle.bpaf_line.specs.Situation.{Situation}
 use Rattle.bpaf_laws.specs.Reading.{Outcome}
-use Rattle.bpaf_exact.specs.Pieces.{Roles, Piece, pieces, takes_none}
+use Rattle.bpaf_exact.specs.Pieces.{Roles, LinePiece, pieces, takes_none}
 use Rattle.bpaf_exact.specs.Flat.{Refused, class, cells, IsWhole, FieldKind, ByName, OneWord}
 use Rattle.bpaf_exact.specs.Flat.{EachWord}
 use Rattle.bpaf_exact.specs.Single.{Groups, FrontOf, Own, own_none, own_more, Readable, Gap, no_gap}
@@ -18,7 +18,7 @@ use Rattle.bpaf_exact.specs.Alternative.{alternative_refused, AlternativeLaw}
 use Rattle.bpaf_exact.proofs.First.{first_pieces, takes_nonempty, bad_given_back, bad_nonempty}
 
 -- Pieces that can't be read have no own list.
-pub own_bad : (T : Type 0) (value : Piece → T → Type 0) (os : List Piece) (vs : List T)
+pub own_bad : (T : Type 0) (value : LinePiece → T → Type 0) (os : List LinePiece) (vs : List T)
     → HasBad T value os → Own T (FrontOf T value) os vs → ⊥
 own_bad T value os vs h own_none = elim h [ ]
 own_bad T value os vs h (own_more {rest = rest} {v = v} {vs = us} g o) =
@@ -29,7 +29,7 @@ own_bad T value os vs h (own_more {rest = rest} {v = v} {vs = us} g o) =
     by_bad i (bad_later b) = i b
 
 -- An alternative is a field without a repeat or default.
-module _ (T : Type 0) (outcome : Outcome T) (q : Roles) (value : Piece → T → Type 0)
+module _ (T : Type 0) (outcome : Outcome T) (q : Roles) (value : LinePiece → T → Type 0)
     (l : AlternativeLaw T outcome q value) where
   -- its value is that of the first piece, where all others can be read
   alternative_reads : (s t : Situation) (v : T) (a : AlternativeOk T q value s v t)
@@ -75,16 +75,17 @@ module _ (T : Type 0) (outcome : Outcome T) (q : Roles) (value : Piece → T →
   }
 
 -- inner closures round an alternative
-module _ (A B : Type 0) (inner : Outcome A) (q : Roles) (value : Piece → A → Type 0)
+module _ (A B : Type 0) (inner : Outcome A) (q : Roles) (value : LinePiece → A → Type 0)
     (l : AlternativeLaw A inner q value) (f : Closure A B)
-    (agrees : (o : Piece) → AgreesOn (value o) f) where
+    (agrees : (o : LinePiece) → AgreesOn (value o) f) where
   -- a piece that can't be read can't be read through a closure either
-  closed_bad : (os : List Piece) → HasBad A value os → HasBad B (ClosedPiece A B value f) os
+  closed_bad : (os : List LinePiece) → HasBad A value os → HasBad B (ClosedPiece A B value f) os
   closed_bad os (bad_here n) = bad_here (λ v c. n c.from c.read)
   closed_bad os (bad_later h) = bad_later (closed_bad _ h)
 
   -- nor can one whose value the closure refuses
-  refused_value : (x : A) (o : Piece) → value o x → f.no x → (v : B) → ClosedPiece A B value f o v
+  refused_value : (x : A) (o : LinePiece) → value o x → f.no x → (v : B)
+      → ClosedPiece A B value f o v
       → ⊥
   refused_value x o g n v c = agrees o c.from x v c.read g c.made n
 
@@ -102,7 +103,7 @@ module _ (A B : Type 0) (inner : Outcome A) (q : Roles) (value : Piece → A →
         readable = λ o os u e c. a.readable o os c.from e c.read;
       }
     where
-      by_first : {o : Piece}
+      by_first : {o : LinePiece}
           → TakesFirst q (cells s) o (cells t) ⊎ HasBad A value (pieces q (cells t))
           → TakesFirst q (cells s) o (cells t)
           ⊎ HasBad B (ClosedPiece A B value f) (pieces q (cells t))
@@ -154,22 +155,22 @@ module _ (A B : Type 0) (inner : Outcome A) (q : Roles) (value : Piece → A →
 module _ (A B : Type 0) (inner : Outcome A)
     (k : FieldKind) (q : Roles) (group : Groups A) (gap : Gap A)
     (l : SingleLaw A inner k q group gap) (f : Closure A B)
-    (agrees : (os rest : List Piece) → AgreesOn (λ v. group os v rest) f)
+    (agrees : (os rest : List LinePiece) → AgreesOn (λ v. group os v rest) f)
     (gap_agrees : AgreesOn gap.absent f) where
   -- a list of inner values of the pieces
-  record InnerList (os : List Piece) : Type 0 where
+  record InnerList (os : List LinePiece) : Type 0 where
     list : List A
     own : Own A group os list
 
   -- what can be read through a closure can be read without it
-  inner_list : (os : List Piece) (vs : List B) → Own B (ClosedGroup A B group f) os vs
+  inner_list : (os : List LinePiece) (vs : List B) → Own B (ClosedGroup A B group f) os vs
       → InnerList os
   inner_list os vs own_none = record { list = []; own = own_none }
   inner_list os vs (own_more {rest = rest} {v = v} {vs = us} g o) = let i = inner_list rest us o in
       record { list = g.from ∷ i.list; own = own_more g.read i.own }
 
   -- the same, by the kind of the field
-  inner_readable : (z : FieldKind) (os : List Piece) → Readable z (ClosedGroup A B group f) os
+  inner_readable : (z : FieldKind) (os : List LinePiece) → Readable z (ClosedGroup A B group f) os
       → Readable z group os
   inner_readable ByName os r = let i = inner_list os r.0 r.1 in (i.list, i.own)
   inner_readable OneWord os r = tt

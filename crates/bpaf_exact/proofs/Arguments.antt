@@ -8,7 +8,7 @@ use Rattle.bpaf_line.specs.declared.error.Message.TheVariants.{Memory, NoArgumen
 use Rattle.bpaf_line.specs.Situation.{Situation}
 use Rattle.bpaf_laws.specs.Argument.{ArgumentOutcome, ArgumentFails, TakesOwnText, TakesBefore}
 use Rattle.bpaf_laws.specs.Argument.{GetsText, LacksText, is_key_with_value}
-use Rattle.bpaf_exact.specs.Pieces.{WithNext, Roles, Piece, One, Two, pieces}
+use Rattle.bpaf_exact.specs.Pieces.{WithNext, Roles, LinePiece, One, Two, pieces}
 use Rattle.bpaf_exact.specs.Flat.{class, class_of, cells, IsWhole}
 use Rattle.bpaf_exact.specs.Alternative.{AlternativeOk, AlternativeErr}
 use Rattle.bpaf_exact.specs.Alternative.{alternative_memory, AlternativeLaw}
@@ -31,7 +31,7 @@ module _ (T : Type 0) (means : List ℕ → T → Type 0) (argument : KeyWithVal
   q = argument_roles argument.named.names
 
   -- what its pieces mean
-  abbrev value : Piece → T → Type 0
+  abbrev value : LinePiece → T → Type 0
   value = ArgumentValue means
 
   -- the text of an argument stands behind its key

@@ -8,14 +8,14 @@ use Rattle.bpaf_line.specs.Situation.{Situation, open_count, count_below, is_ope
 use Rattle.bpaf_line.specs.Taking.{open_item}
 use Rattle.bpaf_line.proofs.Counts.{count_below-same}
 use Rattle.bpaf_line.proofs.Matches.{open_has_item}
-use Rattle.bpaf_exact.specs.Pieces.{Cells, Roles, Piece, TakesPiece, takes_one, takes_two}
+use Rattle.bpaf_exact.specs.Pieces.{Cells, Roles, LinePiece, TakesPiece, takes_one, takes_two}
 use Rattle.bpaf_exact.specs.Pieces.{takes_later}
 use Rattle.bpaf_exact.specs.Pieces.{TakesPieces, takes_none, takes_more}
 use Rattle.bpaf_exact.specs.Flat.{cells, first_cells}
 use Rattle.bpaf_exact.specs.Single.{present_count, TakesAny}
 
 -- a piece taken leaves fewer items
-pub takes_fewer : (q : Roles) {cs ds : Cells} {o : Piece} → TakesPiece q cs o ds
+pub takes_fewer : (q : Roles) {cs ds : Cells} {o : LinePiece} → TakesPiece q cs o ds
     → present_count ds < present_count cs
 takes_fewer q (takes_one e) = omega arith
 takes_fewer q (takes_two e v) = omega arith

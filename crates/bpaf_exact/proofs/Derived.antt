@@ -4,7 +4,7 @@ use Rattle.std.proofs.Common.{sym, ◌∙◌}
 use Rattle.bpaf_line.specs.declared.error.Error.{Error}
 use Rattle.bpaf_line.specs.Situation.{Situation}
 use Rattle.bpaf_laws.specs.Reading.{Outcome}
-use Rattle.bpaf_exact.specs.Pieces.{Roles, Piece, pieces}
+use Rattle.bpaf_exact.specs.Pieces.{Roles, LinePiece, pieces}
 use Rattle.bpaf_exact.specs.Flat.{cells, IsWhole, FieldKind, front, back, FieldTook, FieldLaw}
 use Rattle.bpaf_exact.specs.Flat.{Gives}
 use Rattle.bpaf_exact.specs.Single.{Groups, Gap, SingleOk, gave_absent, took, SingleLaw, OwnList}
@@ -33,28 +33,30 @@ module _ (T : Type 0) (inner : Outcome T)
   rl = repeat_law T inner k q group gap l true
 
   -- no value at all: there was no piece, and none has an absent value
-  data Nothing (os : List Piece) : Type 0 where
+  data Nothing (os : List LinePiece) : Type 0 where
     nothing : gap.has ≡ false → os ≡ [] → Nothing os
 
   -- an empty own list has no pieces
-  own_empty : (os : List Piece) (vs : List T) → vs ≡ [] → Own T group os vs → os ≡ []
+  own_empty : (os : List LinePiece) (vs : List T) → vs ≡ [] → Own T group os vs → os ≡ []
   own_empty os vs e own_none = refl
   own_empty os vs e (own_more g o) = absurd cc
 
   -- an empty list under a repeat comes of no piece
-  empty_list : (os : List Piece) (vs : List T) → vs ≡ [] → OwnList T group gap os vs → Nothing os
+  empty_list : (os : List LinePiece) (vs : List T) → vs ≡ [] → OwnList T group gap os vs
+      → Nothing os
   empty_list os vs e (listed h o) = nothing h (own_empty os vs e o)
   empty_list os vs e (listed_and_absent h a o) = absurd cc
   empty_list os vs e (only_absent h a) = absurd cc
 
   -- and no piece gives an empty list
-  empty_nothing : (os : List Piece) (vs : List T) → Nothing os → OwnList T group gap os vs → vs ≡ []
+  empty_nothing : (os : List LinePiece) (vs : List T) → Nothing os → OwnList T group gap os vs
+      → vs ≡ []
   empty_nothing os vs (nothing g e) (listed h o) = own_nil T inner k q group gap l true os vs e o
   empty_nothing os vs (nothing g e) (listed_and_absent h a o) = absurd cc
   empty_nothing os vs (nothing g e) (only_absent h a) = absurd cc
 
   -- Of the own lists of the same pieces all are empty or none is.
-  pub some_agrees_on : (os : List Piece) → AgreesOn (OwnList T group gap os) (some_closure T)
+  pub some_agrees_on : (os : List LinePiece) → AgreesOn (OwnList T group gap os) (some_closure T)
   some_agrees_on os x y v ox oy g n = g.1 (empty_nothing os x (empty_list os y n oy) ox)
 
   -- where there was nothing once more nothing is answered

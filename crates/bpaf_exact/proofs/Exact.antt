@@ -8,7 +8,7 @@ use Rattle.bpaf_doc.specs.Names.{Names}
 use Rattle.bpaf_line.specs.Situation.{Context, Situation, beginning, item_in, is_marker, open_count}
 use Rattle.bpaf_line.specs.Taking.{open_item}
 use Rattle.bpaf_laws.specs.Reading.{Outcome}
-use Rattle.bpaf_exact.specs.Pieces.{Roles, Piece, Cut}
+use Rattle.bpaf_exact.specs.Pieces.{Roles, LinePiece, Cut}
 use Rattle.bpaf_exact.specs.Flat.{cells, NonePresent, IsWhole, FieldsLaw, FieldsReading, ReadOff}
 use Rattle.bpaf_exact.specs.Record.{line_cells, RecordValue, RunAnswer, Accepted, NoMemory, Refusal}
 use Rattle.bpaf_exact.specs.Record.{RunRan, run_value, run_leftover, run_memory, run_refusal}
@@ -75,7 +75,7 @@ module _ (V : Type 0) (outcome : Outcome V) (r : Roles) (reading : FieldsReading
   to_line v h = subst (λ cs. ReadOff V r reading.value cs v) (first_cells_are context) h
 
   -- a cut of the line is one of the first cells
-  from_line : (os : List Piece) → Cut r (line_cells context) os → Cut r (cells s) os
+  from_line : (os : List LinePiece) → Cut r (line_cells context) os → Cut r (cells s) os
   from_line os c = subst (λ cs. Cut r cs os) (sym (first_cells_are context)) c
 
   -- a value comes only where it is one of the record's
@@ -90,7 +90,7 @@ module _ (V : Type 0) (outcome : Outcome V) (r : Roles) (reading : FieldsReading
   sound a (run_refusal o e n) v h = absurd (no_value a v n h)
 
   -- where each field has a value, each answer is one of the record's, or want of memory
-  complete : (a : RunAnswer V) → RunRan V outcome s a → (os : List Piece)
+  complete : (a : RunAnswer V) → RunRan V outcome s a → (os : List LinePiece)
       → Cut r (line_cells context) os → reading.each os
       → IsAnswer (λ w. RecordValue r reading.value context w) a
   complete a (run_value {v = x} {t = t} o e) os c h =
@@ -106,7 +106,7 @@ module _ (V : Type 0) (outcome : Outcome V) (r : Roles) (reading : FieldsReading
       absurd (e (l.answers s t (Err x) os whole o (from_line os c) h))
 
   -- where one has none, no answer is a value: the line has one cut
-  refused : (a : RunAnswer V) → RunRan V outcome s a → (os : List Piece)
+  refused : (a : RunAnswer V) → RunRan V outcome s a → (os : List LinePiece)
       → Cut r (line_cells context) os → ¬ (reading.each os) → (v : V) → ¬ (a ≡ Accepted v)
   refused a ran os c none v h =
       let i = sound a ran v h in
@@ -123,7 +123,7 @@ module _ (V : Type 0) (outcome : Outcome V) (r : Roles) (reading : FieldsReading
 -- without its value.
 pub uncut_refused : (V : Type 0) (r : Roles) (reading : FieldsReading V) (context : Context)
     (a : RunAnswer V) (v : V) → IsExact V r reading context a
-    → ((os : List Piece) → ¬ (Cut r (line_cells context) os)) → ¬ (a ≡ Accepted v)
+    → ((os : List LinePiece) → ¬ (Cut r (line_cells context) os)) → ¬ (a ≡ Accepted v)
 uncut_refused V r reading context a v e n h = let i = e.sound v h in n i.cut_into i.cut
 
 -- each answer of a run of a flat record is exact

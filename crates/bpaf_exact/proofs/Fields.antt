@@ -4,7 +4,8 @@ use Rattle.std.proofs.Common.{refl, sym, ap, ◌∙◌, subst, if◌then◌else�
 use Rattle.bpaf_doc.specs.Names.{Names}
 use Rattle.bpaf_words.specs.declared.arg.Arg.{Arg}
 use Rattle.bpaf_line.specs.Situation.{Context}
-use Rattle.bpaf_exact.specs.Pieces.{Cells, Role, Foreign, Alone, WithNext, Roles, Piece, One, Two}
+use Rattle.bpaf_exact.specs.Pieces.{Cells, Role, Foreign, Alone, WithNext, Roles, LinePiece, One}
+use Rattle.bpaf_exact.specs.Pieces.{Two}
 use Rattle.bpaf_exact.specs.Pieces.{is_own_role, is_own, mine, others, either, either_role, no_roles}
 use Rattle.bpaf_exact.specs.Pieces.{IsNamed, Apart, Cut, at_end, passed, flag, argument, word}
 use Rattle.bpaf_exact.specs.Pieces.{pieces}
@@ -28,7 +29,7 @@ joined_part Alone y h = sym (h refl)
 joined_part WithNext y h = sym (h refl)
 
 -- so a line is cut by both together as by the whole
-cut_with_part : (q r : Roles) → IsPart q r → {cs : Cells} {os : List Piece} → Cut r cs os
+cut_with_part : (q r : Roles) → IsPart q r → {cs : Cells} {os : List LinePiece} → Cut r cs os
     → Cut (either q r) cs os
 cut_with_part q r part at_end = at_end
 cut_with_part q r part (passed c) = passed (cut_with_part q r part c)
@@ -63,12 +64,12 @@ fails false h = refl
 
 -- what is another's own isn't among one's own
 mine_of_others : (p q : Roles) → ((k : Arg) → is_own_role (q k) ≡ true → p k ≡ Foreign)
-    → (os : List Piece) → mine q (others p os) ≡ mine q os
+    → (os : List LinePiece) → mine q (others p os) ≡ mine q os
 mine_of_others p q apart [] = refl
 mine_of_others p q apart (o ∷ os) =
     by_own (mine_of_others p q apart os) (is_own p o) (foreign o)
   where
-    foreign : (o : Piece) → is_own q o ≡ true → is_own p o ≡ false
+    foreign : (o : LinePiece) → is_own q o ≡ true → is_own p o ≡ false
     foreign (One k) e = ap is_own_role (apart k e)
     foreign (Two k w) e = ap is_own_role (apart k e)
 
@@ -79,7 +80,7 @@ mine_of_others p q apart (o ∷ os) =
     by_own e false h = ap (λ z. if is_own q o then (o ∷ z) else z) e
 
 -- where no item is one's own, no piece is
-mine_none : (q : Roles) → ((k : Arg) → is_own_role (q k) ≡ false) → (os : List Piece)
+mine_none : (q : Roles) → ((k : Arg) → is_own_role (q k) ≡ false) → (os : List LinePiece)
     → mine q os ≡ []
 mine_none q none [] = refl
 mine_none q none (One k ∷ os) =
@@ -142,8 +143,9 @@ later_by {A = A} {B = B} {C = C} own behind_it (complete k p first) (complete By
     by_kind k owned (may_follow k own behind_it) refl
   where
     -- behind words no field has keys
-    behind_words : (rest : List Piece → List Piece) → ((k : Arg) → is_own_role (q k) ≡ false)
-        → (words : List Piece → A → Type 0)
+    behind_words : (rest : List LinePiece → List LinePiece)
+        → ((k : Arg) → is_own_role (q k) ≡ false)
+        → (words : List LinePiece → A → Type 0)
         → ReadsOwn (A × C) B (either no_roles r) (λ os v. words os v.0 × fields.value (rest os) v.1)
         q value (λ v. of v.1)
     behind_words rest none words = record {
@@ -246,7 +248,7 @@ made_field {A = A} f a s of from same h = record { by = of_record s (made_by f a
     of_record (product q fields) h = h
 
 -- What a value of the record says of its field: it is read off the field's own keys on the line.
-pub field_value : {V A : Type 0} (s : FlatForm V) (q : Roles) (own : List Piece → A → Type 0)
+pub field_value : {V A : Type 0} (s : FlatForm V) (q : Roles) (own : List LinePiece → A → Type 0)
     (of : V → A) → IsNamed q → IsFieldOf (complete ByName q own) s of → (context : Context) (v : V)
     → RecordValue (product_roles s) (product_reading s).value context v
     → own (pieces q (line_cells context)) (of v)

@@ -10,7 +10,7 @@ use Rattle.bpaf_line.specs.Situation.{Situation, take_place}
 use Rattle.bpaf_line.specs.Taking.{HasNone, TakesFlag}
 use Rattle.bpaf_laws.specs.Environment.{is_set}
 use Rattle.bpaf_laws.specs.Flag.{FlagOutcome, FlagFails}
-use Rattle.bpaf_exact.specs.Pieces.{Alone, Roles, Piece, One, IsNamed, pieces, takes_none}
+use Rattle.bpaf_exact.specs.Pieces.{Alone, Roles, LinePiece, One, IsNamed, pieces, takes_none}
 use Rattle.bpaf_exact.specs.Flat.{class, class_of, cells, IsWhole, ByName}
 use Rattle.bpaf_exact.specs.Single.{Groups, Gap, FrontOf, SingleOk, gave_absent, took, SingleErr}
 use Rattle.bpaf_exact.specs.Single.{of_memory, SingleLaw}
@@ -33,7 +33,7 @@ module _ (T : Type 0) (clones : T → T → Type 0) (key : Key) (present : T)
   q = flag_roles key.names
 
   -- what its pieces mean
-  abbrev value : Piece → T → Type 0
+  abbrev value : LinePiece → T → Type 0
   value = FlagValue (clones present)
 
   -- they are the keys that the flag looks for

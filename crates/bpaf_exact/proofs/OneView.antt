@@ -8,7 +8,7 @@ use Rattle.bpaf_text.specs.ByName.{ByName as Key, KeyWithValue}
 use Rattle.bpaf_words.specs.Items.{item_text}
 use Rattle.bpaf_line.specs.Situation.{Context}
 use Rattle.bpaf_laws.specs.Reading.{Outcome}
-use Rattle.bpaf_exact.specs.Pieces.{Roles, Piece, One, Two, is_own}
+use Rattle.bpaf_exact.specs.Pieces.{Roles, LinePiece, One, Two, is_own}
 use Rattle.bpaf_exact.specs.Names.{are_all_apart}
 use Rattle.bpaf_exact.specs.Flat.{FieldsLaw, FieldsReading, FieldKind, ByName}
 use Rattle.bpaf_exact.specs.Single.{Groups, Gap, FrontOf, Own, own_none, own_more, SingleLaw}
@@ -82,15 +82,16 @@ module _ (A B X Y : Type 0) (see : A → X) (look : B → Y) (f : Closure A B)
 -- Leaves.
 
 -- the values of the first piece look alike
-front_view : (T X : Type 0) (see : T → X) (value : Piece → T → Type 0)
-    → ((o : Piece) → Alike see (value o)) → OneGroup see (FrontOf T value)
+front_view : (T X : Type 0) (see : T → X) (value : LinePiece → T → Type 0)
+    → ((o : LinePiece) → Alike see (value o)) → OneGroup see (FrontOf T value)
 front_view T X see value u os rest others v w a b =
     let c : a.piece ∷ rest ≡ b.piece ∷ others = sym a.is ∙ b.is in
     let d : a.piece ≡ b.piece = cc in
     (u b.piece v w (subst (λ z. value z v) d a.means) b.means, cc)
 
 -- a present value
-flag_piece : (T X : Type 0) (see : T → X) (present : T → Type 0) → Alike see present → (o : Piece)
+flag_piece : (T X : Type 0) (see : T → X) (present : T → Type 0) → Alike see present
+    → (o : LinePiece)
     → Alike see (FlagValue present o)
 flag_piece T X see present u (One k) v w a b = u v w a b
 flag_piece T X see present u (Two k x) v w a b = absurd a
@@ -110,7 +111,8 @@ flag_view T X see clones u key present absent = by_envs key.envs absent
 
 -- a key and its value
 argument_piece : (T X : Type 0) (see : T → X) (means : List ℕ → T → Type 0)
-    → ((text : List ℕ) → Alike see (means text)) → (o : Piece) → Alike see (ArgumentValue means o)
+    → ((text : List ℕ) → Alike see (means text)) → (o : LinePiece)
+    → Alike see (ArgumentValue means o)
 argument_piece T X see means u (One k) v w a b = absurd a
 argument_piece T X see means u (Two k x) v w a b = u (item_text x) v w a b
 
@@ -119,7 +121,7 @@ last_group : (T X : Type 0) (see : T → X) (means : List ℕ → T → Type 0)
     → ((text : List ℕ) → Alike see (means text)) → OneGroup see (LastGroup T means)
 last_group T X see means u os rest others v w a b =
     let same : Two a.key a.word ≡ Two b.key b.word =
-    last_same Piece a.before b.before (Two a.key a.word) (Two b.key b.word) (sym a.is ∙ b.is) in
+    last_same LinePiece a.before b.before (Two a.key a.word) (Two b.key b.word) (sym a.is ∙ b.is) in
     let word : a.word ≡ b.word = cc in (
       u (item_text b.word) v w (subst (λ x. means (item_text x) v) word a.meant) b.meant,
       a.none_left ∙ sym b.none_left,
@@ -141,7 +143,7 @@ argument_view T X see means u argument =
 
 -- a word
 word_piece : (T X : Type 0) (see : T → X) (means : List ℕ → T → Type 0)
-    → ((text : List ℕ) → Alike see (means text)) → (o : Piece) → Alike see (WordValue means o)
+    → ((text : List ℕ) → Alike see (means text)) → (o : LinePiece) → Alike see (WordValue means o)
 word_piece T X see means u (One k) v w a b = u (item_text k) v w a b
 word_piece T X see means u (Two k x) v w a b = absurd a
 
@@ -224,7 +226,7 @@ module _ (T X : Type 0) (see : T → X) (inner : Outcome T)
     (gap : Gap T) (l : SingleLaw T inner k q group gap) (one : OneGroup see group)
     (absent : Alike see gap.absent) where
   -- own lists of the same pieces look alike
-  own_view : (os : List Piece) (vs ws : List T) → Own T group os vs → Own T group os ws
+  own_view : (os : List LinePiece) (vs ws : List T) → Own T group os vs → Own T group os ws
       → map see vs ≡ map see ws
   own_view os vs ws own_none own_none = refl
   own_view os vs ws own_none (own_more {rest = rest} {v = v} g o) = absurd (l.starts v rest g)
@@ -240,13 +242,13 @@ module _ (T X : Type 0) (see : T → X) (inner : Outcome T)
   own_never : (v : T) (vs : List T) → Own T group [] (v ∷ vs) → ⊥
   own_never v vs o = by_list [] (v ∷ vs) refl refl o
     where
-      by_list : (os : List Piece) (ws : List T) → os ≡ [] → ws ≡ v ∷ vs → Own T group os ws → ⊥
+      by_list : (os : List LinePiece) (ws : List T) → os ≡ [] → ws ≡ v ∷ vs → Own T group os ws → ⊥
       by_list os ws e f own_none = cc
       by_list os ws e f (own_more {rest = rest} {v = w} g o) =
           l.starts w rest (subst (λ z. group z w rest) e g)
 
   -- so do they under a repeat
-  pub list_view : (os : List Piece) → Alike (map see) (OwnList T group gap os)
+  pub list_view : (os : List LinePiece) → Alike (map see) (OwnList T group gap os)
   list_view os vs ws (listed h o) (listed i p) = own_view os vs ws o p
   list_view os vs ws (listed h o) (listed_and_absent i a p) = absurd cc
   list_view os vs ws (listed h o) (only_absent i a) = absurd cc
@@ -261,7 +263,7 @@ module _ (T X : Type 0) (see : T → X) (inner : Outcome T)
       ap (λ z. z ∷ []) (absent x y a b)
 
   -- and their last values
-  pub last_view : (os : List Piece) → Alike see (LastOf T group gap os)
+  pub last_view : (os : List LinePiece) → Alike see (LastOf T group gap os)
   last_view os v w a b =
       last_same X (map see a.is.before) (map see b.is.before) (see v) (see w)
       (sym (map_last T X see a.is.before v)
@@ -270,20 +272,21 @@ module _ (T X : Type 0) (see : T → X) (inner : Outcome T)
       ∙ (ap (map see) b.is.is ∙ map_last T X see b.is.before w))))
 
   -- the value of a single field
-  pub value_view : (os : List Piece) → Alike see (SingleValue T group gap os)
+  pub value_view : (os : List LinePiece) → Alike see (SingleValue T group gap os)
   value_view os v w (of_group g) (of_group h) = (one os [] [] v w g h).0
   value_view os v w (of_group g) (of_gap a) = absurd (l.starts v [] g)
   value_view os v w (of_gap a) (of_group h) = absurd (l.starts w [] h)
   value_view os v w (of_gap a) (of_gap b) = absent v w a b
 
   -- where there is no piece there is none
-  none_single : (os : List Piece) (v : T) → os ≡ [] → gap.has ≡ false → SingleValue T group gap os v
+  none_single : (os : List LinePiece) (v : T) → os ≡ [] → gap.has ≡ false
+      → SingleValue T group gap os v
       → ⊥
   none_single os v e h (of_group g) = l.starts v [] (subst (λ z. group z v []) e g)
   none_single os v e h (of_gap a) = l.no_absent v h a
 
   -- what may be left out
-  pub optional_value_view : (os : List Piece)
+  pub optional_value_view : (os : List LinePiece)
       → Alike (option_view see) (OptionalValue T group gap os)
   optional_value_view os v w (some_value {v = x} g) (some_value {v = y} h) =
       ap Some (value_view os x y g h)
@@ -295,7 +298,7 @@ module _ (T X : Type 0) (see : T → X) (inner : Outcome T)
 
   -- what has a default
   pub fallback_value_view : (f : Closure (Unit {0}) T) → Alike see (λ v. f.yes tt v)
-      → (os : List Piece) → Alike see (FallbackValue T group gap f os)
+      → (os : List LinePiece) → Alike see (FallbackValue T group gap f os)
   fallback_value_view f given os v w (own_value g) (own_value h) = value_view os v w g h
   fallback_value_view f given os v w (own_value g) (kept_value h y) =
       absurd (none_single [] v refl h g)
@@ -421,7 +424,7 @@ module _ (T X : Type 0) (see : T → X) where
   record_view inner names (product q fields) l u = u
 
   -- the values of a record
-  product_view : (s : FlatForm T) → HasOneView see s → (os : List Piece)
+  product_view : (s : FlatForm T) → HasOneView see s → (os : List LinePiece)
       → Alike see ((product_reading s).value os)
   product_view not_flat u os v w a b = absurd a
   product_view (alternative q value) u os v w a b = absurd a

@@ -9,7 +9,8 @@ use Rattle.bpaf_line.specs.declared.error.Error.{Error}
 use Rattle.bpaf_line.specs.Situation.{Situation}
 use Rattle.bpaf_line.specs.Taking.{TakesText}
 use Rattle.bpaf_line.proofs.Matches.{open_item_there}
-use Rattle.bpaf_exact.specs.Pieces.{Cells, Foreign, Alone, WithNext, Piece, One, word_roles, pieces}
+use Rattle.bpaf_exact.specs.Pieces.{Cells, Foreign, Alone, WithNext, LinePiece, One, word_roles}
+use Rattle.bpaf_exact.specs.Pieces.{pieces}
 use Rattle.bpaf_exact.specs.Pieces.{takes_none}
 use Rattle.bpaf_exact.specs.Flat.{cells, IsWhole, Steady, OneWord, front, back}
 use Rattle.bpaf_exact.specs.Single.{Groups, FrontOf, no_gap, SingleOk, took, SingleErr, of_memory}
@@ -51,7 +52,7 @@ module _ (T : Type 0) (means : List ℕ → T → Type 0) where
       by_word false h = cc
 
   -- the first word heads the pieces
-  word_pieces : {cs ds : Cells} {o : Piece} → TakesFirst word_roles cs o ds
+  word_pieces : {cs ds : Cells} {o : LinePiece} → TakesFirst word_roles cs o ds
       → pieces word_roles cs ≡ o ∷ pieces word_roles ds
   word_pieces (first_one {k = k} {cs = cs} e) = begin_at k cs (pieces word_roles cs) e
   word_pieces (first_two {k = k} e v) = absurd (never_two k e)
@@ -123,7 +124,8 @@ module _ (T : Type 0) (means : List ℕ → T → Type 0) where
   one_by_one : WordByWord T group
   one_by_one = record { by_front = fronts; of_front = heads }
     where
-      fronts : (os : List Piece) (v : T) (rest : List Piece) → FrontOf T (WordValue means) os v rest
+      fronts : (os : List LinePiece) (v : T) (rest : List LinePiece)
+          → FrontOf T (WordValue means) os v rest
           → FrontOf T (WordValue means) (front OneWord os) v [] × (rest ≡ back OneWord os)
       fronts [] v rest g = let e = g.is in absurd cc
       fronts (o ∷ os) v rest g =
@@ -131,7 +133,7 @@ module _ (T : Type 0) (means : List ℕ → T → Type 0) where
           let d : o ≡ g.piece = cc in
           (record { piece = g.piece; is = ap (λ z. z ∷ []) d; means = g.means }, cc)
 
-      heads : (os : List Piece) (v : T) → FrontOf T (WordValue means) (front OneWord os) v []
+      heads : (os : List LinePiece) (v : T) → FrontOf T (WordValue means) (front OneWord os) v []
           → FrontOf T (WordValue means) os v (back OneWord os)
       heads [] v g = g
       heads (o ∷ os) v g =

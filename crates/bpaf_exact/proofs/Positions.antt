@@ -6,7 +6,7 @@ use Rattle.std.specs.Global.{Vec}
 use Rattle.bpaf_doc.specs.Names.{Names}
 use Rattle.bpaf_words.specs.Items.{item_text}
 use Rattle.bpaf_words.specs.declared.arg.Arg.{Arg}
-use Rattle.bpaf_exact.specs.Pieces.{Role, Foreign, Alone, WithNext, Roles, Piece, One, Two}
+use Rattle.bpaf_exact.specs.Pieces.{Role, Foreign, Alone, WithNext, Roles, LinePiece, One, Two}
 use Rattle.bpaf_exact.specs.Pieces.{is_own_role, others, either, either_role, no_roles}
 use Rattle.bpaf_exact.specs.Flat.{FieldKind, ByName, OneWord, EachWord, BothValue, both_reading}
 use Rattle.bpaf_exact.specs.Flat.{keys}
@@ -25,7 +25,7 @@ use Rattle.bpaf_exact.specs.Fields.{words_behind_field, ReadsWords, WordsBy, IsW
 use Rattle.bpaf_exact.specs.Fields.{word_texts, IsFirstWord}
 
 -- where no item is one's own, each piece is another's
-others_none : (q : Roles) → ((k : Arg) → is_own_role (q k) ≡ false) → (os : List Piece)
+others_none : (q : Roles) → ((k : Arg) → is_own_role (q k) ≡ false) → (os : List LinePiece)
     → others q os ≡ os
 others_none q none [] = refl
 others_none q none (One k ∷ os) =
@@ -36,7 +36,7 @@ others_none q none (Two k w ∷ os) =
     ∙ ap (λ z. Two k w ∷ z) (others_none q none os)
 
 -- what is neither's is no piece of both
-others_both : (q r : Roles) (os : List Piece) → others r (others q os) ≡ others (either q r) os
+others_both : (q r : Roles) (os : List LinePiece) → others r (others q os) ≡ others (either q r) os
 others_both q r [] = refl
 others_both q r (One k ∷ os) = by_role (q k) (r k) refl (others_both q r os)
   where
@@ -113,9 +113,9 @@ data IsWordKind : FieldKind → Type 0 where
 
 -- a positional field of fields that stand behind another
 module _ {A B C : Type 0} (own behind : List Names) (k : FieldKind) (p : Roles)
-    (first : List Piece → A → Type 0) (r : Roles) (fields : FieldsReading C)
-    (owned : Owns r behind) (j : FieldKind) (rest : List Piece → List Piece)
-    (value : List Piece → B → Type 0) (of : C → B)
+    (first : List LinePiece → A → Type 0) (r : Roles) (fields : FieldsReading C)
+    (owned : Owns r behind) (j : FieldKind) (rest : List LinePiece → List LinePiece)
+    (value : List LinePiece → B → Type 0) (of : C → B)
     (h : ReadsWords C B r fields.value j rest value of) where
   -- whichever kind that one is of
   later_reads : may_follow k own behind ≡ true
@@ -124,8 +124,8 @@ module _ {A B C : Type 0} (own behind : List Names) (k : FieldKind) (p : Roles)
   later_reads e = by_kind k e
     where
       -- behind words no item is another's own
-      behind_words : (l : List Piece → List Piece) → ((i : Arg) → is_own_role (r i) ≡ false)
-          → (words : List Piece → A → Type 0)
+      behind_words : (l : List LinePiece → List LinePiece) → ((i : Arg) → is_own_role (r i) ≡ false)
+          → (words : List LinePiece → A → Type 0)
           → ReadsWords (A × C) B (either no_roles r)
           (λ os v. words os v.0 × fields.value (l os) v.1) j (λ os. rest (l os)) value (λ v. of v.1)
       behind_words l none words = record {
@@ -146,7 +146,7 @@ module _ {A B C : Type 0} (own behind : List Names) (k : FieldKind) (p : Roles)
 
 -- a positional field of those that stand behind another field
 later_words_by : {A B C : Type 0} (own behind : List Names) (a : FlatForm A) (b : FlatForm B) (s : FlatForm C)
-    (rest : List Piece → List Piece) (of : C → B) → FormOwns behind s → WordsBy b rest s of
+    (rest : List LinePiece → List LinePiece) (of : C → B) → FormOwns behind s → WordsBy b rest s of
     → WordsBy b (λ os. rest (words_behind_field a os)) (flat_both own behind a s) (λ v. of v.1)
 later_words_by own behind a not_flat s rest of owned h = tt
 later_words_by own behind a (alternative q value) s rest of owned h = tt
@@ -215,7 +215,7 @@ last_words_by (complete EachWord q value) = record {
 }
 
 -- a positional field of what a constructor makes
-made_words_by : {A B C : Type 0} (f : Closure A B) (a : FlatForm C) (rest : List Piece → List Piece)
+made_words_by : {A B C : Type 0} (f : Closure A B) (a : FlatForm C) (rest : List LinePiece → List LinePiece)
     (s : FlatForm A) (of : A → C) (from : B → C)
     → ((x : A) (v : B) → f.yes x v → from v ≡ of x) → WordsBy a rest s of
     → WordsBy a rest (flat_record (flat_con f s)) from
@@ -248,7 +248,7 @@ first_words own behind a s owned = record { by = first_words_by own behind a s o
 
 -- one of the others gets what the first leaves,
 pub later_words : {A B C : Type 0} (own behind : List Names) (a : FlatForm A) (b : FlatForm B) (s : FlatForm C)
-    (rest : List Piece → List Piece) (of : C → B) → OwnsKeys behind s → IsWordsOf b rest s of
+    (rest : List LinePiece → List LinePiece) (of : C → B) → OwnsKeys behind s → IsWordsOf b rest s of
     → IsWordsOf b (λ os. rest (words_behind_field a os)) (flat_both own behind a s) (λ v. of v.1)
 later_words own behind a b s rest of owned h =
     record { by = later_words_by own behind a b s rest of owned.by h.by }
@@ -259,7 +259,7 @@ last_words a = record { by = last_words_by a }
 
 -- and so is one of what a constructor makes.
 pub made_words : {A B C : Type 0} (f : Closure A B) (a : FlatForm C)
-    (rest : List Piece → List Piece)
+    (rest : List LinePiece → List LinePiece)
     (s : FlatForm A) (of : A → C) (from : B → C)
     → ((x : A) (v : B) → f.yes x v → from v ≡ of x) → IsWordsOf a rest s of
     → IsWordsOf a rest (flat_record (flat_con f s)) from
@@ -268,11 +268,12 @@ made_words f a rest s of from same h = record { by = made_words_by f a rest s of
 -- What a positional field's value is.
 module _ (T : Type 0) (means : List ℕ → T → Type 0) where
   -- it is read off one word
-  word_by : (os ws : List Piece) (v : T) → front OneWord os ≡ ws
+  word_by : (os ws : List LinePiece) (v : T) → front OneWord os ≡ ws
       → SingleValue T (FrontOf T (WordValue means)) (no_gap T) ws v → IsFirstWord T means os v
   word_by os ws v e (of_group g) = by_piece os g.piece (e ∙ g.is) g.means
     where
-      by_piece : (os : List Piece) (o : Piece) → front OneWord os ≡ o ∷ [] → WordValue means o v
+      by_piece : (os : List LinePiece) (o : LinePiece) → front OneWord os ≡ o ∷ []
+          → WordValue means o v
           → IsFirstWord T means os v
       by_piece [] o i m = absurd cc
       by_piece (One w ∷ more) (One x) i m = let same : w ≡ x = cc in
@@ -282,32 +283,32 @@ module _ (T : Type 0) (means : List ℕ → T → Type 0) where
   word_by os [] v e (of_gap a) = absurd a
 
   -- Without a repeat: what the first word that is left to it means.
-  pub word_said : (os : List Piece) (v : T)
+  pub word_said : (os : List LinePiece) (v : T)
       → SingleValue T (FrontOf T (WordValue means)) (no_gap T) (front OneWord os) v
       → IsFirstWord T means os v
   word_said os v h = word_by os (front OneWord os) v refl h
 
   -- each word has its value
-  all_words : (os : List Piece) (vs : List T) → Own T (FrontOf T (WordValue means)) os vs
+  all_words : (os : List LinePiece) (vs : List T) → Own T (FrontOf T (WordValue means)) os vs
       → AllZip means (word_texts os) vs
   all_words [] [] own_none = tt
   all_words (o ∷ os) [] h = elim h [ ]
   all_words os (v ∷ vs) (own_more g more) = by_piece g.piece g.is g.means (all_words _ vs more)
     where
-      by_piece : (o : Piece) {rest : List Piece} → os ≡ o ∷ rest → WordValue means o v
+      by_piece : (o : LinePiece) {rest : List LinePiece} → os ≡ o ∷ rest → WordValue means o v
           → AllZip means (word_texts rest) vs → AllZip means (word_texts os) (v ∷ vs)
       by_piece (One w) i m h = subst (λ z. AllZip means (word_texts z) (v ∷ vs)) (sym i) (m, h)
       by_piece (Two k w) i m h = absurd m
 
   -- the values of a repeat
-  words_by : (os : List Piece) (vs : List T)
+  words_by : (os : List LinePiece) (vs : List T)
       → OwnList T (FrontOf T (WordValue means)) (no_gap T) os vs → AllZip means (word_texts os) vs
   words_by os vs (listed h o) = all_words os vs o
   words_by os (v ∷ vs) (listed_and_absent h a o) = absurd a
   words_by [] (v ∷ []) (only_absent h a) = absurd a
 
   -- Under `many`: what all words that are left to it mean, in line order.
-  pub words_said : (os : List Piece) (v : Vec T)
+  pub words_said : (os : List LinePiece) (v : Vec T)
       → ClosedValue (List T) (Vec T) (OwnList T (FrontOf T (WordValue means)) (no_gap T))
       (list_closure T) os v
       → AllZip means (word_texts os) v.items

@@ -5,7 +5,8 @@ use Rattle.bpaf_line.specs.declared.error.Error.{Error}
 use Rattle.bpaf_line.specs.Situation.{Situation, with_current}
 use Rattle.bpaf_laws.specs.Product.{ProductOutcome}
 use Rattle.bpaf_laws.specs.Reading.{Outcome}
-use Rattle.bpaf_exact.specs.Pieces.{Cells, Roles, Role, Foreign, Alone, WithNext, Piece, IsNamed}
+use Rattle.bpaf_exact.specs.Pieces.{Cells, Roles, Role, Foreign, Alone, WithNext, LinePiece}
+use Rattle.bpaf_exact.specs.Pieces.{IsNamed}
 use Rattle.bpaf_exact.specs.Pieces.{Cut, either, either_role, no_roles}
 use Rattle.bpaf_exact.specs.Flat.{cells, NonePresent, no_place, none_here, IsWhole, Steady}
 use Rattle.bpaf_exact.specs.Flat.{FieldKind}
@@ -31,7 +32,7 @@ count_none (none_here n) = count_none n
 
 -- The last field of a product, or a record of one field alone.
 module _ (T : Type 0) (outcome : Outcome T)
-    (k : FieldKind) (q : Roles) (value : List Piece → T → Type 0)
+    (k : FieldKind) (q : Roles) (value : List LinePiece → T → Type 0)
     (l : FieldLaw T outcome k q value) where
   -- a field may stand before none
   before_none : Before k q no_roles
@@ -74,7 +75,7 @@ module _ (T : Type 0) (outcome : Outcome T)
       }
 
   -- where the field has a value each answer is one
-  last_answers : (s t : Situation) (a : Result T Error) (os : List Piece) → IsWhole s
+  last_answers : (s t : Situation) (a : Result T Error) (os : List LinePiece) → IsWhole s
       → outcome s a t → Cut (either (keys k q) no_roles) (cells s) os
       → (last_reading k q value).each os → GivesAll (LastValue T k q value os) a t
   last_answers s t (Ok x) os w o c h =
@@ -135,7 +136,7 @@ module _ (A B : Type 0) (fields : Outcome A) (makes : A → B → Type 0) (r : R
       }
 
   -- where each field has a value each answer is one made of such
-  con_answers : (s t : Situation) (a : Result B Error) (os : List Piece) → IsWhole s
+  con_answers : (s t : Situation) (a : Result B Error) (os : List LinePiece) → IsWhole s
       → ProductOutcome fields makes s a t → Cut r (cells s) os → reading.each os
       → GivesAll (made.value os) a t
   con_answers s t (Ok u) os w o c h =

@@ -4,7 +4,7 @@ use Rattle.std.proofs.Common.{None, Result, Ok, Err, refl, sym, ap, ◌∙◌, s
 use Rattle.bpaf_line.specs.declared.error.Error.{Error}
 use Rattle.bpaf_line.specs.Situation.{Situation, open_count}
 use Rattle.bpaf_laws.specs.Reading.{Outcome}
-use Rattle.bpaf_exact.specs.Pieces.{Cells, Roles, Piece, pieces, TakesPieces, takes_none}
+use Rattle.bpaf_exact.specs.Pieces.{Cells, Roles, LinePiece, pieces, TakesPieces, takes_none}
 use Rattle.bpaf_exact.specs.Pieces.{takes_more}
 use Rattle.bpaf_exact.specs.Flat.{ErrorClass, OfMemory, OfMissing, Caught, Refused, class, cells}
 use Rattle.bpaf_exact.specs.Flat.{IsWhole, Steady, FieldKind, ByName, OneWord, EachWord, front}
@@ -34,7 +34,7 @@ pub same_takes : (q : Roles) {cs ds : Cells} → ds ≡ cs → TakesPieces q cs 
 same_takes q {cs = cs} e = subst (TakesPieces q cs) (sym e) takes_none
 
 -- what has an own list can be read
-readable : {T : Type 0} (k : FieldKind) (group : Groups T) {os : List Piece} {vs : List T}
+readable : {T : Type 0} (k : FieldKind) (group : Groups T) {os : List LinePiece} {vs : List T}
     → Own T group os vs → Readable k group os
 readable ByName group {vs = vs} o = (vs, o)
 readable OneWord group o = tt
@@ -161,13 +161,13 @@ module _ (T : Type 0) (inner : Outcome T)
     pub list : OwnList T group gap (pieces q (cells s)) vs
 
   -- no piece has no own list but the empty one
-  pub own_nil : (os : List Piece) (vs : List T) → os ≡ [] → Own T group os vs → vs ≡ []
+  pub own_nil : (os : List LinePiece) (vs : List T) → os ≡ [] → Own T group os vs → vs ≡ []
   own_nil os vs e own_none = refl
   own_nil os vs e (own_more {rest = rest} {v = v} g o) =
       absurd (l.starts v rest (subst (λ z. group z v rest) e g))
 
   -- an own list, with the absent value where there is one
-  with_absent : (has : Bool) → gap.has ≡ has → (os : List Piece) (v : T) (vs : List T)
+  with_absent : (has : Bool) → gap.has ≡ has → (os : List LinePiece) (v : T) (vs : List T)
       → (gap.has ≡ true → (a : T) × gap.absent a) → Own T group os (v ∷ vs)
       → OwnList T group gap os (v ∷ vs)
   with_absent true e os v vs ab o = let a = ab e in listed_and_absent e a.1 o
@@ -246,18 +246,18 @@ module _ (T : Type 0) (inner : Outcome T)
   -- Where the pieces can be read no other answer comes, but for want of memory.
 
   -- an own list of the pieces, or want of memory
-  abbrev GivesList : List Piece → Result (List T) Error → Situation → Type 0
+  abbrev GivesList : List LinePiece → Result (List T) Error → Situation → Type 0
   GivesList os (Ok vs) t = Own T group os vs × (pieces q (cells t) ≡ [])
   GivesList os (Err e) t = class e ≡ OfMemory
 
   -- an own list is empty, or has a first value
-  data OwnView (os : List Piece) (vs : List T) : Type 0 where
+  data OwnView (os : List LinePiece) (vs : List T) : Type 0 where
     view_none : os ≡ [] → vs ≡ [] → OwnView os vs
-    view_more : (w : T) (rest : List Piece) (ws : List T) → vs ≡ w ∷ ws → group os w rest
+    view_more : (w : T) (rest : List LinePiece) (ws : List T) → vs ≡ w ∷ ws → group os w rest
         → Own T group rest ws → OwnView os vs
 
   -- by its constructors
-  own_view : (os : List Piece) (vs : List T) → Own T group os vs → OwnView os vs
+  own_view : (os : List LinePiece) (vs : List T) → Own T group os vs → OwnView os vs
   own_view os vs own_none = view_none refl refl
   own_view os vs (own_more {rest = rest} {v = v} {vs = us} g o) = view_more v rest us refl g o
 
@@ -354,25 +354,25 @@ module _ (T : Type 0) (inner : Outcome T)
   steps_give last s t r ws w e ab o (no_room c) = c
 
   -- an own list under a repeat: all that is read, or the absent value alone
-  data ListView (os : List Piece) (vs : List T) : Type 0 where
+  data ListView (os : List LinePiece) (vs : List T) : Type 0 where
     all_read : (gap.has ≡ true → (a : T) × gap.absent a) → Own T group os vs
         → (gap.has ≡ true → os ≡ [] → ⊥) → ListView os vs
     gap_read : gap.has ≡ true → (a : T) → gap.absent a → os ≡ [] → ListView os vs
 
   -- by its constructors
-  list_view : (os : List Piece) (vs : List T) → OwnList T group gap os vs → ListView os vs
+  list_view : (os : List LinePiece) (vs : List T) → OwnList T group gap os vs → ListView os vs
   list_view os vs (listed h o) = all_read (λ i. absurd cc) o (λ i e. absurd cc)
   list_view os vs (listed_and_absent {a = a} h ab o) =
       all_read (λ i. (a, ab)) o (λ i e. let n = own_nil os vs e o in absurd cc)
   list_view os vs (only_absent {a = a} h ab) = gap_read h a ab refl
 
   -- an own list under a repeat, or want of memory
-  abbrev GivesOwn : List Piece → Result (List T) Error → Situation → Type 0
+  abbrev GivesOwn : List LinePiece → Result (List T) Error → Situation → Type 0
   GivesOwn os (Ok vs) t = OwnList T group gap os vs × (pieces q (cells t) ≡ [])
   GivesOwn os (Err e) t = class e ≡ OfMemory
 
   -- an own list as one under a repeat
-  list_of : (has : Bool) → gap.has ≡ has → (os : List Piece) (vs : List T)
+  list_of : (has : Bool) → gap.has ≡ has → (os : List LinePiece) (vs : List T)
       → (gap.has ≡ true → (a : T) × gap.absent a) → (gap.has ≡ true → os ≡ [] → ⊥)
       → Own T group os vs → OwnList T group gap os vs
   list_of true e os vs ab n own_none = absurd (n e refl)
@@ -380,7 +380,7 @@ module _ (T : Type 0) (inner : Outcome T)
   list_of false e os vs ab n o = listed e o
 
   -- the same of an answer
-  own_given : (os : List Piece) (r : Result (List T) Error) (t : Situation)
+  own_given : (os : List LinePiece) (r : Result (List T) Error) (t : Situation)
       → (gap.has ≡ true → (a : T) × gap.absent a) → (gap.has ≡ true → os ≡ [] → ⊥)
       → GivesList os r t → GivesOwn os r t
   own_given os (Ok vs) t ab n g = (list_of gap.has refl os vs ab n g.0, g.1)
@@ -478,7 +478,7 @@ module _ (T : Type 0) (inner : Outcome T)
   -- The values of a repeat are its own list, and no other answer comes but for want of memory.
 
   -- a repeat takes all pieces
-  front_all : (os : List Piece) → front (repeated k) os ≡ os
+  front_all : (os : List LinePiece) → front (repeated k) os ≡ os
   front_all os = by_kind k
     where
       by_kind : (z : FieldKind) → front (repeated z) os ≡ os
@@ -487,7 +487,7 @@ module _ (T : Type 0) (inner : Outcome T)
       by_kind EachWord = refl
 
   -- and leaves none
-  back_none : (os : List Piece) → back (repeated k) os ≡ []
+  back_none : (os : List LinePiece) → back (repeated k) os ≡ []
   back_none os = by_kind k
     where
       by_kind : (z : FieldKind) → back (repeated z) os ≡ []

@@ -4,7 +4,7 @@ use Rattle.bpaf_doc.specs.Names.{Names}
 use Rattle.bpaf_words.specs.declared.arg.Arg.{Arg}
 use Rattle.bpaf_words.specs.declared.arg.Arg.TheVariants.{Short, Long, ArgWord, Word, PosWord}
 use Rattle.bpaf_line.specs.Situation.{Context}
-use Rattle.bpaf_exact.specs.Pieces.{Foreign, Roles, Piece, One, Two, IsNamed, Cut, at_end}
+use Rattle.bpaf_exact.specs.Pieces.{Foreign, Roles, LinePiece, One, Two, IsNamed, Cut, at_end}
 use Rattle.bpaf_exact.specs.Pieces.{flag, argument, word, either, no_roles, word_roles, mine}
 use Rattle.bpaf_exact.specs.Pieces.{others}
 use Rattle.bpaf_exact.specs.Pieces.{is_key}
@@ -56,20 +56,20 @@ abbrev n_roles : Roles
 n_roles = argument_roles (short 110)
 
 -- the value of the switch
-abbrev SwitchValue : List Piece → Bool → Type 0
+abbrev SwitchValue : List LinePiece → Bool → Type 0
 SwitchValue =
     SingleValue Bool (FrontOf Bool (FlagValue (exactly true))) (switch_gap (exactly false))
 
 -- that of the argument
-abbrev NumberValue : List Piece → ℕ → Type 0
+abbrev NumberValue : List LinePiece → ℕ → Type 0
 NumberValue = SingleValue ℕ (FrontOf ℕ (ArgumentValue number)) (no_gap ℕ)
 
 -- that of the argument which takes its last value
-abbrev LastValueOf : List Piece → ℕ → Type 0
+abbrev LastValueOf : List LinePiece → ℕ → Type 0
 LastValueOf = SingleValue ℕ (LastGroup ℕ number) (no_gap ℕ)
 
 -- that of a word
-abbrev TextValue : List Piece → List ℕ → Type 0
+abbrev TextValue : List LinePiece → List ℕ → Type 0
 TextValue = SingleValue (List ℕ) (FrontOf (List ℕ) (WordValue itself)) (no_gap (List ℕ))
 
 -- the key `-v`
@@ -91,13 +91,13 @@ three_roles =
     (either (keys ByName n_roles) (either (keys OneWord word_roles) no_roles))
 
 -- their values
-abbrev ThreeValue : List Piece → Bool × (ℕ × List ℕ) → Type 0
+abbrev ThreeValue : List LinePiece → Bool × (ℕ × List ℕ) → Type 0
 ThreeValue =
     BothValue ByName v_roles SwitchValue
     (BothValue ByName n_roles NumberValue (LastValue (List ℕ) OneWord word_roles TextValue))
 
 -- a piece alone, and its value
-one_front : {T : Type 0} (value : Piece → T → Type 0) (o : Piece) (v : T) → value o v
+one_front : {T : Type 0} (value : LinePiece → T → Type 0) (o : LinePiece) (v : T) → value o v
     → FrontOf T value (o ∷ []) v []
 one_front value o v h = record { piece = o; is = refl; means = h }
 
@@ -149,7 +149,7 @@ three_named = record { only_keys = by_item }
     by_item (PosWord text) h = refl
 
 -- what holds of a line that is cut for them
-three_together : (items : List Arg) (os : List Piece)
+three_together : (items : List Arg) (os : List LinePiece)
     → Cut three_roles (line_cells (line_of items)) os
     → HoldsTogether three_roles (line_cells (line_of items)) os
 three_together items os c = cut_holds_together three_roles three_named _ os c
@@ -167,7 +167,7 @@ unfolding options_first
 word_left = refl
 
 -- `-a`: a key of nobody
-foreign_key : (os : List Piece)
+foreign_key : (os : List LinePiece)
     → Cut three_roles (line_cells (line_of (Short 97 false [] ∷ []))) os → ⊥
 foreign_key os c =
     let own = (three_together (Short 97 false [] ∷ []) os c).keys [] []
@@ -175,7 +175,7 @@ foreign_key os c =
     cc
 
 -- `-v=3`: a value behind the key of a switch
-value_behind_switch : (os : List Piece)
+value_behind_switch : (os : List LinePiece)
     → Cut three_roles (line_cells (line_of (v_key ∷ ArgWord (3 ∷ []) ∷ []))) os → ⊥
 value_behind_switch os c =
     let wants = attached_to three_roles _ os
@@ -204,7 +204,8 @@ two_named = record { only_keys = by_item }
     by_item (PosWord text) h = refl
 
 -- two pieces aren't one value
-two_pieces : (o p : Piece) (v : ℕ) (os : List Piece) → os ≡ o ∷ p ∷ [] → NumberValue os v → ⊥
+two_pieces : (o p : LinePiece) (v : ℕ) (os : List LinePiece) → os ≡ o ∷ p ∷ [] → NumberValue os v
+    → ⊥
 two_pieces o p v os e (of_group g) = let h = g.is in cc
 two_pieces o p v os e (of_gap a) = a
 
@@ -223,7 +224,7 @@ value_of_a_key v r =
     (ap (mine n_roles) e) r.read.0
 
 -- the switch under `many`
-abbrev SwitchesValue : List Piece → List Bool → Type 0
+abbrev SwitchesValue : List LinePiece → List Bool → Type 0
 SwitchesValue =
     LastValue (List Bool) ByName v_roles
     (OwnList Bool (FrontOf Bool (FlagValue (exactly true))) (switch_gap (exactly false)))
@@ -252,7 +253,7 @@ switch_repeated_present = record {
 }
 
 -- `-n -- 3`: the key has no value beside it, so there is no cut
-key_before_marker : (os : List Piece)
+key_before_marker : (os : List LinePiece)
     → Cut n_roles
     (line_cells (record {
       line = n_key ∷ PosWord (45 ∷ 45 ∷ []) ∷ PosWord (3 ∷ []) ∷ [];
@@ -263,7 +264,7 @@ key_before_marker : (os : List Piece)
     → ⊥
 key_before_marker os c = no_cut os c
   where
-    no_cut : (os : List Piece)
+    no_cut : (os : List LinePiece)
         → Cut n_roles (Some n_key ∷ None ∷ Some (PosWord (3 ∷ [])) ∷ []) os → ⊥
     no_cut os (flag e c) = cc
     no_cut os (word h c) = cc
@@ -273,7 +274,7 @@ abbrev must_be_set : Closure Bool Bool
 must_be_set = record { yes = λ b c. (c ≡ b) × (b ≡ true); no = λ b. b ≡ false }
 
 -- with it inside `many` there is no value, since the absent one doesn't pass
-absent_refused : (os : List Piece) (vs : List Bool)
+absent_refused : (os : List LinePiece) (vs : List Bool)
     → OwnList Bool (ClosedGroup Bool Bool (FrontOf Bool (FlagValue (exactly true))) must_be_set)
     (closed_gap (switch_gap (exactly false)) must_be_set) os vs
     → ⊥
@@ -282,14 +283,14 @@ absent_refused os vs (listed_and_absent h a o) = let e = a.1 in let f = a.2.1 in
 absent_refused os vs (only_absent h a) = let e = a.1 in let f = a.2.1 in cc
 
 -- all words and then one: nothing is left for the one
-all_words_taken : (v : List (List ℕ) × List ℕ) (os : List Piece)
+all_words_taken : (v : List (List ℕ) × List ℕ) (os : List LinePiece)
     → BothValue EachWord word_roles
     (OwnList (List ℕ) (FrontOf (List ℕ) (WordValue itself)) (no_gap (List ℕ)))
     (LastValue (List ℕ) OneWord word_roles TextValue) os v
     → ⊥
 all_words_taken v os h = nothing [] v.1 refl h.1.read
   where
-    nothing : (os : List Piece) (v : List ℕ) → os ≡ [] → TextValue os v → ⊥
+    nothing : (os : List LinePiece) (v : List ℕ) → os ≡ [] → TextValue os v → ⊥
     nothing os v e (of_group g) = let f = g.is in cc
     nothing os v e (of_gap a) = a
 
@@ -298,7 +299,7 @@ abbrev choice_roles : Roles
 choice_roles = either (argument_roles (short 97)) (argument_roles (short 98))
 
 -- what a piece of either means
-abbrev ChoiceValue : Piece → ℕ → Type 0
+abbrev ChoiceValue : LinePiece → ℕ → Type 0
 ChoiceValue = either_value (argument_roles (short 97)) (ArgumentValue number) (ArgumentValue number)
 
 -- the key `-a`
@@ -443,13 +444,13 @@ last_list : OwnList ℕ (LastGroup ℕ number) (no_gap ℕ)
 last_list = listed refl (own_more last_of_two own_none)
 
 -- a key without a value is none of keys with values
-bare_before_last : (before rest : List Piece) (k w : Arg) → HaveValues before
+bare_before_last : (before rest : List LinePiece) (k w : Arg) → HaveValues before
     → One n_key ∷ rest ≡ before ++ Two k w ∷ [] → ⊥
 bare_before_last [] rest k w no_more e = cc
 bare_before_last (o ∷ before) rest k w (one_more h) e = cc
 
 -- `-n -n 4`: so the pieces have no value
-bare_has_no_last : (v : ℕ) (rest : List Piece) → LastGroup ℕ number
+bare_has_no_last : (v : ℕ) (rest : List LinePiece) → LastGroup ℕ number
     (One n_key ∷ Two n_key (letter 4) ∷ []) v rest → ⊥
 bare_has_no_last v rest g =
     bare_before_last g.before (Two n_key (letter 4) ∷ []) g.key g.word g.have_values g.is

@@ -1,7 +1,7 @@
 -- A surplus occurrence, a surplus word and an occurrence without a value leave a field no value.
 use Rattle.std.proofs.Common.{◌≡◌, ℕ, Bool, true, false, List, [], ◌∷◌, Option, Some, None, subst}
 use Rattle.bpaf_doc.specs.Names.{Names}
-use Rattle.bpaf_exact.specs.Pieces.{Roles, Piece}
+use Rattle.bpaf_exact.specs.Pieces.{Roles, LinePiece}
 use Rattle.bpaf_exact.specs.Flat.{FieldKind, FieldsReading, HasValue, both_reading, share, left}
 use Rattle.bpaf_exact.specs.Single.{Groups, Gap, FrontOf, own_none, own_more, OwnList, listed}
 use Rattle.bpaf_exact.specs.Single.{listed_and_absent, only_absent, SingleValue, of_group, of_gap}
@@ -20,11 +20,12 @@ use Rattle.bpaf_exact.proofs.Alternative.{own_bad}
 -- A surplus occurrence.
 
 -- the first piece alone is one
-pub front_one : (T : Type 0) (value : Piece → T → Type 0) → OneByOne (FrontOf T value)
+pub front_one : (T : Type 0) (value : LinePiece → T → Type 0) → OneByOne (FrontOf T value)
 front_one T value os rest v g = (g.piece, g.is)
 
 -- where one evaluation reads one piece, two have no value
-group_once : {T : Type 0} (group : Groups T) → OneByOne group → (o p : Piece) (os : List Piece)
+group_once : {T : Type 0} (group : Groups T) → OneByOne group
+    → (o p : LinePiece) (os : List LinePiece)
     (v : T) → group (o ∷ p ∷ os) v [] → ⊥
 group_once group one o p os v g = let i = one (o ∷ p ∷ os) [] v g in let e = i.1 in cc
 
@@ -104,9 +105,9 @@ pub word_no_surplus : {T : Type 0} (means : List ℕ → T → Type 0) → HasNo
 word_no_surplus {T = T} means = front_one T _
 
 -- An occurrence without a value, as the key of a failed alternative.
-module _ (T : Type 0) (value : Piece → T → Type 0) (gap : Gap T) where
+module _ (T : Type 0) (value : LinePiece → T → Type 0) (gap : Gap T) where
   -- a repeat has no value then
-  pub repeat_bad : (os : List Piece) (vs : List T) → HasBad T value os
+  pub repeat_bad : (os : List LinePiece) (vs : List T) → HasBad T value os
       → OwnList T (FrontOf T value) gap os vs → ⊥
   repeat_bad os vs b (listed h o) = own_bad T value os vs b o
   repeat_bad os vs b (listed_and_absent {v = v} {vs = us} h a o) =
@@ -114,42 +115,43 @@ module _ (T : Type 0) (value : Piece → T → Type 0) (gap : Gap T) where
   repeat_bad os vs b (only_absent h a) = elim b [ ]
 
   -- nor has `last`
-  pub last_bad : (os : List Piece) (v : T) → HasBad T value os → LastOf T (FrontOf T value) gap os v
+  pub last_bad : (os : List LinePiece) (v : T) → HasBad T value os
+      → LastOf T (FrontOf T value) gap os v
       → ⊥
   last_bad os v b h = repeat_bad os h.list b h.own
 
   -- nor what has no repeat or default
-  pub single_bad : (os : List Piece) (v : T) → HasBad T value os
+  pub single_bad : (os : List LinePiece) (v : T) → HasBad T value os
       → SingleValue T (FrontOf T value) gap os v → ⊥
   single_bad os v b (of_group g) = own_bad T value os (v ∷ []) b (own_more g own_none)
   single_bad os v b (of_gap a) = elim b [ ]
 
   -- nor what may be left out
-  pub optional_bad : (os : List Piece) (v : Option T) → HasBad T value os
+  pub optional_bad : (os : List LinePiece) (v : Option T) → HasBad T value os
       → OptionalValue T (FrontOf T value) gap os v → ⊥
   optional_bad os (Some v) b (some_value h) = single_bad os v b h
   optional_bad os None b (no_value h) = elim b [ ]
 
   -- nor what has a value that stands for it
-  pub fallback_bad : (f : Closure (Unit {0}) T) (os : List Piece) (v : T) → HasBad T value os
+  pub fallback_bad : (f : Closure (Unit {0}) T) (os : List LinePiece) (v : T) → HasBad T value os
       → FallbackValue T (FrontOf T value) gap f os v → ⊥
   fallback_bad f os v b (own_value h) = single_bad os v b h
   fallback_bad f os v b (kept_value h a) = elim b [ ]
 
 -- Which parts a record has: each of its fields, and that no piece is left.
-module _ {A B : Type 0} (k : FieldKind) (q : Roles) (first : List Piece → A → Type 0)
+module _ {A B : Type 0} (k : FieldKind) (q : Roles) (first : List LinePiece → A → Type 0)
     (rest : FieldsReading B) where
   -- a field before others
   pub first_part : IsPartOf (both_reading k q first rest).each (share k q) (HasValue first)
   first_part = λ os h. h.0
 
   -- the parts of those behind it
-  pub later_part : (own : List Piece → List Piece) (part : List Piece → Type 0)
+  pub later_part : (own : List LinePiece → List LinePiece) (part : List LinePiece → Type 0)
       → IsPartOf rest.each own part
       → IsPartOf (both_reading k q first rest).each (λ os. own (left k q os)) part
   later_part own part is = λ os h. is (left k q os) h.1
 
-module _ {T : Type 0} (k : FieldKind) (q : Roles) (value : List Piece → T → Type 0) where
+module _ {T : Type 0} (k : FieldKind) (q : Roles) (value : List LinePiece → T → Type 0) where
   -- the last field
   pub last_part : IsPartOf (last_reading k q value).each (share k q) (HasValue value)
   last_part = λ os h. h.0
@@ -158,27 +160,27 @@ module _ {T : Type 0} (k : FieldKind) (q : Roles) (value : List Piece → T → 
   pub none_left : IsPartOf (last_reading k q value).each (left k q) (λ os. os ≡ [])
   none_left = λ os h. h.1
 
-module _ (each : List Piece → Type 0) (own : List Piece → List Piece) (os : List Piece) where
+module _ (each : List LinePiece → Type 0) (own : List LinePiece → List LinePiece) (os : List LinePiece) where
   -- Where it isn't so with a part, a field has no value.
-  pub part_lacks : (part : List Piece → Type 0) → IsPartOf each own part → ¬ (part (own os))
+  pub part_lacks : (part : List LinePiece → Type 0) → IsPartOf each own part → ¬ (part (own os))
       → ¬ (each os)
   part_lacks part is none h = none (is os h)
 
   -- So it is with a surplus occurrence of a field without a repeat or default,
-  pub surplus_occurrence : {T : Type 0} (field : List Piece → T → Type 0) → AtMostOne field
-      → IsPartOf each own (HasValue field) → (o p : Piece) (more : List Piece)
+  pub surplus_occurrence : {T : Type 0} (field : List LinePiece → T → Type 0) → AtMostOne field
+      → IsPartOf each own (HasValue field) → (o p : LinePiece) (more : List LinePiece)
       → own os ≡ o ∷ p ∷ more → ¬ (each os)
   surplus_occurrence field once is o p more e = part_lacks (HasValue field) is
       (λ has. once o p more has.0 (subst (λ z. field z has.0) e has.1))
 
   -- with a surplus word,
-  pub surplus_word : IsPartOf each own (λ z. z ≡ []) → (o : Piece) (more : List Piece)
+  pub surplus_word : IsPartOf each own (λ z. z ≡ []) → (o : LinePiece) (more : List LinePiece)
       → own os ≡ o ∷ more → ¬ (each os)
   surplus_word is o more e = part_lacks (λ z. z ≡ []) is (λ none. cc)
 
   -- and with an occurrence without a value, where these leave the field none.
-  pub bad_occurrence : {A T : Type 0} (one : Piece → A → Type 0) (field : List Piece → T → Type 0)
-      → ((ps : List Piece) (w : T) → HasBad A one ps → field ps w → ⊥)
+  pub bad_occurrence : {A T : Type 0} (one : LinePiece → A → Type 0) (field : List LinePiece → T → Type 0)
+      → ((ps : List LinePiece) (w : T) → HasBad A one ps → field ps w → ⊥)
       → IsPartOf each own (HasValue field) → HasBad A one (own os) → ¬ (each os)
   bad_occurrence one field none is bad = part_lacks (HasValue field) is
       (λ has. none (own os) has.0 bad has.1)

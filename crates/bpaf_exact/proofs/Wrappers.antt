@@ -4,7 +4,7 @@ use Rattle.std.proofs.Common.{sym, ap, ◌∙◌, subst}
 use Rattle.bpaf_line.specs.declared.error.Error.{Error}
 use Rattle.bpaf_line.specs.Situation.{Situation, open_count}
 use Rattle.bpaf_laws.specs.Reading.{Outcome}
-use Rattle.bpaf_exact.specs.Pieces.{Roles, Piece, pieces, takes_none}
+use Rattle.bpaf_exact.specs.Pieces.{Roles, LinePiece, pieces, takes_none}
 use Rattle.bpaf_exact.specs.Flat.{ErrorClass, OfMemory, OfMissing, Caught, Refused, class, cells}
 use Rattle.bpaf_exact.specs.Flat.{IsWhole, Steady, FieldKind, ByName, OneWord, EachWord, front}
 use Rattle.bpaf_exact.specs.Flat.{back}
@@ -37,7 +37,7 @@ back_nil OneWord = refl
 back_nil EachWord = refl
 
 -- where none is taken there is none
-nil_front : (k : FieldKind) (os : List Piece) → front k os ≡ [] → os ≡ []
+nil_front : (k : FieldKind) (os : List LinePiece) → front k os ≡ [] → os ≡ []
 nil_front ByName os e = e
 nil_front OneWord [] e = refl
 nil_front OneWord (o ∷ os) e = absurd cc
@@ -45,9 +45,9 @@ nil_front EachWord os e = e
 
 -- outer closures
 module _ (A B : Type 0) (inner : Outcome A)
-    (k : FieldKind) (q : Roles) (value : List Piece → A → Type 0)
+    (k : FieldKind) (q : Roles) (value : List LinePiece → A → Type 0)
     (l : FieldLaw A inner k q value) (f : Closure A B)
-    (agrees : (os : List Piece) → AgreesOn (value os) f) (c : ErrorClass) where
+    (agrees : (os : List LinePiece) → AgreesOn (value os) f) (c : ErrorClass) where
   -- a value that the closure gave
   closed_ok : (s t : Situation) (v : B) → IsWhole s → ClosedRan A B inner f c s (Ok v) t
       → FieldTook B k q (ClosedValue A B value f) s v t
@@ -83,23 +83,23 @@ module _ (T : Type 0) (inner : Outcome T)
     (k : FieldKind) (q : Roles) (group : Groups T) (gap : Gap T)
     (l : SingleLaw T inner k q group gap) where
   -- the value of a single field: of a group, or the absent one
-  data SingleView (os : List Piece) (v : T) : Type 0 where
+  data SingleView (os : List LinePiece) (v : T) : Type 0 where
     view_group : group os v [] → SingleView os v
     view_gap : os ≡ [] → gap.absent v → SingleView os v
 
   -- by its constructors
-  single_view : (os : List Piece) (v : T) → SingleValue T group gap os v → SingleView os v
+  single_view : (os : List LinePiece) (v : T) → SingleValue T group gap os v → SingleView os v
   single_view os v (of_group g) = view_group g
   single_view os v (of_gap a) = view_gap refl a
 
   -- the absent value where there is no piece
-  nothing_read : (os : List Piece) (v : T) → os ≡ [] → gap.absent v
+  nothing_read : (os : List LinePiece) (v : T) → os ≡ [] → gap.absent v
       → SingleValue T group gap (front k os) v
   nothing_read os v e a =
       subst (λ z. SingleValue T group gap z v) (sym (ap (front k) e ∙ front_nil k)) (of_gap a)
 
   -- and nothing is left
-  nothing_left : (os ps : List Piece) → os ≡ [] → ps ≡ [] → ps ≡ back k os
+  nothing_left : (os ps : List LinePiece) → os ≡ [] → ps ≡ [] → ps ≡ back k os
   nothing_left os ps e h = h ∙ sym (ap (back k) e ∙ back_nil k)
 
   -- what was taken is the front
@@ -136,7 +136,7 @@ module _ (T : Type 0) (inner : Outcome T)
   }
 
   -- what the front means the pieces mean
-  of_front : (z : FieldKind) (os : List Piece) (v : T) → ReadsWords z group
+  of_front : (z : FieldKind) (os : List LinePiece) (v : T) → ReadsWords z group
       → group (front z os) v []
       → group os v (back z os)
   of_front ByName os v u g = g
@@ -144,14 +144,15 @@ module _ (T : Type 0) (inner : Outcome T)
   of_front EachWord os v u g = absurd u
 
   -- and the other way
-  to_front : (z : FieldKind) (os : List Piece) (v : T) → ReadsWords z group → group os v (back z os)
+  to_front : (z : FieldKind) (os : List LinePiece) (v : T) → ReadsWords z group
+      → group os v (back z os)
       → group (front z os) v []
   to_front ByName os v u g = g
   to_front OneWord os v u g = (u.by_front os v (back OneWord os) g).0
   to_front EachWord os v u g = absurd u
 
   -- no piece is no group
-  not_empty : (os : List Piece) (v : T) → os ≡ [] → group (front k os) v [] → ⊥
+  not_empty : (os : List LinePiece) (v : T) → os ≡ [] → group (front k os) v [] → ⊥
   not_empty os v e g = l.starts v [] (subst (λ z. group z v []) (ap (front k) e ∙ front_nil k) g)
 
   -- where the share has a value, a value is one
@@ -233,12 +234,12 @@ module _ (T : Type 0) (inner : Outcome T)
       }
 
   -- a value that may be left out: it is there, or not
-  data OptionalView (os : List Piece) (v : Option T) : Type 0 where
+  data OptionalView (os : List LinePiece) (v : Option T) : Type 0 where
     view_some : (x : T) → v ≡ Some x → SingleValue T group gap os x → OptionalView os v
     view_none : os ≡ [] → v ≡ None → gap.has ≡ false → OptionalView os v
 
   -- by its constructors
-  optional_view : (os : List Piece) (v : Option T) → OptionalValue T group gap os v
+  optional_view : (os : List LinePiece) (v : Option T) → OptionalValue T group gap os v
       → OptionalView os v
   optional_view os v (some_value {v = x} g) = view_some x refl g
   optional_view os v (no_value h) = view_none refl refl h
@@ -350,11 +351,12 @@ module _ (T : Type 0) (inner : Outcome T)
         }
 
     -- a value with a default: its own, or the one that is kept
-    data FallbackView (os : List Piece) (v : T) : Type 0 where
+    data FallbackView (os : List LinePiece) (v : T) : Type 0 where
       view_own : SingleValue T group gap os v → FallbackView os v
       view_kept : os ≡ [] → gap.has ≡ false → f.yes tt v → FallbackView os v
 
-    fallback_view : (os : List Piece) (v : T) → FallbackValue T group gap f os v → FallbackView os v
+    fallback_view : (os : List LinePiece) (v : T) → FallbackValue T group gap f os v
+        → FallbackView os v
     fallback_view os v (own_value g) = view_own g
     fallback_view os v (kept_value h y) = view_kept refl h y
 

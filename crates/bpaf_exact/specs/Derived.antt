@@ -3,7 +3,7 @@ use Rattle.std.specs.Prelude.{◌≡◌, ℕ, true, List, [], ◌∷◌, ◌++�
 use Rattle.std.specs.Global.{Vec}
 use Rattle.bpaf_line.specs.declared.error.Error.{Error}
 use Rattle.bpaf_line.specs.Situation.{Situation}
-use Rattle.bpaf_exact.specs.Pieces.{Piece}
+use Rattle.bpaf_exact.specs.Pieces.{LinePiece}
 use Rattle.bpaf_laws.specs.Reading.{Outcome}
 use Rattle.bpaf_exact.specs.Single.{Groups, Gap, OwnList, StepsRan}
 use Rattle.bpaf_exact.specs.Wrappers.{Closure}
@@ -43,7 +43,7 @@ pub data LastRan (T : Type 0) (inner : Outcome T) (s : Situation) : Result T Err
       → inner m r t → LastRan T inner s r t
 
 -- the last of the own list
-pub record LastOf (T : Type 0) (group : Groups T) (gap : Gap T) (os : List Piece)
+pub record LastOf (T : Type 0) (group : Groups T) (gap : Gap T) (os : List LinePiece)
     (v : T) : Type 0 where
   pub list : List T
   pub own : OwnList T group gap os list

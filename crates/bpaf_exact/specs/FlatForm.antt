@@ -3,7 +3,7 @@ use Rattle.std.specs.Prelude.{ℕ, Bool, true, false, List, [], ◌∷◌, ◌++
 use Rattle.std.specs.Global.{Vec}
 use Rattle.bpaf_doc.specs.Names.{Names}
 use Rattle.bpaf_laws.specs.Reading.{Outcome}
-use Rattle.bpaf_exact.specs.Pieces.{Roles, Piece, either, no_roles}
+use Rattle.bpaf_exact.specs.Pieces.{Roles, LinePiece, either, no_roles}
 use Rattle.bpaf_exact.specs.Names.{Owns, are_all_apart}
 use Rattle.bpaf_exact.specs.Flat.{FieldKind, ByName, OneWord, EachWord, FieldLaw, FieldsLaw, keys}
 use Rattle.bpaf_exact.specs.Flat.{FieldsReading, both_reading}
@@ -21,11 +21,11 @@ pub data FlatForm (T : Type 0) : Type 1 where
   -- no flat field
   not_flat : FlatForm T
   -- a required flag or argument, or a choice of them, with the value of each piece
-  alternative : Roles → (Piece → T → Type 0) → FlatForm T
+  alternative : Roles → (LinePiece → T → Type 0) → FlatForm T
   -- another field without a repeat or default
   single : FieldKind → Roles → Groups T → Gap T → FlatForm T
   -- a field with a repeat or default
-  complete : FieldKind → Roles → (List Piece → T → Type 0) → FlatForm T
+  complete : FieldKind → Roles → (List LinePiece → T → Type 0) → FlatForm T
   -- a product of flat fields: a record, and no field of another
   product : Roles → FieldsReading T → FlatForm T
 
@@ -44,11 +44,11 @@ FormLaw {T = T} outcome names (product q fields) = FieldsLaw T outcome q fields 
 -- have several values
 abbrev pub Agrees : {A B : Type 0} → Closure A B → FlatForm A → Type 0
 Agrees f not_flat = Unit {0}
-Agrees f (alternative q value) = (o : Piece) → AgreesOn (value o) f
+Agrees f (alternative q value) = (o : LinePiece) → AgreesOn (value o) f
 Agrees f (single k q group gap) =
-    ((os rest : List Piece) → AgreesOn (λ v. group os v rest) f) × AgreesOn gap.absent f
-Agrees f (complete k q value) = (os : List Piece) → AgreesOn (value os) f
-Agrees f (product q fields) = (os : List Piece) → AgreesOn (fields.value os) f
+    ((os rest : List LinePiece) → AgreesOn (λ v. group os v rest) f) × AgreesOn gap.absent f
+Agrees f (complete k q value) = (os : List LinePiece) → AgreesOn (value os) f
+Agrees f (product q fields) = (os : List LinePiece) → AgreesOn (fields.value os) f
 
 -- the premises of all parsers of a list
 abbrev pub EachAgrees : {P : Type 0} → (P → Type 0) → List P → Type 0

@@ -8,7 +8,8 @@ use Rattle.bpaf_words.specs.Items.{is_key_of, is_positional, item_text}
 use Rattle.bpaf_line.specs.declared.error.Error.{Error}
 use Rattle.bpaf_line.specs.Situation.{Situation}
 use Rattle.bpaf_line.specs.Taking.{TakesText, HasNone}
-use Rattle.bpaf_exact.specs.Pieces.{Roles, Foreign, Alone, WithNext, Piece, One, Two, word_roles}
+use Rattle.bpaf_exact.specs.Pieces.{Roles, Foreign, Alone, WithNext, LinePiece, One, Two}
+use Rattle.bpaf_exact.specs.Pieces.{word_roles}
 use Rattle.bpaf_exact.specs.Flat.{ByName, OneWord, OfMemory, OfMissing, Refused, class}
 use Rattle.bpaf_exact.specs.Single.{Gap, FrontOf, no_gap}
 use Rattle.bpaf_exact.specs.FlatForm.{FlatForm, not_flat, alternative, single}
@@ -22,17 +23,17 @@ abbrev pub argument_roles : Names → Roles
 argument_roles names k = if is_key_of names k then WithNext else Foreign
 
 -- a key means a present value
-abbrev pub FlagValue : {T : Type 0} → (T → Type 0) → Piece → T → Type 0
+abbrev pub FlagValue : {T : Type 0} → (T → Type 0) → LinePiece → T → Type 0
 FlagValue present (One k) v = present v
 FlagValue present (Two k w) v = ⊥
 
 -- a key and its value mean what the text of that means
-abbrev pub ArgumentValue : {T : Type 0} → (List ℕ → T → Type 0) → Piece → T → Type 0
+abbrev pub ArgumentValue : {T : Type 0} → (List ℕ → T → Type 0) → LinePiece → T → Type 0
 ArgumentValue means (One k) v = ⊥
 ArgumentValue means (Two k w) v = means (item_text w) v
 
 -- a word means what its text means
-abbrev pub WordValue : {T : Type 0} → (List ℕ → T → Type 0) → Piece → T → Type 0
+abbrev pub WordValue : {T : Type 0} → (List ℕ → T → Type 0) → LinePiece → T → Type 0
 WordValue means (One w) v = means (item_text w) v
 WordValue means (Two k w) v = ⊥
 
@@ -55,15 +56,15 @@ abbrev pub flag_field : {T : Type 0} → (T → T → Type 0) → Key → T → 
 flag_field clones key present absent = flag_by clones key.names present key.envs absent
 
 -- each of these pieces is a key with its value
-pub data HaveValues : List Piece → Type 0 where
+pub data HaveValues : List LinePiece → Type 0 where
   no_more : HaveValues []
-  one_more : {k w : Arg} {os : List Piece} → HaveValues os → HaveValues (Two k w ∷ os)
+  one_more : {k w : Arg} {os : List LinePiece} → HaveValues os → HaveValues (Two k w ∷ os)
 
 -- all pieces at once, each a key with its value, of which the last one's text means the value; the
 -- earlier texts need not mean any
-pub record LastGroup (T : Type 0) (means : List ℕ → T → Type 0) (os : List Piece) (v : T)
-    (rest : List Piece) : Type 0 where
-  pub before : List Piece
+pub record LastGroup (T : Type 0) (means : List ℕ → T → Type 0) (os : List LinePiece) (v : T)
+    (rest : List LinePiece) : Type 0 where
+  pub before : List LinePiece
   pub key : Arg
   pub word : Arg
   pub is : os ≡ before ++ Two key word ∷ []

@@ -3,7 +3,7 @@
 use Rattle.std.specs.Prelude.{◌≡◌, List, Option, Some, None}
 use Rattle.bpaf_line.specs.Situation.{Context, beginning}
 use Rattle.bpaf_laws.specs.Reading.{Outcome}
-use Rattle.bpaf_exact.specs.Pieces.{Piece}
+use Rattle.bpaf_exact.specs.Pieces.{LinePiece}
 use Rattle.bpaf_exact.specs.Single.{Groups}
 use Rattle.bpaf_exact.specs.Wrappers.{Closure}
 use Rattle.bpaf_exact.specs.Record.{RunAnswer, Accepted, NoMemory, Refusal, RecordValue, RunRan}
@@ -16,16 +16,16 @@ Alike {T = T} see value = (v w : T) → value v → value w → see v ≡ see w
 
 -- so do those of the same group of pieces, and the same pieces are left
 abbrev pub OneGroup : {T X : Type 0} → (T → X) → Groups T → Type 0
-OneGroup {T = T} see group = (os rest others : List Piece) (v w : T) → group os v rest
+OneGroup {T = T} see group = (os rest others : List LinePiece) (v w : T) → group os v rest
     → group os w others → (see v ≡ see w) × (rest ≡ others)
 
 -- the values of the same pieces look alike
 abbrev pub HasOneView : {T X : Type 0} → (T → X) → FlatForm T → Type 0
 HasOneView see not_flat = Unit {0}
-HasOneView see (alternative q value) = (o : Piece) → Alike see (value o)
+HasOneView see (alternative q value) = (o : LinePiece) → Alike see (value o)
 HasOneView see (single k q group gap) = OneGroup see group × Alike see gap.absent
-HasOneView see (complete k q value) = (os : List Piece) → Alike see (value os)
-HasOneView see (product q fields) = (os : List Piece) → Alike see (fields.value os)
+HasOneView see (complete k q value) = (os : List LinePiece) → Alike see (value os)
+HasOneView see (product q fields) = (os : List LinePiece) → Alike see (fields.value os)
 
 -- A closure that can't tell values apart that look alike: it accepts both or refuses both, and its
 -- answers look alike.

@@ -3,7 +3,7 @@ use Rattle.std.specs.Prelude.{◌≡◌, List, [], length, Ok, Err}
 use Rattle.bpaf_line.specs.declared.error.Error.{Error}
 use Rattle.bpaf_line.specs.Situation.{Context, Situation, item_in, open_count}
 use Rattle.bpaf_laws.specs.Reading.{Outcome}
-use Rattle.bpaf_exact.specs.Pieces.{Cells, Roles, Piece, Cut}
+use Rattle.bpaf_exact.specs.Pieces.{Cells, Roles, LinePiece, Cut}
 use Rattle.bpaf_exact.specs.Flat.{OfMemory, class, first_cells, FieldKind, ReadOff, share, left}
 use Rattle.bpaf_exact.specs.Flat.{FieldsReading, HasValue}
 
@@ -14,7 +14,7 @@ line_cells context = first_cells (item_in context) (length context.line)
 -- v is a value of the record on the line: the line is cut into pieces, and each field's share of
 -- them
 -- has its value
-abbrev pub RecordValue : {V : Type 0} → Roles → (List Piece → V → Type 0) → Context → V → Type 0
+abbrev pub RecordValue : {V : Type 0} → Roles → (List LinePiece → V → Type 0) → Context → V → Type 0
 RecordValue {V = V} r value context v = ReadOff V r value (line_cells context) v
 
 -- what a run may answer
@@ -54,20 +54,20 @@ pub record IsExact (V : Type 0) (r : Roles) (reading : FieldsReading V) (context
   -- a value only where it is one of the record's
   pub sound : (v : V) → a ≡ Accepted v → RecordValue r reading.value context v
   -- where each field has a value on its share, one of the record's values, or want of memory
-  pub complete : (os : List Piece) → Cut r (line_cells context) os → reading.each os
+  pub complete : (os : List LinePiece) → Cut r (line_cells context) os → reading.each os
       → IsAnswer (λ w. RecordValue r reading.value context w) a
   -- where one has none, no value
-  pub refused : (os : List Piece) → Cut r (line_cells context) os → ¬ (reading.each os)
+  pub refused : (os : List LinePiece) → Cut r (line_cells context) os → ¬ (reading.each os)
       → (v : V) → ¬ (a ≡ Accepted v)
 
 -- the last field of a product, or a record of one field alone: no piece is left to others
-pub record LastValue (T : Type 0) (k : FieldKind) (q : Roles) (value : List Piece → T → Type 0)
-    (os : List Piece) (v : T) : Type 0 where
+pub record LastValue (T : Type 0) (k : FieldKind) (q : Roles) (value : List LinePiece → T → Type 0)
+    (os : List LinePiece) (v : T) : Type 0 where
   pub read : value (share k q os) v
   pub none_left : left k q os ≡ []
 
 -- how it reads the pieces
-abbrev pub last_reading : {T : Type 0} → FieldKind → Roles → (List Piece → T → Type 0)
+abbrev pub last_reading : {T : Type 0} → FieldKind → Roles → (List LinePiece → T → Type 0)
     → FieldsReading T
 last_reading {T = T} k q value = record {
   value = LastValue T k q value;

@@ -3,7 +3,7 @@ use Rattle.std.specs.Prelude.{◌≡◌, Bool, true, false, List, [], Option, So
 use Rattle.bpaf_line.specs.declared.error.Error.{Error}
 use Rattle.bpaf_line.specs.Situation.{Situation}
 use Rattle.bpaf_laws.specs.Reading.{Outcome}
-use Rattle.bpaf_exact.specs.Pieces.{Piece}
+use Rattle.bpaf_exact.specs.Pieces.{LinePiece}
 use Rattle.bpaf_exact.specs.Flat.{ErrorClass, OfMemory, OfMissing, Caught, class}
 use Rattle.bpaf_exact.specs.Single.{Groups, Gap, SingleValue, Stops}
 
@@ -54,8 +54,8 @@ pub data ClosedRan (A B : Type 0) (inner : Outcome A) (f : Closure A B) (c : Err
   closed_err : {e : Error} {t : Situation} → inner s (Err e) t → ClosedRan A B inner f c s (Err e) t
 
 -- a closure's answer on a value
-pub record ClosedValue (A B : Type 0) (value : List Piece → A → Type 0) (f : Closure A B)
-    (os : List Piece) (v : B) : Type 0 where
+pub record ClosedValue (A B : Type 0) (value : List LinePiece → A → Type 0) (f : Closure A B)
+    (os : List LinePiece) (v : B) : Type 0 where
   pub from : A
   pub read : value os from
   pub made : f.yes from v
@@ -72,9 +72,9 @@ pub data OptionalRan (T : Type 0) (inner : Outcome T) (s : Situation) : Result (
       → OptionalRan T inner s (Err e) t
 
 -- its value
-pub data OptionalValue (T : Type 0) (group : Groups T) (gap : Gap T) : List Piece → Option T
+pub data OptionalValue (T : Type 0) (group : Groups T) (gap : Gap T) : List LinePiece → Option T
     → Type 0 where
-  some_value : {os : List Piece} {v : T} → SingleValue T group gap os v
+  some_value : {os : List LinePiece} {v : T} → SingleValue T group gap os v
       → OptionalValue T group gap os (Some v)
   no_value : gap.has ≡ false → OptionalValue T group gap [] None
 
@@ -101,14 +101,14 @@ pub data FallbackRan (T : Type 0) (inner : Outcome T) (f : Closure (Unit {0}) T)
 
 -- the value of a field with a default
 pub data FallbackValue (T : Type 0) (group : Groups T) (gap : Gap T)
-    (f : Closure (Unit {0}) T) : List Piece → T → Type 0 where
-  own_value : {os : List Piece} {v : T} → SingleValue T group gap os v
+    (f : Closure (Unit {0}) T) : List LinePiece → T → Type 0 where
+  own_value : {os : List LinePiece} {v : T} → SingleValue T group gap os v
       → FallbackValue T group gap f os v
   kept_value : {v : T} → gap.has ≡ false → f.yes tt v → FallbackValue T group gap f [] v
 
 -- the same round a field without a repeat or default
-pub record ClosedGroup (A B : Type 0) (group : Groups A) (f : Closure A B) (os : List Piece) (v : B)
-    (rest : List Piece) : Type 0 where
+pub record ClosedGroup (A B : Type 0) (group : Groups A) (f : Closure A B) (os : List LinePiece) (v : B)
+    (rest : List LinePiece) : Type 0 where
   pub from : A
   pub read : group os from rest
   pub made : f.yes from v
@@ -119,7 +119,7 @@ closed_gap {A = A} gap f =
     record { has = gap.has; absent = λ v. (x : A) × gap.absent x × f.yes x v }
 
 -- and round an alternative
-pub record ClosedPiece (A B : Type 0) (value : Piece → A → Type 0) (f : Closure A B) (o : Piece)
+pub record ClosedPiece (A B : Type 0) (value : LinePiece → A → Type 0) (f : Closure A B) (o : LinePiece)
     (v : B) : Type 0 where
   pub from : A
   pub read : value o from

@@ -13,7 +13,7 @@ use Rattle.bpaf_core.specs.Known.{IsLineContext}
 use Rattle.bpaf_core.specs.Run.{RunsWords}
 use Rattle.bpaf_exact.specs.Accepted.{HoldsTogether}
 use Rattle.bpaf_exact.specs.Names.{are_apart}
-use Rattle.bpaf_exact.specs.Pieces.{Piece, Cut}
+use Rattle.bpaf_exact.specs.Pieces.{LinePiece, Cut}
 use Rattle.bpaf_exact.specs.Record.{RunAnswer, Accepted, NoMemory, Refusal, RecordValue}
 use Rattle.bpaf_exact.specs.Record.{line_cells}
 use Rattle.bpaf_exact.specs.FlatForm.{FlatForm, is_record, product_roles, product_reading}
@@ -53,11 +53,11 @@ pub record PiecesOf {T : Type 0} (describes : Shape → Type 0) (info : RunInfo)
     (form : FlatForm T) (given : Given) : Type 0 where
   pub context : Context
   pub on_line : IsLineContext describes info given context
-  pub cut_into : List Piece
+  pub cut_into : List LinePiece
   pub cut : Cut (product_roles (flat_record form)) (line_cells context) cut_into
 
 -- each field of the record has a value on its share of these
-abbrev pub EachHasValue : {T : Type 0} → FlatForm T → List Piece → Type 0
+abbrev pub EachHasValue : {T : Type 0} → FlatForm T → List LinePiece → Type 0
 EachHasValue form = (product_reading (flat_record form)).each
 
 -- an answer is one of these values, or want of memory
