@@ -398,7 +398,8 @@ module _ (T : Type 0) (a b : Outcome T) (qa qb : Roles) (va vb : LinePiece → T
 
   -- the first piece can't be read
   Unread : (q : Roles) (v : LinePiece → T → Type 0) (s : Situation) → Type 0
-  Unread q v s = (o : LinePiece) (os : List LinePiece) (w : T) → pieces q (cells s) ≡ o ∷ os → v o w → ⊥
+  Unread q v s =
+      (o : LinePiece) (os : List LinePiece) (w : T) → pieces q (cells s) ≡ o ∷ os → v o w → ⊥
 
   -- where there is no piece none can
   none_unread : (q : Roles) (v : LinePiece → T → Type 0) (s : Situation) → pieces q (cells s) ≡ []
@@ -474,7 +475,8 @@ module _ (T : Type 0) (a b : Outcome T) (qa qb : Roles) (va vb : LinePiece → T
   value_no_refusal s sa sb t x y e false (Some p) k = let i = k.0 in cc
 
   -- nor is the value of one, where the other refused
-  one_no_refusal : (q : Roles) (v : LinePiece → T → Type 0) (s m t : Situation) (x : T) (e g : Error)
+  one_no_refusal : (q : Roles) (v : LinePiece → T → Type 0) (s m t : Situation) (x : T)
+      (e g : Error)
       → AlternativeOk T q v s x m → OneOk s x m e (Err g) t → ⊥
   one_no_refusal q v s m t x e g i (inl o) =
       never_untouched q v s m x i (and_first (is_untouched s m) (is_wrong_input e.0) o.0)

@@ -127,10 +127,13 @@ later_by own behind_it a (product q fields) s of owned owned_behind h = tt
 later_by own behind_it a (complete OneWord q value) s of owned owned_behind h = tt
 later_by own behind_it a (complete EachWord q value) s of owned owned_behind h = tt
 later_by own behind_it not_flat (complete ByName q value) s of owned owned_behind h = tt
-later_by own behind_it (alternative p first) (complete ByName q value) s of owned owned_behind h = tt
-later_by own behind_it (single k p group gap) (complete ByName q value) s of owned owned_behind h = tt
+later_by own behind_it (alternative p first) (complete ByName q value) s of owned owned_behind h =
+    tt
+later_by own behind_it (single k p group gap) (complete ByName q value) s of owned owned_behind h =
+    tt
 later_by own behind_it (product p fields) (complete ByName q value) s of owned owned_behind h = tt
-later_by own behind_it (complete k p first) (complete ByName q value) not_flat of owned owned_behind h =
+later_by own behind_it (complete k p first)
+    (complete ByName q value) not_flat of owned owned_behind h =
     tt
 later_by own behind_it (complete k p first) (complete ByName q value) (alternative r other) of owned
     owned_behind h = tt

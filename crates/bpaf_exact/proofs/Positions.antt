@@ -215,7 +215,8 @@ last_words_by (complete EachWord q value) = record {
 }
 
 -- a positional field of what a constructor makes
-made_words_by : {A B C : Type 0} (f : Closure A B) (a : FlatForm C) (rest : List LinePiece → List LinePiece)
+made_words_by : {A B C : Type 0} (f : Closure A B) (a : FlatForm C)
+    (rest : List LinePiece → List LinePiece)
     (s : FlatForm A) (of : A → C) (from : B → C)
     → ((x : A) (v : B) → f.yes x v → from v ≡ of x) → WordsBy a rest s of
     → WordsBy a rest (flat_record (flat_con f s)) from
@@ -247,8 +248,10 @@ pub first_words : {A B : Type 0} (own behind : List Names) (a : FlatForm A) (s :
 first_words own behind a s owned = record { by = first_words_by own behind a s owned.by }
 
 -- one of the others gets what the first leaves,
-pub later_words : {A B C : Type 0} (own behind : List Names) (a : FlatForm A) (b : FlatForm B) (s : FlatForm C)
-    (rest : List LinePiece → List LinePiece) (of : C → B) → OwnsKeys behind s → IsWordsOf b rest s of
+pub later_words : {A B C : Type 0} (own behind : List Names) (a : FlatForm A) (b : FlatForm B)
+    (s : FlatForm C)
+    (rest : List LinePiece → List LinePiece) (of : C → B) → OwnsKeys behind s
+    → IsWordsOf b rest s of
     → IsWordsOf b (λ os. rest (words_behind_field a os)) (flat_both own behind a s) (λ v. of v.1)
 later_words own behind a b s rest of owned h =
     record { by = later_words_by own behind a b s rest of owned.by h.by }

@@ -169,7 +169,8 @@ narrow q r n p (word {w = w} {cs = cs} {os = os} h c) =
 -- What is read off the pieces, seen from before a field was evaluated.
 
 -- a cut from before a field was evaluated, with its share and what it left
-pub record StepBack (k : FieldKind) (q r : Roles) (cs : Cells) (after : List LinePiece) : Type 0 where
+pub record StepBack (k : FieldKind) (q r : Roles) (cs : Cells)
+    (after : List LinePiece) : Type 0 where
   pub before : List LinePiece
   pub cut : Cut (either (keys k q) r) cs before
   pub leaves : left k q before ≡ after

@@ -160,7 +160,8 @@ module _ {T : Type 0} (k : FieldKind) (q : Roles) (value : List LinePiece → T 
   pub none_left : IsPartOf (last_reading k q value).each (left k q) (λ os. os ≡ [])
   none_left = λ os h. h.1
 
-module _ (each : List LinePiece → Type 0) (own : List LinePiece → List LinePiece) (os : List LinePiece) where
+module _ (each : List LinePiece → Type 0) (own : List LinePiece → List LinePiece)
+    (os : List LinePiece) where
   -- Where it isn't so with a part, a field has no value.
   pub part_lacks : (part : List LinePiece → Type 0) → IsPartOf each own part → ¬ (part (own os))
       → ¬ (each os)
@@ -179,7 +180,8 @@ module _ (each : List LinePiece → Type 0) (own : List LinePiece → List LineP
   surplus_word is o more e = part_lacks (λ z. z ≡ []) is (λ none. cc)
 
   -- and with an occurrence without a value, where these leave the field none.
-  pub bad_occurrence : {A T : Type 0} (one : LinePiece → A → Type 0) (field : List LinePiece → T → Type 0)
+  pub bad_occurrence : {A T : Type 0} (one : LinePiece → A → Type 0)
+      (field : List LinePiece → T → Type 0)
       → ((ps : List LinePiece) (w : T) → HasBad A one ps → field ps w → ⊥)
       → IsPartOf each own (HasValue field) → HasBad A one (own os) → ¬ (each os)
   bad_occurrence one field none is bad = part_lacks (HasValue field) is

@@ -49,8 +49,10 @@ words_behind_field _ os = os
 
 -- A positional field of a record: its value is that of the words which the fields before it leave, of
 -- those that belong to no key.
-pub record ReadsWords (V A : Type 0) (r : Roles) (value : List LinePiece → V → Type 0) (k : FieldKind)
-    (rest : List LinePiece → List LinePiece) (own : List LinePiece → A → Type 0) (of : V → A) : Type 0 where
+pub record ReadsWords (V A : Type 0) (r : Roles) (value : List LinePiece → V → Type 0)
+    (k : FieldKind)
+    (rest : List LinePiece → List LinePiece) (own : List LinePiece → A → Type 0)
+    (of : V → A) : Type 0 where
   pub read : (os : List LinePiece) (v : V) → value os v → own (front k (rest (others r os))) (of v)
 
 -- a record has such a field, of this form
@@ -148,7 +150,8 @@ word_texts (One w ∷ os) = item_text w ∷ word_texts os
 word_texts (Two k w ∷ os) = word_texts os
 
 -- the value of a positional field without a repeat is what the first of the words means
-pub record IsFirstWord (T : Type 0) (means : List ℕ → T → Type 0) (os : List LinePiece) (v : T) : Type 0
+pub record IsFirstWord (T : Type 0) (means : List ℕ → T → Type 0) (os : List LinePiece)
+    (v : T) : Type 0
   where
     pub word : Arg
     pub more : List LinePiece

@@ -103,7 +103,8 @@ pub record SingleLaw (T : Type 0) (outcome : Outcome T)
 
 -- The own list under a repeat; the absent value must be there also where it isn't used: the repeat
 -- asks once more.
-pub data OwnList (T : Type 0) (group : Groups T) (gap : Gap T) : List LinePiece → List T → Type 0 where
+pub data OwnList (T : Type 0) (group : Groups T) (gap : Gap T) : List LinePiece → List T
+    → Type 0 where
   listed : {os : List LinePiece} {vs : List T} → gap.has ≡ false → Own T group os vs
       → OwnList T group gap os vs
   listed_and_absent : {os : List LinePiece} {v a : T} {vs : List T} → gap.has ≡ true → gap.absent a
@@ -111,7 +112,8 @@ pub data OwnList (T : Type 0) (group : Groups T) (gap : Gap T) : List LinePiece 
   only_absent : {a : T} → gap.has ≡ true → gap.absent a → OwnList T group gap [] (a ∷ [])
 
 -- the value of a field without a repeat or default
-pub data SingleValue (T : Type 0) (group : Groups T) (gap : Gap T) : List LinePiece → T → Type 0 where
+pub data SingleValue (T : Type 0) (group : Groups T) (gap : Gap T) : List LinePiece → T
+    → Type 0 where
   of_group : {os : List LinePiece} {v : T} → group os v [] → SingleValue T group gap os v
   of_gap : {v : T} → gap.absent v → SingleValue T group gap [] v
 

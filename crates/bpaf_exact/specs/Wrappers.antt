@@ -107,7 +107,8 @@ pub data FallbackValue (T : Type 0) (group : Groups T) (gap : Gap T)
   kept_value : {v : T} → gap.has ≡ false → f.yes tt v → FallbackValue T group gap f [] v
 
 -- the same round a field without a repeat or default
-pub record ClosedGroup (A B : Type 0) (group : Groups A) (f : Closure A B) (os : List LinePiece) (v : B)
+pub record ClosedGroup (A B : Type 0) (group : Groups A) (f : Closure A B) (os : List LinePiece)
+    (v : B)
     (rest : List LinePiece) : Type 0 where
   pub from : A
   pub read : group os from rest
@@ -119,7 +120,8 @@ closed_gap {A = A} gap f =
     record { has = gap.has; absent = λ v. (x : A) × gap.absent x × f.yes x v }
 
 -- and round an alternative
-pub record ClosedPiece (A B : Type 0) (value : LinePiece → A → Type 0) (f : Closure A B) (o : LinePiece)
+pub record ClosedPiece (A B : Type 0) (value : LinePiece → A → Type 0) (f : Closure A B)
+    (o : LinePiece)
     (v : B) : Type 0 where
   pub from : A
   pub read : value o from
