@@ -22,7 +22,7 @@ use Rattle.bpaf_laws.specs.Flag.{FlagOutcome}
 use Rattle.bpaf_laws.specs.Laws.{Keeps, Lawful}
 use Rattle.bpaf_laws.specs.Product.{BothOutcome, ProductOutcome, joined}
 use Rattle.bpaf_laws.specs.Reading.{Readings, Outcome}
-use Rattle.bpaf_laws.specs.Repeat.{ManyOutcome, Steps}
+use Rattle.bpaf_laws.specs.Repeat.{ManyOutcome, Turns}
 use Rattle.bpaf_laws.proofs.Keeping.{keeps_same, keeps_trans}
 use Rattle.bpaf_parts.specs.declared.info.ExtraParams.{ExtraParams}
 use Rattle.bpaf_parts.specs.declared.info.ExtraParams.TheVariants as extra
@@ -155,7 +155,7 @@ module _ (showing : Showing) where
       (inside : HandsOn showing inner) (catches : Bool) where
     -- what steps that answered values keep
     steps_keep : (first : Bool) (s : Situation) (vs : List T) (t : Situation)
-        → Steps inner catches first s vs t → Keeps s t
+        → Turns inner catches first s vs t → Keeps s t
     steps_keep first s [] t o = keeps_same s t (sym o)
     steps_keep first s (v ∷ vs) t o =
         keeps_trans s o.0 t (law.ok s o.0 v o.1.0).keeps (steps_keep false o.0 vs t o.2)

@@ -31,7 +31,7 @@ use Rattle.bpaf_laws.specs.Reading.{Readings, Outcome}
 use Rattle.bpaf_laws.specs.Laws.{Keeps, Closes, Lawful, newly}
 use Rattle.bpaf_laws.specs.Flag.{FlagReads, at_key, in_environment, nowhere}
 use Rattle.bpaf_laws.specs.Product.{BothOutcome, ProductOutcome, joined}
-use Rattle.bpaf_laws.specs.Repeat.{Steps, ManyOutcome, is_nil}
+use Rattle.bpaf_laws.specs.Repeat.{Turns, ManyOutcome, is_nil}
 use Rattle.bpaf_laws.specs.Step.{StepOutcome}
 use Rattle.bpaf_laws.proofs.CountingLaws.{none_below, same_took_none}
 use Rattle.bpaf_core.specs.Ending.{Ending}
@@ -211,7 +211,7 @@ module _ {T : Type 0} (means : List ℕ → T → Type 0) (metavar : List ℕ) (
 
   -- steps that leave nothing read what waited
   steps_pass : (first : Bool) (s : Situation) (vs : List T) (t : Situation) (base : ℕ)
-      (texts : List (List ℕ)) → Waits s base texts → Steps strict_word catches first s vs t
+      (texts : List (List ℕ)) → Waits s base texts → Turns strict_word catches first s vs t
       → HasNothingOpen t → AllZip means texts vs
   steps_pass first s [] t base [] waits steps none = tt
   steps_pass first s [] t base (x ∷ xs) waits steps none =

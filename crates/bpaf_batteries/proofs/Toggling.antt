@@ -22,7 +22,7 @@ use Rattle.bpaf_laws.proofs.ChoiceLaws.{choice_lawful}
 use Rattle.bpaf_laws.proofs.CountingLaws.{same_took_none}
 use Rattle.bpaf_laws.proofs.FlagLaws.{flag_lawful}
 use Rattle.bpaf_laws.specs.Choice.{BranchesRan, Chosen, EqualDepths, Winner, depth}
-use Rattle.bpaf_laws.specs.Repeat.{Steps, UntilStop, is_nil}
+use Rattle.bpaf_laws.specs.Repeat.{Turns, UntilStop, is_nil}
 use Rattle.bpaf_laws.specs.Step.{StepOutcome, stops_step, stops_spared, is_untouched}
 use Rattle.bpaf_batteries.proofs.Keys.{KeyRan, key_ran, not_both}
 use Rattle.bpaf_batteries.specs.Keys.{is_key, is_either, AreKeysApart, KeyOutcome}
@@ -447,7 +447,7 @@ module _ {T : Type 0} (clones : T → T → Type 0) (one other : ParseFlag T)
 
   -- the last step before there is no key took the rightmost one
   last_step : (catches first : Bool) (s : Situation) (before : List T) (v : T) (t : Situation)
-      → Steps (EitherOutcome clones one other) catches first s (before ++ v ∷ []) t → HasNone (is_either one other) t
+      → Turns (EitherOutcome clones one other) catches first s (before ++ v ∷ []) t → HasNone (is_either one other) t
       → RightmostGives clones one other s (Some v)
   last_step catches first s [] v t o none =
       let m = o.0 in
@@ -479,12 +479,12 @@ module _ {T : Type 0} (clones : T → T → Type 0) (one other : ParseFlag T)
       → RightmostGives clones one other s v
   last_wins catches s t values (Some v) run last =
       last_step catches true s last.0 v run.last
-      (subst (λ vs. Steps (EitherOutcome clones one other) catches true s vs run.last) last.1 run.steps)
+      (subst (λ vs. Turns (EitherOutcome clones one other) catches true s vs run.last) last.1 run.steps)
       (stopped_none catches (is_nil values) run.last t run.stop)
   last_wins catches s t values None run last =
       let none = stopped_none catches (is_nil values) run.last t run.stop in
       let same : s ≡ run.last =
-      subst (λ vs. Steps (EitherOutcome clones one other) catches true s vs run.last) last run.steps in
+      subst (λ vs. Turns (EitherOutcome clones one other) catches true s vs run.last) last run.steps in
       subst (HasNone (is_either one other)) (sym same) none
 
 -- the last toggle wins

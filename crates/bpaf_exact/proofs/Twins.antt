@@ -10,7 +10,7 @@ use Rattle.bpaf_line.specs.Messages.{can_catch}
 use Rattle.bpaf_line.specs.Situation.{Situation, open_count}
 use Rattle.bpaf_laws.specs.Default.{Gives, GivesClone, GivesAnswer, FallbackOutcome}
 use Rattle.bpaf_laws.specs.Reading.{Outcome}
-use Rattle.bpaf_laws.specs.Repeat.{Steps, UntilRest, UntilFault, ManyOutcome, SomeOutcome}
+use Rattle.bpaf_laws.specs.Repeat.{Turns, UntilRest, UntilFault, ManyOutcome, SomeOutcome}
 use Rattle.bpaf_laws.specs.Repeat.{CollectOutcome, CountOutcome, LastOutcome, is_nil, stops, rests}
 use Rattle.bpaf_laws.specs.Step.{StepOutcome, stops_step, is_untouched}
 use Rattle.bpaf_laws.specs.Transform.{MapOutcome, ParseOutcome, GuardOutcome}
@@ -175,7 +175,7 @@ module _ (T : Type 0) (inner : Outcome T) (idle : Bool) where
   took_item s m (inr l) = l
 
   -- steps after a value, until one stops
-  later_values : (values : List T) (s last t : Situation) → Steps inner false false s values last
+  later_values : (values : List T) (s last t : Situation) → Turns inner false false s values last
       → StepOutcome inner false false last (Ok None) t
       → StepsRan T inner idle (Some (open_count s)) s (Ok values) t
   later_values [] s last t steps stop =
@@ -187,7 +187,7 @@ module _ (T : Type 0) (inner : Outcome T) (idle : Bool) where
 
   -- until one fails
   later_fault : (values : List T) (s last t : Situation) (e : Error)
-      → Steps inner false false s values last → StepOutcome inner false false last (Err e) t
+      → Turns inner false false s values last → StepOutcome inner false false last (Err e) t
       → StepsRan T inner idle (Some (open_count s)) s (Err e) t
   later_fault [] s last t e steps fails =
       subst (λ z. StepsRan T inner idle (Some (open_count z)) z (Err e) t) (sym steps)
@@ -198,7 +198,7 @@ module _ (T : Type 0) (inner : Outcome T) (idle : Bool) where
 
   -- all values, until a step stops
   all_values : (first : Bool) (values : List T) (s last t : Situation)
-      → Steps inner false first s values last
+      → Turns inner false first s values last
       → StepOutcome inner false (is_nil values) last (Ok None) t
       → StepsRan T inner idle None s (Ok values) t
   all_values first [] s last t steps stop =
@@ -208,7 +208,7 @@ module _ (T : Type 0) (inner : Outcome T) (idle : Bool) where
 
   -- until one fails
   all_fault : (first : Bool) (values : List T) (s last t : Situation) (e : Error)
-      → Steps inner false first s values last
+      → Turns inner false first s values last
       → StepOutcome inner false (is_nil values) last (Err e) t
       → StepsRan T inner idle None s (Err e) t
   all_fault first [] s last t e steps fails =

@@ -10,7 +10,7 @@ use Rattle.bpaf_laws.proofs.Keeping.{keeps_refl, keeps_trans, closes_refl, close
 use Rattle.bpaf_laws.proofs.CountingLaws.{open_count-falls, fewer_took, same_took_none}
 use Rattle.bpaf_laws.specs.Step.{StepOutcome}
 use Rattle.bpaf_laws.proofs.DefaultLaws.{step_refused}
-use Rattle.bpaf_laws.specs.Repeat.{is_nil, Steps, UntilStop, UntilError, UntilRest, UntilFault, stops, rests, ListOutcome, EachReads, ListReads, ManyOutcome, ManyReads, SomeOutcome, SomeReads, CollectOutcome, CollectReads, CountOutcome, CountReads, LastOutcome, LastReads, EachTakes, LaterTake, IsBounded}
+use Rattle.bpaf_laws.specs.Repeat.{is_nil, Turns, UntilStop, UntilError, UntilRest, UntilFault, stops, rests, ListOutcome, EachReads, ListReads, ManyOutcome, ManyReads, SomeOutcome, SomeReads, CollectOutcome, CollectReads, CountOutcome, CountReads, LastOutcome, LastReads, EachTakes, LaterTake, IsBounded}
 
 -- what a stop leaves as it was: it takes nothing
 record TakesNothing (s t : Situation) : Type 0 where
@@ -30,16 +30,16 @@ took_item inner catches s m v o =
 
 -- steps of which each took an item are steps of a repeat
 pub any_first : {T : Type 0} (inner : Outcome T) (catches : Bool) (s : Situation) (vs : List T)
-    (t : Situation) → Steps inner catches false s vs t → Steps inner catches true s vs t
+    (t : Situation) → Turns inner catches false s vs t → Turns inner catches true s vs t
 any_first inner catches s [] t o = o
 any_first inner catches s (v ∷ vs) t o = (o.0, (o.1.0, inl refl), o.2)
 
 -- one more step at the end
 pub steps_more : {T : Type 0} (inner : Outcome T) (catches first : Bool) (s m : Situation)
     (vs : List T) (v : T) (t : Situation)
-    → Steps inner catches first s vs m
+    → Turns inner catches first s vs m
     → StepOutcome inner catches (first && is_nil vs) m (Ok (Some v)) t
-    → Steps inner catches first s (vs ++ v ∷ []) t
+    → Turns inner catches first s (vs ++ v ∷ []) t
 steps_more inner catches true s m [] v t o step =
     (t, subst (λ w. StepOutcome inner catches true w (Ok (Some v)) t) (sym o) step, refl)
 steps_more inner catches false s m [] v t o step =
@@ -76,13 +76,13 @@ module _ {T : Type 0} {inner : Outcome T} {reads : Readings T} (law : Lawful T i
 
   -- what steps keep
   steps_keep : (first : Bool) (s : Situation) (vs : List T) (t : Situation)
-      → Steps inner catches first s vs t → Keeps s t
+      → Turns inner catches first s vs t → Keeps s t
   steps_keep first s [] t o = subst (Keeps s) o (keeps_refl s)
   steps_keep first s (v ∷ vs) t o =
       keeps_trans s o.0 t (law.ok s o.0 v o.1.0).keeps (steps_keep false o.0 vs t o.2)
 
   -- steps that each took an item, and then nothing, read each their own share
-  each_read : (s : Situation) (vs : List T) (m t : Situation) → Steps inner catches false s vs m
+  each_read : (s : Situation) (vs : List T) (m t : Situation) → Turns inner catches false s vs m
       → TakesNothing m t → Reads (List T) (EachReads reads) s vs t
   each_read s [] m t o nothing =
       subst (λ w. Reads (List T) (EachReads reads) w [] t) (sym o)
@@ -107,7 +107,7 @@ module _ {T : Type 0} {inner : Outcome T} {reads : Readings T} (law : Lawful T i
 
   -- a value, and then steps that each took an item, and then nothing
   first_read : (s n m t : Situation) (v : T) (vs : List T) → inner s (Ok v) n
-      → Steps inner catches false n vs m → TakesNothing m t
+      → Turns inner catches false n vs m → TakesNothing m t
       → Reads (List T) (ListReads reads) s (v ∷ vs) t
   first_read s n m t v vs o steps nothing =
       let here = law.ok s n v o in
@@ -182,7 +182,7 @@ module _ {T : Type 0} {inner : Outcome T} {reads : Readings T} (law : Lawful T i
 
   -- each value took an item, so there are no more values than items
   pub values_bounded : (s : Situation) (vs : List T) (t : Situation)
-      → Steps inner catches false s vs t → length vs + open_count t ≤ open_count s
+      → Turns inner catches false s vs t → length vs + open_count t ≤ open_count s
   values_bounded s [] t o = let same = ap open_count o in omega arith
   values_bounded s (v ∷ vs) t o =
       let fewer = took_item inner catches s o.0 v o.1 in
@@ -190,7 +190,7 @@ module _ {T : Type 0} {inner : Outcome T} {reads : Readings T} (law : Lawful T i
       omega arith
 
   -- the first value may have taken none
-  steps_bounded : (s : Situation) (vs : List T) (t : Situation) → Steps inner catches true s vs t
+  steps_bounded : (s : Situation) (vs : List T) (t : Situation) → Turns inner catches true s vs t
       → length vs ≤ open_count s + 1
   steps_bounded s [] t o = omega arith
   steps_bounded s (v ∷ vs) t o =
@@ -200,14 +200,14 @@ module _ {T : Type 0} {inner : Outcome T} {reads : Readings T} (law : Lawful T i
       omega arith
 
   -- steps that each took an item
-  each_takes : (s : Situation) (vs : List T) (t : Situation) → Steps inner catches false s vs t
+  each_takes : (s : Situation) (vs : List T) (t : Situation) → Turns inner catches false s vs t
       → EachTakes inner s vs t
   each_takes s [] t o = o
   each_takes s (v ∷ vs) t o =
       (o.0, o.1.0, took_item inner catches s o.0 v o.1, each_takes o.0 vs t o.2)
 
   -- all but the first took an item
-  later_take : (s : Situation) (vs : List T) (t : Situation) → Steps inner catches true s vs t
+  later_take : (s : Situation) (vs : List T) (t : Situation) → Turns inner catches true s vs t
       → LaterTake inner s vs t
   later_take s [] t o = o
   later_take s (v ∷ vs) t o = (o.0, o.1.0, each_takes o.0 vs t o.2)

@@ -11,7 +11,7 @@ use Rattle.bpaf_laws.specs.Reading.{Readings, Outcome}
 use Rattle.bpaf_laws.specs.Laws.{Lawful}
 use Rattle.bpaf_laws.proofs.CountingLaws.{open_count-falls}
 use Rattle.bpaf_laws.specs.Step.{StepOutcome}
-use Rattle.bpaf_laws.specs.Repeat.{is_nil, Steps, UntilRest, stops, rests, ManyOutcome, LastOutcome}
+use Rattle.bpaf_laws.specs.Repeat.{is_nil, Turns, UntilRest, stops, rests, ManyOutcome, LastOutcome}
 use Rattle.bpaf_laws.proofs.RepeatLaws.{took_item, steps_more, values_bounded, step_falls}
 
 -- a number above nothing isn't nothing
@@ -44,8 +44,8 @@ step_at inner catches m vs b o v t nil step is =
 -- the steps of an iteration that answered a value, and of those before it
 pub steps_on : {T : Type 0} (inner : Outcome T) (catches : Bool) (s m : Situation) (vs : List T)
     (b : Bool) (o : Option T) (v : T) (t : Situation)
-    → Steps inner catches true s vs m → b ≡ is_nil vs → StepOutcome inner catches b m (Ok o) t
-    → o ≡ Some v → Steps inner catches true s (vs ++ v ∷ []) t
+    → Turns inner catches true s vs m → b ≡ is_nil vs → StepOutcome inner catches b m (Ok o) t
+    → o ≡ Some v → Turns inner catches true s (vs ++ v ∷ []) t
 steps_on inner catches s m vs b o v t steps nil step is =
     steps_more inner catches true s m vs v t steps (step_at inner catches m vs b o v t nil step is)
 
@@ -68,7 +68,7 @@ not_nil us (x ∷ vs) v e = rw e refl
 -- a value that couldn't be kept, for want of memory
 pub steps_refused : {T : Type 0} (inner : Outcome T) (r : Result (Vec T) Error) (catches : Bool)
     (s t : Situation) (vs : List T)
-    → Steps inner catches true s vs t → IsErrAnd r (λ e. e.0 ≡ Memory)
+    → Turns inner catches true s vs t → IsErrAnd r (λ e. e.0 ≡ Memory)
     → ManyOutcome inner catches s r t
 steps_refused inner (Err e) catches s t vs steps is =
     record { values = vs; last = t; steps = steps; fails = inr (ap is_memory is, refl) }
@@ -99,14 +99,14 @@ none_nil values (Some v) b answered ends =
 
 module _ {T : Type 0} {inner : Outcome T} {reads : Readings T} (law : Lawful T inner reads)
     (s m : Situation) (vs : List T) (b : Bool) (o : Option T) (t : Situation)
-    (steps : Steps inner false false s vs m) (nil : b ≡ is_nil vs)
+    (steps : Turns inner false false s vs m) (nil : b ≡ is_nil vs)
     (step : StepOutcome inner false b m (Ok o) t) where
   -- the value took nothing: it is the first, and the run rests
   pub rests_here : (v : T) → o ≡ Some v → open_count t ≡ open_count m
       → UntilRest inner s (vs ++ v ∷ []) t
   rests_here v is same = by_values vs steps (step_at inner false m vs b o v t nil step is)
     where
-      by_values : (vs : List T) → Steps inner false false s vs m
+      by_values : (vs : List T) → Turns inner false false s vs m
           → StepOutcome inner false (is_nil vs) m (Ok (Some v)) t
           → UntilRest inner s (vs ++ v ∷ []) t
       by_values [] steps at =
@@ -117,7 +117,7 @@ module _ {T : Type 0} {inner : Outcome T} {reads : Readings T} (law : Lawful T i
 
   -- the value took an item
   pub goes_on : (v : T) → o ≡ Some v → open_count t ≢ open_count m
-      → Steps inner false false s (vs ++ v ∷ []) t × (open_count t < open_count m)
+      → Turns inner false false s (vs ++ v ∷ []) t × (open_count t < open_count m)
   goes_on v is other =
       let at = step_at inner false m vs b o v t nil step is in
       let here = law.ok m t v at.0 in
@@ -135,7 +135,7 @@ module _ {T : Type 0} {inner : Outcome T} {reads : Readings T} (law : Lawful T i
   pub fits_more : (v : T) → o ≡ Some v → (length vs ≡ 0) ⊎ (length vs + 1 ≤ open_count s)
   fits_more v is = by_values vs steps (step_at inner false m vs b o v t nil step is)
     where
-      by_values : (vs : List T) → Steps inner false false s vs m
+      by_values : (vs : List T) → Turns inner false false s vs m
           → StepOutcome inner false (is_nil vs) m (Ok (Some v)) t → (length vs ≡ 0)
           ⊎ (length vs + 1 ≤ open_count s)
       by_values [] steps at = inl refl

@@ -16,17 +16,17 @@ is_nil [] = true
 is_nil (v ∷ vs) = false
 
 -- steps one after another that answered these values; `first` where no value came before them
-abbrev pub Steps : {T : Type 0} → Outcome T → Bool → Bool → Situation → List T → Situation → Type 0
-Steps inner catches first s [] t = s ≡ t
-Steps inner catches first s (v ∷ vs) t =
+abbrev pub Turns : {T : Type 0} → Outcome T → Bool → Bool → Situation → List T → Situation → Type 0
+Turns inner catches first s [] t = s ≡ t
+Turns inner catches first s (v ∷ vs) t =
     (m : Situation) × StepOutcome inner catches first s (Ok (Some v)) m
-    × Steps inner catches false m vs t
+    × Turns inner catches false m vs t
 
 -- steps until one stops
 pub record UntilStop {T : Type 0} (inner : Outcome T) (catches : Bool) (s : Situation)
     (values : List T) (t : Situation) : Type 0 where
   pub last : Situation
-  pub steps : Steps inner catches true s values last
+  pub steps : Turns inner catches true s values last
   pub stop : StepOutcome inner catches (is_nil values) last (Ok None) t
 
 -- steps until one fails
@@ -34,7 +34,7 @@ pub record UntilError {T : Type 0} (inner : Outcome T) (catches : Bool) (s : Sit
     (t : Situation) : Type 0 where
   pub values : List T
   pub last : Situation
-  pub steps : Steps inner catches true s values last
+  pub steps : Turns inner catches true s values last
   pub fails : StepOutcome inner catches (is_nil values) last (Err e) t
 
 -- all values until a step stops, as a list
@@ -96,7 +96,7 @@ pub record CollectReads {T C : Type 0} (inner : Readings T) (fills : List T → 
 -- steps that each took an item, until one stops; or one value alone, that took nothing
 pub data UntilRest {T : Type 0} (inner : Outcome T) (s : Situation) (values : List T)
     (t : Situation) : Type 0 where
-  stops : (m : Situation) → Steps inner false false s values m
+  stops : (m : Situation) → Turns inner false false s values m
       → StepOutcome inner false (is_nil values) m (Ok None) t → UntilRest inner s values t
   rests : (v : T) → values ≡ v ∷ [] → inner s (Ok v) t → open_count s ≤ open_count t
       → UntilRest inner s values t
@@ -106,7 +106,7 @@ pub record UntilFault {T : Type 0} (inner : Outcome T) (s : Situation) (e : Erro
     (t : Situation) : Type 0 where
   pub values : List T
   pub last : Situation
-  pub steps : Steps inner false false s values last
+  pub steps : Turns inner false false s values last
   pub fails : StepOutcome inner false (is_nil values) last (Err e) t
 
 -- count: how many values there are, until one takes nothing or a step stops
