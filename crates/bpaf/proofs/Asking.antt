@@ -153,14 +153,14 @@ module _ (showing : Showing) where
 
   module _ {T : Type 0} {inner : Outcome T} {reads : Readings T} (law : Lawful T inner reads)
       (inside : HandsOn showing inner) (catches : Bool) where
-    -- what steps that answered values keep
+    -- what turns that answered values keep
     steps_keep : (first : Bool) (s : Situation) (vs : List T) (t : Situation)
         → Turns inner catches first s vs t → Keeps s t
     steps_keep first s [] t o = keeps_same s t (sym o)
     steps_keep first s (v ∷ vs) t o =
         keeps_trans s o.0 t (law.ok s o.0 v o.1.0).keeps (steps_keep false o.0 vs t o.2)
 
-    -- a repeat shows what one of its steps does
+    -- a repeat shows what one of its turns does
     pub many_hands_on : HandsOn showing (ManyOutcome inner catches)
     many_hands_on = record {
       all = λ s e t doc full o is. ⊎_elim

@@ -32,7 +32,7 @@ use Rattle.bpaf_laws.specs.Laws.{Keeps, Closes, Lawful, newly}
 use Rattle.bpaf_laws.specs.Flag.{FlagReads, at_key, in_environment, nowhere}
 use Rattle.bpaf_laws.specs.Product.{BothOutcome, ProductOutcome, joined}
 use Rattle.bpaf_laws.specs.Repeat.{Turns, ManyOutcome, is_nil}
-use Rattle.bpaf_laws.specs.Step.{StepOutcome}
+use Rattle.bpaf_laws.specs.Turn.{TurnOutcome}
 use Rattle.bpaf_laws.proofs.CountingLaws.{none_below, same_took_none}
 use Rattle.bpaf_core.specs.Ending.{Ending}
 use Rattle.bpaf_parts.specs.Info.{RunInfo}
@@ -234,7 +234,7 @@ module _ {T : Type 0} (means : List ℕ → T → Type 0) (metavar : List ℕ) (
       )
 
   -- a step that stops leaves all as it was
-  stop_same : (first : Bool) (s t : Situation) → StepOutcome strict_word catches first s (Ok None) t
+  stop_same : (first : Bool) (s t : Situation) → TurnOutcome strict_word catches first s (Ok None) t
       → s ≡ t
   stop_same first s t stop = ⊎_elim
       (λ dropped.

@@ -23,7 +23,7 @@ use Rattle.bpaf_laws.proofs.CountingLaws.{same_took_none}
 use Rattle.bpaf_laws.proofs.FlagLaws.{flag_lawful}
 use Rattle.bpaf_laws.specs.Choice.{BranchesRan, Chosen, EqualDepths, Winner, depth}
 use Rattle.bpaf_laws.specs.Repeat.{Turns, UntilStop, is_nil}
-use Rattle.bpaf_laws.specs.Step.{StepOutcome, stops_step, stops_spared, is_untouched}
+use Rattle.bpaf_laws.specs.Turn.{TurnOutcome, stops_step, stops_spared, is_untouched}
 use Rattle.bpaf_batteries.proofs.Keys.{KeyRan, key_ran, not_both}
 use Rattle.bpaf_batteries.specs.Keys.{is_key, is_either, AreKeysApart, KeyOutcome}
 use Rattle.bpaf_batteries.specs.Toggle.{EitherOutcome, GivesValue, IsLastOf, IsRightmost}
@@ -398,7 +398,7 @@ module _ {T : Type 0} (clones : T → T → Type 0) (one other : ParseFlag T)
 
   -- where a step stops there is no key
   stopped_none : (catches first : Bool) (s t : Situation)
-      → StepOutcome (EitherOutcome clones one other) catches first s (Ok None) t → HasNone (is_either one other) s
+      → TurnOutcome (EitherOutcome clones one other) catches first s (Ok None) t → HasNone (is_either one other) s
   stopped_none catches first s t o = ⊎_elim
       (λ dropped. absurd (not_dropped s t dropped.0 dropped.1 dropped.3))
       (λ stopped.

@@ -10,7 +10,7 @@ use Rattle.bpaf_laws.specs.Transform.{MapOutcome, MapReads, ParseOutcome, GuardO
 use Rattle.bpaf_laws.proofs.TransformLaws.{map_lawful, parse_lawful, guard_lawful}
 use Rattle.bpaf_laws.specs.Hide.{HideOutcome}
 use Rattle.bpaf_laws.proofs.HideLaws.{hide_lawful}
-use Rattle.bpaf_laws.specs.Step.{StepOutcome}
+use Rattle.bpaf_laws.specs.Turn.{TurnOutcome}
 use Rattle.bpaf_laws.specs.Default.{Gives, GivesClone, GivesAnswer, FallbackOutcome, FallbackReads}
 use Rattle.bpaf_laws.specs.Default.{OptionalReads, OptionalDescribes}
 use Rattle.bpaf_laws.proofs.DefaultLaws.{optional_lawful, fallback_lawful}
@@ -83,7 +83,7 @@ Clones = Value → Value → Type 0
 abbrev pub OverOutcome : Clones → Modifier → Outcome Value → Outcome Value
 OverOutcome clones over.Same inner = inner
 OverOutcome clones (over.Optional catch) inner =
-    ToldOutcome (StepOutcome inner catch true) ToldOption
+    ToldOutcome (TurnOutcome inner catch true) ToldOption
 OverOutcome clones (over.Many catch) inner = ToldOutcome (ManyOutcome inner catch) ToldList
 OverOutcome clones (over.Some catch) inner = ToldOutcome (SomeOutcome inner catch need_one) ToldList
 OverOutcome clones (over.Collect catch) inner =

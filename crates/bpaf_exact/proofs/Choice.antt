@@ -17,7 +17,7 @@ use Rattle.bpaf_words.specs.Items.{any_item}
 use Rattle.bpaf_laws.specs.Choice.{ChoiceOutcome, EqualDepths, OneOk, Winner}
 use Rattle.bpaf_laws.specs.Reading.{Outcome}
 use Rattle.bpaf_laws.specs.Spared.{IsNotMemory}
-use Rattle.bpaf_laws.specs.Step.{is_untouched}
+use Rattle.bpaf_laws.specs.Turn.{is_untouched}
 use Rattle.bpaf_exact.specs.Pieces.{Cells, Roles, LinePiece, One, Two, is_own_role, is_own, Apart}
 use Rattle.bpaf_exact.specs.Pieces.{either, pieces, TakesPiece, takes_one, takes_two, takes_later}
 use Rattle.bpaf_exact.specs.Flat.{OfMemory, OfMissing, Refused, class, cells, first_cells, IsWhole}

@@ -93,13 +93,13 @@ module _ (T : Type 0) (inner : Outcome T)
     absent = ab;
   }
 
-  -- a step doesn't stop at other refusals
+  -- a turn doesn't stop at other refusals
   no_stop : (s m : Situation) (e : Error) (c : ErrorClass) → Stops e s m → class e ≡ c
       → (c ≡ OfMissing → ⊥) → (c ≡ Caught → ⊥) → ⊥
   no_stop s m e c (nothing_found h n) g a b = a (sym g ∙ h)
   no_stop s m e c (caught h) g a b = b (sym g ∙ h)
 
-  -- a step that stops after a value
+  -- a turn that stops after a value
   stop_after : (s m : Situation) (e : Error) → Stops e s m → SingleErr T k q group gap s e m
       → Took s [] s
   stop_after s m e h (of_memory c) = absurd (no_stop s m e OfMemory h c (λ i. cc) (λ i. cc))
@@ -120,7 +120,7 @@ module _ (T : Type 0) (inner : Outcome T)
     absent = i.absent;
   }
 
-  -- a step after a value took something
+  -- a turn after a value took something
   step_took : (last : Option ℕ) (s m t : Situation) (v : T) (vs : List T) → IsWhole s
       → last ≡ Some (open_count s) → IsFewer m last
       → SingleOk T k q group gap s v m → (Steady s m → Took m vs t) → Took s (v ∷ vs) t
@@ -180,7 +180,7 @@ module _ (T : Type 0) (inner : Outcome T)
       subst (λ os. OwnList T group gap os (v ∷ us)) (sym p)
       (subst (λ z. OwnList T group gap [] (v ∷ z)) (sym e) (only_absent h ab))
 
-  -- the first step
+  -- the first turn
   first_step : (s m t : Situation) (v : T) (us : List T) → SingleOk T k q group gap s v m
       → (Steady s m → Took m us t) → RepeatTook s (v ∷ us) t
   first_step s m t v us (gave_absent h p ab same st) more =
@@ -218,7 +218,7 @@ module _ (T : Type 0) (inner : Outcome T)
   first_idle s t v w e (took st ta ne up down) = let f = fewer_count s t w st ta in
       absurd (omega arith)
 
-  -- a first step that stops
+  -- a first turn that stops
   first_stop : (s m : Situation) (e : Error) → Stops e s m → SingleErr T k q group gap s e m
       → RepeatTook s [] s
   first_stop s m e h (of_memory c) = absurd (no_stop s m e OfMemory h c (λ i. cc) (λ i. cc))
@@ -261,12 +261,12 @@ module _ (T : Type 0) (inner : Outcome T)
   own_view os vs own_none = view_none refl refl
   own_view os vs (own_more {rest = rest} {v = v} {vs = us} g o) = view_more v rest us refl g o
 
-  -- what is known of the rest after a step that took something
+  -- what is known of the rest after a turn that took something
   record Onward (s m : Situation) (v : T) (r : Result (List T) Error) (t : Situation) : Type 0 where
     read : group (pieces q (cells s)) v (pieces q (cells m))
     gives : GivesList (pieces q (cells m)) r t
 
-  -- a step where the pieces can be read
+  -- a turn where the pieces can be read
   on_step : (s m t : Situation) (v : T) (ws : List T) (r : Result (List T) Error)
       → (gap.has ≡ true → pieces q (cells s) ≡ [] → cells m ≡ cells s → Steady s m → ⊥)
       → OwnView (pieces q (cells s)) ws
@@ -301,7 +301,7 @@ module _ (T : Type 0) (inner : Outcome T)
   failed_gives s t e ws w ab (view_more v rest us x g o) n (of_piece c ne none) =
       absurd (none v rest g)
 
-  -- a step that stops read all
+  -- a turn that stops read all
   stopped_gives : (s m : Situation) (e : Error) (ws : List T) → Stops e s m
       → OwnView (pieces q (cells s)) ws → SingleErr T k q group gap s e m
       → GivesList (pieces q (cells s)) (Ok []) s
@@ -326,7 +326,7 @@ module _ (T : Type 0) (inner : Outcome T)
   enough_gives last s t v ws w e f o (took st ta ne up down) =
       absurd (f (is_fewer last s t e (fewer_count s t w st ta)))
 
-  -- where the pieces can be read, the steps after a value read them
+  -- where the pieces can be read, the turns after a value read them
   steps_give : (last : Option ℕ) (s t : Situation) (r : Result (List T) Error) (ws : List T)
       → IsWhole s → last ≡ Some (open_count s) → (gap.has ≡ true → (a : T) × gap.absent a)
       → Own T group (pieces q (cells s)) ws → StepsRan T inner idle last s r t
@@ -386,7 +386,7 @@ module _ (T : Type 0) (inner : Outcome T)
   own_given os (Ok vs) t ab n g = (list_of gap.has refl os vs ab n g.0, g.1)
   own_given os (Err e) t ab n g = g
 
-  -- a first step where there is no piece
+  -- a first turn where there is no piece
   gap_step : (s m t : Situation) (v : T) (us : List T) → pieces q (cells s) ≡ []
       → (Steady s m → Took m us t) → SingleOk T k q group gap s v m
       → GivesOwn (pieces q (cells s)) (Ok (v ∷ us)) t
@@ -396,7 +396,7 @@ module _ (T : Type 0) (inner : Outcome T)
       (absent_alone s t v us none h p ab, j.none)
   gap_step s m t v us p i (took st ta ne up down) = absurd (ne p)
 
-  -- steps that fail after it
+  -- turns that fail after it
   gap_step_failed : (s m t : Situation) (v : T) (e : Error) → pieces q (cells s) ≡ []
       → (Steady s m → (gap.has ≡ true → (a : T) × gap.absent a)
       → Own T group (pieces q (cells m)) [] → class e ≡ OfMemory)
@@ -420,7 +420,7 @@ module _ (T : Type 0) (inner : Outcome T)
   gap_failed s t a e h ab p (of_absent c g p' none) = absurd (none a ab)
   gap_failed s t a e h ab p (of_piece c ne none) = absurd (ne p)
 
-  -- and no first step stops
+  -- and no first turn stops
   gap_stopped : (s m : Situation) (e : Error) → gap.has ≡ true → pieces q (cells s) ≡ []
       → Stops e s m → SingleErr T k q group gap s e m → ⊥
   gap_stopped s m e h p x (of_memory c) = no_stop s m e OfMemory x c (λ i. cc) (λ i. cc)

@@ -12,7 +12,7 @@ use Rattle.bpaf_laws.specs.Default.{Gives, GivesClone, GivesAnswer, FallbackOutc
 use Rattle.bpaf_laws.specs.Reading.{Outcome}
 use Rattle.bpaf_laws.specs.Repeat.{Turns, UntilRest, UntilFault, ManyOutcome, SomeOutcome}
 use Rattle.bpaf_laws.specs.Repeat.{CollectOutcome, CountOutcome, LastOutcome, is_nil, stops, rests}
-use Rattle.bpaf_laws.specs.Step.{StepOutcome, stops_step, is_untouched}
+use Rattle.bpaf_laws.specs.Turn.{TurnOutcome, stops_step, is_untouched}
 use Rattle.bpaf_laws.specs.Transform.{MapOutcome, ParseOutcome, GuardOutcome}
 use Rattle.bpaf_exact.specs.Flat.{OfMemory, Caught, Refused, class, class_of}
 use Rattle.bpaf_exact.specs.Single.{Stops, nothing_found, caught, StepsRan, step, step_failed}
@@ -103,9 +103,9 @@ guard_field_law A inner checks message names s g l =
     narrower_form A _ _ (guard_within A inner checks message) names _
     (flat_closed_law A A inner (guard_closure checks) names s g l)
 
--- Steps.
+-- Turns.
 
--- an error at which a step stops
+-- an error at which a turn stops
 stops_at : (e : Error) (s m : Situation) → stops_step false e.0 (is_untouched s m) ≡ true
     → Stops e s m
 stops_at e s m h = ⊎_elim
@@ -121,10 +121,10 @@ goes_on e s m h (caught c) = no_stop_class e.0 (is_untouched s m) h (inr c)
 
 -- optional
 optional_within : (T : Type 0) (inner : Outcome T)
-    → AllowsNoMore (Option T) (OptionalRan T inner) (StepOutcome inner false true)
+    → AllowsNoMore (Option T) (OptionalRan T inner) (TurnOutcome inner false true)
 optional_within T inner = record { within = by_answer }
   where
-    by_answer : (s t : Situation) (r : Result (Option T) Error) → StepOutcome inner false true s r t
+    by_answer : (s t : Situation) (r : Result (Option T) Error) → TurnOutcome inner false true s r t
         → OptionalRan T inner s r t
     by_answer s t (Ok (Some v)) o = optional_some o.0
     by_answer s t (Ok None) (inl o) = absurd (true≢false o.2)
@@ -137,7 +137,7 @@ optional_within T inner = record { within = by_answer }
 -- keeps to the laws of its form
 pub optional_field_law : (T : Type 0) (inner : Outcome T) (catch : Bool) (names : List Names)
     (s : FlatForm T) → FormLaw inner names s
-    → FormLaw (StepOutcome inner catch true) names (unless catch (flat_optional s))
+    → FormLaw (TurnOutcome inner catch true) names (unless catch (flat_optional s))
 optional_field_law T inner true names s l = tt
 optional_field_law T inner false names s l =
     narrower_form (Option T) _ _ (optional_within T inner) names _
@@ -146,8 +146,8 @@ optional_field_law T inner false names s l =
 -- Repeats.
 
 module _ (T : Type 0) (inner : Outcome T) (idle : Bool) where
-  -- a step stops after a value
-  stop_later : (s t : Situation) → StepOutcome inner false false s (Ok None) t
+  -- a turn stops after a value
+  stop_later : (s t : Situation) → TurnOutcome inner false false s (Ok None) t
       → StepsRan T inner idle (Some (open_count s)) s (Ok []) t
   stop_later s t (inl o) = let l = o.3 in enough o.1 (λ fewer. absurd (omega arith))
   stop_later s t (inr o) =
@@ -155,16 +155,16 @@ module _ (T : Type 0) (inner : Outcome T) (idle : Bool) where
       (stopped o.0.2 (stops_at o.0.0 s o.0.1 o.0.3))
 
   -- and without one
-  stop_first : (s t : Situation) → StepOutcome inner false true s (Ok None) t
+  stop_first : (s t : Situation) → TurnOutcome inner false true s (Ok None) t
       → StepsRan T inner idle None s (Ok []) t
   stop_first s t (inl o) = absurd (true≢false o.2)
   stop_first s t (inr o) =
       subst (StepsRan T inner idle None s (Ok [])) (sym o.1)
       (stopped o.0.2 (stops_at o.0.0 s o.0.1 o.0.3))
 
-  -- a step fails
+  -- a turn fails
   step_fails : (last : Option ℕ) (first : Bool) (s t : Situation) (e : Error)
-      → StepOutcome inner false first s (Err e) t → StepsRan T inner idle last s (Err e) t
+      → TurnOutcome inner false first s (Err e) t → StepsRan T inner idle last s (Err e) t
   step_fails last first s t e (inl o) = failed o.0 (goes_on e s t o.1)
   step_fails last first s t e (inr o) = no_room (memory_class e.0 o.0)
 
@@ -174,9 +174,9 @@ module _ (T : Type 0) (inner : Outcome T) (idle : Bool) where
   took_item s m (inl e) = absurd cc
   took_item s m (inr l) = l
 
-  -- steps after a value, until one stops
+  -- turns after a value, until one stops
   later_values : (values : List T) (s last t : Situation) → Turns inner false false s values last
-      → StepOutcome inner false false last (Ok None) t
+      → TurnOutcome inner false false last (Ok None) t
       → StepsRan T inner idle (Some (open_count s)) s (Ok values) t
   later_values [] s last t steps stop =
       subst (λ z. StepsRan T inner idle (Some (open_count z)) z (Ok []) t) (sym steps)
@@ -187,7 +187,7 @@ module _ (T : Type 0) (inner : Outcome T) (idle : Bool) where
 
   -- until one fails
   later_fault : (values : List T) (s last t : Situation) (e : Error)
-      → Turns inner false false s values last → StepOutcome inner false false last (Err e) t
+      → Turns inner false false s values last → TurnOutcome inner false false last (Err e) t
       → StepsRan T inner idle (Some (open_count s)) s (Err e) t
   later_fault [] s last t e steps fails =
       subst (λ z. StepsRan T inner idle (Some (open_count z)) z (Err e) t) (sym steps)
@@ -196,10 +196,10 @@ module _ (T : Type 0) (inner : Outcome T) (idle : Bool) where
       step_failed steps.1.0 (took_item s steps.0 steps.1.1)
       (later_fault values steps.0 last t e steps.2 fails)
 
-  -- all values, until a step stops
+  -- all values, until a turn stops
   all_values : (first : Bool) (values : List T) (s last t : Situation)
       → Turns inner false first s values last
-      → StepOutcome inner false (is_nil values) last (Ok None) t
+      → TurnOutcome inner false (is_nil values) last (Ok None) t
       → StepsRan T inner idle None s (Ok values) t
   all_values first [] s last t steps stop =
       subst (λ z. StepsRan T inner idle None z (Ok []) t) (sym steps) (stop_first last t stop)
@@ -209,7 +209,7 @@ module _ (T : Type 0) (inner : Outcome T) (idle : Bool) where
   -- until one fails
   all_fault : (first : Bool) (values : List T) (s last t : Situation) (e : Error)
       → Turns inner false first s values last
-      → StepOutcome inner false (is_nil values) last (Err e) t
+      → TurnOutcome inner false (is_nil values) last (Err e) t
       → StepsRan T inner idle None s (Err e) t
   all_fault first [] s last t e steps fails =
       subst (λ z. StepsRan T inner idle None z (Err e) t) (sym steps)
@@ -217,11 +217,11 @@ module _ (T : Type 0) (inner : Outcome T) (idle : Bool) where
   all_fault first (v ∷ values) s last t e steps fails =
       step_failed steps.1.0 tt (later_fault values steps.0 last t e steps.2 fails)
 
--- the steps of a repeat
+-- the turns of a repeat
 abbrev Repeated : (T : Type 0) → Outcome T → Bool → Outcome (List T)
 Repeated T inner idle s r t = StepsRan T inner idle None s r t
 
--- values until a step stops, or one that took nothing
+-- values until a turn stops, or one that took nothing
 rest_values : (T : Type 0) (inner : Outcome T) (s t : Situation) (values : List T)
     → UntilRest inner s values t → StepsRan T inner true None s (Ok values) t
 rest_values T inner s t values (stops m steps stop) =

@@ -197,7 +197,7 @@ module _ (T : Type 0) (inner : Outcome T)
 
   -- optional
 
-  -- a step doesn't stop at other refusals
+  -- a turn doesn't stop at other refusals
   no_stop : (s m : Situation) (e : Error) (c : ErrorClass) → Stops e s m → class e ≡ c
       → (c ≡ OfMissing → ⊥) → (c ≡ Caught → ⊥) → ⊥
   no_stop s m e c (nothing_found h n) g a b = a (sym g ∙ h)

@@ -123,7 +123,7 @@ repeated ByName = ByName
 repeated OneWord = EachWord
 repeated EachWord = EachWord
 
--- after an error a step stops where nothing was found, or the error can be caught otherwise
+-- after an error a turn stops where nothing was found, or the error can be caught otherwise
 pub data Stops (e : Error) (s m : Situation) : Type 0 where
   nothing_found : class e ≡ OfMissing → open_count m ≡ open_count s → Stops e s m
   caught : class e ≡ Caught → Stops e s m
@@ -133,7 +133,7 @@ abbrev pub IsFewer : Situation → Option ℕ → Type 0
 IsFewer m None = Unit {0}
 IsFewer m (Some n) = open_count m < n
 
--- the steps of a repeat; idle says that it stops also after a value that took nothing.
+-- the turns of a repeat; idle says that it stops also after a value that took nothing.
 pub data StepsRan (T : Type 0) (inner : Outcome T) (idle : Bool) : Option ℕ → Situation
     → Result (List T) Error → Situation → Type 0 where
   step : {last : Option ℕ} {s m t : Situation} {v : T} {vs : List T} → inner s (Ok v) m

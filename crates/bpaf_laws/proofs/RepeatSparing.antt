@@ -10,7 +10,7 @@ use Rattle.bpaf_laws.specs.Spared.{WithoutMemory}
 use Rattle.bpaf_laws.proofs.Sparing.{CatchesNoMemory, spared_step, not_both}
 
 module _ {T : Type 0} (inner : Outcome T) where
-  -- steps that answered values are those of inner answers that aren't want of memory
+  -- turns that answered values are those of inner answers that aren't want of memory
   steps_spared : (catches first : Bool) (s : Situation) (vs : List T) (t : Situation)
       → Turns inner catches first s vs t → Turns (WithoutMemory inner) catches first s vs t
   steps_spared catches first s [] t o = o

@@ -10,7 +10,7 @@ use Rattle.bpaf_line.specs.Situation.{Situation, is_taken}
 use Rattle.bpaf_line.specs.declared.error.Error.{Error}
 use Rattle.bpaf_laws.specs.Reading.{Readings, Outcome}
 use Rattle.bpaf_laws.specs.Spared.{IsNotMemory}
-use Rattle.bpaf_laws.specs.Step.{is_untouched}
+use Rattle.bpaf_laws.specs.Turn.{is_untouched}
 
 -- how many names the path has
 abbrev pub depth : Situation → ℕ

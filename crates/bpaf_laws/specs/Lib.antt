@@ -7,7 +7,7 @@ pub mod Flag
 pub mod Argument
 pub mod KeyFirst
 pub mod Transform
-pub mod Step
+pub mod Turn
 pub mod Default
 pub mod Repeat
 pub mod Spared

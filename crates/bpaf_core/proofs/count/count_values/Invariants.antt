@@ -1,4 +1,4 @@
--- Each step so far answered a value and took an item, and the count is that of those.
+-- Each turn so far answered a value and took an item, and the count is that of those.
 use Rattle.std.proofs.Common.{◌≡◌, List, length, false}
 use Rattle.bpaf_line.specs.Situation.{open_count}
 use Rattle.bpaf_laws.specs.Repeat.{Turns}

@@ -1,4 +1,4 @@
--- Each step so far answered a value, and those are the list.
+-- Each turn so far answered a value, and those are the list.
 use Rattle.std.proofs.Common.{◌+◌, true, if◌then◌else◌}
 use Rattle.bpaf_line.specs.Situation.{open_count}
 use Rattle.bpaf_laws.specs.Repeat.{Turns, is_nil}
