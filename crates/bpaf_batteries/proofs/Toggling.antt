@@ -45,7 +45,7 @@ alike_same t m same =
     subst (λ w. IsAlike w m) (sym same)
     (record { context = refl; scope = λ p. refl; taken = λ p. refl })
 
--- conflict marks leave it so
+-- conflict notes leave it so
 alike_conflicts : (m loser : Situation) (winner : ℕ) (t : Situation)
     → ConflictsSaved m loser winner t → IsAlike t m
 alike_conflicts m loser winner t saved = record {

@@ -133,7 +133,7 @@ differ_not : (a b : Bool) → a ≡ not b → a ≡ false → b ≡ true
 differ_not a true e f = refl
 differ_not a false e f = absurd (true≢false (sym e ∙ f))
 
--- conflict marks change nothing that is taken
+-- conflict notes change nothing that is taken
 saved_steady : (s other t : Situation) (place : ℕ) → ConflictsSaved s other place t → Steady s t
 saved_steady s other t place c =
     record { context = c.context; start = c.start; end = c.end; path = c.path }

@@ -27,7 +27,7 @@ IsWant s (Ok v) t = ⊥
 IsWant s (Err e) t = (is_memory e.0 ≡ true) × (t ≡ s)
 
 -- the value of the branch that wins, by a place if by one: what only the other one took has then a
--- conflict mark that names it
+-- conflict note that names it
 abbrev pub Winner : {T : Type 0} → T → Situation → T → Situation → Bool → Option ℕ → Result T Error
     → Situation → Type 0
 Winner x sa y sb first None r t = (r ≡ Ok x) × (t ≡ sa)

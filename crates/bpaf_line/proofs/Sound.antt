@@ -382,7 +382,7 @@ last_in_line s p h some last =
     let new = cut_to (situation_of s) n in
     present_in_line new p (ap (is_taken new) last ∙ h.in_turn n (omega arith))
 
--- it is sound with other conflict marks, and another path that begins with the set name
+-- it is sound with other conflict notes, and another path that begins with the set name
 pub sound_path : (s : Inside) (conflicts : Vec (ℕ × ℕ) Global) (path : Vec (String Global) Global)
     → IsSound s → IfSome s.name (λ n. slice_get (map string_bytes path.items) 0 ≡ Some n)
     → IsSound (record s { conflicts = conflicts; path = path })

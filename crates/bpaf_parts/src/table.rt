@@ -136,7 +136,7 @@ fn value_of_both<T: Drop>(
 }
 
 /// The value of the branch that took the leftmost place taken by only one of them, else of the
-/// first; what only the other one took gets a conflict mark. Refused only for want of memory; the
+/// first; what only the other one took gets a conflict note. Refused only for want of memory; the
 /// state can then still go back to the mark.
 fn value_of_winner<T: Drop>(
     state: &mut State,
