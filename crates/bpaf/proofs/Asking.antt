@@ -209,9 +209,9 @@ module _ (describes : Shape → Type 0) (info : RunInfo) where
 
   -- the message of an item that is left is none of an inner run
   leftover_plain : (s : Situation) (m : Message) → IsLeftover s m → is_answer m ≡ false
-  leftover_plain s m (conflict p winner next marked) = refl
-  leftover_plain s m (only_once p earlier next unmarked found) = refl
-  leftover_plain s m (not_expected p next unmarked none) = refl
+  leftover_plain s m (conflict p winner next noted) = refl
+  leftover_plain s m (only_once p earlier next unnoted found) = refl
+  leftover_plain s m (not_expected p next unnoted none) = refl
 
   module _ {T : Type 0} {inner : Outcome T} {reads : Readings T} (law : Lawful T inner reads)
       (showing : Showing) (inside : HandsOn showing inner)

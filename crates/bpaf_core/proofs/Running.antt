@@ -16,7 +16,7 @@ use Rattle.bpaf_words.specs.Arguments.{Given}
 use Rattle.bpaf_words.specs.declared.arg.Arg.{Arg}
 use Rattle.std.specs.List.{AllZip}
 use Rattle.std.specs.Prelude.{codes, flat_map}
-use Rattle.bpaf_words.specs.Line.{HasNoLine, IsLine, marked, unmarked}
+use Rattle.bpaf_words.specs.Line.{HasNoLine, IsLine, with_marker, without_marker}
 use Rattle.bpaf_words.specs.Spelling.{Items, Known, Spells, known_at}
 use Rattle.bpaf_words.proofs.Fronts.{marker_of_line}
 use Rattle.bpaf_words.specs.Splitting.{IsLineByAny, ReadsLine}
@@ -137,7 +137,7 @@ starts_not describes info given words fault.Memory m same none is =
 -- no words have the empty line
 no_words : (known : Known) (line : List Arg) (marker : Option ℕ) → IsLine known [] line marker
     → line ≡ []
-no_words known line marker (unmarked items none spelled) =
+no_words known line marker (without_marker items none spelled) =
     no_items spelled.parts items spelled.spelled spelled.joined
   where
     -- no words have no items
@@ -146,7 +146,7 @@ no_words known line marker (unmarked items none spelled) =
         → items ≡ flat_map (λ xs. xs) parts → items ≡ []
     no_items [] items spelled is = is
     no_items (part ∷ parts) items spelled is = absurd spelled
-no_words known line marker (marked before after items is none spelled) =
+no_words known line marker (with_marker before after items is none spelled) =
     absurd (not_cut before is)
   where
     -- no words can't be cut at one

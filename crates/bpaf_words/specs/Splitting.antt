@@ -74,7 +74,7 @@ AreTexts words low high = AllWithin IsUtf8 words low high
 -- the first n words are texts, none of them is `--`, and they spell the items
 pub record Begins (known : Known) (words : List (List ℕ)) (items : List Arg) (n : ℕ) : Type 0 where
   pub bound : n ≤ length words
-  pub unmarked : HasNoMarker (take n words)
+  pub without_marker : HasNoMarker (take n words)
   pub spelled : SpellAll known (take n words) items
   pub texts : AreTexts words 0 n
 
