@@ -9,7 +9,7 @@ use Rattle.bpaf_line.proofs.Places.{open_in_scope, open_not_taken}
 use Rattle.bpaf_laws.specs.Reading.{Readings, Outcome, Share, IsEmptyShare, HasPlace}
 use Rattle.bpaf_laws.specs.Laws.{Keeps, Reads, Lawful, newly}
 use Rattle.bpaf_laws.specs.Spared.{IsNotMemory, Spares}
-use Rattle.bpaf_laws.specs.OneRun.{IsRun}
+use Rattle.bpaf_laws.specs.OneStretch.{IsStretch}
 use Rattle.bpaf_laws.specs.AdjacentGroup.{GroupReads, Failure, longer, taken_by, Probe}
 use Rattle.bpaf_laws.specs.AdjacentGroup.{Narrowed, whole, again, Tries, answered, refused}
 use Rattle.bpaf_laws.specs.AdjacentGroup.{TriesAt, skipped, failed, found, no_memory}
@@ -58,7 +58,7 @@ keeps_open s a b all =
 -- each place up to the end of an attempt is present before it
 pub narrowed_open : {T : Type 0} (inner : Outcome T) (s : Situation) (a b : ℕ)
     → Narrowed T inner s a b → (a ≤ b) × AllOpen s a b
-narrowed_open inner s a b (whole stop run) = (run.ordered, run.present)
+narrowed_open inner s a b (whole stop stretch) = (stretch.ordered, stretch.present)
 narrowed_open inner s a b (again stop left v t before ran next) =
     let opened = narrowed_open inner s a stop before in
     let inside = open_in_scope (with_scope t a stop) left next.present in
@@ -81,7 +81,7 @@ module _ {T : Type 0} {inner : Outcome T} {reads : Readings T} (law : Lawful T i
   tries_keep a r t (refused stop e left narrowed ran) =
       attempt_keeps a stop (Err e) left narrowed ran
 
-  -- a value of theirs is read off one run
+  -- a value of theirs is read off one stretch
   tries_read : (a : ℕ) (v : T) (t : Situation) → Tries T inner s a (Ok v) t
       → Reads T (GroupReads T reads) s v t
   tries_read a v t (answered stop v' left narrowed ran none) =
@@ -92,7 +92,7 @@ module _ {T : Type 0} {inner : Outcome T} {reads : Readings T} (law : Lawful T i
         closed = λ p within outside. absurd (true≢false (sym within ∙ outside));
         reading = record {
           read = read.reading;
-          run = record {
+          stretch = record {
             from = a;
             to = stop;
             is = λ p.
@@ -177,12 +177,12 @@ group_lawful first law = record {
   err = λ s t e o. searches_good law s first s.start None (Err e) t tt o;
 }
 
--- a value of theirs newly took one run
-pub group_takes_run : {T : Type 0} {inner : Outcome T} {reads : Readings T} (first : Part)
+-- a value of theirs newly took one stretch
+pub group_takes_stretch : {T : Type 0} {inner : Outcome T} {reads : Readings T} (first : Part)
     → Lawful T inner reads → (s : Situation) (r : Result T Error) (t : Situation)
-    → GroupOutcome T inner first s r t → IfOk r (λ _. IsRun (newly s t))
-group_takes_run first law s (Ok v) t o = ((group_lawful first law).ok s t v o).reading.run
-group_takes_run first law s (Err e) t o = tt
+    → GroupOutcome T inner first s r t → IfOk r (λ _. IsStretch (newly s t))
+group_takes_stretch first law s (Ok v) t o = ((group_lawful first law).ok s t v o).reading.stretch
+group_takes_stretch first law s (Err e) t o = tt
 
 module _ {T : Type 0} (inner without : Outcome T) (spares : Spares inner without) (s : Situation) where
   -- what ended an attempt with a value isn't want of memory

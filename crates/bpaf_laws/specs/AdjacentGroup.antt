@@ -7,19 +7,19 @@ use Rattle.bpaf_line.specs.declared.error.Message.TheVariants as message
 use Rattle.bpaf_line.specs.declared.missing.MissingItem.{MissingItem}
 use Rattle.bpaf_line.specs.Messages.{is_memory}
 use Rattle.bpaf_line.specs.MissingIn.{IsMissingIn}
-use Rattle.bpaf_line.specs.Runs.{IsRunFrom}
+use Rattle.bpaf_line.specs.Stretches.{IsStretchFrom}
 use Rattle.bpaf_line.specs.Situation.{Situation, Context, with_scope, HasNoneOpen, IsNextOpen}
 use Rattle.bpaf_laws.specs.Counting.{taken_count}
 use Rattle.bpaf_laws.specs.Laws.{newly}
-use Rattle.bpaf_laws.specs.OneRun.{IsRun}
+use Rattle.bpaf_laws.specs.OneStretch.{IsStretch}
 use Rattle.bpaf_laws.specs.Reading.{Share, Readings, Outcome, IsEmptyShare, HasPlace}
 use Rattle.bpaf_laws.specs.Spared.{IsNotMemory}
 
--- a reading of the product, off one run
+-- a reading of the product, off one stretch
 pub record GroupReads (T : Type 0) (inner : Readings T) (context : Context) (share : Share)
     (v : T) : Type 0 where
   pub read : inner context share v
-  pub run : IsRun share
+  pub stretch : IsStretch share
 
 -- how many places the first item of a group has: an argument two, each other one
 abbrev pub place_count : Part → ℕ
@@ -68,10 +68,10 @@ module _ (T : Type 0) (inner : Outcome T) (s : Situation) where
     pub spared : IsNotMemory answer
     pub takes : Takes (newly s left)
 
-  -- where the scope of an attempt ends: at the end of the run of present places, or at the first
-  -- place that an attempt with a value left present in its scope
+  -- where the scope of an attempt ends: at the end of the stretch of present places, or at the
+  -- first place that an attempt with a value left present in its scope
   pub data Narrowed (place : ℕ) : ℕ → Type 0 where
-    whole : (stop : ℕ) → IsRunFrom s place stop → Narrowed place stop
+    whole : (stop : ℕ) → IsStretchFrom s place stop → Narrowed place stop
     again : (stop left : ℕ) (v : T) (t : Situation) → Narrowed place stop
         → inner (with_scope s place stop) (Ok v) t → IsNextOpen (with_scope t place stop) place left
         → Narrowed place left

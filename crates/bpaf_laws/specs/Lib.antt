@@ -17,7 +17,7 @@ pub mod Product
 pub mod AdjacentGroup
 pub mod Choices
 pub mod Command
-pub mod OneRun
+pub mod OneStretch
 pub mod AdjacentCommand
 pub mod Appname
 pub mod Hide
