@@ -21,10 +21,10 @@ use Rattle.bpaf_line.specs.declared.error.Error.{Error}
 use Rattle.bpaf_laws.proofs.ChoiceLaws.{choice_lawful}
 use Rattle.bpaf_laws.proofs.CountingLaws.{same_took_none}
 use Rattle.bpaf_laws.proofs.FlagLaws.{flag_lawful}
-use Rattle.bpaf_laws.specs.Choice.{BranchesRan, Chosen, EqualDepths, Winner, depth}
+use Rattle.bpaf_laws.specs.Choice.{BranchesEval, Chosen, EqualDepths, Winner, depth}
 use Rattle.bpaf_laws.specs.Repeat.{Turns, UntilStop, is_nil}
 use Rattle.bpaf_laws.specs.Turn.{TurnOutcome, stops_step, stops_spared, is_untouched}
-use Rattle.bpaf_batteries.proofs.Keys.{KeyRan, key_ran, not_both}
+use Rattle.bpaf_batteries.proofs.Keys.{KeyEval, key_ran, not_both}
 use Rattle.bpaf_batteries.specs.Keys.{is_key, is_either, AreKeysApart, KeyOutcome}
 use Rattle.bpaf_batteries.specs.Toggle.{EitherOutcome, GivesValue, IsLastOf, IsRightmost}
 use Rattle.bpaf_batteries.specs.Toggle.{LastToggleWins, RightmostGives, ToggleOutcome}
@@ -222,12 +222,12 @@ equal_depths s a sa b sb r t same chosen = ⊎_elim
 module _ {T : Type 0} (clones : T → T → Type 0) (one other : ParseFlag T) (s : Situation) where
   -- the answer of a flag leaves the path
   ran_depth : (flag : ParseFlag T) (r : Result T Error) (t : Situation)
-      → KeyRan clones flag s r t → depth t ≡ depth s
+      → KeyEval clones flag s r t → depth t ≡ depth s
   ran_depth flag (Ok v) t o = ap depth o.2
   ran_depth flag (Err e) t o = ap depth o.1
 
   -- a key that was taken is an item less
-  ran_touched : (flag : ParseFlag T) (v : T) (t : Situation) → KeyRan clones flag s (Ok v) t
+  ran_touched : (flag : ParseFlag T) (v : T) (t : Situation) → KeyEval clones flag s (Ok v) t
       → is_untouched s t ≡ false
   ran_touched flag v t o =
       ap (is_untouched s) o.2
@@ -278,7 +278,7 @@ module _ {T : Type 0} (clones : T → T → Type 0) (one other : ParseFlag T) (s
 
     -- a value at equal depths
     equal_took : (a : Result T Error) (sa : Situation) (b : Result T Error) (sb : Situation) (v : T)
-        (t : Situation) → KeyRan clones one s a sa → KeyRan clones other s b sb
+        (t : Situation) → KeyEval clones one s a sa → KeyEval clones other s b sb
         → EqualDepths s a sa b sb (Ok v) t → TookKey clones one other s v t
     equal_took (Ok x) sa (Ok y) sb v t f g o = ⊎_elim
         (λ neither. absurd (true≢false
@@ -317,7 +317,7 @@ module _ {T : Type 0} (clones : T → T → Type 0) (one other : ParseFlag T) (s
 
   -- a refusal at equal depths comes where neither has a key
   equal_none : (a : Result T Error) (sa : Situation) (b : Result T Error) (sb : Situation)
-      (e : Error) (t : Situation) → KeyRan clones one s a sa → KeyRan clones other s b sb
+      (e : Error) (t : Situation) → KeyEval clones one s a sa → KeyEval clones other s b sb
       → EqualDepths s a sa b sb (Err e) t → HasNone (is_either one other) s
   equal_none (Ok x) sa (Ok y) sb e t f g o = ⊎_elim
       (λ neither. absurd (no_value x e (sym neither.1)))
@@ -340,7 +340,7 @@ module _ {T : Type 0} (clones : T → T → Type 0) (one other : ParseFlag T)
     (keys : AreKeysApart one other) where
   -- the answers of both flags are equally deep
   same_depth : (s t : Situation) (r : Result T Error)
-      (ran : BranchesRan (KeyOutcome clones one) (KeyOutcome clones other) s r t) → depth ran.sa ≡ depth ran.sb
+      (ran : BranchesEval (KeyOutcome clones one) (KeyOutcome clones other) s r t) → depth ran.sa ≡ depth ran.sb
   same_depth s t r ran =
       ran_depth clones one other s one ran.a ran.sa
       (key_ran clones one keys.one_stands s ran.sa ran.a ran.first_ran ran.first_spared)

@@ -13,7 +13,7 @@ use Rattle.bpaf_laws.specs.Product.{BothOutcome, ProductOutcome}
 use Rattle.bpaf_laws.specs.Reading.{Outcome}
 use Rattle.bpaf_laws.specs.Repeat.{ManyOutcome}
 use Rattle.bpaf_parts.specs.Info.{plain_info}
-use Rattle.bpaf_exact.specs.Leaves.{WordRan, flag_field, argument_field, word_field}
+use Rattle.bpaf_exact.specs.Leaves.{WordEval, flag_field, argument_field, word_field}
 use Rattle.bpaf_exact.specs.OneView.{Alike, HasOneView, pair_view}
 use Rattle.bpaf_exact.specs.Record.{RecordValue}
 use Rattle.bpaf_exact.specs.FlatForm.{FlatForm, FormLaw, flat_alone, flat_both, flat_many}
@@ -64,7 +64,7 @@ NumOutcome = ArgumentOutcome (SpellsUnsigned 64) number_key
 
 -- what the files answer
 abbrev FilesOutcome : Outcome (Vec String)
-FilesOutcome = ManyOutcome (WordRan String MeansText) false
+FilesOutcome = ManyOutcome (WordEval String MeansText) false
 
 -- what the last two fields answer
 abbrev OthersOutcome : Outcome (ℕ × Vec String)
@@ -88,7 +88,7 @@ number_law = argument_field_law ℕ (SpellsUnsigned 64) number_key
 
 -- so do the files
 files_law : FormLaw FilesOutcome [] words_form
-files_law = many_field_law String (WordRan String MeansText) false [] (word_field MeansText)
+files_law = many_field_law String (WordEval String MeansText) false [] (word_field MeansText)
     (word_field_law String MeansText)
 
 -- so does the record
@@ -137,7 +137,7 @@ num_view =
 files_view : HasOneView texts_of files_field
 files_view =
     field_view (Vec String) (List (List ℕ)) texts_of FilesOutcome [] words_form files_law
-    (many_view String (List ℕ) string_bytes (WordRan String MeansText) [] (word_field MeansText)
+    (many_view String (List ℕ) string_bytes (WordEval String MeansText) [] (word_field MeansText)
     (word_field_law String MeansText)
     (word_view String (List ℕ) string_bytes MeansText (λ text v w a b. a ∙ sym b)))
 

@@ -9,7 +9,7 @@ use Rattle.bpaf_exact.specs.Flat.{EachWord}
 use Rattle.bpaf_exact.specs.Single.{Groups, FrontOf, Own, own_none, own_more, Readable, Gap, no_gap}
 use Rattle.bpaf_exact.specs.Single.{SingleOk, gave_absent, took, SingleErr, of_memory, of_missing}
 use Rattle.bpaf_exact.specs.Single.{of_absent, of_piece, ReadsWords, SingleLaw}
-use Rattle.bpaf_exact.specs.Wrappers.{Closure, AgreesOn, ClosedRan, closed_yes, closed_no}
+use Rattle.bpaf_exact.specs.Wrappers.{Closure, AgreesOn, ClosedEval, closed_yes, closed_no}
 use Rattle.bpaf_exact.specs.Wrappers.{closed_memory, closed_err, ClosedGroup, closed_gap}
 use Rattle.bpaf_exact.specs.Wrappers.{ClosedPiece}
 use Rattle.bpaf_exact.specs.Alternative.{TakesFirst, HasBad, bad_here, bad_later, AlternativeOk}
@@ -91,7 +91,8 @@ module _ (A B : Type 0) (inner : Outcome A) (q : Roles) (value : LinePiece → A
 
   -- a value that the closure gave
   closed_alternative_ok : (s t : Situation) (v : B) → IsWhole s
-      → ClosedRan A B inner f Refused s (Ok v) t → AlternativeOk B q (ClosedPiece A B value f) s v t
+      → ClosedEval A B inner f Refused s (Ok v) t → AlternativeOk B q
+      (ClosedPiece A B value f) s v t
   closed_alternative_ok s t v w (closed_yes {x = x} i y) =
       let a = l.ok s t x w i in
       record {
@@ -129,7 +130,7 @@ module _ (A B : Type 0) (inner : Outcome A) (q : Roles) (value : LinePiece → A
 
   -- a refusal, of the closure or from inside
   closed_alternative_err : (s t : Situation) (e : Error) → IsWhole s
-      → ClosedRan A B inner f Refused s (Err e) t
+      → ClosedEval A B inner f Refused s (Err e) t
       → AlternativeErr B q (ClosedPiece A B value f) s e t
   closed_alternative_err s t e w (closed_no {x = x} i n c) =
       let a = l.ok s t x w i in
@@ -143,7 +144,7 @@ module _ (A B : Type 0) (inner : Outcome A) (q : Roles) (value : LinePiece → A
   closed_alternative_err s t e w (closed_err i) = err_closed s t e (l.err s t e w i)
 
   -- a closure round an alternative is one
-  pub closed_alternative : AlternativeLaw B (ClosedRan A B inner f Refused) q
+  pub closed_alternative : AlternativeLaw B (ClosedEval A B inner f Refused) q
       (ClosedPiece A B value f)
   closed_alternative = record {
     named = l.named;
@@ -221,20 +222,20 @@ module _ (A B : Type 0) (inner : Outcome A)
 
   -- a value of one evaluation
   closed_single_ok : (s t : Situation) (v : B) → IsWhole s
-      → ClosedRan A B inner f Refused s (Ok v) t
+      → ClosedEval A B inner f Refused s (Ok v) t
       → SingleOk B k q (ClosedGroup A B group f) (closed_gap gap f) s v t
   closed_single_ok s t v w (closed_yes {x = x} i y) = yes_single s t x v y (l.ok s t x w i)
 
   -- a refusal of one evaluation
   closed_single_err : (s t : Situation) (e : Error) → IsWhole s
-      → ClosedRan A B inner f Refused s (Err e) t
+      → ClosedEval A B inner f Refused s (Err e) t
       → SingleErr B k q (ClosedGroup A B group f) (closed_gap gap f) s e t
   closed_single_err s t e w (closed_no {x = x} i n c) = no_single s t x e c n (l.ok s t x w i)
   closed_single_err s t e w (closed_memory i c) = of_memory c
   closed_single_err s t e w (closed_err i) = err_single s t e (l.err s t e w i)
 
   -- a closure round a single field is one
-  pub closed_single : SingleLaw B (ClosedRan A B inner f Refused) k q (ClosedGroup A B group f)
+  pub closed_single : SingleLaw B (ClosedEval A B inner f Refused) k q (ClosedGroup A B group f)
       (closed_gap gap f)
   closed_single = record {
     own = l.own;

@@ -9,9 +9,9 @@ use Rattle.bpaf_exact.specs.Flat.{cells, IsWhole, FieldKind, front, back, FieldT
 use Rattle.bpaf_exact.specs.Flat.{Gives}
 use Rattle.bpaf_exact.specs.Single.{Groups, Gap, SingleOk, gave_absent, took, SingleLaw, OwnList}
 use Rattle.bpaf_exact.specs.Single.{listed, listed_and_absent, only_absent, Own, own_none, own_more}
-use Rattle.bpaf_exact.specs.Single.{repeated, StepsRan}
+use Rattle.bpaf_exact.specs.Single.{repeated, TurnsEval}
 use Rattle.bpaf_exact.specs.Wrappers.{AgreesOn}
-use Rattle.bpaf_exact.specs.Derived.{some_closure, IsLast, LastRan, last_of, last_err, last_again}
+use Rattle.bpaf_exact.specs.Derived.{some_closure, IsLast, LastEval, last_of, last_err, last_again}
 use Rattle.bpaf_exact.specs.Derived.{LastOf}
 use Rattle.bpaf_exact.proofs.Product.{whole_after}
 use Rattle.bpaf_exact.proofs.Repeat.{repeat_law, repeat_took, own_nil}
@@ -28,7 +28,7 @@ module _ (T : Type 0) (inner : Outcome T)
     (k : FieldKind) (q : Roles) (group : Groups T) (gap : Gap T)
     (l : SingleLaw T inner k q group gap) where
   -- the laws of the list
-  rl : FieldLaw (List T) (λ s r t. StepsRan T inner true None s r t) (repeated k) q
+  rl : FieldLaw (List T) (λ s r t. TurnsEval T inner true None s r t) (repeated k) q
       (OwnList T group gap)
   rl = repeat_law T inner k q group gap l true
 
@@ -66,7 +66,7 @@ module _ (T : Type 0) (inner : Outcome T)
   again_never m t v h p (took st ta ne up down) = ne p
 
   -- so the evaluation after an empty list answers no value
-  again_ok : (s m t : Situation) (v : T) → IsWhole s → StepsRan T inner true None s (Ok []) m
+  again_ok : (s m t : Situation) (v : T) → IsWhole s → TurnsEval T inner true None s (Ok []) m
       → inner m (Ok v) t → ⊥
   again_ok s m t v w f g =
       let i = repeat_took T inner k q group gap l true s m [] w f in
@@ -78,7 +78,7 @@ module _ (T : Type 0) (inner : Outcome T)
       by_empty (nothing h e) p o = again_never m t v h p o
 
   -- a last value is that of the own list
-  last_took : (s t : Situation) (v : T) → IsWhole s → LastRan T inner s (Ok v) t
+  last_took : (s t : Situation) (v : T) → IsWhole s → LastEval T inner s (Ok v) t
       → FieldTook T (repeated k) q (LastOf T group gap) s v t
   last_took s t v w (last_of {vs = vs} f h) =
       let i = rl.ok s t vs w f in
@@ -93,7 +93,7 @@ module _ (T : Type 0) (inner : Outcome T)
 
   -- where the list has a last value it isn't empty
   again_gives : (s m t : Situation) (r : Result T Error) (v : T) → IsWhole s
-      → StepsRan T inner true None s (Ok []) m → inner m r t
+      → TurnsEval T inner true None s (Ok []) m → inner m r t
       → LastOf T group gap (front (repeated k) (pieces q (cells s))) v
       → Gives q (LastOf T group gap (front (repeated k) (pieces q (cells s))))
       (back (repeated k) (pieces q (cells s))) r t
@@ -102,7 +102,7 @@ module _ (T : Type 0) (inner : Outcome T)
       absurd (no_last T h.list v h.is (empty_nothing _ h.list (empty_list _ [] refl j.0) h.own))
 
   -- each answer is the last of an own list, or want of memory
-  last_answers : (s t : Situation) (r : Result T Error) (v : T) → IsWhole s → LastRan T inner s r t
+  last_answers : (s t : Situation) (r : Result T Error) (v : T) → IsWhole s → LastEval T inner s r t
       → LastOf T group gap (front (repeated k) (pieces q (cells s))) v
       → Gives q (LastOf T group gap (front (repeated k) (pieces q (cells s))))
       (back (repeated k) (pieces q (cells s))) r t
@@ -113,5 +113,5 @@ module _ (T : Type 0) (inner : Outcome T)
   last_answers s t r v w (last_again {r = x} {m = m} f h) g = again_gives s m t x v w f h g
 
   -- last keeps to the laws of a field
-  pub last_of_law : FieldLaw T (LastRan T inner) (repeated k) q (LastOf T group gap)
+  pub last_of_law : FieldLaw T (LastEval T inner) (repeated k) q (LastOf T group gap)
   last_of_law = record { own = rl.own; ok = last_took; answers = last_answers }

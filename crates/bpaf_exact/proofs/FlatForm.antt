@@ -12,10 +12,10 @@ use Rattle.bpaf_exact.specs.Names.{Owns, are_all_apart}
 use Rattle.bpaf_exact.specs.Flat.{ErrorClass, Refused, FieldKind, ByName, OneWord, EachWord}
 use Rattle.bpaf_exact.specs.Flat.{FieldsLaw}
 use Rattle.bpaf_exact.specs.Flat.{keys, Before}
-use Rattle.bpaf_exact.specs.Single.{StepsRan, repeated}
-use Rattle.bpaf_exact.specs.Wrappers.{Closure, Decides, map_closure, ClosedRan, OptionalRan}
-use Rattle.bpaf_exact.specs.Wrappers.{FallbackRan}
-use Rattle.bpaf_exact.specs.Derived.{some_closure, LastRan}
+use Rattle.bpaf_exact.specs.Single.{TurnsEval, repeated}
+use Rattle.bpaf_exact.specs.Wrappers.{Closure, Decides, map_closure, ClosedEval, OptionalEval}
+use Rattle.bpaf_exact.specs.Wrappers.{FallbackEval}
+use Rattle.bpaf_exact.specs.Derived.{some_closure, LastEval}
 use Rattle.bpaf_exact.specs.FlatForm.{EachAgrees, FlatForm, not_flat, alternative, single, complete}
 use Rattle.bpaf_exact.specs.FlatForm.{product, FormLaw, Agrees, only_if, flat_closed, flat_dressed}
 use Rattle.bpaf_exact.specs.FlatForm.{flat_either}
@@ -35,7 +35,7 @@ use Rattle.bpaf_exact.proofs.Records.{con_law, last_law}
 -- a closure round a field
 pub flat_closed_law : (A B : Type 0) (inner : Outcome A) (f : Closure A B) (names : List Names)
     (s : FlatForm A) → Agrees f s → FormLaw inner names s
-    → FormLaw (ClosedRan A B inner f Refused) names (flat_closed f s)
+    → FormLaw (ClosedEval A B inner f Refused) names (flat_closed f s)
 flat_closed_law A B inner f names not_flat g l = tt
 flat_closed_law A B inner f names (alternative q value) g l =
     (closed_alternative A B inner q value l.0 f g, l.1)
@@ -156,7 +156,7 @@ repeated_keys EachWord q names o = o
 pub flat_listed_law : (T B : Type 0) (inner : Outcome T) (idle : Bool) (f : Closure (List T) B)
     (c : ErrorClass) (names : List Names) (s : FlatForm T) → Agrees f (flat_repeat s)
     → FormLaw inner names s
-    → FormLaw (ClosedRan (List T) B (λ s r t. StepsRan T inner idle None s r t) f c) names
+    → FormLaw (ClosedEval (List T) B (λ s r t. TurnsEval T inner idle None s r t) f c) names
     (flat_closed f (flat_repeat s))
 flat_listed_law T B inner idle f c names not_flat g l = tt
 flat_listed_law T B inner idle f c names (alternative q value) g l = let m =
@@ -180,7 +180,7 @@ some_agrees T inner names (product q fields) l = tt
 
 -- the last value
 pub flat_last_law : (T : Type 0) (inner : Outcome T) (names : List Names) (s : FlatForm T)
-    → FormLaw inner names s → FormLaw (LastRan T inner) names (flat_last s)
+    → FormLaw inner names s → FormLaw (LastEval T inner) names (flat_last s)
 flat_last_law T inner names not_flat l = tt
 flat_last_law T inner names (alternative q value) l =
     (last_of_law T inner ByName q _ _ (alternative_single T inner q value l.0), l.1)
@@ -191,7 +191,7 @@ flat_last_law T inner names (product q fields) l = tt
 
 -- what may be left out
 pub flat_optional_law : (T : Type 0) (inner : Outcome T) (names : List Names) (s : FlatForm T)
-    → FormLaw inner names s → FormLaw (OptionalRan T inner) names (flat_optional s)
+    → FormLaw inner names s → FormLaw (OptionalEval T inner) names (flat_optional s)
 flat_optional_law T inner names not_flat l = tt
 flat_optional_law T inner names (alternative q value) l =
     (optional_law T inner ByName q _ _ (alternative_single T inner q value l.0), l.1)
@@ -203,7 +203,7 @@ flat_optional_law T inner names (product q fields) l = tt
 -- what has a value that stands for it
 pub flat_fallback_law : (T : Type 0) (inner : Outcome T) (f : Closure (Unit {0}) T) → Decides f
     → (names : List Names) (s : FlatForm T) → FormLaw inner names s
-    → FormLaw (FallbackRan T inner f) names (flat_fallback f s)
+    → FormLaw (FallbackEval T inner f) names (flat_fallback f s)
 flat_fallback_law T inner f decides names not_flat l = tt
 flat_fallback_law T inner f decides names (alternative q value) l =
     (fallback_law T inner ByName q _ _ (alternative_single T inner q value l.0) f decides, l.1)

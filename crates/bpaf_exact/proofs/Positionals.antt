@@ -16,7 +16,7 @@ use Rattle.bpaf_exact.specs.Flat.{cells, IsWhole, Steady, OneWord, front, back}
 use Rattle.bpaf_exact.specs.Single.{Groups, FrontOf, no_gap, SingleOk, took, SingleErr, of_memory}
 use Rattle.bpaf_exact.specs.Single.{of_missing, of_piece, WordByWord, SingleLaw}
 use Rattle.bpaf_exact.specs.Alternative.{TakesFirst, first_one, first_two, first_later}
-use Rattle.bpaf_exact.specs.Leaves.{WordValue, word_field, WordRan, word_read, word_fault}
+use Rattle.bpaf_exact.specs.Leaves.{WordValue, word_field, WordEval, word_read, word_fault}
 use Rattle.bpaf_exact.specs.Leaves.{word_missing, word_memory}
 use Rattle.bpaf_exact.specs.FlatForm.{FormLaw}
 use Rattle.bpaf_exact.proofs.Product.{steady_refl}
@@ -84,7 +84,7 @@ module _ (T : Type 0) (means : List ℕ → T → Type 0) where
       })
 
   -- a value is that of the first word
-  word_ok : (s t : Situation) (v : T) → IsWhole s → WordRan T means s (Ok v) t
+  word_ok : (s t : Situation) (v : T) → IsWhole s → WordEval T means s (Ok v) t
       → SingleOk T OneWord word_roles group (no_gap T) s v t
   word_ok s t v w (word_read {p = p} {strict = strict} {text = text} takes y) =
       let m = took_word s t p strict text takes in
@@ -106,7 +106,7 @@ module _ (T : Type 0) (means : List ℕ → T → Type 0) where
       (record { piece = One m.word; is = e ∙ ap (λ z. One m.word ∷ z) j; means = y }, j))
 
   -- a refusal: there is no word, or the first can't be read
-  word_err : (s t : Situation) (e : Error) → IsWhole s → WordRan T means s (Err e) t
+  word_err : (s t : Situation) (e : Error) → IsWhole s → WordEval T means s (Err e) t
       → SingleErr T OneWord word_roles group (no_gap T) s e t
   word_err s t e w (word_fault {p = p} {strict = strict} {text = text} takes n c) =
       let m = took_word s t p strict text takes in
@@ -142,7 +142,7 @@ module _ (T : Type 0) (means : List ℕ → T → Type 0) where
           record { piece = g.piece; is = ap (λ z. z ∷ os) d; means = g.means }
 
   -- a word keeps to the laws of one evaluation
-  word_law : SingleLaw T (WordRan T means) OneWord word_roles group (no_gap T)
+  word_law : SingleLaw T (WordEval T means) OneWord word_roles group (no_gap T)
   word_law = record {
     own = record { words = λ k. refl };
     words = one_by_one;
@@ -154,5 +154,5 @@ module _ (T : Type 0) (means : List ℕ → T → Type 0) where
 
 -- a positional keeps to the laws of its form
 pub word_field_law : (T : Type 0) (means : List ℕ → T → Type 0)
-    → FormLaw (WordRan T means) [] (word_field means)
+    → FormLaw (WordEval T means) [] (word_field means)
 word_field_law T means = (word_law T means, record { own = λ k. refl })

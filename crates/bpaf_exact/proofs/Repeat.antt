@@ -14,7 +14,8 @@ use Rattle.bpaf_exact.specs.Single.{Groups, Own, own_none, own_more, TakesAny, R
 use Rattle.bpaf_exact.specs.Single.{SingleOk, gave_absent, took, SingleErr, of_memory, of_missing}
 use Rattle.bpaf_exact.specs.Single.{of_absent, of_piece, SingleLaw, OwnList, listed}
 use Rattle.bpaf_exact.specs.Single.{listed_and_absent, only_absent, repeated, Stops, nothing_found}
-use Rattle.bpaf_exact.specs.Single.{caught, IsFewer, StepsRan, step, step_failed, idle_step, enough}
+use Rattle.bpaf_exact.specs.Single.{caught, IsFewer, TurnsEval, step, step_failed, idle_step}
+use Rattle.bpaf_exact.specs.Single.{enough}
 use Rattle.bpaf_exact.specs.Single.{stopped, failed, no_room, present_count}
 use Rattle.bpaf_exact.proofs.Product.{whole_after, steady_refl, steady_trans}
 use Rattle.bpaf_exact.proofs.Counts.{open_present, takes_any_fewer}
@@ -143,7 +144,7 @@ module _ (T : Type 0) (inner : Outcome T)
 
   -- Once it has the first value, a repeat that answers has read all its pieces.
   steps_took : (last : Option ℕ) (s t : Situation) (vs : List T) → IsWhole s
-      → last ≡ Some (open_count s) → StepsRan T inner idle last s (Ok vs) t → Took s vs t
+      → last ≡ Some (open_count s) → TurnsEval T inner idle last s (Ok vs) t → Took s vs t
   steps_took last s t vs w e (step {m = m} {v = v} {vs = us} f fewer more) =
       let o = l.ok s m v w f in
       step_took last s m t v us w e fewer o
@@ -235,7 +236,7 @@ module _ (T : Type 0) (inner : Outcome T)
 
   -- A repeat that answers has read all its pieces.
   pub repeat_took : (s t : Situation) (vs : List T) → IsWhole s
-      → StepsRan T inner idle None s (Ok vs) t → RepeatTook s vs t
+      → TurnsEval T inner idle None s (Ok vs) t → RepeatTook s vs t
   repeat_took s t vs w (step {m = m} {v = v} {vs = us} f fewer more) =
       first_step s m t v us (l.ok s m v w f)
       (λ st. steps_took (Some (open_count m)) m t us (whole_after s m w st) refl more)
@@ -329,7 +330,7 @@ module _ (T : Type 0) (inner : Outcome T)
   -- where the pieces can be read, the turns after a value read them
   steps_give : (last : Option ℕ) (s t : Situation) (r : Result (List T) Error) (ws : List T)
       → IsWhole s → last ≡ Some (open_count s) → (gap.has ≡ true → (a : T) × gap.absent a)
-      → Own T group (pieces q (cells s)) ws → StepsRan T inner idle last s r t
+      → Own T group (pieces q (cells s)) ws → TurnsEval T inner idle last s r t
       → GivesList (pieces q (cells s)) r t
   steps_give last s t r ws w e ab o (step {m = m} {v = v} {vs = us} f fewer more) =
       cons_gives s m t v us
@@ -436,7 +437,7 @@ module _ (T : Type 0) (inner : Outcome T)
 
   -- where there is an own list, each answer is one, or want of memory
   first_gives : (s t : Situation) (r : Result (List T) Error) (ws : List T) → IsWhole s
-      → ListView (pieces q (cells s)) ws → StepsRan T inner idle None s r t
+      → ListView (pieces q (cells s)) ws → TurnsEval T inner idle None s r t
       → GivesOwn (pieces q (cells s)) r t
   first_gives s t r ws w (all_read ab o n) (step {m = m} {v = v} {vs = us} f fewer more) =
       own_given (pieces q (cells s)) (Ok (v ∷ us)) t ab n
@@ -506,7 +507,7 @@ module _ (T : Type 0) (inner : Outcome T)
 
   -- each answer of a repeat
   repeat_gives : (s t : Situation) (r : Result (List T) Error) (ws : List T) → IsWhole s
-      → StepsRan T inner idle None s r t
+      → TurnsEval T inner idle None s r t
       → OwnList T group gap (front (repeated k) (pieces q (cells s))) ws
       → Gives q (OwnList T group gap (front (repeated k) (pieces q (cells s))))
       (back (repeated k) (pieces q (cells s))) r t
@@ -526,7 +527,7 @@ module _ (T : Type 0) (inner : Outcome T)
       shown (Err e) c = c
 
   -- many, and what is built on it: the values of the own list
-  pub repeat_law : FieldLaw (List T) (λ s r t. StepsRan T inner idle None s r t) (repeated k) q
+  pub repeat_law : FieldLaw (List T) (λ s r t. TurnsEval T inner idle None s r t) (repeated k) q
       (OwnList T group gap)
   repeat_law = record {
     own = own_repeated;

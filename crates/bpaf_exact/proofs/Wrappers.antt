@@ -13,11 +13,11 @@ use Rattle.bpaf_exact.specs.Single.{Groups, Own, own_none, Readable, Gap, Single
 use Rattle.bpaf_exact.specs.Single.{took, SingleErr, of_memory, of_missing, of_absent, of_piece}
 use Rattle.bpaf_exact.specs.Single.{ReadsWords, SingleLaw, SingleValue, of_group, of_gap, Stops}
 use Rattle.bpaf_exact.specs.Single.{nothing_found, caught, present_count}
-use Rattle.bpaf_exact.specs.Wrappers.{Closure, Decides, AgreesOn, ClosedRan, closed_yes, closed_no}
-use Rattle.bpaf_exact.specs.Wrappers.{closed_memory, closed_err, ClosedValue, OptionalRan}
+use Rattle.bpaf_exact.specs.Wrappers.{Closure, Decides, AgreesOn, ClosedEval, closed_yes, closed_no}
+use Rattle.bpaf_exact.specs.Wrappers.{closed_memory, closed_err, ClosedValue, OptionalEval}
 use Rattle.bpaf_exact.specs.Wrappers.{optional_some, optional_none, optional_err, optional_memory}
 use Rattle.bpaf_exact.specs.Wrappers.{OptionalValue, some_value, no_value, CanCatch, catch_missing}
-use Rattle.bpaf_exact.specs.Wrappers.{catch_other, FallbackRan, fallback_ok, fallback_given}
+use Rattle.bpaf_exact.specs.Wrappers.{catch_other, FallbackEval, fallback_ok, fallback_given}
 use Rattle.bpaf_exact.specs.Wrappers.{fallback_no, fallback_memory, fallback_err, FallbackValue}
 use Rattle.bpaf_exact.specs.Wrappers.{own_value, kept_value}
 use Rattle.bpaf_exact.proofs.Product.{steady_refl}
@@ -49,7 +49,7 @@ module _ (A B : Type 0) (inner : Outcome A)
     (l : FieldLaw A inner k q value) (f : Closure A B)
     (agrees : (os : List LinePiece) → AgreesOn (value os) f) (c : ErrorClass) where
   -- a value that the closure gave
-  closed_ok : (s t : Situation) (v : B) → IsWhole s → ClosedRan A B inner f c s (Ok v) t
+  closed_ok : (s t : Situation) (v : B) → IsWhole s → ClosedEval A B inner f c s (Ok v) t
       → FieldTook B k q (ClosedValue A B value f) s v t
   closed_ok s t v w (closed_yes {x = x} i y) =
       let a = l.ok s t x w i in
@@ -63,7 +63,7 @@ module _ (A B : Type 0) (inner : Outcome A)
 
   -- where the share has a value the closure gives one
   closed_answers : (s t : Situation) (r : Result B Error) (v : B) → IsWhole s
-      → ClosedRan A B inner f c s r t → ClosedValue A B value f (front k (pieces q (cells s))) v
+      → ClosedEval A B inner f c s r t → ClosedValue A B value f (front k (pieces q (cells s))) v
       → Gives q (ClosedValue A B value f (front k (pieces q (cells s))))
       (back k (pieces q (cells s))) r t
   closed_answers s t r v w (closed_yes {x = x} {v = u} i y) h =
@@ -76,7 +76,7 @@ module _ (A B : Type 0) (inner : Outcome A)
   closed_answers s t r v w (closed_err {e = x} i) h = l.answers s t (Err x) h.from w i h.read
 
   -- a closure round a field is one
-  pub closed_law : FieldLaw B (ClosedRan A B inner f c) k q (ClosedValue A B value f)
+  pub closed_law : FieldLaw B (ClosedEval A B inner f c) k q (ClosedValue A B value f)
   closed_law = record { own = l.own; ok = closed_ok; answers = closed_answers }
 
 module _ (T : Type 0) (inner : Outcome T)
@@ -212,7 +212,7 @@ module _ (T : Type 0) (inner : Outcome T)
   stop_missing s m e h (of_piece c p n) = absurd (no_stop s m e Refused h c (λ i. cc) (λ i. cc))
 
   -- a value that may be left out
-  optional_ok : (s t : Situation) (v : Option T) → IsWhole s → OptionalRan T inner s (Ok v) t
+  optional_ok : (s t : Situation) (v : Option T) → IsWhole s → OptionalEval T inner s (Ok v) t
       → FieldTook (Option T) k q (OptionalValue T group gap) s v t
   optional_ok s t v w (optional_some {v = x} i) =
       let a = single_took s t x (l.ok s t x w i) in
@@ -290,7 +290,7 @@ module _ (T : Type 0) (inner : Outcome T)
 
   -- each answer
   optional_answers : (s t : Situation) (r : Result (Option T) Error) (v : Option T) → IsWhole s
-      → OptionalRan T inner s r t → OptionalView (front k (pieces q (cells s))) v
+      → OptionalEval T inner s r t → OptionalView (front k (pieces q (cells s))) v
       → Gives q (OptionalValue T group gap (front k (pieces q (cells s))))
       (back k (pieces q (cells s))) r t
   optional_answers s t r v w (optional_some {v = x} i) g = some_gives s t x v w i (l.ok s t x w i) g
@@ -303,7 +303,7 @@ module _ (T : Type 0) (inner : Outcome T)
       none_fails s t e w n x b (l.err s t e w i)
 
   -- what may be left out keeps to the laws of a field
-  pub optional_law : FieldLaw (Option T) (OptionalRan T inner) k q (OptionalValue T group gap)
+  pub optional_law : FieldLaw (Option T) (OptionalEval T inner) k q (OptionalValue T group gap)
   optional_law =
       record {
         own = l.own;
@@ -329,7 +329,7 @@ module _ (T : Type 0) (inner : Outcome T)
     catch_nothing s m e (catch_missing h) (of_piece c p n) = absurd cc
     catch_nothing s m e (catch_other h) (of_piece c p n) = absurd cc
 
-    fallback_took : (s t : Situation) (v : T) → IsWhole s → FallbackRan T inner f s (Ok v) t
+    fallback_took : (s t : Situation) (v : T) → IsWhole s → FallbackEval T inner f s (Ok v) t
         → FieldTook T k q (FallbackValue T group gap f) s v t
     fallback_took s t v w (fallback_ok i) =
         let a = single_took s t v (l.ok s t v w i) in
@@ -379,7 +379,7 @@ module _ (T : Type 0) (inner : Outcome T)
     kept_fails s t e n p b (of_piece c ne x) = absurd (ne (nil_front k _ p))
 
     fallback_answers : (s t : Situation) (r : Result T Error) (v : T) → IsWhole s
-        → FallbackRan T inner f s r t → FallbackView (front k (pieces q (cells s))) v
+        → FallbackEval T inner f s r t → FallbackView (front k (pieces q (cells s))) v
         → Gives q (FallbackValue T group gap f (front k (pieces q (cells s))))
         (back k (pieces q (cells s))) r t
     fallback_answers s t r v w (fallback_ok {v = x} i) (view_own g) = let a =
@@ -403,7 +403,7 @@ module _ (T : Type 0) (inner : Outcome T)
     fallback_answers s t r v w (fallback_err {e = e} {m = m} i n) (view_kept p b z) =
         kept_fails s m e n p b (l.err s m e w i)
 
-    pub fallback_law : FieldLaw T (FallbackRan T inner f) k q (FallbackValue T group gap f)
+    pub fallback_law : FieldLaw T (FallbackEval T inner f) k q (FallbackValue T group gap f)
     fallback_law =
         record {
           own = l.own;

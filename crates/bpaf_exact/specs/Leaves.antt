@@ -95,13 +95,13 @@ abbrev pub word_field : {T : Type 0} → (List ℕ → T → Type 0) → FlatFor
 word_field {T = T} means = single OneWord word_roles (FrontOf T (WordValue means)) (no_gap T)
 
 -- the first word taken and its value; its text means none; there is none; or want of memory
-pub data WordRan (T : Type 0) (means : List ℕ → T → Type 0) (s : Situation) : Result T Error
+pub data WordEval (T : Type 0) (means : List ℕ → T → Type 0) (s : Situation) : Result T Error
     → Situation → Type 0 where
   word_read : {p : ℕ} {strict : Bool} {text : List ℕ} {v : T} {t : Situation}
-      → TakesText s p strict text t → means text v → WordRan T means s (Ok v) t
+      → TakesText s p strict text t → means text v → WordEval T means s (Ok v) t
   word_fault : {p : ℕ} {strict : Bool} {text : List ℕ} {e : Error} {t : Situation}
       → TakesText s p strict text t → ((v : T) → means text v → ⊥) → class e ≡ Refused
-      → WordRan T means s (Err e) t
+      → WordEval T means s (Err e) t
   word_missing : {e : Error} → HasNone is_positional s → class e ≡ OfMissing
-      → WordRan T means s (Err e) s
-  word_memory : {e : Error} {t : Situation} → class e ≡ OfMemory → WordRan T means s (Err e) t
+      → WordEval T means s (Err e) s
+  word_memory : {e : Error} {t : Situation} → class e ≡ OfMemory → WordEval T means s (Err e) t

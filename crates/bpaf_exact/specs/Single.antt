@@ -134,27 +134,27 @@ IsFewer m None = Unit {0}
 IsFewer m (Some n) = open_count m < n
 
 -- the turns of a repeat; idle says that it stops also after a value that took nothing.
-pub data StepsRan (T : Type 0) (inner : Outcome T) (idle : Bool) : Option ℕ → Situation
+pub data TurnsEval (T : Type 0) (inner : Outcome T) (idle : Bool) : Option ℕ → Situation
     → Result (List T) Error → Situation → Type 0 where
   step : {last : Option ℕ} {s m t : Situation} {v : T} {vs : List T} → inner s (Ok v) m
       → IsFewer m last
-      → StepsRan T inner idle (Some (open_count m)) m (Ok vs) t
-      → StepsRan T inner idle last s (Ok (v ∷ vs)) t
+      → TurnsEval T inner idle (Some (open_count m)) m (Ok vs) t
+      → TurnsEval T inner idle last s (Ok (v ∷ vs)) t
   step_failed : {last : Option ℕ} {s m t : Situation} {v : T} {e : Error} → inner s (Ok v) m
       → IsFewer m last
-      → StepsRan T inner idle (Some (open_count m)) m (Err e) t
-      → StepsRan T inner idle last s (Err e) t
+      → TurnsEval T inner idle (Some (open_count m)) m (Err e) t
+      → TurnsEval T inner idle last s (Err e) t
   idle_step : {last : Option ℕ} {s t : Situation} {v : T} → idle ≡ true → inner s (Ok v) t
       → IsFewer t last → open_count s ≤ open_count t
-      → StepsRan T inner idle last s (Ok (v ∷ [])) t
+      → TurnsEval T inner idle last s (Ok (v ∷ [])) t
   enough : {last : Option ℕ} {s t : Situation} {v : T} → inner s (Ok v) t → (IsFewer t last → ⊥)
-      → StepsRan T inner idle last s (Ok []) t
+      → TurnsEval T inner idle last s (Ok []) t
   stopped : {last : Option ℕ} {s m : Situation} {e : Error} → inner s (Err e) m → Stops e s m
-      → StepsRan T inner idle last s (Ok []) s
+      → TurnsEval T inner idle last s (Ok []) s
   failed : {last : Option ℕ} {s t : Situation} {e : Error} → inner s (Err e) t → (Stops e s t → ⊥)
-      → StepsRan T inner idle last s (Err e) t
+      → TurnsEval T inner idle last s (Err e) t
   no_room : {last : Option ℕ} {s t : Situation} {e : Error} → class e ≡ OfMemory
-      → StepsRan T inner idle last s (Err e) t
+      → TurnsEval T inner idle last s (Err e) t
 
 -- the number of places where an item is present
 abbrev pub present_count : Cells → ℕ

@@ -78,7 +78,7 @@ Chosen s a sa b sb r t =
     ⊎ ((depth sa ≡ depth sb) × EqualDepths s a sa b sb r t))
 
 -- both branches, evaluated from the same situation, answered something else than want of memory
-pub record BranchesRan {T : Type 0} (first second : Outcome T) (s : Situation) (r : Result T Error)
+pub record BranchesEval {T : Type 0} (first second : Outcome T) (s : Situation) (r : Result T Error)
     (t : Situation) : Type 0 where
   pub a : Result T Error
   pub sa : Situation
@@ -92,9 +92,9 @@ pub record BranchesRan {T : Type 0} (first second : Outcome T) (s : Situation) (
 
 -- the table; want of memory is the answer at once, and leaves all as before
 abbrev pub ChoiceOutcome : {T : Type 0} → Outcome T → Outcome T → Outcome T
-ChoiceOutcome first second s (Ok v) t = BranchesRan first second s (Ok v) t
+ChoiceOutcome first second s (Ok v) t = BranchesEval first second s (Ok v) t
 ChoiceOutcome first second s (Err e) t =
-    BranchesRan first second s (Err e) t ⊎ ((is_memory e.0 ≡ true) × (t ≡ s))
+    BranchesEval first second s (Err e) t ⊎ ((is_memory e.0 ≡ true) × (t ≡ s))
 
 -- a reading of one branch
 abbrev pub ChoiceReads : {T : Type 0} → Readings T → Readings T → Readings T
@@ -136,7 +136,7 @@ pub record TookAndIsChosen {T : Type 0} (p : ℕ) (a : Result T Error) (sa : Sit
 -- first is chosen
 pub record LeftmostIsChosen {T : Type 0} (first second : Outcome T) (s : Situation) (v : T)
     (t : Situation) : Type 0 where
-  pub ran : BranchesRan first second s (Ok v) t
+  pub ran : BranchesEval first second s (Ok v) t
   pub leftmost : IsOk ran.a → IsOk ran.b → depth ran.sa ≡ depth ran.sb
       → (p : ℕ) → IsLeftmost ran.sa ran.sb p → TookAndIsChosen p ran.a ran.sa v t
       ⊎ TookAndIsChosen p ran.b ran.sb v t
