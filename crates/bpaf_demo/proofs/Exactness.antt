@@ -23,11 +23,11 @@ use Rattle.bpaf_exact.specs.FlatForm.{flat_many, product_reading, product_roles,
 use Rattle.bpaf_exact.specs.FlatForm.{unless}
 use Rattle.bpaf_exact.specs.Wrappers.{map_closure}
 use Rattle.bpaf_record.specs.Positional.{positional_field}
-use Rattle.bpaf_record.specs.Record.{AnswersExactly as ParserAnswersExactly, EachHasValue}
+use Rattle.bpaf_record.specs.Record.{AnswersExactly, EachHasValue}
 use Rattle.bpaf_record.specs.Record.{HasWholeLine, IsValueOf, IsValueOrWant, PiecesOf}
 use Rattle.bpaf_record.specs.Record.{is_flat_record}
 use Rattle.bpaf_demo.specs.declared.options.Options.{Options}
-use Rattle.bpaf_demo.specs.Exact.{AnswersExactly, FieldValues, IsOptionsOf, values_form}
+use Rattle.bpaf_demo.specs.Exact.{AnswersOptionsExactly, FieldValues, IsOptionsOf, values_form}
 use Rattle.bpaf_demo.specs.Record.{IsKept, MeansText, String, program_given}
 use Rattle.bpaf_demo.proofs.Dealing.{AreProgramParts, HaveProgramNames, Makes, MakesOptions, Parts}
 use Rattle.bpaf_demo.proofs.Dealing.{RecordDescribes, known_parts, program_context}
@@ -174,13 +174,13 @@ module _ (makes : Makes) (parts : Parts) where
     -- an answer of the record's parser to the program's words is exact
     pub answer_exact : (given : Given) → given ≡ program_given words → All IsUtf8 words
         → (r : Result Options ParseFailure)
-        → ParserAnswersExactly Options (RecordDescribes makes parts) parts.info
+        → AnswersExactly Options (RecordDescribes makes parts) parts.info
         PartsForm given r
-        → AnswersExactly words r
+        → AnswersOptionsExactly words r
     answer_exact given is texts r answers =
-        let exact : ParserAnswersExactly Options (RecordDescribes makes parts) parts.info
+        let exact : AnswersExactly Options (RecordDescribes makes parts) parts.info
         PartsForm (program_given words) r =
-        subst (λ g. ParserAnswersExactly Options (RecordDescribes makes parts) parts.info
+        subst (λ g. AnswersExactly Options (RecordDescribes makes parts) parts.info
         PartsForm g r) is answers in
         record {
           sound = options_accepted r exact.sound;

@@ -54,6 +54,7 @@ pub record IsOptionsOf (words : List (List ℕ)) (v : Options) : Type 0 where
 
 -- an answer to words is exact: options only where they are the record's value on the words; and
 -- where the record has a value there, one of them, or want of memory
-pub record AnswersExactly (words : List (List ℕ)) (r : Result Options ParseFailure) : Type 0 where
+pub record AnswersOptionsExactly (words : List (List ℕ))
+    (r : Result Options ParseFailure) : Type 0 where
   pub sound : IfOk r (IsOptionsOf words)
   pub complete : (v : Options) → IsOptionsOf words v → IsValueOrWant (IsOptionsOf words) r

@@ -12,7 +12,7 @@ use Rattle.bpaf_exact.specs.Pieces.{Roles, LinePiece, Cut}
 use Rattle.bpaf_exact.specs.Flat.{cells, NonePresent, IsWhole, FieldsLaw, FieldsReading, ReadOff}
 use Rattle.bpaf_exact.specs.Record.{line_cells, RecordValue, RunAnswer, Accepted, NoMemory, Refusal}
 use Rattle.bpaf_exact.specs.Record.{RunRan, run_value, run_leftover, run_memory, run_refusal}
-use Rattle.bpaf_exact.specs.Record.{IsNoValue, IsAnswer, IsExact}
+use Rattle.bpaf_exact.specs.Record.{IsNoValue, IsAcceptedOrWant, IsExact}
 use Rattle.bpaf_exact.specs.FlatForm.{FlatForm, FormLaw, is_record, product_roles, product_reading}
 use Rattle.bpaf_exact.specs.FlatForm.{flat_record}
 use Rattle.bpaf_exact.specs.Theorem.{RunsExactly}
@@ -92,7 +92,7 @@ module _ (V : Type 0) (outcome : Outcome V) (r : Roles) (reading : FieldsReading
   -- where each field has a value, each answer is one of the record's, or want of memory
   complete : (a : RunAnswer V) → RunRan V outcome s a → (os : List LinePiece)
       → Cut r (line_cells context) os → reading.each os
-      → IsAnswer (λ w. RecordValue r reading.value context w) a
+      → IsAcceptedOrWant (λ w. RecordValue r reading.value context w) a
   complete a (run_value {v = x} {t = t} o e) os c h =
       to_line x (record {
         cut_into = os;

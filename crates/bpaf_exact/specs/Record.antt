@@ -43,10 +43,10 @@ pub data RunRan (V : Type 0) (outcome : Outcome V) (s : Situation) : RunAnswer V
       → (class e ≡ OfMemory → ⊥) → IsNoValue a → RunRan V outcome s a
 
 -- an answer is one of these values, or want of memory
-abbrev pub IsAnswer : {V : Type 0} → (V → Type 0) → RunAnswer V → Type 0
-IsAnswer value (Accepted v) = value v
-IsAnswer value NoMemory = Unit {0}
-IsAnswer value Refusal = ⊥
+abbrev pub IsAcceptedOrWant : {V : Type 0} → (V → Type 0) → RunAnswer V → Type 0
+IsAcceptedOrWant value (Accepted v) = value v
+IsAcceptedOrWant value NoMemory = Unit {0}
+IsAcceptedOrWant value Refusal = ⊥
 
 -- an answer of a run is exact
 pub record IsExact (V : Type 0) (r : Roles) (reading : FieldsReading V) (context : Context)
@@ -55,7 +55,7 @@ pub record IsExact (V : Type 0) (r : Roles) (reading : FieldsReading V) (context
   pub sound : (v : V) → a ≡ Accepted v → RecordValue r reading.value context v
   -- where each field has a value on its share, one of the record's values, or want of memory
   pub complete : (os : List LinePiece) → Cut r (line_cells context) os → reading.each os
-      → IsAnswer (λ w. RecordValue r reading.value context w) a
+      → IsAcceptedOrWant (λ w. RecordValue r reading.value context w) a
   -- where one has none, no value
   pub refused : (os : List LinePiece) → Cut r (line_cells context) os → ¬ (reading.each os)
       → (v : V) → ¬ (a ≡ Accepted v)

@@ -19,14 +19,14 @@ use Rattle.bpaf_core.specs.Run.{Runs, value, leftover, refused, ran, no_line as 
 use Rattle.bpaf_exact.specs.Flat.{FieldsLaw, FieldsReading}
 use Rattle.bpaf_exact.specs.Pieces.{Cut, Roles}
 use Rattle.bpaf_exact.specs.Record.{RunRan, run_value, run_leftover, run_memory, run_refusal, IsNoValue}
-use Rattle.bpaf_exact.specs.Record.{IsAnswer, IsExact, RecordValue, line_cells}
+use Rattle.bpaf_exact.specs.Record.{IsAcceptedOrWant, IsExact, RecordValue, line_cells}
 use Rattle.bpaf_exact.specs.FlatForm.{FlatForm, FormLaw, is_record, product_roles, product_reading, flat_record}
 use Rattle.bpaf_exact.proofs.Classes.{memory_class, not_memory}
 use Rattle.bpaf_exact.proofs.Accepted.{cut_holds_together}
 use Rattle.bpaf_exact.proofs.Exact.{runs_exactly}
 use Rattle.bpaf_exact.proofs.FlatForm.{record_law}
 use Rattle.bpaf_exact.specs.SameParts.{ShowsTheSame}
-use Rattle.bpaf_record.specs.Record.{is_flat_record, answer_of, EachAnswersExactly}
+use Rattle.bpaf_record.specs.Record.{is_flat_record, answer_of, RunsWordsExactly}
 use Rattle.bpaf_record.specs.Record.{IsValueOf, IsValueOrWant, HasWholeLine, PiecesOf}
 use Rattle.bpaf_record.proofs.OneLine.{never_without, one_context}
 
@@ -107,7 +107,7 @@ module _ (T : Type 0) (outcome : Outcome T) (describes : Shape → Type 0) (info
 
       -- an answer that is one of the record's values there, or want of memory
       answer_on : (a : Result T ParseFailure)
-          → IsAnswer (λ v. RecordValue roles reading.value context v) (answer_of a)
+          → IsAcceptedOrWant (λ v. RecordValue roles reading.value context v) (answer_of a)
           → IsValueOrWant IsValue a
       answer_on (Ok v) given_value =
           record { context = context; on_line = is; read = given_value }
@@ -143,7 +143,7 @@ module _ (T : Type 0) (outcome : Outcome T) (describes : Shape → Type 0) (info
     }
 
     -- each answer to words is exact
-    pub answers_exactly : EachAnswersExactly outcome describes info form given
+    pub answers_exactly : RunsWordsExactly outcome describes info form given
     answers_exactly r (ran context answer t is run) =
         let exact = runs_exactly T outcome names form flat law context (answer_of r)
         (run_ran (beginning context) t r run) in

@@ -82,8 +82,8 @@ pub record AnswersExactly (T : Type 0) (describes : Shape → Type 0) (info : Ru
       → IsValueOrWant (IsValueOf describes info form given) r
 
 -- each answer that the table of a run allows on the words is exact
-abbrev pub EachAnswersExactly : {T : Type 0} → Outcome T → (Shape → Type 0) → RunInfo
+abbrev pub RunsWordsExactly : {T : Type 0} → Outcome T → (Shape → Type 0) → RunInfo
     → FlatForm T → Given → Type 0
-EachAnswersExactly {T = T} outcome describes info form given =
+RunsWordsExactly {T = T} outcome describes info form given =
     (r : Result T ParseFailure) → RunsWords T outcome describes info given r
     → AnswersExactly T describes info form given r
