@@ -25,7 +25,7 @@ pub mod FlatForm
 pub mod Exact
 pub mod Twins
 pub mod SameParts
-pub mod Rows
+pub mod WorkedRows
 pub mod OneView
 pub mod Accepted
 pub mod Surplus
