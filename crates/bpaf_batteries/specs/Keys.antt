@@ -47,10 +47,11 @@ IsCountedKey name long help flag =
       named = with_help (with_long (with_short nothing_named name) long) doc;
     })
 
--- the letters of their short names
+-- the letter `v`
 abbrev pub letter_v : ℕ
 letter_v = 118
 
+-- the letter `q`
 abbrev pub letter_q : ℕ
 letter_q = 113
 

@@ -31,10 +31,11 @@ usual_key name long_name help = record {
   help = Some (shown_as style.Text help ∷ []);
 }
 
--- the letters of the usual short names
+-- the letter `h`
 abbrev pub letter_h : ℕ
 letter_h = 104
 
+-- the letter `V`
 abbrev pub capital_v : ℕ
 capital_v = 86
 
