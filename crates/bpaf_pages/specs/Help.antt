@@ -4,6 +4,7 @@ use Rattle.std.specs.Prelude.{Option, Some, None, chars, encode_utf8, flat_map, 
 use Rattle.std.specs.Prelude.{if◌then◌else◌}
 use Rattle.bpaf_doc.specs.declared.doc.Piece.{Piece}
 use Rattle.bpaf_doc.specs.Prints.{Print, prints, is_empty}
+use Rattle.bpaf_doc.specs.Fold.{space}
 use Rattle.bpaf_pages.specs.Joined.{joined, around}
 use Rattle.bpaf_pages.specs.Lines.{Line, Told, Listed, Below, Positionals, Options, Commands}
 use Rattle.bpaf_pages.specs.Lines.{Section, lines, lines_at, titles}
@@ -69,7 +70,7 @@ widest all = fold wider 0 all
 
 -- a name as the beginning of a line, up to the column where what is said of it begins
 abbrev pub column : ℕ → List ℕ → List ℕ
-column width name = codes "    " ++ name ++ replicate (width - width_of name) 32 ++ codes "  "
+column width name = codes "    " ++ name ++ replicate (width - width_of name) space ++ codes "  "
 
 -- the line of a name and what is said of it, which may be empty
 abbrev pub name_line : ℕ → List ℕ → Print → Print
