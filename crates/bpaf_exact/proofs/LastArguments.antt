@@ -1,7 +1,7 @@
 -- An argument that takes all its keys at once keeps to the laws of a field.
 use Rattle.std.proofs.Common.{◌≡◌, ℕ, true, false, List, [], ◌∷◌, ◌++◌, Ok, refl, sym, ap, ◌∙◌}
 use Rattle.std.proofs.Common.{subst, ⊎_elim}
-use Rattle.bpaf_text.specs.ByName.{KeyWithValue, argument_part}
+use Rattle.bpaf_text.specs.Named.{KeyWithValue, argument_part}
 use Rattle.bpaf_words.specs.declared.arg.Arg.{Arg}
 use Rattle.bpaf_words.specs.Items.{item_text}
 use Rattle.bpaf_line.specs.declared.error.Error.{Error}

@@ -3,7 +3,7 @@ use Rattle.std.proofs.Common.{◌≡◌, ℕ, Bool, true, false, ◌||◌, List,
 use Rattle.std.proofs.Common.{refl, subst, if◌then◌else◌}
 use Rattle.std.proofs.lemmas.List.{append-nil}
 use Rattle.bpaf_doc.specs.Names.{Names}
-use Rattle.bpaf_text.specs.ByName.{ByName as Key, KeyWithValue}
+use Rattle.bpaf_text.specs.Named.{Named as Key, KeyWithValue}
 use Rattle.bpaf_words.specs.Items.{is_key_of}
 use Rattle.bpaf_exact.specs.Pieces.{Role, Foreign, Alone, WithNext, is_own_role, either}
 use Rattle.bpaf_exact.specs.Pieces.{no_roles}

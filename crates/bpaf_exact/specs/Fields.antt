@@ -9,7 +9,7 @@ use Rattle.bpaf_words.specs.declared.arg.Arg.{Arg}
 use Rattle.bpaf_exact.specs.Leaves.{argument_roles}
 use Rattle.bpaf_exact.specs.Pieces.{Cells, Roles, LinePiece, One, Two, is_own_role, mine, others, pieces}
 use Rattle.bpaf_exact.specs.Flat.{ByName}
-use Rattle.bpaf_text.specs.ByName.{ByName as Key}
+use Rattle.bpaf_text.specs.Named.{Named as Key}
 use Rattle.bpaf_exact.specs.Names.{Owns}
 use Rattle.bpaf_exact.specs.Flat.{FieldKind, OneWord, EachWord, keys, front, back}
 use Rattle.bpaf_exact.specs.FlatForm.{FlatForm, not_flat, alternative, single, complete, product}
