@@ -22,7 +22,7 @@ use Rattle.bpaf_laws.specs.Flag.{FlagOutcome}
 use Rattle.bpaf_laws.specs.Laws.{Keeps, Lawful}
 use Rattle.bpaf_laws.specs.Product.{BothOutcome, ProductOutcome, joined}
 use Rattle.bpaf_laws.specs.Reading.{Readings, Outcome}
-use Rattle.bpaf_laws.specs.Repeat.{ManyOutcome, Steps}
+use Rattle.bpaf_laws.specs.Repeat.{ManyOutcome, Turns}
 use Rattle.bpaf_laws.proofs.Keeping.{keeps_same, keeps_trans}
 use Rattle.bpaf_parts.specs.declared.info.ExtraParams.{ExtraParams}
 use Rattle.bpaf_parts.specs.declared.info.ExtraParams.TheVariants as extra
@@ -153,14 +153,14 @@ module _ (showing : Showing) where
 
   module _ {T : Type 0} {inner : Outcome T} {reads : Readings T} (law : Lawful T inner reads)
       (inside : HandsOn showing inner) (catches : Bool) where
-    -- what steps that answered values keep
+    -- what turns that answered values keep
     steps_keep : (first : Bool) (s : Situation) (vs : List T) (t : Situation)
-        → Steps inner catches first s vs t → Keeps s t
+        → Turns inner catches first s vs t → Keeps s t
     steps_keep first s [] t o = keeps_same s t (sym o)
     steps_keep first s (v ∷ vs) t o =
         keeps_trans s o.0 t (law.ok s o.0 v o.1.0).keeps (steps_keep false o.0 vs t o.2)
 
-    -- a repeat shows what one of its steps does
+    -- a repeat shows what one of its turns does
     pub many_hands_on : HandsOn showing (ManyOutcome inner catches)
     many_hands_on = record {
       all = λ s e t doc full o is. ⊎_elim
@@ -209,9 +209,9 @@ module _ (describes : Shape → Type 0) (info : RunInfo) where
 
   -- the message of an item that is left is none of an inner run
   leftover_plain : (s : Situation) (m : Message) → IsLeftover s m → is_answer m ≡ false
-  leftover_plain s m (conflict p winner next marked) = refl
-  leftover_plain s m (only_once p earlier next unmarked found) = refl
-  leftover_plain s m (not_expected p next unmarked none) = refl
+  leftover_plain s m (conflict p winner next noted) = refl
+  leftover_plain s m (only_once p earlier next unnoted found) = refl
+  leftover_plain s m (not_expected p next unnoted none) = refl
 
   module _ {T : Type 0} {inner : Outcome T} {reads : Readings T} (law : Lawful T inner reads)
       (showing : Showing) (inside : HandsOn showing inner)

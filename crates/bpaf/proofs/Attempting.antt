@@ -6,8 +6,8 @@ use Rattle.bpaf_line.proofs.Places.{open_in_scope}
 use Rattle.bpaf_laws.specs.AdjacentGroup.{Narrowed, again, Tries, answered, refused}
 use Rattle.bpaf_laws.specs.Reading.{Outcome}
 use Rattle.bpaf_laws.proofs.AdjacentGroupLaws.{narrowed_open}
-use Rattle.bpaf.specs.declared.adjacent.Ending.{Ending}
-use Rattle.bpaf.specs.declared.adjacent.Ending.TheVariants as ending
+use Rattle.bpaf.specs.declared.adjacent.AttemptEnd.{AttemptEnd}
+use Rattle.bpaf.specs.declared.adjacent.AttemptEnd.TheVariants as ending
 use Rattle.bpaf.specs.Remembering.{EndsAttempt}
 
 -- an attempt's scope lies in the line
@@ -18,7 +18,7 @@ pub record FitsLine (s : Situation) (place stop : ℕ) : Type 0 where
 module _ (T : Type 0) (inner : Outcome T) (s b u : Situation) (place stop : ℕ) (same : b ≡ s)
     (narrowed : Narrowed T inner s place stop) where
   -- an attempt from the situation of the first one is one from there
-  from_start : (r answer : Result (Ending T) Error) → r ≡ answer
+  from_start : (r answer : Result (AttemptEnd T) Error) → r ≡ answer
       → EndsAttempt T inner b place stop r u → EndsAttempt T inner s place stop answer u
   from_start r answer is ends =
       subst (λ x. EndsAttempt T inner s place stop x u) is
@@ -32,19 +32,19 @@ module _ (T : Type 0) (inner : Outcome T) (s b u : Situation) (place stop : ℕ)
   }
 
   -- the attempt that leaves nothing of its scope is the last
-  pub whole_answers : (r : Result (Ending T) Error) (v : T) → r ≡ Ok (ending.Whole v)
+  pub whole_answers : (r : Result (AttemptEnd T) Error) (v : T) → r ≡ Ok (ending.Whole v)
       → EndsAttempt T inner b place stop r u → Tries T inner s place (Ok v) u
   whole_answers r v is ends =
       let at = from_start r (Ok (ending.Whole v)) is ends in
       subst (Tries T inner s place (Ok v)) (sym at.3) (answered stop v at.0 narrowed at.1 at.2)
 
   -- so is one that fails
-  pub error_answers : (r : Result (Ending T) Error) (e : Error) → r ≡ Err e
+  pub error_answers : (r : Result (AttemptEnd T) Error) (e : Error) → r ≡ Err e
       → EndsAttempt T inner b place stop r u → Tries T inner s place (Err e) u
   error_answers r e is ends = refused stop e u narrowed (from_start r (Err e) is ends)
 
   -- else the next one ends earlier
-  pub left_narrows : (r : Result (Ending T) Error) (p : ℕ) → r ≡ Ok (ending.Left p)
+  pub left_narrows : (r : Result (AttemptEnd T) Error) (p : ℕ) → r ≡ Ok (ending.Left p)
       → EndsAttempt T inner b place stop r u
       → (u ≡ s) × Narrowed T inner s place p × (p < stop)
   left_narrows r p is ends =

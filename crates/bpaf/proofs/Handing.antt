@@ -10,14 +10,14 @@ use Rattle.bpaf_line.specs.declared.failure.ParseFailure.{ParseFailure as Failur
 use Rattle.bpaf_line.specs.declared.failure.ParseFailure.TheVariants as failure
 use Rattle.bpaf_line.specs.Combining.{Combines, CombinesSpared}
 use Rattle.bpaf_line.specs.Messages.{can_catch, is_memory}
-use Rattle.bpaf_line.specs.Runs.{IsRunFrom}
+use Rattle.bpaf_line.specs.Stretches.{IsStretchFrom}
 use Rattle.bpaf_line.specs.Situation.{Situation, with_scope}
 use Rattle.bpaf_laws.specs.Choice.{ChoiceOutcome, Chosen, EqualDepths, Winner}
 use Rattle.bpaf_laws.specs.Command.{Called, IsOpenedAt, inside, opening_words}
 use Rattle.bpaf_laws.specs.Laws.{Lawful}
 use Rattle.bpaf_laws.specs.Reading.{Outcome, Readings}
 use Rattle.bpaf_laws.proofs.Keeping.{keeps_refl}
-use Rattle.bpaf_laws.proofs.OneRun.{keeps_run}
+use Rattle.bpaf_laws.proofs.OneStretch.{keeps_stretch}
 use Rattle.bpaf_core.specs.Adjacent.{AdjacentOutcome, Attempt, Attempts, EitherCommandOutcome, Retry}
 use Rattle.bpaf_core.specs.Adjacent.{failed, first_fails, no_path, nothing_left, second_fails}
 use Rattle.bpaf_core.specs.Adjacent.{unnamed, wants_memory}
@@ -152,15 +152,15 @@ module _ (describes : Shape → Type 0) (info : RunInfo) {T : Type 0} {inner : O
 
   module _ (s : Situation) (from : ℕ) (doc : List Piece) (full : Bool) where
     -- an attempt shows what it was asked for, or what the parser does
-    attempt_shows : (end : ℕ) (f : Failure) (t : Situation) → IsRunFrom s from end
+    attempt_shows : (end : ℕ) (f : Failure) (t : Situation) → IsStretchFrom s from end
         → Attempt T inner Ends s from end (Err f) t → f ≡ failure.Stdout doc full
         → CameTo Behind s doc full
     attempt_shows end f t run ran is =
-        came_from Behind s (with_scope s from end) doc full (keeps_run s from end run.present)
+        came_from Behind s (with_scope s from end) doc full (keeps_stretch s from end run.present)
         (run_shows describes info law showing handed plain (with_scope s from end) t f doc full ran is)
 
     -- so does what follows it
-    retry_shows : (end : ℕ) (f g : Failure) (t u : Situation) → IsRunFrom s from end
+    retry_shows : (end : ℕ) (f g : Failure) (t u : Situation) → IsStretchFrom s from end
         → Attempt T inner Ends s from end (Err f) t
         → Retry T inner Ends s from end f t (Err g) u → g ≡ failure.Stdout doc full
         → CameTo Behind s doc full

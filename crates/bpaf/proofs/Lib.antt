@@ -10,4 +10,4 @@ pub mod Attempting
 pub mod Trying
 pub mod Seeking
 pub mod LeafSparing
-pub mod RunEnds
+pub mod StretchEnds

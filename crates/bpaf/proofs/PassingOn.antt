@@ -18,7 +18,7 @@ use Rattle.bpaf_words.specs.declared.arg.Arg.TheVariants.{Short, Long, ArgWord, 
 use Rattle.bpaf_words.specs.Arguments.{Given}
 use Rattle.bpaf_words.specs.Items.{is_key_of, is_positional, word_text}
 use Rattle.bpaf_words.specs.Spelling.{Known}
-use Rattle.bpaf_words.specs.Line.{IsLine, unmarked, marked}
+use Rattle.bpaf_words.specs.Line.{IsLine, without_marker, with_marker}
 use Rattle.bpaf_line.specs.declared.error.Error.{Error}
 use Rattle.bpaf_line.specs.Constructing.{IsContext}
 use Rattle.bpaf_line.specs.Messages.{is_memory}
@@ -31,8 +31,8 @@ use Rattle.bpaf_laws.specs.Reading.{Readings, Outcome}
 use Rattle.bpaf_laws.specs.Laws.{Keeps, Closes, Lawful, newly}
 use Rattle.bpaf_laws.specs.Flag.{FlagReads, at_key, in_environment, nowhere}
 use Rattle.bpaf_laws.specs.Product.{BothOutcome, ProductOutcome, joined}
-use Rattle.bpaf_laws.specs.Repeat.{Steps, ManyOutcome, is_nil}
-use Rattle.bpaf_laws.specs.Step.{StepOutcome}
+use Rattle.bpaf_laws.specs.Repeat.{Turns, ManyOutcome, is_nil}
+use Rattle.bpaf_laws.specs.Turn.{TurnOutcome}
 use Rattle.bpaf_laws.proofs.CountingLaws.{none_below, same_took_none}
 use Rattle.bpaf_core.specs.Ending.{Ending}
 use Rattle.bpaf_parts.specs.Info.{RunInfo}
@@ -42,7 +42,7 @@ use Rattle.bpaf.specs.Marker.{words_behind}
 use Rattle.bpaf.specs.Positional.{PositionalReads, PositionalOutcome}
 use Rattle.bpaf.specs.PositionalLaws.{positional_lawful}
 use Rattle.bpaf.proofs.Sides.{text_behind, IsBefore, all_before, each_at}
-use Rattle.bpaf.proofs.Sides.{behind_marked, behind_unmarked}
+use Rattle.bpaf.proofs.Sides.{behind_with_marker, behind_without_marker}
 
 -- the member at a place of a list whose first member has another place
 abbrev pub placed : {X : Type 0} → ℕ → List X → ℕ → Option X
@@ -211,7 +211,7 @@ module _ {T : Type 0} (means : List ℕ → T → Type 0) (metavar : List ℕ) (
 
   -- steps that leave nothing read what waited
   steps_pass : (first : Bool) (s : Situation) (vs : List T) (t : Situation) (base : ℕ)
-      (texts : List (List ℕ)) → Waits s base texts → Steps strict_word catches first s vs t
+      (texts : List (List ℕ)) → Waits s base texts → Turns strict_word catches first s vs t
       → HasNothingOpen t → AllZip means texts vs
   steps_pass first s [] t base [] waits steps none = tt
   steps_pass first s [] t base (x ∷ xs) waits steps none =
@@ -234,7 +234,7 @@ module _ {T : Type 0} (means : List ℕ → T → Type 0) (metavar : List ℕ) (
       )
 
   -- a step that stops leaves all as it was
-  stop_same : (first : Bool) (s t : Situation) → StepOutcome strict_word catches first s (Ok None) t
+  stop_same : (first : Bool) (s t : Situation) → TurnOutcome strict_word catches first s (Ok None) t
       → s ≡ t
   stop_same first s t stop = ⊎_elim
       (λ dropped.
@@ -431,10 +431,10 @@ module _ (items : List Arg) (marker : Arg) (after : List (List ℕ))
   line_with = items ++ marker ∷ map PosWord after
 
   -- what waits on it are the words behind the marker
-  marked_waits : (p : ℕ)
+  waits_with_marker : (p : ℕ)
       → option_and_then text_behind (if p == length items then None else slice_get line_with p)
       ≡ placed (length items + 1) after p
-  marked_waits p = ⊎_elim
+  waits_with_marker p = ⊎_elim
       (λ (same : p ≡ length items).
       ap (λ b. option_and_then text_behind (if b then None else slice_get line_with p))
       (eq-eqb p (length items) same)
@@ -467,21 +467,21 @@ line_waits : (known : Known) (words : List (List ℕ)) (line : List Arg) (marker
     → IsLine known words line marker
     → (base : ℕ) × ((p : ℕ) → option_and_then text_behind (item_in context p)
     ≡ placed base (words_behind words) p)
-line_waits known words line marker context is_line is_marked (unmarked items none spelled) = (
+line_waits known words line marker context is_line at_marker (without_marker items none spelled) = (
   0,
-  λ p. rw (is_line, is_marked) (before_waits_not items p (all_before known words items spelled)
-      ∙ sym (ap (λ texts. placed 0 texts p) (behind_unmarked words none) ∙ nothing p)),
+  λ p. rw (is_line, at_marker) (before_waits_not items p (all_before known words items spelled)
+      ∙ sym (ap (λ texts. placed 0 texts p) (behind_without_marker words none) ∙ nothing p)),
 )
   where
     nothing : (p : ℕ) → placed {X = List ℕ} 0 [] p ≡ None
     nothing p = placed_from 0 [] p p (omega arith) (omega arith)
-line_waits known words line marker context is_line is_marked
-    (marked before after items cut none spelled) = (
+line_waits known words line marker context is_line at_marker
+    (with_marker before after items cut none spelled) = (
       length items + 1,
-      λ p. rw (is_line, is_marked) (marked_waits items (PosWord (codes "--")) after
+      λ p. rw (is_line, at_marker) (waits_with_marker items (PosWord (codes "--")) after
           (all_before known before items spelled) p
           ∙ sym (ap (λ texts. placed (length items + 1) texts p)
-          (ap words_behind cut ∙ behind_marked before after none))),
+          (ap words_behind cut ∙ behind_with_marker before after none))),
     )
 
 -- nothing is present where none is counted

@@ -16,7 +16,7 @@ use Rattle.bpaf_laws.specs.Spared.{IsNotMemory}
 use Rattle.bpaf_laws.proofs.CountingLaws.{fewer_took, same_took_none, open_count-falls}
 use Rattle.bpaf_laws.proofs.Keeping.{keeps_of, keeps_scope}
 use Rattle.bpaf.specs.declared.adjacent.Remembered.{Remembered}
-use Rattle.bpaf.specs.Remembering.{IsRemembered, Takes, TakesSome, TriesFrom, failure_of}
+use Rattle.bpaf.specs.Remembering.{IsRemembered, Takes, HasPlaceIf, TriesFrom, failure_of}
 
 -- at a scope of its own each place that is left outside is taken
 closes_same : (s t : Situation) → Closes s (with_scope t s.start s.end)
@@ -41,7 +41,7 @@ not_lt m n most = grind (arith, nat_tests)
 -- whether fewer items of a scope are left present tells whether some are newly taken
 takes_some : (s t : Situation) → Keeps s t → (takes : Bool)
     → takes ≡ nat_lt (open_count (with_scope t s.start s.end)) (open_count s)
-    → TakesSome takes (newly s t)
+    → HasPlaceIf takes (newly s t)
 takes_some s t k true fewer =
     fewer_took s (with_scope t s.start s.end) (keeps_same_scope s t k) (closes_same s t)
     (lt_of _ _ (sym fewer))

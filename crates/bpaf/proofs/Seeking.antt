@@ -4,7 +4,7 @@ use Rattle.bpaf_doc.specs.Shape.{Part}
 use Rattle.bpaf_line.specs.declared.error.Error.{Error}
 use Rattle.bpaf_line.specs.Messages.{is_memory}
 use Rattle.bpaf_line.specs.Situation.{Situation}
-use Rattle.bpaf_laws.specs.AdjacentGroup.{Failure, GroupOutcome, HasNoStart, IsStart, Searches, TriesAt, width_of}
+use Rattle.bpaf_laws.specs.AdjacentGroup.{Failure, GroupOutcome, HasNoStart, IsGroupStart, Searches, TriesAt, place_count}
 use Rattle.bpaf_laws.specs.AdjacentGroup.{failed, found, no_memory, on, over, skipped, value, wanted}
 use Rattle.bpaf_laws.specs.Reading.{Outcome}
 use Rattle.bpaf.specs.declared.adjacent.Remembered.{Remembered}
@@ -40,18 +40,18 @@ module _ (T : Type 0) (inner : Outcome T) (s : Situation) (first : Part) where
       (subst (λ x. Searches T inner s first x (failure_of s best) r t) at rest)
 
   module _ (b : Situation) (same : b ≡ s) (from : ℕ) (best : Remembered) (rest : Rest from best)
-      (width : ℕ) (wide : width ≡ width_of first) where
-    module _ (place stop : ℕ) (start : IsStart b width from place × (stop ≡ place + width))
+      (width : ℕ) (wide : width ≡ place_count first) where
+    module _ (place stop : ℕ) (start : IsGroupStart b width from place × (stop ≡ place + width))
         (r : Result (Option T) Error) (after : Remembered) (t : Situation)
         (tried : TriesAt T inner b place stop (failure_of b best) r (failure_of b after) t) where
       -- the place begins a first item
-      starts : IsStart s (width_of first) from place
+      starts : IsGroupStart s (place_count first) from place
       starts =
-          subst (λ x. IsStart x (width_of first) from place) same
-          (subst (λ w. IsStart b w from place) wide start.0)
+          subst (λ x. IsGroupStart x (place_count first) from place) same
+          (subst (λ w. IsGroupStart b w from place) wide start.0)
 
       -- and is tried from the group's situation
-      tried_here : TriesAt T inner s place (place + width_of first) (failure_of s best) r
+      tried_here : TriesAt T inner s place (place + place_count first) (failure_of s best) r
           (failure_of s after) t
       tried_here =
           subst (λ w. TriesAt T inner s place w (failure_of s best) r (failure_of s after) t)
@@ -63,30 +63,32 @@ module _ (T : Type 0) (inner : Outcome T) (s : Situation) (first : Part) where
       pub value_found : (v : T) → r ≡ Ok (Some v) → GroupOutcome T inner first s (Ok v) t
       value_found v is =
           rest (Ok v) t (value from place (failure_of s best) (failure_of s after) v t starts
-          (subst (λ x. TriesAt T inner s place (place + width_of first) (failure_of s best) x
+          (subst (λ x. TriesAt T inner s place (place + place_count first) (failure_of s best) x
           (failure_of s after) t) is tried_here))
 
       -- without one all is as before
       pub unchanged : r ≡ Ok None → t ≡ s
       unchanged is =
           subst (λ x. Leaves s x t) is
-          (leaves inner s place (place + width_of first) (failure_of s best) r (failure_of s after)
+          (leaves inner s place (place + place_count first) (failure_of s best) r
+          (failure_of s after)
           t tried_here)
 
       -- and the places behind it give what the group gives
       pub rest_on : r ≡ Ok None → Rest (place + 1) after
       rest_on is r' t' more =
           rest r' t' (on from place (failure_of s best) (failure_of s after) r' t' starts
-          (subst (λ x. TriesAt T inner s place (place + width_of first) (failure_of s best)
+          (subst (λ x. TriesAt T inner s place (place + place_count first) (failure_of s best)
           (Ok None) (failure_of s after) x) (unchanged is)
-          (subst (λ x. TriesAt T inner s place (place + width_of first) (failure_of s best) x
+          (subst (λ x. TriesAt T inner s place (place + place_count first) (failure_of s best) x
           (failure_of s after) t) is tried_here)) more)
 
       -- want of memory is the answer
       pub refused_at : (e : Error) → r ≡ Err e → GroupOutcome T inner first s (Err e) t
       refused_at e is =
           let left = subst (λ x. Leaves s x t) is
-          (leaves inner s place (place + width_of first) (failure_of s best) r (failure_of s after)
+          (leaves inner s place (place + place_count first) (failure_of s best) r
+          (failure_of s after)
           t tried_here) in
           subst (λ x. GroupOutcome T inner first s (Err e) x) (sym left.1)
           (rest (Err e) s (wanted from (failure_of s best) e left.0))
@@ -95,7 +97,7 @@ module _ (T : Type 0) (inner : Outcome T) (s : Situation) (first : Part) where
     pub search_ends : (e : Error) (t : Situation) → HasNoStart b width from → IsEnd b first best e t
         → GroupOutcome T inner first s (Err e) t
     search_ends e t none ends =
-        let none_here = subst (λ x. HasNoStart x (width_of first) from) same
+        let none_here = subst (λ x. HasNoStart x (place_count first) from) same
         (subst (λ w. HasNoStart b w from) wide none) in
         ⊎_elim
         (λ over_now. rest (Err e) t (over from (failure_of s best) e t none_here over_now))

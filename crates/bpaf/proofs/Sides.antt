@@ -25,16 +25,16 @@ not_marker word other =
     (λ same. other ((bytes_eq-Decides word (codes "--")).0 same))
 
 -- where no word is `--`, the place of the first one is behind all of them
-none_marked : (words : List (List ℕ)) → HasNoMarker words
+count_without_marker : (words : List (List ℕ)) → HasNoMarker words
     → position_or_len is_marker_word words ≡ length words
-none_marked words none =
+count_without_marker words none =
     position_or_len_is is_marker_word words (length words) [] (omega arith)
     (λ k within. not_marker _ (none k [] within)) (λ past. absurd (omega arith))
 
 -- the first `--` stands behind words of which none is `--`
-first_marked : (before after : List (List ℕ)) → HasNoMarker before
+count_with_marker : (before after : List (List ℕ)) → HasNoMarker before
     → position_or_len is_marker_word (before ++ codes "--" ∷ after) ≡ length before
-first_marked before after none =
+count_with_marker before after none =
     position_or_len_is is_marker_word (before ++ codes "--" ∷ after) (length before) []
     (let size = length-append before (codes "--" ∷ after) in omega arith)
     (λ k within. ap is_marker_word (get_or_append_left before (codes "--" ∷ after) [] k within)
@@ -42,28 +42,29 @@ first_marked before after none =
     (λ past. ap is_marker_word (get_or_at before (codes "--") after [] (length before) refl))
 
 -- where no word is `--`, all stand before it
-pub before_unmarked : (words : List (List ℕ)) → HasNoMarker words → words_before words ≡ words
-before_unmarked words none =
-    ap (λ n. take n words) (none_marked words none) ∙ take_all (length words) words (omega arith)
+pub before_without_marker : (words : List (List ℕ)) → HasNoMarker words → words_before words ≡ words
+before_without_marker words none =
+    ap (λ n. take n words) (count_without_marker words none) ∙ take_all (length words) words
+    (omega arith)
 
 -- and none behind it
-pub behind_unmarked : (words : List (List ℕ)) → HasNoMarker words → words_behind words ≡ []
-behind_unmarked words none =
-    ap (λ n. drop (n + 1) words) (none_marked words none)
+pub behind_without_marker : (words : List (List ℕ)) → HasNoMarker words → words_behind words ≡ []
+behind_without_marker words none =
+    ap (λ n. drop (n + 1) words) (count_without_marker words none)
     ∙ drop_all (length words + 1) words (omega arith)
 
 -- the words before the first `--`
-pub before_marked : (before after : List (List ℕ)) → HasNoMarker before
+pub before_with_marker : (before after : List (List ℕ)) → HasNoMarker before
     → words_before (before ++ codes "--" ∷ after) ≡ before
-before_marked before after none =
-    ap (λ n. take n (before ++ codes "--" ∷ after)) (first_marked before after none)
+before_with_marker before after none =
+    ap (λ n. take n (before ++ codes "--" ∷ after)) (count_with_marker before after none)
     ∙ take_at before (codes "--" ∷ after) (length before) refl
 
 -- and those behind it
-pub behind_marked : (before after : List (List ℕ)) → HasNoMarker before
+pub behind_with_marker : (before after : List (List ℕ)) → HasNoMarker before
     → words_behind (before ++ codes "--" ∷ after) ≡ after
-behind_marked before after none =
-    ap (λ n. drop (n + 1) (before ++ codes "--" ∷ after)) (first_marked before after none)
+behind_with_marker before after none =
+    ap (λ n. drop (n + 1) (before ++ codes "--" ∷ after)) (count_with_marker before after none)
     ∙ (ap (drop (length before + 1)) (sym (append_assoc before (codes "--" ∷ []) after))
     ∙ drop_at (before ++ codes "--" ∷ []) after (length before + 1)
     (length_push before (codes "--")))

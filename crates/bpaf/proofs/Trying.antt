@@ -10,7 +10,7 @@ use Rattle.bpaf_laws.specs.AdjacentGroup.{Failure, Probe, Tries, TriesAt, failed
 use Rattle.bpaf_laws.specs.Laws.{Keeps, Lawful, newly}
 use Rattle.bpaf_laws.specs.Reading.{Outcome, Readings}
 use Rattle.bpaf_laws.proofs.AdjacentGroupLaws.{tries_keep}
-use Rattle.bpaf.specs.Remembering.{Takes, TakesSome}
+use Rattle.bpaf.specs.Remembering.{Takes, HasPlaceIf}
 
 -- where attempts end from a mark on: back there, and all is kept
 pub record Gone (s : Situation) (mark : Mark) (t : Situation) : Type 0 where
@@ -45,13 +45,13 @@ module _ (T : Type 0) (inner : Outcome T) (s : Situation) (place stop : ℕ)
 
   -- the probe took what it took
   probe_of : (takes is : Bool) → takes ≡ is → Takes T inner s place stop takes
-      → Probe T inner s place stop (TakesSome is)
+      → Probe T inner s place stop (HasPlaceIf is)
   probe_of takes is same probed = record {
     answer = probed.answer;
     left = probed.left;
     ran = probed.ran;
     spared = probed.spared;
-    takes = subst (λ x. TakesSome x (newly s probed.left)) same probed.taken;
+    takes = subst (λ x. HasPlaceIf x (newly s probed.left)) same probed.taken;
   }
 
   -- no item is taken

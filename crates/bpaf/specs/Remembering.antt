@@ -16,8 +16,8 @@ use Rattle.bpaf_laws.specs.Reading.{Outcome, Share, IsEmptyShare, HasPlace}
 use Rattle.bpaf_laws.specs.Spared.{IsNotMemory}
 use Rattle.bpaf.specs.declared.adjacent.AdjacentError.{AdjacentError}
 use Rattle.bpaf.specs.declared.adjacent.AdjacentError.TheVariants as refused
-use Rattle.bpaf.specs.declared.adjacent.Ending.{Ending}
-use Rattle.bpaf.specs.declared.adjacent.Ending.TheVariants as ending
+use Rattle.bpaf.specs.declared.adjacent.AttemptEnd.{AttemptEnd}
+use Rattle.bpaf.specs.declared.adjacent.AttemptEnd.TheVariants as ending
 use Rattle.bpaf.specs.declared.adjacent.Failed.{Failed}
 use Rattle.bpaf.specs.declared.adjacent.Remembered.{Remembered}
 
@@ -53,9 +53,9 @@ IsEnd s first best e t =
     EndsWith s first (failure_of s best) e t ⊎ ((is_memory e.0 ≡ true) × (t ≡ s))
 
 -- some places are taken, or none
-abbrev pub TakesSome : Bool → Share → Type 0
-TakesSome true = HasPlace
-TakesSome false = IsEmptyShare
+abbrev pub HasPlaceIf : Bool → Share → Type 0
+HasPlaceIf true = HasPlace
+HasPlaceIf false = IsEmptyShare
 
 -- whether an evaluation over the places from one on up to another takes one of them
 pub record Takes (T : Type 0) (inner : Outcome T) (s : Situation) (place stop : ℕ)
@@ -64,11 +64,11 @@ pub record Takes (T : Type 0) (inner : Outcome T) (s : Situation) (place stop : 
   pub left : Situation
   pub ran : inner (with_scope s place stop) answer left
   pub spared : IsNotMemory answer
-  pub taken : TakesSome takes (newly s left)
+  pub taken : HasPlaceIf takes (newly s left)
 
 -- an attempt over the places from one on up to another left none of them present, or this is the
 -- first one; or it failed
-abbrev pub EndsAttempt : (T : Type 0) → Outcome T → Situation → ℕ → ℕ → Result (Ending T) Error
+abbrev pub EndsAttempt : (T : Type 0) → Outcome T → Situation → ℕ → ℕ → Result (AttemptEnd T) Error
     → Situation → Type 0
 EndsAttempt T inner s place stop (Ok (ending.Whole v)) u =
     (t : Situation) × inner (with_scope s place stop) (Ok v) t

@@ -3,13 +3,13 @@ ghost use Rattle.std.specs.Prelude.{◌≡◌, ◌+◌, ◌≤◌, true, false, 
 ghost use Rattle.bpaf_doc.specs.Shape.{part_of, shape_of};
 ghost use Rattle.bpaf_line.specs.Marks.{Fits, undone};
 ghost use Rattle.bpaf_line.specs.Messages.{is_memory};
-ghost use Rattle.bpaf_line.specs.Runs.{IsRunFrom};
+ghost use Rattle.bpaf_line.specs.Stretches.{IsStretchFrom};
 ghost use Rattle.bpaf_line.specs.Situation.{open_count, with_scope, HasNoneOpen, IsNextOpen};
 ghost use Rattle.bpaf_laws.specs.Laws.{Keeps};
 ghost use Rattle.bpaf_laws.specs.Spared.{IsNotMemory};
 ghost use Rattle.bpaf_laws.specs.Product.{ProductDescribes};
 ghost use Rattle.bpaf_laws.specs.AdjacentGroup.{GroupDescribes, GroupOutcome, Tries, TriesAt};
-ghost use Rattle.bpaf_laws.specs.AdjacentGroup.{HasNoStart, IsStart, width_of};
+ghost use Rattle.bpaf_laws.specs.AdjacentGroup.{HasNoStart, IsGroupStart, place_count};
 ghost use Rattle.bpaf.specs.Remembering.{EndsAttempt, IsEnd, IsFirstOf, IsMissingFirst, IsRefused, IsRemembered};
 ghost use Rattle.bpaf.specs.Remembering.{Takes, TriesFrom, failure_of};
 
@@ -77,8 +77,8 @@ impl<'p, V: Drop, T: Drop, P: Fields<V>, F: Fn(V) -> T> Parser<T>
 }
 
 /// How many places the first item of a group has.
-fn width_of(first: &Item) -> usize
-    ensures { result ≡ width_of (part_of first.now) }
+fn place_count(first: &Item) -> usize
+    ensures { result ≡ place_count (part_of first.now) }
 {
     match first {
         Item::Argument { .. } => 2,
@@ -98,12 +98,12 @@ fn first_present(state: &State, from: usize) -> Option<usize>
     Some(place)
 }
 
-/// So many places of the scope from the first present one on, at one of it or behind that; None where
-/// they pass its end.
+/// So many places of the scope from the first present one on, at one of it or behind that; None
+/// where they pass its end.
 fn next_start(state: &State, from: usize, width: usize) -> Option<Range<usize>>
     requires { state.now.start ≤ from }
     ensures start { MatchOption result (HasNoStart state.now width from)
-        (λ r. IsStart state.now width from r.start × (r.end ≡ r.start + width)) }
+        (λ r. IsGroupStart state.now width from r.start × (r.end ≡ r.start + width)) }
     ensures inside { IfSome result (λ r. r.end ≤ length state.now.context.line) }
 {
     let place = first_present(state, from)?;
@@ -150,8 +150,8 @@ fn spared<T: Drop>(answer: Result<T, Error>, known: bool) -> Result<bool, Error>
     }
 }
 
-/// Whether the parser takes an item of the places from one on up to another; nothing changes. Want of
-/// memory is refused.
+/// Whether the parser takes an item of the places from one on up to another; nothing changes. Want
+/// of memory is refused.
 fn takes_item<T: Drop, P: Parser<T>>(
     parser: &P,
     state: &mut State,
@@ -177,21 +177,21 @@ fn takes_item<T: Drop, P: Parser<T>>(
 
 /// How an attempt with a value ends.
 #[derive(Drop)]
-enum Ending<T> {
+enum AttemptEnd<T> {
     /// Nothing is left present in its scope: its value is that of the group.
     Whole(T),
     /// This is the first place that it left present.
     Left(usize),
 }
 
-/// One attempt over the places from one on up to another. Where it leaves one of them present nothing
-/// changes; with a value the scope is as before.
+/// One attempt over the places from one on up to another. Where it leaves one of them present
+/// nothing changes; with a value the scope is as before.
 fn attempt<T: Drop, P: Parser<T>>(
     parser: &P,
     state: &mut State,
     place: usize,
     end: usize,
-) -> Result<Ending<T>, Error>
+) -> Result<AttemptEnd<T>, Error>
     requires can { P.can_eval parser.now }
     requires ordered { place ≤ end }
     requires inside { end ≤ length state.old.context.line }
@@ -205,22 +205,22 @@ fn attempt<T: Drop, P: Parser<T>>(
     match first_present(state, place) {
         None => {
             state.set_scope(scope);
-            Ok(Ending::Whole(value))
+            Ok(AttemptEnd::Whole(value))
         }
         Some(left) => {
             drop(value);
             state.undo(mark);
-            Ok(Ending::Left(left))
+            Ok(AttemptEnd::Left(left))
         }
     }
 }
 
-/// Where the unbroken run of present places from one on ends.
+/// Where the unbroken stretch of present places from one on ends.
 ///
 /// Where that is the first present place, and all behind it in the scope are present, they are only
 /// counted, which the state has done already.
-fn run_end(state: &State, place: usize) -> usize
-    ensures run { IsRunFrom state.now place result }
+fn stretch_end(state: &State, place: usize) -> usize
+    ensures stretch { IsStretchFrom state.now place result }
     ensures inside { place ≤ length state.now.context.line
         → result ≤ length state.now.context.line }
 {
@@ -233,18 +233,18 @@ fn run_end(state: &State, place: usize) -> usize
     state.adjacently_available_from(place).end
 }
 
-/// The attempts from a place on: over the unbroken run of present places, and then over the run up to
-/// the first place that the attempt before left present.
+/// The attempts from a place on: over the unbroken stretch of present places, and then over the
+/// stretch up to the first place that the attempt before left present.
 fn attempts<T: Drop, P: Parser<T>>(parser: &P, state: &mut State, place: usize) -> Result<T, Error>
     requires can { P.can_eval parser.now }
     requires inside { place ≤ length state.old.context.line }
     ensures { Tries T (P.outcome parser.now) state.old place result state.new }
 {
-    let mut end = run_end(state, place);
+    let mut end = stretch_end(state, place);
     loop {
         match attempt(parser, state, place, end) {
-            Ok(Ending::Whole(value)) => return Ok(value),
-            Ok(Ending::Left(left)) => end = left,
+            Ok(AttemptEnd::Whole(value)) => return Ok(value),
+            Ok(AttemptEnd::Left(left)) => end = left,
             Err(error) => return Err(error),
         }
     }
@@ -257,7 +257,8 @@ struct Failed {
     steps: Steps,
 }
 
-/// The failure so far that took most places, and how many items of the group's scope it left present.
+/// The failure so far that took most places, and how many items of the group's scope it left
+/// present.
 #[derive(Drop)]
 struct Remembered {
     left: usize,
@@ -285,8 +286,8 @@ impl Remembered {
         self.left = left;
     }
 
-    /// Remembers a failure, where it took more places since the mark, at which the scope was this one.
-    /// Want of memory is refused.
+    /// Remembers a failure, where it took more places since the mark, at which the scope was this
+    /// one. Want of memory is refused.
     fn keep(
         &mut self,
         state: &mut State,
@@ -349,8 +350,8 @@ fn missing(state: &State, first: &Item) -> Error
 }
 
 /// What comes of a place with which those of a first item begin: None, where the parser takes no
-/// item there or its attempts fail, which may be remembered; nothing changes then. Want of memory is
-/// refused, and nothing changes.
+/// item there or its attempts fail, which may be remembered; nothing changes then. Want of memory
+/// is refused, and nothing changes.
 fn try_at<T: Drop, P: Parser<T>>(
     parser: &P,
     state: &mut State,
@@ -388,7 +389,7 @@ fn search<T: Drop, P: Parser<T>>(parser: &P, first: &Item, state: &mut State) ->
     ensures { GroupOutcome T (P.outcome parser.now) (part_of first.now)
         state.old result state.new }
 {
-    let width = width_of(first);
+    let width = place_count(first);
     let mut from = state.scope().start;
     let mut best = Remembered::nothing(state);
     while let Some(places) = next_start(state, from, width) {
@@ -456,17 +457,17 @@ impl<V, P, F> ParseCon<V, P, F> {
     }
 }
 
-/// The value of the product, read off one run of places.
+/// The value of the product, read off one stretch of places.
 ///
-/// For each present place of the scope, from left to right, the product is evaluated over the places of its
-/// first item alone; where it takes one of them, over the unbroken run of present places from there. A
-/// failing first field ends it at once. Where it answers a value and leaves places of its run present,
-/// it is evaluated anew over the run up to the first of them; where it leaves none the value is the
-/// answer, and the scope is as before.
+/// For each present place of the scope, from left to right, the product is evaluated over the
+/// places of its first item alone; where it takes one of them, over the unbroken stretch of present
+/// places from there. A failing first field ends it at once. Where it answers a value and leaves
+/// places of its stretch present, it is evaluated anew over the stretch up to the first of them;
+/// where it leaves none the value is the answer, and the scope is as before.
 ///
 /// Without a value the answer is the failure that took most places, the earlier one of equals, with
-/// the state that it left; where none took a place the first item is missing. Want of memory is refused
-/// at once.
+/// the state that it left; where none took a place the first item is missing. Want of memory is
+/// refused at once.
 impl<V: Drop, T: Drop, P: Fields<V>, F: Fn(V) -> T> Parser<T> for ParseAdjacent<ParseCon<V, P, F>> {
     ghost use Rattle.std.specs.Prelude.{IfOk};
     ghost use Rattle.bpaf_doc.specs.Shape.{part_of};
@@ -475,7 +476,7 @@ impl<V: Drop, T: Drop, P: Fields<V>, F: Fn(V) -> T> Parser<T> for ParseAdjacent<
     ghost use Rattle.bpaf_laws.specs.Product.{ProductOutcome, ProductReads, ProductDescribes};
     ghost use Rattle.bpaf_laws.proofs.ProductLaws.{product_lawful};
     ghost use Rattle.bpaf_laws.specs.AdjacentGroup.{GroupDescribes, GroupOutcome, GroupReads};
-    ghost use Rattle.bpaf_laws.specs.OneRun.{IsRun};
+    ghost use Rattle.bpaf_laws.specs.OneStretch.{IsStretch};
     ghost use Rattle.bpaf_laws.proofs.AdjacentGroupLaws.{group_lawful};
 
     ghost can_eval = { λ p. P.can_eval p.inner.fields × F.IsAlwaysCallable p.inner.make };
@@ -494,7 +495,7 @@ impl<V: Drop, T: Drop, P: Fields<V>, F: Fn(V) -> T> Parser<T> for ParseAdjacent<
         ensures outcome { GroupOutcome T (ProductOutcome (P.fast_outcome self.now.inner.fields)
             (λ x y. F.post self.now.inner.make x y)) (part_of self.now.first)
             state.old result state.new }
-        ensures takes_one_run { IfOk result (λ _. IsRun (newly state.old state.new)) }
+        ensures takes_one_stretch { IfOk result (λ _. IsStretch (newly state.old state.new)) }
         ensures memory_is_never_caught { IsNotMemory result →
             GroupOutcome T (ProductOutcome (P.fast_spared_outcome self.now.inner.fields)
             (λ x y. F.post self.now.inner.make x y)) (part_of self.now.first)

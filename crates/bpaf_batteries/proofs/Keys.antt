@@ -27,11 +27,11 @@ not_both one other (Some item) apart e f = true≢false (sym (both (one item) (o
 
 -- what such a flag answers but want of memory: a value for its first key, which is taken; or there
 -- is no key, and nothing changes
-abbrev pub KeyRan : {T : Type 0} → (T → T → Type 0) → ParseFlag T → Situation → Result T Error
+abbrev pub KeyEval : {T : Type 0} → (T → T → Type 0) → ParseFlag T → Situation → Result T Error
     → Situation → Type 0
-KeyRan clones flag s (Ok v) t =
+KeyEval clones flag s (Ok v) t =
     (p : ℕ) × IsFirst (is_key flag) s p × (t ≡ take_place s p) × clones flag.present v
-KeyRan clones flag s (Err e) t = HasNone (is_key flag) s × (t ≡ s)
+KeyEval clones flag s (Err e) t = HasNone (is_key flag) s × (t ≡ s)
 
 module _ {T : Type 0} (clones : T → T → Type 0) (flag : ParseFlag T) (stands : MustStand flag)
     (s t : Situation) where
@@ -47,7 +47,7 @@ module _ {T : Type 0} (clones : T → T → Type 0) (flag : ParseFlag T) (stands
 
   -- a flag that is present took its first key
   key_taken : (v : T) → IsFlagPresent flag.named s t → clones flag.present v
-      → KeyRan clones flag s (Ok v) t
+      → KeyEval clones flag s (Ok v) t
   key_taken v present value = ⊎_elim
       (λ takes. (takes.0, takes.1, takes.2, value))
       (λ set. absurd (not_set set.1))
@@ -62,7 +62,7 @@ module _ {T : Type 0} (clones : T → T → Type 0) (flag : ParseFlag T) (stands
   -- so a flag answers
   pub key_ran : (r : Result T Error)
       → FlagOutcome clones flag.named flag.present flag.absent s r t → IsNotMemory r
-      → KeyRan clones flag s r t
+      → KeyEval clones flag s r t
   key_ran (Ok v) o spared = ⊎_elim
       (λ here. key_taken v here.0 here.1)
       (λ none. absurd (not_absent v none.1))

@@ -21,10 +21,10 @@ use Rattle.bpaf_line.specs.declared.error.Error.{Error}
 use Rattle.bpaf_laws.proofs.ChoiceLaws.{choice_lawful}
 use Rattle.bpaf_laws.proofs.CountingLaws.{same_took_none}
 use Rattle.bpaf_laws.proofs.FlagLaws.{flag_lawful}
-use Rattle.bpaf_laws.specs.Choice.{BranchesRan, Chosen, EqualDepths, Winner, depth}
-use Rattle.bpaf_laws.specs.Repeat.{Steps, UntilStop, is_nil}
-use Rattle.bpaf_laws.specs.Step.{StepOutcome, stops_step, stops_spared, is_untouched}
-use Rattle.bpaf_batteries.proofs.Keys.{KeyRan, key_ran, not_both}
+use Rattle.bpaf_laws.specs.Choice.{BranchesEval, Chosen, EqualDepths, Winner, depth}
+use Rattle.bpaf_laws.specs.Repeat.{Turns, UntilStop, is_nil}
+use Rattle.bpaf_laws.specs.Turn.{TurnOutcome, stops_step, stops_spared, is_untouched}
+use Rattle.bpaf_batteries.proofs.Keys.{KeyEval, key_ran, not_both}
 use Rattle.bpaf_batteries.specs.Keys.{is_key, is_either, AreKeysApart, KeyOutcome}
 use Rattle.bpaf_batteries.specs.Toggle.{EitherOutcome, GivesValue, IsLastOf, IsRightmost}
 use Rattle.bpaf_batteries.specs.Toggle.{LastToggleWins, RightmostGives, ToggleOutcome}
@@ -45,7 +45,7 @@ alike_same t m same =
     subst (λ w. IsAlike w m) (sym same)
     (record { context = refl; scope = λ p. refl; taken = λ p. refl })
 
--- conflict marks leave it so
+-- conflict notes leave it so
 alike_conflicts : (m loser : Situation) (winner : ℕ) (t : Situation)
     → ConflictsSaved m loser winner t → IsAlike t m
 alike_conflicts m loser winner t saved = record {
@@ -222,12 +222,12 @@ equal_depths s a sa b sb r t same chosen = ⊎_elim
 module _ {T : Type 0} (clones : T → T → Type 0) (one other : ParseFlag T) (s : Situation) where
   -- the answer of a flag leaves the path
   ran_depth : (flag : ParseFlag T) (r : Result T Error) (t : Situation)
-      → KeyRan clones flag s r t → depth t ≡ depth s
+      → KeyEval clones flag s r t → depth t ≡ depth s
   ran_depth flag (Ok v) t o = ap depth o.2
   ran_depth flag (Err e) t o = ap depth o.1
 
   -- a key that was taken is an item less
-  ran_touched : (flag : ParseFlag T) (v : T) (t : Situation) → KeyRan clones flag s (Ok v) t
+  ran_touched : (flag : ParseFlag T) (v : T) (t : Situation) → KeyEval clones flag s (Ok v) t
       → is_untouched s t ≡ false
   ran_touched flag v t o =
       ap (is_untouched s) o.2
@@ -278,7 +278,7 @@ module _ {T : Type 0} (clones : T → T → Type 0) (one other : ParseFlag T) (s
 
     -- a value at equal depths
     equal_took : (a : Result T Error) (sa : Situation) (b : Result T Error) (sb : Situation) (v : T)
-        (t : Situation) → KeyRan clones one s a sa → KeyRan clones other s b sb
+        (t : Situation) → KeyEval clones one s a sa → KeyEval clones other s b sb
         → EqualDepths s a sa b sb (Ok v) t → TookKey clones one other s v t
     equal_took (Ok x) sa (Ok y) sb v t f g o = ⊎_elim
         (λ neither. absurd (true≢false
@@ -317,7 +317,7 @@ module _ {T : Type 0} (clones : T → T → Type 0) (one other : ParseFlag T) (s
 
   -- a refusal at equal depths comes where neither has a key
   equal_none : (a : Result T Error) (sa : Situation) (b : Result T Error) (sb : Situation)
-      (e : Error) (t : Situation) → KeyRan clones one s a sa → KeyRan clones other s b sb
+      (e : Error) (t : Situation) → KeyEval clones one s a sa → KeyEval clones other s b sb
       → EqualDepths s a sa b sb (Err e) t → HasNone (is_either one other) s
   equal_none (Ok x) sa (Ok y) sb e t f g o = ⊎_elim
       (λ neither. absurd (no_value x e (sym neither.1)))
@@ -340,7 +340,7 @@ module _ {T : Type 0} (clones : T → T → Type 0) (one other : ParseFlag T)
     (keys : AreKeysApart one other) where
   -- the answers of both flags are equally deep
   same_depth : (s t : Situation) (r : Result T Error)
-      (ran : BranchesRan (KeyOutcome clones one) (KeyOutcome clones other) s r t) → depth ran.sa ≡ depth ran.sb
+      (ran : BranchesEval (KeyOutcome clones one) (KeyOutcome clones other) s r t) → depth ran.sa ≡ depth ran.sb
   same_depth s t r ran =
       ran_depth clones one other s one ran.a ran.sa
       (key_ran clones one keys.one_stands s ran.sa ran.a ran.first_ran ran.first_spared)
@@ -398,7 +398,7 @@ module _ {T : Type 0} (clones : T → T → Type 0) (one other : ParseFlag T)
 
   -- where a step stops there is no key
   stopped_none : (catches first : Bool) (s t : Situation)
-      → StepOutcome (EitherOutcome clones one other) catches first s (Ok None) t → HasNone (is_either one other) s
+      → TurnOutcome (EitherOutcome clones one other) catches first s (Ok None) t → HasNone (is_either one other) s
   stopped_none catches first s t o = ⊎_elim
       (λ dropped. absurd (not_dropped s t dropped.0 dropped.1 dropped.3))
       (λ stopped.
@@ -447,7 +447,7 @@ module _ {T : Type 0} (clones : T → T → Type 0) (one other : ParseFlag T)
 
   -- the last step before there is no key took the rightmost one
   last_step : (catches first : Bool) (s : Situation) (before : List T) (v : T) (t : Situation)
-      → Steps (EitherOutcome clones one other) catches first s (before ++ v ∷ []) t → HasNone (is_either one other) t
+      → Turns (EitherOutcome clones one other) catches first s (before ++ v ∷ []) t → HasNone (is_either one other) t
       → RightmostGives clones one other s (Some v)
   last_step catches first s [] v t o none =
       let m = o.0 in
@@ -479,12 +479,12 @@ module _ {T : Type 0} (clones : T → T → Type 0) (one other : ParseFlag T)
       → RightmostGives clones one other s v
   last_wins catches s t values (Some v) run last =
       last_step catches true s last.0 v run.last
-      (subst (λ vs. Steps (EitherOutcome clones one other) catches true s vs run.last) last.1 run.steps)
+      (subst (λ vs. Turns (EitherOutcome clones one other) catches true s vs run.last) last.1 run.steps)
       (stopped_none catches (is_nil values) run.last t run.stop)
   last_wins catches s t values None run last =
       let none = stopped_none catches (is_nil values) run.last t run.stop in
       let same : s ≡ run.last =
-      subst (λ vs. Steps (EitherOutcome clones one other) catches true s vs run.last) last run.steps in
+      subst (λ vs. Turns (EitherOutcome clones one other) catches true s vs run.last) last run.steps in
       subst (HasNone (is_either one other)) (sym same) none
 
 -- the last toggle wins

@@ -47,10 +47,18 @@ IsCountedKey name long help flag =
       named = with_help (with_long (with_short nothing_named name) long) doc;
     })
 
+-- the letter `v`
+abbrev pub letter_v : ℕ
+letter_v = 118
+
+-- the letter `q`
+abbrev pub letter_q : ℕ
+letter_q = 113
+
 -- the keys `-v`, `--verbose` and `-q`, `--quiet`
 abbrev pub AreVerboseAndQuiet : ParseFlag (Unit {0}) → ParseFlag (Unit {0}) → Type 0
 AreVerboseAndQuiet more fewer =
-    IsCountedKey 118 (codes "verbose")
+    IsCountedKey letter_v (codes "verbose")
     (codes "Increase output verbosity, can be used several times") more
-    × IsCountedKey 113 (codes "quiet")
+    × IsCountedKey letter_q (codes "quiet")
     (codes "Decrease output verbosity, can be used several times") fewer

@@ -82,7 +82,7 @@ chained_also word inner inner' also context share step read = record {
     joins = read.command.joins;
     read = also context read.command.inner_share step read.command.read;
   };
-  run = read.run;
+  stretch = read.stretch;
 }
 
 -- steps are also dealt out by readings that are

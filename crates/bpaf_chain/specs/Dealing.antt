@@ -60,7 +60,7 @@ TurnReads = PartsRead {V = Bool × ℕ} (BothReads Bool ℕ LeftReads NumberRead
 abbrev pub RepeatReads : Readings Step
 RepeatReads = PartsRead {V = ℕ} NumberReads (λ n. Repeat n)
 
--- one run of words: this name, and what is read behind it
+-- one stretch of words: this name, and what is read behind it
 abbrev pub ChainedReads : List ℕ → Readings Step → Readings Step
 ChainedReads word inner = AdjacentReads Step (word ∷ []) inner
 

@@ -19,12 +19,13 @@
 //! Each command is adjacent: it reads the words behind its name without a gap, and leaves what
 //! follows to the next one.
 //!
-//! What is proved of it: where the writers tell their bytes, status 0 comes only where exactly the lines
-//! of steps were written that are dealt out of the words, each step read off one run of them
-//! (specs/Dealing.antt, specs/Lines.antt); or where exactly a help page was written that the words ask
-//! for: that of the program, or that of a command, the key of help behind the command's name
-//! (specs/Shown.antt, specs/Running.antt). Where the status is 1, a beginning of such a text was written,
-//! not all, and nothing on standard error; or nothing was, and there a message, or a beginning of it.
+//! What is proved of it: where the writers tell their bytes, status 0 comes only where exactly the
+//! lines of steps were written that are dealt out of the words, each step read off one stretch of
+//! them (specs/Dealing.antt, specs/Lines.antt); or where exactly a help page was written that the
+//! words ask for: that of the program, or that of a command, the key of help behind the command's
+//! name (specs/Shown.antt, specs/Running.antt). Where the status is 1, a beginning of such a text
+//! was written, not all, and nothing on standard error; or nothing was, and there a message, or a
+//! beginning of it.
 #![tactic(auto)]
 
 mod print;

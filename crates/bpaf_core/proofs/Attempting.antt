@@ -8,7 +8,7 @@ use Rattle.bpaf_line.specs.declared.failure.ParseFailure.TheVariants as failure
 use Rattle.bpaf_line.specs.declared.mark.Mark.{Mark}
 use Rattle.bpaf_line.specs.Marks.{CanRedo, Fits, KeepsMarks, redone, undone}
 use Rattle.bpaf_line.specs.Messages.{is_memory}
-use Rattle.bpaf_line.specs.Runs.{IsRunFrom}
+use Rattle.bpaf_line.specs.Stretches.{IsStretchFrom}
 use Rattle.bpaf_line.specs.Situation.{Situation, with_scope}
 use Rattle.bpaf_line.proofs.Marks.{keeps_marks_refl, keeps_marks_scope, keeps_marks_trans}
 use Rattle.bpaf_laws.specs.AdjacentCommand.{IsFirstLeft}
@@ -105,7 +105,7 @@ module _ {T : Type 0} (inner : Outcome T) (ending : Ending) (s : Situation) (fro
 -- the first attempt fails, and what follows begins where it did
 pub then_retried : {T : Type 0} {inner : Outcome T} {ending : Ending} (s : Situation) (from end : ℕ)
     (f : ParseFailure) (t o : Situation) (r : Result T ParseFailure) (u : Situation)
-    → IsRunFrom s from end → Attempt T inner ending s from end (Err f) t → o ≡ s
+    → IsStretchFrom s from end → Attempt T inner ending s from end (Err f) t → o ≡ s
     → Retry T inner ending o from end f t r u → Attempts T inner ending s from r u
 then_retried {T} {inner} {ending} s from end f t o r u run ran back retry =
     first_fails f end t r u run ran (subst (λ x. Retry T inner ending x from end f t r u) back retry)

@@ -57,9 +57,9 @@ shows_nothing m s doc full other tells = tells
 
 -- what is told of an item that is left isn't the answer of an inner run
 leftover_is_told : (s : Situation) (m : Message) → IsLeftover s m → is_answer m ≡ false
-leftover_is_told s m (left.conflict p winner next marked) = refl
-leftover_is_told s m (left.only_once p earlier next unmarked key) = refl
-leftover_is_told s m (left.not_expected p next unmarked none) = refl
+leftover_is_told s m (left.conflict p winner next noted) = refl
+leftover_is_told s m (left.only_once p earlier next unnoted key) = refl
+leftover_is_told s m (left.not_expected p next unnoted none) = refl
 
 module _ {T : Type 0} (inner : Outcome T) (describes : Shape → Type 0) (info : RunInfo) where
   module _ (s : Situation) where

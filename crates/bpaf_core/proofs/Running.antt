@@ -16,7 +16,7 @@ use Rattle.bpaf_words.specs.Arguments.{Given}
 use Rattle.bpaf_words.specs.declared.arg.Arg.{Arg}
 use Rattle.std.specs.List.{AllZip}
 use Rattle.std.specs.Prelude.{codes, flat_map}
-use Rattle.bpaf_words.specs.Line.{HasNoLine, IsLine, marked, unmarked}
+use Rattle.bpaf_words.specs.Line.{HasNoLine, IsLine, with_marker, without_marker}
 use Rattle.bpaf_words.specs.Spelling.{Items, Known, Spells, known_at}
 use Rattle.bpaf_words.proofs.Fronts.{marker_of_line}
 use Rattle.bpaf_words.specs.Splitting.{IsLineByAny, ReadsLine}
@@ -24,7 +24,7 @@ use Rattle.bpaf_words.specs.declared.line.Line.{Line}
 use Rattle.bpaf_words.specs.declared.line.LineFault.{LineFault}
 use Rattle.bpaf_words.specs.declared.line.LineFault.TheVariants as fault
 use Rattle.bpaf_messages.specs.Rendering.{Renders}
-use Rattle.bpaf_core.specs.Ending.{EndsRun, TellsFault}
+use Rattle.bpaf_core.specs.Ending.{EndsRun, TellsNoLine}
 use Rattle.bpaf_core.specs.Run.{Runs, RunsWords, ran, no_line, no_memory}
 
 -- a count that was tested for nothing
@@ -137,7 +137,7 @@ starts_not describes info given words fault.Memory m same none is =
 -- no words have the empty line
 no_words : (known : Known) (line : List Arg) (marker : Option ℕ) → IsLine known [] line marker
     → line ≡ []
-no_words known line marker (unmarked items none spelled) =
+no_words known line marker (without_marker items none spelled) =
     no_items spelled.parts items spelled.spelled spelled.joined
   where
     -- no words have no items
@@ -146,7 +146,7 @@ no_words known line marker (unmarked items none spelled) =
         → items ≡ flat_map (λ xs. xs) parts → items ≡ []
     no_items [] items spelled is = is
     no_items (part ∷ parts) items spelled is = absurd spelled
-no_words known line marker (marked before after items is none spelled) =
+no_words known line marker (with_marker before after items is none spelled) =
     absurd (not_cut before is)
   where
     -- no words can't be cut at one
@@ -157,7 +157,7 @@ no_words known line marker (marked before after items is none spelled) =
 -- what is told where nothing is known but the set name
 pub fault_told : (known : Known) (given : Given) (name : Option (List ℕ)) (s : Situation)
     → given.words ≡ [] → given.name ≡ name → Constructs known given (Ok s) → (m : Message)
-    (f : ParseFailure) → Renders m s f → TellsFault name m f
+    (f : ParseFailure) → Renders m s f → TellsNoLine name m f
 fault_told known given name s none named made m f told = inr (
   made.0,
   no_words known made.0.line made.0.marker
@@ -177,7 +177,7 @@ module _ {T : Type 0} {inner : Outcome T} {describes : Shape → Type 0} {info :
 
     -- words without a line, or no memory for it
     pub line_refused : (m : Message) (f : ParseFailure) → Starts describes info given (Err m)
-        → TellsFault given.name m f → RunsWords T inner describes info given (Err f)
+        → TellsNoLine given.name m f → RunsWords T inner describes info given (Err f)
     line_refused m f refuses tells = ⊎_elim
         (λ (wanted : f ≡ failure.Memory).
         subst (λ x. RunsWords T inner describes info given (Err x)) (sym wanted) no_memory)

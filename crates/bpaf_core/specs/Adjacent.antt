@@ -7,7 +7,7 @@ use Rattle.bpaf_line.specs.declared.error.Message.TheVariants as message
 use Rattle.bpaf_line.specs.declared.failure.ParseFailure.{ParseFailure}
 use Rattle.bpaf_line.specs.declared.failure.ParseFailure.TheVariants as failure
 use Rattle.bpaf_line.specs.Messages.{is_memory}
-use Rattle.bpaf_line.specs.Runs.{IsRunFrom}
+use Rattle.bpaf_line.specs.Stretches.{IsStretchFrom}
 use Rattle.bpaf_line.specs.Situation.{Situation, with_current, with_scope}
 use Rattle.bpaf_laws.specs.AdjacentCommand.{AdjacentReads, AllTaken, IsFirstLeft}
 use Rattle.bpaf_laws.specs.Command.{Called, CommandReads, IsNotOpened, IsOpenedAt, inside, opened}
@@ -47,13 +47,14 @@ abbrev pub GivesBack : ParseFailure → ParseFailure → Situation → Situation
 GivesBack first second back there f t =
     (IsTold second × (f ≡ first) × (t ≡ there)) ⊎ ((f ≡ failure.Memory) × (t ≡ back))
 
--- the attempts from a place on: one over the run of present places; where that fails, what follows
+-- the attempts from a place on: one over the stretch of present places; where that fails, what
+-- follows
 pub data Attempts (T : Type 0) (inner : Outcome T) (ending : Ending) (s : Situation) (from : ℕ)
     : Result T ParseFailure → Situation → Type 0 where
-  first_counts : (v : T) (end : ℕ) (t : Situation) → IsRunFrom s from end
+  first_counts : (v : T) (end : ℕ) (t : Situation) → IsStretchFrom s from end
       → Attempt T inner ending s from end (Ok v) t → Attempts T inner ending s from (Ok v) t
   first_fails : (f : ParseFailure) (end : ℕ) (t : Situation) (r : Result T ParseFailure)
-      (u : Situation) → IsRunFrom s from end → Attempt T inner ending s from end (Err f) t
+      (u : Situation) → IsStretchFrom s from end → Attempt T inner ending s from end (Err f) t
       → Retry T inner ending s from end f t r u → Attempts T inner ending s from r u
 
 -- the attempts behind a word, from which on the scope runs; so it does again after a value

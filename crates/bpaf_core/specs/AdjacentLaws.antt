@@ -1,23 +1,23 @@
 -- Commands that may be adjacent keep to the laws where their inner parsers do; an adjacent one
--- takes one run, and neither its first attempt nor its second catches want of memory.
+-- takes one stretch, and neither its first attempt nor its second catches want of memory.
 use Rattle.std.specs.Prelude.{◌≡◌, ℕ, ◌+◌, ◌<◌, ◌≤◌, Bool, true, false, None, Result, Ok, Err, refl}
 use Rattle.std.proofs.Common.{sym, subst, arith, true≢false}
 use Rattle.bpaf_doc.specs.Shape.{Part}
 use Rattle.bpaf_line.specs.declared.error.Error.{Error}
 use Rattle.bpaf_line.specs.declared.failure.ParseFailure.{ParseFailure}
 use Rattle.bpaf_line.specs.Messages.{is_memory}
-use Rattle.bpaf_line.specs.Runs.{IsRunFrom}
+use Rattle.bpaf_line.specs.Stretches.{IsStretchFrom}
 use Rattle.bpaf_line.specs.Situation.{Situation, is_open, with_current, with_scope}
 use Rattle.bpaf_laws.specs.AdjacentCommand.{AdjacentReads}
 use Rattle.bpaf_laws.specs.Command.{Called, LeavesNothing, inside, opening_words}
 use Rattle.bpaf_laws.specs.Laws.{Keeps, Lawful, Reads, newly}
-use Rattle.bpaf_laws.specs.OneRun.{IsRun}
+use Rattle.bpaf_laws.specs.OneStretch.{IsStretch}
 use Rattle.bpaf_laws.specs.Reading.{Outcome, Readings}
 use Rattle.bpaf_laws.specs.Spared.{IsNotMemory, WithoutMemory}
 use Rattle.bpaf_laws.proofs.AdjacentCommandLaws.{adjacent_read}
 use Rattle.bpaf_laws.proofs.CommandLaws.{keeps_inside, keeps_opened}
 use Rattle.bpaf_laws.proofs.Keeping.{keeps_refl, keeps_trans, keeps_unset}
-use Rattle.bpaf_laws.proofs.OneRun.{keeps_run}
+use Rattle.bpaf_laws.proofs.OneStretch.{keeps_stretch}
 use Rattle.bpaf_core.specs.Adjacent.{AdjacentOutcome, Attempt, Attempts, IsTold, Retry}
 use Rattle.bpaf_core.specs.Adjacent.{counted, failed, first_counts, first_fails, no_path}
 use Rattle.bpaf_core.specs.Adjacent.{nothing_left, second_counts, second_fails, unnamed}
@@ -97,7 +97,7 @@ record Counted (T : Type 0) (inner : Outcome T) (ending : Ending) (s : Situation
 module _ {T : Type 0} {inner : Outcome T} {ending : Ending} (s : Situation) (from : ℕ) where
   -- the second attempt is over fewer places than the first
   retry_counted : (end : ℕ) (f : ParseFailure) (t : Situation) (v : T) (u : Situation)
-      → IsRunFrom s from end → Retry T inner ending s from end f t (Ok v) u → Counted T inner ending s from v u
+      → IsStretchFrom s from end → Retry T inner ending s from end f t (Ok v) u → Counted T inner ending s from v u
   retry_counted end f t v u run (second_counts w stop x told left ran) = record {
     end = stop;
     ordered = left.behind;
@@ -122,14 +122,14 @@ module _ {T : Type 0} {inner : Outcome T} {ending : Ending} {reads : Readings T}
     (ends : LawfulEnding ending) where
   -- what an attempt over present places keeps
   attempt_keeps : (s : Situation) (from end : ℕ) (r : Result T ParseFailure) (t : Situation)
-      → IsRunFrom s from end → Attempt T inner ending s from end r t → Keeps s t
+      → IsStretchFrom s from end → Attempt T inner ending s from end r t → Keeps s t
   attempt_keeps s from end r t run ran =
-      keeps_trans s (with_scope s from end) t (keeps_run s from end run.present)
+      keeps_trans s (with_scope s from end) t (keeps_stretch s from end run.present)
       (runs_keeps law ends (with_scope s from end) r t ran)
 
   -- what a retry that fails keeps
   retry_keeps : (s : Situation) (from end : ℕ) (f g : ParseFailure) (t u : Situation)
-      → IsRunFrom s from end → Attempt T inner ending s from end (Err f) t
+      → IsStretchFrom s from end → Attempt T inner ending s from end (Err f) t
       → Retry T inner ending s from end f t (Err g) u → Keeps s u
   retry_keeps s from end f g t u run ran (nothing_left told taken) =
       attempt_keeps s from end (Err f) t run ran
@@ -151,7 +151,7 @@ module _ {T : Type 0} {inner : Outcome T} {ending : Ending} {reads : Readings T}
       (runs_keeps law ends (with_scope s from count.end) (Ok v) u count.ran).context
 
   module _ (called : Called) (shows : Part → Type 0) where
-    -- what an adjacent command answers is a reading, whose share is one run
+    -- what an adjacent command answers is a reading, whose share is one stretch
     adjacent_reads : (s t : Situation) (v : T) → AdjacentOutcome T inner ending called shows s (Ok v) t
         → Reads T (AdjacentReads T (opening_words called) reads) s v t
     adjacent_reads s t v (counted w p u at runs) =
@@ -181,12 +181,12 @@ module _ {T : Type 0} {inner : Outcome T} {ending : Ending} {reads : Readings T}
     }
     either_lawful false = command_lawful law ends called shows
 
-    -- a value of an adjacent command newly took one run
-    pub takes_one_run : (adjacent : Bool) (s t : Situation) (v : T)
+    -- a value of an adjacent command newly took one stretch
+    pub takes_one_stretch : (adjacent : Bool) (s t : Situation) (v : T)
         → EitherCommandOutcome adjacent T inner ending called shows s (Ok v) t → adjacent ≡ true
-        → IsRun (newly s t)
-    takes_one_run true s t v outcome is = (adjacent_reads s t v outcome).reading.run
-    takes_one_run false s t v outcome is = absurd (true≢false (sym is))
+        → IsStretch (newly s t)
+    takes_one_stretch true s t v outcome is = (adjacent_reads s t v outcome).reading.stretch
+    takes_one_stretch false s t v outcome is = absurd (true≢false (sym is))
 
     -- a value of a plain one leaves nothing in the scope that it was given
     pub plain_leaves_nothing : (adjacent : Bool) (s t : Situation) (v : T)

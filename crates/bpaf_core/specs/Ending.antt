@@ -104,8 +104,8 @@ PassesOrTells describes info m s f t = Tells describes info m s f t
 
 -- what is told of words without a line: the message, where nothing is known but the set name; or
 -- want of memory
-abbrev pub TellsFault : Option (List ℕ) → Message → ParseFailure → Type 0
-TellsFault name m f =
+abbrev pub TellsNoLine : Option (List ℕ) → Message → ParseFailure → Type 0
+TellsNoLine name m f =
     (f ≡ failure.Memory)
     ⊎ ((context : Context) × (context.line ≡ []) × (context.name ≡ name)
     × Renders m (beginning context) f)

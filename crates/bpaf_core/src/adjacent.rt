@@ -83,8 +83,8 @@ impl<T: Drop, P: Parser<T>> Run<'_, T, P> {
         }
     }
 
-    /// An attempt over the unbroken run of present places from one on, and what follows where that
-    /// fails.
+    /// An attempt over the unbroken stretch of present places from one on, and what follows where
+    /// that fails.
     fn attempts(&self, state: &mut State, from: usize) -> Result<T, ParseFailure>
         requires can { P.can_eval self.now.inner.now }
         requires inside { from ≤ length state.old.context.line }

@@ -10,7 +10,7 @@ use bpaf_text::FromList;
 use std::alloc::{AllocError, Global};
 use std::marker::PhantomData;
 
-/// What is filled from the values of steps, until one stops; refused also where it wants memory.
+/// What is filled from the values of turns, until one stops; refused also where it wants memory.
 fn collect_values<T: Drop, C: FromList<T>, P: Parser<T>>(
     parser: &P,
     state: &mut State,

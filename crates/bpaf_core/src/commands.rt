@@ -106,9 +106,9 @@ impl<T, P: Drop> ParseCommand<T, P> {
     /// The command over the items that stand behind its word without a gap, so that other commands
     /// may follow it (bpaf's `ParseCommand::adjacent`). It takes no memory.
     ///
-    /// The parser runs over the unbroken run of present items behind the word. Where that fails, it
-    /// runs once more, over those before the first one that it left; where this fails too, the
-    /// first failure is the answer.
+    /// The parser runs over the unbroken stretch of present items behind the word. Where that
+    /// fails, it runs once more, over those before the first one that it left; where this fails
+    /// too, the first failure is the answer.
     ///
     /// ```text
     /// let turn = construct!(left, degrees).to_options(alloc)?.command("turn")?.adjacent();
@@ -234,14 +234,14 @@ impl<T: Drop, P: Parser<T>> ParseCommand<T, P> {
 ///
 /// Where the first present item in scope isn't its word, its item is missing. A refusal of the
 /// inner run is ParseFailure, which nothing but `catch` catches; want of memory stays that. An
-/// adjacent command runs over the unbroken run of present items behind its word, or over a part of
-/// it, and leaves what follows to others.
+/// adjacent command runs over the unbroken stretch of present items behind its word, or over a part
+/// of it, and leaves what follows to others.
 impl<T: Drop, P: Parser<T>> Parser<T> for ParseCommand<T, P> {
     ghost use Rattle.std.specs.Prelude.{◌≡◌, IfOk, true, false};
     ghost use Rattle.bpaf_laws.specs.Command.{CommandDescribes, CommandPart, LeavesNothing};
     ghost use Rattle.bpaf_laws.specs.Command.{opening_words};
     ghost use Rattle.bpaf_laws.specs.Laws.{newly};
-    ghost use Rattle.bpaf_laws.specs.OneRun.{IsRun};
+    ghost use Rattle.bpaf_laws.specs.OneStretch.{IsStretch};
     ghost use Rattle.bpaf_laws.specs.Spared.{IsNotMemory, WithoutMemory};
     ghost use Rattle.bpaf_core.specs.Adjacent.{EitherCommandOutcome, EitherCommandReads};
     ghost use Rattle.bpaf_core.specs.Ending.{EndsRun};
@@ -268,8 +268,8 @@ impl<T: Drop, P: Parser<T>> Parser<T> for ParseCommand<T, P> {
             state.old result state.new }
         ensures command_leaves_nothing { self.now.adjacent ≡ false →
             IfOk result (λ _. LeavesNothing state.old state.new) }
-        ensures takes_one_run { self.now.adjacent ≡ true →
-            IfOk result (λ _. IsRun (newly state.old state.new)) }
+        ensures takes_one_stretch { self.now.adjacent ≡ true →
+            IfOk result (λ _. IsStretch (newly state.old state.new)) }
         ensures memory_is_never_caught { IsNotMemory result →
             EitherCommandOutcome self.now.adjacent T
             (WithoutMemory (P.outcome self.now.inner))

@@ -9,7 +9,7 @@ use bpaf_line::{Error, State};
 use std::alloc::{AllocError, Global};
 use std::marker::PhantomData;
 
-/// The number of values, until a step stops or a value took nothing, which is counted.
+/// The number of values, until a turn stops or a value took nothing, which is counted.
 fn count_values<T: Drop, P: Parser<T>>(parser: &P, state: &mut State) -> Result<usize, Error>
     requires { P.can_eval parser.now }
     ensures { CountOutcome (P.outcome parser.now) state.old result state.new }
@@ -27,7 +27,7 @@ fn count_values<T: Drop, P: Parser<T>>(parser: &P, state: &mut State) -> Result<
     Ok(count)
 }
 
-/// The last value before a step stops, or one that took nothing; without a value what the parser answers
+/// The last value before a turn stops, or one that took nothing; without a value what the parser answers
 /// once more.
 fn last_value<T: Drop, P: Parser<T>>(parser: &P, state: &mut State) -> Result<T, Error>
     requires { P.can_eval parser.now }
@@ -55,8 +55,8 @@ pub struct ParseCount<P, T> {
     pub inner_res: PhantomData<T>,
 }
 
-/// The number of inner values, until a step stops or a value took nothing, which is counted. Every error
-/// at which no step stops is refused, with the state that it left; so is want of memory.
+/// The number of inner values, until a turn stops or a value took nothing, which is counted. Every error
+/// at which no turn stops is refused, with the state that it left; so is want of memory.
 impl<T: Drop, P: Parser<T>> Parser<usize> for ParseCount<P, T> {
     ghost use Rattle.bpaf_laws.specs.Repeat.{CountOutcome, CountReads, ManyDescribes};
     ghost use Rattle.bpaf_laws.proofs.RepeatLaws.{count_lawful};
@@ -92,8 +92,8 @@ pub struct ParseLast<P> {
     pub inner: P,
 }
 
-/// The last inner value before a step stops, or one that took nothing. Without a value the inner parser
-/// is evaluated once more, and what it answers is the answer. Every error at which no step stops is
+/// The last inner value before a turn stops, or one that took nothing. Without a value the inner parser
+/// is evaluated once more, and what it answers is the answer. Every error at which no turn stops is
 /// refused, with the state that it left; so is want of memory.
 impl<T: Drop, P: Parser<T>> Parser<T> for ParseLast<P> {
     ghost use Rattle.bpaf_laws.specs.Repeat.{LastOutcome, LastReads, SomeDescribes};

@@ -15,7 +15,7 @@ impl Parser<ExtraParams> for Info {
     ghost use Rattle.std.specs.Result.{IfErr};
     ghost use Rattle.bpaf_core.specs.Leaves.{AsksForNeither};
     ghost use Rattle.bpaf_parts.specs.Extra.{ExtraOutcome, ExtraReads, extra_shape};
-    ghost use Rattle.bpaf_parts.specs.ExtraLaws.{extra_lawful};
+    ghost use Rattle.bpaf_parts.proofs.ExtraLaws.{extra_lawful};
 
     ghost can_eval = { λ info. Unit {0} };
 

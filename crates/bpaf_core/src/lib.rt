@@ -14,13 +14,13 @@
 //!   (specs/Environment.antt).
 //! - [`ParseMap`], [`ParseWith`] and [`ParseGuard`] change or check a value (specs/Transform.antt);
 //!   [`ParseOptional`], [`ParseFallback`] and [`ParseFallbackWith`] stand in for one that isn't there
-//!   (specs/Step.antt, specs/Default.antt). By clauses of their `eval` none of these catches want of
+//!   (specs/Turn.antt, specs/Default.antt). By clauses of their `eval` none of these catches want of
 //!   memory, and what stands in takes nothing (specs/Spared.antt).
-//! - [`ParseMany`], [`ParseSome`], [`ParseCollect`], [`ParseCount`] and [`ParseLast`] step one
-//!   parser until a step stops (specs/Repeat.antt); [`bpaf_text::FromList`] is what a list of values
-//!   fills. Each step but the first takes an item, so there are no more values than items present at
-//!   the start and one (clause `repeat_is_bounded`), and none catches want of memory (clause
-//!   `memory_is_never_caught`).
+//! - [`ParseMany`], [`ParseSome`], [`ParseCollect`], [`ParseCount`] and [`ParseLast`] take
+//!   turns of one parser until one stops (specs/Repeat.antt); [`bpaf_text::FromList`] is what a list
+//!   of values fills. Each turn but the first takes an item, so there are no more values than items
+//!   present at the start and one (clause `repeat_is_bounded`), and none catches want of memory
+//!   (clause `memory_is_never_caught`).
 //! - [`ParseOrElse`] is one of two parsers, both evaluated from the same state: the table of
 //!   [`this_or_that`] tells which answer stands. That function, [`Start`], [`Branch`], [`or_meta`] and
 //!   [`is_want`] are for the crates of this repository, not for callers. The branch that took the

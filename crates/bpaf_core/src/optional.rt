@@ -2,7 +2,7 @@
 ghost use Rattle.std.specs.Prelude.{◌≡◌, IfOk, true};
 ghost use Rattle.bpaf_doc.specs.Shape.{shape_of};
 ghost use Rattle.bpaf_laws.specs.Default.{OptionalDescribes};
-ghost use Rattle.bpaf_laws.specs.Step.{StepOutcome};
+ghost use Rattle.bpaf_laws.specs.Turn.{TurnOutcome};
 
 use crate::parser::Parser;
 use bpaf_doc::Meta;
@@ -10,7 +10,7 @@ use bpaf_line::{Error, State};
 use bpaf_parts::stops_step;
 use std::alloc::{AllocError, Global};
 
-/// One step of an optional value or a repeat (bpaf's `parse_option`, in `structs.rs`): Some of a
+/// One turn of an optional value or a repeat (bpaf's `parse_option`, in `structs.rs`): Some of a
 /// value, or None where it stops.
 ///
 /// `catches` tells that it stops at every error but those of wrong input and want of memory, `first`
@@ -22,7 +22,7 @@ pub(crate) fn parse_option<T: Drop, P: Parser<T>>(
     first: bool,
 ) -> Result<Option<T>, Error>
     requires { P.can_eval parser.now }
-    ensures { StepOutcome (P.outcome parser.now) catches first state.old result state.new }
+    ensures { TurnOutcome (P.outcome parser.now) catches first state.old result state.new }
 {
     let mark = state.mark();
     let left = state.len();
@@ -92,15 +92,15 @@ impl<T: Drop, P: Parser<T>> Parser<Option<T>> for ParseOptional<P> {
 
     ghost reads = { λ p. OptionalReads (P.reads p.inner) };
 
-    ghost outcome = { λ p. StepOutcome (P.outcome p.inner) p.catch true };
+    ghost outcome = { λ p. TurnOutcome (P.outcome p.inner) p.catch true };
 
     fn eval(&self, state: &mut State) -> Result<Option<T>, Error>
         requires { P.can_eval self.now.inner }
-        ensures outcome { StepOutcome (P.outcome self.now.inner) self.now.catch true
+        ensures outcome { TurnOutcome (P.outcome self.now.inner) self.now.catch true
             state.old result state.new }
         ensures default_takes_nothing { NoneTakesNothing state.old result state.new }
         ensures memory_is_never_caught { IsNotMemory result →
-            StepOutcome (WithoutMemory (P.outcome self.now.inner)) self.now.catch true
+            TurnOutcome (WithoutMemory (P.outcome self.now.inner)) self.now.catch true
             state.old result state.new }
     {
         parse_option(&self.inner, state, self.catch, true)

@@ -9,7 +9,7 @@ ghost use Rattle.bpaf_core.specs.Known.{ReadsLineOf, ShowsNames, Starts, TellsOr
 ghost use Rattle.bpaf_core.specs.Dealt.{IsDealtOut};
 ghost use Rattle.bpaf_core.specs.Run.{IsNotWant, RunsWords};
 ghost use Rattle.bpaf_laws.specs.Spared.{WithoutMemory};
-ghost use Rattle.bpaf_core.specs.Ending.{TellsFault};
+ghost use Rattle.bpaf_core.specs.Ending.{TellsNoLine};
 ghost use Rattle.bpaf_core.specs.Refusals.{IsOneOfTwelve};
 ghost use Rattle.std.specs.Result.{IfErr};
 
@@ -301,7 +301,7 @@ impl<T: Drop, P: Parser<T>> OptionParser<T, P> {
 /// What is told of words that have no line: there is no state, so one without words stands for it,
 /// of the same set name. Or want of memory for that.
 fn tell_fault(alloc: Global, args: Args<'_>, message: Message) -> ParseFailure
-    ensures { TellsFault (name_of args.entry) message result }
+    ensures { TellsNoLine (name_of args.entry) message result }
 {
     let words: [&str; 0] = [];
     match State::construct(alloc, renamed(Args::from(&words), args.name()), &[], &[]) {

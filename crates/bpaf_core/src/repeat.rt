@@ -17,7 +17,7 @@ fn push_value<T: Drop>(values: &mut Vec<T>, value: T) -> Result<(), AllocError>
     Ok(())
 }
 
-/// The values of steps, until one stops; an error of a step is the answer.
+/// The values of turns, until one stops; an error of a turn is the answer.
 pub(crate) fn values_until_stop<T: Drop, P: Parser<T>>(
     parser: &P,
     state: &mut State,
@@ -74,7 +74,7 @@ impl<P> ParseMany<P> {
     }
 }
 
-/// The inner values in order, until a step stops: where the inner parser answers Missing and took
+/// The inner values in order, until a turn stops: where the inner parser answers Missing and took
 /// nothing, or another error that can be caught, or a value after the first that took nothing. Every
 /// other error is refused, with the state that it left; so is want of memory.
 impl<T: Drop, P: Parser<T>> Parser<Vec<T>> for ParseMany<P> {
@@ -111,7 +111,7 @@ impl<T: Drop, P: Parser<T>> Parser<Vec<T>> for ParseMany<P> {
     ghost lawful = { λ p. many_lawful (P.lawful p.inner) p.catch };
 }
 
-/// The values of steps, until one stops; without a value it refuses with ParseSome and the message.
+/// The values of turns, until one stops; without a value it refuses with ParseSome and the message.
 fn some_values<T: Drop, P: Parser<T>>(
     parser: &P,
     state: &mut State,

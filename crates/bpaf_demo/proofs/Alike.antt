@@ -13,11 +13,11 @@ use Rattle.bpaf_laws.specs.Product.{BothOutcome, ProductOutcome}
 use Rattle.bpaf_laws.specs.Reading.{Outcome}
 use Rattle.bpaf_laws.specs.Repeat.{ManyOutcome}
 use Rattle.bpaf_parts.specs.Info.{plain_info}
-use Rattle.bpaf_exact.specs.Leaves.{WordRan, flag_field, argument_field, word_field}
+use Rattle.bpaf_exact.specs.Leaves.{WordEval, flag_field, argument_field, word_field}
 use Rattle.bpaf_exact.specs.OneView.{Alike, HasOneView, pair_view}
 use Rattle.bpaf_exact.specs.Record.{RecordValue}
-use Rattle.bpaf_exact.specs.Shape.{Shape, ShapeLaw, alone_shape, both_shape, many_shape}
-use Rattle.bpaf_exact.specs.Shape.{product_roles, product_reading}
+use Rattle.bpaf_exact.specs.FlatForm.{FlatForm, FormLaw, flat_alone, flat_both, flat_many}
+use Rattle.bpaf_exact.specs.FlatForm.{product_roles, product_reading}
 use Rattle.bpaf_exact.specs.Wrappers.{map_closure}
 use Rattle.bpaf_exact.proofs.Arguments.{argument_field_law}
 use Rattle.bpaf_exact.proofs.Flags.{flag_field_law}
@@ -25,12 +25,12 @@ use Rattle.bpaf_exact.proofs.OneView.{flag_view, argument_view, word_view, many_
 use Rattle.bpaf_exact.proofs.OneView.{both_view, alone_view, con_view, record_looks_one}
 use Rattle.bpaf_exact.proofs.Positionals.{word_field_law}
 use Rattle.bpaf_exact.proofs.SameParts.{one_shape}
-use Rattle.bpaf_exact.proofs.Shape.{alone_shape_law, both_shape_law, con_shape_law, field_shape_law}
+use Rattle.bpaf_exact.proofs.FlatForm.{flat_alone_law, flat_both_law, flat_con_law, flat_field_law}
 use Rattle.bpaf_exact.proofs.Twins.{many_field_law}
 use Rattle.bpaf_record.proofs.OneLine.{one_context}
 use Rattle.bpaf_demo.specs.declared.options.Options.{Options}
-use Rattle.bpaf_demo.specs.Exact.{FieldValues, IsOptionsOf, fields_shape, files_field}
-use Rattle.bpaf_demo.specs.Exact.{num_field, options_of, options_shape, verbose_field}
+use Rattle.bpaf_demo.specs.Exact.{FieldValues, IsOptionsOf, values_form, files_field}
+use Rattle.bpaf_demo.specs.Exact.{num_field, options_of, options_form, verbose_field}
 use Rattle.bpaf_demo.specs.Lines.{file_lines, line, lines, truth}
 use Rattle.bpaf_demo.specs.Record.{IsKept, MeansText, String, num_names, number_key}
 use Rattle.bpaf_demo.specs.Record.{program_given, program_known, verbose_names}
@@ -39,20 +39,20 @@ use Rattle.bpaf_demo.specs.Shown.{program_shape}
 -- Laws.
 
 -- the switch, before it is a field
-abbrev switch_shape : Shape Bool
-switch_shape = flag_field IsKept (key_named verbose_names) true (Some false)
+abbrev switch_form : FlatForm Bool
+switch_form = flag_field IsKept (key_named verbose_names) true (Some false)
 
 -- so the number
-abbrev number_shape : Shape ℕ
-number_shape = argument_field (SpellsUnsigned 64) number_key
+abbrev number_form : FlatForm ℕ
+number_form = argument_field (SpellsUnsigned 64) number_key
 
 -- so the files
-abbrev words_shape : Shape (Vec String)
-words_shape = many_shape (word_field MeansText)
+abbrev words_form : FlatForm (Vec String)
+words_form = flat_many (word_field MeansText)
 
 -- the number and the files
-abbrev others_shape : Shape (ℕ × Vec String)
-others_shape = both_shape (num_names ∷ []) [] num_field (alone_shape files_field)
+abbrev others_form : FlatForm (ℕ × Vec String)
+others_form = flat_both (num_names ∷ []) [] num_field (flat_alone files_field)
 
 -- what the switch answers
 abbrev VerboseOutcome : Outcome Bool
@@ -64,7 +64,7 @@ NumOutcome = ArgumentOutcome (SpellsUnsigned 64) number_key
 
 -- what the files answer
 abbrev FilesOutcome : Outcome (Vec String)
-FilesOutcome = ManyOutcome (WordRan String MeansText) false
+FilesOutcome = ManyOutcome (WordEval String MeansText) false
 
 -- what the last two fields answer
 abbrev OthersOutcome : Outcome (ℕ × Vec String)
@@ -78,32 +78,32 @@ FieldsOutcome = BothOutcome VerboseOutcome OthersOutcome
 abbrev OptionsOutcome : Outcome Options
 OptionsOutcome = ProductOutcome FieldsOutcome (λ x v. v ≡ options_of x)
 
--- the switch keeps to the laws of its shape
-switch_law : ShapeLaw VerboseOutcome (verbose_names ∷ []) switch_shape
+-- the switch keeps to the laws of its form
+switch_law : FormLaw VerboseOutcome (verbose_names ∷ []) switch_form
 switch_law = flag_field_law Bool IsKept (key_named verbose_names) true (Some false)
 
 -- so does the number
-number_law : ShapeLaw NumOutcome (num_names ∷ []) number_shape
+number_law : FormLaw NumOutcome (num_names ∷ []) number_form
 number_law = argument_field_law ℕ (SpellsUnsigned 64) number_key
 
 -- so do the files
-files_law : ShapeLaw FilesOutcome [] words_shape
-files_law = many_field_law String (WordRan String MeansText) false [] (word_field MeansText)
+files_law : FormLaw FilesOutcome [] words_form
+files_law = many_field_law String (WordEval String MeansText) false [] (word_field MeansText)
     (word_field_law String MeansText)
 
 -- so does the record
-options_law : ShapeLaw OptionsOutcome (verbose_names ∷ num_names ∷ []) options_shape
+options_law : FormLaw OptionsOutcome (verbose_names ∷ num_names ∷ []) options_form
 options_law =
-    con_shape_law FieldValues Options FieldsOutcome (λ x v. v ≡ options_of x)
-    (verbose_names ∷ num_names ∷ []) fields_shape
-    (both_shape_law Bool (ℕ × Vec String) VerboseOutcome OthersOutcome (verbose_names ∷ [])
-    (num_names ∷ []) verbose_field others_shape
-    (field_shape_law Bool VerboseOutcome (verbose_names ∷ []) switch_shape switch_law)
-    (both_shape_law ℕ (Vec String) NumOutcome FilesOutcome (num_names ∷ []) [] num_field
-    (alone_shape files_field)
-    (field_shape_law ℕ NumOutcome (num_names ∷ []) number_shape number_law)
-    (alone_shape_law (Vec String) FilesOutcome [] files_field
-    (field_shape_law (Vec String) FilesOutcome [] words_shape files_law))))
+    flat_con_law FieldValues Options FieldsOutcome (λ x v. v ≡ options_of x)
+    (verbose_names ∷ num_names ∷ []) values_form
+    (flat_both_law Bool (ℕ × Vec String) VerboseOutcome OthersOutcome (verbose_names ∷ [])
+    (num_names ∷ []) verbose_field others_form
+    (flat_field_law Bool VerboseOutcome (verbose_names ∷ []) switch_form switch_law)
+    (flat_both_law ℕ (Vec String) NumOutcome FilesOutcome (num_names ∷ []) [] num_field
+    (flat_alone files_field)
+    (flat_field_law ℕ NumOutcome (num_names ∷ []) number_form number_law)
+    (flat_alone_law (Vec String) FilesOutcome [] files_field
+    (flat_field_law (Vec String) FilesOutcome [] words_form files_law))))
 
 -- Views.
 
@@ -122,7 +122,7 @@ one_number text v w a b = a.value_of ∙ sym b.value_of
 -- the switch is seen as it is
 verbose_view : HasOneView (λ verbose. verbose) verbose_field
 verbose_view =
-    field_view Bool Bool (λ verbose. verbose) VerboseOutcome (verbose_names ∷ []) switch_shape
+    field_view Bool Bool (λ verbose. verbose) VerboseOutcome (verbose_names ∷ []) switch_form
     switch_law
     (flag_view Bool Bool (λ verbose. verbose) IsKept (λ kept v w a b. a ∙ sym b)
     (key_named verbose_names) true (Some false))
@@ -130,14 +130,14 @@ verbose_view =
 -- so is the number
 num_view : HasOneView (λ num. num) num_field
 num_view =
-    field_view ℕ ℕ (λ num. num) NumOutcome (num_names ∷ []) number_shape number_law
+    field_view ℕ ℕ (λ num. num) NumOutcome (num_names ∷ []) number_form number_law
     (argument_view ℕ ℕ (λ num. num) (SpellsUnsigned 64) one_number number_key)
 
 -- of the files the texts are seen
 files_view : HasOneView texts_of files_field
 files_view =
-    field_view (Vec String) (List (List ℕ)) texts_of FilesOutcome [] words_shape files_law
-    (many_view String (List ℕ) string_bytes (WordRan String MeansText) [] (word_field MeansText)
+    field_view (Vec String) (List (List ℕ)) texts_of FilesOutcome [] words_form files_law
+    (many_view String (List ℕ) string_bytes (WordEval String MeansText) [] (word_field MeansText)
     (word_field_law String MeansText)
     (word_view String (List ℕ) string_bytes MeansText (λ text v w a b. a ∙ sym b)))
 
@@ -149,19 +149,19 @@ lines_of_seen x y same =
     ++ file_lines seen.1.1) same
 
 -- of the options the lines are seen
-options_view : HasOneView lines options_shape
+options_view : HasOneView lines options_form
 options_view =
     con_view FieldValues Options (Bool × (ℕ × List (List ℕ))) (List ℕ) fields_view lines
     (map_closure (λ x v. v ≡ options_of x))
     (record {
       same = λ x y v w e f g. ap lines f ∙ (lines_of_seen x y e ∙ sym (ap lines g));
       apart = λ x y v e f n. n;
-    }) fields_shape
+    }) values_form
     (both_view Bool (ℕ × Vec String) Bool (ℕ × List (List ℕ)) (λ verbose. verbose)
     (pair_view (λ num. num) texts_of) (verbose_names ∷ []) (num_names ∷ []) verbose_field
-    others_shape verbose_view
+    others_form verbose_view
     (both_view ℕ (Vec String) ℕ (List (List ℕ)) (λ num. num) texts_of (num_names ∷ []) []
-    num_field (alone_shape files_field) num_view
+    num_field (flat_alone files_field) num_view
     (alone_view (Vec String) (List (List ℕ)) texts_of files_field files_view)))
 
 -- Lines.
@@ -182,7 +182,7 @@ same_lines words texts v w first second =
     let one = same_context words texts first.context second.context first.is_context
     second.is_context in
     record_looks_one Options (List ℕ) lines OptionsOutcome (verbose_names ∷ num_names ∷ [])
-    options_shape refl options_law options_view second.context v w
-    (subst (λ context. RecordValue (product_roles options_shape)
-    (product_reading options_shape).value context v) one first.read)
+    options_form refl options_law options_view second.context v w
+    (subst (λ context. RecordValue (product_roles options_form)
+    (product_reading options_form).value context v) one first.read)
     second.read

@@ -8,7 +8,8 @@ use Rattle.bpaf_program.specs.Ending.{printed_whole, refused, shown, shown_in_pa
 use Rattle.bpaf_demo.specs.declared.options.Options.{Options}
 use Rattle.bpaf_demo.specs.Lines.{lines}
 use Rattle.bpaf_demo.specs.Record.{String}
-use Rattle.bpaf_demo.specs.Running.{AnswersLines, IsTextOrWant, Prints, RunsExactly, memory_wanted}
+use Rattle.bpaf_demo.specs.Running.{AnswersLines, IsTextOrWant, Prints, PrintsExactly}
+use Rattle.bpaf_demo.specs.Running.{memory_wanted}
 use Rattle.bpaf_demo.specs.Running.{write_failed, written}
 
 module _ (out out_after err err_after : Option (List ℕ)) where
@@ -31,10 +32,10 @@ module _ (out out_after err err_after : Option (List ℕ)) where
   prints r status (told {f = f} {status = n} is) v own = wants f n is own v
 
   -- so the run is exact
-  pub runs_exactly : (words : List (List ℕ)) (r : Result String ParseFailure) (status : ℕ)
+  pub prints_exactly : (words : List (List ℕ)) (r : Result String ParseFailure) (status : ℕ)
       → IsPrinted out out_after err err_after string_bytes r status → AnswersLines words r
-      → RunsExactly words status out out_after err err_after
-  runs_exactly words r status is answers = record {
+      → PrintsExactly words status out out_after err err_after
+  prints_exactly words r status is answers = record {
     alike = answers.alike;
     prints = λ v value. prints r status is v (answers.complete v value);
   }

@@ -6,7 +6,7 @@ use Rattle.std.proofs.lemmas.List.Elements.{All-map}
 use Rattle.std.proofs.lemmas.Str.{IsUtf8-string_bytes}
 use Rattle.bpaf_doc.specs.declared.doc.Piece.{Piece}
 use Rattle.bpaf_doc.specs.Names.{Names}
-use Rattle.bpaf_doc.specs.Shape.{Shape as ShownShape, And, Many, Optional, members}
+use Rattle.bpaf_doc.specs.Shape.{Shape, And, Many, Optional, members}
 use Rattle.bpaf_text.specs.Meaning.{SpellsUnsigned}
 use Rattle.bpaf_words.specs.Arguments.{Given}
 use Rattle.bpaf_line.specs.Constructing.{IsContext}
@@ -18,15 +18,16 @@ use Rattle.bpaf.specs.Positional.{positional_shape}
 use Rattle.bpaf_exact.specs.Leaves.{argument_field, flag_field}
 use Rattle.bpaf_exact.specs.Pieces.{Cut}
 use Rattle.bpaf_exact.specs.Record.{RecordValue, line_cells}
-use Rattle.bpaf_exact.specs.Shape.{Shape, alone_shape, both_shape, con_shape, field_shape}
-use Rattle.bpaf_exact.specs.Shape.{many_shape, product_reading, product_roles, record_shape, unless}
+use Rattle.bpaf_exact.specs.FlatForm.{FlatForm, flat_alone, flat_both, flat_con, flat_field}
+use Rattle.bpaf_exact.specs.FlatForm.{flat_many, product_reading, product_roles, flat_record}
+use Rattle.bpaf_exact.specs.FlatForm.{unless}
 use Rattle.bpaf_exact.specs.Wrappers.{map_closure}
 use Rattle.bpaf_record.specs.Positional.{positional_field}
-use Rattle.bpaf_record.specs.Record.{AnswersExactly as ParserAnswersExactly, EachHasValue}
+use Rattle.bpaf_record.specs.Record.{AnswersExactly, EachHasValue}
 use Rattle.bpaf_record.specs.Record.{HasWholeLine, IsValueOf, IsValueOrWant, PiecesOf}
 use Rattle.bpaf_record.specs.Record.{is_flat_record}
 use Rattle.bpaf_demo.specs.declared.options.Options.{Options}
-use Rattle.bpaf_demo.specs.Exact.{AnswersExactly, FieldValues, IsOptionsOf, fields_shape}
+use Rattle.bpaf_demo.specs.Exact.{AnswersOptionsExactly, FieldValues, IsOptionsOf, values_form}
 use Rattle.bpaf_demo.specs.Record.{IsKept, MeansText, String, program_given}
 use Rattle.bpaf_demo.proofs.Dealing.{AreProgramParts, HaveProgramNames, Makes, MakesOptions, Parts}
 use Rattle.bpaf_demo.proofs.Dealing.{RecordDescribes, known_parts, program_context}
@@ -39,34 +40,34 @@ are_texts words =
 
 module _ (makes : Makes) (parts : Parts) where
   -- the switch, as a flat record sees it
-  abbrev VerboseShape : Shape Bool
-  VerboseShape =
+  abbrev VerboseForm : FlatForm Bool
+  VerboseForm =
       flag_field IsKept parts.verbose.named parts.verbose.present parts.verbose.absent
 
   -- the number
-  abbrev NumShape : Shape ℕ
-  NumShape = argument_field (SpellsUnsigned 64) parts.num
+  abbrev NumForm : FlatForm ℕ
+  NumForm = argument_field (SpellsUnsigned 64) parts.num
 
   -- the files
-  abbrev FilesShape : Shape (Vec String)
-  FilesShape =
-      unless parts.files.catch (many_shape (positional_field MeansText parts.files.inner.position))
+  abbrev FilesForm : FlatForm (Vec String)
+  FilesForm =
+      unless parts.files.catch (flat_many (positional_field MeansText parts.files.inner.position))
 
   -- the number and the files
-  abbrev OthersShape : Shape (ℕ × Vec String)
-  OthersShape =
-      both_shape (parts.num.named.names ∷ []) [] (field_shape NumShape)
-      (alone_shape (field_shape FilesShape))
+  abbrev OthersForm : FlatForm (ℕ × Vec String)
+  OthersForm =
+      flat_both (parts.num.named.names ∷ []) [] (flat_field NumForm)
+      (flat_alone (flat_field FilesForm))
 
   -- the fields
-  abbrev FieldsShape : Shape FieldValues
-  FieldsShape =
-      both_shape (parts.verbose.named.names ∷ []) (parts.num.named.names ∷ [])
-      (field_shape VerboseShape) OthersShape
+  abbrev ValuesForm : FlatForm FieldValues
+  ValuesForm =
+      flat_both (parts.verbose.named.names ∷ []) (parts.num.named.names ∷ [])
+      (flat_field VerboseForm) OthersForm
 
   -- the record's parser
-  abbrev pub PartsShape : Shape Options
-  PartsShape = con_shape (map_closure makes) FieldsShape
+  abbrev pub PartsForm : FlatForm Options
+  PartsForm = flat_con (map_closure makes) ValuesForm
 
   -- its keys
   abbrev pub parts_keys : List Names
@@ -75,18 +76,18 @@ module _ (makes : Makes) (parts : Parts) where
   module _ {verbose_help num_help : List Piece}
       (names : HaveProgramNames parts verbose_help num_help) where
     -- it has the fields of the program's record
-    same_fields : FieldsShape ≡ fields_shape
+    same_fields : ValuesForm ≡ values_form
     same_fields =
         rw (names.absent, names.present, names.verbose, names.num, names.catch, names.position) refl
 
     -- it is a flat record
-    pub program_flat : is_flat_record PartsShape parts_keys parts.info ≡ true
+    pub program_flat : is_flat_record PartsForm parts_keys parts.info ≡ true
     program_flat = rw (same_fields, names.verbose, names.num, names.info) refl
 
   module _ (program : AreProgramParts parts) (no_others : MakesOptions makes)
       (words : List (List ℕ)) where
     -- a shape that the parser shows
-    abbrev shown : ShownShape
+    abbrev shown : Shape
     shown =
         And (members (flag_shape parts.verbose.named parts.verbose.absent
         ∷ argument_shape parts.num
@@ -100,15 +101,15 @@ module _ (makes : Makes) (parts : Parts) where
         (_, (_, _, refl, (_, _, refl, (_, (_, refl, refl), refl), refl), refl), refl)
 
     -- a value of what the constructor makes of fields, on a line
-    abbrev ValueOf : Shape FieldValues → Context → Options → Type 0
+    abbrev ValueOf : FlatForm FieldValues → Context → Options → Type 0
     ValueOf fields context v =
-        RecordValue (product_roles (record_shape (con_shape (map_closure makes) fields)))
-        (product_reading (record_shape (con_shape (map_closure makes) fields))).value context v
+        RecordValue (product_roles (flat_record (flat_con (map_closure makes) fields)))
+        (product_reading (flat_record (flat_con (map_closure makes) fields))).value context v
 
     -- a value of the parser's record on the words
     abbrev IsValue : Options → Type 0
     IsValue =
-        IsValueOf (RecordDescribes makes parts) parts.info PartsShape
+        IsValueOf (RecordDescribes makes parts) parts.info PartsForm
         (program_given words)
 
     -- is one of the program's
@@ -132,8 +133,8 @@ module _ (makes : Makes) (parts : Parts) where
 
     -- the pieces of a value of the program's record, on each of which its field has a value
     pieces_of : (v : Options) → IsOptionsOf words v
-        → (line : PiecesOf (RecordDescribes makes parts) parts.info PartsShape
-        (program_given words)) × EachHasValue PartsShape line.cut_into
+        → (line : PiecesOf (RecordDescribes makes parts) parts.info PartsForm
+        (program_given words)) × EachHasValue PartsForm line.cut_into
     pieces_of v value =
         let values = value.read.read.from in
         let read = value.read.read.read in (
@@ -146,11 +147,11 @@ module _ (makes : Makes) (parts : Parts) where
                   (sym (known_parts makes parts program shown is_shown)) value.is_context,
             );
             cut_into = value.read.cut_into;
-            cut = subst (λ fields. Cut (product_roles (record_shape (con_shape (map_closure makes)
+            cut = subst (λ fields. Cut (product_roles (flat_record (flat_con (map_closure makes)
                 fields))) (line_cells value.context) value.read.cut_into)
                 (sym (same_fields program.names)) value.read.cut;
           },
-          subst (λ fields. EachHasValue (con_shape (map_closure makes) fields) value.read.cut_into)
+          subst (λ fields. EachHasValue (flat_con (map_closure makes) fields) value.read.cut_into)
               (sym (same_fields program.names)) (
                 (values.0, read.0),
                 ((values.1.0, read.1.0), ((values.1.1, read.1.1.read), read.1.1.none_left)),
@@ -159,7 +160,7 @@ module _ (makes : Makes) (parts : Parts) where
 
     -- an accepted value is one of the program's record
     options_accepted : (r : Result Options ParseFailure)
-        → IfOk r (HasWholeLine (RecordDescribes makes parts) parts.info PartsShape
+        → IfOk r (HasWholeLine (RecordDescribes makes parts) parts.info PartsForm
         (program_given words)) → IfOk r (IsOptionsOf words)
     options_accepted (Ok v) whole = to_options v whole.is_value
     options_accepted (Err f) none = tt
@@ -173,14 +174,14 @@ module _ (makes : Makes) (parts : Parts) where
     -- an answer of the record's parser to the program's words is exact
     pub answer_exact : (given : Given) → given ≡ program_given words → All IsUtf8 words
         → (r : Result Options ParseFailure)
-        → ParserAnswersExactly Options (RecordDescribes makes parts) parts.info
-        PartsShape given r
-        → AnswersExactly words r
+        → AnswersExactly Options (RecordDescribes makes parts) parts.info
+        PartsForm given r
+        → AnswersOptionsExactly words r
     answer_exact given is texts r answers =
-        let exact : ParserAnswersExactly Options (RecordDescribes makes parts) parts.info
-        PartsShape (program_given words) r =
-        subst (λ g. ParserAnswersExactly Options (RecordDescribes makes parts) parts.info
-        PartsShape g r) is answers in
+        let exact : AnswersExactly Options (RecordDescribes makes parts) parts.info
+        PartsForm (program_given words) r =
+        subst (λ g. AnswersExactly Options (RecordDescribes makes parts) parts.info
+        PartsForm g r) is answers in
         record {
           sound = options_accepted r exact.sound;
           complete = λ v value.

@@ -1,11 +1,12 @@
 -- What the program prints of its options: a line for each part.
 use Rattle.std.specs.Prelude.{ℕ, Bool, List, [], ◌∷◌, ◌++◌, map, codes, string_bytes, if◌then◌else◌}
 use Rattle.std.specs.Fmt.{decimal}
+use Rattle.bpaf_doc.specs.Print.{line_break}
 use Rattle.bpaf_demo.specs.declared.options.Options.{Options}
 
 -- a text and the end of its line
 abbrev pub line : List ℕ → List ℕ
-line text = text ++ 10 ∷ []
+line text = text ++ line_break ∷ []
 
 -- how a truth value is printed
 abbrev pub truth : Bool → List ℕ

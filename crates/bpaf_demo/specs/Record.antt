@@ -19,11 +19,11 @@ use Rattle.bpaf_demo.specs.declared.options.Options.{Options}
 
 -- the names of the switch
 abbrev pub verbose_names : Names
-verbose_names = record { shorts = 118 ∷ []; longs = codes "verbose" ∷ [] }
+verbose_names = record { shorts = codes "v"; longs = codes "verbose" ∷ [] }
 
 -- the names of the number
 abbrev pub num_names : Names
-num_names = record { shorts = 110 ∷ []; longs = codes "num" ∷ [] }
+num_names = record { shorts = codes "n"; longs = codes "num" ∷ [] }
 
 -- the number: its key, what stands for its value where it is shown, and that the last one counts
 abbrev pub number_key : KeyWithValue
@@ -37,7 +37,7 @@ number_key = record {
 -- the known short names: those of the switch, of help and of version as flags, and that of the
 -- number
 abbrev pub program_known : Known
-program_known = knowing (record { flags = 118 ∷ 104 ∷ 86 ∷ []; arguments = 110 ∷ [] })
+program_known = knowing (record { flags = codes "vhV"; arguments = codes "n" })
 
 -- what the program is given
 abbrev pub program_given : List (List ℕ) → Given

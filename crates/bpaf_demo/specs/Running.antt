@@ -44,7 +44,7 @@ pub data Prints (v : Options) (out out_after err err_after : Option (List ℕ)) 
 
 -- a run on words is exact: all values of the record on them have the same lines, and where it has one
 -- these are written, but for a failed write and want of memory
-pub record RunsExactly (words : List (List ℕ)) (status : ℕ)
+pub record PrintsExactly (words : List (List ℕ)) (status : ℕ)
     (out out_after err err_after : Option (List ℕ)) : Type 0 where
   pub alike : (v w : Options) → IsOptionsOf words v → IsOptionsOf words w → lines v ≡ lines w
   pub prints : (v : Options) → IsOptionsOf words v

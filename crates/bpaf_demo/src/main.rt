@@ -19,8 +19,8 @@
 //! - The record's value on words is told by the record alone (`IsOptionsOf`, specs/Exact.antt): the
 //!   words' line is cut into pieces, the switch and the number have those that begin with their
 //!   names, and the files have the words. All values on the same words print the same lines.
-//! - An answer to words is exact (`AnswersExactly`): options come only where they are the record's
-//!   value on the words, and where it has one there, one is answered, or want of memory.
+//! - An answer to words is exact (`AnswersOptionsExactly`): options come only where they are the
+//!   record's value on the words, and where it has one there, one is answered, or want of memory.
 //! - Status 0 comes only with nothing written on the error writer, and on the other exactly the
 //!   lines of the record's value on the words (specs/Lines.antt), or where it has none exactly the
 //!   help page that the words ask for (specs/Shown.antt, `WritesExactly` in specs/Running.antt).

@@ -1,7 +1,7 @@
 //! The options of the program, as a flat record.
 ghost use Rattle.std.specs.Prelude.{IfOk, map, string_bytes};
 ghost use Rattle.std.specs.Result.{IfErr};
-ghost use Rattle.bpaf_demo.specs.Exact.{AnswersExactly};
+ghost use Rattle.bpaf_demo.specs.Exact.{AnswersOptionsExactly};
 ghost use Rattle.bpaf_demo.specs.Record.{IsDealtOptions};
 ghost use Rattle.bpaf_demo.specs.Shown.{ShowsHelpAsked};
 
@@ -25,7 +25,7 @@ pub struct Options {
 pub fn read_options(alloc: Global, words: &[String]) -> Result<Options, ParseFailure>
     ensures dealt { IfOk result (λ v. IsDealtOptions (map string_bytes words.now) v) }
     ensures asked { IfErr result (λ f. ShowsHelpAsked (map string_bytes words.now) f) }
-    ensures exact { AnswersExactly (map string_bytes words.now) result }
+    ensures exact { AnswersOptionsExactly (map string_bytes words.now) result }
 {
     let verbose = short(alloc, 'v')?
         .long("verbose")?

@@ -1,7 +1,7 @@
 //! The program from its words to its bytes and its status.
 ghost use Rattle.std.specs.Prelude.{map, string_bytes};
 ghost use Rattle.bpaf_program.specs.Running.{RunsTo};
-ghost use Rattle.bpaf_demo.specs.Running.{Answers, RunsExactly};
+ghost use Rattle.bpaf_demo.specs.Running.{Answers, PrintsExactly};
 
 use crate::print::lines_of;
 use bpaf_program::print;
@@ -17,7 +17,7 @@ use std::io::Write;
 pub fn run<W: Write, E: Write>(alloc: Global, words: &[String], out: &mut W, err: &mut E) -> u8
     ensures answers { RunsTo (Answers (map string_bytes words.now)) result (W.contents out.old)
         (W.contents out.new) (E.contents err.old) (E.contents err.new) }
-    ensures exact { RunsExactly (map string_bytes words.now) result (W.contents out.old)
+    ensures exact { PrintsExactly (map string_bytes words.now) result (W.contents out.old)
         (W.contents out.new) (E.contents err.old) (E.contents err.new) }
 {
     print(lines_of(alloc, words), out, err)

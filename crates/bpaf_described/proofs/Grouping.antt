@@ -6,7 +6,7 @@ use Rattle.bpaf_line.specs.Situation.{Situation}
 use Rattle.bpaf_line.specs.declared.error.Error.{Error}
 use Rattle.bpaf_laws.specs.AdjacentGroup.{Failure, GroupOutcome, Narrowed, Probe, Searches, Tries}
 use Rattle.bpaf_laws.specs.AdjacentGroup.{TriesAt, again, answered, failed, found, no_memory, on}
-use Rattle.bpaf_laws.specs.AdjacentGroup.{over, refused, skipped, value, wanted, whole, width_of}
+use Rattle.bpaf_laws.specs.AdjacentGroup.{over, refused, skipped, value, wanted, whole, place_count}
 use Rattle.bpaf_laws.specs.Product.{ProductOutcome}
 use Rattle.bpaf_laws.specs.Reading.{HasPlace, IsEmptyShare, Outcome, Share}
 use Rattle.bpaf_described.specs.Groups.{BegunOutcome}
@@ -63,11 +63,11 @@ module _ {T : Type 0} (inner more : Outcome T) (allows : Allows inner more) (s :
   group_more first from best r t (over from' best' e t' none ends) = over from' best' e t' none ends
   group_more first from best r t (on from' a best' after r' t' start tried rest) =
       on from' a best' after r' t' start
-      (tried_more a (a + width_of first) best' (Ok None) after s tried)
+      (tried_more a (a + place_count first) best' (Ok None) after s tried)
       (group_more first (a + 1) after r' t' rest)
   group_more first from best r t (value from' a best' after v t' start tried) =
       value from' a best' after v t' start
-      (tried_more a (a + width_of first) best' (Ok (Some v)) after t' tried)
+      (tried_more a (a + place_count first) best' (Ok (Some v)) after t' tried)
   group_more first from best r t (wanted from' best' e memory) = wanted from' best' e memory
 
 -- a constructor that makes of values these values

@@ -19,11 +19,11 @@ abbrev pub Checks : Value → Bool → Type 0
 Checks x b = ⊤
 
 -- a number, where there is one
-abbrev pub Given : {E : Type 0} → Option ℕ → Result Value E → Type 0
-Given (Some n) (Ok v) = v ≡ value.Number n
-Given (Some n) (Err e) = ⊥
-Given None (Ok v) = ⊥
-Given None (Err e) = ⊤
+abbrev pub AnswersNumber : {E : Type 0} → Option ℕ → Result Value E → Type 0
+AnswersNumber (Some n) (Ok v) = v ≡ value.Number n
+AnswersNumber (Some n) (Err e) = ⊥
+AnswersNumber None (Ok v) = ⊥
+AnswersNumber None (Err e) = ⊤
 
 -- the text of a fault isn't said
 abbrev pub untold : {E : Type 0} → E → Option (List ℕ)

@@ -10,7 +10,7 @@ use Rattle.bpaf_laws.specs.Transform.{MapOutcome, MapReads, ParseOutcome, GuardO
 use Rattle.bpaf_laws.proofs.TransformLaws.{map_lawful, parse_lawful, guard_lawful}
 use Rattle.bpaf_laws.specs.Hide.{HideOutcome}
 use Rattle.bpaf_laws.proofs.HideLaws.{hide_lawful}
-use Rattle.bpaf_laws.specs.Step.{StepOutcome}
+use Rattle.bpaf_laws.specs.Turn.{TurnOutcome}
 use Rattle.bpaf_laws.specs.Default.{Gives, GivesClone, GivesAnswer, FallbackOutcome, FallbackReads}
 use Rattle.bpaf_laws.specs.Default.{OptionalReads, OptionalDescribes}
 use Rattle.bpaf_laws.proofs.DefaultLaws.{optional_lawful, fallback_lawful}
@@ -28,7 +28,7 @@ use Rattle.bpaf_laws.specs.AdjacentGroup.{GroupDescribes}
 use Rattle.bpaf_described.specs.Groups.{TogetherOutcome, TogetherReads, together_lawful}
 use Rattle.bpaf_described.specs.Told.{ToldOutcome, told_lawful}
 use Rattle.bpaf_described.specs.Values.{ToldOption, ToldQueue}
-use Rattle.bpaf_described.specs.Closures.{IsHalf, Accepts, Checks, Given, untold}
+use Rattle.bpaf_described.specs.Closures.{IsHalf, Accepts, Checks, AnswersNumber, untold}
 use Rattle.bpaf_described.specs.Several.{TupleOutcome, TupleReads, TupleDescribes, tuple_lawful}
 use Rattle.bpaf_described.specs.Several.{OrElseOutcome, OrElseReads, OrElseDescribes}
 use Rattle.bpaf_described.specs.Several.{or_else_lawful}
@@ -65,7 +65,7 @@ too_much = codes "too much"
 
 -- a number, or a refusal without one
 abbrev pub GivesNumber : Option ℕ → Gives Value
-GivesNumber number = GivesAnswer {T = Value} {E = Unit {0}} (Given number) untold
+GivesNumber number = GivesAnswer {T = Value} {E = Unit {0}} (AnswersNumber number) untold
 
 -- an inner value that is accepted; or a refusal of it
 abbrev pub AcceptOutcome : Outcome Value → Outcome Value
@@ -83,7 +83,7 @@ Clones = Value → Value → Type 0
 abbrev pub OverOutcome : Clones → Modifier → Outcome Value → Outcome Value
 OverOutcome clones over.Same inner = inner
 OverOutcome clones (over.Optional catch) inner =
-    ToldOutcome (StepOutcome inner catch true) ToldOption
+    ToldOutcome (TurnOutcome inner catch true) ToldOption
 OverOutcome clones (over.Many catch) inner = ToldOutcome (ManyOutcome inner catch) ToldList
 OverOutcome clones (over.Some catch) inner = ToldOutcome (SomeOutcome inner catch need_one) ToldList
 OverOutcome clones (over.Collect catch) inner =

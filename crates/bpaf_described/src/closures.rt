@@ -1,6 +1,6 @@
 //! The closures that descriptions may name.
 ghost use Rattle.std.specs.Prelude.{◌≡◌, IfErr, codes, is_ok, string_bytes};
-ghost use Rattle.bpaf_described.specs.Closures.{Accepts, Given, IsHalf};
+ghost use Rattle.bpaf_described.specs.Closures.{Accepts, AnswersNumber, IsHalf};
 ghost use Rattle.bpaf_described.specs.OneText.{AcceptsText};
 
 use crate::value::Value;
@@ -27,7 +27,7 @@ pub fn accept(light: bool, value: Value) -> Result<Value, &'static str>
 
 /// A number as a value; without one the fault.
 pub fn give(number: Option<u64>, fault: &'static str) -> Result<Value, &'static str>
-    ensures number { Given number result }
+    ensures number { AnswersNumber number result }
     ensures fault { IfErr result (λ told. told.now ≡ fault.now) }
 {
     match number {

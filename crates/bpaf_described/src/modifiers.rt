@@ -5,7 +5,7 @@ ghost use Rattle.bpaf_laws.specs.Hide.{HideOutcome};
 ghost use Rattle.bpaf_laws.specs.Default.{FallbackOutcome, GivesClone, OptionalDescribes};
 ghost use Rattle.bpaf_laws.specs.Repeat.{CollectOutcome, CountOutcome, LastOutcome};
 ghost use Rattle.bpaf_laws.specs.Repeat.{ManyDescribes, ManyOutcome, SomeDescribes, SomeOutcome};
-ghost use Rattle.bpaf_laws.specs.Step.{StepOutcome};
+ghost use Rattle.bpaf_laws.specs.Turn.{TurnOutcome};
 ghost use Rattle.bpaf_laws.specs.Transform.{GuardOutcome, MapOutcome};
 ghost use Rattle.bpaf_described.specs.Closures.{Checks, IsHalf};
 ghost use Rattle.bpaf_described.specs.Told.{ToldOutcome};
@@ -31,7 +31,7 @@ use std::marker::PhantomData;
 /// The value of a parser, or nothing.
 fn optional<P: Parser<Value>>(inner: &P, catch: bool, state: &mut State) -> Result<Value, Error>
     requires { P.can_eval inner.now }
-    ensures { ToldOutcome (StepOutcome (P.outcome inner.now) catch true) ToldOption
+    ensures { ToldOutcome (TurnOutcome (P.outcome inner.now) catch true) ToldOption
         state.old result state.new }
 {
     let inner = Lent { inner };

@@ -5,20 +5,24 @@ use Rattle.std.specs.Prelude.{Option, Some, None, option_map}
 use Rattle.std.specs.Str.Pattern.{LacksTextAt}
 use Rattle.bpaf_doc.specs.declared.doc.Piece.{Piece}
 use Rattle.bpaf_doc.specs.declared.doc.Style.TheVariants as style
-use Rattle.bpaf_doc.specs.Print.{shown_as}
+use Rattle.bpaf_doc.specs.Print.{shown_as, line_break}
+
+-- a space
+abbrev pub space : ℕ
+space = 32
 
 -- a line break stays before this text: before nothing, a space or a line break
 abbrev pub keeps_break : List ℕ → Bool
 keeps_break [] = true
-keeps_break (c ∷ rest) = c == 32 || c == 10
+keeps_break (c ∷ rest) = c == space || c == line_break
 
 -- every line break is a space, but one that stays before what follows it and one after a line
 -- break; the flag tells that a line break stands before the text
 abbrev pub folded_after : Bool → List ℕ → List ℕ
 folded_after after_break [] = []
 folded_after after_break (c ∷ rest) =
-    (if c == 10 && not (after_break || keeps_break rest) then 32 else c)
-    ∷ folded_after (c == 10) rest
+    (if c == line_break && not (after_break || keeps_break rest) then space else c)
+    ∷ folded_after (c == line_break) rest
 
 -- a whole text, folded
 abbrev pub folded : List ℕ → List ℕ
@@ -26,7 +30,7 @@ folded text = folded_after false text
 
 -- a line break that stays, or the space in its place
 abbrev pub break_or_space : Bool → ℕ
-break_or_space stays = if stays then 10 else 32
+break_or_space stays = if stays then line_break else space
 
 -- what stands between a line and what follows it: a line break, where one stays there, or a space;
 -- the flag tells that a line break stands before the line
@@ -36,11 +40,11 @@ break_between after_break line more =
 
 -- a text without line breaks
 abbrev pub HasNoBreak : List ℕ → Type 0
-HasNoBreak text = (i : ℕ) → i < length text → slice_index text i ≢ 10
+HasNoBreak text = (i : ℕ) → i < length text → slice_index text i ≢ line_break
 
 -- an empty line: two line breaks in a row
 abbrev pub empty_line : List ℕ
-empty_line = 10 ∷ 10 ∷ []
+empty_line = line_break ∷ line_break ∷ []
 
 -- a piece that only a full print shows
 abbrev pub detail : List ℕ → Piece
@@ -53,7 +57,8 @@ whole_pieces text = shown_as style.Text (folded text) ∷ []
 -- the pieces of a text around an empty line: what stands before it, folded, and as detail a line
 -- break and what follows it, folded
 abbrev pub cut_pieces : List ℕ → List ℕ → List Piece
-cut_pieces before after = shown_as style.Text (folded before) ∷ detail (10 ∷ folded after) ∷ []
+cut_pieces before after =
+    shown_as style.Text (folded before) ∷ detail (line_break ∷ folded after) ∷ []
 
 -- the pieces that a text gives, by whether it has an empty line; the first one counts
 pub data TextPieces (text : List ℕ) : List Piece → Type 0 where
@@ -70,7 +75,7 @@ pub data TextPieces (text : List ℕ) : List Piece → Type 0 where
 abbrev pub begins_with_empty_line : List ℕ → Bool
 begins_with_empty_line [] = false
 begins_with_empty_line (c ∷ []) = false
-begins_with_empty_line (c ∷ d ∷ rest) = c == 10 && d == 10
+begins_with_empty_line (c ∷ d ∷ rest) = c == line_break && d == line_break
 
 -- a text cut at its first empty line, where it has one: what stands before it, and what after it
 abbrev pub cut_at_empty_line : List ℕ → Option (List ℕ × List ℕ)
@@ -82,7 +87,7 @@ cut_at_empty_line (c ∷ rest) =
 -- the parts of a text that was cut, each folded, with one line break between them; or all of it
 abbrev pub folded_parts : List ℕ → Option (List ℕ × List ℕ) → List ℕ
 folded_parts text None = folded text
-folded_parts text (Some parts) = folded parts.0 ++ 10 ∷ folded parts.1
+folded_parts text (Some parts) = folded parts.0 ++ line_break ∷ folded parts.1
 
 -- what a full print shows of a text: all of it, folded, and one line break for its first empty line
 abbrev pub folded_whole : List ℕ → List ℕ

@@ -4,6 +4,6 @@ pub mod Fold
 pub mod Names
 pub mod Order
 pub mod Shape
-pub mod ItemText
+pub mod PartText
 pub mod Walks
 pub mod InsideText

@@ -15,9 +15,17 @@ printed full pieces =
 abbrev pub shown_as : Style → List ℕ → Piece
 shown_as style text = record { text = text; style = style; detail = false }
 
+-- the character of a line break
+abbrev pub line_break : ℕ
+line_break = 10
+
+-- a backtick
+abbrev pub backtick : ℕ
+backtick = 96
+
 -- a text between two backticks
 abbrev pub in_backticks : List ℕ → List ℕ
-in_backticks text = 96 ∷ text ++ 96 ∷ []
+in_backticks text = backtick ∷ text ++ backtick ∷ []
 
 -- a document of one plain piece; none where its text is empty
 abbrev pub unless_empty : List ℕ → Option (List Piece)
@@ -26,4 +34,4 @@ unless_empty (c ∷ rest) = Some (shown_as style.Text (c ∷ rest) ∷ [])
 
 -- what is printed without detail, up to its first line break
 abbrev pub first_line : List Piece → Option (List Piece)
-first_line pieces = unless_empty (before_first (λ c. c == 10) (printed false pieces))
+first_line pieces = unless_empty (before_first (λ c. c == line_break) (printed false pieces))

@@ -10,7 +10,7 @@
 //! - [`Item`] is one flag, argument, word or command as it is shown, and [`Meta`] the tree of them
 //!   that a parser shows; [`MetaInfo`] lends one. Contracts see both through `part_of` and
 //!   `shape_of` (specs/Shape.antt), data in which neither addresses nor capacities stand. What is
-//!   written for an item inside messages and usage is its `item_text` (specs/ItemText.antt). The
+//!   written for an item inside messages and usage is its `part_text` (specs/PartText.antt). The
 //!   walks over a tree, and over one that is lent, gather short names and find the first item
 //!   (specs/Walks.antt), and tell whether words stand behind keys (specs/Order.antt).
 //!
@@ -24,12 +24,12 @@ mod copies;
 mod doc;
 mod fold;
 mod item;
-mod item_text;
 mod meta;
 mod order;
 mod short;
 mod text;
 mod walks;
+mod written;
 
 pub use doc::{Doc, Piece, Style};
 pub use item::{Item, Metavar, ShortLong};

@@ -7,7 +7,8 @@ use Rattle.std.proofs.lemmas.List.Elements.{All-nil, All-cons}
 use Rattle.bpaf_words.specs.Items.{is_positional}
 use Rattle.bpaf_words.specs.declared.arg.Arg.{Arg}
 use Rattle.bpaf_words.specs.declared.arg.Arg.TheVariants.{ArgWord}
-use Rattle.bpaf_exact.specs.Pieces.{Cells, Role, Foreign, Roles, Alone, WithNext, Piece, One, Two}
+use Rattle.bpaf_exact.specs.Pieces.{Cells, Role, Foreign, Roles, Alone, WithNext, LinePiece, One}
+use Rattle.bpaf_exact.specs.Pieces.{Two}
 use Rattle.bpaf_exact.specs.Pieces.{is_value, is_key, is_own_role, is_own, others, IsNamed, Cut}
 use Rattle.bpaf_exact.specs.Pieces.{at_end, passed, flag, argument, word, either, either_role}
 use Rattle.bpaf_exact.specs.Pieces.{no_roles}
@@ -18,20 +19,20 @@ use Rattle.bpaf_exact.proofs.Cells.{others_own, others_foreign}
 -- A cut line holds together.
 module _ (r : Roles) (n : IsNamed r) where
   -- the words on either side of an argument's key and value
-  words_beside : (k w : Arg) → r k ≡ WithNext → (earlier later : List Piece)
+  words_beside : (k w : Arg) → r k ≡ WithNext → (earlier later : List LinePiece)
       → others r (earlier ++ (Two k w ∷ later)) ≡ others r earlier ++ others r later
   words_beside k w e [] later = others_own r (Two k w) later (ap is_own_role e)
   words_beside k w e (o ∷ os) later =
       by_own (is_own r o) (others r os) (others r later) (words_beside k w e os later)
     where
-      by_own : (b : Bool) (ys zs : List Piece) {xs : List Piece} → xs ≡ ys ++ zs
+      by_own : (b : Bool) (ys zs : List LinePiece) {xs : List LinePiece} → xs ≡ ys ++ zs
           → (if b then xs else (o ∷ xs)) ≡ (if b then ys else (o ∷ ys)) ++ zs
       by_own true ys zs h = h
       by_own false ys zs h = ap (λ z. o ∷ z) h
 
   -- an argument's key with its value on a line that is cut on either side of them
-  has_its_value : {before after : Cells} {os : List Piece} (k value : Arg) (behind : Cells)
-      (earlier later : List Piece) → r k ≡ WithNext → is_value value ≡ true
+  has_its_value : {before after : Cells} {os : List LinePiece} (k value : Arg) (behind : Cells)
+      (earlier later : List LinePiece) → r k ≡ WithNext → is_value value ≡ true
       → after ≡ Some value ∷ behind → Cut r before earlier → Cut r behind later
       → os ≡ earlier ++ (Two k value ∷ later) → HasItsValue r before k after os
   has_its_value k value behind earlier later e v next cut_before cut_behind is = record {
@@ -48,16 +49,16 @@ module _ (r : Roles) (n : IsNamed r) where
   }
 
   -- what an item of a cut line is: a flag's key, an argument's key, its value, or a word
-  data Item (before : Cells) (k : Arg) (after : Cells) (os : List Piece) : Type 0 where
+  data Item (before : Cells) (k : Arg) (after : Cells) (os : List LinePiece) : Type 0 where
     flag_key : r k ≡ Alone → Item before k after os
     argument_key : r k ≡ WithNext → HasItsValue r before k after os → Item before k after os
     value_of_key : is_value k ≡ true → EndsInKey r before → Item before k after os
     positional : is_positional k ≡ true → Item before k after os
 
   -- it is the same where more stands before it
-  further : (front : Cells) (ps : List Piece)
-      → ((cs : Cells) (os : List Piece) → Cut r cs os → Cut r (front ++ cs) (ps ++ os))
-      → {before : Cells} {k : Arg} {after : Cells} {os : List Piece} → Item before k after os
+  further : (front : Cells) (ps : List LinePiece)
+      → ((cs : Cells) (os : List LinePiece) → Cut r cs os → Cut r (front ++ cs) (ps ++ os))
+      → {before : Cells} {k : Arg} {after : Cells} {os : List LinePiece} → Item before k after os
       → Item (front ++ before) k after (ps ++ os)
   further front ps c (flag_key e) = flag_key e
   further front ps c {before = before} {k = k} (argument_key e h) =
@@ -74,7 +75,7 @@ module _ (r : Roles) (n : IsNamed r) where
   further front ps c (positional h) = positional h
 
   -- each item of a cut line is one of these
-  item_of : (before : Cells) (k : Arg) (after : Cells) {os : List Piece}
+  item_of : (before : Cells) (k : Arg) (after : Cells) {os : List LinePiece}
       → Cut r (before ++ (Some k ∷ after)) os → Item before k after os
   item_of [] k after (flag e c) = flag_key e
   item_of [] k after (argument {w = w} {cs = cs} {os = os} e v c) =
@@ -101,7 +102,7 @@ module _ (r : Roles) (n : IsNamed r) where
       further (Some j ∷ []) (One j ∷ []) (λ cs ps d. word h d) (item_of (Some w ∷ b) k after c)
 
   -- a key is one of the record's
-  own_key : {before after : Cells} {os : List Piece} (k : Arg) → Item before k after os
+  own_key : {before after : Cells} {os : List LinePiece} (k : Arg) → Item before k after os
       → is_key k ≡ true → is_own_role (r k) ≡ true
   own_key k (flag_key e) h = ap is_own_role e
   own_key k (argument_key e i) h = ap is_own_role e
@@ -109,7 +110,7 @@ module _ (r : Roles) (n : IsNamed r) where
   own_key k (positional p) h = let f = word_not_key k p in cc
 
   -- an argument's key has its value
-  own_value : {before after : Cells} {os : List Piece} (k : Arg) → Item before k after os
+  own_value : {before after : Cells} {os : List LinePiece} (k : Arg) → Item before k after os
       → r k ≡ WithNext → HasItsValue r before k after os
   own_value k (flag_key e) h = cc
   own_value k (argument_key e i) h = i
@@ -117,7 +118,7 @@ module _ (r : Roles) (n : IsNamed r) where
   own_value k (positional p) h = let f = word_foreign r k n p in cc
 
   -- an attached value stands behind such a key
-  behind_key : {before after : Cells} {os : List Piece} (text : List ℕ)
+  behind_key : {before after : Cells} {os : List LinePiece} (text : List ℕ)
       → Item before (ArgWord text) after os → EndsInKey r before
   behind_key text (flag_key e) = let f = n.only_keys (ArgWord text) refl in cc
   behind_key text (argument_key e i) = let f = n.only_keys (ArgWord text) refl in cc
@@ -125,7 +126,8 @@ module _ (r : Roles) (n : IsNamed r) where
   behind_key text (positional p) = cc
 
   -- what begins with none of the keys are words
-  words_alone : {cs : Cells} {os : List Piece} → Cut r cs os → AllPass is_word_alone (others r os)
+  words_alone : {cs : Cells} {os : List LinePiece} → Cut r cs os
+      → AllPass is_word_alone (others r os)
   words_alone at_end = All-nil (λ o. is_word_alone o ≡ true)
   words_alone (passed c) = words_alone c
   words_alone (flag {k = k} {os = os} e c) =
@@ -140,7 +142,7 @@ module _ (r : Roles) (n : IsNamed r) where
       (All-cons (λ o. is_word_alone o ≡ true) (One w) (others r os) h (words_alone c))
 
   -- a cut line holds together
-  pub cut_holds_together : (cs : Cells) (os : List Piece) → Cut r cs os → HoldsTogether r cs os
+  pub cut_holds_together : (cs : Cells) (os : List LinePiece) → Cut r cs os → HoldsTogether r cs os
   cut_holds_together cs os c = record {
     keys = λ before after k e. own_key k (at before after k e);
     values = λ before after k e. own_value k (at before after k e);
@@ -162,7 +164,7 @@ same_end (a ∷ (c ∷ cs)) [] k j e = cc
 same_end (a ∷ cs) (b ∷ bs) k j e = same_end cs bs k j cc
 
 -- what an attached value stands behind is the key of an argument: so no flag's key has one
-pub attached_to : (r : Roles) (cs : Cells) (os : List Piece) → HoldsTogether r cs os
+pub attached_to : (r : Roles) (cs : Cells) (os : List LinePiece) → HoldsTogether r cs os
     → (before after : Cells) (k : Arg) (text : List ℕ)
     → cs ≡ before ++ (Some k ∷ (Some (ArgWord text) ∷ after)) → r k ≡ WithNext
 attached_to r cs os h before after k text e =
@@ -173,7 +175,7 @@ attached_to r cs os h before after k text e =
 -- What is left to positional fields.
 
 -- what is left of a piece whose item has one role to the fields first asked and another to the rest
-left_by_both : (r : Roles) (x y : Role) (o : Piece) {xs : List Piece} (ys : List Piece)
+left_by_both : (r : Roles) (x y : Role) (o : LinePiece) {xs : List LinePiece} (ys : List LinePiece)
     → is_own r o ≡ is_own_role y → xs ≡ others r ys
     → (if is_own_role (either_role x y) then xs else (o ∷ xs))
     ≡ others r (if is_own_role x then ys else (o ∷ ys))
@@ -186,7 +188,7 @@ left_by_both r WithNext y o ys e h = h
 
 -- what all named fields leave, each of what those before it left, is what begins with none of their
 -- keys
-pub others_either : (q r : Roles) (os : List Piece)
+pub others_either : (q r : Roles) (os : List LinePiece)
     → others (either q r) os ≡ others r (others q os)
 others_either q r [] = refl
 others_either q r (One k ∷ os) =
@@ -195,7 +197,7 @@ others_either q r (Two k w ∷ os) =
     left_by_both r (q k) (r k) (Two k w) (others q os) refl (others_either q r os)
 
 -- without keys all is left
-pub others_none : (os : List Piece) → others no_roles os ≡ os
+pub others_none : (os : List LinePiece) → others no_roles os ≡ os
 others_none [] = refl
 others_none (One k ∷ os) = ap (λ z. One k ∷ z) (others_none os)
 others_none (Two k w ∷ os) = ap (λ z. Two k w ∷ z) (others_none os)

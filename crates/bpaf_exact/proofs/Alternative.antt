@@ -3,12 +3,13 @@ use Rattle.std.proofs.Common.{◌≡◌, List, [], ◌∷◌, Ok, Err, refl, sym
 use Rattle.bpaf_line.specs.declared.error.Error.{Error}
 use Rattle.bpaf_line.specs.Situation.{Situation}
 use Rattle.bpaf_laws.specs.Reading.{Outcome}
-use Rattle.bpaf_exact.specs.Pieces.{Roles, Piece, pieces, takes_none}
-use Rattle.bpaf_exact.specs.Flat.{Refused, class, cells, IsWhole, Kind, Named, OneWord, EachWord}
+use Rattle.bpaf_exact.specs.Pieces.{Roles, LinePiece, pieces, takes_none}
+use Rattle.bpaf_exact.specs.Flat.{Refused, class, cells, IsWhole, FieldKind, ByName, OneWord}
+use Rattle.bpaf_exact.specs.Flat.{EachWord}
 use Rattle.bpaf_exact.specs.Single.{Groups, FrontOf, Own, own_none, own_more, Readable, Gap, no_gap}
 use Rattle.bpaf_exact.specs.Single.{SingleOk, gave_absent, took, SingleErr, of_memory, of_missing}
 use Rattle.bpaf_exact.specs.Single.{of_absent, of_piece, ReadsWords, SingleLaw}
-use Rattle.bpaf_exact.specs.Wrappers.{Closure, AgreesOn, ClosedRan, closed_yes, closed_no}
+use Rattle.bpaf_exact.specs.Wrappers.{Closure, AgreesOn, ClosedEval, closed_yes, closed_no}
 use Rattle.bpaf_exact.specs.Wrappers.{closed_memory, closed_err, ClosedGroup, closed_gap}
 use Rattle.bpaf_exact.specs.Wrappers.{ClosedPiece}
 use Rattle.bpaf_exact.specs.Alternative.{TakesFirst, HasBad, bad_here, bad_later, AlternativeOk}
@@ -17,7 +18,7 @@ use Rattle.bpaf_exact.specs.Alternative.{alternative_refused, AlternativeLaw}
 use Rattle.bpaf_exact.proofs.First.{first_pieces, takes_nonempty, bad_given_back, bad_nonempty}
 
 -- Pieces that can't be read have no own list.
-pub own_bad : (T : Type 0) (value : Piece → T → Type 0) (os : List Piece) (vs : List T)
+pub own_bad : (T : Type 0) (value : LinePiece → T → Type 0) (os : List LinePiece) (vs : List T)
     → HasBad T value os → Own T (FrontOf T value) os vs → ⊥
 own_bad T value os vs h own_none = elim h [ ]
 own_bad T value os vs h (own_more {rest = rest} {v = v} {vs = us} g o) =
@@ -28,7 +29,7 @@ own_bad T value os vs h (own_more {rest = rest} {v = v} {vs = us} g o) =
     by_bad i (bad_later b) = i b
 
 -- An alternative is a field without a repeat or default.
-module _ (T : Type 0) (outcome : Outcome T) (q : Roles) (value : Piece → T → Type 0)
+module _ (T : Type 0) (outcome : Outcome T) (q : Roles) (value : LinePiece → T → Type 0)
     (l : AlternativeLaw T outcome q value) where
   -- its value is that of the first piece, where all others can be read
   alternative_reads : (s t : Situation) (v : T) (a : AlternativeOk T q value s v t)
@@ -41,7 +42,7 @@ module _ (T : Type 0) (outcome : Outcome T) (q : Roles) (value : Piece → T →
 
   -- its value, as that of one evaluation
   alternative_ok : (s t : Situation) (v : T) → IsWhole s → outcome s (Ok v) t
-      → SingleOk T Named q (FrontOf T value) (no_gap T) s v t
+      → SingleOk T ByName q (FrontOf T value) (no_gap T) s v t
   alternative_ok s t v w o =
       let a = l.ok s t v w o in
       took a.steady (record { piece = a.piece; middle = cells t; one = a.takes; more = takes_none })
@@ -56,14 +57,14 @@ module _ (T : Type 0) (outcome : Outcome T) (q : Roles) (value : Piece → T →
 
   -- its refusal, as that of one evaluation
   alternative_err : (s t : Situation) (e : Error) → AlternativeErr T q value s e t
-      → SingleErr T Named q (FrontOf T value) (no_gap T) s e t
+      → SingleErr T ByName q (FrontOf T value) (no_gap T) s e t
   alternative_err s t e (alternative_memory c) = of_memory c
   alternative_err s t e (alternative_missing c p same st) = of_missing c refl p same st
   alternative_err s t e (alternative_refused c p b n) =
       of_piece c (bad_nonempty T value _ b) (λ w rest g. n g.piece rest w g.is g.means)
 
   -- so it keeps to the laws of one evaluation
-  pub alternative_single : SingleLaw T outcome Named q (FrontOf T value) (no_gap T)
+  pub alternative_single : SingleLaw T outcome ByName q (FrontOf T value) (no_gap T)
   alternative_single = record {
     own = l.named;
     words = tt;
@@ -74,22 +75,24 @@ module _ (T : Type 0) (outcome : Outcome T) (q : Roles) (value : Piece → T →
   }
 
 -- inner closures round an alternative
-module _ (A B : Type 0) (inner : Outcome A) (q : Roles) (value : Piece → A → Type 0)
+module _ (A B : Type 0) (inner : Outcome A) (q : Roles) (value : LinePiece → A → Type 0)
     (l : AlternativeLaw A inner q value) (f : Closure A B)
-    (agrees : (o : Piece) → AgreesOn (value o) f) where
+    (agrees : (o : LinePiece) → AgreesOn (value o) f) where
   -- a piece that can't be read can't be read through a closure either
-  closed_bad : (os : List Piece) → HasBad A value os → HasBad B (ClosedPiece A B value f) os
+  closed_bad : (os : List LinePiece) → HasBad A value os → HasBad B (ClosedPiece A B value f) os
   closed_bad os (bad_here n) = bad_here (λ v c. n c.from c.read)
   closed_bad os (bad_later h) = bad_later (closed_bad _ h)
 
   -- nor can one whose value the closure refuses
-  refused_value : (x : A) (o : Piece) → value o x → f.no x → (v : B) → ClosedPiece A B value f o v
+  refused_value : (x : A) (o : LinePiece) → value o x → f.no x → (v : B)
+      → ClosedPiece A B value f o v
       → ⊥
   refused_value x o g n v c = agrees o c.from x v c.read g c.made n
 
   -- a value that the closure gave
   closed_alternative_ok : (s t : Situation) (v : B) → IsWhole s
-      → ClosedRan A B inner f Refused s (Ok v) t → AlternativeOk B q (ClosedPiece A B value f) s v t
+      → ClosedEval A B inner f Refused s (Ok v) t → AlternativeOk B q
+      (ClosedPiece A B value f) s v t
   closed_alternative_ok s t v w (closed_yes {x = x} i y) =
       let a = l.ok s t x w i in
       record {
@@ -101,7 +104,7 @@ module _ (A B : Type 0) (inner : Outcome A) (q : Roles) (value : Piece → A →
         readable = λ o os u e c. a.readable o os c.from e c.read;
       }
     where
-      by_first : {o : Piece}
+      by_first : {o : LinePiece}
           → TakesFirst q (cells s) o (cells t) ⊎ HasBad A value (pieces q (cells t))
           → TakesFirst q (cells s) o (cells t)
           ⊎ HasBad B (ClosedPiece A B value f) (pieces q (cells t))
@@ -127,7 +130,7 @@ module _ (A B : Type 0) (inner : Outcome A) (q : Roles) (value : Piece → A →
 
   -- a refusal, of the closure or from inside
   closed_alternative_err : (s t : Situation) (e : Error) → IsWhole s
-      → ClosedRan A B inner f Refused s (Err e) t
+      → ClosedEval A B inner f Refused s (Err e) t
       → AlternativeErr B q (ClosedPiece A B value f) s e t
   closed_alternative_err s t e w (closed_no {x = x} i n c) =
       let a = l.ok s t x w i in
@@ -141,7 +144,7 @@ module _ (A B : Type 0) (inner : Outcome A) (q : Roles) (value : Piece → A →
   closed_alternative_err s t e w (closed_err i) = err_closed s t e (l.err s t e w i)
 
   -- a closure round an alternative is one
-  pub closed_alternative : AlternativeLaw B (ClosedRan A B inner f Refused) q
+  pub closed_alternative : AlternativeLaw B (ClosedEval A B inner f Refused) q
       (ClosedPiece A B value f)
   closed_alternative = record {
     named = l.named;
@@ -150,32 +153,33 @@ module _ (A B : Type 0) (inner : Outcome A) (q : Roles) (value : Piece → A →
   }
 
 -- inner closures round a field without a repeat or default
-module _ (A B : Type 0) (inner : Outcome A) (k : Kind) (q : Roles) (group : Groups A) (gap : Gap A)
+module _ (A B : Type 0) (inner : Outcome A)
+    (k : FieldKind) (q : Roles) (group : Groups A) (gap : Gap A)
     (l : SingleLaw A inner k q group gap) (f : Closure A B)
-    (agrees : (os rest : List Piece) → AgreesOn (λ v. group os v rest) f)
+    (agrees : (os rest : List LinePiece) → AgreesOn (λ v. group os v rest) f)
     (gap_agrees : AgreesOn gap.absent f) where
   -- a list of inner values of the pieces
-  record InnerList (os : List Piece) : Type 0 where
+  record InnerList (os : List LinePiece) : Type 0 where
     list : List A
     own : Own A group os list
 
   -- what can be read through a closure can be read without it
-  inner_list : (os : List Piece) (vs : List B) → Own B (ClosedGroup A B group f) os vs
+  inner_list : (os : List LinePiece) (vs : List B) → Own B (ClosedGroup A B group f) os vs
       → InnerList os
   inner_list os vs own_none = record { list = []; own = own_none }
   inner_list os vs (own_more {rest = rest} {v = v} {vs = us} g o) = let i = inner_list rest us o in
       record { list = g.from ∷ i.list; own = own_more g.read i.own }
 
   -- the same, by the kind of the field
-  inner_readable : (z : Kind) (os : List Piece) → Readable z (ClosedGroup A B group f) os
+  inner_readable : (z : FieldKind) (os : List LinePiece) → Readable z (ClosedGroup A B group f) os
       → Readable z group os
-  inner_readable Named os r = let i = inner_list os r.0 r.1 in (i.list, i.own)
+  inner_readable ByName os r = let i = inner_list os r.0 r.1 in (i.list, i.own)
   inner_readable OneWord os r = tt
   inner_readable EachWord os r = tt
 
   -- with a closure a field reads words as before
-  closed_words : (z : Kind) → ReadsWords z group → ReadsWords z (ClosedGroup A B group f)
-  closed_words Named u = tt
+  closed_words : (z : FieldKind) → ReadsWords z group → ReadsWords z (ClosedGroup A B group f)
+  closed_words ByName u = tt
   closed_words OneWord u = record {
     by_front = λ os v rest g. let a = u.by_front os g.from rest g.read in
         (record { from = g.from; read = a.0; made = g.made }, a.1);
@@ -218,20 +222,20 @@ module _ (A B : Type 0) (inner : Outcome A) (k : Kind) (q : Roles) (group : Grou
 
   -- a value of one evaluation
   closed_single_ok : (s t : Situation) (v : B) → IsWhole s
-      → ClosedRan A B inner f Refused s (Ok v) t
+      → ClosedEval A B inner f Refused s (Ok v) t
       → SingleOk B k q (ClosedGroup A B group f) (closed_gap gap f) s v t
   closed_single_ok s t v w (closed_yes {x = x} i y) = yes_single s t x v y (l.ok s t x w i)
 
   -- a refusal of one evaluation
   closed_single_err : (s t : Situation) (e : Error) → IsWhole s
-      → ClosedRan A B inner f Refused s (Err e) t
+      → ClosedEval A B inner f Refused s (Err e) t
       → SingleErr B k q (ClosedGroup A B group f) (closed_gap gap f) s e t
   closed_single_err s t e w (closed_no {x = x} i n c) = no_single s t x e c n (l.ok s t x w i)
   closed_single_err s t e w (closed_memory i c) = of_memory c
   closed_single_err s t e w (closed_err i) = err_single s t e (l.err s t e w i)
 
   -- a closure round a single field is one
-  pub closed_single : SingleLaw B (ClosedRan A B inner f Refused) k q (ClosedGroup A B group f)
+  pub closed_single : SingleLaw B (ClosedEval A B inner f Refused) k q (ClosedGroup A B group f)
       (closed_gap gap f)
   closed_single = record {
     own = l.own;

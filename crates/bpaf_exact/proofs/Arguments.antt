@@ -8,12 +8,12 @@ use Rattle.bpaf_line.specs.declared.error.Message.TheVariants.{Memory, NoArgumen
 use Rattle.bpaf_line.specs.Situation.{Situation}
 use Rattle.bpaf_laws.specs.Argument.{ArgumentOutcome, ArgumentFails, TakesOwnText, TakesBefore}
 use Rattle.bpaf_laws.specs.Argument.{GetsText, LacksText, is_key_with_value}
-use Rattle.bpaf_exact.specs.Pieces.{WithNext, Roles, Piece, One, Two, pieces}
+use Rattle.bpaf_exact.specs.Pieces.{WithNext, Roles, LinePiece, One, Two, pieces}
 use Rattle.bpaf_exact.specs.Flat.{class, class_of, cells, IsWhole}
 use Rattle.bpaf_exact.specs.Alternative.{AlternativeOk, AlternativeErr}
 use Rattle.bpaf_exact.specs.Alternative.{alternative_memory, AlternativeLaw}
 use Rattle.bpaf_exact.specs.Leaves.{argument_roles, ArgumentValue, argument_by, argument_field}
-use Rattle.bpaf_exact.specs.Shape.{ShapeLaw}
+use Rattle.bpaf_exact.specs.FlatForm.{FormLaw}
 use Rattle.bpaf_exact.proofs.ArgumentPieces.{never_set, TookPair, test, named, took_pair}
 use Rattle.bpaf_exact.proofs.Classes.{missing_class}
 use Rattle.bpaf_exact.proofs.First.{first_pieces}
@@ -31,7 +31,7 @@ module _ (T : Type 0) (means : List ℕ → T → Type 0) (argument : KeyWithVal
   q = argument_roles argument.named.names
 
   -- what its pieces mean
-  abbrev value : Piece → T → Type 0
+  abbrev value : LinePiece → T → Type 0
   value = ArgumentValue means
 
   -- the text of an argument stands behind its key
@@ -77,16 +77,16 @@ module _ (T : Type 0) (means : List ℕ → T → Type 0) (argument : KeyWithVal
   argument_law =
       record { named = named argument plain; ok = argument_ok; err = λ s t e w o. argument_err s t e e.0 refl o }
 
--- an argument keeps to the laws of its shape
+-- an argument keeps to the laws of its form
 pub argument_field_law : (T : Type 0) (means : List ℕ → T → Type 0) (argument : KeyWithValue)
-    → ShapeLaw (ArgumentOutcome means argument) (argument.named.names ∷ [])
+    → FormLaw (ArgumentOutcome means argument) (argument.named.names ∷ [])
     (argument_field means argument)
 argument_field_law T means argument =
     by_parts argument.named.envs argument.adjacent argument.last refl refl refl
   where
     by_parts : (envs : List (List ℕ)) (adjacent last : Bool) → argument.named.envs ≡ envs
         → argument.adjacent ≡ adjacent → argument.last ≡ last
-        → ShapeLaw (ArgumentOutcome means argument) (argument.named.names ∷ [])
+        → FormLaw (ArgumentOutcome means argument) (argument.named.names ∷ [])
         (argument_by means argument.named.names envs adjacent last)
     by_parts (env ∷ envs) adjacent last e f g = tt
     by_parts [] true last e f g = tt

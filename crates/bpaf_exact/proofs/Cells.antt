@@ -4,11 +4,12 @@ use Rattle.std.proofs.Common.{if◌then◌else◌}
 use Rattle.bpaf_words.specs.declared.arg.Arg.{Arg}
 use Rattle.bpaf_words.specs.declared.arg.Arg.TheVariants.{Short, Long, ArgWord, Word, PosWord}
 use Rattle.bpaf_words.specs.Items.{is_positional}
-use Rattle.bpaf_exact.specs.Pieces.{Cells, Role, Foreign, Alone, WithNext, Roles, Piece, One, Two}
+use Rattle.bpaf_exact.specs.Pieces.{Cells, Role, Foreign, Alone, WithNext, Roles, LinePiece, One}
+use Rattle.bpaf_exact.specs.Pieces.{Two}
 use Rattle.bpaf_exact.specs.Pieces.{is_value, is_key, is_own_role, is_own, mine, others}
 use Rattle.bpaf_exact.specs.Pieces.{either_role, either, IsNamed, Apart, Cut, at_end, passed, flag}
-use Rattle.bpaf_exact.specs.Pieces.{argument, word, with_next, begin_piece, pieces, Takes}
-use Rattle.bpaf_exact.specs.Pieces.{takes_one, takes_two, takes_later, TakesSome, takes_none}
+use Rattle.bpaf_exact.specs.Pieces.{argument, word, with_next, begin_piece, pieces, TakesPiece}
+use Rattle.bpaf_exact.specs.Pieces.{takes_one, takes_two, takes_later, TakesPieces, takes_none}
 use Rattle.bpaf_exact.specs.Pieces.{takes_more}
 
 -- a value is no key
@@ -47,14 +48,14 @@ pub word_foreign : (q : Roles) (w : Arg) → IsNamed q → is_positional w ≡ t
 word_foreign q w n h = n.only_keys w (word_not_key w h)
 
 -- alike pieces behind an item, and alike items next to it, make alike pieces
-begin_cong : (x : Role) (k : Arg) (cs ds : Cells) {os ps : List Piece}
+begin_cong : (x : Role) (k : Arg) (cs ds : Cells) {os ps : List LinePiece}
     → with_next k ds ≡ with_next k cs → ps ≡ os → begin_piece x k ds ps ≡ begin_piece x k cs os
 begin_cong Foreign k cs ds h e = e
 begin_cong Alone k cs ds h e = ap (λ z. One k ∷ z) e
 begin_cong WithNext k cs ds h e = cc
 
 -- an item that isn't the field's own begins no piece
-begin_foreign : {x : Role} (k : Arg) (cs : Cells) (os : List Piece) → x ≡ Foreign
+begin_foreign : {x : Role} (k : Arg) (cs : Cells) (os : List LinePiece) → x ≡ Foreign
     → begin_piece x k cs os ≡ os
 begin_foreign k cs os e = ap (λ z. begin_piece z k cs os) e
 
@@ -63,7 +64,8 @@ no_value_next : (k w : Arg) (cs : Cells) → is_value w ≡ false → with_next 
 no_value_next k w cs h = ap (λ b. if b then Two k w else One k) h
 
 -- taking a piece leaves what a key before it has next to it
-pub same_next : (q : Roles) (k : Arg) {cs ds : Cells} {o : Piece} → IsNamed q → Takes q cs o ds
+pub same_next : (q : Roles) (k : Arg) {cs ds : Cells} {o : LinePiece} → IsNamed q
+    → TakesPiece q cs o ds
     → with_next k ds ≡ with_next k cs
 same_next q k n (takes_one {k = j} {cs = cs} e) =
     sym (no_value_next k j cs (own_not_value q j n (ap is_own_role e)))
@@ -73,8 +75,8 @@ same_next q k n (takes_later {c = None} t) = refl
 same_next q k n (takes_later {c = Some j} t) = refl
 
 -- What one takes of its own leaves the pieces of another as they are.
-pub keeps_other : (q r : Roles) {cs ds : Cells} {o : Piece} → IsNamed q → IsNamed r → Apart q r
-    → Takes q cs o ds → pieces r ds ≡ pieces r cs
+pub keeps_other : (q r : Roles) {cs ds : Cells} {o : LinePiece} → IsNamed q → IsNamed r → Apart q r
+    → TakesPiece q cs o ds → pieces r ds ≡ pieces r cs
 keeps_other q r nq nr a (takes_one {k = k} {cs = cs} e) =
     sym (begin_foreign k cs (pieces r cs) (a.left k (ap is_own_role e)))
 keeps_other q r nq nr a (takes_two {k = k} {w = w} {cs = cs} e v) =
@@ -86,7 +88,7 @@ keeps_other q r nq nr a (takes_later {c = Some k} {cs = cs} {ds = ds} t) =
 
 -- so do some pieces
 pub keeps_other_some : (q r : Roles) {cs ds : Cells} → IsNamed q → IsNamed r → Apart q r
-    → TakesSome q cs ds → pieces r ds ≡ pieces r cs
+    → TakesPieces q cs ds → pieces r ds ≡ pieces r cs
 keeps_other_some q r nq nr a takes_none = refl
 keeps_other_some q r nq nr a (takes_more t more) = keeps_other_some q r nq nr a more
     ∙ keeps_other q r nq nr a t
@@ -94,7 +96,7 @@ keeps_other_some q r nq nr a (takes_more t more) = keeps_other_some q r nq nr a 
 -- The pieces of a field's own are those of the cut that begin with one of its keys.
 
 -- the key of a flag, as a piece of the field's own or of others
-flag_mine : (q : Roles) (x y : Role) (k : Arg) (cs : Cells) (os ps : List Piece)
+flag_mine : (q : Roles) (x y : Role) (k : Arg) (cs : Cells) (os ps : List LinePiece)
     → either_role x y ≡ Alone → os ≡ ps
     → begin_piece x k cs os ≡ (if is_own_role x then (One k ∷ ps) else ps)
 flag_mine q Foreign y k cs os ps e h = h
@@ -102,7 +104,7 @@ flag_mine q Alone y k cs os ps e h = ap (λ z. One k ∷ z) h
 flag_mine q WithNext y k cs os ps e h = cc
 
 -- the key of an argument, in the same way
-argument_mine : (x y : Role) (k w : Arg) (cs : Cells) (os ps : List Piece)
+argument_mine : (x y : Role) (k w : Arg) (cs : Cells) (os ps : List LinePiece)
     → either_role x y ≡ WithNext → is_value w ≡ true → os ≡ ps
     → begin_piece x k (Some w ∷ cs) os ≡ (if is_own_role x then (Two k w ∷ ps) else ps)
 argument_mine Foreign y k w cs os ps e v h = h
@@ -111,7 +113,8 @@ argument_mine WithNext y k w cs os ps e v h = let n : with_next k (Some w ∷ cs
     ≡ Two k w = ap (λ b. if b then Two k w else One k) v in cc
 
 -- a word, in the same way
-foreign_mine : (x : Role) (w : Arg) (cs : Cells) (o : Piece) (os ps : List Piece) → x ≡ Foreign
+foreign_mine : (x : Role) (w : Arg) (cs : Cells) (o : LinePiece) (os ps : List LinePiece)
+    → x ≡ Foreign
     → os ≡ ps
     → begin_piece x w cs os ≡ (if is_own_role x then (o ∷ ps) else ps)
 foreign_mine Foreign w cs o os ps e h = h
@@ -119,7 +122,7 @@ foreign_mine Alone w cs o os ps e h = cc
 foreign_mine WithNext w cs o os ps e h = cc
 
 -- the pieces of a field's own are those of the cut that begin with its keys
-pub pieces_of_cut : (q r : Roles) {cs : Cells} {os : List Piece} → IsNamed q
+pub pieces_of_cut : (q r : Roles) {cs : Cells} {os : List LinePiece} → IsNamed q
     → Cut (either q r) cs os → pieces q cs ≡ mine q os
 pieces_of_cut q r n at_end = refl
 pieces_of_cut q r n (passed c) = pieces_of_cut q r n c
@@ -143,28 +146,29 @@ either_own Alone y z e h = e
 either_own WithNext y z e h = e
 
 -- a piece of the field's own isn't one of others
-pub others_own : (q : Roles) (o : Piece) (os : List Piece) → is_own q o ≡ true
+pub others_own : (q : Roles) (o : LinePiece) (os : List LinePiece) → is_own q o ≡ true
     → others q (o ∷ os) ≡ others q os
 others_own q o os h = ap (λ b. if b then others q os else (o ∷ others q os)) h
 
 -- a piece of others is
-pub others_foreign : (q : Roles) (o : Piece) (os : List Piece) → is_own q o ≡ false
+pub others_foreign : (q : Roles) (o : LinePiece) (os : List LinePiece) → is_own q o ≡ false
     → others q (o ∷ os) ≡ o ∷ others q os
 others_foreign q o os h = ap (λ b. if b then others q os else (o ∷ others q os)) h
 
 -- with one piece more the others are alike where they were
-others_cong : (q : Roles) (o : Piece) (os ps : List Piece) → others q os ≡ others q ps
+others_cong : (q : Roles) (o : LinePiece) (os ps : List LinePiece) → others q os ≡ others q ps
     → others q (o ∷ os) ≡ others q (o ∷ ps)
 others_cong q o os ps e = ap (λ z. if is_own q o then z else (o ∷ z)) e
 
 -- a cut with the same pieces of others
-pub record CutAlike (q r : Roles) (cs : Cells) (os : List Piece) : Type 0 where
-  pub now : List Piece
+pub record CutAlike (q r : Roles) (cs : Cells) (os : List LinePiece) : Type 0 where
+  pub now : List LinePiece
   pub cut : Cut r cs now
   pub alike : others q now ≡ others q os
 
 -- a piece given back to its place is cut off there again
-pub put_back : (q r : Roles) {cs ds : Cells} {o : Piece} {os : List Piece} → Takes q cs o ds
+pub put_back : (q r : Roles) {cs ds : Cells} {o : LinePiece} {os : List LinePiece}
+    → TakesPiece q cs o ds
     → Cut (either q r) ds os → CutAlike q (either q r) cs os
 put_back q r (takes_one {k = k} {cs = cs} e) (passed {os = os} c) =
     record {
@@ -209,7 +213,7 @@ put_back q r (takes_later {c = Some k} t) (word h c) =
     }
 
 -- so are some pieces
-pub put_back_some : (q r : Roles) {cs ds : Cells} {os : List Piece} → TakesSome q cs ds
+pub put_back_some : (q r : Roles) {cs ds : Cells} {os : List LinePiece} → TakesPieces q cs ds
     → Cut (either q r) ds os → CutAlike q (either q r) cs os
 put_back_some q r {os = os} takes_none c = record { now = os; cut = c; alike = refl }
 put_back_some q r (takes_more t more) c =
@@ -224,8 +228,8 @@ either_not : (x y z u : Role) → x ≡ z → is_own_role z ≡ true → either_
 either_not x y z u e h g = sym (either_own x y z e h) ∙ g
 
 -- what is left of a cut when a piece is taken
-pub take_from : (q r : Roles) {cs ds : Cells} {o : Piece} {os : List Piece} → IsNamed q
-    → Takes q cs o ds → Cut (either q r) cs os → CutAlike q (either q r) ds os
+pub take_from : (q r : Roles) {cs ds : Cells} {o : LinePiece} {os : List LinePiece} → IsNamed q
+    → TakesPiece q cs o ds → Cut (either q r) cs os → CutAlike q (either q r) ds os
 take_from q r n (takes_one {k = k} e) (flag {os = os} g c) =
     record { now = os; cut = passed c; alike = sym (others_own q (One k) os (ap is_own_role e)) }
 take_from q r n (takes_one {k = k} e) (argument g v c) = let h =
@@ -273,7 +277,8 @@ take_from q r n (takes_later {c = Some k} t) (word h c) =
     }
 
 -- when some pieces are
-pub take_some_from : (q r : Roles) {cs ds : Cells} {os : List Piece} → IsNamed q → TakesSome q cs ds
+pub take_some_from : (q r : Roles) {cs ds : Cells} {os : List LinePiece} → IsNamed q
+    → TakesPieces q cs ds
     → Cut (either q r) cs os → CutAlike q (either q r) ds os
 take_some_from q r {os = os} n takes_none c = record { now = os; cut = c; alike = refl }
 take_some_from q r n (takes_more t more) c =

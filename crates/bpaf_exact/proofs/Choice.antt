@@ -17,9 +17,9 @@ use Rattle.bpaf_words.specs.Items.{any_item}
 use Rattle.bpaf_laws.specs.Choice.{ChoiceOutcome, EqualDepths, OneOk, Winner}
 use Rattle.bpaf_laws.specs.Reading.{Outcome}
 use Rattle.bpaf_laws.specs.Spared.{IsNotMemory}
-use Rattle.bpaf_laws.specs.Step.{is_untouched}
-use Rattle.bpaf_exact.specs.Pieces.{Cells, Roles, Piece, One, Two, is_own_role, is_own, Apart}
-use Rattle.bpaf_exact.specs.Pieces.{either, pieces, Takes, takes_one, takes_two, takes_later}
+use Rattle.bpaf_laws.specs.Turn.{is_untouched}
+use Rattle.bpaf_exact.specs.Pieces.{Cells, Roles, LinePiece, One, Two, is_own_role, is_own, Apart}
+use Rattle.bpaf_exact.specs.Pieces.{either, pieces, TakesPiece, takes_one, takes_two, takes_later}
 use Rattle.bpaf_exact.specs.Flat.{OfMemory, OfMissing, Refused, class, cells, first_cells, IsWhole}
 use Rattle.bpaf_exact.specs.Flat.{Steady}
 use Rattle.bpaf_exact.specs.Alternative.{TakesFirst, HasBad, AlternativeOk, AlternativeErr}
@@ -133,41 +133,42 @@ differ_not : (a b : Bool) → a ≡ not b → a ≡ false → b ≡ true
 differ_not a true e f = refl
 differ_not a false e f = absurd (true≢false (sym e ∙ f))
 
--- conflict marks change nothing that is taken
+-- conflict notes change nothing that is taken
 saved_steady : (s other t : Situation) (place : ℕ) → ConflictsSaved s other place t → Steady s t
 saved_steady s other t place c =
     record { context = c.context; start = c.start; end = c.end; path = c.path }
 
 -- a piece that was taken is one of the field's own
-pub takes_own : (q : Roles) {cs ds : Cells} {o : Piece} → Takes q cs o ds → is_own q o ≡ true
+pub takes_own : (q : Roles) {cs ds : Cells} {o : LinePiece} → TakesPiece q cs o ds
+    → is_own q o ≡ true
 takes_own q (takes_one e) = ap is_own_role e
 takes_own q (takes_two e v) = ap is_own_role e
 takes_own q (takes_later t) = takes_own q t
 
 -- what the other branch did
-data Other (T : Type 0) (qb : Roles) (vb : Piece → T → Type 0) (cs cm : Cells) : Type 0 where
-  other_took : {cn : Cells} {ob : Piece} → Takes qb cs ob cn → TookLeft cm cn
+data Other (T : Type 0) (qb : Roles) (vb : LinePiece → T → Type 0) (cs cm : Cells) : Type 0 where
+  other_took : {cn : Cells} {ob : LinePiece} → TakesPiece qb cs ob cn → TookLeft cm cn
       → TakesFirst qb cs ob cn ⊎ HasBad T vb (pieces qb cn)
-      → ((o : Piece) (os : List Piece) (w : T) → pieces qb cs ≡ o ∷ os → vb o w
+      → ((o : LinePiece) (os : List LinePiece) (w : T) → pieces qb cs ≡ o ∷ os → vb o w
       → TakesFirst qb cs ob cn) → Other T qb vb cs cm
   other_missing : pieces qb cs ≡ [] → Other T qb vb cs cm
   other_refused : HasBad T vb (pieces qb cs)
-      → ((o : Piece) (os : List Piece) (w : T) → pieces qb cs ≡ o ∷ os → vb o w → ⊥)
+      → ((o : LinePiece) (os : List LinePiece) (w : T) → pieces qb cs ≡ o ∷ os → vb o w → ⊥)
       → Other T qb vb cs cm
 
-module _ (T : Type 0) (qa qb r : Roles) (u : Union qa qb r) (va vb vr : Piece → T → Type 0)
-    (gives : (o : Piece) (v : T) → is_own qa o ≡ true → va o v → vr o v)
-    (from_a : (o : Piece) (v : T) → is_own qa o ≡ true → vr o v → va o v)
-    (from_b : (o : Piece) (v : T) → is_own qb o ≡ true → vr o v → vb o v) where
+module _ (T : Type 0) (qa qb r : Roles) (u : Union qa qb r) (va vb vr : LinePiece → T → Type 0)
+    (gives : (o : LinePiece) (v : T) → is_own qa o ≡ true → va o v → vr o v)
+    (from_a : (o : LinePiece) (v : T) → is_own qa o ≡ true → vr o v → va o v)
+    (from_b : (o : LinePiece) (v : T) → is_own qb o ≡ true → vr o v → vb o v) where
   -- a piece of the other branch that can't be read stays one
-  kept_bad : {cs cm : Cells} {oa : Piece} → Takes qa cs oa cm → HasBad T vb (pieces qb cs)
+  kept_bad : {cs cm : Cells} {oa : LinePiece} → TakesPiece qa cs oa cm → HasBad T vb (pieces qb cs)
       → HasBad T vr (pieces r cm)
   kept_bad {cs = cs} {cm = cm} t h =
       bad_left T vb vr qb qa r (swap_union qa qb r u) from_b cm
       (subst (HasBad T vb) (sym (keeps_other qa qb u.named_left u.named_right u.apart t)) h)
 
   -- the winner took the first piece of both, or one that can't be read stays
-  won_first : {cs cm : Cells} {oa : Piece} → Takes qa cs oa cm → Other T qb vb cs cm
+  won_first : {cs cm : Cells} {oa : LinePiece} → TakesPiece qa cs oa cm → Other T qb vb cs cm
       → TakesFirst qa cs oa cm ⊎ HasBad T va (pieces qa cm)
       → TakesFirst r cs oa cm ⊎ HasBad T vr (pieces r cm)
   won_first {cm = cm} t o (inr h) = inr (bad_left T va vr qa qb r u from_a cm h)
@@ -178,10 +179,10 @@ module _ (T : Type 0) (qa qb r : Roles) (u : Union qa qb r) (va vb vr : Piece �
   won_first t (other_refused b n) (inl h) = inr (kept_bad t b)
 
   -- where the first piece of both can be read, the winner took it
-  won_readable : {cs cm : Cells} {oa : Piece} → Takes qa cs oa cm → Other T qb vb cs cm
-      → ((o : Piece) (os : List Piece) (w : T) → pieces qa cs ≡ o ∷ os → va o w
+  won_readable : {cs cm : Cells} {oa : LinePiece} → TakesPiece qa cs oa cm → Other T qb vb cs cm
+      → ((o : LinePiece) (os : List LinePiece) (w : T) → pieces qa cs ≡ o ∷ os → va o w
       → TakesFirst qa cs oa cm)
-      → (o : Piece) (os : List Piece) (w : T) → pieces r cs ≡ o ∷ os → vr o w
+      → (o : LinePiece) (os : List LinePiece) (w : T) → pieces r cs ≡ o ∷ os → vr o w
       → TakesFirst r cs oa cm
   won_readable {cs = cs} {cm = cm} {oa = oa} t other ra o os w e v =
       by_owner (owner qa qb r cs o os u e) other
@@ -201,7 +202,7 @@ module _ (T : Type 0) (qa qb r : Roles) (u : Union qa qb r) (va vb vr : Piece �
   won s m t x a o st e = record {
     steady = steady_trans a.steady st;
     piece = a.piece;
-    takes = subst (Takes r (cells s) a.piece) (sym e) (takes_left qa qb r u a.takes);
+    takes = subst (TakesPiece r (cells s) a.piece) (sym e) (takes_left qa qb r u a.takes);
     means = gives a.piece x (takes_own qa a.takes) a.means;
     first = subst (λ ct. TakesFirst r (cells s) a.piece ct ⊎ HasBad T vr (pieces r ct)) (sym e)
         (won_first a.takes o a.first);
@@ -209,43 +210,43 @@ module _ (T : Type 0) (qa qb r : Roles) (u : Union qa qb r) (va vb vr : Piece �
         (won_readable a.takes o a.readable p ps w h v);
   }
 
-module _ (T : Type 0) (a b : Outcome T) (qa qb : Roles) (va vb : Piece → T → Type 0)
+module _ (T : Type 0) (a b : Outcome T) (qa qb : Roles) (va vb : LinePiece → T → Type 0)
     (la : AlternativeLaw T a qa va) (lb : AlternativeLaw T b qb vb) (apart : Apart qa qb) where
   -- the items of both
   u : Union qa qb (either qa qb)
   u = either_union qa qb la.named lb.named apart
 
   -- what the pieces of both mean
-  abbrev vr : Piece → T → Type 0
+  abbrev vr : LinePiece → T → Type 0
   vr = either_value qa va vb
 
   -- a piece of the second isn't the first's
-  own_role : (o : Piece) → is_own qb o ≡ true → is_own qa o ≡ false
+  own_role : (o : LinePiece) → is_own qb o ≡ true → is_own qa o ≡ false
   own_role (One k) h = ap is_own_role (apart.right k h)
   own_role (Two k w) h = ap is_own_role (apart.right k h)
 
   -- a piece of the first means what it means to the first
-  pick_first : (o : Piece) (v : T) → is_own qa o ≡ true → vr o v ≡ va o v
+  pick_first : (o : LinePiece) (v : T) → is_own qa o ≡ true → vr o v ≡ va o v
   pick_first o v h = ap (λ z. pick_type z (va o v) (vb o v)) h
 
   -- one of the second what it means to the second
-  pick_second : (o : Piece) (v : T) → is_own qb o ≡ true → vr o v ≡ vb o v
+  pick_second : (o : LinePiece) (v : T) → is_own qb o ≡ true → vr o v ≡ vb o v
   pick_second o v h = ap (λ z. pick_type z (va o v) (vb o v)) (own_role o h)
 
   -- from the first to the choice
-  give_first : (o : Piece) (v : T) → is_own qa o ≡ true → va o v → vr o v
+  give_first : (o : LinePiece) (v : T) → is_own qa o ≡ true → va o v → vr o v
   give_first o v h g = subst (λ X. X) (sym (pick_first o v h)) g
 
   -- and back
-  from_first : (o : Piece) (v : T) → is_own qa o ≡ true → vr o v → va o v
+  from_first : (o : LinePiece) (v : T) → is_own qa o ≡ true → vr o v → va o v
   from_first o v h g = subst (λ X. X) (pick_first o v h) g
 
   -- from the second to the choice
-  give_second : (o : Piece) (v : T) → is_own qb o ≡ true → vb o v → vr o v
+  give_second : (o : LinePiece) (v : T) → is_own qb o ≡ true → vb o v → vr o v
   give_second o v h g = subst (λ X. X) (sym (pick_second o v h)) g
 
   -- and back
-  from_second : (o : Piece) (v : T) → is_own qb o ≡ true → vr o v → vb o v
+  from_second : (o : LinePiece) (v : T) → is_own qb o ≡ true → vr o v → vb o v
   from_second o v h g = subst (λ X. X) (pick_second o v h) g
 
   -- the first branch won
@@ -265,26 +266,26 @@ module _ (T : Type 0) (a b : Outcome T) (qa qb : Roles) (va vb : Piece → T →
       (either qa qb) u) vb va vr give_second from_second from_first s n t y o h st e
 
   -- the other branch took something further right
-  took_other : (q : Roles) (v : Piece → T → Type 0) (s m n : Situation) (y : T)
+  took_other : (q : Roles) (v : LinePiece → T → Type 0) (s m n : Situation) (y : T)
       → AlternativeOk T q v s y n → TookLeft (cells m) (cells n) → Other T q v (cells s) (cells m)
   took_other q v s m n y o l = other_took o.takes l o.first o.readable
 
   -- the other branch refused
-  err_other : (q : Roles) (v : Piece → T → Type 0) (s n : Situation) (cm : Cells) (e : Error)
+  err_other : (q : Roles) (v : LinePiece → T → Type 0) (s n : Situation) (cm : Cells) (e : Error)
       → is_memory e.0 ≡ false → AlternativeErr T q v s e n → Other T q v (cells s) cm
   err_other q v s n cm e h (alternative_memory c) = absurd (not_memory e.0 h c)
   err_other q v s n cm e h (alternative_missing c p same st) = other_missing p
   err_other q v s n cm e h (alternative_refused c p b g) = other_refused b g
 
   -- both branches leave the path as it was
-  err_path : (q : Roles) (v : Piece → T → Type 0) (s n : Situation) (e : Error)
+  err_path : (q : Roles) (v : LinePiece → T → Type 0) (s n : Situation) (e : Error)
       → is_memory e.0 ≡ false → AlternativeErr T q v s e n → n.path ≡ s.path
   err_path q v s n e h (alternative_memory c) = absurd (not_memory e.0 h c)
   err_path q v s n e h (alternative_missing c p same st) = st.path
   err_path q v s n e h (alternative_refused c p b g) = p
 
   -- an alternative leaves the path as it was
-  law_path : (z : Outcome T) (q : Roles) (v : Piece → T → Type 0) → AlternativeLaw T z q v
+  law_path : (z : Outcome T) (q : Roles) (v : LinePiece → T → Type 0) → AlternativeLaw T z q v
       → (s n : Situation) (r : Result T Error) → IsWhole s → z s r n → IsNotMemory r
       → n.path ≡ s.path
   law_path z q v l s n (Ok x) w o h = (l.ok s n x w o).steady.path
@@ -296,7 +297,7 @@ module _ (T : Type 0) (a b : Outcome T) (qa qb : Roles) (va vb : Piece → T →
   never_deeper s m n e f h = let c = ap length (e ∙ sym f) in omega arith
 
   -- an alternative that answered took something
-  never_untouched : (q : Roles) (v : Piece → T → Type 0) (s m : Situation) (x : T)
+  never_untouched : (q : Roles) (v : LinePiece → T → Type 0) (s m : Situation) (x : T)
       → AlternativeOk T q v s x m → is_untouched s m ≡ true → ⊥
   never_untouched q v s m x o e =
       let same : open_count m ≡ open_count s = eqb-true (open_count m) (open_count s) e in
@@ -396,11 +397,12 @@ module _ (T : Type 0) (a b : Outcome T) (qa qb : Roles) (va vb : Piece → T →
       bad_left T vb vr qb qa (either qa qb) (swap_union qa qb (either qa qb) u) from_second cs h
 
   -- the first piece can't be read
-  Unread : (q : Roles) (v : Piece → T → Type 0) (s : Situation) → Type 0
-  Unread q v s = (o : Piece) (os : List Piece) (w : T) → pieces q (cells s) ≡ o ∷ os → v o w → ⊥
+  Unread : (q : Roles) (v : LinePiece → T → Type 0) (s : Situation) → Type 0
+  Unread q v s =
+      (o : LinePiece) (os : List LinePiece) (w : T) → pieces q (cells s) ≡ o ∷ os → v o w → ⊥
 
   -- where there is no piece none can
-  none_unread : (q : Roles) (v : Piece → T → Type 0) (s : Situation) → pieces q (cells s) ≡ []
+  none_unread : (q : Roles) (v : LinePiece → T → Type 0) (s : Situation) → pieces q (cells s) ≡ []
       → Unread q v s
   unfolding Unread
   none_unread q v s e o os w h g = cc
@@ -423,7 +425,7 @@ module _ (T : Type 0) (a b : Outcome T) (qa qb : Roles) (va vb : Piece → T →
   refused_either s g c h n = alternative_refused c refl h n
 
   -- a refusal of an alternative is of one of two classes
-  err_class : (q : Roles) (v : Piece → T → Type 0) (s m : Situation) (e : Error)
+  err_class : (q : Roles) (v : LinePiece → T → Type 0) (s m : Situation) (e : Error)
       → is_memory e.0 ≡ false → AlternativeErr T q v s e m
       → (class e ≡ OfMissing) ⊎ (class e ≡ Refused)
   err_class q v s m e h (alternative_memory c) = absurd (not_memory e.0 h c)
@@ -473,7 +475,8 @@ module _ (T : Type 0) (a b : Outcome T) (qa qb : Roles) (va vb : Piece → T →
   value_no_refusal s sa sb t x y e false (Some p) k = let i = k.0 in cc
 
   -- nor is the value of one, where the other refused
-  one_no_refusal : (q : Roles) (v : Piece → T → Type 0) (s m t : Situation) (x : T) (e g : Error)
+  one_no_refusal : (q : Roles) (v : LinePiece → T → Type 0) (s m t : Situation) (x : T)
+      (e g : Error)
       → AlternativeOk T q v s x m → OneOk s x m e (Err g) t → ⊥
   one_no_refusal q v s m t x e g i (inl o) =
       never_untouched q v s m x i (and_first (is_untouched s m) (is_wrong_input e.0) o.0)

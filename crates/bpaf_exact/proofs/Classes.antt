@@ -4,7 +4,7 @@ use Rattle.std.proofs.Common.{◌∙◌, inl, inr, ◌⊎◌, true≢false}
 use Rattle.bpaf_line.specs.declared.error.Message.{Message}
 use Rattle.bpaf_line.specs.declared.error.Message.TheVariants.{Memory, Missing, ParseFailure}
 use Rattle.bpaf_line.specs.Messages.{is_memory, can_catch}
-use Rattle.bpaf_laws.specs.Step.{stops_step, stops_spared}
+use Rattle.bpaf_laws.specs.Turn.{stops_step, stops_spared}
 use Rattle.bpaf_exact.specs.Flat.{OfMemory, OfMissing, Caught, is_missing, class_by, class_of}
 
 -- want of memory is of its class
@@ -67,13 +67,13 @@ kept_class m e c =
     by_test false false false e f (inl h) = cc
     by_test false false false e f (inr h) = cc
 
--- which refusals stop a step that doesn't catch
+-- which refusals stop a turn that doesn't catch
 stop_test : (m : Message) (untouched : Bool)
     → stops_spared false m untouched ≡ (if is_missing m then untouched else can_catch m)
 stop_test (Missing items) untouched = refl
 stop_test other untouched = refl
 
--- a step stops at a missing item where nothing was taken, and at what can be caught otherwise
+-- a turn stops at a missing item where nothing was taken, and at what can be caught otherwise
 pub stop_class : (m : Message) (untouched : Bool) → stops_step false m untouched ≡ true
     → ((class_of m ≡ OfMissing) × (untouched ≡ true)) ⊎ (class_of m ≡ Caught)
 stop_class m untouched e =

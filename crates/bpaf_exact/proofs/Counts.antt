@@ -8,13 +8,14 @@ use Rattle.bpaf_line.specs.Situation.{Situation, open_count, count_below, is_ope
 use Rattle.bpaf_line.specs.Taking.{open_item}
 use Rattle.bpaf_line.proofs.Counts.{count_below-same}
 use Rattle.bpaf_line.proofs.Matches.{open_has_item}
-use Rattle.bpaf_exact.specs.Pieces.{Cells, Roles, Piece, Takes, takes_one, takes_two, takes_later}
-use Rattle.bpaf_exact.specs.Pieces.{TakesSome, takes_none, takes_more}
+use Rattle.bpaf_exact.specs.Pieces.{Cells, Roles, LinePiece, TakesPiece, takes_one, takes_two}
+use Rattle.bpaf_exact.specs.Pieces.{takes_later}
+use Rattle.bpaf_exact.specs.Pieces.{TakesPieces, takes_none, takes_more}
 use Rattle.bpaf_exact.specs.Flat.{cells, first_cells}
 use Rattle.bpaf_exact.specs.Single.{present_count, TakesAny}
 
 -- a piece taken leaves fewer items
-pub takes_fewer : (q : Roles) {cs ds : Cells} {o : Piece} → Takes q cs o ds
+pub takes_fewer : (q : Roles) {cs ds : Cells} {o : LinePiece} → TakesPiece q cs o ds
     → present_count ds < present_count cs
 takes_fewer q (takes_one e) = omega arith
 takes_fewer q (takes_two e v) = omega arith
@@ -22,7 +23,7 @@ takes_fewer q (takes_later {c = None} t) = takes_fewer q t
 takes_fewer q (takes_later {c = Some x} t) = let i = takes_fewer q t in omega arith
 
 -- some pieces taken leave no more
-pub takes_some_fewer : (q : Roles) {cs ds : Cells} → TakesSome q cs ds
+pub takes_some_fewer : (q : Roles) {cs ds : Cells} → TakesPieces q cs ds
     → present_count ds ≤ present_count cs
 takes_some_fewer q takes_none = omega arith
 takes_some_fewer q (takes_more t more) = let i = takes_fewer q t in let j =

@@ -1,11 +1,12 @@
 -- At most one cut exists.
 use Rattle.std.proofs.Common.{◌≡◌, List, ◌∷◌, refl, ap}
-use Rattle.bpaf_exact.specs.Pieces.{Cells, Roles, Piece, One, Two, IsNamed, Cut, at_end, passed}
+use Rattle.bpaf_exact.specs.Pieces.{Cells, Roles, LinePiece, One, Two, IsNamed, Cut, at_end, passed}
 use Rattle.bpaf_exact.specs.Pieces.{flag, argument, word}
 use Rattle.bpaf_exact.proofs.Cells.{word_not_key}
 
 -- two cuts of the same cells are one
-pub one_cut : (r : Roles) (cs : Cells) (os ps : List Piece) → IsNamed r → Cut r cs os → Cut r cs ps
+pub one_cut : (r : Roles) (cs : Cells) (os ps : List LinePiece) → IsNamed r → Cut r cs os
+    → Cut r cs ps
     → os ≡ ps
 one_cut r cs os ps n at_end at_end = refl
 one_cut r cs os ps n (passed c) (passed d) = one_cut r _ _ _ n c d

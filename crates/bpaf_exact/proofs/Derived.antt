@@ -4,13 +4,14 @@ use Rattle.std.proofs.Common.{sym, ◌∙◌}
 use Rattle.bpaf_line.specs.declared.error.Error.{Error}
 use Rattle.bpaf_line.specs.Situation.{Situation}
 use Rattle.bpaf_laws.specs.Reading.{Outcome}
-use Rattle.bpaf_exact.specs.Pieces.{Roles, Piece, pieces}
-use Rattle.bpaf_exact.specs.Flat.{cells, IsWhole, Kind, front, back, FieldTook, FieldLaw, Gives}
+use Rattle.bpaf_exact.specs.Pieces.{Roles, LinePiece, pieces}
+use Rattle.bpaf_exact.specs.Flat.{cells, IsWhole, FieldKind, front, back, FieldTook, FieldLaw}
+use Rattle.bpaf_exact.specs.Flat.{Gives}
 use Rattle.bpaf_exact.specs.Single.{Groups, Gap, SingleOk, gave_absent, took, SingleLaw, OwnList}
 use Rattle.bpaf_exact.specs.Single.{listed, listed_and_absent, only_absent, Own, own_none, own_more}
-use Rattle.bpaf_exact.specs.Single.{repeated, StepsRan}
+use Rattle.bpaf_exact.specs.Single.{repeated, TurnsEval}
 use Rattle.bpaf_exact.specs.Wrappers.{AgreesOn}
-use Rattle.bpaf_exact.specs.Derived.{some_closure, IsLast, LastRan, last_of, last_err, last_again}
+use Rattle.bpaf_exact.specs.Derived.{some_closure, IsLast, LastEval, last_of, last_err, last_again}
 use Rattle.bpaf_exact.specs.Derived.{LastOf}
 use Rattle.bpaf_exact.proofs.Product.{whole_after}
 use Rattle.bpaf_exact.proofs.Repeat.{repeat_law, repeat_took, own_nil}
@@ -23,36 +24,39 @@ no_last T vs v l e = by_before l.before (sym l.is ∙ e)
     by_before [] h = cc
     by_before (x ∷ xs) h = cc
 
-module _ (T : Type 0) (inner : Outcome T) (k : Kind) (q : Roles) (group : Groups T) (gap : Gap T)
+module _ (T : Type 0) (inner : Outcome T)
+    (k : FieldKind) (q : Roles) (group : Groups T) (gap : Gap T)
     (l : SingleLaw T inner k q group gap) where
   -- the laws of the list
-  rl : FieldLaw (List T) (λ s r t. StepsRan T inner true None s r t) (repeated k) q
+  rl : FieldLaw (List T) (λ s r t. TurnsEval T inner true None s r t) (repeated k) q
       (OwnList T group gap)
   rl = repeat_law T inner k q group gap l true
 
   -- no value at all: there was no piece, and none has an absent value
-  data Nothing (os : List Piece) : Type 0 where
+  data Nothing (os : List LinePiece) : Type 0 where
     nothing : gap.has ≡ false → os ≡ [] → Nothing os
 
   -- an empty own list has no pieces
-  own_empty : (os : List Piece) (vs : List T) → vs ≡ [] → Own T group os vs → os ≡ []
+  own_empty : (os : List LinePiece) (vs : List T) → vs ≡ [] → Own T group os vs → os ≡ []
   own_empty os vs e own_none = refl
   own_empty os vs e (own_more g o) = absurd cc
 
   -- an empty list under a repeat comes of no piece
-  empty_list : (os : List Piece) (vs : List T) → vs ≡ [] → OwnList T group gap os vs → Nothing os
+  empty_list : (os : List LinePiece) (vs : List T) → vs ≡ [] → OwnList T group gap os vs
+      → Nothing os
   empty_list os vs e (listed h o) = nothing h (own_empty os vs e o)
   empty_list os vs e (listed_and_absent h a o) = absurd cc
   empty_list os vs e (only_absent h a) = absurd cc
 
   -- and no piece gives an empty list
-  empty_nothing : (os : List Piece) (vs : List T) → Nothing os → OwnList T group gap os vs → vs ≡ []
+  empty_nothing : (os : List LinePiece) (vs : List T) → Nothing os → OwnList T group gap os vs
+      → vs ≡ []
   empty_nothing os vs (nothing g e) (listed h o) = own_nil T inner k q group gap l true os vs e o
   empty_nothing os vs (nothing g e) (listed_and_absent h a o) = absurd cc
   empty_nothing os vs (nothing g e) (only_absent h a) = absurd cc
 
   -- Of the own lists of the same pieces all are empty or none is.
-  pub some_agrees_on : (os : List Piece) → AgreesOn (OwnList T group gap os) (some_closure T)
+  pub some_agrees_on : (os : List LinePiece) → AgreesOn (OwnList T group gap os) (some_closure T)
   some_agrees_on os x y v ox oy g n = g.1 (empty_nothing os x (empty_list os y n oy) ox)
 
   -- where there was nothing once more nothing is answered
@@ -62,7 +66,7 @@ module _ (T : Type 0) (inner : Outcome T) (k : Kind) (q : Roles) (group : Groups
   again_never m t v h p (took st ta ne up down) = ne p
 
   -- so the evaluation after an empty list answers no value
-  again_ok : (s m t : Situation) (v : T) → IsWhole s → StepsRan T inner true None s (Ok []) m
+  again_ok : (s m t : Situation) (v : T) → IsWhole s → TurnsEval T inner true None s (Ok []) m
       → inner m (Ok v) t → ⊥
   again_ok s m t v w f g =
       let i = repeat_took T inner k q group gap l true s m [] w f in
@@ -74,7 +78,7 @@ module _ (T : Type 0) (inner : Outcome T) (k : Kind) (q : Roles) (group : Groups
       by_empty (nothing h e) p o = again_never m t v h p o
 
   -- a last value is that of the own list
-  last_took : (s t : Situation) (v : T) → IsWhole s → LastRan T inner s (Ok v) t
+  last_took : (s t : Situation) (v : T) → IsWhole s → LastEval T inner s (Ok v) t
       → FieldTook T (repeated k) q (LastOf T group gap) s v t
   last_took s t v w (last_of {vs = vs} f h) =
       let i = rl.ok s t vs w f in
@@ -89,7 +93,7 @@ module _ (T : Type 0) (inner : Outcome T) (k : Kind) (q : Roles) (group : Groups
 
   -- where the list has a last value it isn't empty
   again_gives : (s m t : Situation) (r : Result T Error) (v : T) → IsWhole s
-      → StepsRan T inner true None s (Ok []) m → inner m r t
+      → TurnsEval T inner true None s (Ok []) m → inner m r t
       → LastOf T group gap (front (repeated k) (pieces q (cells s))) v
       → Gives q (LastOf T group gap (front (repeated k) (pieces q (cells s))))
       (back (repeated k) (pieces q (cells s))) r t
@@ -98,7 +102,7 @@ module _ (T : Type 0) (inner : Outcome T) (k : Kind) (q : Roles) (group : Groups
       absurd (no_last T h.list v h.is (empty_nothing _ h.list (empty_list _ [] refl j.0) h.own))
 
   -- each answer is the last of an own list, or want of memory
-  last_answers : (s t : Situation) (r : Result T Error) (v : T) → IsWhole s → LastRan T inner s r t
+  last_answers : (s t : Situation) (r : Result T Error) (v : T) → IsWhole s → LastEval T inner s r t
       → LastOf T group gap (front (repeated k) (pieces q (cells s))) v
       → Gives q (LastOf T group gap (front (repeated k) (pieces q (cells s))))
       (back (repeated k) (pieces q (cells s))) r t
@@ -109,5 +113,5 @@ module _ (T : Type 0) (inner : Outcome T) (k : Kind) (q : Roles) (group : Groups
   last_answers s t r v w (last_again {r = x} {m = m} f h) g = again_gives s m t x v w f h g
 
   -- last keeps to the laws of a field
-  pub last_of_law : FieldLaw T (LastRan T inner) (repeated k) q (LastOf T group gap)
+  pub last_of_law : FieldLaw T (LastEval T inner) (repeated k) q (LastOf T group gap)
   last_of_law = record { own = rl.own; ok = last_took; answers = last_answers }

@@ -8,19 +8,19 @@ use Rattle.bpaf_doc.specs.Names.{Names}
 use Rattle.bpaf_line.specs.Situation.{Context, Situation, beginning, item_in, is_marker, open_count}
 use Rattle.bpaf_line.specs.Taking.{open_item}
 use Rattle.bpaf_laws.specs.Reading.{Outcome}
-use Rattle.bpaf_exact.specs.Pieces.{Roles, Piece, Cut}
+use Rattle.bpaf_exact.specs.Pieces.{Roles, LinePiece, Cut}
 use Rattle.bpaf_exact.specs.Flat.{cells, NonePresent, IsWhole, FieldsLaw, FieldsReading, ReadOff}
-use Rattle.bpaf_exact.specs.Record.{line_cells, RecordValue, Answer, Accepted, NoMemory, Refusal}
+use Rattle.bpaf_exact.specs.Record.{line_cells, RecordValue, RunAnswer, Accepted, NoMemory, Refusal}
 use Rattle.bpaf_exact.specs.Record.{RunRan, run_value, run_leftover, run_memory, run_refusal}
-use Rattle.bpaf_exact.specs.Record.{IsNoValue, IsAnswer, IsExact}
-use Rattle.bpaf_exact.specs.Shape.{Shape, ShapeLaw, is_record, product_roles, product_reading}
-use Rattle.bpaf_exact.specs.Shape.{record_shape}
+use Rattle.bpaf_exact.specs.Record.{IsNoValue, IsAcceptedOrWant, IsExact}
+use Rattle.bpaf_exact.specs.FlatForm.{FlatForm, FormLaw, is_record, product_roles, product_reading}
+use Rattle.bpaf_exact.specs.FlatForm.{flat_record}
 use Rattle.bpaf_exact.specs.Theorem.{RunsExactly}
 use Rattle.bpaf_exact.proofs.Counts.{open_present}
 use Rattle.bpaf_exact.proofs.Cuts.{one_cut}
 use Rattle.bpaf_exact.proofs.Places.{same_cells}
 use Rattle.bpaf_exact.proofs.Records.{none_counted, count_none}
-use Rattle.bpaf_exact.proofs.Shape.{record_law}
+use Rattle.bpaf_exact.proofs.FlatForm.{record_law}
 
 -- at the beginning each item is present, but for the marker
 open_at_first : (context : Context) (p : ℕ) → p < length context.line
@@ -45,7 +45,7 @@ first_cells_are context =
     (open_at_first context)
 
 -- no value is none
-no_value : {V : Type 0} (a : Answer V) (v : V) → IsNoValue a → a ≡ Accepted v → ⊥
+no_value : {V : Type 0} (a : RunAnswer V) (v : V) → IsNoValue a → a ≡ Accepted v → ⊥
 no_value (Accepted x) v n h = n
 no_value NoMemory v n h = cc
 no_value Refusal v n h = cc
@@ -75,11 +75,11 @@ module _ (V : Type 0) (outcome : Outcome V) (r : Roles) (reading : FieldsReading
   to_line v h = subst (λ cs. ReadOff V r reading.value cs v) (first_cells_are context) h
 
   -- a cut of the line is one of the first cells
-  from_line : (os : List Piece) → Cut r (line_cells context) os → Cut r (cells s) os
+  from_line : (os : List LinePiece) → Cut r (line_cells context) os → Cut r (cells s) os
   from_line os c = subst (λ cs. Cut r cs os) (sym (first_cells_are context)) c
 
   -- a value comes only where it is one of the record's
-  sound : (a : Answer V) → RunRan V outcome s a → (v : V) → a ≡ Accepted v
+  sound : (a : RunAnswer V) → RunRan V outcome s a → (v : V) → a ≡ Accepted v
       → RecordValue r reading.value context v
   sound a (run_value {v = x} {t = t} o e) v h =
       let d : x ≡ v = cc in
@@ -90,9 +90,9 @@ module _ (V : Type 0) (outcome : Outcome V) (r : Roles) (reading : FieldsReading
   sound a (run_refusal o e n) v h = absurd (no_value a v n h)
 
   -- where each field has a value, each answer is one of the record's, or want of memory
-  complete : (a : Answer V) → RunRan V outcome s a → (os : List Piece)
+  complete : (a : RunAnswer V) → RunRan V outcome s a → (os : List LinePiece)
       → Cut r (line_cells context) os → reading.each os
-      → IsAnswer (λ w. RecordValue r reading.value context w) a
+      → IsAcceptedOrWant (λ w. RecordValue r reading.value context w) a
   complete a (run_value {v = x} {t = t} o e) os c h =
       to_line x (record {
         cut_into = os;
@@ -106,7 +106,7 @@ module _ (V : Type 0) (outcome : Outcome V) (r : Roles) (reading : FieldsReading
       absurd (e (l.answers s t (Err x) os whole o (from_line os c) h))
 
   -- where one has none, no answer is a value: the line has one cut
-  refused : (a : Answer V) → RunRan V outcome s a → (os : List Piece)
+  refused : (a : RunAnswer V) → RunRan V outcome s a → (os : List LinePiece)
       → Cut r (line_cells context) os → ¬ (reading.each os) → (v : V) → ¬ (a ≡ Accepted v)
   refused a ran os c none v h =
       let i = sound a ran v h in
@@ -115,21 +115,21 @@ module _ (V : Type 0) (outcome : Outcome V) (r : Roles) (reading : FieldsReading
 
   -- THE THEOREM: on every line each answer of a run is a value of the record, want of memory, or a
   -- refusal where the record has no value.
-  pub exact : (a : Answer V) → RunRan V outcome s a → IsExact V r reading context a
+  pub exact : (a : RunAnswer V) → RunRan V outcome s a → IsExact V r reading context a
   exact a ran =
       record { sound = sound a ran; complete = complete a ran; refused = refused a ran }
 
 -- A line without a cut gets no value, as with a foreign key, an ArgWord after a flag's key or a key
 -- without its value.
 pub uncut_refused : (V : Type 0) (r : Roles) (reading : FieldsReading V) (context : Context)
-    (a : Answer V) (v : V) → IsExact V r reading context a
-    → ((os : List Piece) → ¬ (Cut r (line_cells context) os)) → ¬ (a ≡ Accepted v)
+    (a : RunAnswer V) (v : V) → IsExact V r reading context a
+    → ((os : List LinePiece) → ¬ (Cut r (line_cells context) os)) → ¬ (a ≡ Accepted v)
 uncut_refused V r reading context a v e n h = let i = e.sound v h in n i.cut_into i.cut
 
 -- each answer of a run of a flat record is exact
-pub runs_exactly : (V : Type 0) (outcome : Outcome V) (names : List Names) (s : Shape V)
-    → is_record s ≡ true → ShapeLaw outcome names s → (context : Context)
+pub runs_exactly : (V : Type 0) (outcome : Outcome V) (names : List Names) (s : FlatForm V)
+    → is_record s ≡ true → FormLaw outcome names s → (context : Context)
     → RunsExactly outcome s context
 runs_exactly V outcome names s h l context a r =
-    exact V outcome (product_roles (record_shape s)) (product_reading (record_shape s))
+    exact V outcome (product_roles (flat_record s)) (product_reading (flat_record s))
     (record_law V outcome names s h l) context a r

@@ -4,18 +4,19 @@ use Rattle.std.proofs.Common.{refl, sym, ap, ◌∙◌, subst, if◌then◌else�
 use Rattle.bpaf_doc.specs.Names.{Names}
 use Rattle.bpaf_words.specs.declared.arg.Arg.{Arg}
 use Rattle.bpaf_line.specs.Situation.{Context}
-use Rattle.bpaf_exact.specs.Pieces.{Cells, Role, Foreign, Alone, WithNext, Roles, Piece, One, Two}
+use Rattle.bpaf_exact.specs.Pieces.{Cells, Role, Foreign, Alone, WithNext, Roles, LinePiece, One}
+use Rattle.bpaf_exact.specs.Pieces.{Two}
 use Rattle.bpaf_exact.specs.Pieces.{is_own_role, is_own, mine, others, either, either_role, no_roles}
 use Rattle.bpaf_exact.specs.Pieces.{IsNamed, Apart, Cut, at_end, passed, flag, argument, word}
 use Rattle.bpaf_exact.specs.Pieces.{pieces}
-use Rattle.bpaf_exact.specs.Flat.{Kind, Named, OneWord, EachWord, BothValue, both_reading, keys, left}
+use Rattle.bpaf_exact.specs.Flat.{FieldKind, ByName, OneWord, EachWord, BothValue, both_reading, keys, left}
 use Rattle.bpaf_exact.specs.Names.{Owns, are_all_apart}
 use Rattle.bpaf_exact.specs.Record.{RecordValue, line_cells}
-use Rattle.bpaf_exact.specs.Shape.{Shape, not_flat, alternative, single, complete, product}
-use Rattle.bpaf_exact.specs.Shape.{product_roles, product_reading, both_shape, alone_shape, con_shape}
-use Rattle.bpaf_exact.specs.Shape.{may_follow, only_if, record_shape}
+use Rattle.bpaf_exact.specs.FlatForm.{FlatForm, not_flat, alternative, single, complete, product}
+use Rattle.bpaf_exact.specs.FlatForm.{product_roles, product_reading, flat_both, flat_alone, flat_con}
+use Rattle.bpaf_exact.specs.FlatForm.{may_follow, only_if, flat_record}
 use Rattle.bpaf_exact.specs.Wrappers.{Closure}
-use Rattle.bpaf_exact.specs.Fields.{IsPart, ReadsOwn, FieldBy, IsFieldOf, ShapeOwns, OwnsKeys}
+use Rattle.bpaf_exact.specs.Fields.{IsPart, ReadsOwn, FieldBy, IsFieldOf, FormOwns, OwnsKeys}
 use Rattle.bpaf_exact.proofs.Cells.{pieces_of_cut}
 use Rattle.bpaf_exact.proofs.Names.{apart_of_names}
 
@@ -28,7 +29,7 @@ joined_part Alone y h = sym (h refl)
 joined_part WithNext y h = sym (h refl)
 
 -- so a line is cut by both together as by the whole
-cut_with_part : (q r : Roles) → IsPart q r → {cs : Cells} {os : List Piece} → Cut r cs os
+cut_with_part : (q r : Roles) → IsPart q r → {cs : Cells} {os : List LinePiece} → Cut r cs os
     → Cut (either q r) cs os
 cut_with_part q r part at_end = at_end
 cut_with_part q r part (passed c) = passed (cut_with_part q r part c)
@@ -63,12 +64,12 @@ fails false h = refl
 
 -- what is another's own isn't among one's own
 mine_of_others : (p q : Roles) → ((k : Arg) → is_own_role (q k) ≡ true → p k ≡ Foreign)
-    → (os : List Piece) → mine q (others p os) ≡ mine q os
+    → (os : List LinePiece) → mine q (others p os) ≡ mine q os
 mine_of_others p q apart [] = refl
 mine_of_others p q apart (o ∷ os) =
     by_own (mine_of_others p q apart os) (is_own p o) (foreign o)
   where
-    foreign : (o : Piece) → is_own q o ≡ true → is_own p o ≡ false
+    foreign : (o : LinePiece) → is_own q o ≡ true → is_own p o ≡ false
     foreign (One k) e = ap is_own_role (apart k e)
     foreign (Two k w) e = ap is_own_role (apart k e)
 
@@ -79,7 +80,7 @@ mine_of_others p q apart (o ∷ os) =
     by_own e false h = ap (λ z. if is_own q o then (o ∷ z) else z) e
 
 -- where no item is one's own, no piece is
-mine_none : (q : Roles) → ((k : Arg) → is_own_role (q k) ≡ false) → (os : List Piece)
+mine_none : (q : Roles) → ((k : Arg) → is_own_role (q k) ≡ false) → (os : List LinePiece)
     → mine q os ≡ []
 mine_none q none [] = refl
 mine_none q none (One k ∷ os) =
@@ -94,56 +95,60 @@ part_of_none q r none part k =
     (λ e. sym (ap is_own_role (part.same k e) ∙ e) ∙ none.own k)
 
 -- a field with keys that stands first
-first_by : {A B : Type 0} (own behind_it : List Names) (a : Shape A) (s : Shape B)
-    → FieldBy a (both_shape own behind_it a s) (λ v. v.0)
+first_by : {A B : Type 0} (own behind_it : List Names) (a : FlatForm A) (s : FlatForm B)
+    → FieldBy a (flat_both own behind_it a s) (λ v. v.0)
 first_by own behind_it not_flat s = tt
 first_by own behind_it (alternative q value) s = tt
 first_by own behind_it (single k q group gap) s = tt
 first_by own behind_it (product q fields) s = tt
 first_by own behind_it (complete OneWord q value) s = tt
 first_by own behind_it (complete EachWord q value) s = tt
-first_by own behind_it (complete Named q value) not_flat = tt
-first_by own behind_it (complete Named q value) (alternative r other) = tt
-first_by own behind_it (complete Named q value) (single k r group gap) = tt
-first_by own behind_it (complete Named q value) (complete k r other) = tt
-first_by {A = A} {B = B} own behind_it (complete Named q value) (product r fields) =
+first_by own behind_it (complete ByName q value) not_flat = tt
+first_by own behind_it (complete ByName q value) (alternative r other) = tt
+first_by own behind_it (complete ByName q value) (single k r group gap) = tt
+first_by own behind_it (complete ByName q value) (complete k r other) = tt
+first_by {A = A} {B = B} own behind_it (complete ByName q value) (product r fields) =
     by_names (are_all_apart own behind_it)
   where
     by_names : (apart : Bool)
-        → FieldBy {V = A × B} (complete Named q value)
-        (only_if apart (product (either q r) (both_reading Named q value fields))) (λ v. v.0)
+        → FieldBy {V = A × B} (complete ByName q value)
+        (only_if apart (product (either q r) (both_reading ByName q value fields))) (λ v. v.0)
     by_names true = record { part = first_is_part q r; read = λ os v i. i.0 }
     by_names false = tt
 
 -- a field with keys that stands behind another one with keys
-later_by : {A B C : Type 0} (own behind_it : List Names) (a : Shape A) (b : Shape B)
-    (s : Shape C) (of : C → B) → ShapeOwns own a → ShapeOwns behind_it s → FieldBy b s of
-    → FieldBy b (both_shape own behind_it a s) (λ v. of v.1)
+later_by : {A B C : Type 0} (own behind_it : List Names) (a : FlatForm A) (b : FlatForm B)
+    (s : FlatForm C) (of : C → B) → FormOwns own a → FormOwns behind_it s → FieldBy b s of
+    → FieldBy b (flat_both own behind_it a s) (λ v. of v.1)
 later_by own behind_it a not_flat s of owned owned_behind h = tt
 later_by own behind_it a (alternative q value) s of owned owned_behind h = tt
 later_by own behind_it a (single k q group gap) s of owned owned_behind h = tt
 later_by own behind_it a (product q fields) s of owned owned_behind h = tt
 later_by own behind_it a (complete OneWord q value) s of owned owned_behind h = tt
 later_by own behind_it a (complete EachWord q value) s of owned owned_behind h = tt
-later_by own behind_it not_flat (complete Named q value) s of owned owned_behind h = tt
-later_by own behind_it (alternative p first) (complete Named q value) s of owned owned_behind h = tt
-later_by own behind_it (single k p group gap) (complete Named q value) s of owned owned_behind h = tt
-later_by own behind_it (product p fields) (complete Named q value) s of owned owned_behind h = tt
-later_by own behind_it (complete k p first) (complete Named q value) not_flat of owned owned_behind h =
+later_by own behind_it not_flat (complete ByName q value) s of owned owned_behind h = tt
+later_by own behind_it (alternative p first) (complete ByName q value) s of owned owned_behind h =
     tt
-later_by own behind_it (complete k p first) (complete Named q value) (alternative r other) of owned
+later_by own behind_it (single k p group gap) (complete ByName q value) s of owned owned_behind h =
+    tt
+later_by own behind_it (product p fields) (complete ByName q value) s of owned owned_behind h = tt
+later_by own behind_it (complete k p first)
+    (complete ByName q value) not_flat of owned owned_behind h =
+    tt
+later_by own behind_it (complete k p first) (complete ByName q value) (alternative r other) of owned
     owned_behind h = tt
-later_by own behind_it (complete k p first) (complete Named q value) (single j r group gap) of
+later_by own behind_it (complete k p first) (complete ByName q value) (single j r group gap) of
     owned owned_behind h = tt
-later_by own behind_it (complete k p first) (complete Named q value) (complete j r other) of owned
+later_by own behind_it (complete k p first) (complete ByName q value) (complete j r other) of owned
     owned_behind h = tt
-later_by {A = A} {B = B} {C = C} own behind_it (complete k p first) (complete Named q value)
+later_by {A = A} {B = B} {C = C} own behind_it (complete k p first) (complete ByName q value)
     (product r fields) of owned owned_behind h =
     by_kind k owned (may_follow k own behind_it) refl
   where
     -- behind words no field has keys
-    behind_words : (rest : List Piece → List Piece) → ((k : Arg) → is_own_role (q k) ≡ false)
-        → (words : List Piece → A → Type 0)
+    behind_words : (rest : List LinePiece → List LinePiece)
+        → ((k : Arg) → is_own_role (q k) ≡ false)
+        → (words : List LinePiece → A → Type 0)
         → ReadsOwn (A × C) B (either no_roles r) (λ os v. words os v.0 × fields.value (rest os) v.1)
         q value (λ v. of v.1)
     behind_words rest none words = record {
@@ -159,10 +164,10 @@ later_by {A = A} {B = B} {C = C} own behind_it (complete k p first) (complete Na
     none_own (names ∷ behind_it) none e = absurd cc
 
     -- where the keys of the first are apart from the behind_it
-    behind : (k : Kind) → Owns (keys k p) own → may_follow k own behind_it ≡ true
+    behind : (k : FieldKind) → Owns (keys k p) own → may_follow k own behind_it ≡ true
         → ReadsOwn (A × C) B (either (keys k p) r) (BothValue k p first fields.value) q value
         (λ v. of v.1)
-    behind Named o e =
+    behind ByName o e =
         let apart = apart_of_names p r own behind_it o owned_behind e in
         record {
           part = later_is_part p q r apart h.part;
@@ -174,70 +179,71 @@ later_by {A = A} {B = B} {C = C} own behind_it (complete k p first) (complete Na
     behind OneWord o e = behind_words (left OneWord p) (none_own behind_it owned_behind e) _
     behind EachWord o e = behind_words (left EachWord p) (none_own behind_it owned_behind e) _
 
-    by_kind : (k : Kind) → Owns (keys k p) own → (may : Bool) → may_follow k own behind_it ≡ may
-        → FieldBy {V = A × C} (complete Named q value)
+    by_kind : (k : FieldKind) → Owns (keys k p) own → (may : Bool)
+        → may_follow k own behind_it ≡ may
+        → FieldBy {V = A × C} (complete ByName q value)
         (only_if may (product (either (keys k p) r) (both_reading k p first fields)))
         (λ v. of v.1)
     by_kind k o true e = behind k o e
     by_kind k o false e = tt
 
 -- the last field, where it has keys
-last_by : {A : Type 0} (a : Shape A) → FieldBy a (alone_shape a) (λ v. v)
+last_by : {A : Type 0} (a : FlatForm A) → FieldBy a (flat_alone a) (λ v. v)
 last_by not_flat = tt
 last_by (alternative q value) = tt
 last_by (single k q group gap) = tt
 last_by (product q fields) = tt
 last_by (complete OneWord q value) = tt
 last_by (complete EachWord q value) = tt
-last_by (complete Named q value) = record {
+last_by (complete ByName q value) = record {
   part = first_is_part q no_roles;
   read = λ os v i. i.read;
 }
 
 -- a field of what a constructor makes, read off what that is made of
-made_by : {A B C : Type 0} (f : Closure A B) (a : Shape C) (s : Shape A) (of : A → C)
+made_by : {A B C : Type 0} (f : Closure A B) (a : FlatForm C) (s : FlatForm A) (of : A → C)
     (from : B → C) → ((x : A) (v : B) → f.yes x v → from v ≡ of x) → FieldBy a s of
-    → FieldBy a (con_shape f s) from
+    → FieldBy a (flat_con f s) from
 made_by f not_flat s of from same h = tt
 made_by f (alternative q value) s of from same h = tt
 made_by f (single k q group gap) s of from same h = tt
 made_by f (product q fields) s of from same h = tt
 made_by f (complete OneWord q value) s of from same h = tt
 made_by f (complete EachWord q value) s of from same h = tt
-made_by f (complete Named q value) not_flat of from same h = tt
-made_by f (complete Named q value) (alternative r other) of from same h = tt
-made_by f (complete Named q value) (single k r group gap) of from same h = tt
-made_by f (complete Named q value) (complete k r other) of from same h = tt
-made_by f (complete Named q value) (product r fields) of from same h = record {
+made_by f (complete ByName q value) not_flat of from same h = tt
+made_by f (complete ByName q value) (alternative r other) of from same h = tt
+made_by f (complete ByName q value) (single k r group gap) of from same h = tt
+made_by f (complete ByName q value) (complete k r other) of from same h = tt
+made_by f (complete ByName q value) (product r fields) of from same h = record {
   part = h.part;
   read = λ os v i. subst (λ x. value (mine q os) x) (sym (same i.from v i.made))
       (h.read os i.from i.read);
 }
 
 -- The first of two is a field of both,
-pub first_field : {A B : Type 0} (own behind : List Names) (a : Shape A) (s : Shape B)
-    → IsFieldOf a (both_shape own behind a s) (λ v. v.0)
+pub first_field : {A B : Type 0} (own behind : List Names) (a : FlatForm A) (s : FlatForm B)
+    → IsFieldOf a (flat_both own behind a s) (λ v. v.0)
 first_field own behind a s = record { by = first_by own behind a s }
 
 -- a field of the others is one of all, where each has items of its names alone;
-pub later_field : {A B C : Type 0} (own behind : List Names) (a : Shape A) (b : Shape B)
-    (s : Shape C) (of : C → B) → OwnsKeys own a → OwnsKeys behind s → IsFieldOf b s of
-    → IsFieldOf b (both_shape own behind a s) (λ v. of v.1)
+pub later_field : {A B C : Type 0} (own behind : List Names) (a : FlatForm A) (b : FlatForm B)
+    (s : FlatForm C) (of : C → B) → OwnsKeys own a → OwnsKeys behind s → IsFieldOf b s of
+    → IsFieldOf b (flat_both own behind a s) (λ v. of v.1)
 later_field own behind a b s of owned owned_behind h =
     record { by = later_by own behind a b s of owned.by owned_behind.by h.by }
 
 -- so is the last one,
-pub last_field : {A : Type 0} (a : Shape A) → IsFieldOf a (alone_shape a) (λ v. v)
+pub last_field : {A : Type 0} (a : FlatForm A) → IsFieldOf a (flat_alone a) (λ v. v)
 last_field a = record { by = last_by a }
 
 -- and one of what a constructor makes.
-pub made_field : {A B C : Type 0} (f : Closure A B) (a : Shape C) (s : Shape A) (of : A → C)
+pub made_field : {A B C : Type 0} (f : Closure A B) (a : FlatForm C) (s : FlatForm A) (of : A → C)
     (from : B → C) → ((x : A) (v : B) → f.yes x v → from v ≡ of x) → IsFieldOf a s of
-    → IsFieldOf a (record_shape (con_shape f s)) from
+    → IsFieldOf a (flat_record (flat_con f s)) from
 made_field {A = A} f a s of from same h = record { by = of_record s (made_by f a s of from same h.by) }
   where
-    of_record : (s : Shape A) → FieldBy a (con_shape f s) from
-        → FieldBy a (record_shape (con_shape f s)) from
+    of_record : (s : FlatForm A) → FieldBy a (flat_con f s) from
+        → FieldBy a (flat_record (flat_con f s)) from
     of_record not_flat h = h
     of_record (alternative q value) h = h
     of_record (single k q group gap) h = h
@@ -245,8 +251,8 @@ made_field {A = A} f a s of from same h = record { by = of_record s (made_by f a
     of_record (product q fields) h = h
 
 -- What a value of the record says of its field: it is read off the field's own keys on the line.
-pub field_value : {V A : Type 0} (s : Shape V) (q : Roles) (own : List Piece → A → Type 0)
-    (of : V → A) → IsNamed q → IsFieldOf (complete Named q own) s of → (context : Context) (v : V)
+pub field_value : {V A : Type 0} (s : FlatForm V) (q : Roles) (own : List LinePiece → A → Type 0)
+    (of : V → A) → IsNamed q → IsFieldOf (complete ByName q own) s of → (context : Context) (v : V)
     → RecordValue (product_roles s) (product_reading s).value context v
     → own (pieces q (line_cells context)) (of v)
 field_value not_flat q own of n h context v i = absurd i.read

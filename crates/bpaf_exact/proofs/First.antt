@@ -2,22 +2,25 @@
 use Rattle.std.proofs.Common.{◌≡◌, ◌<◌, Bool, true, false, List, [], ◌∷◌, length, Option, Some}
 use Rattle.std.proofs.Common.{None, refl, sym, ap, ◌∙◌, subst, inl, inr, ◌⊎◌, if◌then◌else◌, arith}
 use Rattle.bpaf_words.specs.declared.arg.Arg.{Arg}
-use Rattle.bpaf_exact.specs.Pieces.{Cells, Role, Foreign, Alone, WithNext, Roles, Piece, One, Two}
+use Rattle.bpaf_exact.specs.Pieces.{Cells, Role, Foreign, Alone, WithNext, Roles, LinePiece, One}
+use Rattle.bpaf_exact.specs.Pieces.{Two}
 use Rattle.bpaf_exact.specs.Pieces.{is_value, is_own_role, is_own, IsNamed, Apart, either}
-use Rattle.bpaf_exact.specs.Pieces.{either_role, with_next, begin_piece, pieces, Takes, takes_one}
+use Rattle.bpaf_exact.specs.Pieces.{either_role, with_next, begin_piece, pieces, TakesPiece}
+use Rattle.bpaf_exact.specs.Pieces.{takes_one}
 use Rattle.bpaf_exact.specs.Pieces.{takes_two, takes_later}
 use Rattle.bpaf_exact.specs.Alternative.{TakesFirst, first_one, first_two, first_later, HasBad}
 use Rattle.bpaf_exact.specs.Alternative.{bad_here, bad_later}
 use Rattle.bpaf_exact.proofs.Cells.{value_not_key, keeps_other, same_next}
 
 -- taking the first piece is taking one
-pub first_takes : (q : Roles) {cs ds : Cells} {o : Piece} → TakesFirst q cs o ds → Takes q cs o ds
+pub first_takes : (q : Roles) {cs ds : Cells} {o : LinePiece} → TakesFirst q cs o ds
+    → TakesPiece q cs o ds
 first_takes q (first_one e) = takes_one e
 first_takes q (first_two e v) = takes_two e v
 first_takes q (first_later n t) = takes_later (first_takes q t)
 
 -- an item begins a piece by its role
-pub begin_at : {x y : Role} (k : Arg) (cs : Cells) (os : List Piece) → x ≡ y
+pub begin_at : {x y : Role} (k : Arg) (cs : Cells) (os : List LinePiece) → x ≡ y
     → begin_piece x k cs os ≡ begin_piece y k cs os
 begin_at k cs os e = ap (λ z. begin_piece z k cs os) e
 
@@ -39,7 +42,7 @@ pair_pieces q k w cs n e v =
     cc
 
 -- The first piece heads the list.
-pub first_pieces : (q : Roles) {cs ds : Cells} {o : Piece} → IsNamed q → TakesFirst q cs o ds
+pub first_pieces : (q : Roles) {cs ds : Cells} {o : LinePiece} → IsNamed q → TakesFirst q cs o ds
     → pieces q cs ≡ o ∷ pieces q ds
 first_pieces q n (first_one {k = k} {cs = cs} e) = begin_at k cs (pieces q cs) e
 first_pieces q n (first_two {k = k} {w = w} {cs = cs} e v) = pair_pieces q k w cs n e v
@@ -51,21 +54,22 @@ first_pieces q n (first_later {c = Some k} {cs = cs} {ds = ds} h t) =
     cc
 
 -- where no piece begins there is none behind
-nil_rest : (x : Role) (k : Arg) (cs : Cells) (os : List Piece) → begin_piece x k cs os ≡ []
+nil_rest : (x : Role) (k : Arg) (cs : Cells) (os : List LinePiece) → begin_piece x k cs os ≡ []
     → os ≡ []
 nil_rest Foreign k cs os e = e
 nil_rest Alone k cs os e = cc
 nil_rest WithNext k cs os e = cc
 
 -- and the item isn't the field's own
-nil_foreign : (x : Role) (k : Arg) (cs : Cells) (os : List Piece) → begin_piece x k cs os ≡ []
+nil_foreign : (x : Role) (k : Arg) (cs : Cells) (os : List LinePiece) → begin_piece x k cs os ≡ []
     → x ≡ Foreign
 nil_foreign Foreign k cs os e = refl
 nil_foreign Alone k cs os e = cc
 nil_foreign WithNext k cs os e = cc
 
 -- what was taken was there
-pub takes_nonempty : (q : Roles) {cs ds : Cells} {o : Piece} → Takes q cs o ds → pieces q cs ≡ []
+pub takes_nonempty : (q : Roles) {cs ds : Cells} {o : LinePiece} → TakesPiece q cs o ds
+    → pieces q cs ≡ []
     → ⊥
 takes_nonempty q (takes_one {k = k} {cs = cs} e) h = let f =
     nil_foreign (q k) k cs (pieces q cs) h in cc
@@ -77,14 +81,14 @@ takes_nonempty q (takes_later {c = Some k} {cs = cs} t) h =
 
 -- A piece that can't be read stays one when others are given back.
 
-module _ (T : Type 0) (value : Piece → T → Type 0) where
+module _ (T : Type 0) (value : LinePiece → T → Type 0) where
   -- a piece that can't be read is one
-  pub bad_nonempty : (os : List Piece) → HasBad T value os → os ≡ [] → ⊥
+  pub bad_nonempty : (os : List LinePiece) → HasBad T value os → os ≡ [] → ⊥
   bad_nonempty os (bad_here h) e = cc
   bad_nonempty os (bad_later h) e = cc
 
   -- with an item before them pieces that can't be read stay
-  bad_begin : (x : Role) (k : Arg) (cs ds : Cells) (os ps : List Piece)
+  bad_begin : (x : Role) (k : Arg) (cs ds : Cells) (os ps : List LinePiece)
       → with_next k ds ≡ with_next k cs → (HasBad T value os → HasBad T value ps)
       → HasBad T value (begin_piece x k ds os) → HasBad T value (begin_piece x k cs ps)
   bad_begin Foreign k cs ds os ps e f h = f h
@@ -92,12 +96,13 @@ module _ (T : Type 0) (value : Piece → T → Type 0) where
   bad_begin Alone k cs ds os ps e f (bad_later h) = bad_later (f h)
   bad_begin WithNext k cs ds os ps e f h = by_next (with_next k ds) (with_next k cs) e h
     where
-      by_next : (x y : Piece) → x ≡ y → HasBad T value (x ∷ os) → HasBad T value (y ∷ ps)
+      by_next : (x y : LinePiece) → x ≡ y → HasBad T value (x ∷ os) → HasBad T value (y ∷ ps)
       by_next x y e (bad_here h) = bad_here (λ v g. h v (subst (λ z. value z v) (sym e) g))
       by_next x y e (bad_later h) = bad_later (f h)
 
   -- A piece that can't be read stays one when others are given back.
-  pub bad_given_back : (q : Roles) {cs ds : Cells} {o : Piece} → IsNamed q → Takes q cs o ds
+  pub bad_given_back : (q : Roles) {cs ds : Cells} {o : LinePiece} → IsNamed q
+      → TakesPiece q cs o ds
       → HasBad T value (pieces q ds) → HasBad T value (pieces q cs)
   bad_given_back q n (takes_one {k = k} {cs = cs} e) h =
       subst (HasBad T value) (sym (begin_at k cs (pieces q cs) e)) (bad_later h)
@@ -166,8 +171,9 @@ left_role : (qa qb r : Roles) (k : Arg) (x : Role) → Union qa qb r → is_own_
 left_role qa qb r k x u h e = u.left k (ap is_own_role e ∙ h) ∙ e
 
 -- what the first takes both take
-pub takes_left : (qa qb r : Roles) {cs ds : Cells} {o : Piece} → Union qa qb r → Takes qa cs o ds
-    → Takes r cs o ds
+pub takes_left : (qa qb r : Roles) {cs ds : Cells} {o : LinePiece} → Union qa qb r
+    → TakesPiece qa cs o ds
+    → TakesPiece r cs o ds
 takes_left qa qb r u (takes_one {k = k} e) = takes_one (left_role qa qb r k Alone u refl e)
 takes_left qa qb r u (takes_two {k = k} e v) = takes_two (left_role qa qb r k WithNext u refl e) v
 takes_left qa qb r u (takes_later t) = takes_later (takes_left qa qb r u t)
@@ -183,8 +189,8 @@ own_next q k (Some w ∷ cs) = by_value (is_value w)
     by_value false = refl
 
 -- the key of the piece that an item begins
-head_key : (q : Roles) (x : Role) (k : Arg) (cs : Cells) (os : List Piece) (o : Piece)
-    (ps : List Piece) → is_own_role x ≡ true → begin_piece x k cs os ≡ o ∷ ps
+head_key : (q : Roles) (x : Role) (k : Arg) (cs : Cells) (os : List LinePiece) (o : LinePiece)
+    (ps : List LinePiece) → is_own_role x ≡ true → begin_piece x k cs os ≡ o ∷ ps
     → is_own q o ≡ is_own_role (q k)
 head_key q Foreign k cs os o ps h e = absurd cc
 head_key q Alone k cs os o ps h e = let d : One k ≡ o = cc in ap (is_own q) (sym d)
@@ -215,12 +221,12 @@ own_or_not Alone h e = cc
 own_or_not WithNext h e = cc
 
 -- the first piece of both is the first piece of its owner
-pub record HeadOf (q : Roles) (cs : Cells) (o : Piece) : Type 0 where
-  pub tail : List Piece
+pub record HeadOf (q : Roles) (cs : Cells) (o : LinePiece) : Type 0 where
+  pub tail : List LinePiece
   pub is : pieces q cs ≡ o ∷ tail
 
 -- the first piece of both is that of one of them
-pub owner : (qa qb r : Roles) (cs : Cells) (o : Piece) (os : List Piece) → Union qa qb r
+pub owner : (qa qb r : Roles) (cs : Cells) (o : LinePiece) (os : List LinePiece) → Union qa qb r
     → pieces r cs ≡ o ∷ os
     → HeadOf qa cs o × (is_own qa o ≡ true) ⊎ HeadOf qb cs o × (is_own qb o ≡ true)
 owner qa qb r [] o os u e = absurd cc
@@ -278,7 +284,8 @@ owner qa qb r (Some k ∷ cs) o os u e =
 
 -- An item that isn't the first field's own goes before the first piece only where it isn't the
 -- other's either.
-not_either : (qa qb r : Roles) (k : Arg) (cs : Cells) (o : Piece) (os : List Piece) → Union qa qb r
+not_either : (qa qb r : Roles) (k : Arg) (cs : Cells) (o : LinePiece) (os : List LinePiece)
+    → Union qa qb r
     → qa k ≡ Foreign → is_own qa o ≡ true → pieces r (Some k ∷ cs) ≡ o ∷ os
     → (r k ≡ Foreign) × (pieces r cs ≡ o ∷ os)
 not_either qa qb r k cs o os u f h e = by_owner (belongs qa qb r k u)
@@ -292,7 +299,8 @@ not_either qa qb r k cs o os u f h e = by_owner (belongs qa qb r k u)
     by_owner (to_none x y z) = (z, sym (begin_at k cs (pieces r cs) z) ∙ e)
 
 -- Where the first piece of both is the first field's, the first field's first is the first of both.
-pub first_mine : (qa qb r : Roles) {cs ds : Cells} {oa o : Piece} {os : List Piece} → Union qa qb r
+pub first_mine : (qa qb r : Roles) {cs ds : Cells} {oa o : LinePiece} {os : List LinePiece}
+    → Union qa qb r
     → pieces r cs ≡ o ∷ os → is_own qa o ≡ true → TakesFirst qa cs oa ds → TakesFirst r cs oa ds
 first_mine qa qb r u e h (first_one {k = k} x) = first_one (left_role qa qb r k Alone u refl x)
 first_mine qa qb r u e h (first_two {k = k} x v) =
@@ -303,7 +311,8 @@ first_mine qa qb r {o = o} {os = os} u e h (first_later {c = Some k} {cs = cs} n
     first_later d.0 (first_mine qa qb r u d.1 h t)
 
 -- The same where the other field has no piece.
-pub first_alone : (qa qb r : Roles) {cs ds : Cells} {oa : Piece} → Union qa qb r → pieces qb cs ≡ []
+pub first_alone : (qa qb r : Roles) {cs ds : Cells} {oa : LinePiece} → Union qa qb r
+    → pieces qb cs ≡ []
     → TakesFirst qa cs oa ds → TakesFirst r cs oa ds
 first_alone qa qb r u e (first_one {k = k} x) = first_one (left_role qa qb r k Alone u refl x)
 first_alone qa qb r u e (first_two {k = k} x v) =
@@ -332,7 +341,7 @@ pub data TookLeft : Cells → Cells → Type 0 where
       → TookLeft (c ∷ cs) (d ∷ ds)
 
 -- Of two first pieces the one further left is the first of both.
-pub first_both : (qa qb r : Roles) {cs ca cb : Cells} {oa ob : Piece} → Union qa qb r
+pub first_both : (qa qb r : Roles) {cs ca cb : Cells} {oa ob : LinePiece} → Union qa qb r
     → TakesFirst qa cs oa ca → TakesFirst qb cs ob cb → TookLeft ca cb → TakesFirst r cs oa ca
 first_both qa qb r u (first_one {k = k} x) t h = first_one (left_role qa qb r k Alone u refl x)
 first_both qa qb r u (first_two {k = k} x v) t h =
@@ -346,9 +355,9 @@ first_both qa qb r u (first_later {c = Some k} n s) (first_two e v) (left_later 
 
 -- If the first piece of both is the second field's and it took that, the first field took nothing
 -- further left.
-pub not_left : (qa qb r : Roles) {cs ca cb : Cells} {oa ob o : Piece} {os : List Piece}
+pub not_left : (qa qb r : Roles) {cs ca cb : Cells} {oa ob o : LinePiece} {os : List LinePiece}
     → Union qa qb r → pieces r cs ≡ o ∷ os → is_own qb o ≡ true
-    → Takes qa cs oa ca → TakesFirst qb cs ob cb → TookLeft ca cb → ⊥
+    → TakesPiece qa cs oa ca → TakesFirst qb cs ob cb → TookLeft ca cb → ⊥
 not_left qa qb r u e h (takes_later t) (first_one x) (left_later same l) = cc
 not_left qa qb r u e h (takes_later t) (first_two x v) (left_later same l) = cc
 not_left qa qb r u e h (takes_later {c = None} t) (first_later n s) (left_later same l) =
@@ -378,14 +387,14 @@ not_left qa qb r {o = o} {os = os} u e h (takes_two {k = k} {w = j} {cs = cs} x 
     cc
 
 -- Two fields never leave the same items.
-begin_length : (x : Role) (k : Arg) (cs ds : Cells) (os ps : List Piece) → length os < length ps
+begin_length : (x : Role) (k : Arg) (cs ds : Cells) (os ps : List LinePiece) → length os < length ps
     → length (begin_piece x k cs os) < length (begin_piece x k ds ps)
 begin_length Foreign k cs ds os ps h = h
 begin_length Alone k cs ds os ps h = omega arith
 begin_length WithNext k cs ds os ps h = omega arith
 
 -- taking a piece leaves fewer
-takes_shorter : (q : Roles) {cs ds : Cells} {o : Piece} → IsNamed q → Takes q cs o ds
+takes_shorter : (q : Roles) {cs ds : Cells} {o : LinePiece} → IsNamed q → TakesPiece q cs o ds
     → length (pieces q ds) < length (pieces q cs)
 takes_shorter q n (takes_one {k = k} {cs = cs} e) = let d =
     ap length (begin_at k cs (pieces q cs) e) in omega arith
@@ -396,14 +405,15 @@ takes_shorter q n (takes_later {c = Some k} {cs = cs} {ds = ds} t) =
     begin_length (q k) k ds cs (pieces q ds) (pieces q cs) (takes_shorter q n t)
 
 -- so it changes the cells
-pub takes_changes : (q : Roles) {cs ds : Cells} {o : Piece} → IsNamed q → Takes q cs o ds → ds ≡ cs
+pub takes_changes : (q : Roles) {cs ds : Cells} {o : LinePiece} → IsNamed q → TakesPiece q cs o ds
+    → ds ≡ cs
     → ⊥
 takes_changes q n t e = let a = takes_shorter q n t in let b = ap (λ z. length (pieces q z)) e in
     omega arith
 
 -- two that share no item never leave the same cells
-pub never_same : (qa qb r : Roles) {cs ca cb : Cells} {oa ob : Piece} → Union qa qb r
-    → Takes qa cs oa ca → Takes qb cs ob cb → ca ≡ cb → ⊥
+pub never_same : (qa qb r : Roles) {cs ca cb : Cells} {oa ob : LinePiece} → Union qa qb r
+    → TakesPiece qa cs oa ca → TakesPiece qb cs ob cb → ca ≡ cb → ⊥
 never_same qa qb r {ca = ca} {cb = cb} u s t e =
     let a = takes_shorter qa u.named_left s in
     let b = ap length
@@ -413,18 +423,19 @@ never_same qa qb r {ca = ca} {cb = cb} u s t e =
     omega arith
 
 -- A piece of one field that can't be read is one of both that can't be read.
-module _ (T : Type 0) (va vr : Piece → T → Type 0) (qa qb r : Roles) (u : Union qa qb r)
-    (back : (o : Piece) (v : T) → is_own qa o ≡ true → vr o v → va o v) where
+module _ (T : Type 0) (va vr : LinePiece → T → Type 0) (qa qb r : Roles) (u : Union qa qb r)
+    (back : (o : LinePiece) (v : T) → is_own qa o ≡ true → vr o v → va o v) where
   -- pieces that can't be read stay behind an item
-  bad_any : (x : Role) (k : Arg) (cs : Cells) (os : List Piece) → HasBad T vr os
+  bad_any : (x : Role) (k : Arg) (cs : Cells) (os : List LinePiece) → HasBad T vr os
       → HasBad T vr (begin_piece x k cs os)
   bad_any Foreign k cs os h = h
   bad_any Alone k cs os h = bad_later h
   bad_any WithNext k cs os h = bad_later h
 
   -- a piece of the first that can't be read, behind an item
-  bad_at : (x y : Role) (k : Arg) (cs : Cells) (os ps : List Piece) → (is_own_role x ≡ true → y ≡ x)
-      → ((o : Piece) → is_own qa o ≡ is_own_role (qa k) → is_own qa o ≡ is_own_role x)
+  bad_at : (x y : Role) (k : Arg) (cs : Cells) (os ps : List LinePiece)
+      → (is_own_role x ≡ true → y ≡ x)
+      → ((o : LinePiece) → is_own qa o ≡ is_own_role (qa k) → is_own qa o ≡ is_own_role x)
       → (HasBad T va os → HasBad T vr ps) → HasBad T va (begin_piece x k cs os)
       → HasBad T vr (begin_piece y k cs ps)
   bad_at Foreign y k cs os ps e g f h = bad_any y k cs ps (f h)

@@ -10,14 +10,14 @@ use Rattle.bpaf_line.specs.Situation.{Situation, take_place}
 use Rattle.bpaf_line.specs.Taking.{HasNone, TakesFlag}
 use Rattle.bpaf_laws.specs.Environment.{is_set}
 use Rattle.bpaf_laws.specs.Flag.{FlagOutcome, FlagFails}
-use Rattle.bpaf_exact.specs.Pieces.{Alone, Roles, Piece, One, IsNamed, pieces, takes_none}
-use Rattle.bpaf_exact.specs.Flat.{class, class_of, cells, IsWhole, Named}
+use Rattle.bpaf_exact.specs.Pieces.{Alone, Roles, LinePiece, One, IsNamed, pieces, takes_none}
+use Rattle.bpaf_exact.specs.Flat.{class, class_of, cells, IsWhole, ByName}
 use Rattle.bpaf_exact.specs.Single.{Groups, Gap, FrontOf, SingleOk, gave_absent, took, SingleErr}
 use Rattle.bpaf_exact.specs.Single.{of_memory, SingleLaw}
 use Rattle.bpaf_exact.specs.Alternative.{AlternativeOk, AlternativeErr, alternative_memory}
 use Rattle.bpaf_exact.specs.Alternative.{AlternativeLaw}
 use Rattle.bpaf_exact.specs.Leaves.{flag_roles, FlagValue, switch_gap, flag_by, flag_field}
-use Rattle.bpaf_exact.specs.Shape.{ShapeLaw}
+use Rattle.bpaf_exact.specs.FlatForm.{FormLaw}
 use Rattle.bpaf_exact.proofs.Classes.{missing_class}
 use Rattle.bpaf_exact.proofs.Product.{steady_refl}
 use Rattle.bpaf_exact.proofs.First.{first_takes, first_pieces, takes_nonempty}
@@ -33,7 +33,7 @@ module _ (T : Type 0) (clones : T → T → Type 0) (key : Key) (present : T)
   q = flag_roles key.names
 
   -- what its pieces mean
-  abbrev value : Piece → T → Type 0
+  abbrev value : LinePiece → T → Type 0
   value = FlagValue (clones present)
 
   -- they are the keys that the flag looks for
@@ -87,12 +87,12 @@ module _ (T : Type 0) (clones : T → T → Type 0) (key : Key) (present : T)
     gap = switch_gap (clones absent)
 
     switch_found : (s t : Situation) (v : T) → TakesFlag key.names s true t → clones present v
-        → SingleOk T Named q group gap s v t
+        → SingleOk T ByName q group gap s v t
     switch_found s t v takes y =
         let m = match_of (is_key_of key.names) s takes.0 takes.1.matches in
         let h = one_taken (is_key_of key.names) q s takes.0 test takes.1 m in
         let e = first_pieces q named h in
-        subst (SingleOk T Named q group gap s v) (sym takes.2)
+        subst (SingleOk T ByName q group gap s v) (sym takes.2)
         (took (take_steady s takes.0)
         (record {
           piece = One m.item;
@@ -110,26 +110,26 @@ module _ (T : Type 0) (clones : T → T → Type 0) (key : Key) (present : T)
         (record { piece = One m.item; is = e ∙ ap (λ z. One m.item ∷ z) i; means = y }, i)))
 
     switch_none : (s t : Situation) (v : T) → HasNone (is_key_of key.names) s → t ≡ s
-        → clones absent v → SingleOk T Named q group gap s v t
+        → clones absent v → SingleOk T ByName q group gap s v t
     switch_none s t v none same y =
-        subst (SingleOk T Named q group gap s v) (sym same)
+        subst (SingleOk T ByName q group gap s v) (sym same)
         (gave_absent refl (no_pieces (is_key_of key.names) q Alone s test none) y refl
         (steady_refl s))
 
     switch_ok : (s t : Situation) (v : T) → IsWhole s
         → FlagOutcome clones key present (Some absent) s (Ok v) t
-        → SingleOk T Named q group gap s v t
+        → SingleOk T ByName q group gap s v t
     switch_ok s t v w o = ⊎_elim
         (λ here. ⊎_elim (λ takes. switch_found s t v takes here.1)
         (λ set. absurd (never_set s set.1)) here.0)
         (λ none. switch_none s t v none.0.0.0 none.0.0.1 none.1) o
 
     switch_err : (s t : Situation) (e : Error) (m : Message) → class e ≡ class_of m
-        → FlagFails key (Some absent) s m t → SingleErr T Named q group gap s e t
+        → FlagFails key (Some absent) s m t → SingleErr T ByName q group gap s e t
     switch_err s t e Memory c o = of_memory c
     switch_err s t e other c o = let h = o.1 in absurd cc
 
-    switch_law : SingleLaw T (FlagOutcome clones key present (Some absent)) Named q group gap
+    switch_law : SingleLaw T (FlagOutcome clones key present (Some absent)) ByName q group gap
     switch_law = record {
       own = named;
       words = tt;
@@ -139,15 +139,15 @@ module _ (T : Type 0) (clones : T → T → Type 0) (key : Key) (present : T)
       err = λ s t e w o. switch_err s t e e.0 refl o;
     }
 
--- a flag keeps to the laws of its shape
+-- a flag keeps to the laws of its form
 pub flag_field_law : (T : Type 0) (clones : T → T → Type 0) (key : Key) (present : T)
     (absent : Option T)
-    → ShapeLaw (FlagOutcome clones key present absent) (key.names ∷ [])
+    → FormLaw (FlagOutcome clones key present absent) (key.names ∷ [])
     (flag_field clones key present absent)
 flag_field_law T clones key present absent = by_envs key.envs refl absent
   where
     by_envs : (envs : List (List ℕ)) → key.envs ≡ envs → (absent : Option T)
-        → ShapeLaw (FlagOutcome clones key present absent) (key.names ∷ [])
+        → FormLaw (FlagOutcome clones key present absent) (key.names ∷ [])
         (flag_by clones key.names present envs absent)
     by_envs (env ∷ envs) e absent = tt
     by_envs [] e None = (flag_law T clones key present e, names_own key.names Alone refl)

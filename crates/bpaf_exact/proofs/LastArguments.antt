@@ -10,9 +10,9 @@ use Rattle.bpaf_line.specs.declared.error.Message.TheVariants.{Memory, NoArgumen
 use Rattle.bpaf_line.specs.Situation.{Situation}
 use Rattle.bpaf_laws.specs.Argument.{ArgumentOutcome, ArgumentFails, TakesKeysWithTexts}
 use Rattle.bpaf_laws.specs.Argument.{TakesOwnText, TakesBefore, GetsText, is_key_with_value}
-use Rattle.bpaf_exact.specs.Pieces.{WithNext, Roles, Piece, One, Two, pieces}
+use Rattle.bpaf_exact.specs.Pieces.{WithNext, Roles, LinePiece, One, Two, pieces}
 use Rattle.bpaf_exact.specs.Pieces.{takes_none, takes_more}
-use Rattle.bpaf_exact.specs.Flat.{class, class_of, cells, IsWhole, Named, Steady, Refused}
+use Rattle.bpaf_exact.specs.Flat.{class, class_of, cells, IsWhole, ByName, Steady, Refused}
 use Rattle.bpaf_exact.specs.Single.{no_gap, TakesAny, SingleOk, took, SingleErr, of_memory}
 use Rattle.bpaf_exact.specs.Single.{of_missing, of_piece, SingleLaw}
 use Rattle.bpaf_exact.specs.Leaves.{argument_roles, HaveValues, no_more, one_more, LastGroup}
@@ -37,13 +37,13 @@ last_same T (x ∷ (z ∷ xs)) [] v w e = absurd cc
 last_same T (x ∷ xs) (y ∷ ys) v w e = last_same T xs ys v w cc
 
 -- a key without a value is none of pieces that each have one
-bare_spoils : (pairs tail before : List Piece) (k j w : Arg) → HaveValues before
+bare_spoils : (pairs tail before : List LinePiece) (k j w : Arg) → HaveValues before
     → pairs ++ One k ∷ tail ≡ before ++ Two j w ∷ [] → ⊥
 bare_spoils [] tail before k j w no_more e = cc
 bare_spoils [] tail before k j w (one_more h) e = cc
 bare_spoils (o ∷ pairs) tail before k j w no_more e = not_there pairs cc
   where
-    not_there : (ps : List Piece) → ps ++ One k ∷ tail ≡ [] → ⊥
+    not_there : (ps : List LinePiece) → ps ++ One k ∷ tail ≡ [] → ⊥
     not_there [] f = cc
     not_there (p ∷ ps) f = cc
 bare_spoils (o ∷ pairs) tail before k j w (one_more {os = os} h) e =
@@ -58,7 +58,7 @@ module _ (T : Type 0) (means : List ℕ → T → Type 0) (argument : KeyWithVal
 
   -- keys that were taken with their texts are the first pieces
   record TookSome (s t : Situation) : Type 0 where
-    pairs : List Piece
+    pairs : List LinePiece
     is : pieces q (cells s) ≡ pairs ++ pieces q (cells t)
 
   -- some keys with their texts
@@ -78,7 +78,7 @@ module _ (T : Type 0) (means : List ℕ → T → Type 0) (argument : KeyWithVal
 
   -- all of them are the pieces, and this is the text of the last one
   record TookAll (s t : Situation) (text : List ℕ) : Type 0 where
-    before : List Piece
+    before : List LinePiece
     key : Arg
     word : Arg
     text_is : item_text word ≡ text
@@ -164,11 +164,11 @@ module _ (T : Type 0) (means : List ℕ → T → Type 0) (argument : KeyWithVal
 
   -- a value is that of the last piece
   last_ok : (s t : Situation) (v : T) → IsWhole s → ArgumentOutcome means argument s (Ok v) t
-      → SingleOk T Named q (LastGroup T means) (no_gap T) s v t
+      → SingleOk T ByName q (LastGroup T means) (no_gap T) s v t
   last_ok s t v w o =
       let got = gets_all s t o.0 o.1 in
       let a = got.pieces_are in
-      let group : (rest : List Piece) → rest ≡ []
+      let group : (rest : List LinePiece) → rest ≡ []
       → LastGroup T means (pieces q (cells s)) v rest = (λ rest none. record {
         before = a.before;
         key = a.key;
@@ -184,20 +184,20 @@ module _ (T : Type 0) (means : List ℕ → T → Type 0) (argument : KeyWithVal
 
   -- where a last text means no value, the pieces have none
   fault_group : (s t : Situation) (text : List ℕ) → GotAll s t text
-      → ((v : T) → means text v → ⊥) → (v : T) (rest : List Piece)
+      → ((v : T) → means text v → ⊥) → (v : T) (rest : List LinePiece)
       → LastGroup T means (pieces q (cells s)) v rest → ⊥
   fault_group s t text got nothing v rest g =
       let a = got.pieces_are in
       let same : Two g.key g.word ≡ Two a.key a.word =
-      last_same Piece g.before a.before (Two g.key g.word) (Two a.key a.word)
+      last_same LinePiece g.before a.before (Two g.key g.word) (Two a.key a.word)
       (sym g.is ∙ whole s t text got) in
       let word : g.word ≡ a.word = cc in
       nothing v (subst (λ z. means z v) (ap item_text word ∙ a.text_is) g.meant)
 
   -- where a key has no value, the pieces have none
-  bare_refused : (s t : Situation) (e : Error) (k : Arg) (tail : List Piece) → class e ≡ Refused
+  bare_refused : (s t : Situation) (e : Error) (k : Arg) (tail : List LinePiece) → class e ≡ Refused
       → TookSome s t → pieces q (cells t) ≡ One k ∷ tail
-      → SingleErr T Named q (LastGroup T means) (no_gap T) s e t
+      → SingleErr T ByName q (LastGroup T means) (no_gap T) s e t
   bare_refused s t e k tail c some is =
       let there : pieces q (cells s) ≡ some.pairs ++ One k ∷ tail =
       some.is ∙ ap (λ z. some.pairs ++ z) is in
@@ -206,14 +206,14 @@ module _ (T : Type 0) (means : List ℕ → T → Type 0) (argument : KeyWithVal
       (λ v rest g. bare_spoils some.pairs tail g.before k g.key g.word g.have_values
       (sym there ∙ g.is))
     where
-      not_there : (ps : List Piece) → ps ++ One k ∷ tail ≡ [] → ⊥
+      not_there : (ps : List LinePiece) → ps ++ One k ∷ tail ≡ [] → ⊥
       not_there [] f = cc
       not_there (p ∷ ps) f = cc
 
   -- a refusal: no piece, one without a value, or a last one that means none
   last_err : (s t : Situation) (e : Error) (m : Message) → class e ≡ class_of m
       → ArgumentFails means argument s m t
-      → SingleErr T Named q (LastGroup T means) (no_gap T) s e t
+      → SingleErr T ByName q (LastGroup T means) (no_gap T) s e t
   last_err s t e Memory c o = of_memory c
   last_err s t e (ParseFailed place fault) c o =
       let got = gets_all s t o.0 o.1 in
@@ -225,7 +225,7 @@ module _ (T : Type 0) (means : List ℕ → T → Type 0) (argument : KeyWithVal
       let b = bare_taken (is_key_with_value argument) q t key (test argument plain) o.0.0 m o.0.1 in
       bare_refused s t e m.item b.tail c (took_some s t before.0 before.1) b.is
   last_err s t e other c o =
-      subst (λ z. SingleErr T Named q (LastGroup T means) (no_gap T) s e z) (sym o.2)
+      subst (λ z. SingleErr T ByName q (LastGroup T means) (no_gap T) s e z) (sym o.2)
       (of_missing
       (c ∙ missing_class other
       (absence_missing s (argument_part argument) argument.named.envs no_envs other o.1.1))
@@ -233,7 +233,7 @@ module _ (T : Type 0) (means : List ℕ → T → Type 0) (argument : KeyWithVal
       (steady_refl s))
 
   -- such an argument keeps to the laws of a field
-  pub last_argument_law : SingleLaw T (ArgumentOutcome means argument) Named q (LastGroup T means)
+  pub last_argument_law : SingleLaw T (ArgumentOutcome means argument) ByName q (LastGroup T means)
       (no_gap T)
   last_argument_law = record {
     own = named argument plain;

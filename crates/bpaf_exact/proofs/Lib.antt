@@ -21,11 +21,11 @@ pub mod Combining
 pub mod Choice
 pub mod Records
 pub mod Narrow
-pub mod Shape
+pub mod FlatForm
 pub mod Exact
 pub mod Twins
 pub mod SameParts
-pub mod Rows
+pub mod WorkedRows
 pub mod OneView
 pub mod Accepted
 pub mod Surplus

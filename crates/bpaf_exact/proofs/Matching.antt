@@ -16,7 +16,7 @@ use Rattle.bpaf_line.specs.Taking.{open_item, is_match, IsFirst, HasNone, value_
 use Rattle.bpaf_line.proofs.Places.{open_in_line}
 use Rattle.bpaf_line.proofs.Matches.{open_item_there}
 use Rattle.bpaf_laws.specs.Environment.{IsAbsence, MissesItem}
-use Rattle.bpaf_exact.specs.Pieces.{Role, Foreign, Alone, WithNext, Roles, Piece, One, Two}
+use Rattle.bpaf_exact.specs.Pieces.{Role, Foreign, Alone, WithNext, Roles, LinePiece, One, Two}
 use Rattle.bpaf_exact.specs.Pieces.{is_value, is_key, is_own_role, IsNamed, pieces}
 use Rattle.bpaf_exact.specs.Flat.{OfMissing, Refused, is_missing, class, cells, Steady}
 use Rattle.bpaf_exact.specs.Names.{Owns}
@@ -187,8 +187,8 @@ bare_taken test r s p t f m e =
     (t.yes m.item m.passes) (none_before test r WithNext s p t f) (none_behind s p e)
 
 -- the first piece taken is an alternative's answer
-pub first_alternative : (T : Type 0) (q : Roles) (value : Piece → T → Type 0) (s t : Situation)
-    (v : T) (o : Piece) → Steady s t → value o v → TakesFirst q (cells s) o (cells t)
+pub first_alternative : (T : Type 0) (q : Roles) (value : LinePiece → T → Type 0) (s t : Situation)
+    (v : T) (o : LinePiece) → Steady s t → value o v → TakesFirst q (cells s) o (cells t)
     → AlternativeOk T q value s v t
 first_alternative T q value s t v o st m f =
     record {
@@ -202,8 +202,8 @@ first_alternative T q value s t v o st m f =
     }
 
 -- the first piece can't be read
-pub first_refused : (T : Type 0) (q : Roles) (value : Piece → T → Type 0) (s t : Situation)
-    (e : Error) (o : Piece) (os : List Piece) → class e ≡ Refused → t.path ≡ s.path
+pub first_refused : (T : Type 0) (q : Roles) (value : LinePiece → T → Type 0) (s t : Situation)
+    (e : Error) (o : LinePiece) (os : List LinePiece) → class e ≡ Refused → t.path ≡ s.path
     → pieces q (cells s) ≡ o ∷ os
     → ((v : T) → value o v → ⊥) → AlternativeErr T q value s e t
 first_refused T q value s t e o os c p h n =
@@ -211,7 +211,7 @@ first_refused T q value s t e o os c p h n =
     (λ x xs w g m. let d : x ≡ o = (let k = sym h ∙ g in cc) in n w (subst (λ z. value z w) d m))
 
 -- no piece, nothing taken
-pub missing_same : (T : Type 0) (q : Roles) (value : Piece → T → Type 0) (s t : Situation)
+pub missing_same : (T : Type 0) (q : Roles) (value : LinePiece → T → Type 0) (s t : Situation)
     (e : Error) → class e ≡ OfMissing → pieces q (cells s) ≡ [] → t ≡ s
     → AlternativeErr T q value s e t
 missing_same T q value s t e c p same =

@@ -6,8 +6,8 @@ use Rattle.bpaf_laws.specs.Reading.{Outcome}
 use Rattle.bpaf_doc.specs.Names.{Names}
 use Rattle.bpaf_exact.specs.Pieces.{Roles}
 use Rattle.bpaf_exact.specs.Flat.{FieldsLaw, FieldsReading}
-use Rattle.bpaf_exact.specs.Shape.{Shape, not_flat, alternative, single, complete, product}
-use Rattle.bpaf_exact.specs.Shape.{ShapeLaw}
+use Rattle.bpaf_exact.specs.FlatForm.{FlatForm, not_flat, alternative, single, complete, product}
+use Rattle.bpaf_exact.specs.FlatForm.{FormLaw}
 
 -- what b allows a allows too
 pub record AllowsNoMore (T : Type 0) (a b : Outcome T) : Type 0 where
@@ -24,11 +24,11 @@ narrower_fields V a b n r fields l = record {
   answers = λ s t x os w o c h. l.answers s t x os w (n.within s t x o) c h;
 }
 
--- and a field of any shape
-pub narrower_shape : (T : Type 0) (a b : Outcome T) → AllowsNoMore T a b
-    → (keys : List Names) (h : Shape T) → ShapeLaw a keys h → ShapeLaw b keys h
-narrower_shape T a b n keys not_flat l = tt
-narrower_shape T a b n keys (alternative q value) l = (
+-- and a field of any form
+pub narrower_form : (T : Type 0) (a b : Outcome T) → AllowsNoMore T a b
+    → (keys : List Names) (h : FlatForm T) → FormLaw a keys h → FormLaw b keys h
+narrower_form T a b n keys not_flat l = tt
+narrower_form T a b n keys (alternative q value) l = (
   record {
     named = l.0.named;
     ok = λ s t v w o. l.0.ok s t v w (n.within s t (Ok v) o);
@@ -36,7 +36,7 @@ narrower_shape T a b n keys (alternative q value) l = (
   },
   l.1,
 )
-narrower_shape T a b n keys (single k q group gap) l = (
+narrower_form T a b n keys (single k q group gap) l = (
   record {
     own = l.0.own;
     words = l.0.words;
@@ -47,7 +47,7 @@ narrower_shape T a b n keys (single k q group gap) l = (
   },
   l.1,
 )
-narrower_shape T a b n keys (complete k q value) l = (
+narrower_form T a b n keys (complete k q value) l = (
   record {
     own = l.0.own;
     ok = λ s t v w o. l.0.ok s t v w (n.within s t (Ok v) o);
@@ -55,4 +55,4 @@ narrower_shape T a b n keys (complete k q value) l = (
   },
   l.1,
 )
-narrower_shape T a b n keys (product q fields) l = (narrower_fields T a b n q fields l.0, l.1)
+narrower_form T a b n keys (product q fields) l = (narrower_fields T a b n q fields l.0, l.1)

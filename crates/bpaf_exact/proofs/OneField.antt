@@ -6,7 +6,7 @@ use Rattle.std.specs.Global.{Vec}
 use Rattle.bpaf_doc.specs.Names.{Names}
 use Rattle.bpaf_words.specs.Items.{is_key_of, item_text}
 use Rattle.bpaf_words.specs.declared.arg.Arg.{Arg}
-use Rattle.bpaf_exact.specs.Pieces.{Cells, Foreign, Alone, WithNext, Piece, One, Two, pieces}
+use Rattle.bpaf_exact.specs.Pieces.{Cells, Foreign, Alone, WithNext, LinePiece, One, Two, pieces}
 use Rattle.bpaf_exact.specs.Pieces.{begin_piece, with_next, is_value, IsNamed, is_key}
 use Rattle.bpaf_exact.specs.Single.{FrontOf, Own, own_none, own_more, OwnList, listed}
 use Rattle.bpaf_exact.specs.Single.{listed_and_absent, only_absent, SingleValue, of_group, of_gap}
@@ -15,15 +15,15 @@ use Rattle.bpaf_exact.specs.Leaves.{flag_roles, argument_roles, FlagValue, Argum
 use Rattle.bpaf_exact.specs.Wrappers.{Closure, ClosedValue, OptionalValue, some_value, no_value}
 use Rattle.bpaf_exact.specs.Wrappers.{FallbackValue, own_value, kept_value}
 use Rattle.bpaf_exact.specs.Derived.{list_closure}
-use Rattle.bpaf_exact.specs.Shape.{Shape, ShapeLaw, not_flat, alternative, single, complete, product}
-use Rattle.bpaf_exact.specs.Fields.{keys_on, texts_of, ShapeOwns, IsSwitched, switched_on}
+use Rattle.bpaf_exact.specs.FlatForm.{FlatForm, FormLaw, not_flat, alternative, single, complete, product}
+use Rattle.bpaf_exact.specs.Fields.{keys_on, texts_of, FormOwns, IsSwitched, switched_on}
 use Rattle.bpaf_exact.specs.Fields.{switched_off, HasOneText, MayHaveText, HasTextOr, its_text}
 use Rattle.bpaf_exact.specs.Fields.{in_its_place, HaveTexts, HasLastText, IsFieldOf, IsSwitchOf}
 use Rattle.bpaf_exact.specs.Leaves.{flag_field, flag_by, argument_field, argument_by}
 use Rattle.bpaf_exact.specs.Leaves.{last_argument, LastGroup, HaveValues, no_more, one_more}
 use Rattle.bpaf_exact.specs.Record.{RecordValue, line_cells}
-use Rattle.bpaf_exact.specs.Shape.{field_shape, product_roles, product_reading, optional_shape}
-use Rattle.bpaf_exact.specs.Shape.{fallback_shape, many_shape}
+use Rattle.bpaf_exact.specs.FlatForm.{flat_field, product_roles, product_reading, flat_optional}
+use Rattle.bpaf_exact.specs.FlatForm.{flat_fallback, flat_many}
 use Rattle.bpaf_exact.proofs.Fields.{field_value}
 use Rattle.bpaf_line.specs.Situation.{Context}
 use Rattle.bpaf_text.specs.Named.{Named as Key, KeyWithValue}
@@ -31,8 +31,8 @@ use Rattle.bpaf_exact.proofs.Names.{named_key}
 use Rattle.bpaf_laws.specs.Reading.{Outcome}
 
 -- what keeps to its law has items of its own names alone
-pub owns_of_law : {T : Type 0} (outcome : Outcome T) (names : List Names) (s : Shape T)
-    → ShapeLaw outcome names s → ShapeOwns names s
+pub owns_of_law : {T : Type 0} (outcome : Outcome T) (names : List Names) (s : FlatForm T)
+    → FormLaw outcome names s → FormOwns names s
 owns_of_law outcome names not_flat h = tt
 owns_of_law outcome names (alternative q value) h = h.1
 owns_of_law outcome names (single k q group gap) h = h.1
@@ -40,7 +40,7 @@ owns_of_law outcome names (complete k q value) h = h.1
 owns_of_law outcome names (product q fields) h = h.1
 
 -- the key with which a piece begins
-abbrev key_of : Piece → Arg
+abbrev key_of : LinePiece → Arg
 key_of (One k) = k
 key_of (Two k w) = k
 
@@ -94,12 +94,12 @@ no_key (k ∷ ks) e = cc
 -- the value of a switch
 module _ (clones : Bool → Bool → Type 0) (same : (x y : Bool) → clones x y → y ≡ x)
     (names : Names) (cs : Cells) where
-  switched : (ps : List Piece) (b : Bool) → map One (keys_on names cs) ≡ ps
+  switched : (ps : List LinePiece) (b : Bool) → map One (keys_on names cs) ≡ ps
       → SingleValue Bool (FrontOf Bool (FlagValue (clones true))) (switch_gap (clones false)) ps b
       → IsSwitched names cs b
   switched ps b e (of_group g) = by_piece g.piece g.is g.means
     where
-      by_piece : (o : Piece) → ps ≡ o ∷ [] → FlagValue (clones true) o b → IsSwitched names cs b
+      by_piece : (o : LinePiece) → ps ≡ o ∷ [] → FlagValue (clones true) o b → IsSwitched names cs b
       by_piece (One k) i m = subst (IsSwitched names cs) (sym (same true b m))
           (switched_on (one_key (keys_on names cs) k (e ∙ i)))
       by_piece (Two k w) i m = absurd m
@@ -115,12 +115,12 @@ module _ (clones : Bool → Bool → Type 0) (same : (x y : Bool) → clones x y
 
 -- The field of a required flag has a value only where its key stands on the line, once.
 module _ (T : Type 0) (present : T → Type 0) (names : Names) (cs : Cells) where
-  required : (ps : List Piece) (v : T) → map One (keys_on names cs) ≡ ps
+  required : (ps : List LinePiece) (v : T) → map One (keys_on names cs) ≡ ps
       → SingleValue T (FrontOf T (FlagValue present)) (no_gap T) ps v
       → (k : Arg) × (keys_on names cs ≡ k ∷ []) × present v
   required ps v e (of_group g) = by_piece g.piece g.is g.means
     where
-      by_piece : (o : Piece) → ps ≡ o ∷ [] → FlagValue present o v
+      by_piece : (o : LinePiece) → ps ≡ o ∷ [] → FlagValue present o v
           → (k : Arg) × (keys_on names cs ≡ k ∷ []) × present v
       by_piece (One k) i m = (k, one_key (keys_on names cs) k (e ∙ i), m)
       by_piece (Two k w) i m = absurd m
@@ -134,11 +134,11 @@ module _ (T : Type 0) (present : T → Type 0) (names : Names) (cs : Cells) wher
 -- What an argument's value is.
 module _ (T : Type 0) (means : List ℕ → T → Type 0) (names : Names) (cs : Cells) where
   -- the pieces of its own
-  abbrev own : List Piece
+  abbrev own : List LinePiece
   own = pieces (argument_roles names) cs
 
   -- one piece is one key with its text
-  one_text : (o : Piece) (v : T) → own ≡ o ∷ [] → ArgumentValue means o v
+  one_text : (o : LinePiece) (v : T) → own ≡ o ∷ [] → ArgumentValue means o v
       → HasOneText T means names cs v
   one_text (One k) v i m = absurd m
   one_text (Two k w) v i m = record {
@@ -153,7 +153,7 @@ module _ (T : Type 0) (means : List ℕ → T → Type 0) (names : Names) (cs : 
   no_keys : own ≡ [] → keys_on names cs ≡ []
   no_keys e = sym (argument_pieces names cs) ∙ ap (map key_of) e
 
-  single_said : (ps : List Piece) (v : T) → own ≡ ps
+  single_said : (ps : List LinePiece) (v : T) → own ≡ ps
       → SingleValue T (FrontOf T (ArgumentValue means)) (no_gap T) ps v
       → HasOneText T means names cs v
   single_said ps v e (of_group g) = one_text g.piece v (e ∙ g.is) g.means
@@ -166,7 +166,7 @@ module _ (T : Type 0) (means : List ℕ → T → Type 0) (names : Names) (cs : 
   argument_said v h = single_said own v refl h
 
   -- pieces that each have a value, up to the last one, have a text each
-  texts_each : (before : List Piece) (k w : Arg) → HaveValues before
+  texts_each : (before : List LinePiece) (k w : Arg) → HaveValues before
       → (texts_of (before ++ Two k w ∷ []) ≡ texts_of before ++ item_text w ∷ [])
       × (length (texts_of (before ++ Two k w ∷ []))
       ≡ length (map key_of (before ++ Two k w ∷ [])))
@@ -176,7 +176,7 @@ module _ (T : Type 0) (means : List ℕ → T → Type 0) (names : Names) (cs : 
       let rest = texts_each before k w h in
       (ap (λ z. item_text x ∷ z) rest.0, ap suc rest.1)
 
-  last_by : (ps : List Piece) (v : T) → own ≡ ps
+  last_by : (ps : List LinePiece) (v : T) → own ≡ ps
       → SingleValue T (LastGroup T means) (no_gap T) ps v → HasLastText T means names cs v
   last_by ps v e (of_group g) =
       let is : own ≡ g.before ++ Two g.key g.word ∷ [] = e ∙ g.is in
@@ -197,7 +197,7 @@ module _ (T : Type 0) (means : List ℕ → T → Type 0) (names : Names) (cs : 
       → HasLastText T means names cs v
   last_said v h = last_by own v refl h
 
-  optional_by : (ps : List Piece) (r : Option T) → own ≡ ps
+  optional_by : (ps : List LinePiece) (r : Option T) → own ≡ ps
       → OptionalValue T (FrontOf T (ArgumentValue means)) (no_gap T) ps r
       → MayHaveText T means names cs r
   optional_by ps (Some v) e (some_value h) = single_said ps v e h
@@ -210,7 +210,7 @@ module _ (T : Type 0) (means : List ℕ → T → Type 0) (names : Names) (cs : 
       → MayHaveText T means names cs r
   optional_said r h = optional_by own r refl h
 
-  fallback_by : (f : Closure (Unit {0}) T) (ps : List Piece) (v : T) → own ≡ ps
+  fallback_by : (f : Closure (Unit {0}) T) (ps : List LinePiece) (v : T) → own ≡ ps
       → FallbackValue T (FrontOf T (ArgumentValue means)) (no_gap T) f ps v
       → HasTextOr T means (f.yes tt) names cs v
   fallback_by f ps v e (own_value h) = its_text (single_said ps v e h)
@@ -223,13 +223,13 @@ module _ (T : Type 0) (means : List ℕ → T → Type 0) (names : Names) (cs : 
   fallback_said f v h = fallback_by f own v refl h
 
   -- each of the pieces has its text
-  all_texts : (ps : List Piece) (vs : List T) → Own T (FrontOf T (ArgumentValue means)) ps vs
+  all_texts : (ps : List LinePiece) (vs : List T) → Own T (FrontOf T (ArgumentValue means)) ps vs
       → AllZip means (texts_of ps) vs × (length (texts_of ps) ≡ length (map key_of ps))
   all_texts [] [] own_none = (tt, refl)
   all_texts (p ∷ ps) [] h = elim h [ ]
   all_texts ps (v ∷ vs) (own_more g more) = by_piece g.piece g.is g.means (all_texts _ vs more)
     where
-      by_piece : (o : Piece) {rest : List Piece} → ps ≡ o ∷ rest → ArgumentValue means o v
+      by_piece : (o : LinePiece) {rest : List LinePiece} → ps ≡ o ∷ rest → ArgumentValue means o v
           → AllZip means (texts_of rest) vs × (length (texts_of rest) ≡ length (map key_of rest))
           → AllZip means (texts_of ps) (v ∷ vs)
           × (length (texts_of ps) ≡ length (map key_of ps))
@@ -239,7 +239,7 @@ module _ (T : Type 0) (means : List ℕ → T → Type 0) (names : Names) (cs : 
           × (length (texts_of z) ≡ length (map key_of z))) (sym i) ((m, h.0), ap suc h.1)
 
   -- the values of a repeat, one for each key
-  list_by : (ps : List Piece) (vs : List T) → own ≡ ps
+  list_by : (ps : List LinePiece) (vs : List T) → own ≡ ps
       → OwnList T (FrontOf T (ArgumentValue means)) (no_gap T) ps vs
       → HaveTexts T means names cs vs
   list_by ps vs e (listed h o) =
@@ -278,29 +278,29 @@ argument_named names = record { only_keys = λ k other. by_key k (is_key_of name
 -- the field of a switch
 pub switch_of : {V : Type 0} (clones : Bool → Bool → Type 0)
     → ((x y : Bool) → clones x y → y ≡ x) → (names : Names) (key : Key) (present : Bool)
-    (absent : Option Bool) → IsSwitchOf names key present absent → (s : Shape V) (of : V → Bool)
-    → IsFieldOf (field_shape (flag_field clones key present absent)) s of
+    (absent : Option Bool) → IsSwitchOf names key present absent → (s : FlatForm V) (of : V → Bool)
+    → IsFieldOf (flat_field (flag_field clones key present absent)) s of
     → (context : Context) (v : V)
     → RecordValue (product_roles s) (product_reading s).value context v
     → IsSwitched names (line_cells context) (of v)
 switch_of clones same names key present absent is s of field context v value =
-    let named = subst (λ z. IsFieldOf (field_shape (flag_by clones z present key.envs absent)) s of)
+    let named = subst (λ z. IsFieldOf (flat_field (flag_by clones z present key.envs absent)) s of)
     is.names_are field in
-    let plain = subst (λ z. IsFieldOf (field_shape (flag_by clones names present z absent)) s of)
+    let plain = subst (λ z. IsFieldOf (flat_field (flag_by clones names present z absent)) s of)
     is.no_envs named in
-    let on = subst (λ z. IsFieldOf (field_shape (flag_by clones names z [] absent)) s of)
+    let on = subst (λ z. IsFieldOf (flat_field (flag_by clones names z [] absent)) s of)
     is.is_true plain in
-    let off = subst (λ z. IsFieldOf (field_shape (flag_by clones names true [] z)) s of)
+    let off = subst (λ z. IsFieldOf (flat_field (flag_by clones names true [] z)) s of)
     is.is_false on in
     switch_said clones same names (line_cells context) (of v)
     (field_value s (flag_roles names) _ of (flag_named names) off context v value)
 
 -- An argument may be read so as a field by itself, under `optional`, a fallback or `many`, which
--- make a field of its shape.
+-- make a field of its form.
 module _ {V T A : Type 0} (means : List ℕ → T → Type 0) (argument : KeyWithValue)
-    (made : Shape T → Shape A) (s : Shape V) (of : V → A) where
-  -- the shape of an argument without a name in the environment, which may stand apart from its value
-  abbrev plain_argument : Shape T
+    (made : FlatForm T → FlatForm A) (s : FlatForm V) (of : V → A) where
+  -- the form of an argument without a name in the environment, which may stand apart from its value
+  abbrev plain_argument : FlatForm T
   plain_argument =
       alternative (argument_roles argument.named.names) (ArgumentValue means)
 
@@ -318,7 +318,7 @@ module _ {V T A : Type 0} (means : List ℕ → T → Type 0) (argument : KeyWit
 
 module _ {V T : Type 0} (means : List ℕ → T → Type 0) (argument : KeyWithValue)
     (no_envs : argument.named.envs ≡ []) (apart : argument.adjacent ≡ false)
-    (once : argument.last ≡ false) (s : Shape V)
+    (once : argument.last ≡ false) (s : FlatForm V)
     (context : Context) (v : V)
     (value : RecordValue (product_roles s) (product_reading s).value context v) where
   -- the names of its key
@@ -326,54 +326,54 @@ module _ {V T : Type 0} (means : List ℕ → T → Type 0) (argument : KeyWithV
   names = argument.named.names
 
   -- the field of an argument without a repeat or default
-  pub argument_of : (of : V → T) → IsFieldOf (field_shape (argument_field means argument)) s of
+  pub argument_of : (of : V → T) → IsFieldOf (flat_field (argument_field means argument)) s of
       → HasOneText T means names (line_cells context) (of v)
   argument_of of field = argument_said T means names (line_cells context) (of v)
       (field_value s (argument_roles names) _ of (argument_named names)
-      (plain_field means argument field_shape s of no_envs apart once field) context v value)
+      (plain_field means argument flat_field s of no_envs apart once field) context v value)
 
   -- under `optional`
   pub optional_of : (of : V → Option T)
-      → IsFieldOf (field_shape (optional_shape (argument_field means argument))) s of
+      → IsFieldOf (flat_field (flat_optional (argument_field means argument))) s of
       → MayHaveText T means names (line_cells context) (of v)
   optional_of of field = optional_said T means names (line_cells context) (of v)
       (field_value s (argument_roles names) _ of (argument_named names)
-      (plain_field means argument (λ a. field_shape (optional_shape a)) s of no_envs apart once field)
+      (plain_field means argument (λ a. flat_field (flat_optional a)) s of no_envs apart once field)
       context v value)
 
   -- under a fallback
   pub fallback_of : (f : Closure (Unit {0}) T) (of : V → T)
-      → IsFieldOf (field_shape (fallback_shape f (argument_field means argument))) s of
+      → IsFieldOf (flat_field (flat_fallback f (argument_field means argument))) s of
       → HasTextOr T means (f.yes tt) names (line_cells context) (of v)
   fallback_of f of field = fallback_said T means names (line_cells context) f (of v)
       (field_value s (argument_roles names) _ of (argument_named names)
-      (plain_field means argument (λ a. field_shape (fallback_shape f a)) s of no_envs apart once field)
+      (plain_field means argument (λ a. flat_field (flat_fallback f a)) s of no_envs apart once field)
       context v value)
 
   -- under `many`
   pub many_of : (of : V → Vec T)
-      → IsFieldOf (field_shape (many_shape (argument_field means argument))) s of
+      → IsFieldOf (flat_field (flat_many (argument_field means argument))) s of
       → HaveTexts T means names (line_cells context) (of v).items
   many_of of field = many_said T means names (line_cells context) (of v)
       (field_value s (argument_roles names) _ of (argument_named names)
-      (plain_field means argument (λ a. field_shape (many_shape a)) s of no_envs apart once field)
+      (plain_field means argument (λ a. flat_field (flat_many a)) s of no_envs apart once field)
       context v value)
 
 -- The field of an argument that takes its last value.
 module _ {V T : Type 0} (means : List ℕ → T → Type 0) (argument : KeyWithValue)
     (no_envs : argument.named.envs ≡ []) (apart : argument.adjacent ≡ false)
-    (all : argument.last ≡ true) (s : Shape V) (of : V → T)
-    (field : IsFieldOf (field_shape (argument_field means argument)) s of) where
+    (all : argument.last ≡ true) (s : FlatForm V) (of : V → T)
+    (field : IsFieldOf (flat_field (argument_field means argument)) s of) where
   -- it is the field of such an argument
-  last_field : IsFieldOf (field_shape (last_argument means argument.named.names)) s of
+  last_field : IsFieldOf (flat_field (last_argument means argument.named.names)) s of
   last_field =
       subst
-      (λ z. IsFieldOf (field_shape (argument_by means argument.named.names [] false z)) s of) all
+      (λ z. IsFieldOf (flat_field (argument_by means argument.named.names [] false z)) s of) all
       (subst
-      (λ z. IsFieldOf (field_shape (argument_by means argument.named.names [] z argument.last)) s of)
+      (λ z. IsFieldOf (flat_field (argument_by means argument.named.names [] z argument.last)) s of)
       apart
       (subst
-      (λ z. IsFieldOf (field_shape
+      (λ z. IsFieldOf (flat_field
       (argument_by means argument.named.names z argument.adjacent argument.last)) s of)
       no_envs field))
 

@@ -8,9 +8,9 @@ use Rattle.bpaf_text.specs.Named.{Named as Key, KeyWithValue}
 use Rattle.bpaf_words.specs.Items.{item_text}
 use Rattle.bpaf_line.specs.Situation.{Context}
 use Rattle.bpaf_laws.specs.Reading.{Outcome}
-use Rattle.bpaf_exact.specs.Pieces.{Roles, Piece, One, Two, is_own}
+use Rattle.bpaf_exact.specs.Pieces.{Roles, LinePiece, One, Two, is_own}
 use Rattle.bpaf_exact.specs.Names.{are_all_apart}
-use Rattle.bpaf_exact.specs.Flat.{FieldsLaw, FieldsReading, Kind, Named}
+use Rattle.bpaf_exact.specs.Flat.{FieldsLaw, FieldsReading, FieldKind, ByName}
 use Rattle.bpaf_exact.specs.Single.{Groups, Gap, FrontOf, Own, own_none, own_more, SingleLaw}
 use Rattle.bpaf_exact.specs.Single.{SingleValue, of_group, of_gap, OwnList, listed}
 use Rattle.bpaf_exact.specs.Single.{listed_and_absent, only_absent}
@@ -20,19 +20,19 @@ use Rattle.bpaf_exact.specs.Derived.{LastOf, list_closure}
 use Rattle.bpaf_exact.specs.Alternative.{pick_type}
 use Rattle.bpaf_exact.specs.Leaves.{FlagValue, ArgumentValue, WordValue, flag_by, flag_field}
 use Rattle.bpaf_exact.specs.Leaves.{LastGroup, argument_by, argument_field, word_field}
-use Rattle.bpaf_exact.specs.Record.{Answer, Accepted, NoMemory, Refusal, RecordValue, IsExact}
-use Rattle.bpaf_exact.specs.Shape.{Shape, not_flat, alternative, single, complete, product}
-use Rattle.bpaf_exact.specs.Shape.{ShapeLaw, Agrees, only_if, closed_shape, either_shape}
-use Rattle.bpaf_exact.specs.Shape.{choice_shape, choices_rest, alternative_only, choices_shape}
-use Rattle.bpaf_exact.specs.Shape.{repeat_shape, many_shape, last_shape, optional_shape}
-use Rattle.bpaf_exact.specs.Shape.{fallback_shape, field_shape, may_follow, both_shape, alone_shape}
-use Rattle.bpaf_exact.specs.Shape.{con_shape, record_shape, is_record, product_roles, product_reading}
+use Rattle.bpaf_exact.specs.Record.{RunAnswer, Accepted, NoMemory, Refusal, RecordValue, IsExact}
+use Rattle.bpaf_exact.specs.FlatForm.{FlatForm, not_flat, alternative, single, complete, product}
+use Rattle.bpaf_exact.specs.FlatForm.{FormLaw, Agrees, only_if, flat_closed, flat_either}
+use Rattle.bpaf_exact.specs.FlatForm.{flat_choice, choices_rest, alternative_only, flat_choices}
+use Rattle.bpaf_exact.specs.FlatForm.{flat_repeat, flat_many, flat_last, flat_optional}
+use Rattle.bpaf_exact.specs.FlatForm.{flat_fallback, flat_field, may_follow, flat_both, flat_alone}
+use Rattle.bpaf_exact.specs.FlatForm.{flat_con, flat_record, is_record, product_roles, product_reading}
 use Rattle.bpaf_exact.specs.OneView.{Alike, OneGroup, HasOneView, Respects, option_view, pair_view}
 use Rattle.bpaf_exact.specs.OneView.{LooksLike, RunsToOne}
 use Rattle.bpaf_exact.proofs.Alternative.{alternative_single}
 use Rattle.bpaf_exact.proofs.Cuts.{one_cut}
 use Rattle.bpaf_exact.proofs.LastArguments.{last_same}
-use Rattle.bpaf_exact.proofs.Shape.{record_law}
+use Rattle.bpaf_exact.proofs.FlatForm.{record_law}
 use Rattle.bpaf_exact.proofs.Exact.{runs_exactly}
 
 -- Closures.
@@ -45,7 +45,7 @@ module _ (A B X Y : Type 0) (see : A → X) (look : B → Y) (f : Closure A B)
   agrees_on value u x y v a b g n = respects.apart x y v (u x y a b) g n
 
   -- A closure that can't tell apart what looks alike agrees where values look alike.
-  pub view_agrees : (s : Shape A) → HasOneView see s → Agrees f s
+  pub view_agrees : (s : FlatForm A) → HasOneView see s → Agrees f s
   view_agrees not_flat u = tt
   view_agrees (alternative q value) u = λ o. agrees_on (value o) (u o)
   view_agrees (single k q group gap) u = (
@@ -57,7 +57,7 @@ module _ (A B X Y : Type 0) (see : A → X) (look : B → Y) (f : Closure A B)
   view_agrees (product q fields) u = λ os. agrees_on (fields.value os) (u os)
 
   -- Its answers look alike again.
-  pub closed_view : (s : Shape A) → HasOneView see s → HasOneView look (closed_shape f s)
+  pub closed_view : (s : FlatForm A) → HasOneView see s → HasOneView look (flat_closed f s)
   closed_view not_flat u = tt
   closed_view (alternative q value) u =
       λ o v w a b. respects.same a.from b.from v w (u o a.from b.from a.read b.read) a.made b.made
@@ -71,7 +71,7 @@ module _ (A B X Y : Type 0) (see : A → X) (look : B → Y) (f : Closure A B)
   closed_view (product q fields) u = tt
 
   -- what a constructor makes of values that look alike looks alike
-  pub con_view : (s : Shape A) → HasOneView see s → HasOneView look (con_shape f s)
+  pub con_view : (s : FlatForm A) → HasOneView see s → HasOneView look (flat_con f s)
   con_view not_flat u = tt
   con_view (alternative q value) u = tt
   con_view (single k q group gap) u = tt
@@ -82,15 +82,16 @@ module _ (A B X Y : Type 0) (see : A → X) (look : B → Y) (f : Closure A B)
 -- Leaves.
 
 -- the values of the first piece look alike
-front_view : (T X : Type 0) (see : T → X) (value : Piece → T → Type 0)
-    → ((o : Piece) → Alike see (value o)) → OneGroup see (FrontOf T value)
+front_view : (T X : Type 0) (see : T → X) (value : LinePiece → T → Type 0)
+    → ((o : LinePiece) → Alike see (value o)) → OneGroup see (FrontOf T value)
 front_view T X see value u os rest others v w a b =
     let c : a.piece ∷ rest ≡ b.piece ∷ others = sym a.is ∙ b.is in
     let d : a.piece ≡ b.piece = cc in
     (u b.piece v w (subst (λ z. value z v) d a.means) b.means, cc)
 
 -- a present value
-flag_piece : (T X : Type 0) (see : T → X) (present : T → Type 0) → Alike see present → (o : Piece)
+flag_piece : (T X : Type 0) (see : T → X) (present : T → Type 0) → Alike see present
+    → (o : LinePiece)
     → Alike see (FlagValue present o)
 flag_piece T X see present u (One k) v w a b = u v w a b
 flag_piece T X see present u (Two k x) v w a b = absurd a
@@ -110,7 +111,8 @@ flag_view T X see clones u key present absent = by_envs key.envs absent
 
 -- a key and its value
 argument_piece : (T X : Type 0) (see : T → X) (means : List ℕ → T → Type 0)
-    → ((text : List ℕ) → Alike see (means text)) → (o : Piece) → Alike see (ArgumentValue means o)
+    → ((text : List ℕ) → Alike see (means text)) → (o : LinePiece)
+    → Alike see (ArgumentValue means o)
 argument_piece T X see means u (One k) v w a b = absurd a
 argument_piece T X see means u (Two k x) v w a b = u (item_text x) v w a b
 
@@ -119,7 +121,7 @@ last_group : (T X : Type 0) (see : T → X) (means : List ℕ → T → Type 0)
     → ((text : List ℕ) → Alike see (means text)) → OneGroup see (LastGroup T means)
 last_group T X see means u os rest others v w a b =
     let same : Two a.key a.word ≡ Two b.key b.word =
-    last_same Piece a.before b.before (Two a.key a.word) (Two b.key b.word) (sym a.is ∙ b.is) in
+    last_same LinePiece a.before b.before (Two a.key a.word) (Two b.key b.word) (sym a.is ∙ b.is) in
     let word : a.word ≡ b.word = cc in (
       u (item_text b.word) v w (subst (λ x. means (item_text x) v) word a.meant) b.meant,
       a.none_left ∙ sym b.none_left,
@@ -141,7 +143,7 @@ argument_view T X see means u argument =
 
 -- a word
 word_piece : (T X : Type 0) (see : T → X) (means : List ℕ → T → Type 0)
-    → ((text : List ℕ) → Alike see (means text)) → (o : Piece) → Alike see (WordValue means o)
+    → ((text : List ℕ) → Alike see (means text)) → (o : LinePiece) → Alike see (WordValue means o)
 word_piece T X see means u (One k) v w a b = u (item_text k) v w a b
 word_piece T X see means u (Two k x) v w a b = absurd a
 
@@ -153,7 +155,7 @@ word_view T X see means u = (front_view T X see _ (word_piece T X see means u), 
 -- Choice.
 
 -- where a test holds
-if_view : (T X : Type 0) (see : T → X) (s : Shape T) (b : Bool) → HasOneView see s
+if_view : (T X : Type 0) (see : T → X) (s : FlatForm T) (b : Bool) → HasOneView see s
     → HasOneView see (only_if b s)
 if_view T X see s true u = u
 if_view T X see s false u = tt
@@ -165,8 +167,8 @@ pick_view see true a b u n = u
 pick_view see false a b u n = n
 
 -- a choice of two alternatives
-either_view : (T X : Type 0) (see : T → X) (s t : Shape T) → HasOneView see s → HasOneView see t
-    → HasOneView see (either_shape s t)
+either_view : (T X : Type 0) (see : T → X) (s t : FlatForm T) → HasOneView see s → HasOneView see t
+    → HasOneView see (flat_either s t)
 either_view T X see (alternative q a) (alternative r b) u n =
     λ o. pick_view see (is_own q o) (a o) (b o) (u o) (n o)
 either_view T X see (alternative q a) not_flat u n = tt
@@ -179,22 +181,22 @@ either_view T X see (complete k q v) t u n = tt
 either_view T X see (product q v) t u n = tt
 
 -- the same, where the keys are apart
-pub choice_view : (T X : Type 0) (see : T → X) (own others : List Names) (s t : Shape T)
-    → HasOneView see s → HasOneView see t → HasOneView see (choice_shape own others s t)
+pub choice_view : (T X : Type 0) (see : T → X) (own others : List Names) (s t : FlatForm T)
+    → HasOneView see s → HasOneView see t → HasOneView see (flat_choice own others s t)
 choice_view T X see own others s t u n =
-    if_view T X see (either_shape s t) (are_all_apart own others) (either_view T X see s t u n)
+    if_view T X see (flat_either s t) (are_all_apart own others) (either_view T X see s t u n)
 
 -- a choice of what stands before and of parsers
-rest_view : (P T X : Type 0) (see : T → X) (keys : P → List Names) (shape : P → Shape T)
-    → ((p : P) → HasOneView see (shape p)) → (ps : List P) (own : List Names) (s : Shape T)
-    → HasOneView see s → HasOneView see (choices_rest keys shape own s ps)
-rest_view P T X see keys shape n [] own s u = u
-rest_view P T X see keys shape n (p ∷ ps) own s u =
-    rest_view P T X see keys shape n ps (own ++ keys p) (choice_shape own (keys p) s (shape p))
-    (choice_view T X see own (keys p) s (shape p) u (n p))
+rest_view : (P T X : Type 0) (see : T → X) (keys : P → List Names) (form : P → FlatForm T)
+    → ((p : P) → HasOneView see (form p)) → (ps : List P) (own : List Names) (s : FlatForm T)
+    → HasOneView see s → HasOneView see (choices_rest keys form own s ps)
+rest_view P T X see keys form n [] own s u = u
+rest_view P T X see keys form n (p ∷ ps) own s u =
+    rest_view P T X see keys form n ps (own ++ keys p) (flat_choice own (keys p) s (form p))
+    (choice_view T X see own (keys p) s (form p) u (n p))
 
 -- an alternative alone
-only_view : (T X : Type 0) (see : T → X) (s : Shape T) → HasOneView see s
+only_view : (T X : Type 0) (see : T → X) (s : FlatForm T) → HasOneView see s
     → HasOneView see (alternative_only s)
 only_view T X see not_flat u = tt
 only_view T X see (alternative q value) u = u
@@ -203,13 +205,13 @@ only_view T X see (complete k q value) u = tt
 only_view T X see (product q fields) u = tt
 
 -- a choice of any number of parsers
-pub choices_view : (P T X : Type 0) (see : T → X) (keys : P → List Names) (shape : P → Shape T)
-    → ((p : P) → HasOneView see (shape p)) → (ps : List P)
-    → HasOneView see (choices_shape keys shape ps)
-choices_view P T X see keys shape n [] = tt
-choices_view P T X see keys shape n (p ∷ ps) =
-    rest_view P T X see keys shape n ps (keys p) (alternative_only (shape p))
-    (only_view T X see (shape p) (n p))
+pub choices_view : (P T X : Type 0) (see : T → X) (keys : P → List Names) (form : P → FlatForm T)
+    → ((p : P) → HasOneView see (form p)) → (ps : List P)
+    → HasOneView see (flat_choices keys form ps)
+choices_view P T X see keys form n [] = tt
+choices_view P T X see keys form n (p ∷ ps) =
+    rest_view P T X see keys form n ps (keys p) (alternative_only (form p))
+    (only_view T X see (form p) (n p))
 
 -- Fields without a repeat or default, and what is made of them.
 
@@ -219,11 +221,12 @@ map_last : (T X : Type 0) (see : T → X) (xs : List T) (v : T)
 map_last T X see [] v = refl
 map_last T X see (x ∷ xs) v = ap (λ z. see x ∷ z) (map_last T X see xs v)
 
-module _ (T X : Type 0) (see : T → X) (inner : Outcome T) (k : Kind) (q : Roles) (group : Groups T)
+module _ (T X : Type 0) (see : T → X) (inner : Outcome T)
+    (k : FieldKind) (q : Roles) (group : Groups T)
     (gap : Gap T) (l : SingleLaw T inner k q group gap) (one : OneGroup see group)
     (absent : Alike see gap.absent) where
   -- own lists of the same pieces look alike
-  own_view : (os : List Piece) (vs ws : List T) → Own T group os vs → Own T group os ws
+  own_view : (os : List LinePiece) (vs ws : List T) → Own T group os vs → Own T group os ws
       → map see vs ≡ map see ws
   own_view os vs ws own_none own_none = refl
   own_view os vs ws own_none (own_more {rest = rest} {v = v} g o) = absurd (l.starts v rest g)
@@ -239,13 +242,13 @@ module _ (T X : Type 0) (see : T → X) (inner : Outcome T) (k : Kind) (q : Role
   own_never : (v : T) (vs : List T) → Own T group [] (v ∷ vs) → ⊥
   own_never v vs o = by_list [] (v ∷ vs) refl refl o
     where
-      by_list : (os : List Piece) (ws : List T) → os ≡ [] → ws ≡ v ∷ vs → Own T group os ws → ⊥
+      by_list : (os : List LinePiece) (ws : List T) → os ≡ [] → ws ≡ v ∷ vs → Own T group os ws → ⊥
       by_list os ws e f own_none = cc
       by_list os ws e f (own_more {rest = rest} {v = w} g o) =
           l.starts w rest (subst (λ z. group z w rest) e g)
 
   -- so do they under a repeat
-  pub list_view : (os : List Piece) → Alike (map see) (OwnList T group gap os)
+  pub list_view : (os : List LinePiece) → Alike (map see) (OwnList T group gap os)
   list_view os vs ws (listed h o) (listed i p) = own_view os vs ws o p
   list_view os vs ws (listed h o) (listed_and_absent i a p) = absurd cc
   list_view os vs ws (listed h o) (only_absent i a) = absurd cc
@@ -260,7 +263,7 @@ module _ (T X : Type 0) (see : T → X) (inner : Outcome T) (k : Kind) (q : Role
       ap (λ z. z ∷ []) (absent x y a b)
 
   -- and their last values
-  pub last_view : (os : List Piece) → Alike see (LastOf T group gap os)
+  pub last_view : (os : List LinePiece) → Alike see (LastOf T group gap os)
   last_view os v w a b =
       last_same X (map see a.is.before) (map see b.is.before) (see v) (see w)
       (sym (map_last T X see a.is.before v)
@@ -269,20 +272,21 @@ module _ (T X : Type 0) (see : T → X) (inner : Outcome T) (k : Kind) (q : Role
       ∙ (ap (map see) b.is.is ∙ map_last T X see b.is.before w))))
 
   -- the value of a single field
-  pub value_view : (os : List Piece) → Alike see (SingleValue T group gap os)
+  pub value_view : (os : List LinePiece) → Alike see (SingleValue T group gap os)
   value_view os v w (of_group g) (of_group h) = (one os [] [] v w g h).0
   value_view os v w (of_group g) (of_gap a) = absurd (l.starts v [] g)
   value_view os v w (of_gap a) (of_group h) = absurd (l.starts w [] h)
   value_view os v w (of_gap a) (of_gap b) = absent v w a b
 
   -- where there is no piece there is none
-  none_single : (os : List Piece) (v : T) → os ≡ [] → gap.has ≡ false → SingleValue T group gap os v
+  none_single : (os : List LinePiece) (v : T) → os ≡ [] → gap.has ≡ false
+      → SingleValue T group gap os v
       → ⊥
   none_single os v e h (of_group g) = l.starts v [] (subst (λ z. group z v []) e g)
   none_single os v e h (of_gap a) = l.no_absent v h a
 
   -- what may be left out
-  pub optional_value_view : (os : List Piece)
+  pub optional_value_view : (os : List LinePiece)
       → Alike (option_view see) (OptionalValue T group gap os)
   optional_value_view os v w (some_value {v = x} g) (some_value {v = y} h) =
       ap Some (value_view os x y g h)
@@ -294,7 +298,7 @@ module _ (T X : Type 0) (see : T → X) (inner : Outcome T) (k : Kind) (q : Role
 
   -- what has a default
   pub fallback_value_view : (f : Closure (Unit {0}) T) → Alike see (λ v. f.yes tt v)
-      → (os : List Piece) → Alike see (FallbackValue T group gap f os)
+      → (os : List LinePiece) → Alike see (FallbackValue T group gap f os)
   fallback_value_view f given os v w (own_value g) (own_value h) = value_view os v w g h
   fallback_value_view f given os v w (own_value g) (kept_value h y) =
       absurd (none_single [] v refl h g)
@@ -304,33 +308,34 @@ module _ (T X : Type 0) (see : T → X) (inner : Outcome T) (k : Kind) (q : Role
 
 module _ (T X : Type 0) (see : T → X) (inner : Outcome T) where
   -- the list of a repeat
-  pub repeat_view : (names : List Names) (s : Shape T) → ShapeLaw inner names s → HasOneView see s
-      → HasOneView (map see) (repeat_shape s)
+  pub repeat_view : (names : List Names) (s : FlatForm T) → FormLaw inner names s → HasOneView see s
+      → HasOneView (map see) (flat_repeat s)
   repeat_view names not_flat l u = tt
   repeat_view names (alternative q value) l u =
-      list_view T X see inner Named q _ _ (alternative_single T inner q value l.0)
+      list_view T X see inner ByName q _ _ (alternative_single T inner q value l.0)
       (front_view T X see value u) (λ v w a b. absurd a)
   repeat_view names (single k q group gap) l u = list_view T X see inner k q group gap l.0 u.0 u.1
   repeat_view names (complete k q value) l u = tt
   repeat_view names (product q fields) l u = tt
 
   -- its last value
-  pub last_of_view : (names : List Names) (s : Shape T) → ShapeLaw inner names s → HasOneView see s
-      → HasOneView see (last_shape s)
+  pub last_of_view : (names : List Names) (s : FlatForm T) → FormLaw inner names s
+      → HasOneView see s
+      → HasOneView see (flat_last s)
   last_of_view names not_flat l u = tt
   last_of_view names (alternative q value) l u =
-      last_view T X see inner Named q _ _ (alternative_single T inner q value l.0)
+      last_view T X see inner ByName q _ _ (alternative_single T inner q value l.0)
       (front_view T X see value u) (λ v w a b. absurd a)
   last_of_view names (single k q group gap) l u = last_view T X see inner k q group gap l.0 u.0 u.1
   last_of_view names (complete k q value) l u = tt
   last_of_view names (product q fields) l u = tt
 
   -- a field that may be left out
-  pub optional_field_view : (names : List Names) (s : Shape T) → ShapeLaw inner names s
-      → HasOneView see s → HasOneView (option_view see) (optional_shape s)
+  pub optional_field_view : (names : List Names) (s : FlatForm T) → FormLaw inner names s
+      → HasOneView see s → HasOneView (option_view see) (flat_optional s)
   optional_field_view names not_flat l u = tt
   optional_field_view names (alternative q value) l u =
-      optional_value_view T X see inner Named q _ _ (alternative_single T inner q value l.0)
+      optional_value_view T X see inner ByName q _ _ (alternative_single T inner q value l.0)
       (front_view T X see value u) (λ v w a b. absurd a)
   optional_field_view names (single k q group gap) l u =
       optional_value_view T X see inner k q group gap l.0 u.0 u.1
@@ -339,11 +344,11 @@ module _ (T X : Type 0) (see : T → X) (inner : Outcome T) where
 
   -- a field with a default
   pub fallback_view : (f : Closure (Unit {0}) T) → Alike see (λ v. f.yes tt v)
-      → (names : List Names) (s : Shape T) → ShapeLaw inner names s → HasOneView see s
-      → HasOneView see (fallback_shape f s)
+      → (names : List Names) (s : FlatForm T) → FormLaw inner names s → HasOneView see s
+      → HasOneView see (flat_fallback f s)
   fallback_view f given names not_flat l u = tt
   fallback_view f given names (alternative q value) l u =
-      fallback_value_view T X see inner Named q _ _ (alternative_single T inner q value l.0)
+      fallback_value_view T X see inner ByName q _ _ (alternative_single T inner q value l.0)
       (front_view T X see value u) (λ v w a b. absurd a) f given
   fallback_view f given names (single k q group gap) l u =
       fallback_value_view T X see inner k q group gap l.0 u.0 u.1 f given
@@ -351,11 +356,11 @@ module _ (T X : Type 0) (see : T → X) (inner : Outcome T) where
   fallback_view f given names (product q fields) l u = tt
 
   -- any field of a record
-  pub field_view : (names : List Names) (s : Shape T) → ShapeLaw inner names s → HasOneView see s
-      → HasOneView see (field_shape s)
+  pub field_view : (names : List Names) (s : FlatForm T) → FormLaw inner names s → HasOneView see s
+      → HasOneView see (flat_field s)
   field_view names not_flat l u = tt
   field_view names (alternative q value) l u =
-      value_view T X see inner Named q _ _ (alternative_single T inner q value l.0)
+      value_view T X see inner ByName q _ _ (alternative_single T inner q value l.0)
       (front_view T X see value u) (λ v w a b. absurd a)
   field_view names (single k q group gap) l u = value_view T X see inner k q group gap l.0 u.0 u.1
   field_view names (complete k q value) l u = u
@@ -364,9 +369,10 @@ module _ (T X : Type 0) (see : T → X) (inner : Outcome T) where
 -- The list of a repeat, as the program keeps it.
 
 -- many
-pub many_view : (T X : Type 0) (see : T → X) (inner : Outcome T) (names : List Names) (s : Shape T)
-    → ShapeLaw inner names s → HasOneView see s
-    → HasOneView (λ values. map see values.items) (many_shape s)
+pub many_view : (T X : Type 0) (see : T → X) (inner : Outcome T) (names : List Names)
+    (s : FlatForm T)
+    → FormLaw inner names s → HasOneView see s
+    → HasOneView (λ values. map see values.items) (flat_many s)
 many_view T X see inner names s l u =
     closed_view (List T) (Vec T) (List X) (List X) (map see) (λ values. map see values.items)
     (list_closure T)
@@ -374,15 +380,15 @@ many_view T X see inner names s l u =
       same = λ x y v w e f g. ap (map see) f
           ∙ (e ∙ sym (ap (map see) g));
       apart = λ x y v e f n. n;
-    }) (repeat_shape s)
+    }) (flat_repeat s)
     (repeat_view T X see inner names s l u)
 
 -- Products.
 
 -- a field before others
 pub both_view : (A B X Y : Type 0) (see : A → X) (look : B → Y) (own others : List Names)
-    (s : Shape A) (t : Shape B) → HasOneView see s → HasOneView look t
-    → HasOneView (pair_view see look) (both_shape own others s t)
+    (s : FlatForm A) (t : FlatForm B) → HasOneView see s → HasOneView look t
+    → HasOneView (pair_view see look) (flat_both own others s t)
 both_view A B X Y see look own others (complete k q fv) (product r rv) u n =
     if_view (A × B) (X × Y) (pair_view see look) _ (may_follow k own others)
     (λ os v w a b. let d = u _ v.0 w.0 a.0 b.0 in let e = n _ v.1 w.1 a.1 b.1 in
@@ -398,27 +404,27 @@ both_view A B X Y see look own others (product q v) t u n = tt
 
 module _ (T X : Type 0) (see : T → X) where
   -- the last field
-  pub alone_view : (s : Shape T) → HasOneView see s → HasOneView see (alone_shape s)
+  pub alone_view : (s : FlatForm T) → HasOneView see s → HasOneView see (flat_alone s)
   alone_view not_flat u = tt
   alone_view (alternative q value) u = tt
   alone_view (single k q group gap) u = tt
   alone_view (complete k q value) u = λ os v w a b. u _ v w a.read b.read
   alone_view (product q fields) u = tt
 
-  record_view : (inner : Outcome T) (names : List Names) (s : Shape T) → ShapeLaw inner names s
-      → HasOneView see s → HasOneView see (record_shape s)
+  record_view : (inner : Outcome T) (names : List Names) (s : FlatForm T) → FormLaw inner names s
+      → HasOneView see s → HasOneView see (flat_record s)
   record_view inner names not_flat l u = tt
   record_view inner names (alternative q value) l u =
-      alone_view (field_shape (alternative q value))
+      alone_view (flat_field (alternative q value))
       (field_view T X see inner names (alternative q value) l u)
   record_view inner names (single k q group gap) l u =
-      alone_view (field_shape (single k q group gap))
+      alone_view (flat_field (single k q group gap))
       (field_view T X see inner names (single k q group gap) l u)
   record_view inner names (complete k q value) l u = alone_view (complete k q value) u
   record_view inner names (product q fields) l u = u
 
   -- the values of a record
-  product_view : (s : Shape T) → HasOneView see s → (os : List Piece)
+  product_view : (s : FlatForm T) → HasOneView see s → (os : List LinePiece)
       → Alike see ((product_reading s).value os)
   product_view not_flat u os v w a b = absurd a
   product_view (alternative q value) u os v w a b = absurd a
@@ -429,7 +435,7 @@ module _ (T X : Type 0) (see : T → X) where
   -- an exact answer looks like each value of the record
   like_this : (inner : Outcome T) (r : Roles) (reading : FieldsReading T) (context : Context)
       → FieldsLaw T inner r reading
-      → Alike see (λ v. RecordValue r reading.value context v) → (a : Answer T) (v : T)
+      → Alike see (λ v. RecordValue r reading.value context v) → (a : RunAnswer T) (v : T)
       → IsExact T r reading context a
       → RecordValue r reading.value context v → LooksLike see v a
   like_this inner r reading context l one (Accepted w) v e h = one w v (e.sound w refl) h
@@ -438,21 +444,21 @@ module _ (T X : Type 0) (see : T → X) where
       e.complete h.cut_into h.cut (l.has_each h.cut_into v h.read)
 
   -- All values of a line look alike.
-  pub record_looks_one : (outcome : Outcome T) (names : List Names) (s : Shape T)
-      → is_record s ≡ true → ShapeLaw outcome names s → HasOneView see s → (context : Context)
-      → Alike see (λ v. RecordValue (product_roles (record_shape s))
-      (product_reading (record_shape s)).value context v)
+  pub record_looks_one : (outcome : Outcome T) (names : List Names) (s : FlatForm T)
+      → is_record s ≡ true → FormLaw outcome names s → HasOneView see s → (context : Context)
+      → Alike see (λ v. RecordValue (product_roles (flat_record s))
+      (product_reading (flat_record s)).value context v)
   record_looks_one outcome names s h l u context v w a b =
       let f = record_law T outcome names s h l in
       let c = one_cut
-      (product_roles (record_shape s)) _ a.cut_into b.cut_into f.named a.cut b.cut in
-      product_view (record_shape s) (record_view outcome names s l u) b.cut_into v w
-      (subst (λ os. (product_reading (record_shape s)).value os v) c a.read) b.read
+      (product_roles (flat_record s)) _ a.cut_into b.cut_into f.named a.cut b.cut in
+      product_view (flat_record s) (record_view outcome names s l u) b.cut_into v w
+      (subst (λ os. (product_reading (flat_record s)).value os v) c a.read) b.read
 
   -- Where the record has a value, each answer looks like it, or is want of memory; with the value
   -- itself for a view, it is that value.
-  pub runs_to_one : (outcome : Outcome T) (names : List Names) (s : Shape T) → is_record s ≡ true
-      → ShapeLaw outcome names s → HasOneView see s → (context : Context)
+  pub runs_to_one : (outcome : Outcome T) (names : List Names) (s : FlatForm T) → is_record s ≡ true
+      → FormLaw outcome names s → HasOneView see s → (context : Context)
       → RunsToOne see outcome s context
   runs_to_one outcome names s h l u context a v ran r =
       like_this outcome _ _ context (record_law T outcome names s h l)

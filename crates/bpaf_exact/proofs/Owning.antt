@@ -7,17 +7,19 @@ use Rattle.bpaf_text.specs.Named.{Named as Key, KeyWithValue}
 use Rattle.bpaf_words.specs.Items.{is_key_of}
 use Rattle.bpaf_exact.specs.Pieces.{Role, Foreign, Alone, WithNext, is_own_role, either}
 use Rattle.bpaf_exact.specs.Pieces.{no_roles}
-use Rattle.bpaf_exact.specs.Flat.{Named, OneWord, EachWord, keys, both_reading}
+use Rattle.bpaf_exact.specs.Flat.{ByName, OneWord, EachWord, keys, both_reading}
 use Rattle.bpaf_exact.specs.Leaves.{flag_roles, flag_by, flag_field, argument_by}
 use Rattle.bpaf_exact.specs.Leaves.{argument_roles}
 use Rattle.bpaf_exact.specs.Leaves.{argument_field, word_field}
 use Rattle.bpaf_exact.specs.Names.{Owns}
-use Rattle.bpaf_exact.specs.Shape.{Shape, not_flat, alternative, single, complete, product, only_if}
-use Rattle.bpaf_exact.specs.Shape.{closed_shape, optional_shape, fallback_shape, repeat_shape}
-use Rattle.bpaf_exact.specs.Shape.{unless, many_shape, field_shape, alone_shape, both_shape, may_follow}
+use Rattle.bpaf_exact.specs.FlatForm.{FlatForm, not_flat, alternative, single, complete, product}
+use Rattle.bpaf_exact.specs.FlatForm.{only_if}
+use Rattle.bpaf_exact.specs.FlatForm.{flat_closed, flat_optional, flat_fallback, flat_repeat}
+use Rattle.bpaf_exact.specs.FlatForm.{unless, flat_many, flat_field, flat_alone, flat_both}
+use Rattle.bpaf_exact.specs.FlatForm.{may_follow}
 use Rattle.bpaf_exact.specs.Wrappers.{Closure}
 use Rattle.bpaf_exact.specs.Derived.{list_closure}
-use Rattle.bpaf_exact.specs.Fields.{ShapeOwns, OwnsKeys}
+use Rattle.bpaf_exact.specs.Fields.{FormOwns, OwnsKeys}
 use Rattle.bpaf_exact.proofs.Names.{either_owns}
 
 -- an item with a role of its own where it is a key
@@ -28,28 +30,28 @@ by_key own is false = refl
 
 -- a flag's
 flag_has : {T : Type 0} (clones : T → T → Type 0) (key : Key) (present : T) (absent : Option T)
-    → ShapeOwns (key.names ∷ []) (flag_field clones key present absent)
+    → FormOwns (key.names ∷ []) (flag_field clones key present absent)
 flag_has {T = T} clones key present absent = by_envs key.envs absent
   where
     own : Owns (flag_roles key.names) (key.names ∷ [])
     own = record { own = λ k. by_key Alone refl (is_key_of key.names k) }
 
     by_envs : (envs : List (List ℕ)) (absent : Option T)
-        → ShapeOwns (key.names ∷ []) (flag_by clones key.names present envs absent)
+        → FormOwns (key.names ∷ []) (flag_by clones key.names present envs absent)
     by_envs (env ∷ envs) absent = tt
     by_envs [] None = own
     by_envs [] (Some x) = own
 
 -- an argument's
 argument_has : {T : Type 0} (means : List ℕ → T → Type 0) (argument : KeyWithValue)
-    → ShapeOwns (argument.named.names ∷ []) (argument_field means argument)
+    → FormOwns (argument.named.names ∷ []) (argument_field means argument)
 argument_has means argument = by_envs argument.named.envs argument.adjacent argument.last
   where
     own : Owns (argument_roles argument.named.names) (argument.named.names ∷ [])
     own = record { own = λ k. by_key WithNext refl (is_key_of argument.named.names k) }
 
     by_envs : (envs : List (List ℕ)) (adjacent last : Bool)
-        → ShapeOwns (argument.named.names ∷ [])
+        → FormOwns (argument.named.names ∷ [])
         (argument_by means argument.named.names envs adjacent last)
     by_envs (env ∷ envs) adjacent last = tt
     by_envs [] true last = tt
@@ -57,12 +59,12 @@ argument_has means argument = by_envs argument.named.envs argument.adjacent argu
     by_envs [] false true = own
 
 -- a word has none
-word_by : {T : Type 0} (means : List ℕ → T → Type 0) → ShapeOwns [] (word_field means)
+word_by : {T : Type 0} (means : List ℕ → T → Type 0) → FormOwns [] (word_field means)
 word_by means = record { own = λ k. refl }
 
 -- with a closure round it
-closed_by : {A B : Type 0} (f : Closure A B) (names : List Names) (s : Shape A)
-    → ShapeOwns names s → ShapeOwns names (closed_shape f s)
+closed_by : {A B : Type 0} (f : Closure A B) (names : List Names) (s : FlatForm A)
+    → FormOwns names s → FormOwns names (flat_closed f s)
 closed_by f names not_flat h = tt
 closed_by f names (alternative q value) h = h
 closed_by f names (single k q group gap) h = h
@@ -70,8 +72,8 @@ closed_by f names (complete k q value) h = h
 closed_by f names (product q fields) h = tt
 
 -- under `optional`
-optional_by : {T : Type 0} (names : List Names) (s : Shape T) → ShapeOwns names s
-    → ShapeOwns names (optional_shape s)
+optional_by : {T : Type 0} (names : List Names) (s : FlatForm T) → FormOwns names s
+    → FormOwns names (flat_optional s)
 optional_by names not_flat h = tt
 optional_by names (alternative q value) h = h
 optional_by names (single k q group gap) h = h
@@ -79,8 +81,8 @@ optional_by names (complete k q value) h = tt
 optional_by names (product q fields) h = tt
 
 -- under a fallback
-fallback_by : {T : Type 0} (f : Closure (Unit {0}) T) (names : List Names) (s : Shape T)
-    → ShapeOwns names s → ShapeOwns names (fallback_shape f s)
+fallback_by : {T : Type 0} (f : Closure (Unit {0}) T) (names : List Names) (s : FlatForm T)
+    → FormOwns names s → FormOwns names (flat_fallback f s)
 fallback_by f names not_flat h = tt
 fallback_by f names (alternative q value) h = h
 fallback_by f names (single k q group gap) h = h
@@ -88,30 +90,30 @@ fallback_by f names (complete k q value) h = tt
 fallback_by f names (product q fields) h = tt
 
 -- under a repeat
-repeat_by : {T : Type 0} (names : List Names) (s : Shape T) → ShapeOwns names s
-    → ShapeOwns names (repeat_shape s)
+repeat_by : {T : Type 0} (names : List Names) (s : FlatForm T) → FormOwns names s
+    → FormOwns names (flat_repeat s)
 repeat_by names not_flat h = tt
 repeat_by names (alternative q value) h = h
-repeat_by names (single Named q group gap) h = h
+repeat_by names (single ByName q group gap) h = h
 repeat_by names (single OneWord q group gap) h = h
 repeat_by names (single EachWord q group gap) h = h
 repeat_by names (complete k q value) h = tt
 repeat_by names (product q fields) h = tt
 
 -- under `many`
-many_by : {T : Type 0} (names : List Names) (s : Shape T) → ShapeOwns names s
-    → ShapeOwns names (many_shape s)
-many_by {T = T} names s h = closed_by (list_closure T) names (repeat_shape s) (repeat_by names s h)
+many_by : {T : Type 0} (names : List Names) (s : FlatForm T) → FormOwns names s
+    → FormOwns names (flat_many s)
+many_by {T = T} names s h = closed_by (list_closure T) names (flat_repeat s) (repeat_by names s h)
 
 -- without `catch`
-unless_by : {T : Type 0} (catch : Bool) (names : List Names) (s : Shape T)
-    → ShapeOwns names s → ShapeOwns names (unless catch s)
+unless_by : {T : Type 0} (catch : Bool) (names : List Names) (s : FlatForm T)
+    → FormOwns names s → FormOwns names (unless catch s)
 unless_by true names s h = tt
 unless_by false names s h = h
 
 -- as a field
-field_by : {T : Type 0} (names : List Names) (s : Shape T) → ShapeOwns names s
-    → ShapeOwns names (field_shape s)
+field_by : {T : Type 0} (names : List Names) (s : FlatForm T) → FormOwns names s
+    → FormOwns names (flat_field s)
 field_by names not_flat h = tt
 field_by names (alternative q value) h = h
 field_by names (single k q group gap) h = h
@@ -119,8 +121,8 @@ field_by names (complete k q value) h = h
 field_by names (product q fields) h = tt
 
 -- as the last one
-alone_by : {T : Type 0} (names : List Names) (s : Shape T) → ShapeOwns names s
-    → ShapeOwns names (alone_shape s)
+alone_by : {T : Type 0} (names : List Names) (s : FlatForm T) → FormOwns names s
+    → FormOwns names (flat_alone s)
 alone_by names not_flat h = tt
 alone_by names (alternative q value) h = tt
 alone_by names (single k q group gap) h = tt
@@ -130,12 +132,12 @@ alone_by names (complete k q value) h =
     (either_owns (keys k q) no_roles names [] h (record { own = λ j. refl }))
 
 -- before others
-both_by : {A B : Type 0} (own behind : List Names) (a : Shape A) (s : Shape B)
-    → ShapeOwns own a → ShapeOwns behind s → ShapeOwns (own ++ behind) (both_shape own behind a s)
+both_by : {A B : Type 0} (own behind : List Names) (a : FlatForm A) (s : FlatForm B)
+    → FormOwns own a → FormOwns behind s → FormOwns (own ++ behind) (flat_both own behind a s)
 both_by {A = A} {B = B} own behind (complete k q first) (product r rest) h g = by_names (may_follow k own behind)
   where
     by_names : (b : Bool)
-        → ShapeOwns {T = A × B} (own ++ behind)
+        → FormOwns {T = A × B} (own ++ behind)
         (only_if b (product (either (keys k q) r) (both_reading k q first rest)))
     by_names true = either_owns (keys k q) r own behind h g
     by_names false = tt
@@ -165,41 +167,42 @@ pub word_owns : {T : Type 0} (means : List ℕ → T → Type 0) → OwnsKeys []
 word_owns means = record { by = word_by means }
 
 -- so it is with a closure round it,
-pub closed_owns : {A B : Type 0} (f : Closure A B) (names : List Names) (s : Shape A)
-    → OwnsKeys names s → OwnsKeys names (closed_shape f s)
+pub closed_owns : {A B : Type 0} (f : Closure A B) (names : List Names) (s : FlatForm A)
+    → OwnsKeys names s → OwnsKeys names (flat_closed f s)
 closed_owns f names s h = record { by = closed_by f names s h.by }
 
 -- under `optional`,
-pub optional_owns : {T : Type 0} (names : List Names) (s : Shape T) → OwnsKeys names s
-    → OwnsKeys names (optional_shape s)
+pub optional_owns : {T : Type 0} (names : List Names) (s : FlatForm T) → OwnsKeys names s
+    → OwnsKeys names (flat_optional s)
 optional_owns names s h = record { by = optional_by names s h.by }
 
 -- a fallback
-pub fallback_owns : {T : Type 0} (f : Closure (Unit {0}) T) (names : List Names) (s : Shape T)
-    → OwnsKeys names s → OwnsKeys names (fallback_shape f s)
+pub fallback_owns : {T : Type 0} (f : Closure (Unit {0}) T) (names : List Names) (s : FlatForm T)
+    → OwnsKeys names s → OwnsKeys names (flat_fallback f s)
 fallback_owns f names s h = record { by = fallback_by f names s h.by }
 
 -- or `many`,
-pub many_owns : {T : Type 0} (names : List Names) (s : Shape T) → OwnsKeys names s
-    → OwnsKeys names (many_shape s)
+pub many_owns : {T : Type 0} (names : List Names) (s : FlatForm T) → OwnsKeys names s
+    → OwnsKeys names (flat_many s)
 many_owns names s h = record { by = many_by names s h.by }
 
 -- without `catch`,
-pub unless_owns : {T : Type 0} (catch : Bool) (names : List Names) (s : Shape T) → OwnsKeys names s
+pub unless_owns : {T : Type 0} (catch : Bool) (names : List Names) (s : FlatForm T)
+    → OwnsKeys names s
     → OwnsKeys names (unless catch s)
 unless_owns catch names s h = record { by = unless_by catch names s h.by }
 
 -- as a field,
-pub field_owns : {T : Type 0} (names : List Names) (s : Shape T) → OwnsKeys names s
-    → OwnsKeys names (field_shape s)
+pub field_owns : {T : Type 0} (names : List Names) (s : FlatForm T) → OwnsKeys names s
+    → OwnsKeys names (flat_field s)
 field_owns names s h = record { by = field_by names s h.by }
 
 -- as the last one
-pub alone_owns : {T : Type 0} (names : List Names) (s : Shape T) → OwnsKeys names s
-    → OwnsKeys names (alone_shape s)
+pub alone_owns : {T : Type 0} (names : List Names) (s : FlatForm T) → OwnsKeys names s
+    → OwnsKeys names (flat_alone s)
 alone_owns names s h = record { by = alone_by names s h.by }
 
 -- and before others.
-pub both_owns : {A B : Type 0} (own behind : List Names) (a : Shape A) (s : Shape B)
-    → OwnsKeys own a → OwnsKeys behind s → OwnsKeys (own ++ behind) (both_shape own behind a s)
+pub both_owns : {A B : Type 0} (own behind : List Names) (a : FlatForm A) (s : FlatForm B)
+    → OwnsKeys own a → OwnsKeys behind s → OwnsKeys (own ++ behind) (flat_both own behind a s)
 both_owns own behind a s h g = record { by = both_by own behind a s h.by g.by }

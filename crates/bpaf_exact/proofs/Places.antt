@@ -6,7 +6,7 @@ use Rattle.bpaf_words.specs.declared.arg.Arg.{Arg}
 use Rattle.bpaf_line.specs.Situation.{Situation, is_open, is_taken, in_scope, item_at, take_place}
 use Rattle.bpaf_line.specs.Taking.{open_item}
 use Rattle.bpaf_line.proofs.Places.{taken_here, taken_other}
-use Rattle.bpaf_exact.specs.Pieces.{Cells, Alone, WithNext, Roles, Piece, One, Two, is_value}
+use Rattle.bpaf_exact.specs.Pieces.{Cells, Alone, WithNext, Roles, LinePiece, One, Two, is_value}
 use Rattle.bpaf_exact.specs.Pieces.{with_next, pieces}
 use Rattle.bpaf_exact.specs.Flat.{first_cells, Steady}
 use Rattle.bpaf_exact.specs.Alternative.{NotOwn, TakesFirst, first_one, first_two, first_later}
@@ -85,7 +85,7 @@ head_two r c d a b cs ds k w e f g i j h v =
     (first_two h v)))))
 
 -- a later one is
-later : (r : Roles) (c d : Option Arg) {cs ds : Cells} {o : Piece} → d ≡ c → NotOwn r c
+later : (r : Roles) (c d : Option Arg) {cs ds : Cells} {o : LinePiece} → d ≡ c → NotOwn r c
     → TakesFirst r cs o ds → TakesFirst r (c ∷ cs) o (d ∷ ds)
 later r c d {cs = cs} {ds = ds} {o = o} e n t =
     subst (λ z. TakesFirst r (c ∷ cs) o (z ∷ ds)) (sym e) (first_later n t)
@@ -139,7 +139,7 @@ none_present r at (suc n) none = pass_head r (at zero) _ (none zero)
 
 -- a key without a value heads the pieces as it stands
 pub record BareHead (r : Roles) (cs : Cells) (k : Arg) : Type 0 where
-  pub tail : List Piece
+  pub tail : List LinePiece
   pub is : pieces r cs ≡ One k ∷ tail
 
 -- a key before no value is a piece by itself

@@ -9,15 +9,16 @@ use Rattle.bpaf_line.specs.declared.error.Error.{Error}
 use Rattle.bpaf_line.specs.Situation.{Situation}
 use Rattle.bpaf_line.specs.Taking.{TakesText}
 use Rattle.bpaf_line.proofs.Matches.{open_item_there}
-use Rattle.bpaf_exact.specs.Pieces.{Cells, Foreign, Alone, WithNext, Piece, One, word_roles, pieces}
+use Rattle.bpaf_exact.specs.Pieces.{Cells, Foreign, Alone, WithNext, LinePiece, One, word_roles}
+use Rattle.bpaf_exact.specs.Pieces.{pieces}
 use Rattle.bpaf_exact.specs.Pieces.{takes_none}
 use Rattle.bpaf_exact.specs.Flat.{cells, IsWhole, Steady, OneWord, front, back}
 use Rattle.bpaf_exact.specs.Single.{Groups, FrontOf, no_gap, SingleOk, took, SingleErr, of_memory}
 use Rattle.bpaf_exact.specs.Single.{of_missing, of_piece, WordByWord, SingleLaw}
 use Rattle.bpaf_exact.specs.Alternative.{TakesFirst, first_one, first_two, first_later}
-use Rattle.bpaf_exact.specs.Leaves.{WordValue, word_field, WordRan, word_read, word_fault}
+use Rattle.bpaf_exact.specs.Leaves.{WordValue, word_field, WordEval, word_read, word_fault}
 use Rattle.bpaf_exact.specs.Leaves.{word_missing, word_memory}
-use Rattle.bpaf_exact.specs.Shape.{ShapeLaw}
+use Rattle.bpaf_exact.specs.FlatForm.{FormLaw}
 use Rattle.bpaf_exact.proofs.Product.{steady_refl}
 use Rattle.bpaf_exact.proofs.First.{first_takes, takes_nonempty, begin_at}
 use Rattle.bpaf_exact.proofs.Places.{take_steady}
@@ -51,7 +52,7 @@ module _ (T : Type 0) (means : List ℕ → T → Type 0) where
       by_word false h = cc
 
   -- the first word heads the pieces
-  word_pieces : {cs ds : Cells} {o : Piece} → TakesFirst word_roles cs o ds
+  word_pieces : {cs ds : Cells} {o : LinePiece} → TakesFirst word_roles cs o ds
       → pieces word_roles cs ≡ o ∷ pieces word_roles ds
   word_pieces (first_one {k = k} {cs = cs} e) = begin_at k cs (pieces word_roles cs) e
   word_pieces (first_two {k = k} e v) = absurd (never_two k e)
@@ -83,7 +84,7 @@ module _ (T : Type 0) (means : List ℕ → T → Type 0) where
       })
 
   -- a value is that of the first word
-  word_ok : (s t : Situation) (v : T) → IsWhole s → WordRan T means s (Ok v) t
+  word_ok : (s t : Situation) (v : T) → IsWhole s → WordEval T means s (Ok v) t
       → SingleOk T OneWord word_roles group (no_gap T) s v t
   word_ok s t v w (word_read {p = p} {strict = strict} {text = text} takes y) =
       let m = took_word s t p strict text takes in
@@ -105,7 +106,7 @@ module _ (T : Type 0) (means : List ℕ → T → Type 0) where
       (record { piece = One m.word; is = e ∙ ap (λ z. One m.word ∷ z) j; means = y }, j))
 
   -- a refusal: there is no word, or the first can't be read
-  word_err : (s t : Situation) (e : Error) → IsWhole s → WordRan T means s (Err e) t
+  word_err : (s t : Situation) (e : Error) → IsWhole s → WordEval T means s (Err e) t
       → SingleErr T OneWord word_roles group (no_gap T) s e t
   word_err s t e w (word_fault {p = p} {strict = strict} {text = text} takes n c) =
       let m = took_word s t p strict text takes in
@@ -123,7 +124,8 @@ module _ (T : Type 0) (means : List ℕ → T → Type 0) where
   one_by_one : WordByWord T group
   one_by_one = record { by_front = fronts; of_front = heads }
     where
-      fronts : (os : List Piece) (v : T) (rest : List Piece) → FrontOf T (WordValue means) os v rest
+      fronts : (os : List LinePiece) (v : T) (rest : List LinePiece)
+          → FrontOf T (WordValue means) os v rest
           → FrontOf T (WordValue means) (front OneWord os) v [] × (rest ≡ back OneWord os)
       fronts [] v rest g = let e = g.is in absurd cc
       fronts (o ∷ os) v rest g =
@@ -131,7 +133,7 @@ module _ (T : Type 0) (means : List ℕ → T → Type 0) where
           let d : o ≡ g.piece = cc in
           (record { piece = g.piece; is = ap (λ z. z ∷ []) d; means = g.means }, cc)
 
-      heads : (os : List Piece) (v : T) → FrontOf T (WordValue means) (front OneWord os) v []
+      heads : (os : List LinePiece) (v : T) → FrontOf T (WordValue means) (front OneWord os) v []
           → FrontOf T (WordValue means) os v (back OneWord os)
       heads [] v g = g
       heads (o ∷ os) v g =
@@ -140,7 +142,7 @@ module _ (T : Type 0) (means : List ℕ → T → Type 0) where
           record { piece = g.piece; is = ap (λ z. z ∷ os) d; means = g.means }
 
   -- a word keeps to the laws of one evaluation
-  word_law : SingleLaw T (WordRan T means) OneWord word_roles group (no_gap T)
+  word_law : SingleLaw T (WordEval T means) OneWord word_roles group (no_gap T)
   word_law = record {
     own = record { words = λ k. refl };
     words = one_by_one;
@@ -150,7 +152,7 @@ module _ (T : Type 0) (means : List ℕ → T → Type 0) where
     err = word_err;
   }
 
--- a positional keeps to the laws of its shape
+-- a positional keeps to the laws of its form
 pub word_field_law : (T : Type 0) (means : List ℕ → T → Type 0)
-    → ShapeLaw (WordRan T means) [] (word_field means)
+    → FormLaw (WordEval T means) [] (word_field means)
 word_field_law T means = (word_law T means, record { own = λ k. refl })

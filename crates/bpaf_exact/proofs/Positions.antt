@@ -6,25 +6,26 @@ use Rattle.std.specs.Global.{Vec}
 use Rattle.bpaf_doc.specs.Names.{Names}
 use Rattle.bpaf_words.specs.Items.{item_text}
 use Rattle.bpaf_words.specs.declared.arg.Arg.{Arg}
-use Rattle.bpaf_exact.specs.Pieces.{Role, Foreign, Alone, WithNext, Roles, Piece, One, Two}
+use Rattle.bpaf_exact.specs.Pieces.{Role, Foreign, Alone, WithNext, Roles, LinePiece, One, Two}
 use Rattle.bpaf_exact.specs.Pieces.{is_own_role, others, either, either_role, no_roles}
-use Rattle.bpaf_exact.specs.Flat.{Kind, Named, OneWord, EachWord, BothValue, both_reading, keys}
+use Rattle.bpaf_exact.specs.Flat.{FieldKind, ByName, OneWord, EachWord, BothValue, both_reading}
+use Rattle.bpaf_exact.specs.Flat.{keys}
 use Rattle.bpaf_exact.specs.Flat.{front, back, FieldsReading}
 use Rattle.bpaf_exact.specs.Leaves.{WordValue}
 use Rattle.bpaf_exact.specs.Names.{Owns}
 use Rattle.bpaf_exact.specs.Single.{FrontOf, Own, own_none, own_more, OwnList, listed}
 use Rattle.bpaf_exact.specs.Single.{listed_and_absent, only_absent, SingleValue, of_group, of_gap}
 use Rattle.bpaf_exact.specs.Single.{no_gap}
-use Rattle.bpaf_exact.specs.Shape.{Shape, not_flat, alternative, single, complete, product}
-use Rattle.bpaf_exact.specs.Shape.{both_shape, alone_shape, con_shape, may_follow, only_if}
-use Rattle.bpaf_exact.specs.Shape.{record_shape}
+use Rattle.bpaf_exact.specs.FlatForm.{FlatForm, not_flat, alternative, single, complete, product}
+use Rattle.bpaf_exact.specs.FlatForm.{flat_both, flat_alone, flat_con, may_follow, only_if}
+use Rattle.bpaf_exact.specs.FlatForm.{flat_record}
 use Rattle.bpaf_exact.specs.Wrappers.{Closure, ClosedValue}
 use Rattle.bpaf_exact.specs.Derived.{list_closure}
-use Rattle.bpaf_exact.specs.Fields.{words_behind_field, ReadsWords, WordsBy, IsWordsOf, ShapeOwns, OwnsKeys}
+use Rattle.bpaf_exact.specs.Fields.{words_behind_field, ReadsWords, WordsBy, IsWordsOf, FormOwns, OwnsKeys}
 use Rattle.bpaf_exact.specs.Fields.{word_texts, IsFirstWord}
 
 -- where no item is one's own, each piece is another's
-others_none : (q : Roles) → ((k : Arg) → is_own_role (q k) ≡ false) → (os : List Piece)
+others_none : (q : Roles) → ((k : Arg) → is_own_role (q k) ≡ false) → (os : List LinePiece)
     → others q os ≡ os
 others_none q none [] = refl
 others_none q none (One k ∷ os) =
@@ -35,7 +36,7 @@ others_none q none (Two k w ∷ os) =
     ∙ ap (λ z. Two k w ∷ z) (others_none q none os)
 
 -- what is neither's is no piece of both
-others_both : (q r : Roles) (os : List Piece) → others r (others q os) ≡ others (either q r) os
+others_both : (q r : Roles) (os : List LinePiece) → others r (others q os) ≡ others (either q r) os
 others_both q r [] = refl
 others_both q r (One k ∷ os) = by_role (q k) (r k) refl (others_both q r os)
   where
@@ -67,13 +68,13 @@ none_behind r own [] owned e k = owned.own k
 none_behind r own (names ∷ behind) owned e k = absurd cc
 
 -- a positional field that stands first among those of its kind
-first_words_by : {A B : Type 0} (own behind : List Names) (a : Shape A) (s : Shape B)
-    → ShapeOwns behind s → WordsBy a (λ os. os) (both_shape own behind a s) (λ v. v.0)
+first_words_by : {A B : Type 0} (own behind : List Names) (a : FlatForm A) (s : FlatForm B)
+    → FormOwns behind s → WordsBy a (λ os. os) (flat_both own behind a s) (λ v. v.0)
 first_words_by own behind not_flat s owned = tt
 first_words_by own behind (alternative q value) s owned = tt
 first_words_by own behind (single k q group gap) s owned = tt
 first_words_by own behind (product q fields) s owned = tt
-first_words_by own behind (complete Named q value) s owned = tt
+first_words_by own behind (complete ByName q value) s owned = tt
 first_words_by own behind (complete OneWord q value) not_flat owned = tt
 first_words_by own behind (complete OneWord q value) (alternative r other) owned = tt
 first_words_by own behind (complete OneWord q value) (single k r group gap) owned = tt
@@ -106,15 +107,15 @@ first_words_by {A = A} {B = B} own behind (complete EachWord q value) (product r
     by_names false e = tt
 
 -- the kinds of positional fields
-data IsWordKind : Kind → Type 0 where
+data IsWordKind : FieldKind → Type 0 where
   one_word : IsWordKind OneWord
   each_word : IsWordKind EachWord
 
 -- a positional field of fields that stand behind another
-module _ {A B C : Type 0} (own behind : List Names) (k : Kind) (p : Roles)
-    (first : List Piece → A → Type 0) (r : Roles) (fields : FieldsReading C)
-    (owned : Owns r behind) (j : Kind) (rest : List Piece → List Piece)
-    (value : List Piece → B → Type 0) (of : C → B)
+module _ {A B C : Type 0} (own behind : List Names) (k : FieldKind) (p : Roles)
+    (first : List LinePiece → A → Type 0) (r : Roles) (fields : FieldsReading C)
+    (owned : Owns r behind) (j : FieldKind) (rest : List LinePiece → List LinePiece)
+    (value : List LinePiece → B → Type 0) (of : C → B)
     (h : ReadsWords C B r fields.value j rest value of) where
   -- whichever kind that one is of
   later_reads : may_follow k own behind ≡ true
@@ -123,8 +124,8 @@ module _ {A B C : Type 0} (own behind : List Names) (k : Kind) (p : Roles)
   later_reads e = by_kind k e
     where
       -- behind words no item is another's own
-      behind_words : (l : List Piece → List Piece) → ((i : Arg) → is_own_role (r i) ≡ false)
-          → (words : List Piece → A → Type 0)
+      behind_words : (l : List LinePiece → List LinePiece) → ((i : Arg) → is_own_role (r i) ≡ false)
+          → (words : List LinePiece → A → Type 0)
           → ReadsWords (A × C) B (either no_roles r)
           (λ os v. words os v.0 × fields.value (l os) v.1) j (λ os. rest (l os)) value (λ v. of v.1)
       behind_words l none words = record {
@@ -133,10 +134,10 @@ module _ {A B C : Type 0} (own behind : List Names) (k : Kind) (p : Roles)
             (h.read (l os) v.1 i.1);
       }
 
-      by_kind : (k : Kind) → may_follow k own behind ≡ true
+      by_kind : (k : FieldKind) → may_follow k own behind ≡ true
           → ReadsWords (A × C) B (either (keys k p) r) (BothValue k p first fields.value) j
           (λ os. rest (words_behind_field {A = A} (complete k p first) os)) value (λ v. of v.1)
-      by_kind Named e = record {
+      by_kind ByName e = record {
         read = λ os v i. subst (λ z. value (front j (rest z)) (of v.1)) (others_both p r os)
             (h.read (others p os) v.1 i.1);
       }
@@ -144,14 +145,14 @@ module _ {A B C : Type 0} (own behind : List Names) (k : Kind) (p : Roles)
       by_kind EachWord e = behind_words (λ os. []) (none_behind r own behind owned e) _
 
 -- a positional field of those that stand behind another field
-later_words_by : {A B C : Type 0} (own behind : List Names) (a : Shape A) (b : Shape B) (s : Shape C)
-    (rest : List Piece → List Piece) (of : C → B) → ShapeOwns behind s → WordsBy b rest s of
-    → WordsBy b (λ os. rest (words_behind_field a os)) (both_shape own behind a s) (λ v. of v.1)
+later_words_by : {A B C : Type 0} (own behind : List Names) (a : FlatForm A) (b : FlatForm B) (s : FlatForm C)
+    (rest : List LinePiece → List LinePiece) (of : C → B) → FormOwns behind s → WordsBy b rest s of
+    → WordsBy b (λ os. rest (words_behind_field a os)) (flat_both own behind a s) (λ v. of v.1)
 later_words_by own behind a not_flat s rest of owned h = tt
 later_words_by own behind a (alternative q value) s rest of owned h = tt
 later_words_by own behind a (single k q group gap) s rest of owned h = tt
 later_words_by own behind a (product q fields) s rest of owned h = tt
-later_words_by own behind a (complete Named q value) s rest of owned h = tt
+later_words_by own behind a (complete ByName q value) s rest of owned h = tt
 later_words_by own behind not_flat (complete OneWord q value) s rest of owned h = tt
 later_words_by own behind (alternative p first) (complete OneWord q value) s rest of owned h = tt
 later_words_by own behind (single k p group gap) (complete OneWord q value) s rest of owned h = tt
@@ -198,12 +199,12 @@ later_words_by {A = A} {B = B} {C = C} own behind (complete k p first) (complete
     by_names false e = tt
 
 -- the last field, where it is positional
-last_words_by : {A : Type 0} (a : Shape A) → WordsBy a (λ os. os) (alone_shape a) (λ v. v)
+last_words_by : {A : Type 0} (a : FlatForm A) → WordsBy a (λ os. os) (flat_alone a) (λ v. v)
 last_words_by not_flat = tt
 last_words_by (alternative q value) = tt
 last_words_by (single k q group gap) = tt
 last_words_by (product q fields) = tt
-last_words_by (complete Named q value) = tt
+last_words_by (complete ByName q value) = tt
 last_words_by (complete OneWord q value) = record {
   read = λ os v i. subst (λ z. value (front OneWord z) v)
       (sym (others_none (either no_roles no_roles) (λ k. refl) os)) i.read;
@@ -214,15 +215,16 @@ last_words_by (complete EachWord q value) = record {
 }
 
 -- a positional field of what a constructor makes
-made_words_by : {A B C : Type 0} (f : Closure A B) (a : Shape C) (rest : List Piece → List Piece)
-    (s : Shape A) (of : A → C) (from : B → C)
+made_words_by : {A B C : Type 0} (f : Closure A B) (a : FlatForm C)
+    (rest : List LinePiece → List LinePiece)
+    (s : FlatForm A) (of : A → C) (from : B → C)
     → ((x : A) (v : B) → f.yes x v → from v ≡ of x) → WordsBy a rest s of
-    → WordsBy a rest (record_shape (con_shape f s)) from
+    → WordsBy a rest (flat_record (flat_con f s)) from
 made_words_by f not_flat rest s of from same h = tt
 made_words_by f (alternative q value) rest s of from same h = tt
 made_words_by f (single k q group gap) rest s of from same h = tt
 made_words_by f (product q fields) rest s of from same h = tt
-made_words_by f (complete Named q value) rest s of from same h = tt
+made_words_by f (complete ByName q value) rest s of from same h = tt
 made_words_by f (complete OneWord q value) rest not_flat of from same h = tt
 made_words_by f (complete OneWord q value) rest (alternative r other) of from same h = tt
 made_words_by f (complete OneWord q value) rest (single k r group gap) of from same h = tt
@@ -241,36 +243,40 @@ made_words_by f (complete EachWord q value) rest (product r fields) of from same
 }
 
 -- The first of two is a positional field of both,
-pub first_words : {A B : Type 0} (own behind : List Names) (a : Shape A) (s : Shape B)
-    → OwnsKeys behind s → IsWordsOf a (λ os. os) (both_shape own behind a s) (λ v. v.0)
+pub first_words : {A B : Type 0} (own behind : List Names) (a : FlatForm A) (s : FlatForm B)
+    → OwnsKeys behind s → IsWordsOf a (λ os. os) (flat_both own behind a s) (λ v. v.0)
 first_words own behind a s owned = record { by = first_words_by own behind a s owned.by }
 
 -- one of the others gets what the first leaves,
-pub later_words : {A B C : Type 0} (own behind : List Names) (a : Shape A) (b : Shape B) (s : Shape C)
-    (rest : List Piece → List Piece) (of : C → B) → OwnsKeys behind s → IsWordsOf b rest s of
-    → IsWordsOf b (λ os. rest (words_behind_field a os)) (both_shape own behind a s) (λ v. of v.1)
+pub later_words : {A B C : Type 0} (own behind : List Names) (a : FlatForm A) (b : FlatForm B)
+    (s : FlatForm C)
+    (rest : List LinePiece → List LinePiece) (of : C → B) → OwnsKeys behind s
+    → IsWordsOf b rest s of
+    → IsWordsOf b (λ os. rest (words_behind_field a os)) (flat_both own behind a s) (λ v. of v.1)
 later_words own behind a b s rest of owned h =
     record { by = later_words_by own behind a b s rest of owned.by h.by }
 
 -- the last one is one too,
-pub last_words : {A : Type 0} (a : Shape A) → IsWordsOf a (λ os. os) (alone_shape a) (λ v. v)
+pub last_words : {A : Type 0} (a : FlatForm A) → IsWordsOf a (λ os. os) (flat_alone a) (λ v. v)
 last_words a = record { by = last_words_by a }
 
 -- and so is one of what a constructor makes.
-pub made_words : {A B C : Type 0} (f : Closure A B) (a : Shape C) (rest : List Piece → List Piece)
-    (s : Shape A) (of : A → C) (from : B → C)
+pub made_words : {A B C : Type 0} (f : Closure A B) (a : FlatForm C)
+    (rest : List LinePiece → List LinePiece)
+    (s : FlatForm A) (of : A → C) (from : B → C)
     → ((x : A) (v : B) → f.yes x v → from v ≡ of x) → IsWordsOf a rest s of
-    → IsWordsOf a rest (record_shape (con_shape f s)) from
+    → IsWordsOf a rest (flat_record (flat_con f s)) from
 made_words f a rest s of from same h = record { by = made_words_by f a rest s of from same h.by }
 
 -- What a positional field's value is.
 module _ (T : Type 0) (means : List ℕ → T → Type 0) where
   -- it is read off one word
-  word_by : (os ws : List Piece) (v : T) → front OneWord os ≡ ws
+  word_by : (os ws : List LinePiece) (v : T) → front OneWord os ≡ ws
       → SingleValue T (FrontOf T (WordValue means)) (no_gap T) ws v → IsFirstWord T means os v
   word_by os ws v e (of_group g) = by_piece os g.piece (e ∙ g.is) g.means
     where
-      by_piece : (os : List Piece) (o : Piece) → front OneWord os ≡ o ∷ [] → WordValue means o v
+      by_piece : (os : List LinePiece) (o : LinePiece) → front OneWord os ≡ o ∷ []
+          → WordValue means o v
           → IsFirstWord T means os v
       by_piece [] o i m = absurd cc
       by_piece (One w ∷ more) (One x) i m = let same : w ≡ x = cc in
@@ -280,32 +286,32 @@ module _ (T : Type 0) (means : List ℕ → T → Type 0) where
   word_by os [] v e (of_gap a) = absurd a
 
   -- Without a repeat: what the first word that is left to it means.
-  pub word_said : (os : List Piece) (v : T)
+  pub word_said : (os : List LinePiece) (v : T)
       → SingleValue T (FrontOf T (WordValue means)) (no_gap T) (front OneWord os) v
       → IsFirstWord T means os v
   word_said os v h = word_by os (front OneWord os) v refl h
 
   -- each word has its value
-  all_words : (os : List Piece) (vs : List T) → Own T (FrontOf T (WordValue means)) os vs
+  all_words : (os : List LinePiece) (vs : List T) → Own T (FrontOf T (WordValue means)) os vs
       → AllZip means (word_texts os) vs
   all_words [] [] own_none = tt
   all_words (o ∷ os) [] h = elim h [ ]
   all_words os (v ∷ vs) (own_more g more) = by_piece g.piece g.is g.means (all_words _ vs more)
     where
-      by_piece : (o : Piece) {rest : List Piece} → os ≡ o ∷ rest → WordValue means o v
+      by_piece : (o : LinePiece) {rest : List LinePiece} → os ≡ o ∷ rest → WordValue means o v
           → AllZip means (word_texts rest) vs → AllZip means (word_texts os) (v ∷ vs)
       by_piece (One w) i m h = subst (λ z. AllZip means (word_texts z) (v ∷ vs)) (sym i) (m, h)
       by_piece (Two k w) i m h = absurd m
 
   -- the values of a repeat
-  words_by : (os : List Piece) (vs : List T)
+  words_by : (os : List LinePiece) (vs : List T)
       → OwnList T (FrontOf T (WordValue means)) (no_gap T) os vs → AllZip means (word_texts os) vs
   words_by os vs (listed h o) = all_words os vs o
   words_by os (v ∷ vs) (listed_and_absent h a o) = absurd a
   words_by [] (v ∷ []) (only_absent h a) = absurd a
 
   -- Under `many`: what all words that are left to it mean, in line order.
-  pub words_said : (os : List Piece) (v : Vec T)
+  pub words_said : (os : List LinePiece) (v : Vec T)
       → ClosedValue (List T) (Vec T) (OwnList T (FrontOf T (WordValue means)) (no_gap T))
       (list_closure T) os v
       → AllZip means (word_texts os) v.items

@@ -8,11 +8,12 @@ use Rattle.bpaf_line.specs.Messages.{is_memory}
 use Rattle.bpaf_laws.specs.Product.{BothOutcome, joined}
 use Rattle.bpaf_laws.specs.Reading.{Outcome}
 use Rattle.bpaf_laws.specs.Spared.{IsNotMemory}
-use Rattle.bpaf_exact.specs.Pieces.{Cells, Role, Foreign, Alone, WithNext, Roles, Piece, One, Two}
+use Rattle.bpaf_exact.specs.Pieces.{Cells, Role, Foreign, Alone, WithNext, Roles, LinePiece, One}
+use Rattle.bpaf_exact.specs.Pieces.{Two}
 use Rattle.bpaf_exact.specs.Pieces.{is_own_role, is_own, others, either_role, either, IsNamed}
 use Rattle.bpaf_exact.specs.Pieces.{Apart, Cut, at_end, passed, flag, argument, word, begin_piece}
-use Rattle.bpaf_exact.specs.Pieces.{pieces, TakesSome}
-use Rattle.bpaf_exact.specs.Flat.{cells, NonePresent, IsWhole, Steady, Kind, Named, OneWord}
+use Rattle.bpaf_exact.specs.Pieces.{pieces, TakesPieces}
+use Rattle.bpaf_exact.specs.Flat.{cells, NonePresent, IsWhole, Steady, FieldKind, ByName, OneWord}
 use Rattle.bpaf_exact.specs.Flat.{EachWord, front, back, share, left, keys, IsWords, OwnItems}
 use Rattle.bpaf_exact.specs.Flat.{LeavesNone, FieldTook, FieldLaw, ReadOff, GivesAll, FieldsLaw}
 use Rattle.bpaf_exact.specs.Flat.{Before, FieldsReading, Gives, both_reading, class, OfMemory}
@@ -44,12 +45,13 @@ steady_trans a b =
     }
 
 -- an item that isn't the field's own begins no piece
-begin_foreign : {x : Role} (k : Arg) (cs : Cells) (os : List Piece) → x ≡ Foreign
+begin_foreign : {x : Role} (k : Arg) (cs : Cells) (os : List LinePiece) → x ≡ Foreign
     → begin_piece x k cs os ≡ os
 begin_foreign k cs os e = ap (λ z. begin_piece z k cs os) e
 
 -- A cut by the keys of others holds no key of one's own.
-no_own_in_cut : (q r : Roles) {cs : Cells} {os : List Piece} → IsNamed q → Apart q r → Cut r cs os
+no_own_in_cut : (q r : Roles) {cs : Cells} {os : List LinePiece} → IsNamed q → Apart q r
+    → Cut r cs os
     → pieces q cs ≡ []
 no_own_in_cut q r n a at_end = refl
 no_own_in_cut q r n a (passed c) = no_own_in_cut q r n a c
@@ -69,18 +71,18 @@ either_foreign Alone y z e h = cc
 either_foreign WithNext y z e h = cc
 
 -- a piece of others is one of them
-others_foreign : (q : Roles) (o : Piece) (os ps : List Piece) → is_own q o ≡ false
+others_foreign : (q : Roles) (o : LinePiece) (os ps : List LinePiece) → is_own q o ≡ false
     → others q os ≡ ps → others q (o ∷ os) ≡ o ∷ ps
 others_foreign q o os ps h e = ap (λ b. if b then others q os else (o ∷ others q os)) h
     ∙ ap (λ z. o ∷ z) e
 
 -- a cut whose pieces are all of others
-record Widened (q r : Roles) (cs : Cells) (os : List Piece) : Type 0 where
+record Widened (q r : Roles) (cs : Cells) (os : List LinePiece) : Type 0 where
   cut : Cut (either q r) cs os
   all : others q os ≡ os
 
 -- a cut by the others' keys is one by all
-widen : (q r : Roles) {cs : Cells} {os : List Piece} → IsNamed q → Apart q r → Cut r cs os
+widen : (q r : Roles) {cs : Cells} {os : List LinePiece} → IsNamed q → Apart q r → Cut r cs os
     → Widened q r cs os
 widen q r n a at_end = record { cut = at_end; all = refl }
 widen q r n a (passed c) = let i = widen q r n a c in record { cut = passed i.cut; all = i.all }
@@ -109,19 +111,19 @@ widen q r n a (word {w = w} {os = os} h c) =
     }
 
 -- a cut by the others' keys alone
-record Narrowed (q r : Roles) (cs : Cells) (os : List Piece) : Type 0 where
+record Narrowed (q r : Roles) (cs : Cells) (os : List LinePiece) : Type 0 where
   cut : Cut r cs os
   all : others q os ≡ os
 
 -- where no piece begins the item isn't the field's own
-nil_foreign : (x : Role) (k : Arg) (cs : Cells) (os : List Piece) → begin_piece x k cs os ≡ []
+nil_foreign : (x : Role) (k : Arg) (cs : Cells) (os : List LinePiece) → begin_piece x k cs os ≡ []
     → x ≡ Foreign
 nil_foreign Foreign k cs os e = refl
 nil_foreign Alone k cs os e = cc
 nil_foreign WithNext k cs os e = cc
 
 -- and no piece is behind
-nil_rest : (x : Role) (k : Arg) (cs : Cells) (os : List Piece) → begin_piece x k cs os ≡ []
+nil_rest : (x : Role) (k : Arg) (cs : Cells) (os : List LinePiece) → begin_piece x k cs os ≡ []
     → os ≡ []
 nil_rest Foreign k cs os e = e
 nil_rest Alone k cs os e = cc
@@ -134,7 +136,7 @@ other_role Alone y z e h = cc
 other_role WithNext y z e h = cc
 
 -- where the field has no piece left the cut is one by the others' keys
-narrow : (q r : Roles) {cs : Cells} {os : List Piece} → IsNamed q → pieces q cs ≡ []
+narrow : (q r : Roles) {cs : Cells} {os : List LinePiece} → IsNamed q → pieces q cs ≡ []
     → Cut (either q r) cs os → Narrowed q r cs os
 narrow q r n p at_end = record { cut = at_end; all = refl }
 narrow q r n p (passed c) = let i = narrow q r n p c in record { cut = passed i.cut; all = i.all }
@@ -167,15 +169,16 @@ narrow q r n p (word {w = w} {cs = cs} {os = os} h c) =
 -- What is read off the pieces, seen from before a field was evaluated.
 
 -- a cut from before a field was evaluated, with its share and what it left
-pub record StepBack (k : Kind) (q r : Roles) (cs : Cells) (after : List Piece) : Type 0 where
-  pub before : List Piece
+pub record StepBack (k : FieldKind) (q r : Roles) (cs : Cells)
+    (after : List LinePiece) : Type 0 where
+  pub before : List LinePiece
   pub cut : Cut (either (keys k q) r) cs before
   pub leaves : left k q before ≡ after
   pub own : front k (pieces q cs) ≡ share k q before
 
 -- that of a named field
-named_back : (q r : Roles) {cs ds : Cells} {os : List Piece} → IsNamed q → Apart q r
-    → TakesSome q cs ds → Cut r ds os → StepBack Named q r cs os
+named_back : (q r : Roles) {cs ds : Cells} {os : List LinePiece} → IsNamed q → Apart q r
+    → TakesPieces q cs ds → Cut r ds os → StepBack ByName q r cs os
 named_back q r n a t c =
     let w = widen q r n a c in
     let p = put_back_some q r t w.cut in
@@ -188,16 +191,16 @@ named_back q r n a t c =
     }
 
 -- of a positional one with a repeat
-each_back : (q r : Roles) {cs ds : Cells} {os : List Piece} → IsWords q → NoKeys r
-    → TakesSome q cs ds → pieces q ds ≡ [] → Cut r ds os → StepBack EachWord q r cs os
+each_back : (q r : Roles) {cs ds : Cells} {os : List LinePiece} → IsWords q → NoKeys r
+    → TakesPieces q cs ds → pieces q ds ≡ [] → Cut r ds os → StepBack EachWord q r cs os
 each_back q r n f t e c =
     let p = put_words_back q r n f t c in
     let all = words_of_cut q r n f p.cut in
     record { before = p.words; cut = p.cut; leaves = sym e ∙ words_of_cut q r n f c; own = all }
 
 -- of one without
-one_back : (q r : Roles) {cs ds : Cells} {os : List Piece} → IsWords q → NoKeys r
-    → TakesSome q cs ds → pieces q ds ≡ back OneWord (pieces q cs) → Cut r ds os
+one_back : (q r : Roles) {cs ds : Cells} {os : List LinePiece} → IsWords q → NoKeys r
+    → TakesPieces q cs ds → pieces q ds ≡ back OneWord (pieces q cs) → Cut r ds os
     → StepBack OneWord q r cs os
 one_back q r {cs = cs} {os = os} n f t e c =
     let p = put_words_back q r n f t c in
@@ -212,35 +215,35 @@ one_back q r {cs = cs} {os = os} n f t e c =
     }
 
 -- of any field
-pub step_back : (k : Kind) (q r : Roles) (T : Type 0)
-    (value : List Piece → T → Type 0) {s m : Situation} {v : T} {os : List Piece}
+pub step_back : (k : FieldKind) (q r : Roles) (T : Type 0)
+    (value : List LinePiece → T → Type 0) {s m : Situation} {v : T} {os : List LinePiece}
     → OwnItems k q → Before k q r → FieldTook T k q value s v m → Cut r (cells m) os
     → StepBack k q r (cells s) os
-step_back Named q r T value n b f c = named_back q r n b f.takes c
+step_back ByName q r T value n b f c = named_back q r n b f.takes c
 step_back OneWord q r T value n b f c = one_back q r n (record { none = b }) f.takes (f.rest tt) c
 step_back EachWord q r T value n b f c = each_back q r n (record { none = b }) f.takes (f.rest tt) c
 
 -- a field that left nothing of its own
-pub none_left : (k : Kind) (q r : Roles) {cs : Cells} {os : List Piece} → OwnItems k q
+pub none_left : (k : FieldKind) (q r : Roles) {cs : Cells} {os : List LinePiece} → OwnItems k q
     → Before k q r → Cut r cs os → LeavesNone k q cs
-none_left Named q r n b c = no_own_in_cut q r n b c
+none_left ByName q r n b c = no_own_in_cut q r n b c
 none_left OneWord q r n b c = tt
 none_left EachWord q r n b c = tt
 
 -- The cut after a field was evaluated.
 
 -- a field's own pieces are its share of the cut
-pub own_share : (k : Kind) (q r : Roles) {cs : Cells} {os : List Piece} → OwnItems k q
+pub own_share : (k : FieldKind) (q r : Roles) {cs : Cells} {os : List LinePiece} → OwnItems k q
     → Before k q r → Cut (either (keys k q) r) cs os → front k (pieces q cs) ≡ share k q os
-own_share Named q r n b c = pieces_of_cut q r n c
+own_share ByName q r n b c = pieces_of_cut q r n c
 own_share OneWord q r n b c = ap (front OneWord) (words_of_cut q r n (record { none = b }) c)
 own_share EachWord q r n b c = words_of_cut q r n (record { none = b }) c
 
 -- the cut after a field was evaluated
-pub step_on : (k : Kind) (q r : Roles) {cs ds : Cells} {os : List Piece} → OwnItems k q
-    → Before k q r → TakesSome q cs ds → pieces q ds ≡ back k (pieces q cs)
+pub step_on : (k : FieldKind) (q r : Roles) {cs ds : Cells} {os : List LinePiece} → OwnItems k q
+    → Before k q r → TakesPieces q cs ds → pieces q ds ≡ back k (pieces q cs)
     → Cut (either (keys k q) r) cs os → Cut r ds (left k q os)
-step_on Named q r n b t e c =
+step_on ByName q r n b t e c =
     let p = take_some_from q r n t c in
     let i = narrow q r n e p.cut in
     subst (Cut r _) (sym i.all ∙ p.alike) i.cut
@@ -258,8 +261,9 @@ step_on EachWord q r n b t e c =
 -- Fields before others keep to the laws.
 
 -- the keys of all are keys
-both_named : (k : Kind) (q r : Roles) → OwnItems k q → IsNamed r → IsNamed (either (keys k q) r)
-both_named Named q r n m =
+both_named : (k : FieldKind) (q r : Roles) → OwnItems k q → IsNamed r
+    → IsNamed (either (keys k q) r)
+both_named ByName q r n m =
     record {
       only_keys =
           λ a h. either_foreign (q a) (r a) Foreign (n.only_keys a h) (m.only_keys a h);
@@ -298,8 +302,8 @@ module _ (A B : Type 0) (first : Outcome A) (rest : Outcome B) where
       → ValuesOfBoth A B first rest s v t
   values_of_both s t v o = joined_values s o.middle t o.a o.b v o.first_ran o.rest_ran o.answer
 
-module _ (A B : Type 0) (first : Outcome A) (rest : Outcome B) (k : Kind) (q r : Roles)
-    (fv : List Piece → A → Type 0) (others_read : FieldsReading B)
+module _ (A B : Type 0) (first : Outcome A) (rest : Outcome B) (k : FieldKind) (q r : Roles)
+    (fv : List LinePiece → A → Type 0) (others_read : FieldsReading B)
     (lf : FieldLaw A first k q fv) (lr : FieldsLaw B rest r others_read) (b : Before k q r) where
   -- how both read the pieces
   abbrev reading : FieldsReading (A × B)
@@ -334,7 +338,7 @@ module _ (A B : Type 0) (first : Outcome A) (rest : Outcome B) (k : Kind) (q r :
       }
 
   -- where each field has a value, the first answers one, or want of memory
-  first_gives : (s m : Situation) (a : Result A Error) (os : List Piece) → IsWhole s
+  first_gives : (s m : Situation) (a : Result A Error) (os : List LinePiece) → IsWhole s
       → first s a m → Cut (either (keys k q) r) (cells s) os → reading.each os
       → Gives q (fv (front k (pieces q (cells s)))) (back k (pieces q (cells s))) a m
   first_gives s m a os w f c h =
@@ -342,7 +346,7 @@ module _ (A B : Type 0) (first : Outcome A) (rest : Outcome B) (k : Kind) (q r :
       (subst (λ z. fv z h.0.0) (sym (own_share k q r lf.own b c)) h.0.1)
 
   -- and then so do the others
-  rest_gives : (s m t : Situation) (x : A) (y : Result B Error) (os : List Piece)
+  rest_gives : (s m t : Situation) (x : A) (y : Result B Error) (os : List LinePiece)
       → IsWhole s → first s (Ok x) m → rest m y t → Cut (either (keys k q) r) (cells s) os
       → reading.each os → GivesAll (others_read.value (left k q os)) y t
   rest_gives s m t x y os w f g c h =
@@ -352,7 +356,7 @@ module _ (A B : Type 0) (first : Outcome A) (rest : Outcome B) (k : Kind) (q r :
       (step_on k q r lf.own b i.takes j.1 c) h.1
 
   -- where each field has a value, the values of a product are such
-  both_values : (s t : Situation) (u : A × B) (os : List Piece) → IsWhole s
+  both_values : (s t : Situation) (u : A × B) (os : List LinePiece) → IsWhole s
       → BothOutcome first rest s (Ok u) t
       → Cut (either (keys k q) r) (cells s) os → reading.each os
       → GivesAll (reading.value os) (Ok u) t
@@ -364,7 +368,7 @@ module _ (A B : Type 0) (first : Outcome A) (rest : Outcome B) (k : Kind) (q r :
 
   -- and a refusal is want of memory
   both_fails : (s m t : Situation) (x : Result A Error) (y : Result B Error) (e : Error)
-      (os : List Piece) → IsWhole s → first s x m → rest m y t → IsNotMemory x
+      (os : List LinePiece) → IsWhole s → first s x m → rest m y t → IsNotMemory x
       → Err e ≡ joined x y
       → Cut (either (keys k q) r) (cells s) os → reading.each os → class e ≡ OfMemory
   both_fails s m t (Ok x) (Ok y) e os w f g spared i c h = absurd cc
@@ -375,7 +379,7 @@ module _ (A B : Type 0) (first : Outcome A) (rest : Outcome B) (k : Kind) (q r :
       absurd (not_memory x.0 spared (first_gives s m (Err x) os w f c h))
 
   -- each answer
-  both_answers : (s t : Situation) (a : Result (A × B) Error) (os : List Piece)
+  both_answers : (s t : Situation) (a : Result (A × B) Error) (os : List LinePiece)
       → IsWhole s → BothOutcome first rest s a t
       → Cut (either (keys k q) r) (cells s) os → reading.each os
       → GivesAll (reading.value os) a t

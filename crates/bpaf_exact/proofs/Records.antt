@@ -5,15 +5,17 @@ use Rattle.bpaf_line.specs.declared.error.Error.{Error}
 use Rattle.bpaf_line.specs.Situation.{Situation, with_current}
 use Rattle.bpaf_laws.specs.Product.{ProductOutcome}
 use Rattle.bpaf_laws.specs.Reading.{Outcome}
-use Rattle.bpaf_exact.specs.Pieces.{Cells, Roles, Role, Foreign, Alone, WithNext, Piece, IsNamed}
+use Rattle.bpaf_exact.specs.Pieces.{Cells, Roles, Role, Foreign, Alone, WithNext, LinePiece}
+use Rattle.bpaf_exact.specs.Pieces.{IsNamed}
 use Rattle.bpaf_exact.specs.Pieces.{Cut, either, either_role, no_roles}
-use Rattle.bpaf_exact.specs.Flat.{cells, NonePresent, no_place, none_here, IsWhole, Steady, Kind}
-use Rattle.bpaf_exact.specs.Flat.{Named, OneWord, EachWord, keys, OwnItems, FieldLaw, FieldsLaw}
+use Rattle.bpaf_exact.specs.Flat.{cells, NonePresent, no_place, none_here, IsWhole, Steady}
+use Rattle.bpaf_exact.specs.Flat.{FieldKind}
+use Rattle.bpaf_exact.specs.Flat.{ByName, OneWord, EachWord, keys, OwnItems, FieldLaw, FieldsLaw}
 use Rattle.bpaf_exact.specs.Flat.{ReadOff, GivesAll, Before, FieldsReading}
 use Rattle.bpaf_exact.specs.Single.{present_count}
 use Rattle.bpaf_exact.specs.Wrappers.{map_closure}
 use Rattle.bpaf_exact.specs.Record.{LastValue, last_reading}
-use Rattle.bpaf_exact.specs.Shape.{made_reading}
+use Rattle.bpaf_exact.specs.FlatForm.{made_reading}
 use Rattle.bpaf_exact.proofs.Words.{empty_cut, cut_empty}
 use Rattle.bpaf_exact.proofs.Product.{step_back, none_left, own_share, step_on}
 
@@ -29,14 +31,15 @@ count_none no_place = refl
 count_none (none_here n) = count_none n
 
 -- The last field of a product, or a record of one field alone.
-module _ (T : Type 0) (outcome : Outcome T) (k : Kind) (q : Roles) (value : List Piece → T → Type 0)
+module _ (T : Type 0) (outcome : Outcome T)
+    (k : FieldKind) (q : Roles) (value : List LinePiece → T → Type 0)
     (l : FieldLaw T outcome k q value) where
   -- a field may stand before none
   before_none : Before k q no_roles
   before_none = by_kind k
     where
-      by_kind : (z : Kind) → Before z q no_roles
-      by_kind Named = record { left = λ a h. refl; right = λ a h. absurd cc }
+      by_kind : (z : FieldKind) → Before z q no_roles
+      by_kind ByName = record { left = λ a h. refl; right = λ a h. absurd cc }
       by_kind OneWord = λ a. refl
       by_kind EachWord = λ a. refl
 
@@ -49,8 +52,8 @@ module _ (T : Type 0) (outcome : Outcome T) (k : Kind) (q : Roles) (value : List
       alone Alone e = absurd cc
       alone WithNext e = absurd cc
 
-      by_kind : (z : Kind) → OwnItems z q → IsNamed (either (keys z q) no_roles)
-      by_kind Named n = record { only_keys = λ a h. alone (q a) (n.only_keys a h) }
+      by_kind : (z : FieldKind) → OwnItems z q → IsNamed (either (keys z q) no_roles)
+      by_kind ByName n = record { only_keys = λ a h. alone (q a) (n.only_keys a h) }
       by_kind OneWord n = record { only_keys = λ a h. refl }
       by_kind EachWord n = record { only_keys = λ a h. refl }
 
@@ -72,7 +75,7 @@ module _ (T : Type 0) (outcome : Outcome T) (k : Kind) (q : Roles) (value : List
       }
 
   -- where the field has a value each answer is one
-  last_answers : (s t : Situation) (a : Result T Error) (os : List Piece) → IsWhole s
+  last_answers : (s t : Situation) (a : Result T Error) (os : List LinePiece) → IsWhole s
       → outcome s a t → Cut (either (keys k q) no_roles) (cells s) os
       → (last_reading k q value).each os → GivesAll (LastValue T k q value os) a t
   last_answers s t (Ok x) os w o c h =
@@ -133,7 +136,7 @@ module _ (A B : Type 0) (fields : Outcome A) (makes : A → B → Type 0) (r : R
       }
 
   -- where each field has a value each answer is one made of such
-  con_answers : (s t : Situation) (a : Result B Error) (os : List Piece) → IsWhole s
+  con_answers : (s t : Situation) (a : Result B Error) (os : List LinePiece) → IsWhole s
       → ProductOutcome fields makes s a t → Cut r (cells s) os → reading.each os
       → GivesAll (made.value os) a t
   con_answers s t (Ok u) os w o c h =

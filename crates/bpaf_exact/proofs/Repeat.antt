@@ -4,46 +4,50 @@ use Rattle.std.proofs.Common.{None, Result, Ok, Err, refl, sym, ap, ◌∙◌, s
 use Rattle.bpaf_line.specs.declared.error.Error.{Error}
 use Rattle.bpaf_line.specs.Situation.{Situation, open_count}
 use Rattle.bpaf_laws.specs.Reading.{Outcome}
-use Rattle.bpaf_exact.specs.Pieces.{Cells, Roles, Piece, pieces, TakesSome, takes_none, takes_more}
+use Rattle.bpaf_exact.specs.Pieces.{Cells, Roles, LinePiece, pieces, TakesPieces, takes_none}
+use Rattle.bpaf_exact.specs.Pieces.{takes_more}
 use Rattle.bpaf_exact.specs.Flat.{ErrorClass, OfMemory, OfMissing, Caught, Refused, class, cells}
-use Rattle.bpaf_exact.specs.Flat.{IsWhole, Steady, Kind, Named, OneWord, EachWord, front, back}
+use Rattle.bpaf_exact.specs.Flat.{IsWhole, Steady, FieldKind, ByName, OneWord, EachWord, front}
+use Rattle.bpaf_exact.specs.Flat.{back}
 use Rattle.bpaf_exact.specs.Flat.{OwnItems, FieldLaw, Gives}
 use Rattle.bpaf_exact.specs.Single.{Groups, Own, own_none, own_more, TakesAny, Readable, Gap}
 use Rattle.bpaf_exact.specs.Single.{SingleOk, gave_absent, took, SingleErr, of_memory, of_missing}
 use Rattle.bpaf_exact.specs.Single.{of_absent, of_piece, SingleLaw, OwnList, listed}
 use Rattle.bpaf_exact.specs.Single.{listed_and_absent, only_absent, repeated, Stops, nothing_found}
-use Rattle.bpaf_exact.specs.Single.{caught, IsFewer, StepsRan, step, step_failed, idle_step, enough}
+use Rattle.bpaf_exact.specs.Single.{caught, IsFewer, TurnsEval, step, step_failed, idle_step}
+use Rattle.bpaf_exact.specs.Single.{enough}
 use Rattle.bpaf_exact.specs.Single.{stopped, failed, no_room, present_count}
 use Rattle.bpaf_exact.proofs.Product.{whole_after, steady_refl, steady_trans}
 use Rattle.bpaf_exact.proofs.Counts.{open_present, takes_any_fewer}
 
 -- one piece at least is some
-pub any_some : (q : Roles) {cs ds : Cells} → TakesAny q cs ds → TakesSome q cs ds
+pub any_some : (q : Roles) {cs ds : Cells} → TakesAny q cs ds → TakesPieces q cs ds
 any_some q t = takes_more t.one t.more
 
 -- some pieces, and some more
-pub some_trans : (q : Roles) {cs ds es : Cells} → TakesSome q cs ds → TakesSome q ds es
-    → TakesSome q cs es
+pub some_trans : (q : Roles) {cs ds es : Cells} → TakesPieces q cs ds → TakesPieces q ds es
+    → TakesPieces q cs es
 some_trans q takes_none b = b
 some_trans q (takes_more t more) b = takes_more t (some_trans q more b)
 
 -- where the cells are the same none was taken
-pub same_takes : (q : Roles) {cs ds : Cells} → ds ≡ cs → TakesSome q cs ds
-same_takes q {cs = cs} e = subst (TakesSome q cs) (sym e) takes_none
+pub same_takes : (q : Roles) {cs ds : Cells} → ds ≡ cs → TakesPieces q cs ds
+same_takes q {cs = cs} e = subst (TakesPieces q cs) (sym e) takes_none
 
 -- what has an own list can be read
-readable : {T : Type 0} (k : Kind) (group : Groups T) {os : List Piece} {vs : List T}
+readable : {T : Type 0} (k : FieldKind) (group : Groups T) {os : List LinePiece} {vs : List T}
     → Own T group os vs → Readable k group os
-readable Named group {vs = vs} o = (vs, o)
+readable ByName group {vs = vs} o = (vs, o)
 readable OneWord group o = tt
 readable EachWord group o = tt
 
-module _ (T : Type 0) (inner : Outcome T) (k : Kind) (q : Roles) (group : Groups T) (gap : Gap T)
+module _ (T : Type 0) (inner : Outcome T)
+    (k : FieldKind) (q : Roles) (group : Groups T) (gap : Gap T)
     (l : SingleLaw T inner k q group gap) (idle : Bool) where
   -- what a repeat took, once it has the first value
   record Took (s : Situation) (vs : List T) (t : Situation) : Type 0 where
     steady : Steady s t
-    takes : TakesSome q (cells s) (cells t)
+    takes : TakesPieces q (cells s) (cells t)
     none : pieces q (cells t) ≡ []
     list : Own T group (pieces q (cells s)) vs
     absent : gap.has ≡ true → (a : T) × gap.absent a
@@ -90,13 +94,13 @@ module _ (T : Type 0) (inner : Outcome T) (k : Kind) (q : Roles) (group : Groups
     absent = ab;
   }
 
-  -- a step doesn't stop at other refusals
+  -- a turn doesn't stop at other refusals
   no_stop : (s m : Situation) (e : Error) (c : ErrorClass) → Stops e s m → class e ≡ c
       → (c ≡ OfMissing → ⊥) → (c ≡ Caught → ⊥) → ⊥
   no_stop s m e c (nothing_found h n) g a b = a (sym g ∙ h)
   no_stop s m e c (caught h) g a b = b (sym g ∙ h)
 
-  -- a step that stops after a value
+  -- a turn that stops after a value
   stop_after : (s m : Situation) (e : Error) → Stops e s m → SingleErr T k q group gap s e m
       → Took s [] s
   stop_after s m e h (of_memory c) = absurd (no_stop s m e OfMemory h c (λ i. cc) (λ i. cc))
@@ -117,7 +121,7 @@ module _ (T : Type 0) (inner : Outcome T) (k : Kind) (q : Roles) (group : Groups
     absent = i.absent;
   }
 
-  -- a step after a value took something
+  -- a turn after a value took something
   step_took : (last : Option ℕ) (s m t : Situation) (v : T) (vs : List T) → IsWhole s
       → last ≡ Some (open_count s) → IsFewer m last
       → SingleOk T k q group gap s v m → (Steady s m → Took m vs t) → Took s (v ∷ vs) t
@@ -140,7 +144,7 @@ module _ (T : Type 0) (inner : Outcome T) (k : Kind) (q : Roles) (group : Groups
 
   -- Once it has the first value, a repeat that answers has read all its pieces.
   steps_took : (last : Option ℕ) (s t : Situation) (vs : List T) → IsWhole s
-      → last ≡ Some (open_count s) → StepsRan T inner idle last s (Ok vs) t → Took s vs t
+      → last ≡ Some (open_count s) → TurnsEval T inner idle last s (Ok vs) t → Took s vs t
   steps_took last s t vs w e (step {m = m} {v = v} {vs = us} f fewer more) =
       let o = l.ok s m v w f in
       step_took last s m t v us w e fewer o
@@ -153,18 +157,18 @@ module _ (T : Type 0) (inner : Outcome T) (k : Kind) (q : Roles) (group : Groups
   -- a repeat from its start
   pub record RepeatTook (s : Situation) (vs : List T) (t : Situation) : Type 0 where
     pub steady : Steady s t
-    pub takes : TakesSome q (cells s) (cells t)
+    pub takes : TakesPieces q (cells s) (cells t)
     pub none : pieces q (cells t) ≡ []
     pub list : OwnList T group gap (pieces q (cells s)) vs
 
   -- no piece has no own list but the empty one
-  pub own_nil : (os : List Piece) (vs : List T) → os ≡ [] → Own T group os vs → vs ≡ []
+  pub own_nil : (os : List LinePiece) (vs : List T) → os ≡ [] → Own T group os vs → vs ≡ []
   own_nil os vs e own_none = refl
   own_nil os vs e (own_more {rest = rest} {v = v} g o) =
       absurd (l.starts v rest (subst (λ z. group z v rest) e g))
 
   -- an own list, with the absent value where there is one
-  with_absent : (has : Bool) → gap.has ≡ has → (os : List Piece) (v : T) (vs : List T)
+  with_absent : (has : Bool) → gap.has ≡ has → (os : List LinePiece) (v : T) (vs : List T)
       → (gap.has ≡ true → (a : T) × gap.absent a) → Own T group os (v ∷ vs)
       → OwnList T group gap os (v ∷ vs)
   with_absent true e os v vs ab o = let a = ab e in listed_and_absent e a.1 o
@@ -177,7 +181,7 @@ module _ (T : Type 0) (inner : Outcome T) (k : Kind) (q : Roles) (group : Groups
       subst (λ os. OwnList T group gap os (v ∷ us)) (sym p)
       (subst (λ z. OwnList T group gap [] (v ∷ z)) (sym e) (only_absent h ab))
 
-  -- the first step
+  -- the first turn
   first_step : (s m t : Situation) (v : T) (us : List T) → SingleOk T k q group gap s v m
       → (Steady s m → Took m us t) → RepeatTook s (v ∷ us) t
   first_step s m t v us (gave_absent h p ab same st) more =
@@ -215,7 +219,7 @@ module _ (T : Type 0) (inner : Outcome T) (k : Kind) (q : Roles) (group : Groups
   first_idle s t v w e (took st ta ne up down) = let f = fewer_count s t w st ta in
       absurd (omega arith)
 
-  -- a first step that stops
+  -- a first turn that stops
   first_stop : (s m : Situation) (e : Error) → Stops e s m → SingleErr T k q group gap s e m
       → RepeatTook s [] s
   first_stop s m e h (of_memory c) = absurd (no_stop s m e OfMemory h c (λ i. cc) (λ i. cc))
@@ -232,7 +236,7 @@ module _ (T : Type 0) (inner : Outcome T) (k : Kind) (q : Roles) (group : Groups
 
   -- A repeat that answers has read all its pieces.
   pub repeat_took : (s t : Situation) (vs : List T) → IsWhole s
-      → StepsRan T inner idle None s (Ok vs) t → RepeatTook s vs t
+      → TurnsEval T inner idle None s (Ok vs) t → RepeatTook s vs t
   repeat_took s t vs w (step {m = m} {v = v} {vs = us} f fewer more) =
       first_step s m t v us (l.ok s m v w f)
       (λ st. steps_took (Some (open_count m)) m t us (whole_after s m w st) refl more)
@@ -243,27 +247,27 @@ module _ (T : Type 0) (inner : Outcome T) (k : Kind) (q : Roles) (group : Groups
   -- Where the pieces can be read no other answer comes, but for want of memory.
 
   -- an own list of the pieces, or want of memory
-  abbrev GivesList : List Piece → Result (List T) Error → Situation → Type 0
+  abbrev GivesList : List LinePiece → Result (List T) Error → Situation → Type 0
   GivesList os (Ok vs) t = Own T group os vs × (pieces q (cells t) ≡ [])
   GivesList os (Err e) t = class e ≡ OfMemory
 
   -- an own list is empty, or has a first value
-  data OwnView (os : List Piece) (vs : List T) : Type 0 where
+  data OwnView (os : List LinePiece) (vs : List T) : Type 0 where
     view_none : os ≡ [] → vs ≡ [] → OwnView os vs
-    view_more : (w : T) (rest : List Piece) (ws : List T) → vs ≡ w ∷ ws → group os w rest
+    view_more : (w : T) (rest : List LinePiece) (ws : List T) → vs ≡ w ∷ ws → group os w rest
         → Own T group rest ws → OwnView os vs
 
   -- by its constructors
-  own_view : (os : List Piece) (vs : List T) → Own T group os vs → OwnView os vs
+  own_view : (os : List LinePiece) (vs : List T) → Own T group os vs → OwnView os vs
   own_view os vs own_none = view_none refl refl
   own_view os vs (own_more {rest = rest} {v = v} {vs = us} g o) = view_more v rest us refl g o
 
-  -- what is known of the rest after a step that took something
+  -- what is known of the rest after a turn that took something
   record Onward (s m : Situation) (v : T) (r : Result (List T) Error) (t : Situation) : Type 0 where
     read : group (pieces q (cells s)) v (pieces q (cells m))
     gives : GivesList (pieces q (cells m)) r t
 
-  -- a step where the pieces can be read
+  -- a turn where the pieces can be read
   on_step : (s m t : Situation) (v : T) (ws : List T) (r : Result (List T) Error)
       → (gap.has ≡ true → pieces q (cells s) ≡ [] → cells m ≡ cells s → Steady s m → ⊥)
       → OwnView (pieces q (cells s)) ws
@@ -298,7 +302,7 @@ module _ (T : Type 0) (inner : Outcome T) (k : Kind) (q : Roles) (group : Groups
   failed_gives s t e ws w ab (view_more v rest us x g o) n (of_piece c ne none) =
       absurd (none v rest g)
 
-  -- a step that stops read all
+  -- a turn that stops read all
   stopped_gives : (s m : Situation) (e : Error) (ws : List T) → Stops e s m
       → OwnView (pieces q (cells s)) ws → SingleErr T k q group gap s e m
       → GivesList (pieces q (cells s)) (Ok []) s
@@ -323,10 +327,10 @@ module _ (T : Type 0) (inner : Outcome T) (k : Kind) (q : Roles) (group : Groups
   enough_gives last s t v ws w e f o (took st ta ne up down) =
       absurd (f (is_fewer last s t e (fewer_count s t w st ta)))
 
-  -- where the pieces can be read, the steps after a value read them
+  -- where the pieces can be read, the turns after a value read them
   steps_give : (last : Option ℕ) (s t : Situation) (r : Result (List T) Error) (ws : List T)
       → IsWhole s → last ≡ Some (open_count s) → (gap.has ≡ true → (a : T) × gap.absent a)
-      → Own T group (pieces q (cells s)) ws → StepsRan T inner idle last s r t
+      → Own T group (pieces q (cells s)) ws → TurnsEval T inner idle last s r t
       → GivesList (pieces q (cells s)) r t
   steps_give last s t r ws w e ab o (step {m = m} {v = v} {vs = us} f fewer more) =
       cons_gives s m t v us
@@ -351,25 +355,25 @@ module _ (T : Type 0) (inner : Outcome T) (k : Kind) (q : Roles) (group : Groups
   steps_give last s t r ws w e ab o (no_room c) = c
 
   -- an own list under a repeat: all that is read, or the absent value alone
-  data ListView (os : List Piece) (vs : List T) : Type 0 where
+  data ListView (os : List LinePiece) (vs : List T) : Type 0 where
     all_read : (gap.has ≡ true → (a : T) × gap.absent a) → Own T group os vs
         → (gap.has ≡ true → os ≡ [] → ⊥) → ListView os vs
     gap_read : gap.has ≡ true → (a : T) → gap.absent a → os ≡ [] → ListView os vs
 
   -- by its constructors
-  list_view : (os : List Piece) (vs : List T) → OwnList T group gap os vs → ListView os vs
+  list_view : (os : List LinePiece) (vs : List T) → OwnList T group gap os vs → ListView os vs
   list_view os vs (listed h o) = all_read (λ i. absurd cc) o (λ i e. absurd cc)
   list_view os vs (listed_and_absent {a = a} h ab o) =
       all_read (λ i. (a, ab)) o (λ i e. let n = own_nil os vs e o in absurd cc)
   list_view os vs (only_absent {a = a} h ab) = gap_read h a ab refl
 
   -- an own list under a repeat, or want of memory
-  abbrev GivesOwn : List Piece → Result (List T) Error → Situation → Type 0
+  abbrev GivesOwn : List LinePiece → Result (List T) Error → Situation → Type 0
   GivesOwn os (Ok vs) t = OwnList T group gap os vs × (pieces q (cells t) ≡ [])
   GivesOwn os (Err e) t = class e ≡ OfMemory
 
   -- an own list as one under a repeat
-  list_of : (has : Bool) → gap.has ≡ has → (os : List Piece) (vs : List T)
+  list_of : (has : Bool) → gap.has ≡ has → (os : List LinePiece) (vs : List T)
       → (gap.has ≡ true → (a : T) × gap.absent a) → (gap.has ≡ true → os ≡ [] → ⊥)
       → Own T group os vs → OwnList T group gap os vs
   list_of true e os vs ab n own_none = absurd (n e refl)
@@ -377,13 +381,13 @@ module _ (T : Type 0) (inner : Outcome T) (k : Kind) (q : Roles) (group : Groups
   list_of false e os vs ab n o = listed e o
 
   -- the same of an answer
-  own_given : (os : List Piece) (r : Result (List T) Error) (t : Situation)
+  own_given : (os : List LinePiece) (r : Result (List T) Error) (t : Situation)
       → (gap.has ≡ true → (a : T) × gap.absent a) → (gap.has ≡ true → os ≡ [] → ⊥)
       → GivesList os r t → GivesOwn os r t
   own_given os (Ok vs) t ab n g = (list_of gap.has refl os vs ab n g.0, g.1)
   own_given os (Err e) t ab n g = g
 
-  -- a first step where there is no piece
+  -- a first turn where there is no piece
   gap_step : (s m t : Situation) (v : T) (us : List T) → pieces q (cells s) ≡ []
       → (Steady s m → Took m us t) → SingleOk T k q group gap s v m
       → GivesOwn (pieces q (cells s)) (Ok (v ∷ us)) t
@@ -393,7 +397,7 @@ module _ (T : Type 0) (inner : Outcome T) (k : Kind) (q : Roles) (group : Groups
       (absent_alone s t v us none h p ab, j.none)
   gap_step s m t v us p i (took st ta ne up down) = absurd (ne p)
 
-  -- steps that fail after it
+  -- turns that fail after it
   gap_step_failed : (s m t : Situation) (v : T) (e : Error) → pieces q (cells s) ≡ []
       → (Steady s m → (gap.has ≡ true → (a : T) × gap.absent a)
       → Own T group (pieces q (cells m)) [] → class e ≡ OfMemory)
@@ -417,7 +421,7 @@ module _ (T : Type 0) (inner : Outcome T) (k : Kind) (q : Roles) (group : Groups
   gap_failed s t a e h ab p (of_absent c g p' none) = absurd (none a ab)
   gap_failed s t a e h ab p (of_piece c ne none) = absurd (ne p)
 
-  -- and no first step stops
+  -- and no first turn stops
   gap_stopped : (s m : Situation) (e : Error) → gap.has ≡ true → pieces q (cells s) ≡ []
       → Stops e s m → SingleErr T k q group gap s e m → ⊥
   gap_stopped s m e h p x (of_memory c) = no_stop s m e OfMemory x c (λ i. cc) (λ i. cc)
@@ -433,7 +437,7 @@ module _ (T : Type 0) (inner : Outcome T) (k : Kind) (q : Roles) (group : Groups
 
   -- where there is an own list, each answer is one, or want of memory
   first_gives : (s t : Situation) (r : Result (List T) Error) (ws : List T) → IsWhole s
-      → ListView (pieces q (cells s)) ws → StepsRan T inner idle None s r t
+      → ListView (pieces q (cells s)) ws → TurnsEval T inner idle None s r t
       → GivesOwn (pieces q (cells s)) r t
   first_gives s t r ws w (all_read ab o n) (step {m = m} {v = v} {vs = us} f fewer more) =
       own_given (pieces q (cells s)) (Ok (v ∷ us)) t ab n
@@ -475,20 +479,20 @@ module _ (T : Type 0) (inner : Outcome T) (k : Kind) (q : Roles) (group : Groups
   -- The values of a repeat are its own list, and no other answer comes but for want of memory.
 
   -- a repeat takes all pieces
-  front_all : (os : List Piece) → front (repeated k) os ≡ os
+  front_all : (os : List LinePiece) → front (repeated k) os ≡ os
   front_all os = by_kind k
     where
-      by_kind : (z : Kind) → front (repeated z) os ≡ os
-      by_kind Named = refl
+      by_kind : (z : FieldKind) → front (repeated z) os ≡ os
+      by_kind ByName = refl
       by_kind OneWord = refl
       by_kind EachWord = refl
 
   -- and leaves none
-  back_none : (os : List Piece) → back (repeated k) os ≡ []
+  back_none : (os : List LinePiece) → back (repeated k) os ≡ []
   back_none os = by_kind k
     where
-      by_kind : (z : Kind) → back (repeated z) os ≡ []
-      by_kind Named = refl
+      by_kind : (z : FieldKind) → back (repeated z) os ≡ []
+      by_kind ByName = refl
       by_kind OneWord = refl
       by_kind EachWord = refl
 
@@ -496,14 +500,14 @@ module _ (T : Type 0) (inner : Outcome T) (k : Kind) (q : Roles) (group : Groups
   own_repeated : OwnItems (repeated k) q
   own_repeated = by_kind k l.own
     where
-      by_kind : (z : Kind) → OwnItems z q → OwnItems (repeated z) q
-      by_kind Named o = o
+      by_kind : (z : FieldKind) → OwnItems z q → OwnItems (repeated z) q
+      by_kind ByName o = o
       by_kind OneWord o = o
       by_kind EachWord o = o
 
   -- each answer of a repeat
   repeat_gives : (s t : Situation) (r : Result (List T) Error) (ws : List T) → IsWhole s
-      → StepsRan T inner idle None s r t
+      → TurnsEval T inner idle None s r t
       → OwnList T group gap (front (repeated k) (pieces q (cells s))) ws
       → Gives q (OwnList T group gap (front (repeated k) (pieces q (cells s))))
       (back (repeated k) (pieces q (cells s))) r t
@@ -523,7 +527,7 @@ module _ (T : Type 0) (inner : Outcome T) (k : Kind) (q : Roles) (group : Groups
       shown (Err e) c = c
 
   -- many, and what is built on it: the values of the own list
-  pub repeat_law : FieldLaw (List T) (λ s r t. StepsRan T inner idle None s r t) (repeated k) q
+  pub repeat_law : FieldLaw (List T) (λ s r t. TurnsEval T inner idle None s r t) (repeated k) q
       (OwnList T group gap)
   repeat_law = record {
     own = own_repeated;

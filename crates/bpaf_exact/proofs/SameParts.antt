@@ -5,7 +5,7 @@ use Rattle.bpaf_doc.specs.declared.doc.Piece.{Piece}
 use Rattle.bpaf_doc.specs.Shape.{Shape, Shapes, Or, Optional, Required, Many, Suffix}
 use Rattle.bpaf_doc.specs.Shape.{Subsection, CustomUsage, Skip, none, ◌then◌, members}
 use Rattle.bpaf_doc.specs.Walks.{parts, parts_of_all}
-use Rattle.bpaf_laws.specs.Choice.{ChoiceDescribes, alternatives, either, shapes_of}
+use Rattle.bpaf_laws.specs.Choice.{ChoiceDescribes, alternatives, either_shape, shapes_of}
 use Rattle.bpaf_laws.specs.Choices.{ChoicesDescribes, Nested}
 use Rattle.bpaf_laws.specs.Default.{DefaultDescribes, OptionalDescribes}
 use Rattle.bpaf_laws.specs.Hide.{SectionDescribes, UsageDescribes, usage_pieces}
@@ -71,7 +71,7 @@ added (Or all) = listed all
 added shape = append-nil (parts shape)
 
 -- the parts of a choice are those of both
-either_parts : (a b : Shape) → parts (either a b) ≡ parts a ++ parts b
+either_parts : (a b : Shape) → parts (either_shape a b) ≡ parts a ++ parts b
 either_parts a b =
     parts_joined (alternatives a) (alternatives b)
     ∙ (ap (λ first. first ++ parts_of_all (members (alternatives b))) (added a)

@@ -1,8 +1,8 @@
 -- A surplus occurrence, a surplus word and an occurrence without a value leave a field no value.
 use Rattle.std.proofs.Common.{◌≡◌, ℕ, Bool, true, false, List, [], ◌∷◌, Option, Some, None, subst}
 use Rattle.bpaf_doc.specs.Names.{Names}
-use Rattle.bpaf_exact.specs.Pieces.{Roles, Piece}
-use Rattle.bpaf_exact.specs.Flat.{Kind, FieldsReading, HasValue, both_reading, share, left}
+use Rattle.bpaf_exact.specs.Pieces.{Roles, LinePiece}
+use Rattle.bpaf_exact.specs.Flat.{FieldKind, FieldsReading, HasValue, both_reading, share, left}
 use Rattle.bpaf_exact.specs.Single.{Groups, Gap, FrontOf, own_none, own_more, OwnList, listed}
 use Rattle.bpaf_exact.specs.Single.{listed_and_absent, only_absent, SingleValue, of_group, of_gap}
 use Rattle.bpaf_exact.specs.Wrappers.{Closure, OptionalValue, some_value}
@@ -11,20 +11,21 @@ use Rattle.bpaf_exact.specs.Derived.{LastOf}
 use Rattle.bpaf_exact.specs.Alternative.{HasBad}
 use Rattle.bpaf_exact.specs.Record.{last_reading}
 use Rattle.bpaf_exact.specs.Leaves.{flag_by, argument_by, word_field}
-use Rattle.bpaf_exact.specs.Shape.{Shape, not_flat, alternative, single, complete, product}
-use Rattle.bpaf_exact.specs.Shape.{closed_shape, optional_shape, fallback_shape, field_shape}
-use Rattle.bpaf_exact.specs.Shape.{unless}
+use Rattle.bpaf_exact.specs.FlatForm.{FlatForm, not_flat, alternative, single, complete, product}
+use Rattle.bpaf_exact.specs.FlatForm.{flat_closed, flat_optional, flat_fallback, flat_field}
+use Rattle.bpaf_exact.specs.FlatForm.{unless}
 use Rattle.bpaf_exact.specs.Accepted.{OneByOne, AtMostOne, HasNoSurplus, IsPartOf}
 use Rattle.bpaf_exact.proofs.Alternative.{own_bad}
 
 -- A surplus occurrence.
 
 -- the first piece alone is one
-pub front_one : (T : Type 0) (value : Piece → T → Type 0) → OneByOne (FrontOf T value)
+pub front_one : (T : Type 0) (value : LinePiece → T → Type 0) → OneByOne (FrontOf T value)
 front_one T value os rest v g = (g.piece, g.is)
 
 -- where one evaluation reads one piece, two have no value
-group_once : {T : Type 0} (group : Groups T) → OneByOne group → (o p : Piece) (os : List Piece)
+group_once : {T : Type 0} (group : Groups T) → OneByOne group
+    → (o p : LinePiece) (os : List LinePiece)
     (v : T) → group (o ∷ p ∷ os) v [] → ⊥
 group_once group one o p os v g = let i = one (o ∷ p ∷ os) [] v g in let e = i.1 in cc
 
@@ -43,8 +44,8 @@ module _ (T : Type 0) (group : Groups T) (gap : Gap T) (one : OneByOne group) wh
   fallback_once f o p os v (own_value h) = single_once o p os v h
 
 -- a closure round a field keeps that
-pub closed_no_surplus : {A B : Type 0} (f : Closure A B) (s : Shape A) → HasNoSurplus s
-    → HasNoSurplus (closed_shape f s)
+pub closed_no_surplus : {A B : Type 0} (f : Closure A B) (s : FlatForm A) → HasNoSurplus s
+    → HasNoSurplus (flat_closed f s)
 closed_no_surplus f not_flat h = tt
 closed_no_surplus f (alternative q value) h = tt
 closed_no_surplus f (single k q group gap) h = λ os rest v g. h os rest g.from g.read
@@ -52,7 +53,7 @@ closed_no_surplus f (complete k q value) h = λ o p os v i. h o p os i.from i.re
 closed_no_surplus f (product q fields) h = tt
 
 -- a field without a repeat or default has no surplus
-pub field_no_surplus : {T : Type 0} (s : Shape T) → HasNoSurplus s → HasNoSurplus (field_shape s)
+pub field_no_surplus : {T : Type 0} (s : FlatForm T) → HasNoSurplus s → HasNoSurplus (flat_field s)
 field_no_surplus not_flat h = tt
 field_no_surplus {T = T} (alternative q value) h = single_once T _ _ (front_one T value)
 field_no_surplus {T = T} (single k q group gap) h = single_once T group gap h
@@ -60,8 +61,8 @@ field_no_surplus (complete k q value) h = h
 field_no_surplus (product q fields) h = tt
 
 -- nor has what may be left out
-pub optional_no_surplus : {T : Type 0} (s : Shape T) → HasNoSurplus s
-    → HasNoSurplus (optional_shape s)
+pub optional_no_surplus : {T : Type 0} (s : FlatForm T) → HasNoSurplus s
+    → HasNoSurplus (flat_optional s)
 optional_no_surplus not_flat h = tt
 optional_no_surplus {T = T} (alternative q value) h = optional_once T _ _ (front_one T value)
 optional_no_surplus {T = T} (single k q group gap) h = optional_once T group gap h
@@ -69,8 +70,8 @@ optional_no_surplus (complete k q value) h = tt
 optional_no_surplus (product q fields) h = tt
 
 -- nor what has a value that stands for it
-pub fallback_no_surplus : {T : Type 0} (f : Closure (Unit {0}) T) (s : Shape T) → HasNoSurplus s
-    → HasNoSurplus (fallback_shape f s)
+pub fallback_no_surplus : {T : Type 0} (f : Closure (Unit {0}) T) (s : FlatForm T) → HasNoSurplus s
+    → HasNoSurplus (flat_fallback f s)
 fallback_no_surplus f not_flat h = tt
 fallback_no_surplus {T = T} f (alternative q value) h = fallback_once T _ _ (front_one T value) f
 fallback_no_surplus {T = T} f (single k q group gap) h = fallback_once T group gap h f
@@ -78,7 +79,7 @@ fallback_no_surplus f (complete k q value) h = tt
 fallback_no_surplus f (product q fields) h = tt
 
 -- whether `catch` is set changes nothing there
-pub unless_no_surplus : {T : Type 0} (catch : Bool) (s : Shape T) → HasNoSurplus s
+pub unless_no_surplus : {T : Type 0} (catch : Bool) (s : FlatForm T) → HasNoSurplus s
     → HasNoSurplus (unless catch s)
 unless_no_surplus true s h = tt
 unless_no_surplus false s h = h
@@ -104,9 +105,9 @@ pub word_no_surplus : {T : Type 0} (means : List ℕ → T → Type 0) → HasNo
 word_no_surplus {T = T} means = front_one T _
 
 -- An occurrence without a value, as the key of a failed alternative.
-module _ (T : Type 0) (value : Piece → T → Type 0) (gap : Gap T) where
+module _ (T : Type 0) (value : LinePiece → T → Type 0) (gap : Gap T) where
   -- a repeat has no value then
-  pub repeat_bad : (os : List Piece) (vs : List T) → HasBad T value os
+  pub repeat_bad : (os : List LinePiece) (vs : List T) → HasBad T value os
       → OwnList T (FrontOf T value) gap os vs → ⊥
   repeat_bad os vs b (listed h o) = own_bad T value os vs b o
   repeat_bad os vs b (listed_and_absent {v = v} {vs = us} h a o) =
@@ -114,42 +115,43 @@ module _ (T : Type 0) (value : Piece → T → Type 0) (gap : Gap T) where
   repeat_bad os vs b (only_absent h a) = elim b [ ]
 
   -- nor has `last`
-  pub last_bad : (os : List Piece) (v : T) → HasBad T value os → LastOf T (FrontOf T value) gap os v
+  pub last_bad : (os : List LinePiece) (v : T) → HasBad T value os
+      → LastOf T (FrontOf T value) gap os v
       → ⊥
   last_bad os v b h = repeat_bad os h.list b h.own
 
   -- nor what has no repeat or default
-  pub single_bad : (os : List Piece) (v : T) → HasBad T value os
+  pub single_bad : (os : List LinePiece) (v : T) → HasBad T value os
       → SingleValue T (FrontOf T value) gap os v → ⊥
   single_bad os v b (of_group g) = own_bad T value os (v ∷ []) b (own_more g own_none)
   single_bad os v b (of_gap a) = elim b [ ]
 
   -- nor what may be left out
-  pub optional_bad : (os : List Piece) (v : Option T) → HasBad T value os
+  pub optional_bad : (os : List LinePiece) (v : Option T) → HasBad T value os
       → OptionalValue T (FrontOf T value) gap os v → ⊥
   optional_bad os (Some v) b (some_value h) = single_bad os v b h
   optional_bad os None b (no_value h) = elim b [ ]
 
   -- nor what has a value that stands for it
-  pub fallback_bad : (f : Closure (Unit {0}) T) (os : List Piece) (v : T) → HasBad T value os
+  pub fallback_bad : (f : Closure (Unit {0}) T) (os : List LinePiece) (v : T) → HasBad T value os
       → FallbackValue T (FrontOf T value) gap f os v → ⊥
   fallback_bad f os v b (own_value h) = single_bad os v b h
   fallback_bad f os v b (kept_value h a) = elim b [ ]
 
 -- Which parts a record has: each of its fields, and that no piece is left.
-module _ {A B : Type 0} (k : Kind) (q : Roles) (first : List Piece → A → Type 0)
+module _ {A B : Type 0} (k : FieldKind) (q : Roles) (first : List LinePiece → A → Type 0)
     (rest : FieldsReading B) where
   -- a field before others
   pub first_part : IsPartOf (both_reading k q first rest).each (share k q) (HasValue first)
   first_part = λ os h. h.0
 
   -- the parts of those behind it
-  pub later_part : (own : List Piece → List Piece) (part : List Piece → Type 0)
+  pub later_part : (own : List LinePiece → List LinePiece) (part : List LinePiece → Type 0)
       → IsPartOf rest.each own part
       → IsPartOf (both_reading k q first rest).each (λ os. own (left k q os)) part
   later_part own part is = λ os h. is (left k q os) h.1
 
-module _ {T : Type 0} (k : Kind) (q : Roles) (value : List Piece → T → Type 0) where
+module _ {T : Type 0} (k : FieldKind) (q : Roles) (value : List LinePiece → T → Type 0) where
   -- the last field
   pub last_part : IsPartOf (last_reading k q value).each (share k q) (HasValue value)
   last_part = λ os h. h.0
@@ -158,27 +160,29 @@ module _ {T : Type 0} (k : Kind) (q : Roles) (value : List Piece → T → Type 
   pub none_left : IsPartOf (last_reading k q value).each (left k q) (λ os. os ≡ [])
   none_left = λ os h. h.1
 
-module _ (each : List Piece → Type 0) (own : List Piece → List Piece) (os : List Piece) where
+module _ (each : List LinePiece → Type 0) (own : List LinePiece → List LinePiece)
+    (os : List LinePiece) where
   -- Where it isn't so with a part, a field has no value.
-  pub part_lacks : (part : List Piece → Type 0) → IsPartOf each own part → ¬ (part (own os))
+  pub part_lacks : (part : List LinePiece → Type 0) → IsPartOf each own part → ¬ (part (own os))
       → ¬ (each os)
   part_lacks part is none h = none (is os h)
 
   -- So it is with a surplus occurrence of a field without a repeat or default,
-  pub surplus_occurrence : {T : Type 0} (field : List Piece → T → Type 0) → AtMostOne field
-      → IsPartOf each own (HasValue field) → (o p : Piece) (more : List Piece)
+  pub surplus_occurrence : {T : Type 0} (field : List LinePiece → T → Type 0) → AtMostOne field
+      → IsPartOf each own (HasValue field) → (o p : LinePiece) (more : List LinePiece)
       → own os ≡ o ∷ p ∷ more → ¬ (each os)
   surplus_occurrence field once is o p more e = part_lacks (HasValue field) is
       (λ has. once o p more has.0 (subst (λ z. field z has.0) e has.1))
 
   -- with a surplus word,
-  pub surplus_word : IsPartOf each own (λ z. z ≡ []) → (o : Piece) (more : List Piece)
+  pub surplus_word : IsPartOf each own (λ z. z ≡ []) → (o : LinePiece) (more : List LinePiece)
       → own os ≡ o ∷ more → ¬ (each os)
   surplus_word is o more e = part_lacks (λ z. z ≡ []) is (λ none. cc)
 
   -- and with an occurrence without a value, where these leave the field none.
-  pub bad_occurrence : {A T : Type 0} (one : Piece → A → Type 0) (field : List Piece → T → Type 0)
-      → ((ps : List Piece) (w : T) → HasBad A one ps → field ps w → ⊥)
+  pub bad_occurrence : {A T : Type 0} (one : LinePiece → A → Type 0)
+      (field : List LinePiece → T → Type 0)
+      → ((ps : List LinePiece) (w : T) → HasBad A one ps → field ps w → ⊥)
       → IsPartOf each own (HasValue field) → HasBad A one (own os) → ¬ (each os)
   bad_occurrence one field none is bad = part_lacks (HasValue field) is
       (λ has. none (own os) has.0 bad has.1)

@@ -10,101 +10,102 @@ use Rattle.bpaf_line.specs.Messages.{can_catch}
 use Rattle.bpaf_line.specs.Situation.{Situation, open_count}
 use Rattle.bpaf_laws.specs.Default.{Gives, GivesClone, GivesAnswer, FallbackOutcome}
 use Rattle.bpaf_laws.specs.Reading.{Outcome}
-use Rattle.bpaf_laws.specs.Repeat.{Steps, UntilRest, UntilFault, ManyOutcome, SomeOutcome}
+use Rattle.bpaf_laws.specs.Repeat.{Turns, UntilRest, UntilFault, ManyOutcome, SomeOutcome}
 use Rattle.bpaf_laws.specs.Repeat.{CollectOutcome, CountOutcome, LastOutcome, is_nil, stops, rests}
-use Rattle.bpaf_laws.specs.Step.{StepOutcome, stops_step, is_untouched}
+use Rattle.bpaf_laws.specs.Turn.{TurnOutcome, stops_step, is_untouched}
 use Rattle.bpaf_laws.specs.Transform.{MapOutcome, ParseOutcome, GuardOutcome}
 use Rattle.bpaf_exact.specs.Flat.{OfMemory, Caught, Refused, class, class_of}
-use Rattle.bpaf_exact.specs.Single.{Stops, nothing_found, caught, StepsRan, step, step_failed}
+use Rattle.bpaf_exact.specs.Single.{Stops, nothing_found, caught, TurnsEval, step, step_failed}
 use Rattle.bpaf_exact.specs.Single.{idle_step, enough, stopped, failed, no_room}
 use Rattle.bpaf_exact.specs.Wrappers.{Closure, Decides, map_closure, parse_closure, guard_closure}
-use Rattle.bpaf_exact.specs.Wrappers.{answer_closure, kept_closure, ClosedRan, closed_yes}
-use Rattle.bpaf_exact.specs.Wrappers.{closed_no, closed_memory, closed_err, OptionalRan}
+use Rattle.bpaf_exact.specs.Wrappers.{answer_closure, kept_closure, ClosedEval, closed_yes}
+use Rattle.bpaf_exact.specs.Wrappers.{closed_no, closed_memory, closed_err, OptionalEval}
 use Rattle.bpaf_exact.specs.Wrappers.{optional_some, optional_none, optional_err, optional_memory}
-use Rattle.bpaf_exact.specs.Wrappers.{CanCatch, catch_missing, catch_other, FallbackRan}
+use Rattle.bpaf_exact.specs.Wrappers.{CanCatch, catch_missing, catch_other, FallbackEval}
 use Rattle.bpaf_exact.specs.Wrappers.{fallback_ok, fallback_given, fallback_no, fallback_memory}
 use Rattle.bpaf_exact.specs.Wrappers.{fallback_err}
 use Rattle.bpaf_exact.specs.Derived.{list_closure, some_closure, count_closure, collect_closure}
-use Rattle.bpaf_exact.specs.Derived.{LastRan, last_of, last_err, last_again}
-use Rattle.bpaf_exact.specs.Shape.{Shape, ShapeLaw, Agrees, closed_shape, repeat_shape, many_shape}
-use Rattle.bpaf_exact.specs.Shape.{some_shape, count_shape, collect_shape, last_shape}
-use Rattle.bpaf_exact.specs.Shape.{optional_shape, fallback_shape, unless}
+use Rattle.bpaf_exact.specs.Derived.{LastEval, last_of, last_err, last_again}
+use Rattle.bpaf_exact.specs.FlatForm.{FlatForm, FormLaw, Agrees, flat_closed, flat_repeat}
+use Rattle.bpaf_exact.specs.FlatForm.{flat_many}
+use Rattle.bpaf_exact.specs.FlatForm.{flat_some, flat_count, flat_collect, flat_last}
+use Rattle.bpaf_exact.specs.FlatForm.{flat_optional, flat_fallback, unless}
 use Rattle.bpaf_exact.proofs.Classes.{memory_class, caught_class, kept_class, stop_class}
 use Rattle.bpaf_exact.proofs.Classes.{no_stop_class}
-use Rattle.bpaf_exact.proofs.Narrow.{AllowsNoMore, narrower_shape}
-use Rattle.bpaf_exact.proofs.Shape.{closed_shape_law, never_refuses, listed_shape_law, some_agrees}
-use Rattle.bpaf_exact.proofs.Shape.{last_shape_law, optional_shape_law, fallback_shape_law}
+use Rattle.bpaf_exact.proofs.Narrow.{AllowsNoMore, narrower_form}
+use Rattle.bpaf_exact.proofs.FlatForm.{flat_closed_law, never_refuses, flat_listed_law, some_agrees}
+use Rattle.bpaf_exact.proofs.FlatForm.{flat_last_law, flat_optional_law, flat_fallback_law}
 
 -- map
 map_within : (A B : Type 0) (inner : Outcome A) (answers : A → B → Type 0)
-    → AllowsNoMore B (ClosedRan A B inner (map_closure answers) Refused) (MapOutcome inner answers)
+    → AllowsNoMore B (ClosedEval A B inner (map_closure answers) Refused) (MapOutcome inner answers)
 map_within A B inner answers = record { within = by_answer }
   where
     by_answer : (s t : Situation) (r : Result B Error) → MapOutcome inner answers s r t
-        → ClosedRan A B inner (map_closure answers) Refused s r t
+        → ClosedEval A B inner (map_closure answers) Refused s r t
     by_answer s t (Ok v) o = closed_yes o.1 o.2
     by_answer s t (Err e) o = closed_err o
 
--- keeps to the laws of its shape
+-- keeps to the laws of its form
 pub map_field_law : (A B : Type 0) (inner : Outcome A) (answers : A → B → Type 0)
-    (names : List Names) (s : Shape A) → ShapeLaw inner names s
-    → ShapeLaw (MapOutcome inner answers) names (closed_shape (map_closure answers) s)
+    (names : List Names) (s : FlatForm A) → FormLaw inner names s
+    → FormLaw (MapOutcome inner answers) names (flat_closed (map_closure answers) s)
 map_field_law A B inner answers names s l =
-    narrower_shape B _ _ (map_within A B inner answers) names _
-    (closed_shape_law A B inner (map_closure answers) names s
+    narrower_form B _ _ (map_within A B inner answers) names _
+    (flat_closed_law A B inner (map_closure answers) names s
     (never_refuses A B (map_closure answers) (λ x n. n) s) l)
 
 -- parse
 parse_within : (A B E : Type 0) (inner : Outcome A) (answers : A → Result B E → Type 0)
     (shown : E → Option (List ℕ))
-    → AllowsNoMore B (ClosedRan A B inner (parse_closure answers) Refused)
+    → AllowsNoMore B (ClosedEval A B inner (parse_closure answers) Refused)
     (ParseOutcome inner answers shown)
 parse_within A B E inner answers shown = record { within = by_answer }
   where
     by_answer : (s t : Situation) (r : Result B Error) → ParseOutcome inner answers shown s r t
-        → ClosedRan A B inner (parse_closure answers) Refused s r t
+        → ClosedEval A B inner (parse_closure answers) Refused s r t
     by_answer s t (Ok v) o = closed_yes o.1 o.2
     by_answer s t (Err e) (inl o) = closed_err o
     by_answer s t (Err e) (inr o) = ⊎_elim
         (λ memory. closed_memory o.1 (ap class_of memory))
         (λ told. closed_no o.1 (o.2, o.3) (ap class_of told.1)) o.4
 
--- keeps to the laws of its shape
+-- keeps to the laws of its form
 pub parse_field_law : (A B E : Type 0) (inner : Outcome A) (answers : A → Result B E → Type 0)
-    (shown : E → Option (List ℕ)) (names : List Names) (s : Shape A)
+    (shown : E → Option (List ℕ)) (names : List Names) (s : FlatForm A)
     → Agrees (parse_closure answers) s
-    → ShapeLaw inner names s
-    → ShapeLaw (ParseOutcome inner answers shown) names (closed_shape (parse_closure answers) s)
+    → FormLaw inner names s
+    → FormLaw (ParseOutcome inner answers shown) names (flat_closed (parse_closure answers) s)
 parse_field_law A B E inner answers shown names s g l =
-    narrower_shape B _ _ (parse_within A B E inner answers shown) names _
-    (closed_shape_law A B inner (parse_closure answers) names s g l)
+    narrower_form B _ _ (parse_within A B E inner answers shown) names _
+    (flat_closed_law A B inner (parse_closure answers) names s g l)
 
 -- guard
 guard_within : (A : Type 0) (inner : Outcome A) (checks : A → Bool → Type 0) (message : List ℕ)
-    → AllowsNoMore A (ClosedRan A A inner (guard_closure checks) Refused)
+    → AllowsNoMore A (ClosedEval A A inner (guard_closure checks) Refused)
     (GuardOutcome inner checks message)
 guard_within A inner checks message = record { within = by_answer }
   where
     by_answer : (s t : Situation) (r : Result A Error) → GuardOutcome inner checks message s r t
-        → ClosedRan A A inner (guard_closure checks) Refused s r t
+        → ClosedEval A A inner (guard_closure checks) Refused s r t
     by_answer s t (Ok v) o = closed_yes o.0 (refl, o.1)
     by_answer s t (Err e) (inl o) = closed_err o
     by_answer s t (Err e) (inr o) = ⊎_elim
         (λ told. closed_no o.1 o.2 (ap class_of told))
         (λ memory. closed_memory o.1 (ap class_of memory)) o.3
 
--- keeps to the laws of its shape
+-- keeps to the laws of its form
 pub guard_field_law : (A : Type 0) (inner : Outcome A) (checks : A → Bool → Type 0)
-    (message : List ℕ) (names : List Names) (s : Shape A) → Agrees (guard_closure checks) s
-    → ShapeLaw inner names s
-    → ShapeLaw (GuardOutcome inner checks message) names (closed_shape (guard_closure checks) s)
+    (message : List ℕ) (names : List Names) (s : FlatForm A) → Agrees (guard_closure checks) s
+    → FormLaw inner names s
+    → FormLaw (GuardOutcome inner checks message) names (flat_closed (guard_closure checks) s)
 guard_field_law A inner checks message names s g l =
-    narrower_shape A _ _ (guard_within A inner checks message) names _
-    (closed_shape_law A A inner (guard_closure checks) names s g l)
+    narrower_form A _ _ (guard_within A inner checks message) names _
+    (flat_closed_law A A inner (guard_closure checks) names s g l)
 
--- Steps.
+-- Turns.
 
--- an error at which a step stops
+-- an error at which a turn stops
 stops_at : (e : Error) (s m : Situation) → stops_step false e.0 (is_untouched s m) ≡ true
     → Stops e s m
 stops_at e s m h = ⊎_elim
@@ -120,50 +121,50 @@ goes_on e s m h (caught c) = no_stop_class e.0 (is_untouched s m) h (inr c)
 
 -- optional
 optional_within : (T : Type 0) (inner : Outcome T)
-    → AllowsNoMore (Option T) (OptionalRan T inner) (StepOutcome inner false true)
+    → AllowsNoMore (Option T) (OptionalEval T inner) (TurnOutcome inner false true)
 optional_within T inner = record { within = by_answer }
   where
-    by_answer : (s t : Situation) (r : Result (Option T) Error) → StepOutcome inner false true s r t
-        → OptionalRan T inner s r t
+    by_answer : (s t : Situation) (r : Result (Option T) Error) → TurnOutcome inner false true s r t
+        → OptionalEval T inner s r t
     by_answer s t (Ok (Some v)) o = optional_some o.0
     by_answer s t (Ok None) (inl o) = absurd (true≢false o.2)
     by_answer s t (Ok None) (inr o) =
-        subst (OptionalRan T inner s (Ok None)) (sym o.1)
+        subst (OptionalEval T inner s (Ok None)) (sym o.1)
         (optional_none o.0.2 (stops_at o.0.0 s o.0.1 o.0.3))
     by_answer s t (Err e) (inl o) = optional_err o.0 (goes_on e s t o.1)
     by_answer s t (Err e) (inr o) = optional_memory (memory_class e.0 o.0)
 
--- keeps to the laws of its shape
+-- keeps to the laws of its form
 pub optional_field_law : (T : Type 0) (inner : Outcome T) (catch : Bool) (names : List Names)
-    (s : Shape T) → ShapeLaw inner names s
-    → ShapeLaw (StepOutcome inner catch true) names (unless catch (optional_shape s))
+    (s : FlatForm T) → FormLaw inner names s
+    → FormLaw (TurnOutcome inner catch true) names (unless catch (flat_optional s))
 optional_field_law T inner true names s l = tt
 optional_field_law T inner false names s l =
-    narrower_shape (Option T) _ _ (optional_within T inner) names _
-    (optional_shape_law T inner names s l)
+    narrower_form (Option T) _ _ (optional_within T inner) names _
+    (flat_optional_law T inner names s l)
 
 -- Repeats.
 
 module _ (T : Type 0) (inner : Outcome T) (idle : Bool) where
-  -- a step stops after a value
-  stop_later : (s t : Situation) → StepOutcome inner false false s (Ok None) t
-      → StepsRan T inner idle (Some (open_count s)) s (Ok []) t
+  -- a turn stops after a value
+  stop_later : (s t : Situation) → TurnOutcome inner false false s (Ok None) t
+      → TurnsEval T inner idle (Some (open_count s)) s (Ok []) t
   stop_later s t (inl o) = let l = o.3 in enough o.1 (λ fewer. absurd (omega arith))
   stop_later s t (inr o) =
-      subst (StepsRan T inner idle (Some (open_count s)) s (Ok [])) (sym o.1)
+      subst (TurnsEval T inner idle (Some (open_count s)) s (Ok [])) (sym o.1)
       (stopped o.0.2 (stops_at o.0.0 s o.0.1 o.0.3))
 
   -- and without one
-  stop_first : (s t : Situation) → StepOutcome inner false true s (Ok None) t
-      → StepsRan T inner idle None s (Ok []) t
+  stop_first : (s t : Situation) → TurnOutcome inner false true s (Ok None) t
+      → TurnsEval T inner idle None s (Ok []) t
   stop_first s t (inl o) = absurd (true≢false o.2)
   stop_first s t (inr o) =
-      subst (StepsRan T inner idle None s (Ok [])) (sym o.1)
+      subst (TurnsEval T inner idle None s (Ok [])) (sym o.1)
       (stopped o.0.2 (stops_at o.0.0 s o.0.1 o.0.3))
 
-  -- a step fails
+  -- a turn fails
   step_fails : (last : Option ℕ) (first : Bool) (s t : Situation) (e : Error)
-      → StepOutcome inner false first s (Err e) t → StepsRan T inner idle last s (Err e) t
+      → TurnOutcome inner false first s (Err e) t → TurnsEval T inner idle last s (Err e) t
   step_fails last first s t e (inl o) = failed o.0 (goes_on e s t o.1)
   step_fails last first s t e (inr o) = no_room (memory_class e.0 o.0)
 
@@ -173,12 +174,12 @@ module _ (T : Type 0) (inner : Outcome T) (idle : Bool) where
   took_item s m (inl e) = absurd cc
   took_item s m (inr l) = l
 
-  -- steps after a value, until one stops
-  later_values : (values : List T) (s last t : Situation) → Steps inner false false s values last
-      → StepOutcome inner false false last (Ok None) t
-      → StepsRan T inner idle (Some (open_count s)) s (Ok values) t
+  -- turns after a value, until one stops
+  later_values : (values : List T) (s last t : Situation) → Turns inner false false s values last
+      → TurnOutcome inner false false last (Ok None) t
+      → TurnsEval T inner idle (Some (open_count s)) s (Ok values) t
   later_values [] s last t steps stop =
-      subst (λ z. StepsRan T inner idle (Some (open_count z)) z (Ok []) t) (sym steps)
+      subst (λ z. TurnsEval T inner idle (Some (open_count z)) z (Ok []) t) (sym steps)
       (stop_later last t stop)
   later_values (v ∷ values) s last t steps stop =
       step steps.1.0 (took_item s steps.0 steps.1.1)
@@ -186,76 +187,76 @@ module _ (T : Type 0) (inner : Outcome T) (idle : Bool) where
 
   -- until one fails
   later_fault : (values : List T) (s last t : Situation) (e : Error)
-      → Steps inner false false s values last → StepOutcome inner false false last (Err e) t
-      → StepsRan T inner idle (Some (open_count s)) s (Err e) t
+      → Turns inner false false s values last → TurnOutcome inner false false last (Err e) t
+      → TurnsEval T inner idle (Some (open_count s)) s (Err e) t
   later_fault [] s last t e steps fails =
-      subst (λ z. StepsRan T inner idle (Some (open_count z)) z (Err e) t) (sym steps)
+      subst (λ z. TurnsEval T inner idle (Some (open_count z)) z (Err e) t) (sym steps)
       (step_fails (Some (open_count last)) false last t e fails)
   later_fault (v ∷ values) s last t e steps fails =
       step_failed steps.1.0 (took_item s steps.0 steps.1.1)
       (later_fault values steps.0 last t e steps.2 fails)
 
-  -- all values, until a step stops
+  -- all values, until a turn stops
   all_values : (first : Bool) (values : List T) (s last t : Situation)
-      → Steps inner false first s values last
-      → StepOutcome inner false (is_nil values) last (Ok None) t
-      → StepsRan T inner idle None s (Ok values) t
+      → Turns inner false first s values last
+      → TurnOutcome inner false (is_nil values) last (Ok None) t
+      → TurnsEval T inner idle None s (Ok values) t
   all_values first [] s last t steps stop =
-      subst (λ z. StepsRan T inner idle None z (Ok []) t) (sym steps) (stop_first last t stop)
+      subst (λ z. TurnsEval T inner idle None z (Ok []) t) (sym steps) (stop_first last t stop)
   all_values first (v ∷ values) s last t steps stop =
       step steps.1.0 tt (later_values values steps.0 last t steps.2 stop)
 
   -- until one fails
   all_fault : (first : Bool) (values : List T) (s last t : Situation) (e : Error)
-      → Steps inner false first s values last
-      → StepOutcome inner false (is_nil values) last (Err e) t
-      → StepsRan T inner idle None s (Err e) t
+      → Turns inner false first s values last
+      → TurnOutcome inner false (is_nil values) last (Err e) t
+      → TurnsEval T inner idle None s (Err e) t
   all_fault first [] s last t e steps fails =
-      subst (λ z. StepsRan T inner idle None z (Err e) t) (sym steps)
+      subst (λ z. TurnsEval T inner idle None z (Err e) t) (sym steps)
       (step_fails None true last t e fails)
   all_fault first (v ∷ values) s last t e steps fails =
       step_failed steps.1.0 tt (later_fault values steps.0 last t e steps.2 fails)
 
--- the steps of a repeat
+-- the turns of a repeat
 abbrev Repeated : (T : Type 0) → Outcome T → Bool → Outcome (List T)
-Repeated T inner idle s r t = StepsRan T inner idle None s r t
+Repeated T inner idle s r t = TurnsEval T inner idle None s r t
 
--- values until a step stops, or one that took nothing
+-- values until a turn stops, or one that took nothing
 rest_values : (T : Type 0) (inner : Outcome T) (s t : Situation) (values : List T)
-    → UntilRest inner s values t → StepsRan T inner true None s (Ok values) t
+    → UntilRest inner s values t → TurnsEval T inner true None s (Ok values) t
 rest_values T inner s t values (stops m steps stop) =
     all_values T inner true false values s m t steps stop
 rest_values T inner s t values (rests v e f l) =
-    subst (λ z. StepsRan T inner true None s (Ok z) t) (sym e) (idle_step refl f tt l)
+    subst (λ z. TurnsEval T inner true None s (Ok z) t) (sym e) (idle_step refl f tt l)
 
 -- until one fails
 rest_fault : (T : Type 0) (inner : Outcome T) (s t : Situation) (e : Error) → UntilFault inner s e t
-    → StepsRan T inner true None s (Err e) t
+    → TurnsEval T inner true None s (Err e) t
 rest_fault T inner s t e o = all_fault T inner true false o.values s o.last t e o.steps o.fails
 
 -- many
 many_within : (T : Type 0) (inner : Outcome T)
     → AllowsNoMore (Vec T)
-    (ClosedRan (List T) (Vec T) (Repeated T inner false) (list_closure T) Refused)
+    (ClosedEval (List T) (Vec T) (Repeated T inner false) (list_closure T) Refused)
     (ManyOutcome inner false)
 many_within T inner = record { within = by_answer }
   where
     by_answer : (s t : Situation) (r : Result (Vec T) Error) → ManyOutcome inner false s r t
-        → ClosedRan (List T) (Vec T) (Repeated T inner false) (list_closure T) Refused s r t
+        → ClosedEval (List T) (Vec T) (Repeated T inner false) (list_closure T) Refused s r t
     by_answer s t (Ok v) o =
         closed_yes (all_values T inner false true v.items s o.last t o.steps o.stop) refl
     by_answer s t (Err e) o =
         closed_err (all_fault T inner false true o.values s o.last t e o.steps o.fails)
 
--- keeps to the laws of its shape
+-- keeps to the laws of its form
 pub many_field_law : (T : Type 0) (inner : Outcome T) (catch : Bool) (names : List Names)
-    (s : Shape T) → ShapeLaw inner names s
-    → ShapeLaw (ManyOutcome inner catch) names (unless catch (many_shape s))
+    (s : FlatForm T) → FormLaw inner names s
+    → FormLaw (ManyOutcome inner catch) names (unless catch (flat_many s))
 many_field_law T inner true names s l = tt
 many_field_law T inner false names s l =
-    narrower_shape (Vec T) _ _ (many_within T inner) names _
-    (listed_shape_law T (Vec T) inner false (list_closure T) Refused names s
-    (never_refuses (List T) (Vec T) (list_closure T) (λ x n. n) (repeat_shape s)) l)
+    narrower_form (Vec T) _ _ (many_within T inner) names _
+    (flat_listed_law T (Vec T) inner false (list_closure T) Refused names s
+    (never_refuses (List T) (Vec T) (list_closure T) (λ x n. n) (flat_repeat s)) l)
 
 -- some
 not_nil : (T : Type 0) (values : List T) → is_nil values ≡ false → values ≡ [] → ⊥
@@ -264,12 +265,12 @@ not_nil T values e f = true≢false (sym (ap is_nil f) ∙ e)
 -- its answers, as those of a closure on the list
 some_within : (T : Type 0) (inner : Outcome T) (message : List ℕ)
     → AllowsNoMore (Vec T)
-    (ClosedRan (List T) (Vec T) (Repeated T inner false) (some_closure T) Caught)
+    (ClosedEval (List T) (Vec T) (Repeated T inner false) (some_closure T) Caught)
     (SomeOutcome inner false message)
 some_within T inner message = record { within = by_answer }
   where
     by_answer : (s t : Situation) (r : Result (Vec T) Error) → SomeOutcome inner false message s r t
-        → ClosedRan (List T) (Vec T) (Repeated T inner false) (some_closure T) Caught s r t
+        → ClosedEval (List T) (Vec T) (Repeated T inner false) (some_closure T) Caught s r t
     by_answer s t (Ok v) o =
         closed_yes (all_values T inner false true v.items s o.0.last t o.0.steps o.0.stop)
         (refl, not_nil T v.items o.1)
@@ -280,24 +281,25 @@ some_within T inner message = record { within = by_answer }
         ⊎_elim (λ told. closed_no steps refl (ap class_of told))
         (λ memory. closed_memory steps (ap class_of memory)) o.1
 
--- keeps to the laws of its shape
+-- keeps to the laws of its form
 pub some_field_law : (T : Type 0) (inner : Outcome T) (catch : Bool) (message : List ℕ)
-    (names : List Names) (s : Shape T) → ShapeLaw inner names s
-    → ShapeLaw (SomeOutcome inner catch message) names (unless catch (some_shape s))
+    (names : List Names) (s : FlatForm T) → FormLaw inner names s
+    → FormLaw (SomeOutcome inner catch message) names (unless catch (flat_some s))
 some_field_law T inner true message names s l = tt
 some_field_law T inner false message names s l =
-    narrower_shape (Vec T) _ _ (some_within T inner message) names _
-    (listed_shape_law T (Vec T) inner false (some_closure T) Caught names s
+    narrower_form (Vec T) _ _ (some_within T inner message) names _
+    (flat_listed_law T (Vec T) inner false (some_closure T) Caught names s
     (some_agrees T inner names s l) l)
 
 -- collect
 collect_within : (T C : Type 0) (inner : Outcome T) (fills : List T → C → Type 0)
-    → AllowsNoMore C (ClosedRan (List T) C (Repeated T inner false) (collect_closure fills) Refused)
+    → AllowsNoMore C
+    (ClosedEval (List T) C (Repeated T inner false) (collect_closure fills) Refused)
     (CollectOutcome inner false fills)
 collect_within T C inner fills = record { within = by_answer }
   where
     by_answer : (s t : Situation) (r : Result C Error) → CollectOutcome inner false fills s r t
-        → ClosedRan (List T) C (Repeated T inner false) (collect_closure fills) Refused s r t
+        → ClosedEval (List T) C (Repeated T inner false) (collect_closure fills) Refused s r t
     by_answer s t (Ok v) o =
         closed_yes (all_values T inner false true o.0 s o.1.last t o.1.steps o.1.stop) o.2
     by_answer s t (Err e) (inl o) =
@@ -306,53 +308,53 @@ collect_within T C inner fills = record { within = by_answer }
         closed_memory (all_values T inner false true o.0 s o.1.last t o.1.steps o.1.stop)
         (memory_class e.0 o.2)
 
--- keeps to the laws of its shape
+-- keeps to the laws of its form
 pub collect_field_law : (T C : Type 0) (inner : Outcome T) (catch : Bool)
-    (fills : List T → C → Type 0) (names : List Names) (s : Shape T) → ShapeLaw inner names s
-    → ShapeLaw (CollectOutcome inner catch fills) names (unless catch (collect_shape fills s))
+    (fills : List T → C → Type 0) (names : List Names) (s : FlatForm T) → FormLaw inner names s
+    → FormLaw (CollectOutcome inner catch fills) names (unless catch (flat_collect fills s))
 collect_field_law T C inner true fills names s l = tt
 collect_field_law T C inner false fills names s l =
-    narrower_shape C _ _ (collect_within T C inner fills) names _
-    (listed_shape_law T C inner false (collect_closure fills) Refused names s
-    (never_refuses (List T) C (collect_closure fills) (λ x n. n) (repeat_shape s)) l)
+    narrower_form C _ _ (collect_within T C inner fills) names _
+    (flat_listed_law T C inner false (collect_closure fills) Refused names s
+    (never_refuses (List T) C (collect_closure fills) (λ x n. n) (flat_repeat s)) l)
 
 -- count
 count_within : (T : Type 0) (inner : Outcome T)
-    → AllowsNoMore ℕ (ClosedRan (List T) ℕ (Repeated T inner true) (count_closure T) Refused)
+    → AllowsNoMore ℕ (ClosedEval (List T) ℕ (Repeated T inner true) (count_closure T) Refused)
     (CountOutcome inner)
 count_within T inner = record { within = by_answer }
   where
     by_answer : (s t : Situation) (r : Result ℕ Error) → CountOutcome inner s r t
-        → ClosedRan (List T) ℕ (Repeated T inner true) (count_closure T) Refused s r t
+        → ClosedEval (List T) ℕ (Repeated T inner true) (count_closure T) Refused s r t
     by_answer s t (Ok n) o = closed_yes (rest_values T inner s t o.0 o.1) o.2
     by_answer s t (Err e) o = closed_err (rest_fault T inner s t e o)
 
--- keeps to the laws of its shape
-pub count_field_law : (T : Type 0) (inner : Outcome T) (names : List Names) (s : Shape T)
-    → ShapeLaw inner names s → ShapeLaw (CountOutcome inner) names (count_shape s)
+-- keeps to the laws of its form
+pub count_field_law : (T : Type 0) (inner : Outcome T) (names : List Names) (s : FlatForm T)
+    → FormLaw inner names s → FormLaw (CountOutcome inner) names (flat_count s)
 count_field_law T inner names s l =
-    narrower_shape ℕ _ _ (count_within T inner) names _
-    (listed_shape_law T ℕ inner true (count_closure T) Refused names s
-    (never_refuses (List T) ℕ (count_closure T) (λ x n. n) (repeat_shape s)) l)
+    narrower_form ℕ _ _ (count_within T inner) names _
+    (flat_listed_law T ℕ inner true (count_closure T) Refused names s
+    (never_refuses (List T) ℕ (count_closure T) (λ x n. n) (flat_repeat s)) l)
 
 -- last
 last_within : (T : Type 0) (inner : Outcome T)
-    → AllowsNoMore T (LastRan T inner) (LastOutcome inner)
+    → AllowsNoMore T (LastEval T inner) (LastOutcome inner)
 last_within T inner = record { within = by_answer }
   where
     by_answer : (s t : Situation) (r : Result T Error) → LastOutcome inner s r t
-        → LastRan T inner s r t
+        → LastEval T inner s r t
     by_answer s t (Ok v) (inl o) =
         last_of (rest_values T inner s t (o.0 ++ v ∷ []) o.1) (record { before = o.0; is = refl })
     by_answer s t (Ok v) (inr o) = last_again (rest_values T inner s o.0 [] o.1) o.2
     by_answer s t (Err e) (inl o) = last_err (rest_fault T inner s t e o)
     by_answer s t (Err e) (inr o) = last_again (rest_values T inner s o.0 [] o.1) o.2
 
--- keeps to the laws of its shape
-pub last_field_law : (T : Type 0) (inner : Outcome T) (names : List Names) (s : Shape T)
-    → ShapeLaw inner names s → ShapeLaw (LastOutcome inner) names (last_shape s)
+-- keeps to the laws of its form
+pub last_field_law : (T : Type 0) (inner : Outcome T) (names : List Names) (s : FlatForm T)
+    → FormLaw inner names s → FormLaw (LastOutcome inner) names (flat_last s)
 last_field_law T inner names s l =
-    narrower_shape T _ _ (last_within T inner) names _ (last_shape_law T inner names s l)
+    narrower_form T _ _ (last_within T inner) names _ (flat_last_law T inner names s l)
 
 -- Defaults.
 
@@ -373,46 +375,46 @@ record GivesAs (T : Type 0) (gives : Gives T) (f : Closure (Unit {0}) T) : Type 
 
 -- its answers, as those of a closure on nothing
 fallback_within : (T : Type 0) (inner : Outcome T) (gives : Gives T) (f : Closure (Unit {0}) T)
-    → GivesAs T gives f → AllowsNoMore T (FallbackRan T inner f) (FallbackOutcome inner gives)
+    → GivesAs T gives f → AllowsNoMore T (FallbackEval T inner f) (FallbackOutcome inner gives)
 fallback_within T inner gives f given = record { within = by_answer }
   where
     by_answer : (s t : Situation) (r : Result T Error) → FallbackOutcome inner gives s r t
-        → FallbackRan T inner f s r t
+        → FallbackEval T inner f s r t
     by_answer s t (Ok v) (inl o) = fallback_ok o
     by_answer s t (Ok v) (inr o) =
-        subst (FallbackRan T inner f s (Ok v)) (sym o.0.1)
+        subst (FallbackEval T inner f s (Ok v)) (sym o.0.1)
         (fallback_given o.0.0.2 (can_catch_of o.0.0.0 o.0.0.3) (given.yes v o.1))
-    by_answer s t (Err e) (inl o) = subst (FallbackRan T inner f s (Err e)) (sym o.1)
+    by_answer s t (Err e) (inl o) = subst (FallbackEval T inner f s (Err e)) (sym o.1)
         (⊎_elim (λ kept. fallback_err kept.1 (not_catch_of e kept.2))
         (λ memory. fallback_memory (memory_class e.0 memory)) o.0)
-    by_answer s t (Err e) (inr o) = subst (FallbackRan T inner f s (Err e)) (sym o.0.1)
+    by_answer s t (Err e) (inr o) = subst (FallbackEval T inner f s (Err e)) (sym o.0.1)
         (⊎_elim (λ memory. fallback_memory memory)
         (λ told. fallback_no o.0.0.2 (can_catch_of o.0.0.0 o.0.0.3) told.0 told.1)
         (given.no e o.1))
 
 -- a kept value
 pub fallback_field_law : (T : Type 0) (inner : Outcome T) (clones : T → T → Type 0) (kept : T)
-    (names : List Names) (s : Shape T) → ShapeLaw inner names s
-    → ShapeLaw (FallbackOutcome inner (GivesClone clones kept)) names
-    (fallback_shape (kept_closure (clones kept)) s)
+    (names : List Names) (s : FlatForm T) → FormLaw inner names s
+    → FormLaw (FallbackOutcome inner (GivesClone clones kept)) names
+    (flat_fallback (kept_closure (clones kept)) s)
 fallback_field_law T inner clones kept names s l =
-    narrower_shape T _ _
+    narrower_form T _ _
     (fallback_within T inner (GivesClone clones kept) (kept_closure (clones kept))
     (record { yes = λ v g. g; no = λ e g. inl (memory_class e.0 g) })) names _
-    (fallback_shape_law T inner (kept_closure (clones kept)) (λ u v y n. n) names s l)
+    (flat_fallback_law T inner (kept_closure (clones kept)) (λ u v y n. n) names s l)
 
 -- a closure's value
 pub fallback_with_field_law : (T E : Type 0) (inner : Outcome T) (answers : Result T E → Type 0)
-    (shown : E → Option (List ℕ)) (names : List Names) (s : Shape T)
+    (shown : E → Option (List ℕ)) (names : List Names) (s : FlatForm T)
     → Decides (answer_closure answers)
-    → ShapeLaw inner names s
-    → ShapeLaw (FallbackOutcome inner (GivesAnswer answers shown)) names
-    (fallback_shape (answer_closure answers) s)
+    → FormLaw inner names s
+    → FormLaw (FallbackOutcome inner (GivesAnswer answers shown)) names
+    (flat_fallback (answer_closure answers) s)
 fallback_with_field_law T E inner answers shown names s decides l =
-    narrower_shape T _ _
+    narrower_form T _ _
     (fallback_within T inner (GivesAnswer answers shown) (answer_closure answers) (record {
       yes = λ v g. g;
       no = λ e g. ⊎_elim (λ memory. inl (ap class_of memory))
           (λ told. inr ((g.0, g.1), ap class_of told.1)) g.2;
     })) names _
-    (fallback_shape_law T inner (answer_closure answers) decides names s l)
+    (flat_fallback_law T inner (answer_closure answers) decides names s l)

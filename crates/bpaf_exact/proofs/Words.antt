@@ -3,9 +3,11 @@ use Rattle.std.proofs.Common.{◌≡◌, Bool, true, false, List, [], ◌∷◌,
 use Rattle.std.proofs.Common.{if◌then◌else◌}
 use Rattle.bpaf_words.specs.declared.arg.Arg.{Arg}
 use Rattle.bpaf_words.specs.Items.{is_positional}
-use Rattle.bpaf_exact.specs.Pieces.{Cells, Role, Foreign, Alone, WithNext, Roles, Piece, One, Cut}
+use Rattle.bpaf_exact.specs.Pieces.{Cells, Role, Foreign, Alone, WithNext, Roles, LinePiece, One}
+use Rattle.bpaf_exact.specs.Pieces.{Cut}
 use Rattle.bpaf_exact.specs.Pieces.{at_end, passed, flag, argument, word, begin_piece, pieces}
-use Rattle.bpaf_exact.specs.Pieces.{Takes, takes_one, takes_two, takes_later, TakesSome, takes_none}
+use Rattle.bpaf_exact.specs.Pieces.{TakesPiece, takes_one, takes_two, takes_later, TakesPieces}
+use Rattle.bpaf_exact.specs.Pieces.{takes_none}
 use Rattle.bpaf_exact.specs.Pieces.{takes_more}
 use Rattle.bpaf_exact.specs.Flat.{IsWords, NonePresent, no_place, none_here}
 
@@ -35,12 +37,12 @@ alone_word q k n h = n.words k ∙ ap (λ b. if b then Alone else Foreign) h
 
 -- a cut of words
 pub record WordCut (r : Roles) (cs : Cells) : Type 0 where
-  pub words : List Piece
+  pub words : List LinePiece
   pub cut : Cut r cs words
 
 -- a word given back to its place
-pub put_word_back : (q r : Roles) {cs ds : Cells} {o : Piece} {os : List Piece} → IsWords q
-    → NoKeys r → Takes q cs o ds → Cut r ds os → WordCut r cs
+pub put_word_back : (q r : Roles) {cs ds : Cells} {o : LinePiece} {os : List LinePiece} → IsWords q
+    → NoKeys r → TakesPiece q cs o ds → Cut r ds os → WordCut r cs
 put_word_back q r n f (takes_one {k = k} {cs = cs} e) (passed {os = os} c) =
     record { words = One k ∷ os; cut = word (word_of q k n e) c }
 put_word_back q r n f (takes_two {k = k} e v) c = absurd (never_two q k n e)
@@ -52,8 +54,8 @@ put_word_back q r n f (takes_later {c = Some k} t) (word h c) = let i = put_word
     record { words = One k ∷ i.words; cut = word h i.cut }
 
 -- a word taken from a cut
-pub take_word_from : (q r : Roles) {cs ds : Cells} {o : Piece} {os : List Piece} → IsWords q
-    → NoKeys r → Takes q cs o ds → Cut r cs os → WordCut r ds
+pub take_word_from : (q r : Roles) {cs ds : Cells} {o : LinePiece} {os : List LinePiece} → IsWords q
+    → NoKeys r → TakesPiece q cs o ds → Cut r cs os → WordCut r ds
 take_word_from q r n f (takes_one {k = k} e) (flag g c) = record { words = _; cut = passed c }
 take_word_from q r n f (takes_one {k = k} e) (argument g v c) = let h = f.none k in absurd cc
 take_word_from q r n f (takes_one {k = k} e) (word h c) = record { words = _; cut = passed c }
@@ -66,26 +68,27 @@ take_word_from q r n f (takes_later {c = Some k} t) (word h c) = let i =
     take_word_from q r n f t c in record { words = One k ∷ i.words; cut = word h i.cut }
 
 -- some words given back
-pub put_words_back : (q r : Roles) {cs ds : Cells} {os : List Piece} → IsWords q → NoKeys r
-    → TakesSome q cs ds → Cut r ds os → WordCut r cs
+pub put_words_back : (q r : Roles) {cs ds : Cells} {os : List LinePiece} → IsWords q → NoKeys r
+    → TakesPieces q cs ds → Cut r ds os → WordCut r cs
 put_words_back q r n f takes_none c = record { words = _; cut = c }
 put_words_back q r n f (takes_more t more) c =
     put_word_back q r n f t (put_words_back q r n f more c).cut
 
 -- some words taken
-pub take_words_from : (q r : Roles) {cs ds : Cells} {os : List Piece} → IsWords q → NoKeys r
-    → TakesSome q cs ds → Cut r cs os → WordCut r ds
+pub take_words_from : (q r : Roles) {cs ds : Cells} {os : List LinePiece} → IsWords q → NoKeys r
+    → TakesPieces q cs ds → Cut r cs os → WordCut r ds
 take_words_from q r n f takes_none c = record { words = _; cut = c }
 take_words_from q r n f (takes_more t more) c =
     take_words_from q r n f more (take_word_from q r n f t c).cut
 
 -- an item that is a piece by itself
-begin_alone : {x : Role} (k : Arg) (cs : Cells) (os : List Piece) → x ≡ Alone
+begin_alone : {x : Role} (k : Arg) (cs : Cells) (os : List LinePiece) → x ≡ Alone
     → begin_piece x k cs os ≡ One k ∷ os
 begin_alone k cs os e = ap (λ z. begin_piece z k cs os) e
 
 -- Where no key is cut off, the pieces are the words that are present.
-pub words_of_cut : (q r : Roles) {cs : Cells} {os : List Piece} → IsWords q → NoKeys r → Cut r cs os
+pub words_of_cut : (q r : Roles) {cs : Cells} {os : List LinePiece} → IsWords q → NoKeys r
+    → Cut r cs os
     → pieces q cs ≡ os
 words_of_cut q r n f at_end = refl
 words_of_cut q r n f (passed c) = words_of_cut q r n f c
@@ -101,7 +104,8 @@ empty_cut r no_place = at_end
 empty_cut r (none_here n) = passed (empty_cut r n)
 
 -- an empty cut leaves nothing present
-pub cut_empty : (r : Roles) {cs : Cells} {os : List Piece} → Cut r cs os → os ≡ [] → NonePresent cs
+pub cut_empty : (r : Roles) {cs : Cells} {os : List LinePiece} → Cut r cs os → os ≡ []
+    → NonePresent cs
 cut_empty r at_end e = no_place
 cut_empty r (passed c) e = none_here (cut_empty r c e)
 cut_empty r (flag h c) e = absurd cc

@@ -4,19 +4,20 @@ use Rattle.std.proofs.Common.{sym, ap, ◌∙◌, subst}
 use Rattle.bpaf_line.specs.declared.error.Error.{Error}
 use Rattle.bpaf_line.specs.Situation.{Situation, open_count}
 use Rattle.bpaf_laws.specs.Reading.{Outcome}
-use Rattle.bpaf_exact.specs.Pieces.{Roles, Piece, pieces, takes_none}
+use Rattle.bpaf_exact.specs.Pieces.{Roles, LinePiece, pieces, takes_none}
 use Rattle.bpaf_exact.specs.Flat.{ErrorClass, OfMemory, OfMissing, Caught, Refused, class, cells}
-use Rattle.bpaf_exact.specs.Flat.{IsWhole, Steady, Kind, Named, OneWord, EachWord, front, back}
+use Rattle.bpaf_exact.specs.Flat.{IsWhole, Steady, FieldKind, ByName, OneWord, EachWord, front}
+use Rattle.bpaf_exact.specs.Flat.{back}
 use Rattle.bpaf_exact.specs.Flat.{LeavesNone, FieldTook, FieldLaw, Gives}
 use Rattle.bpaf_exact.specs.Single.{Groups, Own, own_none, Readable, Gap, SingleOk, gave_absent}
 use Rattle.bpaf_exact.specs.Single.{took, SingleErr, of_memory, of_missing, of_absent, of_piece}
 use Rattle.bpaf_exact.specs.Single.{ReadsWords, SingleLaw, SingleValue, of_group, of_gap, Stops}
 use Rattle.bpaf_exact.specs.Single.{nothing_found, caught, present_count}
-use Rattle.bpaf_exact.specs.Wrappers.{Closure, Decides, AgreesOn, ClosedRan, closed_yes, closed_no}
-use Rattle.bpaf_exact.specs.Wrappers.{closed_memory, closed_err, ClosedValue, OptionalRan}
+use Rattle.bpaf_exact.specs.Wrappers.{Closure, Decides, AgreesOn, ClosedEval, closed_yes, closed_no}
+use Rattle.bpaf_exact.specs.Wrappers.{closed_memory, closed_err, ClosedValue, OptionalEval}
 use Rattle.bpaf_exact.specs.Wrappers.{optional_some, optional_none, optional_err, optional_memory}
 use Rattle.bpaf_exact.specs.Wrappers.{OptionalValue, some_value, no_value, CanCatch, catch_missing}
-use Rattle.bpaf_exact.specs.Wrappers.{catch_other, FallbackRan, fallback_ok, fallback_given}
+use Rattle.bpaf_exact.specs.Wrappers.{catch_other, FallbackEval, fallback_ok, fallback_given}
 use Rattle.bpaf_exact.specs.Wrappers.{fallback_no, fallback_memory, fallback_err, FallbackValue}
 use Rattle.bpaf_exact.specs.Wrappers.{own_value, kept_value}
 use Rattle.bpaf_exact.proofs.Product.{steady_refl}
@@ -24,30 +25,31 @@ use Rattle.bpaf_exact.proofs.Counts.{open_present}
 use Rattle.bpaf_exact.proofs.Repeat.{any_some, same_takes}
 
 -- of no piece none is taken
-front_nil : (k : Kind) → front k [] ≡ []
-front_nil Named = refl
+front_nil : (k : FieldKind) → front k [] ≡ []
+front_nil ByName = refl
 front_nil OneWord = refl
 front_nil EachWord = refl
 
 -- and none left
-back_nil : (k : Kind) → back k [] ≡ []
-back_nil Named = refl
+back_nil : (k : FieldKind) → back k [] ≡ []
+back_nil ByName = refl
 back_nil OneWord = refl
 back_nil EachWord = refl
 
 -- where none is taken there is none
-nil_front : (k : Kind) (os : List Piece) → front k os ≡ [] → os ≡ []
-nil_front Named os e = e
+nil_front : (k : FieldKind) (os : List LinePiece) → front k os ≡ [] → os ≡ []
+nil_front ByName os e = e
 nil_front OneWord [] e = refl
 nil_front OneWord (o ∷ os) e = absurd cc
 nil_front EachWord os e = e
 
 -- outer closures
-module _ (A B : Type 0) (inner : Outcome A) (k : Kind) (q : Roles) (value : List Piece → A → Type 0)
+module _ (A B : Type 0) (inner : Outcome A)
+    (k : FieldKind) (q : Roles) (value : List LinePiece → A → Type 0)
     (l : FieldLaw A inner k q value) (f : Closure A B)
-    (agrees : (os : List Piece) → AgreesOn (value os) f) (c : ErrorClass) where
+    (agrees : (os : List LinePiece) → AgreesOn (value os) f) (c : ErrorClass) where
   -- a value that the closure gave
-  closed_ok : (s t : Situation) (v : B) → IsWhole s → ClosedRan A B inner f c s (Ok v) t
+  closed_ok : (s t : Situation) (v : B) → IsWhole s → ClosedEval A B inner f c s (Ok v) t
       → FieldTook B k q (ClosedValue A B value f) s v t
   closed_ok s t v w (closed_yes {x = x} i y) =
       let a = l.ok s t x w i in
@@ -61,7 +63,7 @@ module _ (A B : Type 0) (inner : Outcome A) (k : Kind) (q : Roles) (value : List
 
   -- where the share has a value the closure gives one
   closed_answers : (s t : Situation) (r : Result B Error) (v : B) → IsWhole s
-      → ClosedRan A B inner f c s r t → ClosedValue A B value f (front k (pieces q (cells s))) v
+      → ClosedEval A B inner f c s r t → ClosedValue A B value f (front k (pieces q (cells s))) v
       → Gives q (ClosedValue A B value f (front k (pieces q (cells s))))
       (back k (pieces q (cells s))) r t
   closed_answers s t r v w (closed_yes {x = x} {v = u} i y) h =
@@ -74,37 +76,39 @@ module _ (A B : Type 0) (inner : Outcome A) (k : Kind) (q : Roles) (value : List
   closed_answers s t r v w (closed_err {e = x} i) h = l.answers s t (Err x) h.from w i h.read
 
   -- a closure round a field is one
-  pub closed_law : FieldLaw B (ClosedRan A B inner f c) k q (ClosedValue A B value f)
+  pub closed_law : FieldLaw B (ClosedEval A B inner f c) k q (ClosedValue A B value f)
   closed_law = record { own = l.own; ok = closed_ok; answers = closed_answers }
 
-module _ (T : Type 0) (inner : Outcome T) (k : Kind) (q : Roles) (group : Groups T) (gap : Gap T)
+module _ (T : Type 0) (inner : Outcome T)
+    (k : FieldKind) (q : Roles) (group : Groups T) (gap : Gap T)
     (l : SingleLaw T inner k q group gap) where
   -- the value of a single field: of a group, or the absent one
-  data SingleView (os : List Piece) (v : T) : Type 0 where
+  data SingleView (os : List LinePiece) (v : T) : Type 0 where
     view_group : group os v [] → SingleView os v
     view_gap : os ≡ [] → gap.absent v → SingleView os v
 
   -- by its constructors
-  single_view : (os : List Piece) (v : T) → SingleValue T group gap os v → SingleView os v
+  single_view : (os : List LinePiece) (v : T) → SingleValue T group gap os v → SingleView os v
   single_view os v (of_group g) = view_group g
   single_view os v (of_gap a) = view_gap refl a
 
   -- the absent value where there is no piece
-  nothing_read : (os : List Piece) (v : T) → os ≡ [] → gap.absent v
+  nothing_read : (os : List LinePiece) (v : T) → os ≡ [] → gap.absent v
       → SingleValue T group gap (front k os) v
   nothing_read os v e a =
       subst (λ z. SingleValue T group gap z v) (sym (ap (front k) e ∙ front_nil k)) (of_gap a)
 
   -- and nothing is left
-  nothing_left : (os ps : List Piece) → os ≡ [] → ps ≡ [] → ps ≡ back k os
+  nothing_left : (os ps : List LinePiece) → os ≡ [] → ps ≡ [] → ps ≡ back k os
   nothing_left os ps e h = h ∙ sym (ap (back k) e ∙ back_nil k)
 
   -- what was taken is the front
-  took_read : (z : Kind) (s t : Situation) (v : T) → ReadsWords z group → LeavesNone z q (cells t)
+  took_read : (z : FieldKind) (s t : Situation) (v : T) → ReadsWords z group
+      → LeavesNone z q (cells t)
       → (Readable z group (pieces q (cells t)) → group (pieces q (cells s)) v (pieces q (cells t)))
       → group (front z (pieces q (cells s))) v []
       × (pieces q (cells t) ≡ back z (pieces q (cells s)))
-  took_read Named s t v u n up = (
+  took_read ByName s t v u n up = (
     subst (group (pieces q (cells s)) v) n
         (up ([], subst (λ os. Own T group os []) (sym n) own_none)),
     n,
@@ -132,21 +136,23 @@ module _ (T : Type 0) (inner : Outcome T) (k : Kind) (q : Roles) (group : Groups
   }
 
   -- what the front means the pieces mean
-  of_front : (z : Kind) (os : List Piece) (v : T) → ReadsWords z group → group (front z os) v []
+  of_front : (z : FieldKind) (os : List LinePiece) (v : T) → ReadsWords z group
+      → group (front z os) v []
       → group os v (back z os)
-  of_front Named os v u g = g
+  of_front ByName os v u g = g
   of_front OneWord os v u g = u.of_front os v g
   of_front EachWord os v u g = absurd u
 
   -- and the other way
-  to_front : (z : Kind) (os : List Piece) (v : T) → ReadsWords z group → group os v (back z os)
+  to_front : (z : FieldKind) (os : List LinePiece) (v : T) → ReadsWords z group
+      → group os v (back z os)
       → group (front z os) v []
-  to_front Named os v u g = g
+  to_front ByName os v u g = g
   to_front OneWord os v u g = (u.by_front os v (back OneWord os) g).0
   to_front EachWord os v u g = absurd u
 
   -- no piece is no group
-  not_empty : (os : List Piece) (v : T) → os ≡ [] → group (front k os) v [] → ⊥
+  not_empty : (os : List LinePiece) (v : T) → os ≡ [] → group (front k os) v [] → ⊥
   not_empty os v e g = l.starts v [] (subst (λ z. group z v []) (ap (front k) e ∙ front_nil k) g)
 
   -- where the share has a value, a value is one
@@ -191,7 +197,7 @@ module _ (T : Type 0) (inner : Outcome T) (k : Kind) (q : Roles) (group : Groups
 
   -- optional
 
-  -- a step doesn't stop at other refusals
+  -- a turn doesn't stop at other refusals
   no_stop : (s m : Situation) (e : Error) (c : ErrorClass) → Stops e s m → class e ≡ c
       → (c ≡ OfMissing → ⊥) → (c ≡ Caught → ⊥) → ⊥
   no_stop s m e c (nothing_found h n) g a b = a (sym g ∙ h)
@@ -206,7 +212,7 @@ module _ (T : Type 0) (inner : Outcome T) (k : Kind) (q : Roles) (group : Groups
   stop_missing s m e h (of_piece c p n) = absurd (no_stop s m e Refused h c (λ i. cc) (λ i. cc))
 
   -- a value that may be left out
-  optional_ok : (s t : Situation) (v : Option T) → IsWhole s → OptionalRan T inner s (Ok v) t
+  optional_ok : (s t : Situation) (v : Option T) → IsWhole s → OptionalEval T inner s (Ok v) t
       → FieldTook (Option T) k q (OptionalValue T group gap) s v t
   optional_ok s t v w (optional_some {v = x} i) =
       let a = single_took s t x (l.ok s t x w i) in
@@ -228,12 +234,12 @@ module _ (T : Type 0) (inner : Outcome T) (k : Kind) (q : Roles) (group : Groups
       }
 
   -- a value that may be left out: it is there, or not
-  data OptionalView (os : List Piece) (v : Option T) : Type 0 where
+  data OptionalView (os : List LinePiece) (v : Option T) : Type 0 where
     view_some : (x : T) → v ≡ Some x → SingleValue T group gap os x → OptionalView os v
     view_none : os ≡ [] → v ≡ None → gap.has ≡ false → OptionalView os v
 
   -- by its constructors
-  optional_view : (os : List Piece) (v : Option T) → OptionalValue T group gap os v
+  optional_view : (os : List LinePiece) (v : Option T) → OptionalValue T group gap os v
       → OptionalView os v
   optional_view os v (some_value {v = x} g) = view_some x refl g
   optional_view os v (no_value h) = view_none refl refl h
@@ -284,7 +290,7 @@ module _ (T : Type 0) (inner : Outcome T) (k : Kind) (q : Roles) (group : Groups
 
   -- each answer
   optional_answers : (s t : Situation) (r : Result (Option T) Error) (v : Option T) → IsWhole s
-      → OptionalRan T inner s r t → OptionalView (front k (pieces q (cells s))) v
+      → OptionalEval T inner s r t → OptionalView (front k (pieces q (cells s))) v
       → Gives q (OptionalValue T group gap (front k (pieces q (cells s))))
       (back k (pieces q (cells s))) r t
   optional_answers s t r v w (optional_some {v = x} i) g = some_gives s t x v w i (l.ok s t x w i) g
@@ -297,7 +303,7 @@ module _ (T : Type 0) (inner : Outcome T) (k : Kind) (q : Roles) (group : Groups
       none_fails s t e w n x b (l.err s t e w i)
 
   -- what may be left out keeps to the laws of a field
-  pub optional_law : FieldLaw (Option T) (OptionalRan T inner) k q (OptionalValue T group gap)
+  pub optional_law : FieldLaw (Option T) (OptionalEval T inner) k q (OptionalValue T group gap)
   optional_law =
       record {
         own = l.own;
@@ -323,7 +329,7 @@ module _ (T : Type 0) (inner : Outcome T) (k : Kind) (q : Roles) (group : Groups
     catch_nothing s m e (catch_missing h) (of_piece c p n) = absurd cc
     catch_nothing s m e (catch_other h) (of_piece c p n) = absurd cc
 
-    fallback_took : (s t : Situation) (v : T) → IsWhole s → FallbackRan T inner f s (Ok v) t
+    fallback_took : (s t : Situation) (v : T) → IsWhole s → FallbackEval T inner f s (Ok v) t
         → FieldTook T k q (FallbackValue T group gap f) s v t
     fallback_took s t v w (fallback_ok i) =
         let a = single_took s t v (l.ok s t v w i) in
@@ -345,11 +351,12 @@ module _ (T : Type 0) (inner : Outcome T) (k : Kind) (q : Roles) (group : Groups
         }
 
     -- a value with a default: its own, or the one that is kept
-    data FallbackView (os : List Piece) (v : T) : Type 0 where
+    data FallbackView (os : List LinePiece) (v : T) : Type 0 where
       view_own : SingleValue T group gap os v → FallbackView os v
       view_kept : os ≡ [] → gap.has ≡ false → f.yes tt v → FallbackView os v
 
-    fallback_view : (os : List Piece) (v : T) → FallbackValue T group gap f os v → FallbackView os v
+    fallback_view : (os : List LinePiece) (v : T) → FallbackValue T group gap f os v
+        → FallbackView os v
     fallback_view os v (own_value g) = view_own g
     fallback_view os v (kept_value h y) = view_kept refl h y
 
@@ -372,7 +379,7 @@ module _ (T : Type 0) (inner : Outcome T) (k : Kind) (q : Roles) (group : Groups
     kept_fails s t e n p b (of_piece c ne x) = absurd (ne (nil_front k _ p))
 
     fallback_answers : (s t : Situation) (r : Result T Error) (v : T) → IsWhole s
-        → FallbackRan T inner f s r t → FallbackView (front k (pieces q (cells s))) v
+        → FallbackEval T inner f s r t → FallbackView (front k (pieces q (cells s))) v
         → Gives q (FallbackValue T group gap f (front k (pieces q (cells s))))
         (back k (pieces q (cells s))) r t
     fallback_answers s t r v w (fallback_ok {v = x} i) (view_own g) = let a =
@@ -396,7 +403,7 @@ module _ (T : Type 0) (inner : Outcome T) (k : Kind) (q : Roles) (group : Groups
     fallback_answers s t r v w (fallback_err {e = e} {m = m} i n) (view_kept p b z) =
         kept_fails s m e n p b (l.err s m e w i)
 
-    pub fallback_law : FieldLaw T (FallbackRan T inner f) k q (FallbackValue T group gap f)
+    pub fallback_law : FieldLaw T (FallbackEval T inner f) k q (FallbackValue T group gap f)
     fallback_law =
         record {
           own = l.own;

@@ -5,21 +5,21 @@ use Rattle.std.specs.List.{AllPass}
 use Rattle.bpaf_words.specs.Items.{is_positional}
 use Rattle.bpaf_words.specs.declared.arg.Arg.{Arg}
 use Rattle.bpaf_words.specs.declared.arg.Arg.TheVariants.{ArgWord}
-use Rattle.bpaf_exact.specs.Pieces.{Cells, Roles, WithNext, Piece, One, Two, is_value, is_key}
+use Rattle.bpaf_exact.specs.Pieces.{Cells, Roles, WithNext, LinePiece, One, Two, is_value, is_key}
 use Rattle.bpaf_exact.specs.Pieces.{is_own_role, others, Cut}
 use Rattle.bpaf_exact.specs.Single.{Groups}
-use Rattle.bpaf_exact.specs.Shape.{Shape, not_flat, alternative, single, complete, product}
+use Rattle.bpaf_exact.specs.FlatForm.{FlatForm, not_flat, alternative, single, complete, product}
 
 -- Behind an argument's key stands its value. Both are one piece, and the words left to positional
 -- fields are those before the key and those behind the value.
 pub record HasItsValue (r : Roles) (before : Cells) (k : Arg) (after : Cells)
-    (os : List Piece) : Type 0 where
+    (os : List LinePiece) : Type 0 where
   pub value : Arg
   pub may_be_one : is_value value ≡ true
   pub behind : Cells
   pub next : after ≡ Some value ∷ behind
-  pub earlier : List Piece
-  pub later : List Piece
+  pub earlier : List LinePiece
+  pub later : List LinePiece
   pub cut_before : Cut r before earlier
   pub cut_behind : Cut r behind later
   pub one_piece : os ≡ earlier ++ (Two k value ∷ later)
@@ -33,12 +33,12 @@ pub record EndsInKey (r : Roles) (cs : Cells) : Type 0 where
   pub wants_value : r key ≡ WithNext
 
 -- a positional word by itself
-abbrev pub is_word_alone : Piece → Bool
+abbrev pub is_word_alone : LinePiece → Bool
 is_word_alone (One w) = is_positional w
 is_word_alone (Two k w) = false
 
 -- A line that is cut into pieces holds together.
-pub record HoldsTogether (r : Roles) (cs : Cells) (os : List Piece) : Type 0 where
+pub record HoldsTogether (r : Roles) (cs : Cells) (os : List LinePiece) : Type 0 where
   -- each key on it is one of the record's
   pub keys : (before after : Cells) (k : Arg) → cs ≡ before ++ (Some k ∷ after)
       → is_key k ≡ true → is_own_role (r k) ≡ true
@@ -53,16 +53,16 @@ pub record HoldsTogether (r : Roles) (cs : Cells) (os : List Piece) : Type 0 whe
 
 -- one evaluation reads one piece
 abbrev pub OneByOne : {T : Type 0} → Groups T → Type 0
-OneByOne {T = T} group = (os rest : List Piece) (v : T) → group os v rest
-    → (o : Piece) × (os ≡ o ∷ rest)
+OneByOne {T = T} group = (os rest : List LinePiece) (v : T) → group os v rest
+    → (o : LinePiece) × (os ≡ o ∷ rest)
 
 -- two pieces or more have no value
-abbrev pub AtMostOne : {T : Type 0} → (List Piece → T → Type 0) → Type 0
-AtMostOne {T = T} value = (o p : Piece) (os : List Piece) (v : T) → value (o ∷ p ∷ os) v → ⊥
+abbrev pub AtMostOne : {T : Type 0} → (List LinePiece → T → Type 0) → Type 0
+AtMostOne {T = T} value = (o p : LinePiece) (os : List LinePiece) (v : T) → value (o ∷ p ∷ os) v → ⊥
 
 -- A field without a repeat has no surplus: two occurrences or more have no value. An alternative
 -- reads one piece in any case.
-abbrev pub HasNoSurplus : {T : Type 0} → Shape T → Type 0
+abbrev pub HasNoSurplus : {T : Type 0} → FlatForm T → Type 0
 HasNoSurplus not_flat = Unit {0}
 HasNoSurplus (alternative q value) = Unit {0}
 HasNoSurplus (single k q group gap) = OneByOne group
@@ -71,6 +71,7 @@ HasNoSurplus (product q fields) = Unit {0}
 
 -- A part of a record, with its share of the pieces: where each field has a value, so it is with the
 -- part.
-abbrev pub IsPartOf : (List Piece → Type 0) → (List Piece → List Piece) → (List Piece → Type 0)
+abbrev pub IsPartOf : (List LinePiece → Type 0) → (List LinePiece → List LinePiece)
+    → (List LinePiece → Type 0)
     → Type 0
-IsPartOf each own part = (os : List Piece) → each os → part (own os)
+IsPartOf each own part = (os : List LinePiece) → each os → part (own os)

@@ -5,8 +5,8 @@ use Rattle.bpaf_words.specs.declared.arg.Arg.{Arg}
 use Rattle.bpaf_line.specs.declared.error.Error.{Error}
 use Rattle.bpaf_line.specs.Situation.{Situation}
 use Rattle.bpaf_laws.specs.Reading.{Outcome}
-use Rattle.bpaf_exact.specs.Pieces.{Cells, Roles, Foreign, Alone, WithNext, Piece, One, Two}
-use Rattle.bpaf_exact.specs.Pieces.{is_value, is_own, pieces, Takes, IsNamed}
+use Rattle.bpaf_exact.specs.Pieces.{Cells, Roles, Foreign, Alone, WithNext, LinePiece, One, Two}
+use Rattle.bpaf_exact.specs.Pieces.{is_value, is_own, pieces, TakesPiece, IsNamed}
 use Rattle.bpaf_exact.specs.Flat.{OfMemory, OfMissing, Refused, class, cells, IsWhole, Steady}
 
 -- no item of the field's own
@@ -15,45 +15,47 @@ NotOwn q None = Unit {0}
 NotOwn q (Some k) = q k ≡ Foreign
 
 -- the first piece of a field's own taken
-pub data TakesFirst (q : Roles) : Cells → Piece → Cells → Type 0 where
+pub data TakesFirst (q : Roles) : Cells → LinePiece → Cells → Type 0 where
   first_one : {k : Arg} {cs : Cells} → q k ≡ Alone → TakesFirst q (Some k ∷ cs) (One k) (None ∷ cs)
   first_two : {k w : Arg} {cs : Cells} → q k ≡ WithNext → is_value w ≡ true
       → TakesFirst q (Some k ∷ (Some w ∷ cs)) (Two k w) (None ∷ (None ∷ cs))
-  first_later : {c : Option Arg} {cs ds : Cells} {o : Piece} → NotOwn q c → TakesFirst q cs o ds
+  first_later : {c : Option Arg} {cs ds : Cells} {o : LinePiece} → NotOwn q c → TakesFirst q cs o ds
       → TakesFirst q (c ∷ cs) o (c ∷ ds)
 
 -- a piece without a value is among them
-pub data HasBad (T : Type 0) (value : Piece → T → Type 0) : List Piece → Type 0 where
-  bad_here : {o : Piece} {os : List Piece} → ((v : T) → value o v → ⊥) → HasBad T value (o ∷ os)
-  bad_later : {o : Piece} {os : List Piece} → HasBad T value os → HasBad T value (o ∷ os)
+pub data HasBad (T : Type 0) (value : LinePiece → T → Type 0) : List LinePiece → Type 0 where
+  bad_here : {o : LinePiece} {os : List LinePiece} → ((v : T) → value o v → ⊥)
+      → HasBad T value (o ∷ os)
+  bad_later : {o : LinePiece} {os : List LinePiece} → HasBad T value os → HasBad T value (o ∷ os)
 
 -- an answer of an alternative: it took one own piece that has the value
-pub record AlternativeOk (T : Type 0) (q : Roles) (value : Piece → T → Type 0) (s : Situation)
+pub record AlternativeOk (T : Type 0) (q : Roles) (value : LinePiece → T → Type 0) (s : Situation)
     (v : T) (t : Situation) : Type 0 where
   pub steady : Steady s t
-  pub piece : Piece
-  pub takes : Takes q (cells s) piece (cells t)
+  pub piece : LinePiece
+  pub takes : TakesPiece q (cells s) piece (cells t)
   pub means : value piece v
   -- it took the first piece, or a piece that can't be read stays
   pub first : TakesFirst q (cells s) piece (cells t) ⊎ HasBad T value (pieces q (cells t))
   -- where the first piece can be read, that is the one
-  pub readable : (o : Piece) (os : List Piece) (w : T) → pieces q (cells s) ≡ o ∷ os → value o w
+  pub readable : (o : LinePiece) (os : List LinePiece) (w : T) → pieces q (cells s) ≡ o ∷ os
+      → value o w
       → TakesFirst q (cells s) piece (cells t)
 
 -- a refusal of an alternative
-pub data AlternativeErr (T : Type 0) (q : Roles) (value : Piece → T → Type 0) (s : Situation)
+pub data AlternativeErr (T : Type 0) (q : Roles) (value : LinePiece → T → Type 0) (s : Situation)
     (e : Error) (t : Situation) : Type 0 where
   alternative_memory : class e ≡ OfMemory → AlternativeErr T q value s e t
   alternative_missing : class e ≡ OfMissing → pieces q (cells s) ≡ [] → cells t ≡ cells s
       → Steady s t → AlternativeErr T q value s e t
   -- the first piece can't be read
   alternative_refused : class e ≡ Refused → t.path ≡ s.path → HasBad T value (pieces q (cells s))
-      → ((o : Piece) (os : List Piece) (w : T) → pieces q (cells s) ≡ o ∷ os → value o w → ⊥)
+      → ((o : LinePiece) (os : List LinePiece) (w : T) → pieces q (cells s) ≡ o ∷ os → value o w → ⊥)
       → AlternativeErr T q value s e t
 
 -- the laws of a required flag or argument, or of a choice of them
 pub record AlternativeLaw (T : Type 0) (outcome : Outcome T) (q : Roles)
-    (value : Piece → T → Type 0) : Type 0 where
+    (value : LinePiece → T → Type 0) : Type 0 where
   pub named : IsNamed q
   pub ok : (s t : Situation) (v : T) → IsWhole s → outcome s (Ok v) t
       → AlternativeOk T q value s v t
@@ -66,6 +68,7 @@ pick_type true a b = a
 pick_type false a b = b
 
 -- a piece has the value that the alternative gives that it belongs to
-abbrev pub either_value : {T : Type 0} → Roles → (Piece → T → Type 0) → (Piece → T → Type 0) → Piece
+abbrev pub either_value : {T : Type 0} → Roles → (LinePiece → T → Type 0) → (LinePiece → T → Type 0)
+    → LinePiece
     → T → Type 0
 either_value q a b o v = pick_type (is_own q o) (a o v) (b o v)

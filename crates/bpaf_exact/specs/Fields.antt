@@ -7,12 +7,12 @@ use Rattle.bpaf_doc.specs.Names.{Names}
 use Rattle.bpaf_words.specs.Items.{is_key_of, item_text}
 use Rattle.bpaf_words.specs.declared.arg.Arg.{Arg}
 use Rattle.bpaf_exact.specs.Leaves.{argument_roles}
-use Rattle.bpaf_exact.specs.Pieces.{Cells, Roles, Piece, One, Two, is_own_role, mine, others, pieces}
-use Rattle.bpaf_exact.specs.Flat.{Named}
+use Rattle.bpaf_exact.specs.Pieces.{Cells, Roles, LinePiece, One, Two, is_own_role, mine, others, pieces}
+use Rattle.bpaf_exact.specs.Flat.{ByName}
 use Rattle.bpaf_text.specs.Named.{Named as Key}
 use Rattle.bpaf_exact.specs.Names.{Owns}
-use Rattle.bpaf_exact.specs.Flat.{Kind, OneWord, EachWord, keys, front, back}
-use Rattle.bpaf_exact.specs.Shape.{Shape, not_flat, alternative, single, complete, product}
+use Rattle.bpaf_exact.specs.Flat.{FieldKind, OneWord, EachWord, keys, front, back}
+use Rattle.bpaf_exact.specs.FlatForm.{FlatForm, not_flat, alternative, single, complete, product}
 
 -- the keys with one of these names that stand on a line, in line order
 abbrev pub keys_on : Names → Cells → List Arg
@@ -26,35 +26,38 @@ pub record IsPart (q r : Roles) : Type 0 where
 
 -- A field of a record that has these keys: its value, as one reads it off the record's, is that of
 -- the pieces that begin with them.
-pub record ReadsOwn (V A : Type 0) (r : Roles) (value : List Piece → V → Type 0) (q : Roles)
-    (own : List Piece → A → Type 0) (of : V → A) : Type 0 where
+pub record ReadsOwn (V A : Type 0) (r : Roles) (value : List LinePiece → V → Type 0) (q : Roles)
+    (own : List LinePiece → A → Type 0) (of : V → A) : Type 0 where
   pub part : IsPart q r
-  pub read : (os : List Piece) (v : V) → value os v → own (mine q os) (of v)
+  pub read : (os : List LinePiece) (v : V) → value os v → own (mine q os) (of v)
 
--- a record has such a field, of this shape
-abbrev pub FieldBy : {V A : Type 0} → Shape A → Shape V → (V → A) → Type 0
-FieldBy {V = V} {A = A} (complete Named q own) (product r fields) of =
+-- a record has such a field, of this form
+abbrev pub FieldBy : {V A : Type 0} → FlatForm A → FlatForm V → (V → A) → Type 0
+FieldBy {V = V} {A = A} (complete ByName q own) (product r fields) of =
     ReadsOwn V A r fields.value q own of
 FieldBy _ _ of = Unit {0}
 
--- a shape is that of a field with keys, whose value is so read off that of the whole
-pub record IsFieldOf {V A : Type 0} (a : Shape A) (s : Shape V) (of : V → A) : Type 0 where
+-- a form is that of a field with keys, whose value is so read off that of the whole
+pub record IsFieldOf {V A : Type 0} (a : FlatForm A) (s : FlatForm V) (of : V → A) : Type 0 where
   pub by : FieldBy a s of
 
 -- which of the words that are left to a field it leaves to those behind it; one with keys all
-abbrev pub words_behind_field : {A : Type 0} → Shape A → List Piece → List Piece
+abbrev pub words_behind_field : {A : Type 0} → FlatForm A → List LinePiece → List LinePiece
 words_behind_field (complete OneWord q own) os = back OneWord os
 words_behind_field (complete EachWord q own) os = []
 words_behind_field _ os = os
 
 -- A positional field of a record: its value is that of the words which the fields before it leave, of
 -- those that belong to no key.
-pub record ReadsWords (V A : Type 0) (r : Roles) (value : List Piece → V → Type 0) (k : Kind)
-    (rest : List Piece → List Piece) (own : List Piece → A → Type 0) (of : V → A) : Type 0 where
-  pub read : (os : List Piece) (v : V) → value os v → own (front k (rest (others r os))) (of v)
+pub record ReadsWords (V A : Type 0) (r : Roles) (value : List LinePiece → V → Type 0)
+    (k : FieldKind)
+    (rest : List LinePiece → List LinePiece) (own : List LinePiece → A → Type 0)
+    (of : V → A) : Type 0 where
+  pub read : (os : List LinePiece) (v : V) → value os v → own (front k (rest (others r os))) (of v)
 
--- a record has such a field, of this shape
-abbrev pub WordsBy : {V A : Type 0} → Shape A → (List Piece → List Piece) → Shape V → (V → A)
+-- a record has such a field, of this form
+abbrev pub WordsBy : {V A : Type 0} → FlatForm A → (List LinePiece → List LinePiece) → FlatForm V
+    → (V → A)
     → Type 0
 WordsBy {V = V} {A = A} (complete OneWord q own) rest (product r fields) of =
     ReadsWords V A r fields.value OneWord rest own of
@@ -62,22 +65,23 @@ WordsBy {V = V} {A = A} (complete EachWord q own) rest (product r fields) of =
     ReadsWords V A r fields.value EachWord rest own of
 WordsBy _ rest _ of = Unit {0}
 
--- a shape is that of a positional field, whose value is so read off that of the whole
-pub record IsWordsOf {V A : Type 0} (a : Shape A) (rest : List Piece → List Piece) (s : Shape V)
+-- a form is that of a positional field, whose value is so read off that of the whole
+pub record IsWordsOf {V A : Type 0} (a : FlatForm A) (rest : List LinePiece → List LinePiece)
+    (s : FlatForm V)
     (of : V → A) : Type 0 where
   pub by : WordsBy a rest s of
 
 -- a field's own items are those with one of its names
-abbrev pub ShapeOwns : {T : Type 0} → List Names → Shape T → Type 0
-ShapeOwns names not_flat = Unit {0}
-ShapeOwns names (alternative q value) = Owns q names
-ShapeOwns names (single k q group gap) = Owns (keys k q) names
-ShapeOwns names (complete k q value) = Owns (keys k q) names
-ShapeOwns names (product q fields) = Owns q names
+abbrev pub FormOwns : {T : Type 0} → List Names → FlatForm T → Type 0
+FormOwns names not_flat = Unit {0}
+FormOwns names (alternative q value) = Owns q names
+FormOwns names (single k q group gap) = Owns (keys k q) names
+FormOwns names (complete k q value) = Owns (keys k q) names
+FormOwns names (product q fields) = Owns q names
 
--- a shape whose own items are those with one of these names
-pub record OwnsKeys {T : Type 0} (names : List Names) (s : Shape T) : Type 0 where
-  pub by : ShapeOwns names s
+-- a form whose own items are those with one of these names
+pub record OwnsKeys {T : Type 0} (names : List Names) (s : FlatForm T) : Type 0 where
+  pub by : FormOwns names s
 
 -- the key of a switch with these names, and no name in the environment
 pub record IsSwitchOf (names : Names) (key : Key) (present : Bool) (absent : Option Bool) : Type 0
@@ -93,7 +97,7 @@ pub data IsSwitched (names : Names) (cs : Cells) : Bool → Type 0 where
   switched_off : keys_on names cs ≡ [] → IsSwitched names cs false
 
 -- the texts behind the keys of pieces, in line order
-abbrev pub texts_of : List Piece → List (List ℕ)
+abbrev pub texts_of : List LinePiece → List (List ℕ)
 texts_of [] = []
 texts_of (One k ∷ os) = texts_of os
 texts_of (Two k w ∷ os) = item_text w ∷ texts_of os
@@ -140,15 +144,16 @@ pub record HaveTexts (T : Type 0) (means : List ℕ → T → Type 0) (names : N
   pub each : length (texts_on names cs) ≡ length (keys_on names cs)
 
 -- the text of the one item of pieces of one
-abbrev pub word_texts : List Piece → List (List ℕ)
+abbrev pub word_texts : List LinePiece → List (List ℕ)
 word_texts [] = []
 word_texts (One w ∷ os) = item_text w ∷ word_texts os
 word_texts (Two k w ∷ os) = word_texts os
 
 -- the value of a positional field without a repeat is what the first of the words means
-pub record IsFirstWord (T : Type 0) (means : List ℕ → T → Type 0) (os : List Piece) (v : T) : Type 0
+pub record IsFirstWord (T : Type 0) (means : List ℕ → T → Type 0) (os : List LinePiece)
+    (v : T) : Type 0
   where
     pub word : Arg
-    pub more : List Piece
+    pub more : List LinePiece
     pub is : os ≡ One word ∷ more
     pub meant : means (item_text word) v

@@ -10,8 +10,8 @@ use Rattle.bpaf_line.specs.Messages.{is_memory, can_catch}
 use Rattle.bpaf_line.specs.Situation.{Situation}
 use Rattle.bpaf_line.specs.Taking.{open_item}
 use Rattle.bpaf_laws.specs.Reading.{Outcome}
-use Rattle.bpaf_exact.specs.Pieces.{Cells, Roles, Foreign, Piece, mine, others, no_roles}
-use Rattle.bpaf_exact.specs.Pieces.{word_roles, IsNamed, Apart, Cut, pieces, TakesSome}
+use Rattle.bpaf_exact.specs.Pieces.{Cells, Roles, Foreign, LinePiece, mine, others, no_roles}
+use Rattle.bpaf_exact.specs.Pieces.{word_roles, IsNamed, Apart, Cut, pieces, TakesPieces}
 
 -- the classes of refusals
 pub data ErrorClass : Type 0 where
@@ -64,20 +64,20 @@ pub record Steady (s t : Situation) : Type 0 where
   pub path : t.path ≡ s.path
 
 -- a named field; a positional field without a repeat; a positional field with one
-pub data Kind : Type 0 where
-  Named OneWord EachWord : Kind
+pub data FieldKind : Type 0 where
+  ByName OneWord EachWord : FieldKind
 
 -- Of its own pieces a field takes all; a positional field without a repeat takes the first, if
 -- there is one.
-abbrev pub front : Kind → List Piece → List Piece
-front Named os = os
+abbrev pub front : FieldKind → List LinePiece → List LinePiece
+front ByName os = os
 front EachWord os = os
 front OneWord [] = []
 front OneWord (o ∷ os) = o ∷ []
 
 -- and leaves the others
-abbrev pub back : Kind → List Piece → List Piece
-back Named os = []
+abbrev pub back : FieldKind → List LinePiece → List LinePiece
+back ByName os = []
 back EachWord os = []
 back OneWord [] = []
 back OneWord (o ∷ os) = os
@@ -85,20 +85,20 @@ back OneWord (o ∷ os) = os
 -- Of the pieces that the fields before it left, a field's share: for a named field those that begin
 -- with one of its
 -- names; for a positional field one while any is left, or with a repeat all.
-abbrev pub share : Kind → Roles → List Piece → List Piece
-share Named q os = mine q os
+abbrev pub share : FieldKind → Roles → List LinePiece → List LinePiece
+share ByName q os = mine q os
 share EachWord q os = os
 share OneWord q os = front OneWord os
 
 -- what it leaves to the fields after it
-abbrev pub left : Kind → Roles → List Piece → List Piece
-left Named q os = others q os
+abbrev pub left : FieldKind → Roles → List LinePiece → List LinePiece
+left ByName q os = others q os
 left EachWord q os = []
 left OneWord q os = back OneWord os
 
 -- the keys of a field
-abbrev pub keys : Kind → Roles → Roles
-keys Named q = q
+abbrev pub keys : FieldKind → Roles → Roles
+keys ByName q = q
 keys OneWord q = no_roles
 keys EachWord q = no_roles
 
@@ -107,35 +107,35 @@ pub record IsWords (q : Roles) : Type 0 where
   pub words : (k : Arg) → q k ≡ word_roles k
 
 -- a field's own items are keys; a positional field's are the words
-abbrev pub OwnItems : Kind → Roles → Type 0
-OwnItems Named q = IsNamed q
+abbrev pub OwnItems : FieldKind → Roles → Type 0
+OwnItems ByName q = IsNamed q
 OwnItems OneWord q = IsWords q
 OwnItems EachWord q = IsWords q
 
 -- a named field leaves none of its own keys
-abbrev pub LeavesNone : Kind → Roles → Cells → Type 0
-LeavesNone Named q cs = pieces q cs ≡ []
+abbrev pub LeavesNone : FieldKind → Roles → Cells → Type 0
+LeavesNone ByName q cs = pieces q cs ≡ []
 LeavesNone OneWord q cs = Unit {0}
 LeavesNone EachWord q cs = Unit {0}
 
 -- An answer of a field: it takes pieces of its own alone, and if none of a named field's is left
 -- over, the answer is a value of its share.
-pub record FieldTook (T : Type 0) (k : Kind) (q : Roles) (value : List Piece → T → Type 0)
+pub record FieldTook (T : Type 0) (k : FieldKind) (q : Roles) (value : List LinePiece → T → Type 0)
     (s : Situation) (v : T) (t : Situation) : Type 0 where
   pub steady : Steady s t
-  pub takes : TakesSome q (cells s) (cells t)
+  pub takes : TakesPieces q (cells s) (cells t)
   pub read : LeavesNone k q (cells t) → value (front k (pieces q (cells s))) v
   pub rest : LeavesNone k q (cells t) → pieces q (cells t) ≡ back k (pieces q (cells s))
 
 -- the answer is one of these values, with these pieces left, or it is want of memory
-abbrev pub Gives : {T : Type 0} → Roles → (T → Type 0) → List Piece → Result T Error → Situation
+abbrev pub Gives : {T : Type 0} → Roles → (T → Type 0) → List LinePiece → Result T Error → Situation
     → Type 0
 Gives q value rest (Ok v) t = value v × (pieces q (cells t) ≡ rest)
 Gives q value rest (Err e) t = class e ≡ OfMemory
 
 -- the laws of a flat field; where its share has a value, each answer is one, or want of memory
-pub record FieldLaw (T : Type 0) (outcome : Outcome T) (k : Kind) (q : Roles)
-    (value : List Piece → T → Type 0) : Type 0 where
+pub record FieldLaw (T : Type 0) (outcome : Outcome T) (k : FieldKind) (q : Roles)
+    (value : List LinePiece → T → Type 0) : Type 0 where
   pub own : OwnItems k q
   pub ok : (s t : Situation) (v : T) → IsWhole s → outcome s (Ok v) t → FieldTook T k q value s v t
   pub answers : (s t : Situation) (r : Result T Error) (w : T) → IsWhole s → outcome s r t
@@ -143,9 +143,9 @@ pub record FieldLaw (T : Type 0) (outcome : Outcome T) (k : Kind) (q : Roles)
       → Gives q (value (front k (pieces q (cells s)))) (back k (pieces q (cells s))) r t
 
 -- the values of a list of fields are read off the pieces that a line is cut into
-pub record ReadOff (V : Type 0) (r : Roles) (value : List Piece → V → Type 0) (cs : Cells)
+pub record ReadOff (V : Type 0) (r : Roles) (value : List LinePiece → V → Type 0) (cs : Cells)
     (v : V) : Type 0 where
-  pub cut_into : List Piece
+  pub cut_into : List LinePiece
   pub cut : Cut r cs cut_into
   pub read : value cut_into v
 
@@ -155,14 +155,14 @@ GivesAll value (Ok v) t = value v × NonePresent (cells t)
 GivesAll value (Err e) t = class e ≡ OfMemory
 
 -- a field has a value on its pieces
-abbrev pub HasValue : {T : Type 0} → (List Piece → T → Type 0) → List Piece → Type 0
+abbrev pub HasValue : {T : Type 0} → (List LinePiece → T → Type 0) → List LinePiece → Type 0
 HasValue {T = T} value os = (v : T) × value os v
 
 -- how the fields of a record read the pieces: which values these have, and whether each field has
 -- one on its share, whatever a constructor makes of them
 pub record FieldsReading (V : Type 0) : Type 1 where
-  pub value : List Piece → V → Type 0
-  pub each : List Piece → Type 0
+  pub value : List LinePiece → V → Type 0
+  pub each : List LinePiece → Type 0
 
 -- the laws of a list of flat fields; where each has a value, each answer is of such, or want of
 -- memory
@@ -172,23 +172,23 @@ pub record FieldsLaw (V : Type 0) (outcome : Outcome V) (r : Roles)
   pub steady : (s t : Situation) (v : V) → IsWhole s → outcome s (Ok v) t → Steady s t
   pub ok : (s t : Situation) (v : V) → IsWhole s → outcome s (Ok v) t → NonePresent (cells t)
       → ReadOff V r reading.value (cells s) v
-  pub has_each : (os : List Piece) (v : V) → reading.value os v → reading.each os
-  pub answers : (s t : Situation) (a : Result V Error) (os : List Piece) → IsWhole s
+  pub has_each : (os : List LinePiece) (v : V) → reading.value os v → reading.each os
+  pub answers : (s t : Situation) (a : Result V Error) (os : List LinePiece) → IsWhole s
       → outcome s a t → Cut r (cells s) os → reading.each os → GivesAll (reading.value os) a t
 
 -- a field before others: their keys are apart, and after a positional field no named one stands
-abbrev pub Before : Kind → Roles → Roles → Type 0
-Before Named q r = Apart q r
+abbrev pub Before : FieldKind → Roles → Roles → Type 0
+Before ByName q r = Apart q r
 Before OneWord q r = (k : Arg) → r k ≡ Foreign
 Before EachWord q r = (k : Arg) → r k ≡ Foreign
 
 -- the values of a field and of those after it
-abbrev pub BothValue : {A B : Type 0} → Kind → Roles → (List Piece → A → Type 0)
-    → (List Piece → B → Type 0) → List Piece → A × B → Type 0
+abbrev pub BothValue : {A B : Type 0} → FieldKind → Roles → (List LinePiece → A → Type 0)
+    → (List LinePiece → B → Type 0) → List LinePiece → A × B → Type 0
 BothValue k q first rest os v = first (share k q os) v.0 × rest (left k q os) v.1
 
 -- how they read the pieces
-abbrev pub both_reading : {A B : Type 0} → Kind → Roles → (List Piece → A → Type 0)
+abbrev pub both_reading : {A B : Type 0} → FieldKind → Roles → (List LinePiece → A → Type 0)
     → FieldsReading B → FieldsReading (A × B)
 both_reading k q first rest = record {
   value = BothValue k q first rest.value;

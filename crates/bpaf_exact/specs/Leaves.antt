@@ -8,10 +8,11 @@ use Rattle.bpaf_words.specs.Items.{is_key_of, is_positional, item_text}
 use Rattle.bpaf_line.specs.declared.error.Error.{Error}
 use Rattle.bpaf_line.specs.Situation.{Situation}
 use Rattle.bpaf_line.specs.Taking.{TakesText, HasNone}
-use Rattle.bpaf_exact.specs.Pieces.{Roles, Foreign, Alone, WithNext, Piece, One, Two, word_roles}
-use Rattle.bpaf_exact.specs.Flat.{Named, OneWord, OfMemory, OfMissing, Refused, class}
+use Rattle.bpaf_exact.specs.Pieces.{Roles, Foreign, Alone, WithNext, LinePiece, One, Two}
+use Rattle.bpaf_exact.specs.Pieces.{word_roles}
+use Rattle.bpaf_exact.specs.Flat.{ByName, OneWord, OfMemory, OfMissing, Refused, class}
 use Rattle.bpaf_exact.specs.Single.{Gap, FrontOf, no_gap}
-use Rattle.bpaf_exact.specs.Shape.{Shape, not_flat, alternative, single}
+use Rattle.bpaf_exact.specs.FlatForm.{FlatForm, not_flat, alternative, single}
 
 -- the items of a flag: keys with one of its names, each by itself
 abbrev pub flag_roles : Names → Roles
@@ -22,17 +23,17 @@ abbrev pub argument_roles : Names → Roles
 argument_roles names k = if is_key_of names k then WithNext else Foreign
 
 -- a key means a present value
-abbrev pub FlagValue : {T : Type 0} → (T → Type 0) → Piece → T → Type 0
+abbrev pub FlagValue : {T : Type 0} → (T → Type 0) → LinePiece → T → Type 0
 FlagValue present (One k) v = present v
 FlagValue present (Two k w) v = ⊥
 
 -- a key and its value mean what the text of that means
-abbrev pub ArgumentValue : {T : Type 0} → (List ℕ → T → Type 0) → Piece → T → Type 0
+abbrev pub ArgumentValue : {T : Type 0} → (List ℕ → T → Type 0) → LinePiece → T → Type 0
 ArgumentValue means (One k) v = ⊥
 ArgumentValue means (Two k w) v = means (item_text w) v
 
 -- a word means what its text means
-abbrev pub WordValue : {T : Type 0} → (List ℕ → T → Type 0) → Piece → T → Type 0
+abbrev pub WordValue : {T : Type 0} → (List ℕ → T → Type 0) → LinePiece → T → Type 0
 WordValue means (One w) v = means (item_text w) v
 WordValue means (Two k w) v = ⊥
 
@@ -42,28 +43,28 @@ switch_gap absent = record { has = true; absent = absent }
 
 -- a flag that must be there, or one with an absent value; with a name in the environment neither
 abbrev pub flag_by : {T : Type 0} → (T → T → Type 0) → Names → T → List (List ℕ) → Option T
-    → Shape T
+    → FlatForm T
 flag_by clones names present (env ∷ envs) absent = not_flat
 flag_by clones names present [] None =
     alternative (flag_roles names) (FlagValue (clones present))
 flag_by {T = T} clones names present [] (Some absent) =
-    single Named (flag_roles names) (FrontOf T (FlagValue (clones present)))
+    single ByName (flag_roles names) (FrontOf T (FlagValue (clones present)))
     (switch_gap (clones absent))
 
 -- a flag
-abbrev pub flag_field : {T : Type 0} → (T → T → Type 0) → Key → T → Option T → Shape T
+abbrev pub flag_field : {T : Type 0} → (T → T → Type 0) → Key → T → Option T → FlatForm T
 flag_field clones key present absent = flag_by clones key.names present key.envs absent
 
 -- each of these pieces is a key with its value
-pub data HaveValues : List Piece → Type 0 where
+pub data HaveValues : List LinePiece → Type 0 where
   no_more : HaveValues []
-  one_more : {k w : Arg} {os : List Piece} → HaveValues os → HaveValues (Two k w ∷ os)
+  one_more : {k w : Arg} {os : List LinePiece} → HaveValues os → HaveValues (Two k w ∷ os)
 
 -- all pieces at once, each a key with its value, of which the last one's text means the value; the
 -- earlier texts need not mean any
-pub record LastGroup (T : Type 0) (means : List ℕ → T → Type 0) (os : List Piece) (v : T)
-    (rest : List Piece) : Type 0 where
-  pub before : List Piece
+pub record LastGroup (T : Type 0) (means : List ℕ → T → Type 0) (os : List LinePiece) (v : T)
+    (rest : List LinePiece) : Type 0 where
+  pub before : List LinePiece
   pub key : Arg
   pub word : Arg
   pub is : os ≡ before ++ Two key word ∷ []
@@ -72,35 +73,35 @@ pub record LastGroup (T : Type 0) (means : List ℕ → T → Type 0) (os : List
   pub none_left : rest ≡ []
 
 -- an argument that takes all its keys at once
-abbrev pub last_argument : {T : Type 0} → (List ℕ → T → Type 0) → Names → Shape T
+abbrev pub last_argument : {T : Type 0} → (List ℕ → T → Type 0) → Names → FlatForm T
 last_argument {T = T} means names =
-    single Named (argument_roles names) (LastGroup T means) (no_gap T)
+    single ByName (argument_roles names) (LastGroup T means) (no_gap T)
 
 -- an argument, but for one with a name in the environment, and one that wants an attached value
 abbrev pub argument_by : {T : Type 0} → (List ℕ → T → Type 0) → Names → List (List ℕ) → Bool → Bool
-    → Shape T
+    → FlatForm T
 argument_by means names (env ∷ envs) adjacent last = not_flat
 argument_by means names [] true last = not_flat
 argument_by means names [] false false = alternative (argument_roles names) (ArgumentValue means)
 argument_by means names [] false true = last_argument means names
 
 -- an argument
-abbrev pub argument_field : {T : Type 0} → (List ℕ → T → Type 0) → KeyWithValue → Shape T
+abbrev pub argument_field : {T : Type 0} → (List ℕ → T → Type 0) → KeyWithValue → FlatForm T
 argument_field means argument =
     argument_by means argument.named.names argument.named.envs argument.adjacent argument.last
 
 -- a positional word on either side of `--`
-abbrev pub word_field : {T : Type 0} → (List ℕ → T → Type 0) → Shape T
+abbrev pub word_field : {T : Type 0} → (List ℕ → T → Type 0) → FlatForm T
 word_field {T = T} means = single OneWord word_roles (FrontOf T (WordValue means)) (no_gap T)
 
 -- the first word taken and its value; its text means none; there is none; or want of memory
-pub data WordRan (T : Type 0) (means : List ℕ → T → Type 0) (s : Situation) : Result T Error
+pub data WordEval (T : Type 0) (means : List ℕ → T → Type 0) (s : Situation) : Result T Error
     → Situation → Type 0 where
   word_read : {p : ℕ} {strict : Bool} {text : List ℕ} {v : T} {t : Situation}
-      → TakesText s p strict text t → means text v → WordRan T means s (Ok v) t
+      → TakesText s p strict text t → means text v → WordEval T means s (Ok v) t
   word_fault : {p : ℕ} {strict : Bool} {text : List ℕ} {e : Error} {t : Situation}
       → TakesText s p strict text t → ((v : T) → means text v → ⊥) → class e ≡ Refused
-      → WordRan T means s (Err e) t
+      → WordEval T means s (Err e) t
   word_missing : {e : Error} → HasNone is_positional s → class e ≡ OfMissing
-      → WordRan T means s (Err e) s
-  word_memory : {e : Error} {t : Situation} → class e ≡ OfMemory → WordRan T means s (Err e) t
+      → WordEval T means s (Err e) s
+  word_memory : {e : Error} {t : Situation} → class e ≡ OfMemory → WordEval T means s (Err e) t

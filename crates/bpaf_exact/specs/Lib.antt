@@ -6,7 +6,7 @@ pub mod Wrappers
 pub mod Alternative
 pub mod Record
 pub mod Derived
-pub mod Shape
+pub mod FlatForm
 pub mod Leaves
 pub mod Theorem
 pub mod SameParts

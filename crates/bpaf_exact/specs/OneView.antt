@@ -3,12 +3,12 @@
 use Rattle.std.specs.Prelude.{◌≡◌, List, Option, Some, None}
 use Rattle.bpaf_line.specs.Situation.{Context, beginning}
 use Rattle.bpaf_laws.specs.Reading.{Outcome}
-use Rattle.bpaf_exact.specs.Pieces.{Piece}
+use Rattle.bpaf_exact.specs.Pieces.{LinePiece}
 use Rattle.bpaf_exact.specs.Single.{Groups}
 use Rattle.bpaf_exact.specs.Wrappers.{Closure}
-use Rattle.bpaf_exact.specs.Record.{Answer, Accepted, NoMemory, Refusal, RecordValue, RunRan}
-use Rattle.bpaf_exact.specs.Shape.{Shape, not_flat, alternative, single, complete, product}
-use Rattle.bpaf_exact.specs.Shape.{product_roles, product_reading, record_shape}
+use Rattle.bpaf_exact.specs.Record.{RunAnswer, Accepted, NoMemory, Refusal, RecordValue, RunRan}
+use Rattle.bpaf_exact.specs.FlatForm.{FlatForm, not_flat, alternative, single, complete, product}
+use Rattle.bpaf_exact.specs.FlatForm.{product_roles, product_reading, flat_record}
 
 -- all these values look alike
 abbrev pub Alike : {T X : Type 0} → (T → X) → (T → Type 0) → Type 0
@@ -16,16 +16,16 @@ Alike {T = T} see value = (v w : T) → value v → value w → see v ≡ see w
 
 -- so do those of the same group of pieces, and the same pieces are left
 abbrev pub OneGroup : {T X : Type 0} → (T → X) → Groups T → Type 0
-OneGroup {T = T} see group = (os rest others : List Piece) (v w : T) → group os v rest
+OneGroup {T = T} see group = (os rest others : List LinePiece) (v w : T) → group os v rest
     → group os w others → (see v ≡ see w) × (rest ≡ others)
 
 -- the values of the same pieces look alike
-abbrev pub HasOneView : {T X : Type 0} → (T → X) → Shape T → Type 0
+abbrev pub HasOneView : {T X : Type 0} → (T → X) → FlatForm T → Type 0
 HasOneView see not_flat = Unit {0}
-HasOneView see (alternative q value) = (o : Piece) → Alike see (value o)
+HasOneView see (alternative q value) = (o : LinePiece) → Alike see (value o)
 HasOneView see (single k q group gap) = OneGroup see group × Alike see gap.absent
-HasOneView see (complete k q value) = (os : List Piece) → Alike see (value os)
-HasOneView see (product q fields) = (os : List Piece) → Alike see (fields.value os)
+HasOneView see (complete k q value) = (os : List LinePiece) → Alike see (value os)
+HasOneView see (product q fields) = (os : List LinePiece) → Alike see (fields.value os)
 
 -- A closure that can't tell values apart that look alike: it accepts both or refuses both, and its
 -- answers look alike.
@@ -43,14 +43,14 @@ abbrev pub pair_view : {A B X Y : Type 0} → (A → X) → (B → Y) → A × B
 pair_view see look v = (see v.0, look v.1)
 
 -- the answer looks like v, or is want of memory
-abbrev pub LooksLike : {V X : Type 0} → (V → X) → V → Answer V → Type 0
+abbrev pub LooksLike : {V X : Type 0} → (V → X) → V → RunAnswer V → Type 0
 LooksLike see v (Accepted w) = see w ≡ see v
 LooksLike see v NoMemory = Unit {0}
 LooksLike see v Refusal = ⊥
 
 -- Where the record has a value v, each answer looks like v, or is want of memory.
-abbrev pub RunsToOne : {V X : Type 0} → (V → X) → Outcome V → Shape V → Context → Type 0
+abbrev pub RunsToOne : {V X : Type 0} → (V → X) → Outcome V → FlatForm V → Context → Type 0
 RunsToOne {V = V} see outcome s context =
-    (a : Answer V) (v : V) → RunRan V outcome (beginning context) a
-    → RecordValue (product_roles (record_shape s)) (product_reading (record_shape s)).value context v
+    (a : RunAnswer V) (v : V) → RunRan V outcome (beginning context) a
+    → RecordValue (product_roles (flat_record s)) (product_reading (flat_record s)).value context v
     → LooksLike see v a

@@ -20,9 +20,9 @@ abbrev pub Roles : Type 0
 Roles = Arg → Role
 
 -- an item by itself, or a key and its value
-pub data Piece : Type 0 where
-  One : Arg → Piece
-  Two : Arg → Arg → Piece
+pub data LinePiece : Type 0 where
+  One : Arg → LinePiece
+  Two : Arg → Arg → LinePiece
 
 -- a key may take it as its value
 abbrev pub is_value : Arg → Bool
@@ -43,17 +43,17 @@ is_own_role Alone = true
 is_own_role WithNext = true
 
 -- a piece that begins with an item of the field's own
-abbrev pub is_own : Roles → Piece → Bool
+abbrev pub is_own : Roles → LinePiece → Bool
 is_own r (One k) = is_own_role (r k)
 is_own r (Two k w) = is_own_role (r k)
 
 -- the pieces of a field's own
-abbrev pub mine : Roles → List Piece → List Piece
+abbrev pub mine : Roles → List LinePiece → List LinePiece
 mine r [] = []
 mine r (o ∷ os) = if is_own r o then (o ∷ mine r os) else mine r os
 
 -- those of others
-abbrev pub others : Roles → List Piece → List Piece
+abbrev pub others : Roles → List LinePiece → List LinePiece
 others r [] = []
 others r (o ∷ os) = if is_own r o then others r os else (o ∷ others r os)
 
@@ -86,46 +86,46 @@ pub record Apart (q r : Roles) : Type 0 where
 
 -- the line cut from front to back into pieces: the key of a flag; the key of an argument with the
 -- next item, which is a Word or ArgWord; a Word or PosWord by itself; the marker is passed by
-pub data Cut (r : Roles) : Cells → List Piece → Type 0 where
+pub data Cut (r : Roles) : Cells → List LinePiece → Type 0 where
   at_end : Cut r [] []
-  passed : {cs : Cells} {os : List Piece} → Cut r cs os → Cut r (None ∷ cs) os
-  flag : {k : Arg} {cs : Cells} {os : List Piece} → r k ≡ Alone → Cut r cs os
+  passed : {cs : Cells} {os : List LinePiece} → Cut r cs os → Cut r (None ∷ cs) os
+  flag : {k : Arg} {cs : Cells} {os : List LinePiece} → r k ≡ Alone → Cut r cs os
       → Cut r (Some k ∷ cs) (One k ∷ os)
-  argument : {k w : Arg} {cs : Cells} {os : List Piece} → r k ≡ WithNext → is_value w ≡ true
+  argument : {k w : Arg} {cs : Cells} {os : List LinePiece} → r k ≡ WithNext → is_value w ≡ true
       → Cut r cs os
       → Cut r (Some k ∷ (Some w ∷ cs)) (Two k w ∷ os)
-  word : {w : Arg} {cs : Cells} {os : List Piece} → is_positional w ≡ true → Cut r cs os
+  word : {w : Arg} {cs : Cells} {os : List LinePiece} → is_positional w ≡ true → Cut r cs os
       → Cut r (Some w ∷ cs) (One w ∷ os)
 
 -- what an own key makes with the place after it: a piece of two where a value is present there
-abbrev pub with_next : Arg → Cells → Piece
+abbrev pub with_next : Arg → Cells → LinePiece
 with_next k [] = One k
 with_next k (None ∷ cs) = One k
 with_next k (Some w ∷ cs) = if is_value w then Two k w else One k
 
 -- the pieces from an item on, where those behind it are known
-abbrev pub begin_piece : Role → Arg → Cells → List Piece → List Piece
+abbrev pub begin_piece : Role → Arg → Cells → List LinePiece → List LinePiece
 begin_piece Foreign k cs os = os
 begin_piece Alone k cs os = One k ∷ os
 begin_piece WithNext k cs os = with_next k cs ∷ os
 
 -- a field's own keys or words that are present, in line order, each with its value where one is
 -- present
-abbrev pub pieces : Roles → Cells → List Piece
+abbrev pub pieces : Roles → Cells → List LinePiece
 pieces r [] = []
 pieces r (None ∷ cs) = pieces r cs
 pieces r (Some k ∷ cs) = begin_piece (r k) k cs (pieces r cs)
 
 -- one piece of a field's own taken
-pub data Takes (r : Roles) : Cells → Piece → Cells → Type 0 where
-  takes_one : {k : Arg} {cs : Cells} → r k ≡ Alone → Takes r (Some k ∷ cs) (One k) (None ∷ cs)
+pub data TakesPiece (r : Roles) : Cells → LinePiece → Cells → Type 0 where
+  takes_one : {k : Arg} {cs : Cells} → r k ≡ Alone → TakesPiece r (Some k ∷ cs) (One k) (None ∷ cs)
   takes_two : {k w : Arg} {cs : Cells} → r k ≡ WithNext → is_value w ≡ true
-      → Takes r (Some k ∷ (Some w ∷ cs)) (Two k w) (None ∷ (None ∷ cs))
-  takes_later : {c : Option Arg} {cs ds : Cells} {o : Piece} → Takes r cs o ds
-      → Takes r (c ∷ cs) o (c ∷ ds)
+      → TakesPiece r (Some k ∷ (Some w ∷ cs)) (Two k w) (None ∷ (None ∷ cs))
+  takes_later : {c : Option Arg} {cs ds : Cells} {o : LinePiece} → TakesPiece r cs o ds
+      → TakesPiece r (c ∷ cs) o (c ∷ ds)
 
 -- some pieces of a field's own taken, in any order
-pub data TakesSome (r : Roles) : Cells → Cells → Type 0 where
-  takes_none : {cs : Cells} → TakesSome r cs cs
-  takes_more : {cs ds es : Cells} {o : Piece} → Takes r cs o ds → TakesSome r ds es
-      → TakesSome r cs es
+pub data TakesPieces (r : Roles) : Cells → Cells → Type 0 where
+  takes_none : {cs : Cells} → TakesPieces r cs cs
+  takes_more : {cs ds es : Cells} {o : LinePiece} → TakesPiece r cs o ds → TakesPieces r ds es
+      → TakesPieces r cs es

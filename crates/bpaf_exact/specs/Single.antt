@@ -5,37 +5,39 @@ use Rattle.std.specs.Prelude.{None, Result, Ok, Err}
 use Rattle.bpaf_line.specs.declared.error.Error.{Error}
 use Rattle.bpaf_line.specs.Situation.{Situation, open_count}
 use Rattle.bpaf_laws.specs.Reading.{Outcome}
-use Rattle.bpaf_exact.specs.Pieces.{Cells, Roles, Piece, pieces, Takes, TakesSome}
+use Rattle.bpaf_exact.specs.Pieces.{Cells, Roles, LinePiece, pieces, TakesPiece, TakesPieces}
 use Rattle.bpaf_exact.specs.Flat.{OfMemory, OfMissing, Caught, Refused, class, cells, IsWhole}
-use Rattle.bpaf_exact.specs.Flat.{Steady, Kind, Named, OneWord, EachWord, front, back, OwnItems}
+use Rattle.bpaf_exact.specs.Flat.{Steady, FieldKind, ByName, OneWord, EachWord, front, back}
+use Rattle.bpaf_exact.specs.Flat.{OwnItems}
 
 -- how one evaluation reads a value off the front of the own pieces, and which it leaves
 abbrev pub Groups : Type 0 → Type 1
-Groups T = List Piece → T → List Piece → Type 0
+Groups T = List LinePiece → T → List LinePiece → Type 0
 
 -- the first piece alone, where each piece has its value by itself
-pub record FrontOf (T : Type 0) (value : Piece → T → Type 0) (os : List Piece) (v : T)
-    (rest : List Piece) : Type 0 where
-  pub piece : Piece
+pub record FrontOf (T : Type 0) (value : LinePiece → T → Type 0) (os : List LinePiece) (v : T)
+    (rest : List LinePiece) : Type 0 where
+  pub piece : LinePiece
   pub is : os ≡ piece ∷ rest
   pub means : value piece v
 
 -- the values read off the pieces, one after the other
-pub data Own (T : Type 0) (group : Groups T) : List Piece → List T → Type 0 where
+pub data Own (T : Type 0) (group : Groups T) : List LinePiece → List T → Type 0 where
   own_none : Own T group [] []
-  own_more : {os rest : List Piece} {v : T} {vs : List T} → group os v rest → Own T group rest vs
+  own_more : {os rest : List LinePiece} {v : T} {vs : List T} → group os v rest
+      → Own T group rest vs
       → Own T group os (v ∷ vs)
 
 -- at least one piece taken
 pub record TakesAny (q : Roles) (cs ds : Cells) : Type 0 where
-  pub piece : Piece
+  pub piece : LinePiece
   pub middle : Cells
-  pub one : Takes q cs piece middle
-  pub more : TakesSome q middle ds
+  pub one : TakesPiece q cs piece middle
+  pub more : TakesPieces q middle ds
 
 -- the pieces can all be read; of a positional field those after the first need not be
-abbrev pub Readable : {T : Type 0} → Kind → Groups T → List Piece → Type 0
-Readable {T = T} Named group os = (vs : List T) × Own T group os vs
+abbrev pub Readable : {T : Type 0} → FieldKind → Groups T → List LinePiece → Type 0
+Readable {T = T} ByName group os = (vs : List T) × Own T group os vs
 Readable OneWord group os = Unit {0}
 Readable EachWord group os = Unit {0}
 
@@ -45,7 +47,7 @@ pub record Gap (T : Type 0) : Type 1 where
   pub absent : T → Type 0
 
 -- a value of one evaluation
-pub data SingleOk (T : Type 0) (k : Kind) (q : Roles) (group : Groups T) (gap : Gap T)
+pub data SingleOk (T : Type 0) (k : FieldKind) (q : Roles) (group : Groups T) (gap : Gap T)
     (s : Situation) (v : T) (t : Situation) : Type 0 where
   -- no piece: the absent value, and nothing is taken
   gave_absent : gap.has ≡ true → pieces q (cells s) ≡ [] → gap.absent v → cells t ≡ cells s
@@ -54,12 +56,12 @@ pub data SingleOk (T : Type 0) (k : Kind) (q : Roles) (group : Groups T) (gap : 
   took : Steady s t → TakesAny q (cells s) (cells t)
       → (pieces q (cells s) ≡ [] → ⊥)
       → (Readable k group (pieces q (cells t)) → group (pieces q (cells s)) v (pieces q (cells t)))
-      → ((w : T) (rest : List Piece) → group (pieces q (cells s)) w rest
+      → ((w : T) (rest : List LinePiece) → group (pieces q (cells s)) w rest
       → group (pieces q (cells s)) v rest × (pieces q (cells t) ≡ rest))
       → SingleOk T k q group gap s v t
 
 -- a refusal of one evaluation
-pub data SingleErr (T : Type 0) (k : Kind) (q : Roles) (group : Groups T) (gap : Gap T)
+pub data SingleErr (T : Type 0) (k : FieldKind) (q : Roles) (group : Groups T) (gap : Gap T)
     (s : Situation) (e : Error) (t : Situation) : Type 0 where
   of_memory : class e ≡ OfMemory → SingleErr T k q group gap s e t
   -- no piece, and no value for that
@@ -70,28 +72,29 @@ pub data SingleErr (T : Type 0) (k : Kind) (q : Roles) (group : Groups T) (gap :
       → ((v : T) → gap.absent v → ⊥) → SingleErr T k q group gap s e t
   -- a piece that can't be read
   of_piece : class e ≡ Refused → (pieces q (cells s) ≡ [] → ⊥)
-      → ((w : T) (rest : List Piece) → group (pieces q (cells s)) w rest → ⊥)
+      → ((w : T) (rest : List LinePiece) → group (pieces q (cells s)) w rest → ⊥)
       → SingleErr T k q group gap s e t
 
 -- a positional field without a repeat reads its first word alone
 pub record WordByWord (T : Type 0) (group : Groups T) : Type 0 where
-  pub by_front : (os : List Piece) (v : T) (rest : List Piece) → group os v rest
+  pub by_front : (os : List LinePiece) (v : T) (rest : List LinePiece) → group os v rest
       → group (front OneWord os) v [] × (rest ≡ back OneWord os)
-  pub of_front : (os : List Piece) (v : T) → group (front OneWord os) v []
+  pub of_front : (os : List LinePiece) (v : T) → group (front OneWord os) v []
       → group os v (back OneWord os)
 
 -- how a field of a kind reads words
-abbrev pub ReadsWords : {T : Type 0} → Kind → Groups T → Type 0
-ReadsWords Named group = Unit {0}
+abbrev pub ReadsWords : {T : Type 0} → FieldKind → Groups T → Type 0
+ReadsWords ByName group = Unit {0}
 ReadsWords {T = T} OneWord group = WordByWord T group
 ReadsWords EachWord group = ⊥
 
 -- the laws of a field without a repeat or default
-pub record SingleLaw (T : Type 0) (outcome : Outcome T) (k : Kind) (q : Roles) (group : Groups T)
+pub record SingleLaw (T : Type 0) (outcome : Outcome T)
+    (k : FieldKind) (q : Roles) (group : Groups T)
     (gap : Gap T) : Type 0 where
   pub own : OwnItems k q
   pub words : ReadsWords k group
-  pub starts : (v : T) (rest : List Piece) → group [] v rest → ⊥
+  pub starts : (v : T) (rest : List LinePiece) → group [] v rest → ⊥
   pub no_absent : (v : T) → gap.has ≡ false → gap.absent v → ⊥
   pub ok : (s t : Situation) (v : T) → IsWhole s → outcome s (Ok v) t
       → SingleOk T k q group gap s v t
@@ -100,25 +103,27 @@ pub record SingleLaw (T : Type 0) (outcome : Outcome T) (k : Kind) (q : Roles) (
 
 -- The own list under a repeat; the absent value must be there also where it isn't used: the repeat
 -- asks once more.
-pub data OwnList (T : Type 0) (group : Groups T) (gap : Gap T) : List Piece → List T → Type 0 where
-  listed : {os : List Piece} {vs : List T} → gap.has ≡ false → Own T group os vs
+pub data OwnList (T : Type 0) (group : Groups T) (gap : Gap T) : List LinePiece → List T
+    → Type 0 where
+  listed : {os : List LinePiece} {vs : List T} → gap.has ≡ false → Own T group os vs
       → OwnList T group gap os vs
-  listed_and_absent : {os : List Piece} {v a : T} {vs : List T} → gap.has ≡ true → gap.absent a
+  listed_and_absent : {os : List LinePiece} {v a : T} {vs : List T} → gap.has ≡ true → gap.absent a
       → Own T group os (v ∷ vs) → OwnList T group gap os (v ∷ vs)
   only_absent : {a : T} → gap.has ≡ true → gap.absent a → OwnList T group gap [] (a ∷ [])
 
 -- the value of a field without a repeat or default
-pub data SingleValue (T : Type 0) (group : Groups T) (gap : Gap T) : List Piece → T → Type 0 where
-  of_group : {os : List Piece} {v : T} → group os v [] → SingleValue T group gap os v
+pub data SingleValue (T : Type 0) (group : Groups T) (gap : Gap T) : List LinePiece → T
+    → Type 0 where
+  of_group : {os : List LinePiece} {v : T} → group os v [] → SingleValue T group gap os v
   of_gap : {v : T} → gap.absent v → SingleValue T group gap [] v
 
 -- with a repeat a positional field gets all words
-abbrev pub repeated : Kind → Kind
-repeated Named = Named
+abbrev pub repeated : FieldKind → FieldKind
+repeated ByName = ByName
 repeated OneWord = EachWord
 repeated EachWord = EachWord
 
--- after an error a step stops where nothing was found, or the error can be caught otherwise
+-- after an error a turn stops where nothing was found, or the error can be caught otherwise
 pub data Stops (e : Error) (s m : Situation) : Type 0 where
   nothing_found : class e ≡ OfMissing → open_count m ≡ open_count s → Stops e s m
   caught : class e ≡ Caught → Stops e s m
@@ -128,28 +133,28 @@ abbrev pub IsFewer : Situation → Option ℕ → Type 0
 IsFewer m None = Unit {0}
 IsFewer m (Some n) = open_count m < n
 
--- the steps of a repeat; idle says that it stops also after a value that took nothing.
-pub data StepsRan (T : Type 0) (inner : Outcome T) (idle : Bool) : Option ℕ → Situation
+-- the turns of a repeat; idle says that it stops also after a value that took nothing.
+pub data TurnsEval (T : Type 0) (inner : Outcome T) (idle : Bool) : Option ℕ → Situation
     → Result (List T) Error → Situation → Type 0 where
   step : {last : Option ℕ} {s m t : Situation} {v : T} {vs : List T} → inner s (Ok v) m
       → IsFewer m last
-      → StepsRan T inner idle (Some (open_count m)) m (Ok vs) t
-      → StepsRan T inner idle last s (Ok (v ∷ vs)) t
+      → TurnsEval T inner idle (Some (open_count m)) m (Ok vs) t
+      → TurnsEval T inner idle last s (Ok (v ∷ vs)) t
   step_failed : {last : Option ℕ} {s m t : Situation} {v : T} {e : Error} → inner s (Ok v) m
       → IsFewer m last
-      → StepsRan T inner idle (Some (open_count m)) m (Err e) t
-      → StepsRan T inner idle last s (Err e) t
+      → TurnsEval T inner idle (Some (open_count m)) m (Err e) t
+      → TurnsEval T inner idle last s (Err e) t
   idle_step : {last : Option ℕ} {s t : Situation} {v : T} → idle ≡ true → inner s (Ok v) t
       → IsFewer t last → open_count s ≤ open_count t
-      → StepsRan T inner idle last s (Ok (v ∷ [])) t
+      → TurnsEval T inner idle last s (Ok (v ∷ [])) t
   enough : {last : Option ℕ} {s t : Situation} {v : T} → inner s (Ok v) t → (IsFewer t last → ⊥)
-      → StepsRan T inner idle last s (Ok []) t
+      → TurnsEval T inner idle last s (Ok []) t
   stopped : {last : Option ℕ} {s m : Situation} {e : Error} → inner s (Err e) m → Stops e s m
-      → StepsRan T inner idle last s (Ok []) s
+      → TurnsEval T inner idle last s (Ok []) s
   failed : {last : Option ℕ} {s t : Situation} {e : Error} → inner s (Err e) t → (Stops e s t → ⊥)
-      → StepsRan T inner idle last s (Err e) t
+      → TurnsEval T inner idle last s (Err e) t
   no_room : {last : Option ℕ} {s t : Situation} {e : Error} → class e ≡ OfMemory
-      → StepsRan T inner idle last s (Err e) t
+      → TurnsEval T inner idle last s (Err e) t
 
 -- the number of places where an item is present
 abbrev pub present_count : Cells → ℕ

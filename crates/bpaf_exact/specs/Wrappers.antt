@@ -3,7 +3,7 @@ use Rattle.std.specs.Prelude.{◌≡◌, Bool, true, false, List, [], Option, So
 use Rattle.bpaf_line.specs.declared.error.Error.{Error}
 use Rattle.bpaf_line.specs.Situation.{Situation}
 use Rattle.bpaf_laws.specs.Reading.{Outcome}
-use Rattle.bpaf_exact.specs.Pieces.{Piece}
+use Rattle.bpaf_exact.specs.Pieces.{LinePiece}
 use Rattle.bpaf_exact.specs.Flat.{ErrorClass, OfMemory, OfMissing, Caught, class}
 use Rattle.bpaf_exact.specs.Single.{Groups, Gap, SingleValue, Stops}
 
@@ -43,38 +43,40 @@ abbrev pub AgreesOn : {A B : Type 0} → (A → Type 0) → Closure A B → Type
 AgreesOn {A = A} {B = B} value f = (x y : A) (v : B) → value x → value y → f.yes x v → f.no y → ⊥
 
 -- a closure on what a parser answered; a no is an error of the class c
-pub data ClosedRan (A B : Type 0) (inner : Outcome A) (f : Closure A B) (c : ErrorClass)
+pub data ClosedEval (A B : Type 0) (inner : Outcome A) (f : Closure A B) (c : ErrorClass)
     (s : Situation) : Result B Error → Situation → Type 0 where
   closed_yes : {x : A} {v : B} {t : Situation} → inner s (Ok x) t → f.yes x v
-      → ClosedRan A B inner f c s (Ok v) t
+      → ClosedEval A B inner f c s (Ok v) t
   closed_no : {x : A} {e : Error} {t : Situation} → inner s (Ok x) t → f.no x → class e ≡ c
-      → ClosedRan A B inner f c s (Err e) t
+      → ClosedEval A B inner f c s (Err e) t
   closed_memory : {x : A} {e : Error} {t : Situation} → inner s (Ok x) t → class e ≡ OfMemory
-      → ClosedRan A B inner f c s (Err e) t
-  closed_err : {e : Error} {t : Situation} → inner s (Err e) t → ClosedRan A B inner f c s (Err e) t
+      → ClosedEval A B inner f c s (Err e) t
+  closed_err : {e : Error} {t : Situation} → inner s (Err e) t → ClosedEval A B inner f c s
+      (Err e) t
 
 -- a closure's answer on a value
-pub record ClosedValue (A B : Type 0) (value : List Piece → A → Type 0) (f : Closure A B)
-    (os : List Piece) (v : B) : Type 0 where
+pub record ClosedValue (A B : Type 0) (value : List LinePiece → A → Type 0) (f : Closure A B)
+    (os : List LinePiece) (v : B) : Type 0 where
   pub from : A
   pub read : value os from
   pub made : f.yes from v
 
 -- what may be left out
-pub data OptionalRan (T : Type 0) (inner : Outcome T) (s : Situation) : Result (Option T) Error
+pub data OptionalEval (T : Type 0) (inner : Outcome T) (s : Situation) : Result (Option T) Error
     → Situation → Type 0 where
-  optional_some : {v : T} {t : Situation} → inner s (Ok v) t → OptionalRan T inner s (Ok (Some v)) t
+  optional_some : {v : T} {t : Situation} → inner s (Ok v) t → OptionalEval T inner s
+      (Ok (Some v)) t
   optional_none : {e : Error} {m : Situation} → inner s (Err e) m → Stops e s m
-      → OptionalRan T inner s (Ok None) s
+      → OptionalEval T inner s (Ok None) s
   optional_err : {e : Error} {t : Situation} → inner s (Err e) t → (Stops e s t → ⊥)
-      → OptionalRan T inner s (Err e) t
+      → OptionalEval T inner s (Err e) t
   optional_memory : {e : Error} {t : Situation} → class e ≡ OfMemory
-      → OptionalRan T inner s (Err e) t
+      → OptionalEval T inner s (Err e) t
 
 -- its value
-pub data OptionalValue (T : Type 0) (group : Groups T) (gap : Gap T) : List Piece → Option T
+pub data OptionalValue (T : Type 0) (group : Groups T) (gap : Gap T) : List LinePiece → Option T
     → Type 0 where
-  some_value : {os : List Piece} {v : T} → SingleValue T group gap os v
+  some_value : {os : List LinePiece} {v : T} → SingleValue T group gap os v
       → OptionalValue T group gap os (Some v)
   no_value : gap.has ≡ false → OptionalValue T group gap [] None
 
@@ -88,27 +90,28 @@ abbrev pub kept_closure : {T : Type 0} → (T → Type 0) → Closure (Unit {0})
 kept_closure clones = record { yes = λ u v. clones v; no = λ u. ⊥ }
 
 -- yes: what the fallback may give; no: that it may refuse, which is a fault of its own
-pub data FallbackRan (T : Type 0) (inner : Outcome T) (f : Closure (Unit {0}) T)
+pub data FallbackEval (T : Type 0) (inner : Outcome T) (f : Closure (Unit {0}) T)
     (s : Situation) : Result T Error → Situation → Type 0 where
-  fallback_ok : {v : T} {t : Situation} → inner s (Ok v) t → FallbackRan T inner f s (Ok v) t
+  fallback_ok : {v : T} {t : Situation} → inner s (Ok v) t → FallbackEval T inner f s (Ok v) t
   fallback_given : {v : T} {e : Error} {m : Situation} → inner s (Err e) m → CanCatch e → f.yes tt v
-      → FallbackRan T inner f s (Ok v) s
+      → FallbackEval T inner f s (Ok v) s
   fallback_no : {e g : Error} {m : Situation} → inner s (Err e) m → CanCatch e → f.no tt
-      → class g ≡ Caught → FallbackRan T inner f s (Err g) s
-  fallback_memory : {e : Error} → class e ≡ OfMemory → FallbackRan T inner f s (Err e) s
+      → class g ≡ Caught → FallbackEval T inner f s (Err g) s
+  fallback_memory : {e : Error} → class e ≡ OfMemory → FallbackEval T inner f s (Err e) s
   fallback_err : {e : Error} {m : Situation} → inner s (Err e) m → (CanCatch e → ⊥)
-      → FallbackRan T inner f s (Err e) s
+      → FallbackEval T inner f s (Err e) s
 
 -- the value of a field with a default
 pub data FallbackValue (T : Type 0) (group : Groups T) (gap : Gap T)
-    (f : Closure (Unit {0}) T) : List Piece → T → Type 0 where
-  own_value : {os : List Piece} {v : T} → SingleValue T group gap os v
+    (f : Closure (Unit {0}) T) : List LinePiece → T → Type 0 where
+  own_value : {os : List LinePiece} {v : T} → SingleValue T group gap os v
       → FallbackValue T group gap f os v
   kept_value : {v : T} → gap.has ≡ false → f.yes tt v → FallbackValue T group gap f [] v
 
 -- the same round a field without a repeat or default
-pub record ClosedGroup (A B : Type 0) (group : Groups A) (f : Closure A B) (os : List Piece) (v : B)
-    (rest : List Piece) : Type 0 where
+pub record ClosedGroup (A B : Type 0) (group : Groups A) (f : Closure A B) (os : List LinePiece)
+    (v : B)
+    (rest : List LinePiece) : Type 0 where
   pub from : A
   pub read : group os from rest
   pub made : f.yes from v
@@ -119,7 +122,8 @@ closed_gap {A = A} gap f =
     record { has = gap.has; absent = λ v. (x : A) × gap.absent x × f.yes x v }
 
 -- and round an alternative
-pub record ClosedPiece (A B : Type 0) (value : Piece → A → Type 0) (f : Closure A B) (o : Piece)
+pub record ClosedPiece (A B : Type 0) (value : LinePiece → A → Type 0) (f : Closure A B)
+    (o : LinePiece)
     (v : B) : Type 0 where
   pub from : A
   pub read : value o from

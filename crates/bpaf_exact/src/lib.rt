@@ -11,8 +11,8 @@
 //!   Single evaluations, which repeats and defaults build on, keep to `SingleLaw`
 //!   (specs/Single.antt), required flags, arguments and choices of them to `AlternativeLaw`
 //!   (specs/Alternative.antt).
-//! - What a parser is to a flat record is its `Shape`: how it reads its pieces. Each combinator is a
-//!   function on shapes; what isn't flat computes to `not_flat` (specs/Shape.antt, specs/Leaves.antt,
+//! - What a parser is to a flat record is its `FlatForm`: how it reads its pieces. Each combinator is a
+//!   function on forms; what isn't flat computes to `not_flat` (specs/FlatForm.antt, specs/Leaves.antt,
 //!   specs/Wrappers.antt, specs/Derived.antt). Keys are kept apart by their names (specs/Names.antt).
 //! - The value of a record on a line is read off the pieces of its cut (specs/Record.antt), and each
 //!   answer of a run is exact (specs/Theorem.antt).
@@ -26,6 +26,6 @@
 //!   (specs/OneView.antt, `record_looks_one` and `runs_to_one` of proofs/OneView.antt).
 //!
 //! Proofs that closures, repeats, choices and products keep to these laws by their tables stand in
-//! proofs/: proofs/Twins.antt and proofs/Shape.antt have one lemma for each type of parser,
+//! proofs/: proofs/Twins.antt and proofs/FlatForm.antt have one lemma for each type of parser,
 //! proofs/Exact.antt the theorem.
 #![tactic(auto)]

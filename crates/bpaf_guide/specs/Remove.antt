@@ -4,4 +4,4 @@ use Rattle.bpaf_doc.specs.Names.{Names}
 
 -- `-f` and `--force`
 abbrev pub force_names : Names
-force_names = record { shorts = 102 ∷ []; longs = codes "force" ∷ [] }
+force_names = record { shorts = codes "f"; longs = codes "force" ∷ [] }

@@ -9,7 +9,7 @@ use Rattle.bpaf_words.specs.declared.arg.Arg.{Arg}
 use Rattle.bpaf_words.specs.declared.arg.Arg.TheVariants.{Short, Long, ArgWord, Word, PosWord}
 use Rattle.bpaf_words.specs.Items.{word_text}
 use Rattle.bpaf_words.specs.Spelling.{Items, Spells}
-use Rattle.bpaf_words.specs.Line.{SpellAll, IsLine, unmarked, marked}
+use Rattle.bpaf_words.specs.Line.{SpellAll, IsLine, without_marker, with_marker}
 use Rattle.bpaf_line.specs.Constructing.{IsContext}
 use Rattle.bpaf_line.specs.Situation.{Context, item_in, is_marker}
 use Rattle.bpaf_laws.specs.Reading.{Share}
@@ -17,7 +17,7 @@ use Rattle.bpaf.specs.declared.leaves.positional.Position.TheVariants.{NonStrict
 use Rattle.bpaf.specs.Marker.{words_before}
 use Rattle.bpaf.specs.Positional.{PositionalReads}
 use Rattle.bpaf.proofs.Sides.{each_at, each_append, each_then, each_spelled}
-use Rattle.bpaf.proofs.Sides.{before_marked, before_unmarked}
+use Rattle.bpaf.proofs.Sides.{before_with_marker, before_without_marker}
 use Rattle.bpaf_words.specs.Arguments.{Given}
 use Rattle.bpaf_launch.specs.Dealing.{MeansText, String, program_known}
 
@@ -72,13 +72,13 @@ behind_among words (text ∷ after) = ((λ other is. cc), behind_among words aft
 -- the words of a line stand before the first `--`
 line_among : (words : List (List ℕ)) (line : List Arg) (marker : Option ℕ)
     → IsLine program_known words line marker → AllByRecursion (IsAmong (words_before words)) line
-line_among words line marker (unmarked items none spelled) =
-    subst (λ before. AllByRecursion (IsAmong before) items) (sym (before_unmarked words none))
+line_among words line marker (without_marker items none spelled) =
+    subst (λ before. AllByRecursion (IsAmong before) items) (sym (before_without_marker words none))
     (all_among words items spelled)
-line_among words line marker (marked before after items cut none spelled) =
+line_among words line marker (with_marker before after items cut none spelled) =
     subst (λ those. AllByRecursion (IsAmong those)
     (items ++ PosWord (codes "--") ∷ map PosWord after))
-    (sym (ap words_before cut ∙ before_marked before after none))
+    (sym (ap words_before cut ∙ before_with_marker before after none))
     (each_append (IsAmong before) items (PosWord (codes "--") ∷ map PosWord after)
     (all_among before items spelled) ((λ text is. cc), behind_among before after))
 

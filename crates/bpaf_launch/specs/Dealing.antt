@@ -18,7 +18,7 @@ use Rattle.bpaf_launch.specs.declared.options.Launch.{Launch}
 
 -- the names of the switch by which more is told
 abbrev pub verbose_names : Names
-verbose_names = record { shorts = 118 ∷ []; longs = codes "verbose" ∷ [] }
+verbose_names = record { shorts = codes "v"; longs = codes "verbose" ∷ [] }
 
 -- the names of the switch by which nothing is started
 abbrev pub dry_run_names : Names
@@ -26,7 +26,7 @@ dry_run_names = record { shorts = []; longs = codes "dry-run" ∷ [] }
 
 -- the known short names: those of the switch, of help and of version, all flags
 abbrev pub program_known : Known
-program_known = knowing (record { flags = 118 ∷ 104 ∷ 86 ∷ []; arguments = [] })
+program_known = knowing (record { flags = codes "vhV"; arguments = [] })
 
 -- what the program is given
 abbrev pub program_given : List (List ℕ) → Given

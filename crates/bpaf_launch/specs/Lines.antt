@@ -1,11 +1,12 @@
 -- What the program prints of a launch: a line for each part.
 use Rattle.std.specs.Prelude.{ℕ, Bool, List, [], ◌∷◌, ◌++◌, map, codes, string_bytes}
 use Rattle.std.specs.Prelude.{if◌then◌else◌}
+use Rattle.bpaf_doc.specs.Print.{line_break}
 use Rattle.bpaf_launch.specs.declared.options.Launch.{Launch}
 
 -- a text and the end of its line
 abbrev pub line : List ℕ → List ℕ
-line text = text ++ 10 ∷ []
+line text = text ++ line_break ∷ []
 
 -- how a truth value is printed
 abbrev pub truth : Bool → List ℕ

@@ -1,4 +1,4 @@
--- Behind the word of an adjacent command: what is read there is one run.
+-- Behind the word of an adjacent command: what is read there is one stretch.
 use Rattle.std.proofs.Common.{◌≡◌, ℕ, ◌+◌, ◌<◌, ◌≤◌, ◌==◌, true, ◌&&◌, ◌||◌, nat_le, nat_lt}
 use Rattle.std.proofs.Common.{ap, ◌∙◌, arith}
 use Rattle.std.proofs.lemmas.Bool.Decides.{nat_tests}
@@ -9,9 +9,9 @@ use Rattle.bpaf_laws.specs.AdjacentCommand.{AdjacentReads}
 use Rattle.bpaf_laws.specs.Command.{Called, IsOpenedAt, inside, opening_words}
 use Rattle.bpaf_laws.proofs.CommandLaws.{closes_inside, keeps_inside, word_is_open}
 use Rattle.bpaf_laws.proofs.Keeping.{keeps_scope, keeps_trans, newly_joins, newly_take}
-use Rattle.bpaf_laws.proofs.OneRun.{keeps_run, newly_run}
+use Rattle.bpaf_laws.proofs.OneStretch.{keeps_stretch, newly_stretch}
 
--- a place and the run behind it are one run
+-- a place and the stretch behind it are one stretch
 one_more : (p end q : ℕ) → p + 1 ≤ end
     → (q == p || (nat_le (p + 1) q && nat_lt q end)) ≡ (nat_le p q && nat_lt q end)
 one_more p end q ordered = grind (arith, nat_tests)
@@ -26,22 +26,22 @@ module _ (called : Called) (s : Situation) (p : ℕ) (at : IsOpenedAt (opening_w
     kept_inside : Keeps (inside called s p) t
     kept_inside =
         let m : Situation = inside called s p in
-        keeps_trans m (with_scope m (p + 1) end) t (keeps_run m (p + 1) end present) read.keeps
+        keeps_trans m (with_scope m (p + 1) end) t (keeps_stretch m (p + 1) end present) read.keeps
 
-    -- all that is newly taken is the word and the run behind it
-    one_run : (q : ℕ) → newly s t q ≡ (nat_le p q && nat_lt q end)
-    one_run q =
+    -- all that is newly taken is the word and the stretch behind it
+    one_stretch : (q : ℕ) → newly s t q ≡ (nat_le p q && nat_lt q end)
+    one_stretch q =
         let m : Situation = inside called s p in
         let word = newly_take s p (word_is_open (opening_words called) s p at) in
         let joins = newly_joins s m t (keeps_inside called s p at) kept_inside in
         joins.all q
         ∙ (ap (λ x. x || newly m t q) (word q)
         ∙ (ap (λ x. q == p || x)
-        (newly_run m (p + 1) end present t read.keeps read.closed none q)
+        (newly_stretch m (p + 1) end present t read.keeps read.closed none q)
         ∙ one_more p end q ordered))
 
-    -- what is read over a run of present places behind the word is a reading, with the scope from
-    -- the word on
+    -- what is read over a stretch of present places behind the word is a reading, with the scope
+    -- from the word on
     pub adjacent_read : Reads T (AdjacentReads T (opening_words called) reads) s v
         (with_scope t p s.end)
     adjacent_read =
@@ -62,6 +62,6 @@ module _ (called : Called) (s : Situation) (p : ℕ) (at : IsOpenedAt (opening_w
               joins = newly_joins s m t entered kept_inside;
               read = read.reading;
             };
-            run = record { from = p; to = end; is = one_run };
+            stretch = record { from = p; to = end; is = one_stretch };
           };
         }

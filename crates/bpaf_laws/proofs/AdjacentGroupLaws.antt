@@ -9,11 +9,11 @@ use Rattle.bpaf_line.proofs.Places.{open_in_scope, open_not_taken}
 use Rattle.bpaf_laws.specs.Reading.{Readings, Outcome, Share, IsEmptyShare, HasPlace}
 use Rattle.bpaf_laws.specs.Laws.{Keeps, Reads, Lawful, newly}
 use Rattle.bpaf_laws.specs.Spared.{IsNotMemory, Spares}
-use Rattle.bpaf_laws.specs.OneRun.{IsRun}
+use Rattle.bpaf_laws.specs.OneStretch.{IsStretch}
 use Rattle.bpaf_laws.specs.AdjacentGroup.{GroupReads, Failure, longer, taken_by, Probe}
 use Rattle.bpaf_laws.specs.AdjacentGroup.{Narrowed, whole, again, Tries, answered, refused}
 use Rattle.bpaf_laws.specs.AdjacentGroup.{TriesAt, skipped, failed, found, no_memory}
-use Rattle.bpaf_laws.specs.AdjacentGroup.{Searches, over, on, value, wanted, GroupOutcome, EndsWith, width_of}
+use Rattle.bpaf_laws.specs.AdjacentGroup.{Searches, over, on, value, wanted, GroupOutcome, EndsWith, place_count}
 use Rattle.bpaf_laws.specs.Counting.{taken_count}
 use Rattle.bpaf_laws.proofs.Keeping.{keeps_of, keeps_refl, keeps_same, keeps_trans, keeps_scope}
 use Rattle.bpaf_laws.proofs.Sparing.{not_both}
@@ -58,7 +58,7 @@ keeps_open s a b all =
 -- each place up to the end of an attempt is present before it
 pub narrowed_open : {T : Type 0} (inner : Outcome T) (s : Situation) (a b : ℕ)
     → Narrowed T inner s a b → (a ≤ b) × AllOpen s a b
-narrowed_open inner s a b (whole stop run) = (run.ordered, run.present)
+narrowed_open inner s a b (whole stop stretch) = (stretch.ordered, stretch.present)
 narrowed_open inner s a b (again stop left v t before ran next) =
     let opened = narrowed_open inner s a stop before in
     let inside = open_in_scope (with_scope t a stop) left next.present in
@@ -81,7 +81,7 @@ module _ {T : Type 0} {inner : Outcome T} {reads : Readings T} (law : Lawful T i
   tries_keep a r t (refused stop e left narrowed ran) =
       attempt_keeps a stop (Err e) left narrowed ran
 
-  -- a value of theirs is read off one run
+  -- a value of theirs is read off one stretch
   tries_read : (a : ℕ) (v : T) (t : Situation) → Tries T inner s a (Ok v) t
       → Reads T (GroupReads T reads) s v t
   tries_read a v t (answered stop v' left narrowed ran none) =
@@ -92,7 +92,7 @@ module _ {T : Type 0} {inner : Outcome T} {reads : Readings T} (law : Lawful T i
         closed = λ p within outside. absurd (true≢false (sym within ∙ outside));
         reading = record {
           read = read.reading;
-          run = record {
+          stretch = record {
             from = a;
             to = stop;
             is = λ p.
@@ -164,9 +164,9 @@ module _ {T : Type 0} {inner : Outcome T} {reads : Readings T} (law : Lawful T i
       end_keeps first best' e t' before ends
   searches_good first from best r t before (on from' a best' after r' t' start tried rest) =
       searches_good first (a + 1) after r' t'
-      (tried_keeps a (a + width_of first) best' (Ok None) after s tried before) rest
+      (tried_keeps a (a + place_count first) best' (Ok None) after s tried before) rest
   searches_good first from best r t before (value from' a best' after v t' start tried) =
-      tried_reads a (a + width_of first) best' (Ok (Some v)) after t' tried
+      tried_reads a (a + place_count first) best' (Ok (Some v)) after t' tried
   searches_good first from best r t before (wanted from' best' e memory) = keeps_refl s
 
 -- adjacent groups keep to the laws
@@ -177,12 +177,12 @@ group_lawful first law = record {
   err = λ s t e o. searches_good law s first s.start None (Err e) t tt o;
 }
 
--- a value of theirs newly took one run
-pub group_takes_run : {T : Type 0} {inner : Outcome T} {reads : Readings T} (first : Part)
+-- a value of theirs newly took one stretch
+pub group_takes_stretch : {T : Type 0} {inner : Outcome T} {reads : Readings T} (first : Part)
     → Lawful T inner reads → (s : Situation) (r : Result T Error) (t : Situation)
-    → GroupOutcome T inner first s r t → IfOk r (λ _. IsRun (newly s t))
-group_takes_run first law s (Ok v) t o = ((group_lawful first law).ok s t v o).reading.run
-group_takes_run first law s (Err e) t o = tt
+    → GroupOutcome T inner first s r t → IfOk r (λ _. IsStretch (newly s t))
+group_takes_stretch first law s (Ok v) t o = ((group_lawful first law).ok s t v o).reading.stretch
+group_takes_stretch first law s (Err e) t o = tt
 
 module _ {T : Type 0} (inner without : Outcome T) (spares : Spares inner without) (s : Situation) where
   -- what ended an attempt with a value isn't want of memory
@@ -236,10 +236,10 @@ module _ {T : Type 0} (inner without : Outcome T) (spares : Spares inner without
       over from' best' e t' none ends
   spared_group first from best r t (on from' a best' after r' t' start tried rest) spared =
       on from' a best' after r' t' start
-      (tried_spared a (a + width_of first) best' (Ok None) after s tt tried)
+      (tried_spared a (a + place_count first) best' (Ok None) after s tt tried)
       (spared_group first (a + 1) after r' t' rest spared)
   spared_group first from best r t (value from' a best' after v t' start tried) spared =
       value from' a best' after v t' start
-      (tried_spared a (a + width_of first) best' (Ok (Some v)) after t' tt tried)
+      (tried_spared a (a + place_count first) best' (Ok (Some v)) after t' tt tried)
   spared_group first from best r t (wanted from' best' e memory) spared =
       absurd (not_both e.0 spared memory)

@@ -13,7 +13,7 @@ use Rattle.bpaf_laws.specs.Choice.{Winner, EqualDepths, Chosen, ChoiceOutcome, C
 no_value : {T : Type 0} (v : T) (e : Error) → ◌≡◌ {A = Result T Error} (Ok v) (Err e) → ⊥
 no_value v e same = cc
 
--- a reading stays one under conflict marks
+-- a reading stays one under conflict notes
 reads_conflicts : {T : Type 0} (reads : Readings T) (s m loser : Situation) (winner : ℕ) (v : T)
     (t : Situation) → ConflictsSaved m loser winner t → Reads T reads s v m → Reads T reads s v t
 reads_conflicts reads s m loser winner v t saved read = record {

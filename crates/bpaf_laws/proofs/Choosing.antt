@@ -5,7 +5,7 @@ use Rattle.bpaf_line.specs.Situation.{Situation, is_taken}
 use Rattle.bpaf_line.specs.declared.error.Error.{Error}
 use Rattle.bpaf_laws.specs.Reading.{Outcome}
 use Rattle.bpaf_laws.specs.Spared.{IsNotMemory, WithoutMemory}
-use Rattle.bpaf_laws.specs.Choice.{is_want, IsWant, ValueOfWinner, Chosen, BranchesRan, ChoiceOutcome, LeftmostWins}
+use Rattle.bpaf_laws.specs.Choice.{is_want, IsWant, ValueOfWinner, Chosen, BranchesEval, ChoiceOutcome, LeftmostWins}
 
 -- an answer that isn't want of memory
 spared_of : {T : Type 0} (r : Result T Error) → is_want r ≡ false → IsNotMemory r
@@ -16,7 +16,7 @@ spared_of (Err f) e = e
 branches_ran : {T : Type 0} (first second : Outcome T) (s : Situation) (a : Result T Error)
     (sa : Situation) (b : Result T Error) (sb : Situation) (r : Result T Error) (t : Situation)
     → first s a sa → second s b sb → is_want a ≡ false → is_want b ≡ false → Chosen s a sa b sb r t
-    → BranchesRan first second s r t
+    → BranchesEval first second s r t
 branches_ran first second s a sa b sb r t first_ran second_ran first_spared second_spared chosen =
     record {
       a = a;
@@ -44,8 +44,9 @@ ran_outcome first second s a sa b sb (Err e) t f g p q answer =
 
 module _ {T : Type 0} (first second : Outcome T) where
   -- branches that ran didn't want memory
-  ran_spared : (s : Situation) (r : Result T Error) (t : Situation) → BranchesRan first second s r t
-      → BranchesRan (WithoutMemory first) (WithoutMemory second) s r t
+  ran_spared : (s : Situation) (r : Result T Error) (t : Situation)
+      → BranchesEval first second s r t
+      → BranchesEval (WithoutMemory first) (WithoutMemory second) s r t
   ran_spared s r t o = record {
     a = o.a;
     sa = o.sa;

@@ -7,7 +7,7 @@ use Rattle.bpaf_line.specs.declared.error.Error.{Error}
 use Rattle.bpaf_line.specs.declared.error.Message.TheVariants.{Memory}
 use Rattle.bpaf_laws.specs.Reading.{Outcome}
 use Rattle.bpaf_laws.specs.Spared.{IsNotMemory, WithoutMemory}
-use Rattle.bpaf_laws.specs.Choice.{is_want, IsWant, Chosen, BranchesRan, ChoiceOutcome, ChoiceDescribes, either}
+use Rattle.bpaf_laws.specs.Choice.{is_want, IsWant, Chosen, BranchesEval, ChoiceOutcome, ChoiceDescribes, either_shape}
 use Rattle.bpaf_laws.proofs.Choosing.{ran_outcome, choice_spared}
 use Rattle.bpaf_laws.specs.Choices.{Nested, ChoicesOutcome}
 
@@ -56,7 +56,7 @@ want_of (Err e) refused = ap is_memory refused
 -- one more parser is shown
 pub one_more_shown : {P : Type 0} (describes : P → Shape → Type 0) (before : Shape → Type 0)
     (ps : List P) (p : P) (a b shape : Shape)
-    → Nested ChoiceDescribes describes before ps a → describes p b → shape ≡ either a b
+    → Nested ChoiceDescribes describes before ps a → describes p b → shape ≡ either_shape a b
     → Nested ChoiceDescribes describes before (ps ++ p ∷ []) shape
 one_more_shown describes before ps p a b shape first last is =
     subst (λ shows. shows shape) (sym (nested_more ChoiceDescribes describes before ps p))
@@ -65,8 +65,8 @@ one_more_shown describes before ps p a b shape first last is =
 module _ {T : Type 0} (before less second : Outcome T)
     (within : (s t : Situation) (r : Result T Error) → before s r t → less s r t) where
   -- fewer answers before give fewer runs of two branches
-  abbrev pub ran_fewer : (s t : Situation) (r : Result T Error) → BranchesRan before second s r t
-      → BranchesRan less second s r t
+  abbrev pub ran_fewer : (s t : Situation) (r : Result T Error) → BranchesEval before second s r t
+      → BranchesEval less second s r t
   ran_fewer s t r o = record {
     a = o.a;
     sa = o.sa;

@@ -7,13 +7,13 @@ use Rattle.bpaf_line.specs.declared.error.Error.{Error}
 use Rattle.bpaf_laws.specs.Reading.{Readings, Outcome}
 use Rattle.bpaf_laws.specs.Laws.{Keeps, Reads, Lawful}
 use Rattle.bpaf_laws.proofs.Keeping.{keeps_same, reads_same, newly_none}
-use Rattle.bpaf_laws.specs.Step.{StepOutcome}
+use Rattle.bpaf_laws.specs.Turn.{TurnOutcome}
 use Rattle.bpaf_laws.specs.Default.{Gives, OptionalReads, FallbackReads, FallbackOutcome}
 
 module _ {T : Type 0} {inner : Outcome T} {reads : Readings T} (law : Lawful T inner reads) where
   -- what an optional value answers is a reading
   optional_read : (catches : Bool) (s t : Situation) (v : Option T)
-      → StepOutcome inner catches true s (Ok v) t → Reads (Option T) (OptionalReads reads) s v t
+      → TurnOutcome inner catches true s (Ok v) t → Reads (Option T) (OptionalReads reads) s v t
   optional_read catches s t (Some v) o =
       let read = law.ok s t v o.0 in
       record { keeps = read.keeps; closed = read.closed; reading = read.reading }
@@ -23,15 +23,15 @@ module _ {T : Type 0} {inner : Outcome T} {reads : Readings T} (law : Lawful T i
       (λ stopped. reads_same (OptionalReads reads) s t None stopped.1 (newly_none s))
       o
 
-  -- what a step's error keeps
+  -- what a turn's error keeps
   pub step_refused : (catches first : Bool) (s t : Situation) (e : Error)
-      → StepOutcome inner catches first s (Err e) t → Keeps s t
+      → TurnOutcome inner catches first s (Err e) t → Keeps s t
   step_refused catches first s t e o =
       ⊎_elim (λ failed. law.err s t e failed.0) (λ memory. keeps_same s t memory.1) o
 
   -- optional values keep to the laws
   pub optional_lawful : (catches : Bool)
-      → Lawful (Option T) (StepOutcome inner catches true) (OptionalReads reads)
+      → Lawful (Option T) (TurnOutcome inner catches true) (OptionalReads reads)
   optional_lawful catches = record {
     ok = λ s t v o. optional_read catches s t v o;
     err = λ s t e o. step_refused catches true s t e o;

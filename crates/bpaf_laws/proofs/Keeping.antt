@@ -253,7 +253,7 @@ newly_take_both s p first second q =
 
 module _ (s m loser : Situation) (winner : ℕ) (t : Situation)
     (saved : ConflictsSaved m loser winner t) where
-  -- conflict marks leave the scope
+  -- conflict notes leave the scope
   scope_conflicts : (p : ℕ) → in_scope t p ≡ in_scope m p
   scope_conflicts p = rw (saved.start, saved.end) refl
 

@@ -7,7 +7,7 @@ use Rattle.bpaf_line.specs.Situation.{Situation, is_taken, open_count}
 use Rattle.bpaf_line.specs.declared.error.Error.{Error}
 use Rattle.bpaf_laws.specs.Reading.{Readings, Outcome}
 use Rattle.bpaf_laws.specs.Laws.{Lawful}
-use Rattle.bpaf_laws.specs.Step.{is_untouched}
+use Rattle.bpaf_laws.specs.Turn.{is_untouched}
 use Rattle.bpaf_laws.specs.Choice.{depth, Winner, EqualDepths, Chosen, IsChosen, TookAndIsChosen, ChoiceOutcome, LeftmostWins}
 use Rattle.bpaf_laws.proofs.CountingLaws.{same_took_none}
 use Rattle.std.proofs.Math.Bool.{and-eq-true_iff}

@@ -25,7 +25,7 @@ pub mod ChoicesLaws
 pub mod ChoosingAll
 pub mod LeftmostOfAll
 pub mod CommandLaws
-pub mod OneRun
+pub mod OneStretch
 pub mod AdjacentCommandLaws
 pub mod AppnameLaws
 pub mod Reading

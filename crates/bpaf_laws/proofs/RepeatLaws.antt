@@ -8,9 +8,9 @@ use Rattle.bpaf_laws.specs.Reading.{Readings, Outcome, IsEmptyShare}
 use Rattle.bpaf_laws.specs.Laws.{Keeps, Closes, Reads, Lawful, newly}
 use Rattle.bpaf_laws.proofs.Keeping.{keeps_refl, keeps_trans, closes_refl, closes_trans, newly_joins, newly_none}
 use Rattle.bpaf_laws.proofs.CountingLaws.{open_count-falls, fewer_took, same_took_none}
-use Rattle.bpaf_laws.specs.Step.{StepOutcome}
+use Rattle.bpaf_laws.specs.Turn.{TurnOutcome}
 use Rattle.bpaf_laws.proofs.DefaultLaws.{step_refused}
-use Rattle.bpaf_laws.specs.Repeat.{is_nil, Steps, UntilStop, UntilError, UntilRest, UntilFault, stops, rests, ListOutcome, EachReads, ListReads, ManyOutcome, ManyReads, SomeOutcome, SomeReads, CollectOutcome, CollectReads, CountOutcome, CountReads, LastOutcome, LastReads, EachTakes, LaterTake, IsBounded}
+use Rattle.bpaf_laws.specs.Repeat.{is_nil, Turns, UntilStop, UntilError, UntilRest, UntilFault, stops, rests, ListOutcome, EachReads, ListReads, ManyOutcome, ManyReads, SomeOutcome, SomeReads, CollectOutcome, CollectReads, CountOutcome, CountReads, LastOutcome, LastReads, EachTakes, LaterTake, IsBounded}
 
 -- what a stop leaves as it was: it takes nothing
 record TakesNothing (s t : Situation) : Type 0 where
@@ -24,26 +24,26 @@ nothing_taken s = record { keeps = keeps_refl s; closed = closes_refl s; none = 
 
 -- a value after the first took an item
 pub took_item : {T : Type 0} (inner : Outcome T) (catches : Bool) (s m : Situation) (v : T)
-    → StepOutcome inner catches false s (Ok (Some v)) m → open_count m < open_count s
+    → TurnOutcome inner catches false s (Ok (Some v)) m → open_count m < open_count s
 took_item inner catches s m v o =
     ⊎_elim (λ is_first. absurd (true≢false (sym is_first))) (λ fewer. fewer) o.1
 
--- steps of which each took an item are steps of a repeat
+-- turns of which each took an item are turns of a repeat
 pub any_first : {T : Type 0} (inner : Outcome T) (catches : Bool) (s : Situation) (vs : List T)
-    (t : Situation) → Steps inner catches false s vs t → Steps inner catches true s vs t
+    (t : Situation) → Turns inner catches false s vs t → Turns inner catches true s vs t
 any_first inner catches s [] t o = o
 any_first inner catches s (v ∷ vs) t o = (o.0, (o.1.0, inl refl), o.2)
 
--- one more step at the end
+-- one more turn at the end
 pub steps_more : {T : Type 0} (inner : Outcome T) (catches first : Bool) (s m : Situation)
     (vs : List T) (v : T) (t : Situation)
-    → Steps inner catches first s vs m
-    → StepOutcome inner catches (first && is_nil vs) m (Ok (Some v)) t
-    → Steps inner catches first s (vs ++ v ∷ []) t
+    → Turns inner catches first s vs m
+    → TurnOutcome inner catches (first && is_nil vs) m (Ok (Some v)) t
+    → Turns inner catches first s (vs ++ v ∷ []) t
 steps_more inner catches true s m [] v t o step =
-    (t, subst (λ w. StepOutcome inner catches true w (Ok (Some v)) t) (sym o) step, refl)
+    (t, subst (λ w. TurnOutcome inner catches true w (Ok (Some v)) t) (sym o) step, refl)
 steps_more inner catches false s m [] v t o step =
-    (t, subst (λ w. StepOutcome inner catches false w (Ok (Some v)) t) (sym o) step, refl)
+    (t, subst (λ w. TurnOutcome inner catches false w (Ok (Some v)) t) (sym o) step, refl)
 steps_more inner catches true s m (x ∷ vs) v t o step =
     (o.0, o.1, steps_more inner catches false o.0 m vs v t o.2 step)
 steps_more inner catches false s m (x ∷ vs) v t o step =
@@ -61,7 +61,7 @@ module _ {T : Type 0} {inner : Outcome T} {reads : Readings T} (law : Lawful T i
     (catches : Bool) where
   -- a stop takes nothing
   stop_takes_nothing : (first : Bool) (s t : Situation)
-      → StepOutcome inner catches first s (Ok None) t → TakesNothing s t
+      → TurnOutcome inner catches first s (Ok None) t → TakesNothing s t
   stop_takes_nothing first s t o =
       ⊎_elim
       (λ dropped.
@@ -74,15 +74,15 @@ module _ {T : Type 0} {inner : Outcome T} {reads : Readings T} (law : Lawful T i
       (λ stopped. subst (TakesNothing s) (sym stopped.1) (nothing_taken s))
       o
 
-  -- what steps keep
+  -- what turns keep
   steps_keep : (first : Bool) (s : Situation) (vs : List T) (t : Situation)
-      → Steps inner catches first s vs t → Keeps s t
+      → Turns inner catches first s vs t → Keeps s t
   steps_keep first s [] t o = subst (Keeps s) o (keeps_refl s)
   steps_keep first s (v ∷ vs) t o =
       keeps_trans s o.0 t (law.ok s o.0 v o.1.0).keeps (steps_keep false o.0 vs t o.2)
 
-  -- steps that each took an item, and then nothing, read each their own share
-  each_read : (s : Situation) (vs : List T) (m t : Situation) → Steps inner catches false s vs m
+  -- turns that each took an item, and then nothing, read each their own share
+  each_read : (s : Situation) (vs : List T) (m t : Situation) → Turns inner catches false s vs m
       → TakesNothing m t → Reads (List T) (EachReads reads) s vs t
   each_read s [] m t o nothing =
       subst (λ w. Reads (List T) (EachReads reads) w [] t) (sym o)
@@ -105,9 +105,9 @@ module _ {T : Type 0} {inner : Outcome T} {reads : Readings T} (law : Lawful T i
         );
       }
 
-  -- a value, and then steps that each took an item, and then nothing
+  -- a value, and then turns that each took an item, and then nothing
   first_read : (s n m t : Situation) (v : T) (vs : List T) → inner s (Ok v) n
-      → Steps inner catches false n vs m → TakesNothing m t
+      → Turns inner catches false n vs m → TakesNothing m t
       → Reads (List T) (ListReads reads) s (v ∷ vs) t
   first_read s n m t v vs o steps nothing =
       let here = law.ok s n v o in
@@ -125,7 +125,7 @@ module _ {T : Type 0} {inner : Outcome T} {reads : Readings T} (law : Lawful T i
         );
       }
 
-  -- steps until one stops read a list
+  -- turns until one stops read a list
   until_stop_reads : (s : Situation) (vs : List T) (t : Situation) → UntilStop inner catches s vs t
       → Reads (List T) (ListReads reads) s vs t
   until_stop_reads s [] t run =
@@ -136,7 +136,7 @@ module _ {T : Type 0} {inner : Outcome T} {reads : Readings T} (law : Lawful T i
       first_read s run.steps.0 run.last t v vs run.steps.1.0 run.steps.2
       (stop_takes_nothing false run.last t run.stop)
 
-  -- what steps until one fails keep
+  -- what turns until one fails keep
   until_error_keeps : (s : Situation) (e : Error) (t : Situation) → UntilError inner catches s e t
       → Keeps s t
   until_error_keeps s e t run =
@@ -182,7 +182,7 @@ module _ {T : Type 0} {inner : Outcome T} {reads : Readings T} (law : Lawful T i
 
   -- each value took an item, so there are no more values than items
   pub values_bounded : (s : Situation) (vs : List T) (t : Situation)
-      → Steps inner catches false s vs t → length vs + open_count t ≤ open_count s
+      → Turns inner catches false s vs t → length vs + open_count t ≤ open_count s
   values_bounded s [] t o = let same = ap open_count o in omega arith
   values_bounded s (v ∷ vs) t o =
       let fewer = took_item inner catches s o.0 v o.1 in
@@ -190,7 +190,7 @@ module _ {T : Type 0} {inner : Outcome T} {reads : Readings T} (law : Lawful T i
       omega arith
 
   -- the first value may have taken none
-  steps_bounded : (s : Situation) (vs : List T) (t : Situation) → Steps inner catches true s vs t
+  steps_bounded : (s : Situation) (vs : List T) (t : Situation) → Turns inner catches true s vs t
       → length vs ≤ open_count s + 1
   steps_bounded s [] t o = omega arith
   steps_bounded s (v ∷ vs) t o =
@@ -199,15 +199,15 @@ module _ {T : Type 0} {inner : Outcome T} {reads : Readings T} (law : Lawful T i
       let later = values_bounded o.0 vs t o.2 in
       omega arith
 
-  -- steps that each took an item
-  each_takes : (s : Situation) (vs : List T) (t : Situation) → Steps inner catches false s vs t
+  -- turns that each took an item
+  each_takes : (s : Situation) (vs : List T) (t : Situation) → Turns inner catches false s vs t
       → EachTakes inner s vs t
   each_takes s [] t o = o
   each_takes s (v ∷ vs) t o =
       (o.0, o.1.0, took_item inner catches s o.0 v o.1, each_takes o.0 vs t o.2)
 
   -- all but the first took an item
-  later_take : (s : Situation) (vs : List T) (t : Situation) → Steps inner catches true s vs t
+  later_take : (s : Situation) (vs : List T) (t : Situation) → Turns inner catches true s vs t
       → LaterTake inner s vs t
   later_take s [] t o = o
   later_take s (v ∷ vs) t o = (o.0, o.1.0, each_takes o.0 vs t o.2)
@@ -220,9 +220,9 @@ module _ {T : Type 0} {inner : Outcome T} {reads : Readings T} (law : Lawful T i
     (run.last, later_take s values run.last run.steps),
   )
 
-  -- a step that answers a value leaves fewer items present, or is the first
+  -- a turn that answers a value leaves fewer items present, or is the first
   pub step_falls : (first : Bool) (s : Situation) (v : T) (t : Situation)
-      → StepOutcome inner catches first s (Ok (Some v)) t
+      → TurnOutcome inner catches first s (Ok (Some v)) t
       → open_count t < open_count s + (if first then 1 else 0)
   step_falls true s v t o =
       let here = law.ok s t v o.0 in
@@ -236,7 +236,7 @@ module _ {T : Type 0} {inner : Outcome T} {reads : Readings T} (law : Lawful T i
       → Reads (List T) (ListReads reads) s (v ∷ []) t
   one_read s t v o = first_read law false s t t t v [] o refl (nothing_taken t)
 
-  -- steps until one stops, or one value that took nothing, read a list
+  -- turns until one stops, or one value that took nothing, read a list
   until_rest_reads : (s : Situation) (vs : List T) (t : Situation) → UntilRest inner s vs t
       → Reads (List T) (ListReads reads) s vs t
   until_rest_reads s vs t (stops m steps stop) =
@@ -245,7 +245,7 @@ module _ {T : Type 0} {inner : Outcome T} {reads : Readings T} (law : Lawful T i
   until_rest_reads s vs t (rests v is o same) =
       subst (λ values. Reads (List T) (ListReads reads) s values t) (sym is) (one_read s t v o)
 
-  -- what steps until one fails keep
+  -- what turns until one fails keep
   until_fault_keeps : (s : Situation) (e : Error) (t : Situation) → UntilFault inner s e t
       → Keeps s t
   until_fault_keeps s e t run =

@@ -5,14 +5,14 @@ use Rattle.bpaf_line.specs.Messages.{is_memory}
 use Rattle.bpaf_line.specs.Situation.{Situation}
 use Rattle.bpaf_line.specs.declared.error.Error.{Error}
 use Rattle.bpaf_laws.specs.Reading.{Outcome}
-use Rattle.bpaf_laws.specs.Repeat.{is_nil, Steps, UntilRest, UntilFault, stops, rests, ListOutcome, ManyOutcome, SomeOutcome, CollectOutcome, CountOutcome, LastOutcome}
+use Rattle.bpaf_laws.specs.Repeat.{is_nil, Turns, UntilRest, UntilFault, stops, rests, ListOutcome, ManyOutcome, SomeOutcome, CollectOutcome, CountOutcome, LastOutcome}
 use Rattle.bpaf_laws.specs.Spared.{WithoutMemory}
 use Rattle.bpaf_laws.proofs.Sparing.{CatchesNoMemory, spared_step, not_both}
 
 module _ {T : Type 0} (inner : Outcome T) where
-  -- steps that answered values are those of inner answers that aren't want of memory
+  -- turns that answered values are those of inner answers that aren't want of memory
   steps_spared : (catches first : Bool) (s : Situation) (vs : List T) (t : Situation)
-      → Steps inner catches first s vs t → Steps (WithoutMemory inner) catches first s vs t
+      → Turns inner catches first s vs t → Turns (WithoutMemory inner) catches first s vs t
   steps_spared catches first s [] t o = o
   steps_spared catches first s (v ∷ vs) t o =
       (o.0, ((o.1.0, tt), o.1.1), steps_spared catches false o.0 vs t o.2)

@@ -10,8 +10,8 @@ use Rattle.bpaf_line.specs.declared.error.Message.TheVariants.{Memory}
 use Rattle.bpaf_laws.specs.Reading.{Readings, Outcome}
 use Rattle.bpaf_laws.specs.Laws.{Lawful}
 use Rattle.bpaf_laws.proofs.CountingLaws.{open_count-falls}
-use Rattle.bpaf_laws.specs.Step.{StepOutcome}
-use Rattle.bpaf_laws.specs.Repeat.{is_nil, Steps, UntilRest, stops, rests, ManyOutcome, LastOutcome}
+use Rattle.bpaf_laws.specs.Turn.{TurnOutcome}
+use Rattle.bpaf_laws.specs.Repeat.{is_nil, Turns, UntilRest, stops, rests, ManyOutcome, LastOutcome}
 use Rattle.bpaf_laws.proofs.RepeatLaws.{took_item, steps_more, values_bounded, step_falls}
 
 -- a number above nothing isn't nothing
@@ -32,32 +32,32 @@ vec_nil values =
 pub count_nil : {T : Type 0} (n : ℕ) (xs : List T) → n ≡ length xs → (n == 0) ≡ is_nil xs
 count_nil n xs counted = ap (λ k. k == 0) counted ∙ length_nil xs
 
--- a step that answered a value, at the test for the first one
+-- a turn that answered a value, at the test for the first one
 step_at : {T : Type 0} (inner : Outcome T) (catches : Bool) (m : Situation) (vs : List T) (b : Bool)
     (o : Option T) (v : T) (t : Situation)
-    → b ≡ is_nil vs → StepOutcome inner catches b m (Ok o) t → o ≡ Some v
-    → StepOutcome inner catches (is_nil vs) m (Ok (Some v)) t
+    → b ≡ is_nil vs → TurnOutcome inner catches b m (Ok o) t → o ≡ Some v
+    → TurnOutcome inner catches (is_nil vs) m (Ok (Some v)) t
 step_at inner catches m vs b o v t nil step is =
-    subst (λ w. StepOutcome inner catches w m (Ok (Some v)) t) nil
-    (subst (λ w. StepOutcome inner catches b m (Ok w) t) is step)
+    subst (λ w. TurnOutcome inner catches w m (Ok (Some v)) t) nil
+    (subst (λ w. TurnOutcome inner catches b m (Ok w) t) is step)
 
--- the steps of an iteration that answered a value, and of those before it
+-- the turns of an iteration that answered a value, and of those before it
 pub steps_on : {T : Type 0} (inner : Outcome T) (catches : Bool) (s m : Situation) (vs : List T)
     (b : Bool) (o : Option T) (v : T) (t : Situation)
-    → Steps inner catches true s vs m → b ≡ is_nil vs → StepOutcome inner catches b m (Ok o) t
-    → o ≡ Some v → Steps inner catches true s (vs ++ v ∷ []) t
+    → Turns inner catches true s vs m → b ≡ is_nil vs → TurnOutcome inner catches b m (Ok o) t
+    → o ≡ Some v → Turns inner catches true s (vs ++ v ∷ []) t
 steps_on inner catches s m vs b o v t steps nil step is =
     steps_more inner catches true s m vs v t steps (step_at inner catches m vs b o v t nil step is)
 
--- that the run of steps ends
+-- that the run of turns ends
 pub steps_end : {T : Type 0} {inner : Outcome T} {reads : Readings T} → Lawful T inner reads
     → (catches : Bool) (m : Situation) (vs : List T) (b : Bool) (o : Option T) (v : T)
     (t : Situation)
-    → b ≡ is_nil vs → StepOutcome inner catches b m (Ok o) t → o ≡ Some v
+    → b ≡ is_nil vs → TurnOutcome inner catches b m (Ok o) t → o ≡ Some v
     → open_count t < open_count m + (if is_nil vs then 1 else 0)
 steps_end {inner = inner} law catches m vs b o v t nil step is =
     subst (λ w. open_count t < open_count m + (if w then 1 else 0)) nil
-    (step_falls law catches b m v t (subst (λ w. StepOutcome inner catches b m (Ok w) t) is step))
+    (step_falls law catches b m v t (subst (λ w. TurnOutcome inner catches b m (Ok w) t) is step))
 
 -- a list with one value more at its end isn't empty
 pub not_nil : {T : Type 0} (us vs : List T) (v : T) → us ≡ vs ++ v ∷ []
@@ -68,7 +68,7 @@ not_nil us (x ∷ vs) v e = rw e refl
 -- a value that couldn't be kept, for want of memory
 pub steps_refused : {T : Type 0} (inner : Outcome T) (r : Result (Vec T) Error) (catches : Bool)
     (s t : Situation) (vs : List T)
-    → Steps inner catches true s vs t → IsErrAnd r (λ e. e.0 ≡ Memory)
+    → Turns inner catches true s vs t → IsErrAnd r (λ e. e.0 ≡ Memory)
     → ManyOutcome inner catches s r t
 steps_refused inner (Err e) catches s t vs steps is =
     record { values = vs; last = t; steps = steps; fails = inr (ap is_memory is, refl) }
@@ -99,15 +99,15 @@ none_nil values (Some v) b answered ends =
 
 module _ {T : Type 0} {inner : Outcome T} {reads : Readings T} (law : Lawful T inner reads)
     (s m : Situation) (vs : List T) (b : Bool) (o : Option T) (t : Situation)
-    (steps : Steps inner false false s vs m) (nil : b ≡ is_nil vs)
-    (step : StepOutcome inner false b m (Ok o) t) where
+    (steps : Turns inner false false s vs m) (nil : b ≡ is_nil vs)
+    (step : TurnOutcome inner false b m (Ok o) t) where
   -- the value took nothing: it is the first, and the run rests
   pub rests_here : (v : T) → o ≡ Some v → open_count t ≡ open_count m
       → UntilRest inner s (vs ++ v ∷ []) t
   rests_here v is same = by_values vs steps (step_at inner false m vs b o v t nil step is)
     where
-      by_values : (vs : List T) → Steps inner false false s vs m
-          → StepOutcome inner false (is_nil vs) m (Ok (Some v)) t
+      by_values : (vs : List T) → Turns inner false false s vs m
+          → TurnOutcome inner false (is_nil vs) m (Ok (Some v)) t
           → UntilRest inner s (vs ++ v ∷ []) t
       by_values [] steps at =
           rests v refl (subst (λ w. inner w (Ok v) t) (sym steps) at.0)
@@ -117,7 +117,7 @@ module _ {T : Type 0} {inner : Outcome T} {reads : Readings T} (law : Lawful T i
 
   -- the value took an item
   pub goes_on : (v : T) → o ≡ Some v → open_count t ≢ open_count m
-      → Steps inner false false s (vs ++ v ∷ []) t × (open_count t < open_count m)
+      → Turns inner false false s (vs ++ v ∷ []) t × (open_count t < open_count m)
   goes_on v is other =
       let at = step_at inner false m vs b o v t nil step is in
       let here = law.ok m t v at.0 in
@@ -125,18 +125,18 @@ module _ {T : Type 0} {inner : Outcome T} {reads : Readings T} (law : Lawful T i
       let fewer : open_count t < open_count m = omega arith in
       (steps_more inner false false s m vs v t steps (at.0, inr fewer), fewer)
 
-  -- a step stopped
+  -- a turn stopped
   pub stops_here : o ≡ None → UntilRest inner s vs t
   stops_here is =
-      stops m steps (subst (λ w. StepOutcome inner false w m (Ok None) t) nil
-      (subst (λ w. StepOutcome inner false b m (Ok w) t) is step))
+      stops m steps (subst (λ w. TurnOutcome inner false w m (Ok None) t) nil
+      (subst (λ w. TurnOutcome inner false b m (Ok w) t) is step))
 
   -- there are no more values than items present at the start, or there was none before this one
   pub fits_more : (v : T) → o ≡ Some v → (length vs ≡ 0) ⊎ (length vs + 1 ≤ open_count s)
   fits_more v is = by_values vs steps (step_at inner false m vs b o v t nil step is)
     where
-      by_values : (vs : List T) → Steps inner false false s vs m
-          → StepOutcome inner false (is_nil vs) m (Ok (Some v)) t → (length vs ≡ 0)
+      by_values : (vs : List T) → Turns inner false false s vs m
+          → TurnOutcome inner false (is_nil vs) m (Ok (Some v)) t → (length vs ≡ 0)
           ⊎ (length vs + 1 ≤ open_count s)
       by_values [] steps at = inl refl
       by_values (x ∷ xs) steps at =

@@ -1,11 +1,11 @@
--- A step catches no want of memory, and where it stops it takes nothing.
+-- A turn catches no want of memory, and where it stops it takes nothing.
 use Rattle.std.proofs.Common.{◌≡◌, Bool, true, false, not, ◌&&◌, Result, Ok, Err, Option, Some, None, refl, inl, inr, ⊎_elim, true≢false, sym, ◌∙◌}
 use Rattle.bpaf_line.specs.declared.error.Error.{Error}
 use Rattle.bpaf_line.specs.Messages.{is_memory}
 use Rattle.bpaf_line.specs.Situation.{Situation}
 use Rattle.bpaf_line.specs.declared.error.Message.{Message}
 use Rattle.bpaf_laws.specs.Reading.{Outcome}
-use Rattle.bpaf_laws.specs.Step.{StepOutcome, stops_step, stops_spared}
+use Rattle.bpaf_laws.specs.Turn.{TurnOutcome, stops_step, stops_spared}
 use Rattle.bpaf_laws.specs.Spared.{IsNotMemory, WithoutMemory, NoneTakesNothing}
 
 -- what isn't want of memory comes of an inner answer that isn't want of memory either
@@ -14,7 +14,7 @@ CatchesNoMemory {T} {R} combined inner =
     (s t : Situation) (r : Result R Error) → combined inner s r t → IsNotMemory r
     → combined (WithoutMemory inner) s r t
 
--- an error at which a step stops isn't want of memory
+-- an error at which a turn stops isn't want of memory
 stop_spared : (catches : Bool) (m : Message) (untouched : Bool)
     → stops_step catches m untouched ≡ true → is_memory m ≡ false
 stop_spared catches m untouched stops =
@@ -29,9 +29,9 @@ pub not_both : (m : Message) → is_memory m ≡ false → is_memory m ≡ true 
 not_both m spared memory = true≢false (sym memory ∙ spared)
 
 module _ {T : Type 0} (inner : Outcome T) where
-  -- a step catches no want of memory
+  -- a turn catches no want of memory
   pub spared_step : (catches first : Bool)
-      → CatchesNoMemory (λ outcome. StepOutcome outcome catches first) inner
+      → CatchesNoMemory (λ outcome. TurnOutcome outcome catches first) inner
   spared_step catches first s t (Ok (Some v)) o spared = ((o.0, tt), o.1)
   spared_step catches first s t (Ok None) o spared =
       ⊎_elim
@@ -47,7 +47,7 @@ module _ {T : Type 0} (inner : Outcome T) where
 
   -- None takes nothing
   pub none_takes_nothing : (catches : Bool) (s t : Situation) (r : Result (Option T) Error)
-      → StepOutcome inner catches true s r t → NoneTakesNothing s r t
+      → TurnOutcome inner catches true s r t → NoneTakesNothing s r t
   none_takes_nothing catches s t (Ok None) o =
       ⊎_elim (λ dropped. absurd (true≢false dropped.2)) (λ stopped. stopped.1) o
   none_takes_nothing catches s t (Ok (Some v)) o = tt

@@ -3,13 +3,13 @@ use Rattle.std.specs.Prelude.{◌≡◌, ℕ, ◌<◌, ◌≤◌, true, false, L
 use Rattle.bpaf_line.specs.Situation.{Situation, Context, is_taken}
 use Rattle.bpaf_laws.specs.Reading.{Share, Readings}
 use Rattle.bpaf_laws.specs.Command.{CommandReads}
-use Rattle.bpaf_laws.specs.OneRun.{IsRun}
+use Rattle.bpaf_laws.specs.OneStretch.{IsStretch}
 
--- a reading of a command whose whole share is one run
+-- a reading of a command whose whole share is one stretch
 pub record AdjacentReads (T : Type 0) (words : List (List ℕ)) (inner : Readings T)
     (context : Context) (share : Share) (v : T) : Type 0 where
   pub command : CommandReads T words inner context share v
-  pub run : IsRun share
+  pub stretch : IsStretch share
 
 -- each of the places from one up to another is taken
 abbrev pub AllTaken : Situation → ℕ → ℕ → Type 0

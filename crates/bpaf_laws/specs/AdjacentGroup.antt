@@ -7,24 +7,24 @@ use Rattle.bpaf_line.specs.declared.error.Message.TheVariants as message
 use Rattle.bpaf_line.specs.declared.missing.MissingItem.{MissingItem}
 use Rattle.bpaf_line.specs.Messages.{is_memory}
 use Rattle.bpaf_line.specs.MissingIn.{IsMissingIn}
-use Rattle.bpaf_line.specs.Runs.{IsRunFrom}
+use Rattle.bpaf_line.specs.Stretches.{IsStretchFrom}
 use Rattle.bpaf_line.specs.Situation.{Situation, Context, with_scope, HasNoneOpen, IsNextOpen}
 use Rattle.bpaf_laws.specs.Counting.{taken_count}
 use Rattle.bpaf_laws.specs.Laws.{newly}
-use Rattle.bpaf_laws.specs.OneRun.{IsRun}
+use Rattle.bpaf_laws.specs.OneStretch.{IsStretch}
 use Rattle.bpaf_laws.specs.Reading.{Share, Readings, Outcome, IsEmptyShare, HasPlace}
 use Rattle.bpaf_laws.specs.Spared.{IsNotMemory}
 
--- a reading of the product, off one run
+-- a reading of the product, off one stretch
 pub record GroupReads (T : Type 0) (inner : Readings T) (context : Context) (share : Share)
     (v : T) : Type 0 where
   pub read : inner context share v
-  pub run : IsRun share
+  pub stretch : IsStretch share
 
 -- how many places the first item of a group has: an argument two, each other one
-abbrev pub width_of : Part → ℕ
-width_of (Argument name shorts metavar env help) = 2
-width_of _ = 1
+abbrev pub place_count : Part → ℕ
+place_count (Argument name shorts metavar env help) = 2
+place_count _ = 1
 
 -- how an attempt failed: its error, and the situation that it left
 pub record Failure : Type 0 where
@@ -51,7 +51,7 @@ EndsWith s first None e t =
     × (t ≡ s)
 
 -- the next place to try: the first present one, where so many places of the scope begin with it
-pub record IsStart (s : Situation) (width from place : ℕ) : Type 0 where
+pub record IsGroupStart (s : Situation) (width from place : ℕ) : Type 0 where
   pub next : IsNextOpen s from place
   pub fits : place + width ≤ s.end
 
@@ -68,10 +68,10 @@ module _ (T : Type 0) (inner : Outcome T) (s : Situation) where
     pub spared : IsNotMemory answer
     pub takes : Takes (newly s left)
 
-  -- where the scope of an attempt ends: at the end of the run of present places, or at the first
-  -- place that an attempt with a value left present in its scope
+  -- where the scope of an attempt ends: at the end of the stretch of present places, or at the
+  -- first place that an attempt with a value left present in its scope
   pub data Narrowed (place : ℕ) : ℕ → Type 0 where
-    whole : (stop : ℕ) → IsRunFrom s place stop → Narrowed place stop
+    whole : (stop : ℕ) → IsStretchFrom s place stop → Narrowed place stop
     again : (stop left : ℕ) (v : T) (t : Situation) → Narrowed place stop
         → inner (with_scope s place stop) (Ok v) t → IsNextOpen (with_scope t place stop) place left
         → Narrowed place left
@@ -100,15 +100,15 @@ module _ (T : Type 0) (inner : Outcome T) (s : Situation) where
   -- the places are tried one after the other, until one gives a value
   pub data Searches (first : Part) : ℕ → Option Failure → Result T Error → Situation → Type 0 where
     over : (from : ℕ) (best : Option Failure) (e : Error) (t : Situation)
-        → HasNoStart s (width_of first) from → EndsWith s first best e t
+        → HasNoStart s (place_count first) from → EndsWith s first best e t
         → Searches first from best (Err e) t
     on : (from place : ℕ) (best after : Option Failure) (r : Result T Error) (t : Situation)
-        → IsStart s (width_of first) from place
-        → TriesAt place (place + width_of first) best (Ok None) after s
+        → IsGroupStart s (place_count first) from place
+        → TriesAt place (place + place_count first) best (Ok None) after s
         → Searches first (place + 1) after r t → Searches first from best r t
     value : (from place : ℕ) (best after : Option Failure) (v : T) (t : Situation)
-        → IsStart s (width_of first) from place
-        → TriesAt place (place + width_of first) best (Ok (Some v)) after t
+        → IsGroupStart s (place_count first) from place
+        → TriesAt place (place + place_count first) best (Ok (Some v)) after t
         → Searches first from best (Ok v) t
     wanted : (from : ℕ) (best : Option Failure) (e : Error) → is_memory e.0 ≡ true
         → Searches first from best (Err e) s

@@ -10,7 +10,7 @@ use Rattle.bpaf_line.specs.Situation.{Situation, is_taken}
 use Rattle.bpaf_line.specs.declared.error.Error.{Error}
 use Rattle.bpaf_laws.specs.Reading.{Readings, Outcome}
 use Rattle.bpaf_laws.specs.Spared.{IsNotMemory}
-use Rattle.bpaf_laws.specs.Step.{is_untouched}
+use Rattle.bpaf_laws.specs.Turn.{is_untouched}
 
 -- how many names the path has
 abbrev pub depth : Situation → ℕ
@@ -27,7 +27,7 @@ IsWant s (Ok v) t = ⊥
 IsWant s (Err e) t = (is_memory e.0 ≡ true) × (t ≡ s)
 
 -- the value of the branch that wins, by a place if by one: what only the other one took has then a
--- conflict mark that names it
+-- conflict note that names it
 abbrev pub Winner : {T : Type 0} → T → Situation → T → Situation → Bool → Option ℕ → Result T Error
     → Situation → Type 0
 Winner x sa y sb first None r t = (r ≡ Ok x) × (t ≡ sa)
@@ -78,7 +78,7 @@ Chosen s a sa b sb r t =
     ⊎ ((depth sa ≡ depth sb) × EqualDepths s a sa b sb r t))
 
 -- both branches, evaluated from the same situation, answered something else than want of memory
-pub record BranchesRan {T : Type 0} (first second : Outcome T) (s : Situation) (r : Result T Error)
+pub record BranchesEval {T : Type 0} (first second : Outcome T) (s : Situation) (r : Result T Error)
     (t : Situation) : Type 0 where
   pub a : Result T Error
   pub sa : Situation
@@ -92,9 +92,9 @@ pub record BranchesRan {T : Type 0} (first second : Outcome T) (s : Situation) (
 
 -- the table; want of memory is the answer at once, and leaves all as before
 abbrev pub ChoiceOutcome : {T : Type 0} → Outcome T → Outcome T → Outcome T
-ChoiceOutcome first second s (Ok v) t = BranchesRan first second s (Ok v) t
+ChoiceOutcome first second s (Ok v) t = BranchesEval first second s (Ok v) t
 ChoiceOutcome first second s (Err e) t =
-    BranchesRan first second s (Err e) t ⊎ ((is_memory e.0 ≡ true) × (t ≡ s))
+    BranchesEval first second s (Err e) t ⊎ ((is_memory e.0 ≡ true) × (t ≡ s))
 
 -- a reading of one branch
 abbrev pub ChoiceReads : {T : Type 0} → Readings T → Readings T → Readings T
@@ -111,13 +111,13 @@ alternatives (Or all) = shapes_of all
 alternatives shape = shape ∷ []
 
 -- the choice of two shapes
-abbrev pub either : Shape → Shape → Shape
-either first second = Or (members (alternatives first ++ alternatives second))
+abbrev pub either_shape : Shape → Shape → Shape
+either_shape first second = Or (members (alternatives first ++ alternatives second))
 
 -- a choice shows what both branches show
 abbrev pub ChoiceDescribes : (Shape → Type 0) → (Shape → Type 0) → Shape → Type 0
 ChoiceDescribes first second shape =
-    (a : Shape) × (b : Shape) × first a × second b × (shape ≡ either a b)
+    (a : Shape) × (b : Shape) × first a × second b × (shape ≡ either_shape a b)
 
 -- a branch is the chosen one: its value is the answer, and what it took is taken
 pub record IsChosen {T : Type 0} (a : Result T Error) (sa : Situation) (v : T)
@@ -136,7 +136,7 @@ pub record TookAndIsChosen {T : Type 0} (p : ℕ) (a : Result T Error) (sa : Sit
 -- first is chosen
 pub record LeftmostIsChosen {T : Type 0} (first second : Outcome T) (s : Situation) (v : T)
     (t : Situation) : Type 0 where
-  pub ran : BranchesRan first second s (Ok v) t
+  pub ran : BranchesEval first second s (Ok v) t
   pub leftmost : IsOk ran.a → IsOk ran.b → depth ran.sa ≡ depth ran.sb
       → (p : ℕ) → IsLeftmost ran.sa ran.sb p → TookAndIsChosen p ran.a ran.sa v t
       ⊎ TookAndIsChosen p ran.b ran.sb v t

@@ -7,7 +7,7 @@ pub mod Flag
 pub mod Argument
 pub mod KeyFirst
 pub mod Transform
-pub mod Step
+pub mod Turn
 pub mod Default
 pub mod Repeat
 pub mod Spared
@@ -17,7 +17,7 @@ pub mod Product
 pub mod AdjacentGroup
 pub mod Choices
 pub mod Command
-pub mod OneRun
+pub mod OneStretch
 pub mod AdjacentCommand
 pub mod Appname
 pub mod Hide

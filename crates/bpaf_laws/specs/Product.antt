@@ -26,7 +26,7 @@ joined (Err e) (Ok b) = Err e
 joined (Err e) (Err f) = if is_memory f.0 then Err f else Err e
 
 -- each field is evaluated, also after an error
-pub record BothRan (A B : Type 0) (first : Outcome A) (rest : Outcome B) (s : Situation)
+pub record BothEval (A B : Type 0) (first : Outcome A) (rest : Outcome B) (s : Situation)
     (r : Result (A × B) Error) (t : Situation) : Type 0 where
   pub a : Result A Error
   pub middle : Situation
@@ -38,9 +38,9 @@ pub record BothRan (A B : Type 0) (first : Outcome A) (rest : Outcome B) (s : Si
 
 -- but want of memory is the answer at once
 abbrev pub BothOutcome : {A B : Type 0} → Outcome A → Outcome B → Outcome (A × B)
-BothOutcome {A} {B} first rest s (Ok v) t = BothRan A B first rest s (Ok v) t
+BothOutcome {A} {B} first rest s (Ok v) t = BothEval A B first rest s (Ok v) t
 BothOutcome {A} {B} first rest s (Err e) t =
-    BothRan A B first rest s (Err e) t ⊎ (first s (Err e) t × (is_memory e.0 ≡ true))
+    BothEval A B first rest s (Err e) t ⊎ (first s (Err e) t × (is_memory e.0 ≡ true))
 
 -- a product: its fields, after which no word is current, then the constructor
 abbrev pub ProductOutcome : {V T : Type 0} → Outcome V → (V → T → Type 0) → Outcome T

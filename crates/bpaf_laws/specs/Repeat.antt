@@ -1,4 +1,4 @@
--- Repeats: steps of one inner parser, one after another.
+-- Repeats: turns of one inner parser, one after another.
 use Rattle.std.specs.Prelude.{◌≡◌, ◌⊎◌, ℕ, ◌+◌, ◌<◌, ◌≤◌, Bool, true, false, List, [], ◌∷◌, ◌++◌}
 use Rattle.std.specs.Prelude.{length, Ok, Err, Some, None, ⊤}
 use Rattle.std.specs.Global.{Vec}
@@ -8,36 +8,36 @@ use Rattle.bpaf_line.specs.Situation.{Situation, Context, open_count}
 use Rattle.bpaf_line.specs.declared.error.Error.{Error}
 use Rattle.bpaf_line.specs.declared.error.Message.TheVariants.{Memory, ParseSome}
 use Rattle.bpaf_laws.specs.Reading.{Share, Readings, Outcome, Joins, IsEmptyShare, HasPlace}
-use Rattle.bpaf_laws.specs.Step.{StepOutcome}
+use Rattle.bpaf_laws.specs.Turn.{TurnOutcome}
 
 -- a list without values
 abbrev pub is_nil : {T : Type 0} → List T → Bool
 is_nil [] = true
 is_nil (v ∷ vs) = false
 
--- steps one after another that answered these values; `first` where no value came before them
-abbrev pub Steps : {T : Type 0} → Outcome T → Bool → Bool → Situation → List T → Situation → Type 0
-Steps inner catches first s [] t = s ≡ t
-Steps inner catches first s (v ∷ vs) t =
-    (m : Situation) × StepOutcome inner catches first s (Ok (Some v)) m
-    × Steps inner catches false m vs t
+-- turns one after another that answered these values; `first` where no value came before them
+abbrev pub Turns : {T : Type 0} → Outcome T → Bool → Bool → Situation → List T → Situation → Type 0
+Turns inner catches first s [] t = s ≡ t
+Turns inner catches first s (v ∷ vs) t =
+    (m : Situation) × TurnOutcome inner catches first s (Ok (Some v)) m
+    × Turns inner catches false m vs t
 
--- steps until one stops
+-- turns until one stops
 pub record UntilStop {T : Type 0} (inner : Outcome T) (catches : Bool) (s : Situation)
     (values : List T) (t : Situation) : Type 0 where
   pub last : Situation
-  pub steps : Steps inner catches true s values last
-  pub stop : StepOutcome inner catches (is_nil values) last (Ok None) t
+  pub steps : Turns inner catches true s values last
+  pub stop : TurnOutcome inner catches (is_nil values) last (Ok None) t
 
--- steps until one fails
+-- turns until one fails
 pub record UntilError {T : Type 0} (inner : Outcome T) (catches : Bool) (s : Situation) (e : Error)
     (t : Situation) : Type 0 where
   pub values : List T
   pub last : Situation
-  pub steps : Steps inner catches true s values last
-  pub fails : StepOutcome inner catches (is_nil values) last (Err e) t
+  pub steps : Turns inner catches true s values last
+  pub fails : TurnOutcome inner catches (is_nil values) last (Err e) t
 
--- all values until a step stops, as a list
+-- all values until a turn stops, as a list
 abbrev pub ListOutcome : {T : Type 0} → Outcome T → Bool → Outcome (List T)
 ListOutcome inner catches s (Ok values) t = UntilStop inner catches s values t
 ListOutcome inner catches s (Err e) t = UntilError inner catches s e t
@@ -93,23 +93,23 @@ pub record CollectReads {T C : Type 0} (inner : Readings T) (fills : List T → 
   pub read : ListReads inner context share values
   pub filled : fills values v
 
--- steps that each took an item, until one stops; or one value alone, that took nothing
+-- turns that each took an item, until one stops; or one value alone, that took nothing
 pub data UntilRest {T : Type 0} (inner : Outcome T) (s : Situation) (values : List T)
     (t : Situation) : Type 0 where
-  stops : (m : Situation) → Steps inner false false s values m
-      → StepOutcome inner false (is_nil values) m (Ok None) t → UntilRest inner s values t
+  stops : (m : Situation) → Turns inner false false s values m
+      → TurnOutcome inner false (is_nil values) m (Ok None) t → UntilRest inner s values t
   rests : (v : T) → values ≡ v ∷ [] → inner s (Ok v) t → open_count s ≤ open_count t
       → UntilRest inner s values t
 
--- steps that each took an item, until one fails
+-- turns that each took an item, until one fails
 pub record UntilFault {T : Type 0} (inner : Outcome T) (s : Situation) (e : Error)
     (t : Situation) : Type 0 where
   pub values : List T
   pub last : Situation
-  pub steps : Steps inner false false s values last
-  pub fails : StepOutcome inner false (is_nil values) last (Err e) t
+  pub steps : Turns inner false false s values last
+  pub fails : TurnOutcome inner false (is_nil values) last (Err e) t
 
--- count: how many values there are, until one takes nothing or a step stops
+-- count: how many values there are, until one takes nothing or a turn stops
 abbrev pub CountOutcome : {T : Type 0} → Outcome T → Outcome ℕ
 CountOutcome {T} inner s (Ok n) t =
     (values : List T) × UntilRest inner s values t × (n ≡ length values)

@@ -98,7 +98,7 @@ pub sound_beginning : (i : Inside) (context : Context) → situation_of i ≡ be
     → HasNoKeyFrom context.line i.keys
     → IfSome i.chains (AreBehind context.line (λ p. false))
     → i.aside ≡ no_aside → IsSound i
-sound_beginning i context e marked worded bits room left clear keyless behind aside =
+sound_beginning i context e marker_inside worded bits room left clear keyless behind aside =
     let start = beginning context in
     let size : length (rc_slice_items i.items) ≡ length context.line = ap
     (λ s. length s.context.line) e in
@@ -110,7 +110,7 @@ sound_beginning i context e marked worded bits room left clear keyless behind as
       in_turn = subst TakenInTurn (sym e) (λ n within. absurd (omega arith));
       ordered = let from = ap (λ s. s.start) e in omega (arith, from);
       inside = let to = ap (λ s. s.end) e in omega (arith, to);
-      counted = left ∙ (sym (open_count-start context context.marker marked)
+      counted = left ∙ (sym (open_count-start context context.marker marker_inside)
           ∙ sym (ap open_count e));
       first = subst (λ s. IsFirstPresent s i.first) (sym e)
           (first_by_bits start i.words.items 0 i.first (omega arith) set (omega arith)

@@ -18,7 +18,7 @@ use Rattle.bpaf_words.specs.declared.arg.Arg.{Arg}
 use Rattle.bpaf_words.specs.declared.arg.Arg.TheVariants.{Short, Long, ArgWord, Word, PosWord}
 use Rattle.bpaf_words.specs.Items.{is_key_of}
 use Rattle.bpaf_line.specs.declared.chains.Chains.TheInside.{Inside}
-use Rattle.bpaf_line.specs.Chained.{Chained, IsNextOf, IsPlaceOf, IsStart, HasWalked, AreBehind}
+use Rattle.bpaf_line.specs.Chained.{Chained, IsNextOf, IsPlaceOf, IsWalkStart, HasWalked, AreBehind}
 use Rattle.bpaf_line.specs.Chained.{name_number, class_in, class_of, head_of, owner_of, cursor_of, text_number}
 use Rattle.bpaf_line.specs.Chained.{names_of, names_in, named_at, shares_name, is_key}
 use Rattle.bpaf_line.specs.Chained.{HasNoKeyFrom}
@@ -332,7 +332,7 @@ behind_passed line set old place from head h within inside read headed walked =
 
 -- what stands before the start of a name and has it is in the set
 pub early_set : (line : List Arg) (set : ℕ → Bool) (old : Chained) (key : Option Arg)
-    (class from p : ℕ) → AreBehind line set old → IsStart line (names_of key) old class from
+    (class from p : ℕ) → AreBehind line set old → IsWalkStart line (names_of key) old class from
     → p < length old.classes → slice_index old.classes p ≡ class → p < from
     → named_at line (names_of key) p ≡ true → set p ≡ true
 early_set line set old key class from p h start below at early named = ⊎_elim
@@ -356,7 +356,7 @@ in_set false false e f = f
 -- such of other names
 pub behind_owned : (line : List Arg) (set : ℕ → Bool) (old : Chained) (place class from cursor : ℕ)
     → AreBehind line set old → class < length old.owners → class < length old.cursors
-    → IsStart line (names_in line place) old class from
+    → IsWalkStart line (names_in line place) old class from
     → HasWalked old.classes (λ p. set p || not (shares_name line place p)) from cursor
     → AreBehind line set (record old {
       owners = slice_set old.owners class place;

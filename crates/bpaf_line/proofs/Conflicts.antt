@@ -1,4 +1,4 @@
--- Conflict marks: what they change, and what they leave.
+-- Conflict notes: what they change, and what they leave.
 use Rattle.std.proofs.Common.{◌≡◌, ◌≢◌, ℕ, ◌==◌, Bool, true, false, not, ◌&&◌, List, [], ◌∷◌, ◌++◌}
 use Rattle.std.proofs.Common.{Option, Some, None, refl, ap, sym, ◌∙◌, if◌then◌else◌, reverse}
 use Rattle.std.proofs.Common.{option_map}
@@ -50,7 +50,7 @@ last_of_other pairs p q winner other = last_of-append pairs ((p, winner) ∷ [])
 abbrev pub excluded_at : Situation → Situation → ℕ → ℕ → Option ℕ
 excluded_at s loser winner p = if not (is_taken s p) && is_taken loser p then Some winner else None
 
--- the pairs of the excluded places are their conflict marks
+-- the pairs of the excluded places are their conflict notes
 pub conflicts_saved : (s loser : Situation) (winner : ℕ) (pairs : List (ℕ × ℕ))
     → ((p : ℕ) → last_of pairs p ≡ excluded_at s loser winner p)
     → ConflictsSaved s loser winner (with_conflicts s pairs)
@@ -62,7 +62,7 @@ conflicts_saved s loser winner pairs excluded = record {
   current = refl;
   taken = λ p. refl;
   marks = keeps_marks_conflicts s pairs;
-  marked = λ p. ap (λ o. if is_taken s p then None else o)
+  noted = λ p. ap (λ o. if is_taken s p then None else o)
       (last_of-append s.conflicts pairs p
       ∙ ap (λ o. option_or o (last_of s.conflicts p)) (excluded p))
       ∙ by_cases (is_taken s p) (is_taken loser p) (last_of s.conflicts p);

@@ -14,7 +14,7 @@ use Rattle.bpaf_doc.specs.Names.{Names}
 use Rattle.bpaf_words.specs.declared.arg.Arg.{Arg}
 use Rattle.bpaf_words.specs.declared.arg.Arg.TheVariants.{Short, Long, ArgWord, Word, PosWord}
 use Rattle.bpaf_words.specs.Items.{is_key_of, is_argument_key}
-use Rattle.bpaf_line.specs.Chained.{Chained, name_number, names_of, class_in, class_of, IsStart}
+use Rattle.bpaf_line.specs.Chained.{Chained, name_number, names_of, class_in, class_of, IsWalkStart}
 use Rattle.bpaf_line.specs.Chained.{HasWalked, AreChainsOf, HasNoKeyFrom}
 use Rattle.bpaf_line.specs.Finding.{IsFirstAmong, IsFirstAlong}
 use Rattle.bpaf_line.specs.Situation.{Situation, is_marker, in_scope, is_open, is_taken, item_at}
@@ -80,7 +80,7 @@ class_named s chains key q item h inside there named = class_at s chains q item 
 -- no open item with a name stands before the start of that name
 none_before_start : (s : Situation) (chains : Chained) (key : Arg) (start q : ℕ) (item : Arg)
     → AreChainsOf s chains
-    → IsStart s.context.line (names_of (Some key)) chains
+    → IsWalkStart s.context.line (names_of (Some key)) chains
     (class_of (length chains.heads) (name_number key)) start
     → q < length chains.classes → q < start → open_item s q ≡ Some item
     → is_key_of (names_of (Some key)) item ≡ true → true ≡ false
@@ -95,7 +95,7 @@ none_before_start s chains key start q item h begins inside before there named =
 -- the first along the chain from that start on is the first with the name
 pub first_named : (test : Arg → Bool) (s : Situation) (chains : Chained) (key : Arg)
     (start end p : ℕ) → AreChainsOf s chains → end ≤ length chains.classes
-    → IsStart s.context.line (names_of (Some key)) chains
+    → IsWalkStart s.context.line (names_of (Some key)) chains
     (class_of (length chains.heads) (name_number key)) start
     → IsFirstAlong test s chains.classes start end p
     → IsFirstAmong test (names_of (Some key)) s end p

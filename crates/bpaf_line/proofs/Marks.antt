@@ -112,7 +112,7 @@ keeps_marks_take s p = record {
       (front_is mark.taken s.trail (p ∷ []) fits.reached.taken);
 }
 
--- more conflict marks keep them
+-- more conflict notes keep them
 pub keeps_marks_conflicts : (s : Situation) (pairs : List (ℕ × ℕ))
     → KeepsMarks s (with_conflicts s pairs)
 keeps_marks_conflicts s pairs = record {

@@ -382,7 +382,7 @@ last_in_line s p h some last =
     let new = cut_to (situation_of s) n in
     present_in_line new p (ap (is_taken new) last ∙ h.in_turn n (omega arith))
 
--- it is sound with other conflict marks, and another path that begins with the set name
+-- it is sound with other conflict notes, and another path that begins with the set name
 pub sound_path : (s : Inside) (conflicts : Vec (ℕ × ℕ) Global) (path : Vec (String Global) Global)
     → IsSound s → IfSome s.name (λ n. slice_get (map string_bytes path.items) 0 ≡ Some n)
     → IsSound (record s { conflicts = conflicts; path = path })
@@ -449,14 +449,14 @@ pub open_item_is : (s : Inside) (p : ℕ) (xs : List Arg) (item : Arg) → IsSou
     ≡ rc_slice_items s.items → is_open (situation_of s) p ≡ true
     → item ≡ get_or xs p item → open_item (situation_of s) p ≡ Some item
 open_item_is s p xs item h same o there =
-    let unmarked : is_marker s.marker p ≡ false = not_marker
+    let no_marker : is_marker s.marker p ≡ false = not_marker
     (not (nat_lt p (length (rc_slice_items s.items)))) (is_marker s.marker p)
     (is_on s.trail.items p) (open_not_taken (situation_of s) p o) in
     let at : item ≡ get_or (rc_slice_items s.items) p item = there
     ∙ ap (λ ys. get_or ys p item) same in
     rw (
       o,
-      unmarked,
+      no_marker,
       slice_get-get_or (rc_slice_items s.items) p item
           (open_in_line s p h o),
       ← at,

@@ -1,4 +1,4 @@
--- The clear bits of one word of 64: a run of them, and how many there are.
+-- The clear bits of one word of 64: a stretch of them, and how many there are.
 use Rattle.std.proofs.Common.{◌≡◌, ◌≢◌, ℕ, zero, suc, ◌+◌, ◌-◌, ◌/◌, ◌%◌, ◌^◌, ◌<◌, ◌≤◌, ◌==◌}
 use Rattle.std.proofs.Common.{Bool, true, false, not, refl, ap, sym, ◌∙◌, arith, ⊎_elim, min}
 use Rattle.std.proofs.Common.{if◌then◌else◌, count_ones, bit_and, pow_pos}
@@ -9,7 +9,7 @@ use Rattle.std.proofs.lemmas.Nat.Bits.{bit_at-zero, bit_at_not, bit_at-trailing_
 use Rattle.std.proofs.lemmas.Nat.Bits.{ones_shr, bit_at-lt, bit_at_ones}
 use lib.Pow.{mod-pow-add}
 use lib.Count.{ones_step, trailing_of_zero}
-use Rattle.bpaf_line.specs.Bits.{clear_within, IsClearRun, IsSetRun}
+use Rattle.bpaf_line.specs.Bits.{clear_within, IsClearStretch, IsSetStretch}
 use Rattle.bpaf_line.specs.Situation.{count_below}
 use Rattle.bpaf_line.proofs.Counts.{count_below-same, count_below-all, count_below-none}
 
@@ -77,9 +77,10 @@ clear_none word low wide full inside = sym (count_below-none _ wide (λ i within
     ap (λ w. not (bit_at w (low + i) == 1)) full
     ∙ ap (λ b. not (b == 1)) (bit_at_ones 64 (low + i) (omega arith))))
 
--- where the bits of the rest of a word are all clear, the run goes to its end
-run_whole : (word low n : ℕ) → low < 64 → word / 2 ^ low ≡ 0 → n ≡ 64 - low → IsClearRun word low n
-run_whole word low n inside none is = record {
+-- where the bits of the rest of a word are all clear, the stretch goes to its end
+stretch_whole : (word low n : ℕ) → low < 64 → word / 2 ^ low ≡ 0 → n ≡ 64 - low
+    → IsClearStretch word low n
+stretch_whole word low n inside none is = record {
   within = omega arith;
   clear = λ i above below.
       let at : low + (i - low) ≡ i = omega arith in
@@ -92,7 +93,7 @@ run_whole word low n inside none is = record {
 run_part : (word low zeros n : ℕ) → word < 2 ^ 64 → low < 64
     → bit_at (word / 2 ^ low) zeros ≡ 1
     → ((i : ℕ) → i < zeros → bit_at (word / 2 ^ low) i ≡ 0) → n ≡ min zeros (64 - low)
-    → IsClearRun word low n
+    → IsClearStretch word low n
 run_part word low zeros n fits inside set clear is =
     let there : bit_at word (low + zeros) ≡ 1 = sym (bit_shifted word low zeros) ∙ set in
     let below : low + zeros < 64 = ⊎_elim
@@ -110,11 +111,11 @@ run_part word low zeros n fits inside set clear is =
       set = λ _. ap (λ k. bit_at word (low + k)) same ∙ there;
     }
 
--- the zeros at the lower end of what is left of a word are a run of its clear bits
-pub zeros_run : (word low n : ℕ) → word < 2 ^ 64 → low < 64
-    → n ≡ min (trailing_zeros w64 (word / 2 ^ low)) (64 - low) → IsClearRun word low n
-zeros_run word low n fits inside is = ⊎_elim
-    (λ (none : word / 2 ^ low ≡ 0). run_whole word low n inside none
+-- the zeros at the lower end of what is left of a word are a stretch of its clear bits
+pub zeros_stretch : (word low n : ℕ) → word < 2 ^ 64 → low < 64
+    → n ≡ min (trailing_zeros w64 (word / 2 ^ low)) (64 - low) → IsClearStretch word low n
+zeros_stretch word low n fits inside is = ⊎_elim
+    (λ (none : word / 2 ^ low ≡ 0). stretch_whole word low n inside none
     (let all : trailing_zeros w64 (word / 2 ^ low) ≡ 64 = ap (trailing_zeros w64) none
     ∙ trailing_of_zero 64 in omega arith))
     (λ (some : word / 2 ^ low ≢ 0).
@@ -124,9 +125,9 @@ zeros_run word low n fits inside is = ⊎_elim
     (cases_eq (word / 2 ^ low) 0)
 
 -- what is clear in the complement of a word is set in it
-pub run_flipped : (word low n : ℕ) → word < 2 ^ 64 → IsClearRun (bit_not w64 word) low n
-    → IsSetRun word low n
-run_flipped word low n fits run = record {
+pub stretch_flipped : (word low n : ℕ) → word < 2 ^ 64 → IsClearStretch (bit_not w64 word) low n
+    → IsSetStretch word low n
+stretch_flipped word low n fits run = record {
   within = run.within;
   set = λ i above below. omega (
     arith,

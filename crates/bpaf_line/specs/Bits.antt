@@ -30,13 +30,13 @@ pub record IsFirstSet (words : List ℕ) (low high p : ℕ) : Type 0 where
   pub clear : (q : ℕ) → low ≤ q → q < p → has_bit words q ≡ false
 
 -- so many bits of a word of 64, from one on, are clear, and the next one isn't
-pub record IsClearRun (word low n : ℕ) : Type 0 where
+pub record IsClearStretch (word low n : ℕ) : Type 0 where
   pub within : low + n ≤ 64
   pub clear : (i : ℕ) → low ≤ i → i < low + n → bit_at word i ≡ 0
   pub set : low + n < 64 → bit_at word (low + n) ≡ 1
 
 -- so many bits of a word of 64, from one on, are set, and the next one isn't
-pub record IsSetRun (word low n : ℕ) : Type 0 where
+pub record IsSetStretch (word low n : ℕ) : Type 0 where
   pub within : low + n ≤ 64
   pub set : (i : ℕ) → low ≤ i → i < low + n → bit_at word i ≡ 1
   pub clear : low + n < 64 → bit_at word (low + n) ≡ 0

@@ -105,7 +105,8 @@ pub record HasWalked (classes : List ℕ) (passes : ℕ → Bool) (low p : ℕ) 
 
 -- a place of a class, or one past them all: what stands before it, but not before the beginning of the
 -- chain, stands before the cursor, and then the owner has one of the names
-pub record IsStart (line : List Arg) (names : Names) (chains : Chained) (class p : ℕ) : Type 0 where
+pub record IsWalkStart (line : List Arg) (names : Names) (chains : Chained)
+    (class p : ℕ) : Type 0 where
   pub place : IsPlaceOf chains.classes class p
   pub cursor : (q : ℕ) → q < p → slice_index chains.heads class ≤ q
       → q < slice_index chains.cursors class

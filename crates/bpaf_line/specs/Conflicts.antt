@@ -29,7 +29,7 @@ leftmost_of (Some p) None = (true, Some p)
 leftmost_of None (Some q) = (false, Some q)
 leftmost_of (Some p) (Some q) = if nat_lt p q then (true, Some p) else (false, Some q)
 
--- each place present in the one and taken in the loser has a conflict mark that names a place; all
+-- each place present in the one and taken in the loser has a conflict note that names a place; all
 -- else is as it was, and so is what each earlier mark goes back to
 pub record ConflictsSaved (s loser : Situation) (winner : ℕ) (t : Situation) : Type 0 where
   pub context : t.context ≡ s.context
@@ -39,14 +39,14 @@ pub record ConflictsSaved (s loser : Situation) (winner : ℕ) (t : Situation) :
   pub current : t.current ≡ s.current
   pub taken : (p : ℕ) → is_taken t p ≡ is_taken s p
   pub marks : KeepsMarks s t
-  pub marked : (p : ℕ) → conflict_at t p ≡
+  pub noted : (p : ℕ) → conflict_at t p ≡
       (if not (is_taken s p) && is_taken loser p then Some winner else conflict_at s p)
 
--- the first of some places, and what its conflict mark names, where it has one
+-- the first of some places, and what its conflict note names, where it has one
 abbrev pub first_named : Situation → List (ℕ × Arg) → Option (ℕ × ℕ)
 first_named s [] = None
 first_named s ((p, item) ∷ later) = option_map (λ winner. (p, winner)) (conflict_at s p)
 
--- the first present place in scope, and what its conflict mark names, where it has one
+-- the first present place in scope, and what its conflict note names, where it has one
 abbrev pub first_conflict : Situation → Option (ℕ × ℕ)
 first_conflict s = first_named s (open_items s)

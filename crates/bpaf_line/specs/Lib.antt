@@ -18,4 +18,4 @@ pub mod OpenItems
 pub mod Conflicts
 pub mod Constructing
 pub mod TakenPlaces
-pub mod Runs
+pub mod Stretches

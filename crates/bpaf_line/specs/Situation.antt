@@ -63,7 +63,7 @@ is_taken s p =
 abbrev pub last_of : List (ℕ × ℕ) → ℕ → Option ℕ
 last_of conflicts p = option_map (λ pair. pair.1) (find (λ pair. pair.0 == p) (reverse conflicts))
 
--- what the conflict mark of a place names, where it has one; a taken place has none
+-- what the conflict note of a place names, where it has one; a taken place has none
 abbrev pub conflict_at : Situation → ℕ → Option ℕ
 conflict_at s p = if is_taken s p then None else last_of s.conflicts p
 
@@ -92,7 +92,7 @@ take_place s p = record s { trail = s.trail ++ p ∷ []; current = Some p }
 abbrev pub with_trail : Situation → List ℕ → Situation
 with_trail s trail = record s { trail = trail }
 
--- more conflict marks, the last of which count
+-- more conflict notes, the last of which count
 abbrev pub with_conflicts : Situation → List (ℕ × ℕ) → Situation
 with_conflicts s pairs = record s { conflicts = s.conflicts ++ pairs }
 

@@ -1,29 +1,29 @@
-//! Runs of present places.
+//! Stretches of present places.
 ghost use Rattle.std.specs.Prelude.{◌≡◌, ◌≤◌, length, MatchOption};
-ghost use Rattle.bpaf_line.specs.Runs.{IsRunFrom, HasNoneInBoth, IsFirstInBoth};
+ghost use Rattle.bpaf_line.specs.Stretches.{IsStretchFrom, HasNoneInBoth, IsFirstInBoth};
 
 use crate::bits;
 use crate::state::State;
 use std::ops::Range;
 
 impl State {
-    /// The unbroken run of places from one on that are present and in scope; it is empty where that
-    /// place isn't. It takes no memory.
+    /// The unbroken stretch of places from one on that are present and in scope; it is empty where
+    /// that place isn't. It takes no memory.
     pub fn adjacently_available_from(&self, place: usize) -> Range<usize>
         ensures start { result.start ≡ place }
-        ensures run { IsRunFrom self.now place result.end }
+        ensures stretch { IsStretchFrom self.now place result.end }
         ensures inside { place ≤ length self.now.context.line
             → result.end ≤ length self.now.context.line }
     {
-        let end = self.run_end(place);
+        let end = self.stretch_end(place);
         place..end
     }
 
-    /// Where the unbroken run of places from one on that are present and in scope ends.
+    /// Where the unbroken stretch of places from one on that are present and in scope ends.
     ///
     /// A word of 64 places is one step.
-    fn run_end(&self, place: usize) -> usize
-        ensures { IsRunFrom self.now place result }
+    fn stretch_end(&self, place: usize) -> usize
+        ensures { IsStretchFrom self.now place result }
     {
         if !self.is_open(place) {
             return place;

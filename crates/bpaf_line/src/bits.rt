@@ -1,6 +1,6 @@
 //! A set of places, as bits in words of 64.
 ghost use Rattle.std.specs.Prelude.{ℕ, ◌≡◌, ◌+◌, ◌*◌, ◌<◌, ◌≤◌, length, true, false};
-ghost use Rattle.bpaf_line.specs.Bits.{has_bit, count_clear, clear_within, lesser_of, is_on_as, is_in_first, AreWithin, ChangesBit, ChangesBits, IsClearRun, IsSetRun, IsFirstClear, IsFirstSet, IsLeastIn};
+ghost use Rattle.bpaf_line.specs.Bits.{has_bit, count_clear, clear_within, lesser_of, is_on_as, is_in_first, AreWithin, ChangesBit, ChangesBits, IsClearStretch, IsSetStretch, IsFirstClear, IsFirstSet, IsLeastIn};
 ghost use Rattle.bpaf_line.specs.Situation.{is_on};
 
 /// Whether the bit of a place is set.
@@ -37,7 +37,7 @@ pub(crate) fn first_clear(words: &[u64], from: usize, end: usize) -> usize
 {
     let mut place = from;
     while place < end {
-        let set = set_run(words[place / 64], place % 64);
+        let set = set_stretch(words[place / 64], place % 64);
         if place % 64 + set < 64 {
             return (place + set).min(end);
         }
@@ -56,7 +56,7 @@ pub(crate) fn first_set(words: &[u64], from: usize, end: usize) -> usize
 {
     let mut place = from;
     while place < end {
-        let clear = clear_run(words[place / 64], place % 64);
+        let clear = clear_stretch(words[place / 64], place % 64);
         if place % 64 + clear < 64 {
             return (place + clear).min(end);
         }
@@ -66,20 +66,20 @@ pub(crate) fn first_set(words: &[u64], from: usize, end: usize) -> usize
 }
 
 /// How many bits of a word from one on are clear in a row.
-fn clear_run(word: u64, low: usize) -> usize
+fn clear_stretch(word: u64, low: usize) -> usize
     requires { low < 64 }
-    ensures { IsClearRun word low result }
+    ensures { IsClearStretch word low result }
 {
     let clear = (word >> low).trailing_zeros() as usize;
     clear.min(64 - low)
 }
 
 /// How many bits of a word from one on are set in a row.
-fn set_run(word: u64, low: usize) -> usize
+fn set_stretch(word: u64, low: usize) -> usize
     requires { low < 64 }
-    ensures { IsSetRun word low result }
+    ensures { IsSetStretch word low result }
 {
-    clear_run(!word, low)
+    clear_stretch(!word, low)
 }
 
 /// How many places from one on, below the end, have no bit set.

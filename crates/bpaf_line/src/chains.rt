@@ -4,7 +4,7 @@ ghost use Rattle.std.specs.Option.{option_map_or};
 ghost use Rattle.bpaf_words.specs.declared.arg.Arg.{Arg};
 ghost use Rattle.bpaf_words.specs.Items.{is_key_of};
 ghost use Rattle.bpaf_line.specs.Bits.{has_bit};
-ghost use Rattle.bpaf_line.specs.Chained.{is_key, text_number, name_number, class_in, class_of, named_at, names_in, shares_name, IsNextOf, IsPlaceOf, IsStart, HasWalked, AreBehind, ReachBack, IfChained, HasNoKeyFrom};
+ghost use Rattle.bpaf_line.specs.Chained.{is_key, text_number, name_number, class_in, class_of, named_at, names_in, shares_name, IsNextOf, IsPlaceOf, IsWalkStart, HasWalked, AreBehind, ReachBack, IfChained, HasNoKeyFrom};
 
 use crate::bits;
 use bpaf_doc::Text;
@@ -124,7 +124,7 @@ impl Chains {
         shorts: &[char],
         longs: &[Text],
     ) -> usize
-        ensures { IsStart items.now (record { shorts = shorts.now; longs = longs.now }) self.now
+        ensures { IsWalkStart items.now (record { shorts = shorts.now; longs = longs.now }) self.now
             (class_of (length self.now.heads) number) result }
     {
         self.start_in(items, class_of(number, self.heads.len()), shorts, longs)
@@ -133,7 +133,7 @@ impl Chains {
     /// The place at which to begin to look for the name of a place, which is of this class.
     fn start_at(&self, items: &[Arg], class: usize, place: usize) -> usize
         requires { class < length self.now.heads }
-        ensures { IsStart items.now (names_in items.now place) self.now class result }
+        ensures { IsWalkStart items.now (names_in items.now place) self.now class result }
     {
         match items.get(place) {
             Some(Arg::Short(c, _, _)) => self.start_in(items, class, slice::from_ref(c), &[]),
@@ -145,7 +145,7 @@ impl Chains {
     /// The place at which to begin to look for a name of this class.
     fn start_in(&self, items: &[Arg], class: usize, shorts: &[char], longs: &[Text]) -> usize
         requires { class < length self.now.heads }
-        ensures { IsStart items.now (record { shorts = shorts.now; longs = longs.now }) self.now
+        ensures { IsWalkStart items.now (record { shorts = shorts.now; longs = longs.now }) self.now
             class result }
     {
         let head = self.heads[class];

@@ -1,4 +1,4 @@
-//! Which of two branches wins, and the conflict marks of the other's places.
+//! Which of two branches wins, and the conflict notes of the other's places.
 ghost use Rattle.std.specs.Prelude.{ℕ, ◌≡◌, ◌&&◌, ◌++◌, List, not, OnOk, OnErr, None, Some, if◌then◌else◌};
 ghost use Rattle.bpaf_line.specs.Situation.{is_on, is_taken, conflict_at, last_of};
 ghost use Rattle.bpaf_line.specs.Marks.{HasReached, CanRedo, KeepsMarks, undone, redone};
@@ -26,7 +26,7 @@ impl State {
         leftmost(here, there)
     }
 
-    /// Gives each place that is present here and that the other steps took a conflict mark, which
+    /// Gives each place that is present here and that the other steps took a conflict note, which
     /// names the place handed in: whatever mark these steps lead on from. Refused only for want of
     /// memory, and then nothing changes.
     pub fn save_conflicts(&mut self, loser: &Steps, winner: usize) -> Result<(), AllocError>
@@ -69,7 +69,7 @@ impl State {
         Ok(())
     }
 
-    /// What the conflict mark of a place names, where it has one; a taken place has none. It takes no
+    /// What the conflict note of a place names, where it has one; a taken place has none. It takes no
     /// memory.
     pub fn conflict_at(&self, place: usize) -> Option<usize>
         ensures { result ≡ conflict_at self.now place }
@@ -80,7 +80,7 @@ impl State {
         last_of(self.conflicts.as_slice(), place)
     }
 
-    /// The first present place in scope, and what its conflict mark names; None where it has none,
+    /// The first present place in scope, and what its conflict note names; None where it has none,
     /// or no place is present. It takes no memory.
     pub fn conflict(&self) -> Option<(usize, usize)>
         ensures { result ≡ first_conflict self.now }

@@ -13,9 +13,9 @@
 //! - The take calls meet their relation of specs/Taking.antt for every answer, over the whole state.
 //!   [`State::items_iter`] walks the `open_items` (specs/OpenItems.antt).
 //! - Of two branches that went on from one mark [`State::pick_winner`] tells which took the leftmost
-//!   place that only one took; [`State::save_conflicts`] marks what the other took, and
-//!   [`State::conflict`] answers such a mark (specs/Conflicts.antt; `conflict_at` is the accessor). What
-//!   is marked is present.
+//!   place that only one took; [`State::save_conflicts`] notes what the other took, and
+//!   [`State::conflict`] answers such a note (specs/Conflicts.antt; `conflict_at` is the accessor). What
+//!   is noted is present.
 //! - [`State::undo`] goes back to a [`Mark`], and [`State::redo`] does the [`Steps`] since one again
 //!   (specs/Marks.antt). Each call that changes a state leaves what its earlier marks go back to
 //!   (`KeepsMarks`).

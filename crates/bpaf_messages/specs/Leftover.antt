@@ -5,7 +5,7 @@ use Rattle.bpaf_line.specs.declared.error.Message.TheVariants as message
 use Rattle.bpaf_messages.specs.EarlierKey.{HasNoEarlierKey, IsEarlierKey}
 use Rattle.bpaf_line.specs.Situation.{Situation, IsNextOpen, conflict_at}
 
--- the message of the first item that is left: what excludes it, where it is marked so; else the
+-- the message of the first item that is left: what excludes it, where that is noted; else the
 -- earlier key of its kind and name, where it is a key and there is one; else that it isn't expected
 pub data IsLeftover (s : Situation) : Message → Type 0 where
   conflict : (p winner : ℕ) → IsNextOpen s 0 p → conflict_at s p ≡ Some winner

@@ -4,7 +4,7 @@ use Rattle.std.specs.Prelude.{encode_utf8, encode_utf8_all, slice_get, Option, S
 use Rattle.std.specs.Prelude.{unwrap_or, option_and_then, ⊤}
 use Rattle.std.specs.Option.{option_map_or}
 use Rattle.bpaf_doc.specs.Fold.{folded_whole}
-use Rattle.bpaf_doc.specs.ItemText.{item_text}
+use Rattle.bpaf_doc.specs.PartText.{part_text}
 use Rattle.bpaf_doc.specs.Print.{printed, in_backticks}
 use Rattle.bpaf_doc.specs.Shape.{Part, part_of}
 use Rattle.bpaf_line.specs.declared.error.Message.{Message}
@@ -104,7 +104,7 @@ expected_of s texts got =
 
 -- one of these parts was expected
 abbrev pub expected_text : Situation → List Part → Option ℕ → List ℕ
-expected_text s parts got = expected_of s (map item_text parts) got
+expected_text s parts got = expected_of s (map part_text parts) got
 
 -- what is told where all that is missing is hidden
 abbrev pub hidden_text : List ℕ

@@ -8,7 +8,7 @@ use bpaf_line::{Message, State};
 
 /// The message of the first present item in scope; None where none is left. It takes no memory.
 ///
-/// It is Conflict, where the item has a conflict mark; else OnlyOnce, where it is a key and
+/// It is Conflict, where the item has a conflict note; else OnlyOnce, where it is a key and
 /// [`earlier_key`] finds one; else Unconsumed (bpaf's `Message::render`, in `error.rs`).
 pub fn leftover(state: &State) -> Option<Message>
     ensures { MatchOption result (open_count state.now ≡ 0) (IsLeftover state.now) }

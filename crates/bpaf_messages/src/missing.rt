@@ -1,6 +1,6 @@
 //! The texts of what was expected and is missing.
 ghost use Rattle.std.specs.Prelude.{◌≡◌, ◌++◌, true, IfOk, OnOk, map};
-ghost use Rattle.bpaf_doc.specs.ItemText.{item_text};
+ghost use Rattle.bpaf_doc.specs.PartText.{part_text};
 ghost use Rattle.bpaf_doc.specs.Print.{printed, in_backticks};
 ghost use Rattle.bpaf_doc.specs.Shape.{part_of};
 ghost use Rattle.bpaf_line.specs.declared.error.Message.TheVariants.{Expected};
@@ -54,7 +54,7 @@ fn furthest<'a>(first: &'a MissingItem, more: &'a [MissingItem]) -> &'a MissingI
 
 /// What is written for an item.
 fn item_doc(alloc: Global, item: &Item) -> Result<Doc, AllocError>
-    ensures { IfOk result (λ doc. printed true doc ≡ item_text (part_of item.now)) }
+    ensures { IfOk result (λ doc. printed true doc ≡ part_text (part_of item.now)) }
 {
     let mut doc = Doc::new(alloc);
     item.push_text(&mut doc)?;
@@ -69,7 +69,7 @@ fn told_items(
     items: &[MissingItem],
 ) -> Result<Vec<Doc>, AllocError>
     ensures { IfOk result (λ docs. map (printed true) docs.items
-        ≡ map item_text (told_parts (missed_of far.now) (map missed_of items.now))) }
+        ≡ map part_text (told_parts (missed_of far.now) (map missed_of items.now))) }
 {
     let mut docs = Vec::new(alloc);
     let mut after = false;
@@ -86,7 +86,7 @@ fn told_items(
 /// What is written for each of some items.
 fn item_docs(alloc: Global, items: &[Item]) -> Result<Vec<Doc>, AllocError>
     ensures { IfOk result (λ docs.
-        map (printed true) docs.items ≡ map item_text (map part_of items.now)) }
+        map (printed true) docs.items ≡ map part_text (map part_of items.now)) }
 {
     let mut docs = Vec::new(alloc);
     for item in items {

@@ -4,7 +4,7 @@ use Rattle.std.proofs.lemmas.List.{length-map, map-append, get_or-map}
 use denote.Bor.{Bor}
 use Rattle.bpaf_doc.specs.declared.doc.Doc.{Doc}
 use Rattle.bpaf_doc.specs.declared.item.Item.{Item}
-use Rattle.bpaf_pages.specs.declared.lines.Place.{Place}
+use Rattle.bpaf_pages.specs.declared.lines.ListPlace.{ListPlace}
 use Rattle.bpaf_doc.specs.declared.doc.Piece.{Piece}
 use Rattle.bpaf_pages.specs.declared.lines.Line.{Line as LineHere}
 use Rattle.bpaf_pages.specs.declared.lines.Told.TheVariants as told
@@ -55,7 +55,7 @@ below_put all new text from last line within ends here put =
 
 -- an item was put behind lines
 pub item_put :
-    (all new : List LineHere) (item : Bor Item) (place : Place) (home : Option ℕ) (met : ℕ)
+    (all new : List LineHere) (item : Bor Item) (place : ListPlace) (home : Option ℕ) (met : ℕ)
     → place_of place ≡ place_in home (part_of item.now)
     → new ≡ all ++ record { place = place; told = told.Listed item } ∷ []
     → map line_of new ≡ map line_of all ++ lines (Shown (part_of item.now)) home met

@@ -5,7 +5,7 @@ use Rattle.bpaf_doc.specs.declared.doc.Piece.{Piece}
 use Rattle.bpaf_doc.specs.Prints.{Print, Prints, prints}
 use Rattle.bpaf_pages.specs.Joined.{nothing, glued, joined, joined_behind}
 use Rattle.bpaf_pages.specs.Lines.{Line}
-use Rattle.bpaf_pages.specs.Help.{Given, section, sections, opening, lists, widest, paragraph, paragraphs, page, prints_of}
+use Rattle.bpaf_pages.specs.Help.{PageTexts, section, sections, opening, lists, widest, paragraph, paragraphs, page, prints_of}
 use Rattle.bpaf_pages.proofs.Joining.{shows, glued_behind}
 
 -- one section more
@@ -68,7 +68,7 @@ joined_groups between first second third last empty one two three more whole
 
 -- all paragraphs of a page were put behind each other
 pub page_put :
-    (path : List (List ℕ)) (given : Given) (usage : Print) (all lines : List Line)
+    (path : List (List ℕ)) (given : PageTexts) (usage : Print) (all lines : List Line)
     (names titles : List (List Piece)) (width : ℕ) (empty one two three more whole : List Piece)
     → all ≡ lines
     → names ≡ titles

@@ -4,6 +4,7 @@ use Rattle.std.specs.Prelude.{Option, Some, None, chars, encode_utf8, flat_map, 
 use Rattle.std.specs.Prelude.{if◌then◌else◌}
 use Rattle.bpaf_doc.specs.declared.doc.Piece.{Piece}
 use Rattle.bpaf_doc.specs.Prints.{Print, prints, is_empty}
+use Rattle.bpaf_doc.specs.Fold.{space}
 use Rattle.bpaf_pages.specs.Joined.{joined, around}
 use Rattle.bpaf_pages.specs.Lines.{Line, Told, Listed, Below, Positionals, Options, Commands}
 use Rattle.bpaf_pages.specs.Lines.{Section, lines, lines_at, titles}
@@ -12,7 +13,7 @@ use Rattle.bpaf_doc.specs.Shape.{Argument, Name, Short, Long, Both}
 use Rattle.bpaf_pages.specs.Usage.{usage_text}
 
 -- the texts that a program gives; each may be missing
-pub record Given : Type 0 where
+pub record PageTexts : Type 0 where
   pub usage : Option (List Piece)
   pub descr : Option (List Piece)
   pub header : Option (List Piece)
@@ -69,7 +70,7 @@ widest all = fold wider 0 all
 
 -- a name as the beginning of a line, up to the column where what is said of it begins
 abbrev pub column : ℕ → List ℕ → List ℕ
-column width name = codes "    " ++ name ++ replicate (width - width_of name) 32 ++ codes "  "
+column width name = codes "    " ++ name ++ replicate (width - width_of name) space ++ codes "  "
 
 -- the line of a name and what is said of it, which may be empty
 abbrev pub name_line : ℕ → List ℕ → Print → Print
@@ -119,7 +120,7 @@ sections width all number (title ∷ rest) =
     section width all number title ∷ sections width all (number + 1) rest
 
 -- the paragraphs before the lists
-abbrev pub opening : List (List ℕ) → Given → Print → List Print
+abbrev pub opening : List (List ℕ) → PageTexts → Print → List Print
 opening path given usage =
     paragraph (prints_of given.descr)
     ∷ usage_paragraph path given.usage usage
@@ -135,7 +136,8 @@ lists width all =
     ∷ []
 
 -- all paragraphs of a page with these lines and titles
-abbrev pub paragraphs : List (List ℕ) → Given → Print → List Line → List (List Piece) → List Print
+abbrev pub paragraphs : List (List ℕ) → PageTexts → Print → List Line → List (List Piece)
+    → List Print
 paragraphs path given usage all names =
     let width = widest all in
     opening path given usage
@@ -147,7 +149,7 @@ abbrev pub page : List Print → Print
 page all = joined (codes "\n") all
 
 -- the page of a shape at this path; what `extra` shows, help and the version, stands behind it
-unfoldable pub help_text : List (List ℕ) → Given → Shape → Shape → Print
+unfoldable pub help_text : List (List ℕ) → PageTexts → Shape → Shape → Print
 help_text path given shape extra =
     let whole = And (shape then extra then none) in
     page (paragraphs path given (usage_text shape) (lines whole None 0) (titles whole))

@@ -1,10 +1,10 @@
 -- What the texts that a program gives are in contracts.
 use Rattle.std.specs.Prelude.{option_copied}
 use Rattle.bpaf_pages.specs.declared.help.HelpTexts.{HelpTexts}
-use Rattle.bpaf_pages.specs.Help.{Given}
+use Rattle.bpaf_pages.specs.Help.{PageTexts}
 
 -- the texts, each lent where there is one
-abbrev pub given_by : HelpTexts → Given
+abbrev pub given_by : HelpTexts → PageTexts
 given_by texts = record {
   usage = option_copied texts.usage;
   descr = option_copied texts.descr;

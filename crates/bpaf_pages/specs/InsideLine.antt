@@ -1,15 +1,15 @@
 -- What a line of the program is in contracts.
-use Rattle.bpaf_pages.specs.declared.lines.Place.{Place as PlaceHere}
-use Rattle.bpaf_pages.specs.declared.lines.Place.TheVariants as here
+use Rattle.bpaf_pages.specs.declared.lines.ListPlace.{ListPlace as PlaceHere}
+use Rattle.bpaf_pages.specs.declared.lines.ListPlace.TheVariants as here
 use Rattle.bpaf_pages.specs.declared.lines.Line.{Line as LineHere}
 use Rattle.bpaf_pages.specs.declared.lines.Told.{Told as ToldHere}
 use Rattle.bpaf_pages.specs.declared.lines.Told.TheVariants as told
-use Rattle.bpaf_pages.specs.Lines.{Place, Positionals, Options, Commands, Section}
+use Rattle.bpaf_pages.specs.Lines.{ListPlace, Positionals, Options, Commands, Section}
 use Rattle.bpaf_pages.specs.Lines.{Line, Told, Listed, Below}
 use Rattle.bpaf_doc.specs.Shape.{part_of}
 
 -- a place
-abbrev pub place_of : PlaceHere → Place
+abbrev pub place_of : PlaceHere → ListPlace
 place_of here.Positionals = Positionals
 place_of here.Options = Options
 place_of here.Commands = Commands

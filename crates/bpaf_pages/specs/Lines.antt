@@ -7,11 +7,11 @@ use Rattle.bpaf_doc.specs.Shape.{Strict, Subsection, Suffix, CustomUsage, Shown,
 use Rattle.bpaf_doc.specs.Shape.{Any, Positional, Command, Flag, Argument}
 
 -- where a line stands: in a list of the whole page, or in the section of this number, from 0
-pub data Place : Type 0 where
-  Positionals : Place
-  Options : Place
-  Commands : Place
-  Section : ℕ → Place
+pub data ListPlace : Type 0 where
+  Positionals : ListPlace
+  Options : ListPlace
+  Commands : ListPlace
+  Section : ℕ → ListPlace
 
 -- what a line tells: an item, or a text below what stands before it
 pub data Told : Type 0 where
@@ -20,11 +20,11 @@ pub data Told : Type 0 where
 
 -- one line
 pub record Line : Type 0 where
-  pub place : Place
+  pub place : ListPlace
   pub told : Told
 
 -- whether two places are one
-abbrev pub same_place : Place → Place → Bool
+abbrev pub same_place : ListPlace → ListPlace → Bool
 same_place Positionals Positionals = true
 same_place Options Options = true
 same_place Commands Commands = true
@@ -32,7 +32,7 @@ same_place (Section one) (Section other) = one == other
 same_place _ _ = false
 
 -- the list of an item outside of all sections
-abbrev pub list_of : Part → Place
+abbrev pub list_of : Part → ListPlace
 list_of (Any metavar help anywhere) = if anywhere then Options else Positionals
 list_of (Positional metavar help) = Positionals
 list_of (Command name short help inner) = Commands
@@ -40,7 +40,7 @@ list_of (Flag name shorts env help) = Options
 list_of (Argument name shorts metavar env help) = Options
 
 -- where an item stands, inside a section or outside
-abbrev pub place_in : Option ℕ → Part → Place
+abbrev pub place_in : Option ℕ → Part → ListPlace
 place_in None part = list_of part
 place_in (Some section) part = Section section
 
@@ -98,5 +98,5 @@ abbrev mutual
       lines first home met ++ lines_of_all rest home (met + length (titles first))
 
 -- the lines that stand in one place
-abbrev pub lines_at : Place → List Line → List Line
+abbrev pub lines_at : ListPlace → List Line → List Line
 lines_at place all = filter (λ line. same_place place line.place) all

@@ -1,7 +1,7 @@
 -- The usage text of what a parser shows.
 use Rattle.std.specs.Prelude.{ℕ, not, List, [], ◌∷◌, ◌++◌, codes, count_by, nat_lt}
 use Rattle.std.specs.Prelude.{if◌then◌else◌}
-use Rattle.bpaf_doc.specs.ItemText.{item_text}
+use Rattle.bpaf_doc.specs.PartText.{part_text}
 use Rattle.bpaf_doc.specs.Prints.{Print, prints, is_empty}
 use Rattle.bpaf_pages.specs.Joined.{joined, around}
 use Rattle.bpaf_doc.specs.Shape.{Shape, Shapes, And, Or, Optional, Required, Adjacent, Many}
@@ -32,7 +32,7 @@ abbrev mutual
   usage_text (Subsection inner title) full = usage_text inner full
   usage_text (Suffix inner text) full = usage_text inner full
   usage_text (CustomUsage inner text) full = prints text full
-  usage_text (Shown part) full = item_text part
+  usage_text (Shown part) full = part_text part
   usage_text Skip full = []
 
   -- of each member of an And or an Or

@@ -12,7 +12,7 @@ ghost use Rattle.bpaf_pages.specs.Help.{paragraph, prints_of, usage_line, usage_
 ghost use Rattle.bpaf_pages.specs.Help.{section, sections, opening, lists, help_text};
 
 use crate::joined::{around, glue};
-use crate::lines::{Lines, Place, Title};
+use crate::lines::{Lines, ListPlace, Title};
 use crate::usage::usage_of;
 use bpaf_doc::{Doc, Meta, Style};
 use std::alloc::{AllocError, Global};
@@ -135,7 +135,7 @@ impl<'a> Lines<'a> {
             (section width (map line_of self.now.all.items) number title.now)) }
     {
         let mut doc = around(alloc, "", title.text, "\n")?;
-        let rows = self.rows(alloc, width, Place::Section(number))?;
+        let rows = self.rows(alloc, width, ListPlace::Section(number))?;
         doc.doc(&rows)?;
         Ok(doc)
     }
@@ -160,7 +160,7 @@ impl<'a> Lines<'a> {
         alloc: Global,
         width: usize,
         heading: &str,
-        place: Place,
+        place: ListPlace,
     ) -> Result<Doc, AllocError>
         ensures { IfOk result (Prints (around heading.now []
             (rows width (lines_at (place_of place) (map line_of self.now.all.items))))) }
@@ -180,12 +180,12 @@ impl<'a> Lines<'a> {
             alloc,
             width,
             "Available positional items:\n",
-            Place::Positionals,
+            ListPlace::Positionals,
         )?;
         glue(page, "\n", &words)?;
-        let options = self.list(alloc, width, "Available options:\n", Place::Options)?;
+        let options = self.list(alloc, width, "Available options:\n", ListPlace::Options)?;
         glue(page, "\n", &options)?;
-        let commands = self.list(alloc, width, "Available commands:\n", Place::Commands)?;
+        let commands = self.list(alloc, width, "Available commands:\n", ListPlace::Commands)?;
         glue(page, "\n", &commands)?;
         Ok(())
     }

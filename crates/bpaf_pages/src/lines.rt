@@ -12,7 +12,7 @@ use std::marker::Model;
 
 /// Where a line stands: in a list of the whole page, or in the section of this number.
 #[derive(Clone, Copy)]
-pub(crate) enum Place {
+pub(crate) enum ListPlace {
     Positionals,
     Options,
     Commands,
@@ -29,7 +29,7 @@ pub(crate) enum Told<'a> {
 /// One line of a page.
 #[derive(Drop)]
 pub(crate) struct Line<'a> {
-    pub(crate) place: Place,
+    pub(crate) place: ListPlace,
     pub(crate) told: Told<'a>,
 }
 
@@ -56,31 +56,31 @@ pub(crate) struct Lines<'a> {
 }
 
 /// The list in which an item stands outside of all sections.
-fn list_of(item: &Item) -> Place
+fn list_of(item: &Item) -> ListPlace
     ensures { place_of result ≡ list_of (part_of item.now) }
 {
     match item {
         Item::Any { anywhere, .. } => {
             if *anywhere {
-                Place::Options
+                ListPlace::Options
             } else {
-                Place::Positionals
+                ListPlace::Positionals
             }
         }
-        Item::Positional { .. } => Place::Positionals,
-        Item::Command { .. } => Place::Commands,
-        Item::Flag { .. } => Place::Options,
-        Item::Argument { .. } => Place::Options,
+        Item::Positional { .. } => ListPlace::Positionals,
+        Item::Command { .. } => ListPlace::Commands,
+        Item::Flag { .. } => ListPlace::Options,
+        Item::Argument { .. } => ListPlace::Options,
     }
 }
 
 /// Where an item stands, inside a section or outside.
-fn place_in(home: Option<usize>, item: &Item) -> Place
+fn place_in(home: Option<usize>, item: &Item) -> ListPlace
     ensures { place_of result ≡ place_in home (part_of item.now) }
 {
     match home {
         None => list_of(item),
-        Some(section) => Place::Section(section),
+        Some(section) => ListPlace::Section(section),
     }
 }
 

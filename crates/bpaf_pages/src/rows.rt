@@ -8,7 +8,7 @@ ghost use Rattle.bpaf_pages.specs.InsideLine.{place_of, told_of, line_of};
 ghost use Rattle.bpaf_pages.specs.Help.{key_names, also_short, list_name, help_of, width_of};
 ghost use Rattle.bpaf_pages.specs.Help.{name_width, widest, column, line_text, rows};
 
-use crate::lines::{Lines, Place, Told};
+use crate::lines::{Lines, ListPlace, Told};
 use bpaf_doc::{Doc, Item, ShortLong, Style};
 use std::alloc::{AllocError, Global};
 
@@ -177,16 +177,16 @@ impl<'a> Told<'a> {
     }
 }
 
-impl Place {
+impl ListPlace {
     /// Whether the other place is the same one.
-    fn is_same(&self, other: &Place) -> bool
+    fn is_same(&self, other: &ListPlace) -> bool
         ensures { result ≡ same_place (place_of self.now) (place_of other.now) }
     {
         match (self, other) {
-            (Place::Positionals, Place::Positionals) => true,
-            (Place::Options, Place::Options) => true,
-            (Place::Commands, Place::Commands) => true,
-            (Place::Section(one), Place::Section(other)) => *one == *other,
+            (ListPlace::Positionals, ListPlace::Positionals) => true,
+            (ListPlace::Options, ListPlace::Options) => true,
+            (ListPlace::Commands, ListPlace::Commands) => true,
+            (ListPlace::Section(one), ListPlace::Section(other)) => *one == *other,
             _ => false,
         }
     }
@@ -208,7 +208,12 @@ impl<'a> Lines<'a> {
     }
 
     /// The lines that stand in one place, where names have this width.
-    pub(crate) fn rows(&self, alloc: Global, width: usize, place: Place) -> Result<Doc, AllocError>
+    pub(crate) fn rows(
+        &self,
+        alloc: Global,
+        width: usize,
+        place: ListPlace,
+    ) -> Result<Doc, AllocError>
         ensures { IfOk result (Prints
             (rows width (lines_at (place_of place) (map line_of self.now.all.items)))) }
     {

@@ -1,3 +1,4 @@
 pub mod Branching
 pub mod Looking
 pub mod Opening
+pub mod ExtraLaws

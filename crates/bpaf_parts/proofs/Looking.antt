@@ -14,7 +14,7 @@ use Rattle.bpaf_parts.specs.declared.info.ExtraParams.{ExtraParams}
 use Rattle.bpaf_parts.specs.declared.info.ExtraParams.TheVariants as extra
 use Rattle.bpaf_parts.specs.Extra.{ExtraOutcome, IsNotAsked, LooksForVersion}
 use Rattle.bpaf_parts.specs.Extra.{help, neither, no_memory, version}
-use Rattle.bpaf_parts.specs.ExtraLaws.{key_keeps, no_version_keeps}
+use Rattle.bpaf_parts.proofs.ExtraLaws.{key_keeps, no_version_keeps}
 use Rattle.bpaf_parts.specs.Info.{RunInfo}
 
 -- a key that was found is present

@@ -3,7 +3,7 @@ use Rattle.std.specs.Prelude.{ℕ, Bool, false, List, [], ◌∷◌, Option, Som
 use Rattle.std.specs.Prelude.{option_and_then}
 use Rattle.bpaf_doc.specs.declared.doc.Piece.{Piece}
 use Rattle.bpaf_doc.specs.declared.doc.Style.TheVariants as style
-use Rattle.bpaf_pages.specs.Help.{Given}
+use Rattle.bpaf_pages.specs.Help.{PageTexts}
 use Rattle.bpaf_doc.specs.Names.{Names}
 use Rattle.bpaf_doc.specs.Print.{first_line, shown_as}
 use Rattle.bpaf_text.specs.Named.{Named}
@@ -31,13 +31,21 @@ usual_key name long_name help = record {
   help = Some (shown_as style.Text help ∷ []);
 }
 
+-- the letter `h`
+abbrev pub letter_h : ℕ
+letter_h = 104
+
+-- the letter `V`
+abbrev pub capital_v : ℕ
+capital_v = 86
+
 -- the usual key for help
 abbrev pub help_key : Named
-help_key = usual_key 104 (codes "help") (codes "Prints help information")
+help_key = usual_key letter_h (codes "help") (codes "Prints help information")
 
 -- the usual key for the version
 abbrev pub version_key : Named
-version_key = usual_key 86 (codes "version") (codes "Prints version information")
+version_key = usual_key capital_v (codes "version") (codes "Prints version information")
 
 -- a key, or the usual one where none is set
 abbrev pub key_or : Named → Option Named → Named
@@ -64,7 +72,7 @@ abbrev pub short_descr : RunInfo → Option (List Piece)
 short_descr info = option_and_then first_line info.descr
 
 -- the texts around the help page
-abbrev pub page_texts : RunInfo → Given
+abbrev pub page_texts : RunInfo → PageTexts
 page_texts info = record {
   usage = info.usage;
   descr = info.descr;

@@ -1,6 +1,5 @@
 pub mod Info
 pub mod Extra
-pub mod ExtraLaws
 pub mod Version
 pub mod Failures
 pub mod Branches

@@ -14,7 +14,7 @@
 //!   [`first_set`] and [`absence`] tell of names in the environment; [`read_text`] reads the value of a
 //!   taken text; [`displayed`], [`debugged`] and [`formatted`] write a default.
 //! - [`end_message`] makes the end of an inner run a refusal (specs/Failures.antt), [`hide`] names no
-//!   missing item in one, [`guard_failed`] tells a check, and [`stops_step`] at which a step stops.
+//!   missing item in one, [`guard_failed`] tells a check, and [`stops_step`] at which a turn stops.
 //!
 //! The source of the design is bpaf's `info.rs`, `params.rs` and `structs.rs`.
 #![tactic(auto)]

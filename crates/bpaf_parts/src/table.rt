@@ -3,7 +3,7 @@ ghost use Rattle.std.specs.Prelude.{◌≡◌, ◌⊎◌, IfOk, OnErr, Ok, map};
 ghost use Rattle.bpaf_doc.specs.Shape.{shape_of};
 ghost use Rattle.bpaf_line.specs.Marks.{Fits, CanRedo, undone, redone};
 ghost use Rattle.bpaf_laws.specs.Choice.{Chosen, BothOk, ValueOfWinner, OneOk, IsWant, is_want};
-ghost use Rattle.bpaf_laws.specs.Choice.{alternatives, either};
+ghost use Rattle.bpaf_laws.specs.Choice.{alternatives, either_shape};
 ghost use Rattle.bpaf_parts.specs.Branches.{IsStart, IsBranch, start_of, end_of};
 
 use crate::branch::{Branch, Start, resume};
@@ -136,7 +136,7 @@ fn value_of_both<T: Drop>(
 }
 
 /// The value of the branch that took the leftmost place taken by only one of them, else of the
-/// first; what only the other one took gets a conflict mark. Refused only for want of memory; the
+/// first; what only the other one took gets a conflict note. Refused only for want of memory; the
 /// state can then still go back to the mark.
 fn value_of_winner<T: Drop>(
     state: &mut State,
@@ -186,7 +186,8 @@ fn alternatives(alloc: Global, meta: Meta) -> Result<Vec<Meta>, AllocError>
 ///
 /// It is public for choices in the crates of this repository, not for callers.
 pub fn or_meta(alloc: Global, first: Meta, second: Meta) -> Result<Meta, AllocError>
-    ensures { IfOk result (λ meta. shape_of meta ≡ either (shape_of first) (shape_of second)) }
+    ensures { IfOk result (λ meta.
+        shape_of meta ≡ either_shape (shape_of first) (shape_of second)) }
 {
     let mut all = alternatives(alloc, first)?;
     let mut others = alternatives(alloc, second)?;

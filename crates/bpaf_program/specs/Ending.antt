@@ -3,7 +3,7 @@ use Rattle.std.specs.Prelude.{◌≡◌, ℕ, Bool, true, List, [], ◌∷◌, �
 use Rattle.std.specs.Prelude.{codes, ◌⊎◌}
 use Rattle.std.specs.Io.KnownBytes.{Keeps, Appends}
 use Rattle.bpaf_doc.specs.declared.doc.Piece.{Piece}
-use Rattle.bpaf_doc.specs.Print.{printed}
+use Rattle.bpaf_doc.specs.Print.{printed, line_break}
 use Rattle.bpaf_line.specs.declared.failure.ParseFailure.{ParseFailure}
 use Rattle.bpaf_line.specs.declared.failure.ParseFailure.TheVariants.{Stdout, Stderr}
 
@@ -21,7 +21,7 @@ AppendsUpTo before after text = Appends before after text ⊎ AppendsPart before
 
 -- the line that tells a message
 abbrev pub error_line : List ℕ → List ℕ
-error_line message = codes "Error: " ++ (message ++ 10 ∷ [])
+error_line message = codes "Error: " ++ (message ++ line_break ∷ [])
 
 -- the line that tells of want of memory
 abbrev pub memory_line : List ℕ

@@ -2,7 +2,7 @@
 use Rattle.std.proofs.Common.{◌≡◌, Bool, true, false, List, [], Option, Result, Ok, Err}
 use Rattle.std.proofs.Common.{ℕ, IfOk, true≢false, sym, subst}
 use Rattle.bpaf_doc.specs.Names.{Names}
-use Rattle.bpaf_doc.specs.Shape.{Shape as ShownShape}
+use Rattle.bpaf_doc.specs.Shape.{Shape}
 use Rattle.bpaf_text.specs.Named.{Named as Key}
 use Rattle.bpaf_words.specs.Arguments.{Given}
 use Rattle.bpaf_line.specs.declared.failure.ParseFailure.{ParseFailure}
@@ -12,9 +12,9 @@ use Rattle.bpaf_core.specs.Known.{IsLineContext}
 use Rattle.bpaf_exact.specs.Fields.{IsFieldOf, IsSwitchOf, IsSwitched, switched_on, switched_off}
 use Rattle.bpaf_exact.specs.Leaves.{flag_field}
 use Rattle.bpaf_exact.specs.Record.{RecordValue, line_cells}
-use Rattle.bpaf_exact.specs.Shape.{Shape}
-use Rattle.bpaf_exact.specs.Shape.{field_shape, product_reading, product_roles}
-use Rattle.bpaf_exact.specs.Shape.{record_shape}
+use Rattle.bpaf_exact.specs.FlatForm.{FlatForm}
+use Rattle.bpaf_exact.specs.FlatForm.{flat_field, product_reading, product_roles}
+use Rattle.bpaf_exact.specs.FlatForm.{flat_record}
 use Rattle.bpaf_exact.proofs.OneField.{switch_of}
 use Rattle.bpaf_record.specs.Record.{AnswersExactly}
 use Rattle.bpaf.specs.declared.leaves.positional.Position.{Position}
@@ -26,19 +26,19 @@ use Rattle.bpaf_record.specs.Spelled.{WasSpelled}
 use Rattle.bpaf_record.proofs.Spelled.{key_was_spelled}
 
 -- What each value of the record has on the line of the words, an answer has.
-pub answered_by : {T : Type 0} (describes : ShownShape → Type 0) (info : RunInfo) (shape : Shape T)
-    (given : Given) (r : Result T ParseFailure) → AnswersExactly T describes info shape given r
+pub answered_by : {T : Type 0} (describes : Shape → Type 0) (info : RunInfo) (form : FlatForm T)
+    (given : Given) (r : Result T ParseFailure) → AnswersExactly T describes info form given r
     → (P : T → Type 0)
     → ((context : Context) → IsLineContext describes info given context → (v : T)
-    → RecordValue (product_roles (record_shape shape)) (product_reading (record_shape shape)).value
+    → RecordValue (product_roles (flat_record form)) (product_reading (flat_record form)).value
     context v → P v)
     → IfOk r P
-answered_by describes info shape given (Ok v) exact P holds =
+answered_by describes info form given (Ok v) exact P holds =
     let value = exact.sound.is_value in holds value.context value.on_line v value.read
-answered_by describes info shape given (Err f) exact P holds = tt
+answered_by describes info form given (Err f) exact P holds = tt
 
 -- a switch that is true has a key that is spelled by one of the words before the first `--`
-spelled_if_true : {describes : ShownShape → Type 0} (info : RunInfo) (given : Given)
+spelled_if_true : {describes : Shape → Type 0} (info : RunInfo) (given : Given)
     (context : Context) → IsLineContext describes info given context → (names : Names) (b : Bool)
     → IsSwitched names (line_cells context) b → b ≡ true → WasSpelled names given.words
 spelled_if_true info given context is names true (switched_on {k = k} e) on =
@@ -46,22 +46,22 @@ spelled_if_true info given context is names true (switched_on {k = k} e) on =
 spelled_if_true info given context is names false (switched_off e) on = absurd (true≢false (sym on))
 
 -- A switch of an answer is true only where one of the words before the first `--` spells its key.
-pub switch_answered : {T : Type 0} (describes : ShownShape → Type 0) (info : RunInfo)
-    (shape : Shape T) (given : Given) (r : Result T ParseFailure)
-    → AnswersExactly T describes info shape given r
+pub switch_answered : {T : Type 0} (describes : Shape → Type 0) (info : RunInfo)
+    (form : FlatForm T) (given : Given) (r : Result T ParseFailure)
+    → AnswersExactly T describes info form given r
     → (clones : Bool → Bool → Type 0) → ((x y : Bool) → clones x y → y ≡ x)
     → (names : Names) (key : Key) (present : Bool) (absent : Option Bool)
     → IsSwitchOf names key present absent → (of : T → Bool)
-    → IsFieldOf (field_shape (flag_field clones key present absent)) (record_shape shape) of
+    → IsFieldOf (flat_field (flag_field clones key present absent)) (flat_record form) of
     → (words : List (List ℕ)) → given.words ≡ words
     → IfOk r (λ v. of v ≡ true → WasSpelled names words)
-switch_answered describes info shape given r exact clones same names key present absent is of field
+switch_answered describes info form given r exact clones same names key present absent is of field
     words words_are =
-    answered_by describes info shape given r exact
+    answered_by describes info form given r exact
     (λ v. of v ≡ true → WasSpelled names words)
     (λ context on_line v value on. subst (WasSpelled names) words_are
     (spelled_if_true info given context on_line names (of v)
-    (switch_of clones same names key present absent is (record_shape shape) of field context v
+    (switch_of clones same names key present absent is (flat_record form) of field context v
     value) on))
 
 -- A positional word has no key.

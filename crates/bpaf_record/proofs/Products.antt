@@ -9,10 +9,11 @@ use Rattle.std.proofs.lemmas.List.Folds.{list_all-append}
 use Rattle.bpaf_doc.specs.Names.{Names}
 use Rattle.bpaf_exact.specs.Names.{are_all_apart}
 use Rattle.bpaf_exact.specs.Pieces.{Roles}
-use Rattle.bpaf_exact.specs.Flat.{FieldsReading, Named, OneWord, EachWord}
-use Rattle.bpaf_exact.specs.Shape.{Shape, not_flat, alternative, single, complete, product, only_if}
-use Rattle.bpaf_exact.specs.Shape.{either_shape, choice_shape, choices_rest, alternative_only}
-use Rattle.bpaf_exact.specs.Shape.{choices_shape, field_shape, both_shape, alone_shape, con_shape}
+use Rattle.bpaf_exact.specs.Flat.{FieldsReading, ByName, OneWord, EachWord}
+use Rattle.bpaf_exact.specs.FlatForm.{FlatForm, not_flat, alternative, single, complete, product}
+use Rattle.bpaf_exact.specs.FlatForm.{only_if}
+use Rattle.bpaf_exact.specs.FlatForm.{flat_either, flat_choice, choices_rest, alternative_only}
+use Rattle.bpaf_exact.specs.FlatForm.{flat_choices, flat_field, flat_both, flat_alone, flat_con}
 use Rattle.bpaf_exact.specs.Wrappers.{Closure}
 use Rattle.bpaf_record.specs.declared.form.Form.{Form}
 use Rattle.bpaf_record.specs.Form.{form_of, product_if, field_form, alternative_form, joined_form}
@@ -24,74 +25,75 @@ pub all_joined : {X : Type 0} (test : X → Bool) (xs ys : List X)
 all_joined test xs ys = sym (list_all-append test xs ys)
 
 -- the last field
-pub alone_is : {T : Type 0} (s : Shape T)
-    → alone_form (field_form (form_of s)) ≡ form_of (alone_shape (field_shape s))
+pub alone_is : {T : Type 0} (s : FlatForm T)
+    → alone_form (field_form (form_of s)) ≡ form_of (flat_alone (flat_field s))
 alone_is not_flat = refl
 alone_is (alternative q value) = refl
-alone_is (single Named q group gap) = refl
+alone_is (single ByName q group gap) = refl
 alone_is (single OneWord q group gap) = refl
 alone_is (single EachWord q group gap) = refl
-alone_is (complete Named q value) = refl
+alone_is (complete ByName q value) = refl
 alone_is (complete OneWord q value) = refl
 alone_is (complete EachWord q value) = refl
 alone_is (product q fields) = refl
 
 -- a constructor
-pub con_is : {A B : Type 0} (f : Closure A B) (s : Shape A)
-    → made_form (form_of s) ≡ form_of (con_shape f s)
+pub con_is : {A B : Type 0} (f : Closure A B) (s : FlatForm A)
+    → made_form (form_of s) ≡ form_of (flat_con f s)
 con_is f not_flat = refl
 con_is f (alternative q value) = refl
-con_is f (single Named q group gap) = refl
+con_is f (single ByName q group gap) = refl
 con_is f (single OneWord q group gap) = refl
 con_is f (single EachWord q group gap) = refl
-con_is f (complete Named q value) = refl
+con_is f (complete ByName q value) = refl
 con_is f (complete OneWord q value) = refl
 con_is f (complete EachWord q value) = refl
 con_is f (product q fields) = refl
 
 -- a choice of one alone
-only_is : {T : Type 0} (s : Shape T) → alternative_form (form_of s) ≡ form_of (alternative_only s)
+only_is : {T : Type 0} (s : FlatForm T)
+    → alternative_form (form_of s) ≡ form_of (alternative_only s)
 only_is not_flat = refl
 only_is (alternative q value) = refl
-only_is (single Named q group gap) = refl
+only_is (single ByName q group gap) = refl
 only_is (single OneWord q group gap) = refl
 only_is (single EachWord q group gap) = refl
-only_is (complete Named q value) = refl
+only_is (complete ByName q value) = refl
 only_is (complete OneWord q value) = refl
 only_is (complete EachWord q value) = refl
 only_is (product q fields) = refl
 
 -- a choice of two whose keys are apart
-either_is : {T : Type 0} (s t : Shape T)
-    → joined_form true (form_of s) (form_of t) ≡ form_of (either_shape s t)
+either_is : {T : Type 0} (s t : FlatForm T)
+    → joined_form true (form_of s) (form_of t) ≡ form_of (flat_either s t)
 either_is not_flat t = refl
 either_is (alternative q value) not_flat = refl
 either_is (alternative q value) (alternative r other) = refl
-either_is (alternative q value) (single Named r group gap) = refl
+either_is (alternative q value) (single ByName r group gap) = refl
 either_is (alternative q value) (single OneWord r group gap) = refl
 either_is (alternative q value) (single EachWord r group gap) = refl
-either_is (alternative q value) (complete Named r other) = refl
+either_is (alternative q value) (complete ByName r other) = refl
 either_is (alternative q value) (complete OneWord r other) = refl
 either_is (alternative q value) (complete EachWord r other) = refl
 either_is (alternative q value) (product r other) = refl
-either_is (single Named q group gap) t = refl
+either_is (single ByName q group gap) t = refl
 either_is (single OneWord q group gap) t = refl
 either_is (single EachWord q group gap) t = refl
-either_is (complete Named q value) t = refl
+either_is (complete ByName q value) t = refl
 either_is (complete OneWord q value) t = refl
 either_is (complete EachWord q value) t = refl
 either_is (product q fields) t = refl
 
 -- a choice of two
-joined_is : {T : Type 0} (apart : Bool) (s t : Shape T)
-    → joined_form apart (form_of s) (form_of t) ≡ form_of (only_if apart (either_shape s t))
+joined_is : {T : Type 0} (apart : Bool) (s t : FlatForm T)
+    → joined_form apart (form_of s) (form_of t) ≡ form_of (only_if apart (flat_either s t))
 joined_is true s t = either_is s t
 joined_is false s t = refl
 
 -- a choice of two, by their keys
-pub choice_is : {T : Type 0} (own others : List Names) (s t : Shape T)
+pub choice_is : {T : Type 0} (own others : List Names) (s t : FlatForm T)
     → joined_form (are_all_apart own others) (form_of s) (form_of t)
-    ≡ form_of (choice_shape own others s t)
+    ≡ form_of (flat_choice own others s t)
 choice_is own others s t = joined_is (are_all_apart own others) s t
 
 -- a product, where a test holds
@@ -101,75 +103,75 @@ named_is true q fields = refl
 named_is false q fields = refl
 
 -- a field before others
-pub both_is : {A B : Type 0} (own others : List Names) (s : Shape A) (t : Shape B)
+pub both_is : {A B : Type 0} (own others : List Names) (s : FlatForm A) (t : FlatForm B)
     → before_form (field_form (form_of s)) (form_of t) (are_all_apart own others)
-    (list_all (λ names. false) others) ≡ form_of (both_shape own others (field_shape s) t)
+    (list_all (λ names. false) others) ≡ form_of (flat_both own others (flat_field s) t)
 both_is own others not_flat t = refl
 both_is own others (alternative q value) not_flat = refl
 both_is own others (alternative q value) (alternative r other) = refl
-both_is own others (alternative q value) (single Named r group gap) = refl
+both_is own others (alternative q value) (single ByName r group gap) = refl
 both_is own others (alternative q value) (single OneWord r group gap) = refl
 both_is own others (alternative q value) (single EachWord r group gap) = refl
-both_is own others (alternative q value) (complete Named r other) = refl
+both_is own others (alternative q value) (complete ByName r other) = refl
 both_is own others (alternative q value) (complete OneWord r other) = refl
 both_is own others (alternative q value) (complete EachWord r other) = refl
 both_is own others (alternative q value) (product r other) = named_is (are_all_apart own others) _ _
-both_is own others (single Named q group gap) not_flat = refl
-both_is own others (single Named q group gap) (alternative r other) = refl
-both_is own others (single Named q group gap) (single Named r other rest) = refl
-both_is own others (single Named q group gap) (single OneWord r other rest) = refl
-both_is own others (single Named q group gap) (single EachWord r other rest) = refl
-both_is own others (single Named q group gap) (complete Named r other) = refl
-both_is own others (single Named q group gap) (complete OneWord r other) = refl
-both_is own others (single Named q group gap) (complete EachWord r other) = refl
-both_is own others (single Named q group gap) (product r other) =
+both_is own others (single ByName q group gap) not_flat = refl
+both_is own others (single ByName q group gap) (alternative r other) = refl
+both_is own others (single ByName q group gap) (single ByName r other rest) = refl
+both_is own others (single ByName q group gap) (single OneWord r other rest) = refl
+both_is own others (single ByName q group gap) (single EachWord r other rest) = refl
+both_is own others (single ByName q group gap) (complete ByName r other) = refl
+both_is own others (single ByName q group gap) (complete OneWord r other) = refl
+both_is own others (single ByName q group gap) (complete EachWord r other) = refl
+both_is own others (single ByName q group gap) (product r other) =
     named_is (are_all_apart own others) _ _
 both_is own others (single OneWord q group gap) not_flat = refl
 both_is own others (single OneWord q group gap) (alternative r other) = refl
-both_is own others (single OneWord q group gap) (single Named r other rest) = refl
+both_is own others (single OneWord q group gap) (single ByName r other rest) = refl
 both_is own others (single OneWord q group gap) (single OneWord r other rest) = refl
 both_is own others (single OneWord q group gap) (single EachWord r other rest) = refl
-both_is own others (single OneWord q group gap) (complete Named r other) = refl
+both_is own others (single OneWord q group gap) (complete ByName r other) = refl
 both_is own others (single OneWord q group gap) (complete OneWord r other) = refl
 both_is own others (single OneWord q group gap) (complete EachWord r other) = refl
 both_is own [] (single OneWord q group gap) (product r other) = refl
 both_is own (names ∷ others) (single OneWord q group gap) (product r other) = refl
 both_is own others (single EachWord q group gap) not_flat = refl
 both_is own others (single EachWord q group gap) (alternative r other) = refl
-both_is own others (single EachWord q group gap) (single Named r other rest) = refl
+both_is own others (single EachWord q group gap) (single ByName r other rest) = refl
 both_is own others (single EachWord q group gap) (single OneWord r other rest) = refl
 both_is own others (single EachWord q group gap) (single EachWord r other rest) = refl
-both_is own others (single EachWord q group gap) (complete Named r other) = refl
+both_is own others (single EachWord q group gap) (complete ByName r other) = refl
 both_is own others (single EachWord q group gap) (complete OneWord r other) = refl
 both_is own others (single EachWord q group gap) (complete EachWord r other) = refl
 both_is own [] (single EachWord q group gap) (product r other) = refl
 both_is own (names ∷ others) (single EachWord q group gap) (product r other) = refl
-both_is own others (complete Named q value) not_flat = refl
-both_is own others (complete Named q value) (alternative r other) = refl
-both_is own others (complete Named q value) (single Named r group gap) = refl
-both_is own others (complete Named q value) (single OneWord r group gap) = refl
-both_is own others (complete Named q value) (single EachWord r group gap) = refl
-both_is own others (complete Named q value) (complete Named r other) = refl
-both_is own others (complete Named q value) (complete OneWord r other) = refl
-both_is own others (complete Named q value) (complete EachWord r other) = refl
-both_is own others (complete Named q value) (product r other) =
+both_is own others (complete ByName q value) not_flat = refl
+both_is own others (complete ByName q value) (alternative r other) = refl
+both_is own others (complete ByName q value) (single ByName r group gap) = refl
+both_is own others (complete ByName q value) (single OneWord r group gap) = refl
+both_is own others (complete ByName q value) (single EachWord r group gap) = refl
+both_is own others (complete ByName q value) (complete ByName r other) = refl
+both_is own others (complete ByName q value) (complete OneWord r other) = refl
+both_is own others (complete ByName q value) (complete EachWord r other) = refl
+both_is own others (complete ByName q value) (product r other) =
     named_is (are_all_apart own others) _ _
 both_is own others (complete OneWord q value) not_flat = refl
 both_is own others (complete OneWord q value) (alternative r other) = refl
-both_is own others (complete OneWord q value) (single Named r group gap) = refl
+both_is own others (complete OneWord q value) (single ByName r group gap) = refl
 both_is own others (complete OneWord q value) (single OneWord r group gap) = refl
 both_is own others (complete OneWord q value) (single EachWord r group gap) = refl
-both_is own others (complete OneWord q value) (complete Named r other) = refl
+both_is own others (complete OneWord q value) (complete ByName r other) = refl
 both_is own others (complete OneWord q value) (complete OneWord r other) = refl
 both_is own others (complete OneWord q value) (complete EachWord r other) = refl
 both_is own [] (complete OneWord q value) (product r other) = refl
 both_is own (names ∷ others) (complete OneWord q value) (product r other) = refl
 both_is own others (complete EachWord q value) not_flat = refl
 both_is own others (complete EachWord q value) (alternative r other) = refl
-both_is own others (complete EachWord q value) (single Named r group gap) = refl
+both_is own others (complete EachWord q value) (single ByName r group gap) = refl
 both_is own others (complete EachWord q value) (single OneWord r group gap) = refl
 both_is own others (complete EachWord q value) (single EachWord r group gap) = refl
-both_is own others (complete EachWord q value) (complete Named r other) = refl
+both_is own others (complete EachWord q value) (complete ByName r other) = refl
 both_is own others (complete EachWord q value) (complete OneWord r other) = refl
 both_is own others (complete EachWord q value) (complete EachWord r other) = refl
 both_is own [] (complete EachWord q value) (product r other) = refl
@@ -177,15 +179,15 @@ both_is own (names ∷ others) (complete EachWord q value) (product r other) = r
 both_is own others (product q fields) t = refl
 
 -- a choice of what stands before and of parsers
-rest_is : {P T : Type 0} (keys : P → List Names) (shape : P → Shape T) (own : List Names)
-    (s : Shape T) (ps : List P)
-    → forms_rest keys (λ p. form_of (shape p)) own (form_of s) ps
-    ≡ form_of (choices_rest keys shape own s ps)
-rest_is keys shape own s [] = refl
-rest_is keys shape own s (p ∷ ps) =
-    ap (λ form. forms_rest keys (λ q. form_of (shape q)) (own ++ keys p) form ps)
-    (choice_is own (keys p) s (shape p))
-    ∙ rest_is keys shape (own ++ keys p) (choice_shape own (keys p) s (shape p)) ps
+rest_is : {P T : Type 0} (keys : P → List Names) (flat_form : P → FlatForm T) (own : List Names)
+    (s : FlatForm T) (ps : List P)
+    → forms_rest keys (λ p. form_of (flat_form p)) own (form_of s) ps
+    ≡ form_of (choices_rest keys flat_form own s ps)
+rest_is keys flat_form own s [] = refl
+rest_is keys flat_form own s (p ∷ ps) =
+    ap (λ form. forms_rest keys (λ q. form_of (flat_form q)) (own ++ keys p) form ps)
+    (choice_is own (keys p) s (flat_form p))
+    ∙ rest_is keys flat_form (own ++ keys p) (flat_choice own (keys p) s (flat_form p)) ps
 
 -- the keys of one parser more
 keys_more : {P : Type 0} (keys : P → List Names) (ps : List P) (i : ℕ) (d : P) → i < length ps
@@ -216,14 +218,16 @@ join_end keys form f ps i l =
     ap (forms_rest keys form (flat_map keys (take i ps)) f) (drop_all i ps l)
 
 -- the choice of all parsers
-pub choices_is : {P T : Type 0} (keys : P → List Names) (shape : P → Shape T) (ps : List P) (d : P)
+pub choices_is : {P T : Type 0} (keys : P → List Names) (flat_form : P → FlatForm T)
+    (ps : List P) (d : P)
     → 1 ≤ length ps
-    → forms_rest keys (λ p. form_of (shape p)) (flat_map keys (take 1 ps))
-    (alternative_form (form_of (shape (slice_index_or ps 0 d)))) (drop 1 ps)
-    ≡ form_of (choices_shape keys shape ps)
-choices_is keys shape [] d l = absurd (omega arith)
-choices_is keys shape (p ∷ ps) d l =
-    ap (λ names. forms_rest keys (λ q. form_of (shape q)) names
-    (alternative_form (form_of (shape p))) ps) (append-nil (keys p))
-    ∙ (ap (λ form. forms_rest keys (λ q. form_of (shape q)) (keys p) form ps) (only_is (shape p))
-    ∙ rest_is keys shape (keys p) (alternative_only (shape p)) ps)
+    → forms_rest keys (λ p. form_of (flat_form p)) (flat_map keys (take 1 ps))
+    (alternative_form (form_of (flat_form (slice_index_or ps 0 d)))) (drop 1 ps)
+    ≡ form_of (flat_choices keys flat_form ps)
+choices_is keys flat_form [] d l = absurd (omega arith)
+choices_is keys flat_form (p ∷ ps) d l =
+    ap (λ names. forms_rest keys (λ q. form_of (flat_form q)) names
+    (alternative_form (form_of (flat_form p))) ps) (append-nil (keys p))
+    ∙ (ap (λ form. forms_rest keys (λ q. form_of (flat_form q)) (keys p) form ps)
+    (only_is (flat_form p))
+    ∙ rest_is keys flat_form (keys p) (alternative_only (flat_form p)) ps)

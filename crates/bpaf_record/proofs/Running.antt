@@ -1,7 +1,7 @@
 -- Each answer that the table of a run allows to a flat record is exact.
 use Rattle.std.proofs.Common.{◌≡◌, ℕ, Bool, true, false, ◌&&◌, List, Some, None, Result, Ok, Err, IfOk, All, IsUtf8, refl, ap, subst, arith}
 use Rattle.bpaf_doc.specs.Names.{Names}
-use Rattle.bpaf_doc.specs.Shape.{Shape as ShownShape}
+use Rattle.bpaf_doc.specs.Shape.{Shape}
 use Rattle.bpaf_words.specs.Arguments.{Given}
 use Rattle.bpaf_line.specs.declared.error.Error.{Error}
 use Rattle.bpaf_line.specs.declared.error.Message.{Message}
@@ -19,14 +19,14 @@ use Rattle.bpaf_core.specs.Run.{Runs, value, leftover, refused, ran, no_line as 
 use Rattle.bpaf_exact.specs.Flat.{FieldsLaw, FieldsReading}
 use Rattle.bpaf_exact.specs.Pieces.{Cut, Roles}
 use Rattle.bpaf_exact.specs.Record.{RunRan, run_value, run_leftover, run_memory, run_refusal, IsNoValue}
-use Rattle.bpaf_exact.specs.Record.{IsAnswer, IsExact, RecordValue, line_cells}
-use Rattle.bpaf_exact.specs.Shape.{Shape, ShapeLaw, is_record, product_roles, product_reading, record_shape}
+use Rattle.bpaf_exact.specs.Record.{IsAcceptedOrWant, IsExact, RecordValue, line_cells}
+use Rattle.bpaf_exact.specs.FlatForm.{FlatForm, FormLaw, is_record, product_roles, product_reading, flat_record}
 use Rattle.bpaf_exact.proofs.Classes.{memory_class, not_memory}
 use Rattle.bpaf_exact.proofs.Accepted.{cut_holds_together}
 use Rattle.bpaf_exact.proofs.Exact.{runs_exactly}
-use Rattle.bpaf_exact.proofs.Shape.{record_law}
+use Rattle.bpaf_exact.proofs.FlatForm.{record_law}
 use Rattle.bpaf_exact.specs.SameParts.{ShowsTheSame}
-use Rattle.bpaf_record.specs.Record.{is_flat_record, answer_of, EachAnswersExactly}
+use Rattle.bpaf_record.specs.Record.{is_flat_record, answer_of, RunsWordsExactly}
 use Rattle.bpaf_record.specs.Record.{IsValueOf, IsValueOrWant, HasWholeLine, PiecesOf}
 use Rattle.bpaf_record.proofs.OneLine.{never_without, one_context}
 
@@ -48,7 +48,7 @@ no_value T (failure.Stdout doc full) = tt
 no_value T (failure.Stderr doc) = tt
 no_value T failure.Memory = tt
 
-module _ (T : Type 0) (outcome : Outcome T) (describes : ShownShape → Type 0) (info : RunInfo) where
+module _ (T : Type 0) (outcome : Outcome T) (describes : Shape → Type 0) (info : RunInfo) where
   -- a run that leaves items
   leftover_ran : (s left t : Situation) (v : T) (f : ParseFailure) → outcome s (Ok v) left → EndsRun describes info None s left f t → RunRan T outcome s (answer_of (Err f))
   leftover_ran s left t v f o (told_leftover m before after g u is tells) = run_leftover o (left_over left m is) (no_value T f)
@@ -66,30 +66,30 @@ module _ (T : Type 0) (outcome : Outcome T) (describes : ShownShape → Type 0) 
   run_ran s t r (leftover v left f after o ends) = leftover_ran s left after v f o ends
   run_ran s t r (refused e left f after o ends) = refused_ran s left after e f o ends
 
-  module _ (names : List Names) (shape : Shape T) (law : ShapeLaw outcome names shape)
-      (flat : is_record shape ≡ true) (shows : ShowsTheSame describes) (given : Given) where
+  module _ (names : List Names) (form : FlatForm T) (law : FormLaw outcome names form)
+      (flat : is_record form ≡ true) (shows : ShowsTheSame describes) (given : Given) where
     -- a value of the record on words
     abbrev IsValue : T → Type 0
-    IsValue = IsValueOf describes info shape given
+    IsValue = IsValueOf describes info form given
 
     -- the keys of the record
     abbrev roles : Roles
-    roles = product_roles (record_shape shape)
+    roles = product_roles (flat_record form)
 
     -- how its fields read the pieces
     abbrev reading : FieldsReading T
-    reading = product_reading (record_shape shape)
+    reading = product_reading (flat_record form)
 
     -- they keep to the laws
     fields_law : FieldsLaw T outcome roles reading
-    fields_law = record_law T outcome names shape flat law
+    fields_law = record_law T outcome names form flat law
 
     -- the pieces that the words are cut into
     abbrev Line : Type 0
-    Line = PiecesOf describes info shape given
+    Line = PiecesOf describes info form given
 
     -- the line of a value of the record is whole
-    whole_line : (v : T) → IsValue v → HasWholeLine describes info shape given v
+    whole_line : (v : T) → IsValue v → HasWholeLine describes info form given v
     whole_line v is = record {
       is_value = is;
       together = cut_holds_together roles fields_law.named (line_cells is.context)
@@ -100,14 +100,14 @@ module _ (T : Type 0) (outcome : Outcome T) (describes : ShownShape → Type 0) 
         (r : Result T ParseFailure) (exact : IsExact T roles reading context (answer_of r)) where
       -- what is exact on the words' line is a value only where that is one of the record's
       sound_on : (a : Result T ParseFailure) → r ≡ a
-          → IfOk a (HasWholeLine describes info shape given)
+          → IfOk a (HasWholeLine describes info form given)
       sound_on (Ok v) e = whole_line v
           (record { context = context; on_line = is; read = exact.sound v (ap answer_of e) })
       sound_on (Err f) e = tt
 
       -- an answer that is one of the record's values there, or want of memory
       answer_on : (a : Result T ParseFailure)
-          → IsAnswer (λ v. RecordValue roles reading.value context v) (answer_of a)
+          → IsAcceptedOrWant (λ v. RecordValue roles reading.value context v) (answer_of a)
           → IsValueOrWant IsValue a
       answer_on (Ok v) given_value =
           record { context = context; on_line = is; read = given_value }
@@ -143,9 +143,9 @@ module _ (T : Type 0) (outcome : Outcome T) (describes : ShownShape → Type 0) 
     }
 
     -- each answer to words is exact
-    pub answers_exactly : EachAnswersExactly outcome describes info shape given
+    pub answers_exactly : RunsWordsExactly outcome describes info form given
     answers_exactly r (ran context answer t is run) =
-        let exact = runs_exactly T outcome names shape flat law context (answer_of r)
+        let exact = runs_exactly T outcome names form flat law context (answer_of r)
         (run_ran (beginning context) t r run) in
         record {
           sound = sound_on context is r exact r refl;
@@ -171,8 +171,8 @@ module _ (T : Type 0) (outcome : Outcome T) (describes : ShownShape → Type 0) 
     }
 
 -- options that are a flat record have a parser that is one
-pub is_flat_shape : {T : Type 0} (shape : Shape T) (names : List Names) (info : RunInfo) → is_flat_record shape names info ≡ true → is_record shape ≡ true
-is_flat_shape shape names info e = both_left (is_record shape) _ e
+pub is_flat_form : {T : Type 0} (form : FlatForm T) (names : List Names) (info : RunInfo) → is_flat_record form names info ≡ true → is_record form ≡ true
+is_flat_form form names info e = both_left (is_record form) _ e
   where
     both_left : (a b : Bool) → (a && b) ≡ true → a ≡ true
     both_left true b h = refl

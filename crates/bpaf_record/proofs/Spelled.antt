@@ -5,10 +5,10 @@ use Rattle.std.proofs.Common.{if◌then◌else◌, ⊎_elim, slice_get}
 use Rattle.std.specs.Prelude.{flat_map}
 use Rattle.std.specs.List.{AllZip, Contains, AllByRecursion}
 use Rattle.bpaf_doc.specs.Names.{Names}
-use Rattle.bpaf_doc.specs.Shape.{Shape as ShownShape}
+use Rattle.bpaf_doc.specs.Shape.{Shape}
 use Rattle.bpaf_words.specs.Arguments.{Given}
 use Rattle.bpaf_words.specs.Items.{is_key_of}
-use Rattle.bpaf_words.specs.Line.{IsLine, unmarked, marked, SpellAll}
+use Rattle.bpaf_words.specs.Line.{IsLine, without_marker, with_marker, SpellAll}
 use Rattle.bpaf_words.specs.Spelling.{Known, Items, Spells, known_at}
 use Rattle.bpaf_words.specs.declared.arg.Arg.{Arg}
 use Rattle.bpaf_words.specs.declared.arg.Arg.TheVariants.{PosWord}
@@ -17,7 +17,8 @@ use Rattle.bpaf_line.specs.Situation.{Context, item_in, is_marker}
 use Rattle.bpaf_parts.specs.Info.{RunInfo}
 use Rattle.bpaf_core.specs.Known.{IsLineContext, known_names}
 use Rattle.bpaf.specs.Marker.{words_before}
-use Rattle.bpaf.proofs.Sides.{each_at, each_append, each_then, before_marked, before_unmarked}
+use Rattle.bpaf.proofs.Sides.{each_at, each_append, each_then, before_with_marker}
+use Rattle.bpaf.proofs.Sides.{before_without_marker}
 use Rattle.bpaf_exact.specs.Fields.{keys_on}
 use Rattle.bpaf_exact.specs.Flat.{first_cells}
 use Rattle.bpaf_exact.specs.Record.{line_cells}
@@ -76,13 +77,13 @@ module _ (known : Known) (names : Names) where
   line_spelled : (words : List (List ℕ)) (line : List Arg) (marker : Option ℕ)
       → IsLine known words line marker
       → AllByRecursion (IsSpelledBy (words_before words)) line
-  line_spelled words line marker (unmarked items none spelled) =
+  line_spelled words line marker (without_marker items none spelled) =
       subst (λ before. AllByRecursion (IsSpelledBy before) items)
-      (sym (before_unmarked words none)) (all_spelled words items spelled)
-  line_spelled words line marker (marked before after items cut none spelled) =
+      (sym (before_without_marker words none)) (all_spelled words items spelled)
+  line_spelled words line marker (with_marker before after items cut none spelled) =
       subst (λ those. AllByRecursion (IsSpelledBy those)
       (items ++ PosWord (codes "--") ∷ map PosWord after))
-      (sym (ap words_before cut ∙ before_marked before after none))
+      (sym (ap words_before cut ∙ before_with_marker before after none))
       (each_append (IsSpelledBy before) items (PosWord (codes "--") ∷ map PosWord after)
       (all_spelled before items spelled) ((λ is. cc), behind_spelled before after))
 
@@ -139,7 +140,7 @@ module _ (known : Known) (names : Names) where
       record { word = by.0; before = by.1; spells = by.2 }
 
 -- So it is on the line by which a run reads the words.
-pub key_was_spelled : {describes : ShownShape → Type 0} (info : RunInfo) (given : Given)
+pub key_was_spelled : {describes : Shape → Type 0} (info : RunInfo) (given : Given)
     (context : Context) → IsLineContext describes info given context → (names : Names) (k : Arg)
     (ks : List Arg) → keys_on names (line_cells context) ≡ k ∷ ks → WasSpelled names given.words
 key_was_spelled info given context is names k ks e = ⊎_elim

@@ -1,27 +1,27 @@
 -- What a parser is to a flat record, as the program tells it.
 use Rattle.std.specs.Prelude.{Bool, true, false, List, [], ◌∷◌, ◌++◌}
 use Rattle.bpaf_doc.specs.Names.{Names}
-use Rattle.bpaf_exact.specs.Flat.{Kind, Named as NamedKind, OneWord, EachWord}
+use Rattle.bpaf_exact.specs.Flat.{FieldKind, ByName, OneWord, EachWord}
 use Rattle.bpaf_exact.specs.Names.{are_all_apart}
-use Rattle.bpaf_exact.specs.Shape.{Shape, not_flat, alternative, single, complete, product}
+use Rattle.bpaf_exact.specs.FlatForm.{FlatForm, not_flat, alternative, single, complete, product}
 use Rattle.bpaf_record.specs.declared.form.Form.{Form}
 use Rattle.bpaf_record.specs.declared.form.Form.TheVariants.{NotFlat, Alternative, Named, Word}
 use Rattle.bpaf_record.specs.declared.form.Form.TheVariants.{NamedComplete, WordComplete, Product}
 
 -- that of a field without a repeat or default
-abbrev pub single_form : Kind → Form
-single_form NamedKind = Named
+abbrev pub single_form : FieldKind → Form
+single_form ByName = Named
 single_form OneWord = Word
 single_form EachWord = Word
 
 -- that of a field with one
-abbrev pub complete_form : Kind → Form
-complete_form NamedKind = NamedComplete
+abbrev pub complete_form : FieldKind → Form
+complete_form ByName = NamedComplete
 complete_form OneWord = WordComplete
 complete_form EachWord = WordComplete
 
--- that of a shape
-abbrev pub form_of : {T : Type 0} → Shape T → Form
+-- that of a flat form, without its items
+abbrev pub form_of : {T : Type 0} → FlatForm T → Form
 form_of not_flat = NotFlat
 form_of (alternative q value) = Alternative
 form_of (single k q group gap) = single_form k

@@ -2,7 +2,7 @@
 use Rattle.std.specs.Prelude.{◌≡◌, All, Bool, ◌&&◌, IfOk, IsUtf8, List, Result, Ok, Err}
 use Rattle.std.specs.List.{list_all}
 use Rattle.bpaf_doc.specs.Names.{Names}
-use Rattle.bpaf_doc.specs.Shape.{Shape as ShownShape}
+use Rattle.bpaf_doc.specs.Shape.{Shape}
 use Rattle.bpaf_words.specs.Arguments.{Given}
 use Rattle.bpaf_line.specs.declared.failure.ParseFailure.{ParseFailure}
 use Rattle.bpaf_line.specs.declared.failure.ParseFailure.TheVariants as failure
@@ -13,51 +13,52 @@ use Rattle.bpaf_core.specs.Known.{IsLineContext}
 use Rattle.bpaf_core.specs.Run.{RunsWords}
 use Rattle.bpaf_exact.specs.Accepted.{HoldsTogether}
 use Rattle.bpaf_exact.specs.Names.{are_apart}
-use Rattle.bpaf_exact.specs.Pieces.{Piece, Cut}
-use Rattle.bpaf_exact.specs.Record.{Answer, Accepted, NoMemory, Refusal, RecordValue}
+use Rattle.bpaf_exact.specs.Pieces.{LinePiece, Cut}
+use Rattle.bpaf_exact.specs.Record.{RunAnswer, Accepted, NoMemory, Refusal, RecordValue}
 use Rattle.bpaf_exact.specs.Record.{line_cells}
-use Rattle.bpaf_exact.specs.Shape.{Shape, is_record, product_roles, product_reading, record_shape}
+use Rattle.bpaf_exact.specs.FlatForm.{FlatForm, is_record, product_roles, product_reading}
+use Rattle.bpaf_exact.specs.FlatForm.{flat_record}
 
 -- a flat record none of whose keys shares a name with those of help and version
-abbrev pub is_flat_record : {T : Type 0} → Shape T → List Names → RunInfo → Bool
-is_flat_record shape keys info =
-    is_record shape
+abbrev pub is_flat_record : {T : Type 0} → FlatForm T → List Names → RunInfo → Bool
+is_flat_record form keys info =
+    is_record form
     && (list_all (are_apart info.help_arg.names) keys
     && list_all (are_apart info.version_arg.names) keys)
 
 -- the answer of a run, as exactness sees it: a text that was asked for is no value
-abbrev pub answer_of : {T : Type 0} → Result T ParseFailure → Answer T
+abbrev pub answer_of : {T : Type 0} → Result T ParseFailure → RunAnswer T
 answer_of (Ok v) = Accepted v
 answer_of (Err (failure.Stdout doc full)) = Refusal
 answer_of (Err (failure.Stderr doc)) = Refusal
 answer_of (Err failure.Memory) = NoMemory
 
 -- v is a value of the record on words: on their line
-pub record IsValueOf {T : Type 0} (describes : ShownShape → Type 0) (info : RunInfo)
-    (shape : Shape T) (given : Given) (v : T) : Type 0 where
+pub record IsValueOf {T : Type 0} (describes : Shape → Type 0) (info : RunInfo)
+    (form : FlatForm T) (given : Given) (v : T) : Type 0 where
   pub context : Context
   pub on_line : IsLineContext describes info given context
-  pub read : RecordValue (product_roles (record_shape shape))
-      (product_reading (record_shape shape)).value context v
+  pub read : RecordValue (product_roles (flat_record form))
+      (product_reading (flat_record form)).value context v
 
 -- v is a value of the record on words whose line, as it is cut for v, holds together
-pub record HasWholeLine {T : Type 0} (describes : ShownShape → Type 0) (info : RunInfo)
-    (shape : Shape T) (given : Given) (v : T) : Type 0 where
-  pub is_value : IsValueOf describes info shape given v
-  pub together : HoldsTogether (product_roles (record_shape shape)) (line_cells is_value.context)
+pub record HasWholeLine {T : Type 0} (describes : Shape → Type 0) (info : RunInfo)
+    (form : FlatForm T) (given : Given) (v : T) : Type 0 where
+  pub is_value : IsValueOf describes info form given v
+  pub together : HoldsTogether (product_roles (flat_record form)) (line_cells is_value.context)
       is_value.read.cut_into
 
 -- the pieces that the line of words is cut into for the record
-pub record PiecesOf {T : Type 0} (describes : ShownShape → Type 0) (info : RunInfo)
-    (shape : Shape T) (given : Given) : Type 0 where
+pub record PiecesOf {T : Type 0} (describes : Shape → Type 0) (info : RunInfo)
+    (form : FlatForm T) (given : Given) : Type 0 where
   pub context : Context
   pub on_line : IsLineContext describes info given context
-  pub cut_into : List Piece
-  pub cut : Cut (product_roles (record_shape shape)) (line_cells context) cut_into
+  pub cut_into : List LinePiece
+  pub cut : Cut (product_roles (flat_record form)) (line_cells context) cut_into
 
 -- each field of the record has a value on its share of these
-abbrev pub EachHasValue : {T : Type 0} → Shape T → List Piece → Type 0
-EachHasValue shape = (product_reading (record_shape shape)).each
+abbrev pub EachHasValue : {T : Type 0} → FlatForm T → List LinePiece → Type 0
+EachHasValue form = (product_reading (flat_record form)).each
 
 -- an answer is one of these values, or want of memory
 abbrev pub IsValueOrWant : {T : Type 0} → (T → Type 0) → Result T ParseFailure → Type 0
@@ -65,24 +66,24 @@ IsValueOrWant value (Ok v) = value v
 IsValueOrWant value (Err f) = f ≡ failure.Memory
 
 -- An answer to words is exact. That words have a value is said of words that are texts.
-pub record AnswersExactly (T : Type 0) (describes : ShownShape → Type 0) (info : RunInfo)
-    (shape : Shape T) (given : Given) (r : Result T ParseFailure) : Type 0 where
+pub record AnswersExactly (T : Type 0) (describes : Shape → Type 0) (info : RunInfo)
+    (form : FlatForm T) (given : Given) (r : Result T ParseFailure) : Type 0 where
   -- it is a value only where that is one of the record's, on a line that holds together
-  pub sound : IfOk r (HasWholeLine describes info shape given)
+  pub sound : IfOk r (HasWholeLine describes info form given)
   -- where each field has a value on its share of the pieces, it is one of the record's, made of
   -- such, or want of memory
-  pub complete : All IsUtf8 given.words → (line : PiecesOf describes info shape given)
-      → EachHasValue shape line.cut_into → IsValueOrWant (IsValueOf describes info shape given) r
+  pub complete : All IsUtf8 given.words → (line : PiecesOf describes info form given)
+      → EachHasValue form line.cut_into → IsValueOrWant (IsValueOf describes info form given) r
   -- where a field has none, it is no value
-  pub refused : All IsUtf8 given.words → (line : PiecesOf describes info shape given)
-      → ¬ (EachHasValue shape line.cut_into) → IfOk r (λ v. ⊥)
+  pub refused : All IsUtf8 given.words → (line : PiecesOf describes info form given)
+      → ¬ (EachHasValue form line.cut_into) → IfOk r (λ v. ⊥)
   -- where the record has a value, it is one of its values, or want of memory
-  pub answered : All IsUtf8 given.words → (v : T) → IsValueOf describes info shape given v
-      → IsValueOrWant (IsValueOf describes info shape given) r
+  pub answered : All IsUtf8 given.words → (v : T) → IsValueOf describes info form given v
+      → IsValueOrWant (IsValueOf describes info form given) r
 
 -- each answer that the table of a run allows on the words is exact
-abbrev pub EachAnswersExactly : {T : Type 0} → Outcome T → (ShownShape → Type 0) → RunInfo
-    → Shape T → Given → Type 0
-EachAnswersExactly {T = T} outcome describes info shape given =
+abbrev pub RunsWordsExactly : {T : Type 0} → Outcome T → (Shape → Type 0) → RunInfo
+    → FlatForm T → Given → Type 0
+RunsWordsExactly {T = T} outcome describes info form given =
     (r : Result T ParseFailure) → RunsWords T outcome describes info given r
-    → AnswersExactly T describes info shape given r
+    → AnswersExactly T describes info form given r

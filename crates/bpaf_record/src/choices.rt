@@ -1,7 +1,7 @@
 //! Choices as fields of a flat record.
 ghost use Rattle.std.specs.Prelude.{◌≡◌, ◌≤◌, length, take, drop, flat_map};
 ghost use Rattle.std.specs.List.{list_all};
-ghost use Rattle.bpaf_exact.specs.Shape.{choices_shape};
+ghost use Rattle.bpaf_exact.specs.FlatForm.{flat_choices};
 ghost use Rattle.bpaf_record.specs.Form.{form_of, forms_rest};
 
 use crate::field::FlatField;
@@ -24,12 +24,12 @@ impl<A: HasKeys, B: HasKeys> HasKeys for ParseOrElse<A, B> {
 
 /// Of required flags and arguments alone, whose names are apart.
 impl<T: Drop, A: FlatField<T>, B: FlatField<T>> FlatField<T> for ParseOrElse<A, B> {
-    ghost use Rattle.bpaf_exact.specs.Shape.{choice_shape};
-    ghost use Rattle.bpaf_exact.proofs.Shape.{choice_shape_law};
+    ghost use Rattle.bpaf_exact.specs.FlatForm.{flat_choice};
+    ghost use Rattle.bpaf_exact.proofs.FlatForm.{flat_choice_law};
     ghost use Rattle.bpaf_exact.proofs.SameParts.{choice_shows};
 
-    ghost shape = { λ p.
-        choice_shape (A.keys p.this) (B.keys p.that) (A.shape p.this) (B.shape p.that) };
+    ghost flat_form = { λ p.
+        flat_choice (A.keys p.this) (B.keys p.that) (A.flat_form p.this) (B.flat_form p.that) };
 
     ghost agrees = { λ p. A.agrees p.this × B.agrees p.that };
 
@@ -39,8 +39,8 @@ impl<T: Drop, A: FlatField<T>, B: FlatField<T>> FlatField<T> for ParseOrElse<A, 
         self.this.form().or_else(self.that.form(), apart)
     }
 
-    ghost flat = { λ p a. choice_shape_law T (A.outcome p.this) (B.outcome p.that)
-        (A.keys p.this) (B.keys p.that) (A.shape p.this) (B.shape p.that)
+    ghost flat = { λ p a. flat_choice_law T (A.outcome p.this) (B.outcome p.that)
+        (A.keys p.this) (B.keys p.that) (A.flat_form p.this) (B.flat_form p.that)
         (A.flat p.this a.0) (B.flat p.that a.1) };
 
     ghost shows = { λ p. choice_shows (A.shows p.this) (B.shows p.that) };
@@ -64,7 +64,7 @@ fn all_of<P: HasKeys, N: KeyTest>(parsers: &[P], test: &N) -> bool
 /// The choice of what the first of these parsers is with all others.
 fn join_rest<T, P: FlatField<T>>(parsers: &[P], first: Form) -> Form
     requires { 1 ≤ length parsers.now }
-    ensures { result ≡ forms_rest P.keys (λ p. form_of (P.shape p))
+    ensures { result ≡ forms_rest P.keys (λ p. form_of (P.flat_form p))
         (flat_map P.keys (take 1 parsers.now)) first (drop 1 parsers.now) }
 {
     let mut form = first;
@@ -78,7 +78,7 @@ fn join_rest<T, P: FlatField<T>>(parsers: &[P], first: Form) -> Form
 
 /// The choice of these parsers; of none it isn't flat.
 fn join_all<T, P: FlatField<T>>(parsers: &[P]) -> Form
-    ensures { result ≡ form_of (choices_shape P.keys P.shape parsers.now) }
+    ensures { result ≡ form_of (flat_choices P.keys P.flat_form parsers.now) }
 {
     match parsers {
         [] => Form::NotFlat,
@@ -96,11 +96,11 @@ impl<P: HasKeys> HasKeys for ParseChoice<P> {
 
 /// Of required flags and arguments alone, whose names are apart; a choice of none isn't flat.
 impl<T: Drop, P: FlatField<T> + Drop> FlatField<T> for ParseChoice<P> {
-    ghost use Rattle.bpaf_exact.specs.Shape.{EachAgrees};
-    ghost use Rattle.bpaf_exact.proofs.Shape.{choices_shape_law};
+    ghost use Rattle.bpaf_exact.specs.FlatForm.{EachAgrees};
+    ghost use Rattle.bpaf_exact.proofs.FlatForm.{flat_choices_law};
     ghost use Rattle.bpaf_exact.proofs.SameParts.{choices_show};
 
-    ghost shape = { λ p. choices_shape P.keys P.shape p.parsers.items };
+    ghost flat_form = { λ p. flat_choices P.keys P.flat_form p.parsers.items };
 
     ghost agrees = { λ p. EachAgrees P.agrees p.parsers.items };
 
@@ -108,7 +108,7 @@ impl<T: Drop, P: FlatField<T> + Drop> FlatField<T> for ParseChoice<P> {
         join_all(self.parsers.as_slice())
     }
 
-    ghost flat = { λ p a. choices_shape_law _ T P.outcome P.keys P.shape P.agrees P.flat
+    ghost flat = { λ p a. flat_choices_law _ T P.outcome P.keys P.flat_form P.agrees P.flat
         p.parsers.items a };
 
     ghost shows = { λ p. choices_show P.describes P.shows p.parsers.items };

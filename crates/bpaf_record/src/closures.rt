@@ -17,12 +17,12 @@ impl<T, R, P: HasKeys, F> HasKeys for ParseMap<T, P, F, R> {
 
 /// A closure that never refuses needs no premise.
 impl<T: Drop, R: Drop, P: FlatField<T>, F: Fn(T) -> R> FlatField<R> for ParseMap<T, P, F, R> {
-    ghost use Rattle.bpaf_exact.specs.Shape.{closed_shape};
+    ghost use Rattle.bpaf_exact.specs.FlatForm.{flat_closed};
     ghost use Rattle.bpaf_exact.specs.Wrappers.{map_closure};
     ghost use Rattle.bpaf_exact.proofs.Twins.{map_field_law};
 
-    ghost shape = { λ p.
-        closed_shape (map_closure (λ x y. F.post p.map_fn x y)) (P.shape p.inner) };
+    ghost flat_form = { λ p.
+        flat_closed (map_closure (λ x y. F.post p.map_fn x y)) (P.flat_form p.inner) };
 
     ghost agrees = { λ p. P.agrees p.inner };
 
@@ -32,7 +32,7 @@ impl<T: Drop, R: Drop, P: FlatField<T>, F: Fn(T) -> R> FlatField<R> for ParseMap
     }
 
     ghost flat = { λ p a. map_field_law T R (P.outcome p.inner) (λ x y. F.post p.map_fn x y)
-        (P.keys p.inner) (P.shape p.inner) (P.flat p.inner a) };
+        (P.keys p.inner) (P.flat_form p.inner) (P.flat p.inner a) };
 
     ghost shows = { λ p. P.shows p.inner };
 }
@@ -48,15 +48,15 @@ impl<T, P: HasKeys, F, E, R> HasKeys for ParseWith<T, P, F, E, R> {
 /// Whether the closure accepts has to depend on the pieces alone.
 impl<T: Drop, R: Drop, E: Display + Drop, P: FlatField<T>, F: Fn(T) -> Result<R, E>> FlatField<R>
     for ParseWith<T, P, F, E, R> {
-    ghost use Rattle.bpaf_exact.specs.Shape.{Agrees, closed_shape};
+    ghost use Rattle.bpaf_exact.specs.FlatForm.{Agrees, flat_closed};
     ghost use Rattle.bpaf_exact.specs.Wrappers.{parse_closure};
     ghost use Rattle.bpaf_exact.proofs.Twins.{parse_field_law};
 
-    ghost shape = { λ p.
-        closed_shape (parse_closure (λ x y. F.post p.parse_fn x y)) (P.shape p.inner) };
+    ghost flat_form = { λ p.
+        flat_closed (parse_closure (λ x y. F.post p.parse_fn x y)) (P.flat_form p.inner) };
 
     ghost agrees = { λ p. P.agrees p.inner
-        × Agrees (parse_closure (λ x y. F.post p.parse_fn x y)) (P.shape p.inner) };
+        × Agrees (parse_closure (λ x y. F.post p.parse_fn x y)) (P.flat_form p.inner) };
 
     #[tactic(auto, using(crate::proofs::Forms::closed_is))]
     fn form(&self) -> Form {
@@ -64,7 +64,7 @@ impl<T: Drop, R: Drop, E: Display + Drop, P: FlatField<T>, F: Fn(T) -> Result<R,
     }
 
     ghost flat = { λ p a. parse_field_law T R _ (P.outcome p.inner) (λ x y. F.post p.parse_fn x y)
-        E.output (P.keys p.inner) (P.shape p.inner) a.1 (P.flat p.inner a.0) };
+        E.output (P.keys p.inner) (P.flat_form p.inner) a.1 (P.flat p.inner a.0) };
 
     ghost shows = { λ p. P.shows p.inner };
 }
@@ -80,15 +80,15 @@ impl<'m, P: HasKeys, F> HasKeys for ParseGuard<'m, P, F> {
 /// Whether the check is true has to depend on the pieces alone.
 impl<'m, T: Drop, P: FlatField<T>, F: Fn(&T) -> bool> FlatField<T> for ParseGuard<'m, P, F> {
     ghost use Rattle.std.specs.Fn.{FnReturnsAt};
-    ghost use Rattle.bpaf_exact.specs.Shape.{Agrees, closed_shape};
+    ghost use Rattle.bpaf_exact.specs.FlatForm.{Agrees, flat_closed};
     ghost use Rattle.bpaf_exact.specs.Wrappers.{guard_closure};
     ghost use Rattle.bpaf_exact.proofs.Twins.{guard_field_law};
 
-    ghost shape = { λ p.
-        closed_shape (guard_closure (FnReturnsAt F.Fn p.check)) (P.shape p.inner) };
+    ghost flat_form = { λ p.
+        flat_closed (guard_closure (FnReturnsAt F.Fn p.check)) (P.flat_form p.inner) };
 
     ghost agrees = { λ p. P.agrees p.inner
-        × Agrees (guard_closure (FnReturnsAt F.Fn p.check)) (P.shape p.inner) };
+        × Agrees (guard_closure (FnReturnsAt F.Fn p.check)) (P.flat_form p.inner) };
 
     #[tactic(auto, using(crate::proofs::Forms::closed_is))]
     fn form(&self) -> Form {
@@ -96,7 +96,7 @@ impl<'m, T: Drop, P: FlatField<T>, F: Fn(&T) -> bool> FlatField<T> for ParseGuar
     }
 
     ghost flat = { λ p a. guard_field_law T (P.outcome p.inner) (FnReturnsAt F.Fn p.check)
-        p.message.now (P.keys p.inner) (P.shape p.inner) a.1 (P.flat p.inner a.0) };
+        p.message.now (P.keys p.inner) (P.flat_form p.inner) a.1 (P.flat p.inner a.0) };
 
     ghost shows = { λ p. P.shows p.inner };
 }

@@ -17,11 +17,11 @@ impl<P: HasKeys> HasKeys for ParseOptional<P> {
 
 /// With `catch` it is no flat field.
 impl<T: Drop, P: FlatField<T>> FlatField<Option<T>> for ParseOptional<P> {
-    ghost use Rattle.bpaf_exact.specs.Shape.{optional_shape, unless};
+    ghost use Rattle.bpaf_exact.specs.FlatForm.{flat_optional, unless};
     ghost use Rattle.bpaf_exact.proofs.Twins.{optional_field_law};
     ghost use Rattle.bpaf_exact.proofs.SameParts.{optional_shows};
 
-    ghost shape = { λ p. unless p.catch (optional_shape (P.shape p.inner)) };
+    ghost flat_form = { λ p. unless p.catch (flat_optional (P.flat_form p.inner)) };
 
     ghost agrees = { λ p. P.agrees p.inner };
 
@@ -34,7 +34,7 @@ impl<T: Drop, P: FlatField<T>> FlatField<Option<T>> for ParseOptional<P> {
     }
 
     ghost flat = { λ p a. optional_field_law T (P.outcome p.inner) p.catch (P.keys p.inner)
-        (P.shape p.inner) (P.flat p.inner a) };
+        (P.flat_form p.inner) (P.flat p.inner a) };
 
     ghost shows = { λ p. optional_shows (P.shows p.inner) };
 }
@@ -48,12 +48,13 @@ impl<P: HasKeys, T> HasKeys for ParseFallback<P, T> {
 }
 
 impl<T: Clone + Drop, P: FlatField<T>> FlatField<T> for ParseFallback<P, T> {
-    ghost use Rattle.bpaf_exact.specs.Shape.{fallback_shape};
+    ghost use Rattle.bpaf_exact.specs.FlatForm.{flat_fallback};
     ghost use Rattle.bpaf_exact.specs.Wrappers.{kept_closure};
     ghost use Rattle.bpaf_exact.proofs.Twins.{fallback_field_law};
     ghost use Rattle.bpaf_exact.proofs.SameParts.{default_shows};
 
-    ghost shape = { λ p. fallback_shape (kept_closure (T.is_clone p.value)) (P.shape p.inner) };
+    ghost flat_form = { λ p.
+        flat_fallback (kept_closure (T.is_clone p.value)) (P.flat_form p.inner) };
 
     ghost agrees = { λ p. P.agrees p.inner };
 
@@ -63,7 +64,7 @@ impl<T: Clone + Drop, P: FlatField<T>> FlatField<T> for ParseFallback<P, T> {
     }
 
     ghost flat = { λ p a. fallback_field_law T (P.outcome p.inner) T.is_clone p.value
-        (P.keys p.inner) (P.shape p.inner) (P.flat p.inner a) };
+        (P.keys p.inner) (P.flat_form p.inner) (P.flat p.inner a) };
 
     ghost shows = { λ p. default_shows (P.shows p.inner) p.shown };
 }
@@ -79,13 +80,13 @@ impl<T, P: HasKeys, F, E> HasKeys for ParseFallbackWith<T, P, F, E> {
 /// The closure must not refuse where it may give a value.
 impl<T: Drop, E: Display + Drop, P: FlatField<T>, F: Fn() -> Result<T, E>> FlatField<T>
     for ParseFallbackWith<T, P, F, E> {
-    ghost use Rattle.bpaf_exact.specs.Shape.{fallback_shape};
+    ghost use Rattle.bpaf_exact.specs.FlatForm.{flat_fallback};
     ghost use Rattle.bpaf_exact.specs.Wrappers.{Decides, answer_closure};
     ghost use Rattle.bpaf_exact.proofs.Twins.{fallback_with_field_law};
     ghost use Rattle.bpaf_exact.proofs.SameParts.{default_shows};
 
-    ghost shape = { λ p.
-        fallback_shape (answer_closure (λ r. F.post p.fallback r)) (P.shape p.inner) };
+    ghost flat_form = { λ p.
+        flat_fallback (answer_closure (λ r. F.post p.fallback r)) (P.flat_form p.inner) };
 
     ghost agrees = { λ p. P.agrees p.inner × Decides (answer_closure (λ r. F.post p.fallback r)) };
 
@@ -96,7 +97,7 @@ impl<T: Drop, E: Display + Drop, P: FlatField<T>, F: Fn() -> Result<T, E>> FlatF
 
     ghost flat = { λ p a.
         fallback_with_field_law T _ (P.outcome p.inner) (λ r. F.post p.fallback r)
-        E.output (P.keys p.inner) (P.shape p.inner) a.1 (P.flat p.inner a.0) };
+        E.output (P.keys p.inner) (P.flat_form p.inner) a.1 (P.flat p.inner a.0) };
 
     ghost shows = { λ p. default_shows (P.shows p.inner) p.shown };
 }

@@ -25,7 +25,7 @@ impl<T: Clone + Drop> FlatField<T> for ParseFlag<T> {
     ghost use Rattle.bpaf_exact.proofs.SameParts.{one_shape};
     ghost use Rattle.bpaf_laws.specs.Flag.{flag_shape};
 
-    ghost shape = { λ p. flag_field T.is_clone p.named p.present p.absent };
+    ghost flat_form = { λ p. flag_field T.is_clone p.named p.present p.absent };
 
     ghost agrees = { λ p. Unit {0} };
 
@@ -61,7 +61,7 @@ impl<T: FromText + Drop> FlatField<T> for ParseArgument<T> {
     ghost use Rattle.bpaf_exact.proofs.SameParts.{one_shape};
     ghost use Rattle.bpaf_laws.specs.Argument.{argument_shape};
 
-    ghost shape = { λ p. argument_field T.means p };
+    ghost flat_form = { λ p. argument_field T.means p };
 
     ghost agrees = { λ p. Unit {0} };
 
@@ -95,7 +95,7 @@ impl<T: FromText + Drop> FlatField<T> for ParsePositional<T> {
     ghost use Rattle.bpaf_exact.proofs.SameParts.{one_shape};
     ghost use Rattle.bpaf.specs.Positional.{positional_shape};
 
-    ghost shape = { λ p. positional_field T.means p.position };
+    ghost flat_form = { λ p. positional_field T.means p.position };
 
     ghost agrees = { λ p. Unit {0} };
 

@@ -6,8 +6,8 @@
 //! - [`FlatField`] is written for the parsers that may be a field of a flat record: flags,
 //!   arguments and positional words, choices of required flags and arguments, `map`, `parse`,
 //!   `guard`, `optional`, the repeats, both fallbacks, `hide_usage`, `custom_usage`, `group_help`, and
-//!   products; [`FlatFields`] for the fields of a product. Each says what it is (`shape`), and
-//!   proves the law of that shape: what it answers and takes depends on its own pieces of the
+//!   products; [`FlatFields`] for the fields of a product. Each says what it is (`flat_form`), and
+//!   proves the law of that form: what it answers and takes depends on its own pieces of the
 //!   line alone. A parser that has no [`FlatField`] is no field of a record: the compiler tells.
 //! - Its premise is `agrees`: whether a closure of `parse`, `guard` or `fallback_with` accepts
 //!   depends on the pieces alone. `map` and constructors need none, nor do kept values and

@@ -16,11 +16,11 @@ impl<A: HasKeys> HasKeys for Last<A> {
 }
 
 impl<T: Drop, A: FlatField<T>> FlatFields<T> for Last<A> {
-    ghost use Rattle.bpaf_exact.specs.Shape.{alone_shape, field_shape};
-    ghost use Rattle.bpaf_exact.proofs.Shape.{alone_shape_law, field_shape_law};
+    ghost use Rattle.bpaf_exact.specs.FlatForm.{flat_alone, flat_field};
+    ghost use Rattle.bpaf_exact.proofs.FlatForm.{flat_alone_law, flat_field_law};
     ghost use Rattle.bpaf_exact.proofs.SameParts.{last_shows};
 
-    ghost shape = { λ p. alone_shape (field_shape (A.shape p.last)) };
+    ghost flat_form = { λ p. flat_alone (flat_field (A.flat_form p.last)) };
 
     ghost agrees = { λ p. A.agrees p.last };
 
@@ -29,9 +29,9 @@ impl<T: Drop, A: FlatField<T>> FlatFields<T> for Last<A> {
         self.last.form().field().alone()
     }
 
-    ghost flat = { λ p a. alone_shape_law T (A.outcome p.last) (A.keys p.last)
-        (field_shape (A.shape p.last))
-        (field_shape_law T (A.outcome p.last) (A.keys p.last) (A.shape p.last)
+    ghost flat = { λ p a. flat_alone_law T (A.outcome p.last) (A.keys p.last)
+        (flat_field (A.flat_form p.last))
+        (flat_field_law T (A.outcome p.last) (A.keys p.last) (A.flat_form p.last)
         (A.flat p.last a)) };
 
     ghost shows = { λ p. last_shows (A.shows p.last) };
@@ -52,13 +52,13 @@ impl<A: HasKeys, R: HasKeys> HasKeys for Both<A, R> {
 
 /// Where a named field stands behind a positional one, or two share a name, they aren't flat.
 impl<T: Drop, V: Drop, A: FlatField<T>, R: FlatFields<V>> FlatFields<(T, V)> for Both<A, R> {
-    ghost use Rattle.bpaf_exact.specs.Shape.{both_shape, field_shape};
-    ghost use Rattle.bpaf_exact.proofs.Shape.{both_shape_law, field_shape_law};
+    ghost use Rattle.bpaf_exact.specs.FlatForm.{flat_both, flat_field};
+    ghost use Rattle.bpaf_exact.proofs.FlatForm.{flat_both_law, flat_field_law};
     ghost use Rattle.bpaf_exact.proofs.SameParts.{both_show};
 
-    ghost shape = { λ p.
-        both_shape (A.keys p.first) (R.keys p.rest) (field_shape (A.shape p.first))
-        (R.shape p.rest) };
+    ghost flat_form = { λ p.
+        flat_both (A.keys p.first) (R.keys p.rest) (flat_field (A.flat_form p.first))
+        (R.flat_form p.rest) };
 
     ghost agrees = { λ p. A.agrees p.first × R.agrees p.rest };
 
@@ -70,9 +70,9 @@ impl<T: Drop, V: Drop, A: FlatField<T>, R: FlatFields<V>> FlatFields<(T, V)> for
         self.first.form().field().before(rest, apart, no_key_behind)
     }
 
-    ghost flat = { λ p a. both_shape_law T V (A.outcome p.first) (R.outcome p.rest)
-        (A.keys p.first) (R.keys p.rest) (field_shape (A.shape p.first)) (R.shape p.rest)
-        (field_shape_law T (A.outcome p.first) (A.keys p.first) (A.shape p.first)
+    ghost flat = { λ p a. flat_both_law T V (A.outcome p.first) (R.outcome p.rest)
+        (A.keys p.first) (R.keys p.rest) (flat_field (A.flat_form p.first)) (R.flat_form p.rest)
+        (flat_field_law T (A.outcome p.first) (A.keys p.first) (A.flat_form p.first)
         (A.flat p.first a.0)) (R.flat p.rest a.1) };
 
     ghost shows = { λ p. both_show (A.shows p.first) (R.shows p.rest) };
@@ -87,12 +87,13 @@ impl<V, P: HasKeys, F> HasKeys for ParseCon<V, P, F> {
 }
 
 impl<V: Drop, T: Drop, P: FlatFields<V>, F: Fn(V) -> T> FlatField<T> for ParseCon<V, P, F> {
-    ghost use Rattle.bpaf_exact.specs.Shape.{con_shape};
+    ghost use Rattle.bpaf_exact.specs.FlatForm.{flat_con};
     ghost use Rattle.bpaf_exact.specs.Wrappers.{map_closure};
-    ghost use Rattle.bpaf_exact.proofs.Shape.{con_shape_law};
+    ghost use Rattle.bpaf_exact.proofs.FlatForm.{flat_con_law};
     ghost use Rattle.bpaf_exact.proofs.SameParts.{product_shows};
 
-    ghost shape = { λ p. con_shape (map_closure (λ x y. F.post p.make x y)) (P.shape p.fields) };
+    ghost flat_form = { λ p.
+        flat_con (map_closure (λ x y. F.post p.make x y)) (P.flat_form p.fields) };
 
     ghost agrees = { λ p. P.agrees p.fields };
 
@@ -101,8 +102,8 @@ impl<V: Drop, T: Drop, P: FlatFields<V>, F: Fn(V) -> T> FlatField<T> for ParseCo
         self.fields.fields_form().made()
     }
 
-    ghost flat = { λ p a. con_shape_law V T (P.outcome p.fields) (λ x y. F.post p.make x y)
-        (P.keys p.fields) (P.shape p.fields) (P.flat p.fields a) };
+    ghost flat = { λ p a. flat_con_law V T (P.outcome p.fields) (λ x y. F.post p.make x y)
+        (P.keys p.fields) (P.flat_form p.fields) (P.flat p.fields a) };
 
     ghost shows = { λ p. product_shows (P.shows p.fields) };
 }

@@ -115,7 +115,7 @@ impl<T: Drop, P: FlatField<T>> Record<T> for OptionParser<T, P> {
     ghost use Rattle.bpaf_core.specs.Run.{RunsWords};
     ghost use Rattle.bpaf_laws.specs.Spared.{WithoutMemory};
 
-    ghost is_flat = { λ p. is_flat_record (P.shape p.inner) (P.keys p.inner) p.info };
+    ghost is_flat = { λ p. is_flat_record (P.flat_form p.inner) (P.keys p.inner) p.info };
 
     #[tactic(auto, using(crate::proofs::Forms::record_is))]
     fn is_record(&self) -> bool {
@@ -142,7 +142,7 @@ impl<T: Drop, P: FlatField<T>> Record<T> for OptionParser<T, P> {
         IsDealtOut T (P.reads p.inner) (P.describes p.inner) p.info given };
 
     ghost answers_exactly = { λ p given.
-        AnswersExactly T (P.describes p.inner) p.info (P.shape p.inner) given };
+        AnswersExactly T (P.describes p.inner) p.info (P.flat_form p.inner) given };
 
     fn run_record(&self, args: Args<'_>) -> Result<T, ParseFailure> {
         self.run_inner(args)

@@ -17,11 +17,11 @@ impl<P: HasKeys> HasKeys for ParseMany<P> {
 
 /// With `catch` it is no flat field, nor round another repeat or a default.
 impl<T: Drop, P: FlatField<T>> FlatField<Vec<T>> for ParseMany<P> {
-    ghost use Rattle.bpaf_exact.specs.Shape.{many_shape, unless};
+    ghost use Rattle.bpaf_exact.specs.FlatForm.{flat_many, unless};
     ghost use Rattle.bpaf_exact.proofs.Twins.{many_field_law};
     ghost use Rattle.bpaf_exact.proofs.SameParts.{many_shows};
 
-    ghost shape = { λ p. unless p.catch (many_shape (P.shape p.inner)) };
+    ghost flat_form = { λ p. unless p.catch (flat_many (P.flat_form p.inner)) };
 
     ghost agrees = { λ p. P.agrees p.inner };
 
@@ -34,7 +34,7 @@ impl<T: Drop, P: FlatField<T>> FlatField<Vec<T>> for ParseMany<P> {
     }
 
     ghost flat = { λ p a. many_field_law T (P.outcome p.inner) p.catch (P.keys p.inner)
-        (P.shape p.inner) (P.flat p.inner a) };
+        (P.flat_form p.inner) (P.flat p.inner a) };
 
     ghost shows = { λ p. many_shows (P.shows p.inner) };
 }
@@ -49,11 +49,11 @@ impl<'m, P: HasKeys> HasKeys for ParseSome<'m, P> {
 
 /// As `many`.
 impl<'m, T: Drop, P: FlatField<T>> FlatField<Vec<T>> for ParseSome<'m, P> {
-    ghost use Rattle.bpaf_exact.specs.Shape.{some_shape, unless};
+    ghost use Rattle.bpaf_exact.specs.FlatForm.{flat_some, unless};
     ghost use Rattle.bpaf_exact.proofs.Twins.{some_field_law};
     ghost use Rattle.bpaf_exact.proofs.SameParts.{some_shows};
 
-    ghost shape = { λ p. unless p.catch (some_shape (P.shape p.inner)) };
+    ghost flat_form = { λ p. unless p.catch (flat_some (P.flat_form p.inner)) };
 
     ghost agrees = { λ p. P.agrees p.inner };
 
@@ -66,7 +66,7 @@ impl<'m, T: Drop, P: FlatField<T>> FlatField<Vec<T>> for ParseSome<'m, P> {
     }
 
     ghost flat = { λ p a. some_field_law T (P.outcome p.inner) p.catch p.message.now
-        (P.keys p.inner) (P.shape p.inner) (P.flat p.inner a) };
+        (P.keys p.inner) (P.flat_form p.inner) (P.flat p.inner a) };
 
     ghost shows = { λ p. some_shows (P.shows p.inner) };
 }
@@ -81,11 +81,11 @@ impl<P: HasKeys, C, T> HasKeys for ParseCollect<P, C, T> {
 
 /// As `many`.
 impl<T: Drop, C: FromList<T> + Drop, P: FlatField<T>> FlatField<C> for ParseCollect<P, C, T> {
-    ghost use Rattle.bpaf_exact.specs.Shape.{collect_shape, unless};
+    ghost use Rattle.bpaf_exact.specs.FlatForm.{flat_collect, unless};
     ghost use Rattle.bpaf_exact.proofs.Twins.{collect_field_law};
     ghost use Rattle.bpaf_exact.proofs.SameParts.{many_shows};
 
-    ghost shape = { λ p. unless p.catch (collect_shape C.fills (P.shape p.inner)) };
+    ghost flat_form = { λ p. unless p.catch (flat_collect C.fills (P.flat_form p.inner)) };
 
     ghost agrees = { λ p. P.agrees p.inner };
 
@@ -98,7 +98,7 @@ impl<T: Drop, C: FromList<T> + Drop, P: FlatField<T>> FlatField<C> for ParseColl
     }
 
     ghost flat = { λ p a. collect_field_law T C (P.outcome p.inner) p.catch C.fills
-        (P.keys p.inner) (P.shape p.inner) (P.flat p.inner a) };
+        (P.keys p.inner) (P.flat_form p.inner) (P.flat p.inner a) };
 
     ghost shows = { λ p. many_shows (P.shows p.inner) };
 }
@@ -112,11 +112,11 @@ impl<P: HasKeys, T> HasKeys for ParseCount<P, T> {
 }
 
 impl<T: Drop, P: FlatField<T>> FlatField<usize> for ParseCount<P, T> {
-    ghost use Rattle.bpaf_exact.specs.Shape.{count_shape};
+    ghost use Rattle.bpaf_exact.specs.FlatForm.{flat_count};
     ghost use Rattle.bpaf_exact.proofs.Twins.{count_field_law};
     ghost use Rattle.bpaf_exact.proofs.SameParts.{many_shows};
 
-    ghost shape = { λ p. count_shape (P.shape p.inner) };
+    ghost flat_form = { λ p. flat_count (P.flat_form p.inner) };
 
     ghost agrees = { λ p. P.agrees p.inner };
 
@@ -126,7 +126,7 @@ impl<T: Drop, P: FlatField<T>> FlatField<usize> for ParseCount<P, T> {
     }
 
     ghost flat = { λ p a.
-        count_field_law T (P.outcome p.inner) (P.keys p.inner) (P.shape p.inner)
+        count_field_law T (P.outcome p.inner) (P.keys p.inner) (P.flat_form p.inner)
         (P.flat p.inner a) };
 
     ghost shows = { λ p. many_shows (P.shows p.inner) };
@@ -141,11 +141,11 @@ impl<P: HasKeys> HasKeys for ParseLast<P> {
 }
 
 impl<T: Drop, P: FlatField<T>> FlatField<T> for ParseLast<P> {
-    ghost use Rattle.bpaf_exact.specs.Shape.{last_shape};
+    ghost use Rattle.bpaf_exact.specs.FlatForm.{flat_last};
     ghost use Rattle.bpaf_exact.proofs.Twins.{last_field_law};
     ghost use Rattle.bpaf_exact.proofs.SameParts.{some_shows};
 
-    ghost shape = { λ p. last_shape (P.shape p.inner) };
+    ghost flat_form = { λ p. flat_last (P.flat_form p.inner) };
 
     ghost agrees = { λ p. P.agrees p.inner };
 
@@ -155,7 +155,7 @@ impl<T: Drop, P: FlatField<T>> FlatField<T> for ParseLast<P> {
     }
 
     ghost flat = { λ p a.
-        last_field_law T (P.outcome p.inner) (P.keys p.inner) (P.shape p.inner)
+        last_field_law T (P.outcome p.inner) (P.keys p.inner) (P.flat_form p.inner)
         (P.flat p.inner a) };
 
     ghost shows = { λ p. some_shows (P.shows p.inner) };

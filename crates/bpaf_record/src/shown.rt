@@ -16,11 +16,11 @@ impl<P: HasKeys> HasKeys for ParseUsage<P> {
 }
 
 impl<T, P: FlatField<T>> FlatField<T> for ParseUsage<P> {
-    ghost use Rattle.bpaf_exact.specs.Shape.{dressed_shape};
+    ghost use Rattle.bpaf_exact.specs.FlatForm.{flat_dressed};
     ghost use Rattle.bpaf_exact.proofs.SameParts.{usage_shows};
-    ghost use Rattle.bpaf_exact.proofs.Shape.{dressed_shape_law};
+    ghost use Rattle.bpaf_exact.proofs.FlatForm.{flat_dressed_law};
 
-    ghost shape = { λ p. dressed_shape (P.shape p.inner) };
+    ghost flat_form = { λ p. flat_dressed (P.flat_form p.inner) };
 
     ghost agrees = { λ p. P.agrees p.inner };
 
@@ -30,7 +30,7 @@ impl<T, P: FlatField<T>> FlatField<T> for ParseUsage<P> {
     }
 
     ghost flat = { λ p a.
-        dressed_shape_law T (P.outcome p.inner) (P.keys p.inner) (P.shape p.inner) (P.flat p.inner a) };
+        flat_dressed_law T (P.outcome p.inner) (P.keys p.inner) (P.flat_form p.inner) (P.flat p.inner a) };
 
     ghost shows = { λ p. usage_shows (P.shows p.inner) p.usage };
 }
@@ -44,11 +44,11 @@ impl<P: HasKeys> HasKeys for ParseGroupHelp<P> {
 }
 
 impl<T, P: FlatField<T>> FlatField<T> for ParseGroupHelp<P> {
-    ghost use Rattle.bpaf_exact.specs.Shape.{dressed_shape};
+    ghost use Rattle.bpaf_exact.specs.FlatForm.{flat_dressed};
     ghost use Rattle.bpaf_exact.proofs.SameParts.{section_shows};
-    ghost use Rattle.bpaf_exact.proofs.Shape.{dressed_shape_law};
+    ghost use Rattle.bpaf_exact.proofs.FlatForm.{flat_dressed_law};
 
-    ghost shape = { λ p. dressed_shape (P.shape p.inner) };
+    ghost flat_form = { λ p. flat_dressed (P.flat_form p.inner) };
 
     ghost agrees = { λ p. P.agrees p.inner };
 
@@ -58,7 +58,7 @@ impl<T, P: FlatField<T>> FlatField<T> for ParseGroupHelp<P> {
     }
 
     ghost flat = { λ p a.
-        dressed_shape_law T (P.outcome p.inner) (P.keys p.inner) (P.shape p.inner) (P.flat p.inner a) };
+        flat_dressed_law T (P.outcome p.inner) (P.keys p.inner) (P.flat_form p.inner) (P.flat p.inner a) };
 
     ghost shows = { λ p. section_shows (P.shows p.inner) p.message };
 }

@@ -5,7 +5,7 @@ use std::alloc::{AllocError, Global};
 use std::test::Fail;
 
 /// A kind of what is shown, and its text between marks.
-fn marked(alloc: Global, kind: &str, text: &Doc) -> Result<String, AllocError> {
+fn tagged(alloc: Global, kind: &str, text: &Doc) -> Result<String, AllocError> {
     let text = text.monochrome(true)?;
     format!(in alloc; "{kind} `{text}`")
 }
@@ -18,7 +18,7 @@ fn told_item(
     helped: bool,
     anywhere: bool,
 ) -> Result<String, AllocError> {
-    let item = marked(alloc, "item", metavar)?;
+    let item = tagged(alloc, "item", metavar)?;
     format!(in alloc; "{item} {helped} {anywhere}")
 }
 
@@ -26,8 +26,8 @@ fn told_item(
 /// item by its text does.
 fn told(alloc: Global, meta: &Meta) -> Result<String, AllocError> {
     match meta {
-        Meta::CustomUsage(_, usage) => marked(alloc, "usage", usage),
-        Meta::Subsection(_, title) => marked(alloc, "section", title),
+        Meta::CustomUsage(_, usage) => tagged(alloc, "usage", usage),
+        Meta::Subsection(_, title) => tagged(alloc, "section", title),
         Meta::Item(
             Item::Any {
                 metavar,

@@ -6,7 +6,7 @@ use Rattle.std.proofs.lemmas.Grind.{common_steps}
 use Rattle.bpaf_words.specs.declared.arg.Arg.{Arg}
 use Rattle.bpaf_words.specs.declared.arg.Arg.TheVariants.{PosWord}
 use Rattle.bpaf_words.specs.Spelling.{Known, known_at}
-use Rattle.bpaf_words.specs.Line.{IsLine, unmarked, marked}
+use Rattle.bpaf_words.specs.Line.{IsLine, without_marker, with_marker}
 use Rattle.bpaf_words.specs.Splitting.{Begins, BeginsByAny, EndsFront, IsLineByAny}
 use Rattle.bpaf_words.specs.declared.line.Line.{Line as WordsLine}
 use Rattle.std.specs.declared.alloc.AllocError.{AllocError}
@@ -27,12 +27,13 @@ line_by : (known : Known) (words : List (List ℕ)) (items : List Arg) (n : ℕ)
 line_by known words items n true e begun ends =
     let below : n < length words = grind (arith, nat_tests) in
     let at = ends below in
-    rw (drop_next words n (codes "--") at) (marked (take n words) (drop (n + 1) words) items
-    (cut_at words n (codes "--") at) begun.unmarked begun.spelled)
+    rw (drop_next words n (codes "--") at) (with_marker (take n words) (drop (n + 1) words) items
+    (cut_at words n (codes "--") at) begun.without_marker begun.spelled)
 line_by known words items n false e begun ends =
     let past : length words ≤ n = grind (arith, nat_tests) in
     let whole = take_whole words n past in
-    rw (drop_whole words n past, append-nil items) (unmarked items (rw whole at begun.unmarked)
+    rw (drop_whole words n past, append-nil items)
+    (without_marker items (rw whole at begun.without_marker)
     (rw whole at begun.spelled))
 
 -- the line of words with a spelled front: its items, then the other words as PosWords
@@ -55,5 +56,5 @@ line_found numbers words items n (Err e) begun ends are marker = tt
 
 -- the marker of a line lies in it
 pub marker_of_line : (known : Known) (words : List (List ℕ)) (line : List Arg) (marker : Option ℕ) → IsLine known words line marker → IfSome marker (λ p. p < length line)
-marker_of_line known words line marker (unmarked items none s) = tt
-marker_of_line known words line marker (marked before after items cut none s) = simp length-append (omega arith)
+marker_of_line known words line marker (without_marker items none s) = tt
+marker_of_line known words line marker (with_marker before after items cut none s) = simp length-append (omega arith)

@@ -28,7 +28,7 @@ texts_more words low i word h at u =
 pub begins_none : (known : Known) (words : List (List ℕ)) → Begins known words [] 0
 begins_none known words = record {
   bound = omega arith;
-  unmarked = λ k d l. absurd (omega arith);
+  without_marker = λ k d l. absurd (omega arith);
   spelled = record { parts = []; spelled = tt; joined = refl };
   texts = λ k d from below. absurd (omega arith);
 }
@@ -46,8 +46,8 @@ pub begins_more : (known : Known) (words : List (List ℕ)) (i : ℕ) (old new x
     → Begins known words new (i + 1)
 begins_more known words i old new xs word begun at text other spells more = record {
   bound = omega (arith, inside words i word at);
-  unmarked = rw (take_next words i word at)
-      (All-push (λ w. w ≢ codes "--") (take i words) word begun.unmarked other);
+  without_marker = rw (take_next words i word at)
+      (All-push (λ w. w ≢ codes "--") (take i words) word begun.without_marker other);
   spelled = rw (take_next words i word at) (record {
     parts = begun.spelled.parts ++ xs ∷ [];
     spelled = AllZip_push (λ w ys. Spells known w (Items ys)) (take i words) begun.spelled.parts
@@ -78,7 +78,7 @@ no_line known words i old word number begun at other spells = record {
   items = old;
   after = drop (i + 1) words;
   cut = cut_at words i word at;
-  unmarked = begun.unmarked;
+  without_marker = begun.without_marker;
   spelled = begun.spelled;
   not_marker = other;
   ambiguous = spells;

@@ -6,7 +6,7 @@ use Rattle.std.specs.List.{AllZip, flat_map}
 use Rattle.bpaf_words.specs.declared.arg.Arg.{Arg}
 use Rattle.bpaf_words.specs.declared.arg.Arg.TheVariants.{PosWord}
 use Rattle.bpaf_words.specs.Spelling.{Known, Spelling, Items, Ambiguous, Spells}
-use Rattle.bpaf_words.specs.Line.{SpellAll, HasNoMarker, IsLine, HasNoLine, unmarked, marked, LinesAreUnique}
+use Rattle.bpaf_words.specs.Line.{SpellAll, HasNoMarker, IsLine, HasNoLine, without_marker, with_marker, LinesAreUnique}
 use Rattle.bpaf_words.proofs.OneSpelling.{one_spelling}
 use Rattle.bpaf_words.proofs.Lists.{All_head, All_tail, All_cons}
 
@@ -57,27 +57,27 @@ abbrev Begins : Known → List ℕ → List (List ℕ) → List Arg → Option �
 Begins known word words line marker = ((word ≡ codes "--") × (line ≡ map PosWord (word ∷ words)) × (marker ≡ Some 0)) ⊎ Later known word words line marker
 
 -- a line without a marker begins with the items of its first word
-later_unmarked : (known : Known) (word : List ℕ) (words : List (List ℕ)) (items : List Arg) → HasNoMarker (word ∷ words) → Rest known word words items → Later known word words items None
-later_unmarked known word words items h r = record {
+later_without_marker : (known : Known) (word : List ℕ) (words : List (List ℕ)) (items : List Arg) → HasNoMarker (word ∷ words) → Rest known word words items → Later known word words items None
+later_without_marker known word words items h r = record {
   not_marker = All_head (λ w. w ≢ codes "--") word words h;
   first = r.first;
   others = r.others;
   place = None;
   spelled = r.spelled;
-  rest = unmarked r.others (All_tail (λ w. w ≢ codes "--") word words h) r.rest;
+  rest = without_marker r.others (All_tail (λ w. w ≢ codes "--") word words h) r.rest;
   line_is = r.is;
   marker_is = refl;
 }
 
 -- a line with a marker begins with `--`, or with the items of its first word
-begins_marked : (known : Known) (word : List ℕ) (words before after : List (List ℕ)) (items : List Arg) → word ∷ words ≡ before ++ codes "--" ∷ after → HasNoMarker before → SpellAll known before items
+begins_with_marker : (known : Known) (word : List ℕ) (words before after : List (List ℕ)) (items : List Arg) → word ∷ words ≡ before ++ codes "--" ∷ after → HasNoMarker before → SpellAll known before items
     → Begins known word words (items ++ PosWord (codes "--") ∷ map PosWord after) (Some (length items))
-begins_marked known word words [] after items e h s =
+begins_with_marker known word words [] after items e h s =
     let none = nothing_of known items s in
     let w : word ≡ codes "--" = cc in
     let ws : words ≡ after = cc in
     inl (w, rw (none, w, ws) refl, rw none refl)
-begins_marked known word words (b ∷ before) after items e h s =
+begins_with_marker known word words (b ∷ before) after items e h s =
     let r = rest_of known b before items s in
     let w : b ≡ word = cc in
     let ws : words ≡ before ++ codes "--" ∷ after = cc in
@@ -87,21 +87,22 @@ begins_marked known word words (b ∷ before) after items e h s =
       others = r.others ++ PosWord (codes "--") ∷ map PosWord after;
       place = Some (length r.others);
       spelled = subst (λ x. Spells known x (Items r.first)) w r.spelled;
-      rest = marked before after r.others ws (All_tail (λ x. x ≢ codes "--") b before h) r.rest;
+      rest =
+          with_marker before after r.others ws (All_tail (λ x. x ≢ codes "--") b before h) r.rest;
       line_is = ap (λ x. x ++ PosWord (codes "--") ∷ map PosWord after) r.is ∙ append_assoc r.first r.others (PosWord (codes "--") ∷ map PosWord after);
       marker_is = ap Some (ap length r.is ∙ length-append r.first r.others);
     })
 
 -- each line of some words begins with `--`, or with the items of the first word
 begins : (known : Known) (word : List ℕ) (words : List (List ℕ)) (line : List Arg) (marker : Option ℕ) → IsLine known (word ∷ words) line marker → Begins known word words line marker
-begins known word words line marker (unmarked items h s) = inr (later_unmarked known word words items h (rest_of known word words items s))
-begins known word words line marker (marked before after items e h s) = begins_marked known word words before after items e h s
+begins known word words line marker (without_marker items h s) = inr (later_without_marker known word words items h (rest_of known word words items s))
+begins known word words line marker (with_marker before after items e h s) = begins_with_marker known word words before after items e h s
 
 -- the line of an empty list of words is empty, and has no marker
 no_words : (known : Known) (line : List Arg) (marker : Option ℕ) → IsLine known [] line marker → (line ≡ []) × (marker ≡ None)
-no_words known line marker (unmarked items h s) = (nothing_of known items s, refl)
-no_words known line marker (marked [] after items e h s) = cc
-no_words known line marker (marked (b ∷ before) after items e h s) = cc
+no_words known line marker (without_marker items h s) = (nothing_of known items s, refl)
+no_words known line marker (with_marker [] after items e h s) = cc
+no_words known line marker (with_marker (b ∷ before) after items e h s) = cc
 
 -- words without a line: the first is ambiguous, or the others have none
 pub record LaterNone (known : Known) (word : List ℕ) (words : List (List ℕ)) (v : List ℕ) (n : ℕ) : Type 0 where
@@ -127,13 +128,13 @@ begins_none_by known word words v n (b ∷ before) after items e h s m a =
       inr (record {
         first = r.first;
         spelled = subst (λ x. Spells known x (Items r.first)) w r.spelled;
-        rest = record { before = before; items = r.others; after = after; cut = ws; unmarked = All_tail (λ x. x ≢ codes "--") b before h; spelled = r.rest; not_marker = m; ambiguous = a };
+        rest = record { before = before; items = r.others; after = after; cut = ws; without_marker = All_tail (λ x. x ≢ codes "--") b before h; spelled = r.rest; not_marker = m; ambiguous = a };
       }),
     )
 
 -- where words have no line, the first is ambiguous, or the others have none
 begins_none : (known : Known) (word : List ℕ) (words : List (List ℕ)) (v : List ℕ) (n : ℕ) → HasNoLine known (word ∷ words) v n → BeginsNone known word words v n
-begins_none known word words v n h = begins_none_by known word words v n h.before h.after h.items h.cut h.unmarked h.spelled h.not_marker h.ambiguous
+begins_none known word words v n h = begins_none_by known word words v n h.before h.after h.items h.cut h.without_marker h.spelled h.not_marker h.ambiguous
 
 -- an empty list of words can't be cut at a word
 no_words_by : (known : Known) (v : List ℕ) (before after : List (List ℕ)) → [] ≡ before ++ v ∷ after → ⊥
@@ -202,13 +203,13 @@ one_more known word words xs items a s = record { parts = xs ∷ s.parts; spelle
 
 -- words with a line have one too with a word in front that spells items
 line_more : (known : Known) (word : List ℕ) (words : List (List ℕ)) (xs : List Arg) (line : List Arg) (marker : Option ℕ) → word ≢ codes "--" → Spells known word (Items xs) → IsLine known words line marker → Outcome known (word ∷ words)
-line_more known word words xs line marker n a (unmarked items h s) =
-    inl (xs ++ items, None, unmarked (xs ++ items) (All_cons (λ w. w ≢ codes "--") word words n h) (one_more known word words xs items a s))
-line_more known word words xs line marker n a (marked before after items e h s) =
+line_more known word words xs line marker n a (without_marker items h s) =
+    inl (xs ++ items, None, without_marker (xs ++ items) (All_cons (λ w. w ≢ codes "--") word words n h) (one_more known word words xs items a s))
+line_more known word words xs line marker n a (with_marker before after items e h s) =
     inl (
       xs ++ items ++ PosWord (codes "--") ∷ map PosWord after,
       Some (length (xs ++ items)),
-      marked (word ∷ before) after (xs ++ items) (ap (λ z. word ∷ z) e) (All_cons (λ w. w ≢ codes "--") word before n h) (one_more known word before xs items a s),
+      with_marker (word ∷ before) after (xs ++ items) (ap (λ z. word ∷ z) e) (All_cons (λ w. w ≢ codes "--") word before n h) (one_more known word before xs items a s),
     )
 
 -- words without a line have none either with a word in front that spells items
@@ -222,7 +223,7 @@ none_more known word words xs v k n a h =
         items = xs ++ h.items;
         after = h.after;
         cut = ap (λ z. word ∷ z) h.cut;
-        unmarked = All_cons (λ w. w ≢ codes "--") word h.before n h.unmarked;
+        without_marker = All_cons (λ w. w ≢ codes "--") word h.before n h.without_marker;
         spelled = one_more known word h.before xs h.items a h.spelled;
         not_marker = h.not_marker;
         ambiguous = h.ambiguous;
@@ -237,13 +238,13 @@ empty known = record { parts = []; spelled = tt; joined = refl }
 by_spelling : (known : Known) (word : List ℕ) (words : List (List ℕ)) (s : Spelling) → word ≢ codes "--" → Spells known word s → Outcome known words → Outcome known (word ∷ words)
 by_spelling known word words (Items xs) n a o = ⊎_elim (λ l. line_more known word words xs l.0 l.1 n a l.2) (λ m. none_more known word words xs m.0 m.1 n a m.2) o
 by_spelling known word words (Ambiguous k) n a o =
-    inr (word, k, record { before = []; items = []; after = words; cut = refl; unmarked = λ i d l. absurd (omega arith); spelled = empty known; not_marker = n; ambiguous = a })
+    inr (word, k, record { before = []; items = []; after = words; cut = refl; without_marker = λ i d l. absurd (omega arith); spelled = empty known; not_marker = n; ambiguous = a })
 
 -- there is a line or none with one word more in front, by whether it is `--`
 by_marker : (known : Known) (word : List ℕ) (words : List (List ℕ)) (b : Bool) → bytes_eq word (codes "--") ≡ b → IsUtf8 word → Outcome known words → Outcome known (word ∷ words)
 by_marker known word words true e u o =
     let w : word ≡ codes "--" = (bytes_decides word (codes "--")).0 e in
-    inl (PosWord (codes "--") ∷ map PosWord words, Some 0, marked [] words [] (ap (λ z. z ∷ words) w) (λ i d l. absurd (omega arith)) (empty known))
+    inl (PosWord (codes "--") ∷ map PosWord words, Some 0, with_marker [] words [] (ap (λ z. z ∷ words) w) (λ i d l. absurd (omega arith)) (empty known))
 by_marker known word words false e u o =
     let n : word ≢ codes "--" = (λ w. let t : true ≡ false = sym (ap (λ x. bytes_eq x (codes "--")) w) ∙ e in cc) in
     let h = one_spelling known word u n in
@@ -251,7 +252,7 @@ by_marker known word words false e u o =
 
 -- words that are texts have a line, or none
 outcome : (known : Known) (words : List (List ℕ)) → All IsUtf8 words → Outcome known words
-outcome known [] u = inl ([], None, unmarked [] (λ i d l. absurd (omega arith)) (empty known))
+outcome known [] u = inl ([], None, without_marker [] (λ i d l. absurd (omega arith)) (empty known))
 outcome known (w ∷ ws) u = by_marker known w ws (bytes_eq w (codes "--")) refl (All_head IsUtf8 w ws u) (outcome known ws (All_tail IsUtf8 w ws u))
 
 -- words have one line, or none and then a first ambiguous word

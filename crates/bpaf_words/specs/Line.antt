@@ -18,9 +18,10 @@ HasNoMarker words = All (λ word. word ≢ codes "--") words
 
 -- the line of words, and the place of the marker, where one stands there
 pub data IsLine (known : Known) (words : List (List ℕ)) : List Arg → Option ℕ → Type 0 where
-  unmarked : (items : List Arg) → HasNoMarker words → SpellAll known words items
+  without_marker : (items : List Arg) → HasNoMarker words → SpellAll known words items
       → IsLine known words items None
-  marked : (before after : List (List ℕ)) (items : List Arg) → words ≡ before ++ codes "--" ∷ after
+  with_marker : (before after : List (List ℕ)) (items : List Arg)
+      → words ≡ before ++ codes "--" ∷ after
       → HasNoMarker before → SpellAll known before items
       → IsLine known words (items ++ PosWord (codes "--") ∷ map PosWord after) (Some (length items))
 
@@ -32,7 +33,7 @@ pub record HasNoLine (known : Known) (words : List (List ℕ)) (word : List ℕ)
     pub items : List Arg
     pub after : List (List ℕ)
     pub cut : words ≡ before ++ word ∷ after
-    pub unmarked : HasNoMarker before
+    pub without_marker : HasNoMarker before
     pub spelled : SpellAll known before items
     pub not_marker : word ≢ codes "--"
     pub ambiguous : Spells known word (Ambiguous number)

@@ -76,9 +76,17 @@ pub data SpellsJoined (names : ShortNames) (word : List ℕ) (cs : List ℕ) : S
       → IsBoth names c
       → SpellsJoined names word cs (Ambiguous (length fs + 1))
 
+-- the character `-`
+abbrev pub dash_char : ℕ
+dash_char = 45
+
+-- the byte of `=`
+abbrev pub equals_byte : ℕ
+equals_byte = 61
+
 -- no byte of it is `=`
 abbrev pub HasNoEquals : List ℕ → Type 0
-HasNoEquals n = EachIndex n (λ i. slice_index n i ≢ 61)
+HasNoEquals n = EachIndex n (λ i. slice_index n i ≢ equals_byte)
 
 -- what a word other than `--` spells, where it isn't a number that is a word
 pub data SpellsByDash (names : ShortNames) (word : List ℕ) : Spelling → Type 0 where
@@ -94,20 +102,20 @@ pub data SpellsByDash (names : ShortNames) (word : List ℕ) : Spelling → Type
   long_value : (n v : List ℕ) → word ≡ codes "--" ++ (n ++ (codes "=" ++ v)) → HasNoEquals n
       → SpellsByDash names word (Items (Long n true word ∷ ArgWord v ∷ []))
   -- `-c`
-  short : (c : ℕ) → word ≡ codes "-" ++ encode_utf8 c → c ≢ 45
+  short : (c : ℕ) → word ≡ codes "-" ++ encode_utf8 c → c ≢ dash_char
       → SpellsByDash names word (Items (Short c false word ∷ []))
   -- `-c=v`
   short_value : (c : ℕ) (v : List ℕ) → word ≡ codes "-" ++ (encode_utf8 c ++ (codes "=" ++ v))
-      → c ≢ 45
+      → c ≢ dash_char
       → SpellsByDash names word (Items (Short c true word ∷ ArgWord v ∷ []))
   -- `-cr=v`
   short_long_value : (c : ℕ) (r v : List ℕ)
-      → word ≡ codes "-" ++ (encode_utf8 c ++ (r ++ (codes "=" ++ v))) → c ≢ 45 → r ≢ []
+      → word ≡ codes "-" ++ (encode_utf8 c ++ (r ++ (codes "=" ++ v))) → c ≢ dash_char → r ≢ []
       → HasNoEquals r
       → SpellsByDash names word (Items (Short c true word ∷ ArgWord (r ++ (codes "=" ++ v)) ∷ []))
   -- `-s`, s of two or more characters, no `=` after its first
   joined : (c d : ℕ) (cs : List ℕ) (spelling : Spelling)
-      → word ≡ codes "-" ++ encode_utf8_all (c ∷ d ∷ cs) → c ≢ 45
+      → word ≡ codes "-" ++ encode_utf8_all (c ∷ d ∷ cs) → c ≢ dash_char
       → HasNoEquals (encode_utf8_all (d ∷ cs))
       → SpellsJoined names word (c ∷ d ∷ cs) spelling → SpellsByDash names word spelling
 

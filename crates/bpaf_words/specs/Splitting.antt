@@ -14,7 +14,7 @@ use Rattle.bpaf_words.specs.declared.line.LineFault.TheVariants as fault
 use Rattle.bpaf_words.specs.Line.{SpellAll, HasNoMarker, IsLine, HasNoLine}
 use Rattle.bpaf_words.specs.Spelling.{ShortNames, Known, Spelling, Items, Ambiguous as NoItems}
 use Rattle.bpaf_words.specs.Spelling.{Spells, SpellsByDash, SpellsJoined, HasNoEquals, known_at}
-use Rattle.bpaf_words.specs.Spelling.{IsNumberWord}
+use Rattle.bpaf_words.specs.Spelling.{IsNumberWord, dash_char}
 
 -- items that are spelled stand at the end of the old ones; or the ambiguous character is named; or
 -- memory is wanted
@@ -47,7 +47,7 @@ pub record AreJoined (word letters : List ℕ) : Type 0 where
   pub others : List ℕ
   pub word_is : word ≡ codes "-" ++ letters
   pub letters_are : letters ≡ encode_utf8_all (first ∷ second ∷ others)
-  pub no_dash : first ≢ 45
+  pub no_dash : first ≢ dash_char
   pub no_equals : HasNoEquals (encode_utf8_all (second ∷ others))
 
 -- what is answered of a word behind a dash that isn't a number that is a word: nothing, and its items
@@ -74,7 +74,7 @@ AreTexts words low high = AllWithin IsUtf8 words low high
 -- the first n words are texts, none of them is `--`, and they spell the items
 pub record Begins (known : Known) (words : List (List ℕ)) (items : List Arg) (n : ℕ) : Type 0 where
   pub bound : n ≤ length words
-  pub unmarked : HasNoMarker (take n words)
+  pub without_marker : HasNoMarker (take n words)
   pub spelled : SpellAll known (take n words) items
   pub texts : AreTexts words 0 n
 

@@ -5,8 +5,8 @@ use Rattle.bpaf.proofs.adjacent.attempts.Goals as goal
 
 pub loop-value-init : goal.loop-value-init
 loop-value-init g c =
-    let run = c.run_end-end.ensures in
-    record { same = refl; narrowed = whole _ run.run; inside = run.inside c.requires.inside }
+    let told = c.stretch_end-end.ensures in
+    record { same = refl; narrowed = whole _ told.stretch; inside = told.inside c.requires.inside }
 
 pub returns-in-Err : goal.returns-in-Err
 returns-in-Err g c =

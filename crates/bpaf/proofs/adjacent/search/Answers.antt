@@ -8,8 +8,8 @@ pub returns-in-Err : goal.returns-in-Err
 returns-in-Err g c =
     refused_at g.row.T.Denot (g.P.Parser.outcome c.args.parser.now) c.args.state.now
     (part_of c.args.first.now) c.loop-places.state c.loop-places.invariant.same c.loop-places.from
-    c.loop-places.best c.loop-places.invariant.rest c.width_of-width.result
-    c.width_of-width.ensures c.in-Some.places.start c.in-Some.places.end c.in-Some.ensures.start
+    c.loop-places.best c.loop-places.invariant.rest c.place_count-width.result
+    c.place_count-width.ensures c.in-Some.places.start c.in-Some.places.end c.in-Some.ensures.start
     c.try_at.result c.try_at.new.best c.try_at.new.state c.try_at.ensures.tried c.in-Err.error
     c.in-Err.is
 
@@ -17,8 +17,8 @@ pub returns-in-Ok-Some : goal.returns-in-Ok-Some
 returns-in-Ok-Some g c =
     value_found g.row.T.Denot (g.P.Parser.outcome c.args.parser.now) c.args.state.now
     (part_of c.args.first.now) c.loop-places.state c.loop-places.invariant.same c.loop-places.from
-    c.loop-places.best c.loop-places.invariant.rest c.width_of-width.result
-    c.width_of-width.ensures c.in-Some.places.start c.in-Some.places.end c.in-Some.ensures.start
+    c.loop-places.best c.loop-places.invariant.rest c.place_count-width.result
+    c.place_count-width.ensures c.in-Some.places.start c.in-Some.places.end c.in-Some.ensures.start
     c.try_at.result c.try_at.new.best c.try_at.new.state c.try_at.ensures.tried c.in-Ok-Some.value
     (c.in-Ok-Some.is ∙ ap Ok c.in-Ok-Some.field-0-is)
 
@@ -32,7 +32,7 @@ loop-places-preserved g c =
           unchanged g.row.T.Denot (g.P.Parser.outcome c.args.parser.now) c.args.state.now
           (part_of c.args.first.now) c.loop-places.state c.loop-places.invariant.same
           c.loop-places.from c.loop-places.best c.loop-places.invariant.rest
-          c.width_of-width.result c.width_of-width.ensures c.in-Some.places.start
+          c.place_count-width.result c.place_count-width.ensures c.in-Some.places.start
           c.in-Some.places.end c.in-Some.ensures.start c.try_at.result c.try_at.new.best
           c.try_at.new.state c.try_at.ensures.tried none;
       begun = omega arith;
@@ -43,7 +43,7 @@ loop-places-preserved g c =
           rest_on g.row.T.Denot (g.P.Parser.outcome c.args.parser.now) c.args.state.now
           (part_of c.args.first.now) c.loop-places.state c.loop-places.invariant.same
           c.loop-places.from c.loop-places.best c.loop-places.invariant.rest
-          c.width_of-width.result c.width_of-width.ensures c.in-Some.places.start
+          c.place_count-width.result c.place_count-width.ensures c.in-Some.places.start
           c.in-Some.places.end c.in-Some.ensures.start c.try_at.result c.try_at.new.best
           c.try_at.new.state c.try_at.ensures.tried none;
     }
@@ -52,5 +52,6 @@ pub returns : goal.returns
 returns g c =
     search_ends g.row.T.Denot (g.P.Parser.outcome c.args.parser.now) c.args.state.now
     (part_of c.args.first.now) c.loop-places.state c.loop-places.invariant.same c.loop-places.from
-    c.loop-places.best c.loop-places.invariant.rest c.width_of-width.result
-    c.width_of-width.ensures c.end.result c.end.new.state c.in_default.ensures.start c.end.ensures
+    c.loop-places.best c.loop-places.invariant.rest c.place_count-width.result
+    c.place_count-width.ensures c.end.result c.end.new.state c.in_default.ensures.start
+    c.end.ensures

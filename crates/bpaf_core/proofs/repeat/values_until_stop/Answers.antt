@@ -1,5 +1,5 @@
 use Rattle.std.proofs.Common.{arith, sym, subst, true, ◌∙◌}
-use Rattle.bpaf_laws.specs.Repeat.{Steps}
+use Rattle.bpaf_laws.specs.Repeat.{Turns}
 use Rattle.bpaf_laws.proofs.Repeating.{vec_nil, steps_on, steps_end, steps_refused, not_nil}
 use Rattle.bpaf_core.proofs.repeat.values_until_stop.Goals as goal
 
@@ -9,7 +9,7 @@ loop-values-preserved g c =
     c.loop-values.state c.loop-values.values.items c.is_empty.result c.in_ok-value.field-0
     c.in-Some.value c.parse_option.new.state c.loop-values.invariant
     (c.is_empty.ensures ∙ vec_nil c.loop-values.values) c.in_ok-value.ensures c.in-Some.is in
-    subst (λ vs. Steps (g.P.Parser.outcome c.args.parser.now) c.args.catches true c.args.state.now
+    subst (λ vs. Turns (g.P.Parser.outcome c.args.parser.now) c.args.catches true c.args.state.now
     vs c.parse_option.new.state) (sym c.in_ok-push_value.ensures) more
 
 pub returns-in_err-push_value : goal.returns-in_err-push_value

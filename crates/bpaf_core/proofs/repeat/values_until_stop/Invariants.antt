@@ -1,12 +1,12 @@
--- Each step so far answered a value, and those are the list.
+-- Each turn so far answered a value, and those are the list.
 use Rattle.std.proofs.Common.{◌+◌, true, if◌then◌else◌}
 use Rattle.bpaf_line.specs.Situation.{open_count}
-use Rattle.bpaf_laws.specs.Repeat.{Steps, is_nil}
+use Rattle.bpaf_laws.specs.Repeat.{Turns, is_nil}
 use Rattle.bpaf_core.proofs.repeat.values_until_stop.Given as goal
 
 abbrev pub invariant-loop-values : goal.invariant-loop-values
 invariant-loop-values g l =
-    Steps (g.P.Parser.outcome l.parser) l.catches true l.fn.state l.values.items l.state
+    Turns (g.P.Parser.outcome l.parser) l.catches true l.fn.state l.values.items l.state
 
 abbrev pub decreases-loop-values : goal.decreases-loop-values
 decreases-loop-values g l = open_count l.state + (if is_nil l.values.items then 1 else 0)

@@ -3,7 +3,7 @@ use Rattle.std.proofs.Common.{String as StringIn}
 use Rattle.bpaf_text.specs.Meaning.{SpellsUnsigned}
 use Rattle.bpaf_words.specs.Arguments.{given_of}
 use Rattle.bpaf_exact.specs.Leaves.{flag_field}
-use Rattle.bpaf_exact.specs.Shape.{alone_shape, both_shape, field_shape, many_shape, unless}
+use Rattle.bpaf_exact.specs.FlatForm.{flat_alone, flat_both, flat_field, flat_many, unless}
 use Rattle.bpaf_exact.proofs.Fields.{first_field, later_field, made_field}
 use Rattle.bpaf_exact.proofs.Owning.{alone_owns, argument_owns, both_owns, field_owns, flag_owns}
 use Rattle.bpaf_exact.proofs.Owning.{many_owns, optional_owns, unless_owns}
@@ -20,8 +20,8 @@ returns c =
     let files = fields.rest.rest.last in
     let kept : Bool → Bool → Type 0 = λ x y. y ≡ x in
     let means : List ℕ → StringIn Global → Type 0 = λ text v. string_bytes v ≡ text in
-    let switch = field_shape (flag_field kept force.named force.present force.absent) in
-    let words = alone_shape (field_shape (unless files.catch (many_shape
+    let switch = flat_field (flag_field kept force.named force.present force.absent) in
+    let words = flat_alone (flat_field (unless files.catch (flat_many
     (positional_field means files.inner.position)))) in
     let owned = field_owns _ _ (flag_owns kept force.named force.present force.absent) in
     let no_keys = alone_owns _ _ (field_owns _ _ (unless_owns files.catch _ _ (many_owns _ _
@@ -38,7 +38,7 @@ returns c =
           }) (λ removal. removal.force)
           (made_field _ _ _ (λ x. x.1.0) _ (λ x v made. search rules)
           (later_field (depth.named.names ∷ []) (force.named.names ∷ []) _ switch
-          (both_shape (force.named.names ∷ []) [] switch words) (λ x. x.0)
+          (flat_both (force.named.names ∷ []) [] switch words) (λ x. x.0)
           (field_owns _ _ (unless_owns fields.first.catch _ _ (optional_owns _ _
           (argument_owns (SpellsUnsigned 64) depth))))
           (both_owns _ _ switch words owned no_keys)

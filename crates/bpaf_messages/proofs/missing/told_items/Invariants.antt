@@ -1,5 +1,5 @@
 use Rattle.std.proofs.Common.{◌≡◌, ◌++◌, drop, filter, map, true}
-use Rattle.bpaf_doc.specs.ItemText.{item_text}
+use Rattle.bpaf_doc.specs.PartText.{part_text}
 use Rattle.bpaf_doc.specs.Print.{printed}
 use Rattle.bpaf_line.specs.Missing.{missed_of}
 use Rattle.bpaf_messages.specs.MissingText.{in_one_scope, one_command, told_parts}
@@ -8,6 +8,6 @@ use Rattle.bpaf_messages.proofs.missing.told_items.Given as goal
 abbrev pub invariant-loop-missed : goal.invariant-loop-missed
 invariant-loop-missed l =
     map (printed true) l.docs.items
-    ++ map item_text (one_command l.after (map (λ m. m.item)
+    ++ map part_text (one_command l.after (map (λ m. m.item)
     (filter (in_one_scope (missed_of l.far)) (map missed_of (drop l.missed-index l.items)))))
-    ≡ map item_text (told_parts (missed_of l.far) (map missed_of l.items))
+    ≡ map part_text (told_parts (missed_of l.far) (map missed_of l.items))

@@ -15,10 +15,10 @@ loop-index-preserved g c =
     ∙ (ap (joined_form
     (are_all_apart own (g.P.HasKeys.keys c.index-parsers-index.result)) old) c.form.ensures
     ∙ ap (λ p. joined_form (are_all_apart own (g.P.HasKeys.keys p)) old
-    (form_of (g.P.FlatField.shape p))) c.index-parsers-index.is)) in
-    ap (λ form. forms_rest g.P.HasKeys.keys (λ p. form_of (g.P.FlatField.shape p))
+    (form_of (g.P.FlatField.flat_form p))) c.index-parsers-index.is)) in
+    ap (λ form. forms_rest g.P.HasKeys.keys (λ p. form_of (g.P.FlatField.flat_form p))
     (flat_map g.P.HasKeys.keys (take (i + 1) ps)) form (drop (i + 1) ps)) form
     ∙ (join_step g.P.HasKeys.keys
     (λ p. form_of
-    (g.P.FlatField.shape p)) old ps i c.index-parsers-index.result c.loop-index-test.true
+    (g.P.FlatField.flat_form p)) old ps i c.index-parsers-index.result c.loop-index-test.true
     ∙ c.loop-index.invariant)

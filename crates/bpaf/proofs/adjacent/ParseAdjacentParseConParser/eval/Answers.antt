@@ -3,12 +3,12 @@ use Rattle.bpaf_doc.specs.Shape.{part_of}
 use Rattle.bpaf_laws.specs.Product.{ProductOutcome}
 use Rattle.bpaf_laws.proofs.ProductLaws.{product_lawful}
 use Rattle.bpaf_laws.proofs.ProductSparing.{product_spares}
-use Rattle.bpaf_laws.proofs.AdjacentGroupLaws.{group_takes_run, spared_group}
+use Rattle.bpaf_laws.proofs.AdjacentGroupLaws.{group_takes_stretch, spared_group}
 use Rattle.bpaf.proofs.adjacent.ParseAdjacentParseConParser.eval.Goals as goal
 
-pub returns-clause-takes_one_run : goal.returns-clause-takes_one_run
-returns-clause-takes_one_run g c =
-    group_takes_run (part_of c.args.self.now.first)
+pub returns-clause-takes_one_stretch : goal.returns-clause-takes_one_stretch
+returns-clause-takes_one_stretch g c =
+    group_takes_stretch (part_of c.args.self.now.first)
     (product_lawful (λ x y. g.F.Fn.post c.args.self.now.inner.make (x, tt) y)
     (g.met.P.Fields.fast_lawful c.args.self.now.inner.fields)) c.args.state.now c.search.result
     c.search.new.state c.search.ensures

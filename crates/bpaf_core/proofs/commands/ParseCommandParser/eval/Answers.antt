@@ -2,7 +2,7 @@ use Rattle.std.proofs.Common.{Ok, Err}
 use Rattle.bpaf_laws.specs.Command.{CommandPart}
 use Rattle.bpaf_core.specs.Ending.{EndsRun}
 use Rattle.bpaf_core.specs.EndingLaws.{run_ending}
-use Rattle.bpaf_core.specs.AdjacentLaws.{plain_leaves_nothing, spared_either, takes_one_run}
+use Rattle.bpaf_core.specs.AdjacentLaws.{plain_leaves_nothing, spared_either, takes_one_stretch}
 use Rattle.bpaf_core.proofs.Commanding.{inside_answers, inside_refuses, refused_inside}
 use Rattle.bpaf_core.proofs.commands.ParseCommandParser.eval.Goals as goal
 
@@ -39,10 +39,10 @@ returns-in-Ok-clause-command_leaves_nothing g c =
     (CommandPart p.names p.help (g.P.Parser.describes p.inner)) p.adjacent
     c.args.state.now c.run_inside.new.state c.in-Ok.value (returns-in-Ok-clause-outcome g c)
 
-pub returns-in-Ok-clause-takes_one_run : goal.returns-in-Ok-clause-takes_one_run
-returns-in-Ok-clause-takes_one_run g c =
+pub returns-in-Ok-clause-takes_one_stretch : goal.returns-in-Ok-clause-takes_one_stretch
+returns-in-Ok-clause-takes_one_stretch g c =
     let p = c.args.self.now in
-    takes_one_run (g.met.P.Parser.lawful p.inner)
+    takes_one_stretch (g.met.P.Parser.lawful p.inner)
     (run_ending (g.P.Parser.describes p.inner) p.info) p.names
     (CommandPart p.names p.help (g.P.Parser.describes p.inner)) p.adjacent
     c.args.state.now c.run_inside.new.state c.in-Ok.value (returns-in-Ok-clause-outcome g c)

@@ -1,6 +1,6 @@
 use Rattle.std.proofs.Common.{◌||◌, ap, sym, subst, arith, length, not, slice_index_or}
 use Rattle.bpaf_line.specs.Bits.{has_bit}
-use Rattle.bpaf_line.specs.Chained.{IsPlaceOf, IsStart, HasWalked, AreBehind}
+use Rattle.bpaf_line.specs.Chained.{IsPlaceOf, IsWalkStart, HasWalked, AreBehind}
 use Rattle.bpaf_line.specs.Chained.{names_in, shares_name}
 use Rattle.bpaf_line.specs.InsideChains.{chained_of}
 use Rattle.bpaf_line.proofs.Chained.{linked_owned, behind_owned, class_inside}
@@ -29,7 +29,7 @@ returns c =
     c.first_of_name-cursor.result
     (subst (AreBehind items set) (sym c.self.view_is) c.requires.behind)
     (omega (arith, inside, c.self.invariant.owned)) (omega (arith, inside, c.self.invariant.cursors))
-    (subst (λ t. IsStart items (names_in items c.args.place) t class c.start_at-from.result)
+    (subst (λ t. IsWalkStart items (names_in items c.args.place) t class c.start_at-from.result)
     (sym c.self.view_is) c.start_at-from.ensures)
     (subst (λ t. HasWalked t.classes (λ p. set p || not (shares_name items c.args.place p))
     c.start_at-from.result c.first_of_name-cursor.result) (sym c.self.view_is)

@@ -2,7 +2,7 @@ use Rattle.std.proofs.Common.{◌++◌, ◌∷◌, [], ◌∙◌, ap, sym, subst
 use Rattle.std.proofs.lemmas.List.{take_more}
 use Rattle.bpaf_words.specs.declared.arg.Arg.TheVariants.{Long}
 use Rattle.bpaf_words.specs.Items.{is_argument_key}
-use Rattle.bpaf_line.specs.Chained.{text_number, name_number, class_of, IsStart}
+use Rattle.bpaf_line.specs.Chained.{text_number, name_number, class_of, IsWalkStart}
 use Rattle.bpaf_line.specs.Finding.{IsFirstAmong}
 use Rattle.bpaf_line.proofs.Finding.{among_more, first_named}
 use Rattle.bpaf_line.proofs.state.State.first_long_key.Goals as goal
@@ -22,9 +22,9 @@ loop-long-preserved c =
     let chains = c.args.chains.now in
     let class = class_of (length chains.heads) (name_number key) in
     let line = c.as_slice-items.ensures.value ∙ ap (λ t. t.context.line) c.self.view_is in
-    let begins = subst (λ ns. IsStart s.context.line (record { shorts = []; longs = ns }) chains class c.start-start.result)
-    c.from_ref.ensures.value (subst (λ items. IsStart items (record { shorts = []; longs = c.from_ref.result.now }) chains class
-    c.start-start.result) line (subst (λ number. IsStart c.as_slice-items.result.now
+    let begins = subst (λ ns. IsWalkStart s.context.line (record { shorts = []; longs = ns }) chains class c.start-start.result)
+    c.from_ref.ensures.value (subst (λ items. IsWalkStart items (record { shorts = []; longs = c.from_ref.result.now }) chains class
+    c.start-start.result) line (subst (λ number. IsWalkStart c.as_slice-items.result.now
     (record { shorts = []; longs = c.from_ref.result.now }) chains
     (class_of (length chains.heads) number) c.start-start.result)
     (c.text_number-number.ensures ∙ ap (text_number 0) (c.as_str.ensures)) c.start-start.ensures)) in

@@ -4,11 +4,11 @@ use Rattle.bpaf_doc.specs.Names.{Names}
 use Rattle.bpaf_words.specs.declared.arg.Arg.{Arg}
 use Rattle.bpaf_words.specs.declared.arg.Arg.TheVariants.{Short, Long, ArgWord, Word, PosWord}
 use Rattle.bpaf_line.specs.Situation.{Context}
-use Rattle.bpaf_exact.specs.Pieces.{Foreign, Roles, Piece, One, Two, IsNamed, Cut, at_end}
+use Rattle.bpaf_exact.specs.Pieces.{Foreign, Roles, LinePiece, One, Two, IsNamed, Cut, at_end}
 use Rattle.bpaf_exact.specs.Pieces.{flag, argument, word, either, no_roles, word_roles, mine}
 use Rattle.bpaf_exact.specs.Pieces.{others}
 use Rattle.bpaf_exact.specs.Pieces.{is_key}
-use Rattle.bpaf_exact.specs.Flat.{Named, OneWord, EachWord, BothValue, both_reading, keys}
+use Rattle.bpaf_exact.specs.Flat.{ByName, OneWord, EachWord, BothValue, both_reading, keys}
 use Rattle.bpaf_exact.specs.Single.{FrontOf, own_none, own_more, no_gap, SingleValue, of_group}
 use Rattle.bpaf_exact.specs.Single.{of_gap}
 use Rattle.bpaf_exact.specs.Single.{OwnList, listed, listed_and_absent, only_absent}
@@ -18,8 +18,8 @@ use Rattle.bpaf_exact.specs.Leaves.{switch_gap, flag_by, argument_by, word_field
 use Rattle.bpaf_exact.specs.Leaves.{LastGroup, HaveValues, no_more, one_more}
 use Rattle.bpaf_exact.specs.Alternative.{either_value, bad_here, bad_later}
 use Rattle.bpaf_exact.specs.Record.{line_cells, RecordValue, LastValue, last_reading}
-use Rattle.bpaf_exact.specs.Shape.{Shape, is_record, both_shape, field_shape, alone_shape}
-use Rattle.bpaf_exact.specs.Shape.{many_shape, choice_shape, optional_shape}
+use Rattle.bpaf_exact.specs.FlatForm.{FlatForm, is_record, flat_both, flat_field, flat_alone}
+use Rattle.bpaf_exact.specs.FlatForm.{flat_many, flat_choice, flat_optional}
 use Rattle.bpaf_exact.specs.Accepted.{HasItsValue, HoldsTogether}
 use Rattle.bpaf_exact.proofs.Accepted.{cut_holds_together, attached_to}
 use Rattle.bpaf_exact.proofs.Surplus.{bad_occurrence, field_no_surplus, first_part, front_one}
@@ -56,20 +56,20 @@ abbrev n_roles : Roles
 n_roles = argument_roles (short 110)
 
 -- the value of the switch
-abbrev SwitchValue : List Piece → Bool → Type 0
+abbrev SwitchValue : List LinePiece → Bool → Type 0
 SwitchValue =
     SingleValue Bool (FrontOf Bool (FlagValue (exactly true))) (switch_gap (exactly false))
 
 -- that of the argument
-abbrev NumberValue : List Piece → ℕ → Type 0
+abbrev NumberValue : List LinePiece → ℕ → Type 0
 NumberValue = SingleValue ℕ (FrontOf ℕ (ArgumentValue number)) (no_gap ℕ)
 
 -- that of the argument which takes its last value
-abbrev LastValueOf : List Piece → ℕ → Type 0
+abbrev LastValueOf : List LinePiece → ℕ → Type 0
 LastValueOf = SingleValue ℕ (LastGroup ℕ number) (no_gap ℕ)
 
 -- that of a word
-abbrev TextValue : List Piece → List ℕ → Type 0
+abbrev TextValue : List LinePiece → List ℕ → Type 0
 TextValue = SingleValue (List ℕ) (FrontOf (List ℕ) (WordValue itself)) (no_gap (List ℕ))
 
 -- the key `-v`
@@ -87,17 +87,17 @@ letter c = Word (c ∷ [])
 -- the items of the switch, the argument and a word
 abbrev three_roles : Roles
 three_roles =
-    either (keys Named v_roles)
-    (either (keys Named n_roles) (either (keys OneWord word_roles) no_roles))
+    either (keys ByName v_roles)
+    (either (keys ByName n_roles) (either (keys OneWord word_roles) no_roles))
 
 -- their values
-abbrev ThreeValue : List Piece → Bool × (ℕ × List ℕ) → Type 0
+abbrev ThreeValue : List LinePiece → Bool × (ℕ × List ℕ) → Type 0
 ThreeValue =
-    BothValue Named v_roles SwitchValue
-    (BothValue Named n_roles NumberValue (LastValue (List ℕ) OneWord word_roles TextValue))
+    BothValue ByName v_roles SwitchValue
+    (BothValue ByName n_roles NumberValue (LastValue (List ℕ) OneWord word_roles TextValue))
 
 -- a piece alone, and its value
-one_front : {T : Type 0} (value : Piece → T → Type 0) (o : Piece) (v : T) → value o v
+one_front : {T : Type 0} (value : LinePiece → T → Type 0) (o : LinePiece) (v : T) → value o v
     → FrontOf T value (o ∷ []) v []
 one_front value o v h = record { piece = o; is = refl; means = h }
 
@@ -149,7 +149,7 @@ three_named = record { only_keys = by_item }
     by_item (PosWord text) h = refl
 
 -- what holds of a line that is cut for them
-three_together : (items : List Arg) (os : List Piece)
+three_together : (items : List Arg) (os : List LinePiece)
     → Cut three_roles (line_cells (line_of items)) os
     → HoldsTogether three_roles (line_cells (line_of items)) os
 three_together items os c = cut_holds_together three_roles three_named _ os c
@@ -167,7 +167,7 @@ unfolding options_first
 word_left = refl
 
 -- `-a`: a key of nobody
-foreign_key : (os : List Piece)
+foreign_key : (os : List LinePiece)
     → Cut three_roles (line_cells (line_of (Short 97 false [] ∷ []))) os → ⊥
 foreign_key os c =
     let own = (three_together (Short 97 false [] ∷ []) os c).keys [] []
@@ -175,7 +175,7 @@ foreign_key os c =
     cc
 
 -- `-v=3`: a value behind the key of a switch
-value_behind_switch : (os : List Piece)
+value_behind_switch : (os : List LinePiece)
     → Cut three_roles (line_cells (line_of (v_key ∷ ArgWord (3 ∷ []) ∷ []))) os → ⊥
 value_behind_switch os c =
     let wants = attached_to three_roles _ os
@@ -190,7 +190,7 @@ word_too_many =
 
 -- the items of the argument and a word
 abbrev two_roles : Roles
-two_roles = either (keys Named n_roles) (either (keys OneWord word_roles) no_roles)
+two_roles = either (keys ByName n_roles) (either (keys OneWord word_roles) no_roles)
 
 -- they are keys
 two_named : IsNamed two_roles
@@ -204,14 +204,15 @@ two_named = record { only_keys = by_item }
     by_item (PosWord text) h = refl
 
 -- two pieces aren't one value
-two_pieces : (o p : Piece) (v : ℕ) (os : List Piece) → os ≡ o ∷ p ∷ [] → NumberValue os v → ⊥
+two_pieces : (o p : LinePiece) (v : ℕ) (os : List LinePiece) → os ≡ o ∷ p ∷ [] → NumberValue os v
+    → ⊥
 two_pieces o p v os e (of_group g) = let h = g.is in cc
 two_pieces o p v os e (of_gap a) = a
 
 -- `-n 3 -n 4` to an argument and a word: there is no value, since `4` belongs to its key
 value_of_a_key : (v : ℕ × List ℕ)
     → RecordValue two_roles
-    (BothValue Named n_roles NumberValue (LastValue (List ℕ) OneWord word_roles TextValue))
+    (BothValue ByName n_roles NumberValue (LastValue (List ℕ) OneWord word_roles TextValue))
     (line_of (n_key ∷ letter 3 ∷ n_key ∷ letter 4 ∷ [])) v
     → ⊥
 value_of_a_key v r =
@@ -223,13 +224,13 @@ value_of_a_key v r =
     (ap (mine n_roles) e) r.read.0
 
 -- the switch under `many`
-abbrev SwitchesValue : List Piece → List Bool → Type 0
+abbrev SwitchesValue : List LinePiece → List Bool → Type 0
 SwitchesValue =
-    LastValue (List Bool) Named v_roles
+    LastValue (List Bool) ByName v_roles
     (OwnList Bool (FrontOf Bool (FlagValue (exactly true))) (switch_gap (exactly false)))
 
 -- the empty line gives the absent value once
-switch_repeated_absent : RecordValue (either (keys Named v_roles) no_roles) SwitchesValue
+switch_repeated_absent : RecordValue (either (keys ByName v_roles) no_roles) SwitchesValue
     (line_of []) (false ∷ [])
 switch_repeated_absent = record {
   cut_into = [];
@@ -238,7 +239,7 @@ switch_repeated_absent = record {
 }
 
 -- `-v` gives the present value alone
-switch_repeated_present : RecordValue (either (keys Named v_roles) no_roles) SwitchesValue
+switch_repeated_present : RecordValue (either (keys ByName v_roles) no_roles) SwitchesValue
     (line_of (v_key ∷ [])) (true ∷ [])
 switch_repeated_present = record {
   cut_into = One v_key ∷ [];
@@ -252,7 +253,7 @@ switch_repeated_present = record {
 }
 
 -- `-n -- 3`: the key has no value beside it, so there is no cut
-key_before_marker : (os : List Piece)
+key_before_marker : (os : List LinePiece)
     → Cut n_roles
     (line_cells (record {
       line = n_key ∷ PosWord (45 ∷ 45 ∷ []) ∷ PosWord (3 ∷ []) ∷ [];
@@ -263,7 +264,7 @@ key_before_marker : (os : List Piece)
     → ⊥
 key_before_marker os c = no_cut os c
   where
-    no_cut : (os : List Piece)
+    no_cut : (os : List LinePiece)
         → Cut n_roles (Some n_key ∷ None ∷ Some (PosWord (3 ∷ [])) ∷ []) os → ⊥
     no_cut os (flag e c) = cc
     no_cut os (word h c) = cc
@@ -273,7 +274,7 @@ abbrev must_be_set : Closure Bool Bool
 must_be_set = record { yes = λ b c. (c ≡ b) × (b ≡ true); no = λ b. b ≡ false }
 
 -- with it inside `many` there is no value, since the absent one doesn't pass
-absent_refused : (os : List Piece) (vs : List Bool)
+absent_refused : (os : List LinePiece) (vs : List Bool)
     → OwnList Bool (ClosedGroup Bool Bool (FrontOf Bool (FlagValue (exactly true))) must_be_set)
     (closed_gap (switch_gap (exactly false)) must_be_set) os vs
     → ⊥
@@ -282,14 +283,14 @@ absent_refused os vs (listed_and_absent h a o) = let e = a.1 in let f = a.2.1 in
 absent_refused os vs (only_absent h a) = let e = a.1 in let f = a.2.1 in cc
 
 -- all words and then one: nothing is left for the one
-all_words_taken : (v : List (List ℕ) × List ℕ) (os : List Piece)
+all_words_taken : (v : List (List ℕ) × List ℕ) (os : List LinePiece)
     → BothValue EachWord word_roles
     (OwnList (List ℕ) (FrontOf (List ℕ) (WordValue itself)) (no_gap (List ℕ)))
     (LastValue (List ℕ) OneWord word_roles TextValue) os v
     → ⊥
 all_words_taken v os h = nothing [] v.1 refl h.1.read
   where
-    nothing : (os : List Piece) (v : List ℕ) → os ≡ [] → TextValue os v → ⊥
+    nothing : (os : List LinePiece) (v : List ℕ) → os ≡ [] → TextValue os v → ⊥
     nothing os v e (of_group g) = let f = g.is in cc
     nothing os v e (of_gap a) = a
 
@@ -298,7 +299,7 @@ abbrev choice_roles : Roles
 choice_roles = either (argument_roles (short 97)) (argument_roles (short 98))
 
 -- what a piece of either means
-abbrev ChoiceValue : Piece → ℕ → Type 0
+abbrev ChoiceValue : LinePiece → ℕ → Type 0
 ChoiceValue = either_value (argument_roles (short 97)) (ArgumentValue number) (ArgumentValue number)
 
 -- the key `-a`
@@ -310,8 +311,8 @@ abbrev b_key : Arg
 b_key = Short 98 false []
 
 -- a choice under `many` gathers in line order
-line_order : RecordValue (either (keys Named choice_roles) no_roles)
-    (LastValue (List ℕ) Named choice_roles (OwnList ℕ (FrontOf ℕ ChoiceValue) (no_gap ℕ)))
+line_order : RecordValue (either (keys ByName choice_roles) no_roles)
+    (LastValue (List ℕ) ByName choice_roles (OwnList ℕ (FrontOf ℕ ChoiceValue) (no_gap ℕ)))
     (line_of (b_key ∷ letter 3 ∷ a_key ∷ letter 1 ∷ b_key ∷ letter 2 ∷ [])) (3 ∷ 1 ∷ 2 ∷ [])
 line_order = record {
   cut_into = Two b_key (letter 3) ∷ Two a_key (letter 1) ∷ Two b_key (letter 2) ∷ [];
@@ -327,48 +328,48 @@ line_order = record {
 }
 
 -- `-b 3 -a xy` to it: `-a` can't read its value, so there is none
-failed_alternative : ¬ ((last_reading Named choice_roles
+failed_alternative : ¬ ((last_reading ByName choice_roles
     (OwnList ℕ (FrontOf ℕ ChoiceValue) (no_gap ℕ))).each
     (Two b_key (letter 3) ∷ Two a_key (Word (9 ∷ 8 ∷ [])) ∷ []))
 failed_alternative =
     bad_occurrence _ _ (Two b_key (letter 3) ∷ Two a_key (Word (9 ∷ 8 ∷ [])) ∷ []) ChoiceValue
     (OwnList ℕ (FrontOf ℕ ChoiceValue) (no_gap ℕ))
     (repeat_bad ℕ ChoiceValue (no_gap ℕ))
-    (last_part Named choice_roles (OwnList ℕ (FrontOf ℕ ChoiceValue) (no_gap ℕ)))
+    (last_part ByName choice_roles (OwnList ℕ (FrontOf ℕ ChoiceValue) (no_gap ℕ)))
     (bad_later {o = Two b_key (letter 3)} (bad_here {o = Two a_key (Word (9 ∷ 8 ∷ []))} unread))
   where
     unread : (n : ℕ) → ChoiceValue (Two a_key (Word (9 ∷ 8 ∷ []))) n → ⊥
     unread n e = cc
 
 -- the switch
-abbrev switch : Shape Bool
+abbrev switch : FlatForm Bool
 switch = flag_by (λ kept v. v ≡ kept) (short 118) true [] (Some false)
 
 -- `-v -v` to the switch and a word: one occurrence too many
-switch_twice : ¬ ((both_reading Named v_roles SwitchValue
+switch_twice : ¬ ((both_reading ByName v_roles SwitchValue
     (last_reading OneWord word_roles TextValue)).each (One v_key ∷ One v_key ∷ []))
 switch_twice =
     surplus_occurrence _ _ (One v_key ∷ One v_key ∷ []) SwitchValue
     (field_no_surplus switch (front_one Bool (FlagValue (exactly true))))
-    (first_part Named v_roles SwitchValue (last_reading OneWord word_roles TextValue))
+    (first_part ByName v_roles SwitchValue (last_reading OneWord word_roles TextValue))
     (One v_key) (One v_key) [] refl
 
 -- an argument of this name
-abbrev number_of : ℕ → Shape ℕ
+abbrev number_of : ℕ → FlatForm ℕ
 number_of c = argument_by number (short c) [] false false
 
 -- one that takes its last value
-abbrev last_number_of : ℕ → Shape ℕ
+abbrev last_number_of : ℕ → FlatForm ℕ
 last_number_of c = argument_by number (short c) [] false true
 
 -- a word
-abbrev text : Shape (List ℕ)
+abbrev text : FlatForm (List ℕ)
 text = word_field itself
 
 -- the switch, the argument and words are a record
-fields_are : is_record (both_shape (short 118 ∷ []) (short 110 ∷ []) (field_shape switch)
-    (both_shape (short 110 ∷ []) [] (field_shape (number_of 110))
-    (alone_shape (field_shape (many_shape text))))) ≡ true
+fields_are : is_record (flat_both (short 118 ∷ []) (short 110 ∷ []) (flat_field switch)
+    (flat_both (short 110 ∷ []) [] (flat_field (number_of 110))
+    (flat_alone (flat_field (flat_many text))))) ≡ true
 fields_are = refl
 
 -- so is the argument alone
@@ -381,42 +382,42 @@ last_is = refl
 
 -- which is no alternative of a choice
 choice_of_last_is_not : is_record
-    (choice_shape (short 97 ∷ []) (short 98 ∷ []) (last_number_of 97) (number_of 98)) ≡ false
+    (flat_choice (short 97 ∷ []) (short 98 ∷ []) (last_number_of 97) (number_of 98)) ≡ false
 choice_of_last_is_not = refl
 
 -- and the choice of two under `many`
-choice_is : is_record (many_shape
-    (choice_shape (short 97 ∷ []) (short 98 ∷ []) (number_of 97) (number_of 98))) ≡ true
+choice_is : is_record (flat_many
+    (flat_choice (short 97 ∷ []) (short 98 ∷ []) (number_of 97) (number_of 98))) ≡ true
 choice_is = refl
 
 -- a word before a switch is none
 word_before_is_not : is_record
-    (both_shape [] (short 118 ∷ []) (field_shape text) (alone_shape (field_shape switch))) ≡ false
+    (flat_both [] (short 118 ∷ []) (flat_field text) (flat_alone (flat_field switch))) ≡ false
 word_before_is_not = refl
 
 -- nor are two of one name
-twice_is_not : is_record (both_shape (short 110 ∷ []) (short 110 ∷ []) (field_shape (number_of 110))
-    (alone_shape (field_shape (number_of 110)))) ≡ false
+twice_is_not : is_record (flat_both (short 110 ∷ []) (short 110 ∷ []) (flat_field (number_of 110))
+    (flat_alone (flat_field (number_of 110)))) ≡ false
 twice_is_not = refl
 
 -- also in one choice
 choice_twice_is_not : is_record
-    (choice_shape (short 110 ∷ []) (short 110 ∷ []) (number_of 110) (number_of 110)) ≡ false
+    (flat_choice (short 110 ∷ []) (short 110 ∷ []) (number_of 110) (number_of 110)) ≡ false
 choice_twice_is_not = refl
 
 -- nor is a repeat of what may be left out
-repeat_of_optional_is_not : is_record (many_shape (optional_shape text)) ≡ false
+repeat_of_optional_is_not : is_record (flat_many (flat_optional text)) ≡ false
 repeat_of_optional_is_not = refl
 
 -- nor a choice that holds a switch
 choice_of_switch_is_not : is_record
-    (choice_shape (short 118 ∷ []) (short 113 ∷ []) switch switch) ≡ false
+    (flat_choice (short 118 ∷ []) (short 113 ∷ []) switch switch) ≡ false
 choice_of_switch_is_not = refl
 
 -- nor a product inside a product
-product_inside_is_not : is_record (both_shape (short 118 ∷ []) [] (field_shape
-    (both_shape (short 118 ∷ []) (short 110 ∷ []) (field_shape switch)
-    (alone_shape (field_shape (number_of 110))))) (alone_shape (field_shape text))) ≡ false
+product_inside_is_not : is_record (flat_both (short 118 ∷ []) [] (flat_field
+    (flat_both (short 118 ∷ []) (short 110 ∷ []) (flat_field switch)
+    (flat_alone (flat_field (number_of 110))))) (flat_alone (flat_field text))) ≡ false
 product_inside_is_not = refl
 
 -- An argument that takes its last value.
@@ -443,13 +444,13 @@ last_list : OwnList ℕ (LastGroup ℕ number) (no_gap ℕ)
 last_list = listed refl (own_more last_of_two own_none)
 
 -- a key without a value is none of keys with values
-bare_before_last : (before rest : List Piece) (k w : Arg) → HaveValues before
+bare_before_last : (before rest : List LinePiece) (k w : Arg) → HaveValues before
     → One n_key ∷ rest ≡ before ++ Two k w ∷ [] → ⊥
 bare_before_last [] rest k w no_more e = cc
 bare_before_last (o ∷ before) rest k w (one_more h) e = cc
 
 -- `-n -n 4`: so the pieces have no value
-bare_has_no_last : (v : ℕ) (rest : List Piece) → LastGroup ℕ number
+bare_has_no_last : (v : ℕ) (rest : List LinePiece) → LastGroup ℕ number
     (One n_key ∷ Two n_key (letter 4) ∷ []) v rest → ⊥
 bare_has_no_last v rest g =
     bare_before_last g.before (Two n_key (letter 4) ∷ []) g.key g.word g.have_values g.is

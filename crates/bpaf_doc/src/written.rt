@@ -2,7 +2,7 @@
 ghost use Rattle.std.specs.Prelude.{◌≡◌, ◌++◌, Bool, IfOk, OnOk, OnErr, string_bytes};
 ghost use Rattle.bpaf_doc.specs.Print.{printed};
 ghost use Rattle.bpaf_doc.specs.Shape.{part_of, name_of};
-ghost use Rattle.bpaf_doc.specs.ItemText.{item_text, name_text};
+ghost use Rattle.bpaf_doc.specs.PartText.{part_text, name_text};
 
 use crate::doc::{Doc, Style};
 use crate::item::{Item, ShortLong};
@@ -29,7 +29,7 @@ impl Item {
     /// What is written for it, by itself.
     fn text(&self, alloc: Global) -> Result<Doc, AllocError>
         ensures { IfOk result (λ doc. (full : Bool) →
-            printed full doc ≡ item_text (part_of self.now)) }
+            printed full doc ≡ part_text (part_of self.now)) }
     {
         let mut doc = Doc::new(alloc);
         match self {
@@ -55,7 +55,7 @@ impl Item {
     /// stands whole in each print (bpaf's `Doc::write_item`, in `buffer.rs`).
     pub fn push_text(&self, doc: &mut Doc) -> Result<(), AllocError>
         ensures ok { OnOk result ((full : Bool) →
-            printed full doc.new ≡ printed full doc.old ++ item_text (part_of self.now)) }
+            printed full doc.new ≡ printed full doc.old ++ part_text (part_of self.now)) }
         ensures err { OnErr result (doc.new ≡ doc.old) }
     {
         let text = self.text(doc.alloc())?;

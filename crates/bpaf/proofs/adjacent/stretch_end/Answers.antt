@@ -1,8 +1,8 @@
-use Rattle.bpaf.proofs.RunEnds.{told_end}
-use Rattle.bpaf.proofs.adjacent.run_end.Goals as goal
+use Rattle.bpaf.proofs.StretchEnds.{told_end}
+use Rattle.bpaf.proofs.adjacent.stretch_end.Goals as goal
 
-pub returns-then-len-scope-clause-run : goal.returns-then-len-scope-clause-run
-returns-then-len-scope-clause-run c =
+pub returns-then-len-scope-clause-stretch : goal.returns-then-len-scope-clause-stretch
+returns-then-len-scope-clause-stretch c =
     told_end c.args.state.now c.scope-scope.result.start c.scope-scope.result.end c.args.place
     c.in-Some.first c.len.result c.scope-scope.ensures.start c.scope-scope.ensures.stop
     c.scope-scope.ensures.inside c.in-Some.ensures c.if-first-place.true c.len.ensures

@@ -11,9 +11,9 @@ name_text (Long text) = codes "--" ++ text
 name_text (Both c text) = codes "--" ++ text
 
 -- one item; of one with a text of its own the whole text
-abbrev pub item_text : Part → List ℕ
-item_text (Any metavar help anywhere) = printed true metavar
-item_text (Positional metavar help) = metavar
-item_text (Command name short help inner) = codes "COMMAND ..."
-item_text (Flag name shorts env help) = name_text name
-item_text (Argument name shorts metavar env help) = name_text name ++ codes "=" ++ metavar
+abbrev pub part_text : Part → List ℕ
+part_text (Any metavar help anywhere) = printed true metavar
+part_text (Positional metavar help) = metavar
+part_text (Command name short help inner) = codes "COMMAND ..."
+part_text (Flag name shorts env help) = name_text name
+part_text (Argument name shorts metavar env help) = name_text name ++ codes "=" ++ metavar

@@ -1,9 +1,9 @@
--- Runs of present places.
+-- Stretches of present places.
 use Rattle.std.specs.Prelude.{ℕ, ◌≡◌, ◌<◌, ◌≤◌, true, false}
 use Rattle.bpaf_line.specs.Situation.{Situation, is_open, is_taken}
 
--- the unbroken run of places from one on that are present and in scope
-pub record IsRunFrom (s : Situation) (from end : ℕ) : Type 0 where
+-- the unbroken stretch of places from one on that are present and in scope
+pub record IsStretchFrom (s : Situation) (from end : ℕ) : Type 0 where
   pub ordered : from ≤ end
   pub present : (p : ℕ) → from ≤ p → p < end → is_open s p ≡ true
   pub stops : is_open s end ≡ false

@@ -1,8 +1,8 @@
--- Where a run of present places ends, told by how many places are present.
+-- Where a stretch of present places ends, told by how many places are present.
 use Rattle.std.proofs.Common.{◌≡◌, ℕ, zero, suc, ◌+◌, ◌-◌, ◌<◌, ◌≤◌, Bool, true, false, refl, ap}
 use Rattle.std.proofs.Common.{sym, ◌∙◌, subst, arith, if◌then◌else◌, ⊎_elim, length}
 use Rattle.std.proofs.lemmas.Bool.{cases_lt}
-use Rattle.bpaf_line.specs.Runs.{IsRunFrom}
+use Rattle.bpaf_line.specs.Stretches.{IsStretchFrom}
 use Rattle.bpaf_line.specs.Situation.{Situation, count_below, is_open, open_count, IsNextOpen}
 use Rattle.bpaf_line.proofs.Counts.{count_below-cut, count_below-most, count_below-none}
 use Rattle.bpaf_line.proofs.Counts.{count_below-split}
@@ -32,9 +32,9 @@ closed_outside s q out = by_open (is_open s q) refl
     by_open false there = refl
 
 -- where from the first present place on as many are present as the scope has places, each is, and
--- the run ends with the scope
+-- the stretch ends with the scope
 ends_with_scope : (s : Situation) (p : ℕ) → s.end ≤ length s.context.line
-    → IsNextOpen s s.start p → open_count s ≡ s.end - p → IsRunFrom s p s.end
+    → IsNextOpen s s.start p → open_count s ≡ s.end - p → IsStretchFrom s p s.end
 ends_with_scope s p inside first all =
     let here = open_in_scope s p first.present in
     let n = length s.context.line in
@@ -63,10 +63,10 @@ ends_with_scope s p inside first all =
 -- the same of a scope, a first place and a count that were told
 pub told_end : (s : Situation) (start stop place first count : ℕ) → start ≡ s.start
     → stop ≡ s.end → stop ≤ length s.context.line → IsNextOpen s start first → first ≡ place
-    → count ≡ open_count s → count ≡ stop - first → IsRunFrom s place stop
+    → count ≡ open_count s → count ≡ stop - first → IsStretchFrom s place stop
 told_end s start stop place first count begins ends inside next here counted all =
-    subst (λ p. IsRunFrom s p stop) here
-    (subst (λ e. IsRunFrom s first e) (sym ends)
+    subst (λ p. IsStretchFrom s p stop) here
+    (subst (λ e. IsStretchFrom s first e) (sym ends)
     (ends_with_scope s first (omega (arith, ends))
     (subst (λ b. IsNextOpen s b first) begins next)
     (sym counted ∙ (all ∙ ap (λ e. e - first) ends))))

@@ -1,0 +1,315 @@
+-- Each form that is made of flat fields keeps to its laws.
+use Rattle.std.proofs.Common.{◌≡◌, Bool, true, false, List, [], ◌∷◌, ◌++◌, None, flat_map, refl}
+use Rattle.std.proofs.Common.{sym, subst, ◌∙◌, append-nil, append_assoc}
+use Rattle.bpaf_doc.specs.Names.{Names}
+use Rattle.bpaf_laws.specs.Choice.{ChoiceOutcome}
+use Rattle.bpaf_laws.specs.Choices.{ChoicesOutcome, Nested}
+use Rattle.bpaf_laws.specs.Product.{BothOutcome, ProductOutcome}
+use Rattle.bpaf_laws.specs.Reading.{Outcome}
+use Rattle.bpaf_exact.specs.Pieces.{Role, Foreign, Alone, WithNext, Roles, is_own_role, no_roles}
+use Rattle.bpaf_exact.specs.Pieces.{either}
+use Rattle.bpaf_exact.specs.Names.{Owns, are_all_apart}
+use Rattle.bpaf_exact.specs.Flat.{ErrorClass, Refused, FieldKind, ByName, OneWord, EachWord}
+use Rattle.bpaf_exact.specs.Flat.{FieldsLaw}
+use Rattle.bpaf_exact.specs.Flat.{keys, Before}
+use Rattle.bpaf_exact.specs.Single.{TurnsEval, repeated}
+use Rattle.bpaf_exact.specs.Wrappers.{Closure, Decides, map_closure, ClosedEval, OptionalEval}
+use Rattle.bpaf_exact.specs.Wrappers.{FallbackEval}
+use Rattle.bpaf_exact.specs.Derived.{some_closure, LastEval}
+use Rattle.bpaf_exact.specs.FlatForm.{EachAgrees, FlatForm, not_flat, alternative, single, complete}
+use Rattle.bpaf_exact.specs.FlatForm.{product, FormLaw, Agrees, only_if, flat_closed, flat_dressed}
+use Rattle.bpaf_exact.specs.FlatForm.{flat_either}
+use Rattle.bpaf_exact.specs.FlatForm.{flat_choice, choices_rest, alternative_only, flat_choices}
+use Rattle.bpaf_exact.specs.FlatForm.{flat_repeat, flat_last, flat_optional, flat_fallback}
+use Rattle.bpaf_exact.specs.FlatForm.{flat_field, may_follow, flat_both, flat_alone, flat_con}
+use Rattle.bpaf_exact.specs.FlatForm.{flat_record, is_record, product_roles, product_reading}
+use Rattle.bpaf_exact.proofs.Names.{apart_of_names, either_owns}
+use Rattle.bpaf_exact.proofs.Alternative.{alternative_single, closed_alternative, closed_single}
+use Rattle.bpaf_exact.proofs.Choice.{choice_law}
+use Rattle.bpaf_exact.proofs.Repeat.{repeat_law}
+use Rattle.bpaf_exact.proofs.Wrappers.{closed_law, single_law, optional_law, fallback_law}
+use Rattle.bpaf_exact.proofs.Derived.{some_agrees_on, last_of_law}
+use Rattle.bpaf_exact.proofs.Product.{both_law}
+use Rattle.bpaf_exact.proofs.Records.{con_law, last_law}
+
+-- a closure round a field
+pub flat_closed_law : (A B : Type 0) (inner : Outcome A) (f : Closure A B) (names : List Names)
+    (s : FlatForm A) → Agrees f s → FormLaw inner names s
+    → FormLaw (ClosedEval A B inner f Refused) names (flat_closed f s)
+flat_closed_law A B inner f names not_flat g l = tt
+flat_closed_law A B inner f names (alternative q value) g l =
+    (closed_alternative A B inner q value l.0 f g, l.1)
+flat_closed_law A B inner f names (single k q group gap) g l =
+    (closed_single A B inner k q group gap l.0 f g.0 g.1, l.1)
+flat_closed_law A B inner f names (complete k q value) g l =
+    (closed_law A B inner k q value l.0 f g Refused, l.1)
+flat_closed_law A B inner f names (product q fields) g l = tt
+
+-- another look round a field
+pub flat_dressed_law : (T : Type 0) (outcome : Outcome T) (names : List Names) (s : FlatForm T)
+    → FormLaw outcome names s → FormLaw outcome names (flat_dressed s)
+flat_dressed_law T outcome names not_flat law = tt
+flat_dressed_law T outcome names (alternative q value) law = law
+flat_dressed_law T outcome names (single k q group gap) law = law
+flat_dressed_law T outcome names (complete k q value) law = law
+flat_dressed_law T outcome names (product q fields) law = tt
+
+-- A closure that never refuses agrees with every form: map, count, collect, a constructor.
+pub never_refuses : (A B : Type 0) (f : Closure A B) → ((x : A) → f.no x → ⊥) → (s : FlatForm A)
+    → Agrees f s
+never_refuses A B f n not_flat = tt
+never_refuses A B f n (alternative q value) = λ o x y v a b g h. n y h
+never_refuses A B f n (single k q group gap) =
+    (λ os rest x y v a b g h. n y h, λ x y v a b g h. n y h)
+never_refuses A B f n (complete k q value) = λ os x y v a b g h. n y h
+never_refuses A B f n (product q fields) = λ os x y v a b g h. n y h
+
+-- where a test holds
+if_law : (T : Type 0) (outcome : Outcome T) (names : List Names) (s : FlatForm T) (b : Bool)
+    → (b ≡ true → FormLaw outcome names s) → FormLaw outcome names (only_if b s)
+if_law T outcome names s true f = f refl
+if_law T outcome names s false f = tt
+
+-- a choice of two alternatives
+flat_either_law : (T : Type 0) (a b : Outcome T) (own others : List Names) (s t : FlatForm T)
+    → are_all_apart own others ≡ true → FormLaw a own s → FormLaw b others t
+    → FormLaw (ChoiceOutcome a b) (own ++ others) (flat_either s t)
+flat_either_law T a b own others (alternative q x) (alternative r y) h la lb = (
+  choice_law T a b q r x y la.0 lb.0
+      (apart_of_names q r own others la.1 lb.1 h),
+  either_owns q r own others la.1 lb.1,
+)
+flat_either_law T a b own others (alternative q x) not_flat h la lb = tt
+flat_either_law T a b own others (alternative q x) (single k r g i) h la lb = tt
+flat_either_law T a b own others (alternative q x) (complete k r v) h la lb = tt
+flat_either_law T a b own others (alternative q x) (product r v) h la lb = tt
+flat_either_law T a b own others not_flat t h la lb = tt
+flat_either_law T a b own others (single k q g i) t h la lb = tt
+flat_either_law T a b own others (complete k q v) t h la lb = tt
+flat_either_law T a b own others (product q v) t h la lb = tt
+
+-- the same, where the keys are apart
+pub flat_choice_law : (T : Type 0) (a b : Outcome T) (own others : List Names) (s t : FlatForm T)
+    → FormLaw a own s → FormLaw b others t
+    → FormLaw (ChoiceOutcome a b) (own ++ others) (flat_choice own others s t)
+flat_choice_law T a b own others s t la lb =
+    if_law T (ChoiceOutcome a b) (own ++ others) (flat_either s t) (are_all_apart own others)
+    (λ h. flat_either_law T a b own others s t h la lb)
+
+-- the keys of a choice, behind those that stand before
+abbrev keys_behind : {P : Type 0} → (P → List Names) → List Names → List P → List Names
+keys_behind keys own [] = own
+keys_behind keys own (p ∷ ps) = keys_behind keys (own ++ keys p) ps
+
+-- these are the keys of all
+keys_of_all : {P : Type 0} (keys : P → List Names) (own : List Names) (ps : List P)
+    → keys_behind keys own ps ≡ own ++ flat_map keys ps
+keys_of_all keys own [] = sym (append-nil own)
+keys_of_all keys own (p ∷ ps) = keys_of_all keys (own ++ keys p) ps
+    ∙ append_assoc own (keys p) (flat_map keys ps)
+
+-- a choice of what stands before and of parsers
+choices_rest_law : (P T : Type 0) (outcome : P → Outcome T) (keys : P → List Names)
+    (form : P → FlatForm T) (agrees : P → Type 0)
+    → ((p : P) → agrees p → FormLaw (outcome p) (keys p) (form p)) → (ps : List P)
+    → EachAgrees agrees ps
+    → (first : Outcome T) (own : List Names) (s : FlatForm T) → FormLaw first own s
+    → FormLaw (Nested ChoiceOutcome outcome first ps) (keys_behind keys own ps)
+    (choices_rest keys form own s ps)
+choices_rest_law P T outcome keys form agrees law [] each first own s l = l
+choices_rest_law P T outcome keys form agrees law (p ∷ ps) each first own s l =
+    choices_rest_law P T outcome keys form agrees law ps each.1 (ChoiceOutcome first (outcome p))
+    (own ++ keys p) (flat_choice own (keys p) s (form p))
+    (flat_choice_law T first (outcome p) own (keys p) s (form p) l (law p each.0))
+
+-- an alternative alone
+only_law : (T : Type 0) (outcome : Outcome T) (names : List Names) (s : FlatForm T)
+    → FormLaw outcome names s → FormLaw outcome names (alternative_only s)
+only_law T outcome names not_flat l = tt
+only_law T outcome names (alternative q value) l = l
+only_law T outcome names (single k q group gap) l = tt
+only_law T outcome names (complete k q value) l = tt
+only_law T outcome names (product q fields) l = tt
+
+-- a choice of any number of parsers
+pub flat_choices_law : (P T : Type 0) (outcome : P → Outcome T) (keys : P → List Names)
+    (form : P → FlatForm T) (agrees : P → Type 0)
+    → ((p : P) → agrees p → FormLaw (outcome p) (keys p) (form p)) → (ps : List P)
+    → EachAgrees agrees ps
+    → FormLaw (ChoicesOutcome outcome ps) (flat_map keys ps) (flat_choices keys form ps)
+flat_choices_law P T outcome keys form agrees law [] each = tt
+flat_choices_law P T outcome keys form agrees law (p ∷ ps) each =
+    subst (λ names. FormLaw (ChoicesOutcome outcome (p ∷ ps)) names
+    (flat_choices keys form (p ∷ ps))) (keys_of_all keys (keys p) ps)
+    (choices_rest_law P T outcome keys form agrees law ps each.1 (outcome p) (keys p)
+    (alternative_only (form p))
+    (only_law T (outcome p) (keys p) (form p) (law p each.0)))
+
+-- a repeat has the keys of the field
+repeated_keys : (k : FieldKind) (q : Roles) (names : List Names) → Owns (keys k q) names
+    → Owns (keys (repeated k) q) names
+repeated_keys ByName q names o = o
+repeated_keys OneWord q names o = o
+repeated_keys EachWord q names o = o
+
+-- what some, collect and count make of the list; a refusal of theirs may be of any class
+pub flat_listed_law : (T B : Type 0) (inner : Outcome T) (idle : Bool) (f : Closure (List T) B)
+    (c : ErrorClass) (names : List Names) (s : FlatForm T) → Agrees f (flat_repeat s)
+    → FormLaw inner names s
+    → FormLaw (ClosedEval (List T) B (λ s r t. TurnsEval T inner idle None s r t) f c) names
+    (flat_closed f (flat_repeat s))
+flat_listed_law T B inner idle f c names not_flat g l = tt
+flat_listed_law T B inner idle f c names (alternative q value) g l = let m =
+    repeat_law T inner ByName q _ _ (alternative_single T inner q value l.0) idle in
+    (closed_law (List T) B _ ByName q _ m f g c, l.1)
+flat_listed_law T B inner idle f c names (single k q group gap) g l = let m =
+    repeat_law T inner k q group gap l.0 idle in
+    (closed_law (List T) B _ (repeated k) q _ m f g c, repeated_keys k q names l.1)
+flat_listed_law T B inner idle f c names (complete k q value) g l = tt
+flat_listed_law T B inner idle f c names (product q fields) g l = tt
+
+-- some needs no premise: of the lists that the same pieces give, all are empty or none is
+pub some_agrees : (T : Type 0) (inner : Outcome T) (names : List Names) (s : FlatForm T)
+    → FormLaw inner names s → Agrees (some_closure T) (flat_repeat s)
+some_agrees T inner names not_flat l = tt
+some_agrees T inner names (alternative q value) l =
+    some_agrees_on T inner ByName q _ _ (alternative_single T inner q value l.0)
+some_agrees T inner names (single k q group gap) l = some_agrees_on T inner k q group gap l.0
+some_agrees T inner names (complete k q value) l = tt
+some_agrees T inner names (product q fields) l = tt
+
+-- the last value
+pub flat_last_law : (T : Type 0) (inner : Outcome T) (names : List Names) (s : FlatForm T)
+    → FormLaw inner names s → FormLaw (LastEval T inner) names (flat_last s)
+flat_last_law T inner names not_flat l = tt
+flat_last_law T inner names (alternative q value) l =
+    (last_of_law T inner ByName q _ _ (alternative_single T inner q value l.0), l.1)
+flat_last_law T inner names (single k q group gap) l =
+    (last_of_law T inner k q group gap l.0, repeated_keys k q names l.1)
+flat_last_law T inner names (complete k q value) l = tt
+flat_last_law T inner names (product q fields) l = tt
+
+-- what may be left out
+pub flat_optional_law : (T : Type 0) (inner : Outcome T) (names : List Names) (s : FlatForm T)
+    → FormLaw inner names s → FormLaw (OptionalEval T inner) names (flat_optional s)
+flat_optional_law T inner names not_flat l = tt
+flat_optional_law T inner names (alternative q value) l =
+    (optional_law T inner ByName q _ _ (alternative_single T inner q value l.0), l.1)
+flat_optional_law T inner names (single k q group gap) l =
+    (optional_law T inner k q group gap l.0, l.1)
+flat_optional_law T inner names (complete k q value) l = tt
+flat_optional_law T inner names (product q fields) l = tt
+
+-- what has a value that stands for it
+pub flat_fallback_law : (T : Type 0) (inner : Outcome T) (f : Closure (Unit {0}) T) → Decides f
+    → (names : List Names) (s : FlatForm T) → FormLaw inner names s
+    → FormLaw (FallbackEval T inner f) names (flat_fallback f s)
+flat_fallback_law T inner f decides names not_flat l = tt
+flat_fallback_law T inner f decides names (alternative q value) l =
+    (fallback_law T inner ByName q _ _ (alternative_single T inner q value l.0) f decides, l.1)
+flat_fallback_law T inner f decides names (single k q group gap) l =
+    (fallback_law T inner k q group gap l.0 f decides, l.1)
+flat_fallback_law T inner f decides names (complete k q value) l = tt
+flat_fallback_law T inner f decides names (product q fields) l = tt
+
+-- Each flat form is a field of a record.
+pub flat_field_law : (T : Type 0) (outcome : Outcome T) (names : List Names) (s : FlatForm T)
+    → FormLaw outcome names s → FormLaw outcome names (flat_field s)
+flat_field_law T outcome names not_flat l = tt
+flat_field_law T outcome names (alternative q value) l =
+    (single_law T outcome ByName q _ _ (alternative_single T outcome q value l.0), l.1)
+flat_field_law T outcome names (single k q group gap) l =
+    (single_law T outcome k q group gap l.0, l.1)
+flat_field_law T outcome names (complete k q value) l = l
+flat_field_law T outcome names (product q fields) l = tt
+
+-- what isn't the field's own
+foreign_of : (x : Role) → is_own_role x ≡ false → x ≡ Foreign
+foreign_of Foreign e = refl
+foreign_of Alone e = cc
+foreign_of WithNext e = cc
+
+-- fields that may follow keep apart
+follows : (k : FieldKind) (q r : Roles) (own others : List Names) → Owns (keys k q) own
+    → Owns r others
+    → may_follow k own others ≡ true → Before k q r
+follows ByName q r own others a b h = apart_of_names q r own others a b h
+follows OneWord q r own [] a b h = λ i. foreign_of (r i) (b.own i)
+follows OneWord q r own (names ∷ others) a b h = absurd cc
+follows EachWord q r own [] a b h = λ i. foreign_of (r i) (b.own i)
+follows EachWord q r own (names ∷ others) a b h = absurd cc
+
+-- a field before others
+pub flat_both_law : (A B : Type 0) (first : Outcome A) (rest : Outcome B) (own others : List Names)
+    (s : FlatForm A) (t : FlatForm B) → FormLaw first own s → FormLaw rest others t
+    → FormLaw (BothOutcome first rest) (own ++ others) (flat_both own others s t)
+flat_both_law A B first rest own others (complete k q fv) (product r fields) la lb =
+    if_law (A × B) (BothOutcome first rest) (own ++ others) _ (may_follow k own others)
+    (λ h. (
+      both_law A B first rest k q r fv fields la.0 lb.0
+          (follows k q r own others la.1 lb.1 h),
+      either_owns (keys k q) r own others la.1 lb.1,
+    ))
+flat_both_law A B first rest own others (complete k q fv) not_flat la lb = tt
+flat_both_law A B first rest own others (complete k q fv) (alternative r v) la lb = tt
+flat_both_law A B first rest own others (complete k q fv) (single j r g h) la lb = tt
+flat_both_law A B first rest own others (complete k q fv) (complete j r v) la lb = tt
+flat_both_law A B first rest own others not_flat t la lb = tt
+flat_both_law A B first rest own others (alternative q v) t la lb = tt
+flat_both_law A B first rest own others (single k q g h) t la lb = tt
+flat_both_law A B first rest own others (product q v) t la lb = tt
+
+-- no item without a key
+no_names : Owns no_roles []
+no_names = record { own = λ k. refl }
+
+-- the last field, or one alone
+pub flat_alone_law : (T : Type 0) (outcome : Outcome T) (names : List Names) (s : FlatForm T)
+    → FormLaw outcome names s → FormLaw outcome names (flat_alone s)
+flat_alone_law T outcome names not_flat l = tt
+flat_alone_law T outcome names (alternative q value) l = tt
+flat_alone_law T outcome names (single k q group gap) l = tt
+flat_alone_law T outcome names (complete k q value) l = (
+  last_law T outcome k q value l.0,
+  subst (Owns (either (keys k q) no_roles)) (append-nil names)
+      (either_owns (keys k q) no_roles names [] l.1 no_names),
+)
+flat_alone_law T outcome names (product q fields) l = tt
+
+-- the constructor of a product
+pub flat_con_law : (A B : Type 0) (inner : Outcome A) (makes : A → B → Type 0)
+    (names : List Names) (s : FlatForm A) → FormLaw inner names s
+    → FormLaw (ProductOutcome inner makes) names (flat_con (map_closure makes) s)
+flat_con_law A B inner makes names not_flat l = tt
+flat_con_law A B inner makes names (alternative q value) l = tt
+flat_con_law A B inner makes names (single k q group gap) l = tt
+flat_con_law A B inner makes names (complete k q value) l = tt
+flat_con_law A B inner makes names (product q fields) l =
+    (con_law A B inner makes q fields l.0, l.1)
+
+-- a flat record is a product
+pub flat_record_law : (T : Type 0) (outcome : Outcome T) (names : List Names) (s : FlatForm T)
+    → FormLaw outcome names s → FormLaw outcome names (flat_record s)
+flat_record_law T outcome names not_flat l = tt
+flat_record_law T outcome names (alternative q value) l =
+    flat_alone_law T outcome names (flat_field (alternative q value))
+    (flat_field_law T outcome names (alternative q value) l)
+flat_record_law T outcome names (single k q group gap) l =
+    flat_alone_law T outcome names (flat_field (single k q group gap))
+    (flat_field_law T outcome names (single k q group gap) l)
+flat_record_law T outcome names (complete k q value) l =
+    flat_alone_law T outcome names (complete k q value) l
+flat_record_law T outcome names (product q fields) l = l
+
+-- each flat record keeps to the laws of a list of fields
+pub record_law : (T : Type 0) (outcome : Outcome T) (names : List Names) (s : FlatForm T)
+    → is_record s ≡ true → FormLaw outcome names s
+    → FieldsLaw T outcome (product_roles (flat_record s)) (product_reading (flat_record s))
+record_law T outcome names not_flat h l = absurd cc
+record_law T outcome names (alternative q value) h l =
+    (flat_record_law T outcome names (alternative q value) l).0
+record_law T outcome names (single k q group gap) h l =
+    (flat_record_law T outcome names (single k q group gap) l).0
+record_law T outcome names (complete k q value) h l =
+    (flat_record_law T outcome names (complete k q value) l).0
+record_law T outcome names (product q fields) h l = l.0

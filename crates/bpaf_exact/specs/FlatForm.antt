@@ -1,0 +1,240 @@
+-- What a flat field is: how it reads its pieces, and the law that this puts on its outcome.
+use Rattle.std.specs.Prelude.{ℕ, Bool, true, false, List, [], ◌∷◌, ◌++◌, Option}
+use Rattle.std.specs.Global.{Vec}
+use Rattle.bpaf_doc.specs.Names.{Names}
+use Rattle.bpaf_laws.specs.Reading.{Outcome}
+use Rattle.bpaf_exact.specs.Pieces.{Roles, LinePiece, either, no_roles}
+use Rattle.bpaf_exact.specs.Names.{Owns, are_all_apart}
+use Rattle.bpaf_exact.specs.Flat.{FieldKind, ByName, OneWord, EachWord, FieldLaw, FieldsLaw, keys}
+use Rattle.bpaf_exact.specs.Flat.{FieldsReading, both_reading}
+use Rattle.bpaf_exact.specs.Single.{Groups, Gap, FrontOf, no_gap, SingleLaw, SingleValue, OwnList}
+use Rattle.bpaf_exact.specs.Single.{repeated}
+use Rattle.bpaf_exact.specs.Wrappers.{Closure, AgreesOn, ClosedPiece, ClosedGroup, closed_gap}
+use Rattle.bpaf_exact.specs.Wrappers.{ClosedValue, OptionalValue, FallbackValue}
+use Rattle.bpaf_exact.specs.Derived.{LastOf, list_closure, some_closure, count_closure}
+use Rattle.bpaf_exact.specs.Derived.{collect_closure}
+use Rattle.bpaf_exact.specs.Alternative.{AlternativeLaw, either_value}
+use Rattle.bpaf_exact.specs.Record.{last_reading}
+
+-- what a parser is to a flat record, each with its own items
+pub data FlatForm (T : Type 0) : Type 1 where
+  -- no flat field
+  not_flat : FlatForm T
+  -- a required flag or argument, or a choice of them, with the value of each piece
+  alternative : Roles → (LinePiece → T → Type 0) → FlatForm T
+  -- another field without a repeat or default
+  single : FieldKind → Roles → Groups T → Gap T → FlatForm T
+  -- a field with a repeat or default
+  complete : FieldKind → Roles → (List LinePiece → T → Type 0) → FlatForm T
+  -- a product of flat fields: a record, and no field of another
+  product : Roles → FieldsReading T → FlatForm T
+
+-- the laws of each, of a parser with these keys
+abbrev pub FormLaw : {T : Type 0} → Outcome T → List Names → FlatForm T → Type 0
+FormLaw outcome names not_flat = Unit {0}
+FormLaw {T = T} outcome names (alternative q value) =
+    AlternativeLaw T outcome q value × Owns q names
+FormLaw {T = T} outcome names (single k q group gap) =
+    SingleLaw T outcome k q group gap × Owns (keys k q) names
+FormLaw {T = T} outcome names (complete k q value) =
+    FieldLaw T outcome k q value × Owns (keys k q) names
+FormLaw {T = T} outcome names (product q fields) = FieldsLaw T outcome q fields × Owns q names
+
+-- the premise of exactness: whether a closure accepts depends on the pieces alone, also where they
+-- have several values
+abbrev pub Agrees : {A B : Type 0} → Closure A B → FlatForm A → Type 0
+Agrees f not_flat = Unit {0}
+Agrees f (alternative q value) = (o : LinePiece) → AgreesOn (value o) f
+Agrees f (single k q group gap) =
+    ((os rest : List LinePiece) → AgreesOn (λ v. group os v rest) f) × AgreesOn gap.absent f
+Agrees f (complete k q value) = (os : List LinePiece) → AgreesOn (value os) f
+Agrees f (product q fields) = (os : List LinePiece) → AgreesOn (fields.value os) f
+
+-- the premises of all parsers of a list
+abbrev pub EachAgrees : {P : Type 0} → (P → Type 0) → List P → Type 0
+EachAgrees agrees [] = Unit {0}
+EachAgrees agrees (p ∷ ps) = agrees p × EachAgrees agrees ps
+
+-- a form where a test holds
+abbrev pub only_if : {T : Type 0} → Bool → FlatForm T → FlatForm T
+only_if true s = s
+only_if false s = not_flat
+
+-- a closure round a field, inner or outer
+abbrev pub flat_closed : {A B : Type 0} → Closure A B → FlatForm A → FlatForm B
+flat_closed f not_flat = not_flat
+flat_closed {A = A} {B = B} f (alternative q value) = alternative q (ClosedPiece A B value f)
+flat_closed {A = A} {B = B} f (single k q group gap) =
+    single k q (ClosedGroup A B group f) (closed_gap gap f)
+flat_closed {A = A} {B = B} f (complete k q value) = complete k q (ClosedValue A B value f)
+flat_closed f (product q fields) = not_flat
+
+-- another look round a field; a product with something round it is no record
+abbrev pub flat_dressed : {T : Type 0} → FlatForm T → FlatForm T
+flat_dressed not_flat = not_flat
+flat_dressed (alternative q value) = alternative q value
+flat_dressed (single k q group gap) = single k q group gap
+flat_dressed (complete k q value) = complete k q value
+flat_dressed (product q fields) = not_flat
+
+-- a choice of two alternatives
+abbrev pub flat_either : {T : Type 0} → FlatForm T → FlatForm T → FlatForm T
+flat_either (alternative q a) (alternative r b) = alternative (either q r) (either_value q a b)
+flat_either _ _ = not_flat
+
+-- the same, where the keys of the one are apart from those of the other
+abbrev pub flat_choice : {T : Type 0} → List Names → List Names → FlatForm T → FlatForm T
+    → FlatForm T
+flat_choice own others a b = only_if (are_all_apart own others) (flat_either a b)
+
+-- a choice of what stands before and of parsers, nested to the left
+abbrev pub choices_rest : {P T : Type 0} → (P → List Names) → (P → FlatForm T) → List Names
+    → FlatForm T
+    → List P
+    → FlatForm T
+choices_rest names form own before [] = before
+choices_rest names form own before (p ∷ ps) =
+    choices_rest names form (own ++ names p) (flat_choice own (names p) before (form p)) ps
+
+-- an alternative, and nothing else
+abbrev pub alternative_only : {T : Type 0} → FlatForm T → FlatForm T
+alternative_only not_flat = not_flat
+alternative_only (alternative q value) = alternative q value
+alternative_only (single k q group gap) = not_flat
+alternative_only (complete k q value) = not_flat
+alternative_only (product q fields) = not_flat
+
+-- a choice of any number of parsers, but for none
+abbrev pub flat_choices : {P T : Type 0} → (P → List Names) → (P → FlatForm T) → List P → FlatForm T
+flat_choices names form [] = not_flat
+flat_choices names form (p ∷ ps) =
+    choices_rest names form (names p) (alternative_only (form p)) ps
+
+-- the values of a repeat, as a list
+abbrev pub flat_repeat : {T : Type 0} → FlatForm T → FlatForm (List T)
+flat_repeat not_flat = not_flat
+flat_repeat {T = T} (alternative q value) =
+    complete ByName q (OwnList T (FrontOf T value) (no_gap T))
+flat_repeat {T = T} (single k q group gap) = complete (repeated k) q (OwnList T group gap)
+flat_repeat (complete k q value) = not_flat
+flat_repeat (product q fields) = not_flat
+
+-- many, some, count and collect
+abbrev pub flat_many : {T : Type 0} → FlatForm T → FlatForm (Vec T)
+flat_many {T = T} s = flat_closed (list_closure T) (flat_repeat s)
+
+-- the same, not empty
+abbrev pub flat_some : {T : Type 0} → FlatForm T → FlatForm (Vec T)
+flat_some {T = T} s = flat_closed (some_closure T) (flat_repeat s)
+
+-- how many there are
+abbrev pub flat_count : {T : Type 0} → FlatForm T → FlatForm ℕ
+flat_count {T = T} s = flat_closed (count_closure T) (flat_repeat s)
+
+-- what is filled from them
+abbrev pub flat_collect : {T C : Type 0} → (List T → C → Type 0) → FlatForm T → FlatForm C
+flat_collect fills s = flat_closed (collect_closure fills) (flat_repeat s)
+
+-- the last of them
+abbrev pub flat_last : {T : Type 0} → FlatForm T → FlatForm T
+flat_last not_flat = not_flat
+flat_last {T = T} (alternative q value) = complete ByName q (LastOf T (FrontOf T value) (no_gap T))
+flat_last {T = T} (single k q group gap) = complete (repeated k) q (LastOf T group gap)
+flat_last (complete k q value) = not_flat
+flat_last (product q fields) = not_flat
+
+-- what may be left out
+abbrev pub flat_optional : {T : Type 0} → FlatForm T → FlatForm (Option T)
+flat_optional not_flat = not_flat
+flat_optional {T = T} (alternative q value) =
+    complete ByName q (OptionalValue T (FrontOf T value) (no_gap T))
+flat_optional {T = T} (single k q group gap) = complete k q (OptionalValue T group gap)
+flat_optional (complete k q value) = not_flat
+flat_optional (product q fields) = not_flat
+
+-- what has a value that stands for it
+abbrev pub flat_fallback : {T : Type 0} → Closure (Unit {0}) T → FlatForm T → FlatForm T
+flat_fallback f not_flat = not_flat
+flat_fallback {T = T} f (alternative q value) =
+    complete ByName q (FallbackValue T (FrontOf T value) (no_gap T) f)
+flat_fallback {T = T} f (single k q group gap) = complete k q (FallbackValue T group gap f)
+flat_fallback f (complete k q value) = not_flat
+flat_fallback f (product q fields) = not_flat
+
+-- without `catch`
+abbrev pub unless : {T : Type 0} → Bool → FlatForm T → FlatForm T
+unless true s = not_flat
+unless false s = s
+
+-- a field of a record, whichever it is
+abbrev pub flat_field : {T : Type 0} → FlatForm T → FlatForm T
+flat_field not_flat = not_flat
+flat_field {T = T} (alternative q value) =
+    complete ByName q (SingleValue T (FrontOf T value) (no_gap T))
+flat_field {T = T} (single k q group gap) = complete k q (SingleValue T group gap)
+flat_field (complete k q value) = complete k q value
+flat_field (product q fields) = not_flat
+
+-- keys may stand after a field: those that are apart from its own; after a positional field none
+abbrev pub may_follow : FieldKind → List Names → List Names → Bool
+may_follow ByName own others = are_all_apart own others
+may_follow OneWord own [] = true
+may_follow OneWord own (names ∷ others) = false
+may_follow EachWord own [] = true
+may_follow EachWord own (names ∷ others) = false
+
+-- a field before others, each with its keys
+abbrev pub flat_both : {A B : Type 0} → List Names → List Names → FlatForm A → FlatForm B
+    → FlatForm (A × B)
+flat_both own others (complete k q first) (product r rest) =
+    only_if (may_follow k own others)
+    (product (either (keys k q) r) (both_reading k q first rest))
+flat_both _ _ _ _ = not_flat
+
+-- the last field, or one alone
+abbrev pub flat_alone : {T : Type 0} → FlatForm T → FlatForm T
+flat_alone {T = T} (complete k q value) =
+    product (either (keys k q) no_roles) (last_reading k q value)
+flat_alone _ = not_flat
+
+-- what a constructor makes of the fields' values
+abbrev pub made_reading : {A B : Type 0} → Closure A B → FieldsReading A → FieldsReading B
+made_reading {A = A} {B = B} f fields =
+    record { value = ClosedValue A B fields.value f; each = fields.each }
+
+-- the constructor of a product
+abbrev pub flat_con : {A B : Type 0} → Closure A B → FlatForm A → FlatForm B
+flat_con f (product q fields) = product q (made_reading f fields)
+flat_con _ _ = not_flat
+
+-- a flat record: a product, or one field
+abbrev pub flat_record : {T : Type 0} → FlatForm T → FlatForm T
+flat_record (product q fields) = product q fields
+flat_record not_flat = not_flat
+flat_record (alternative q value) = flat_alone (flat_field (alternative q value))
+flat_record (single k q group gap) = flat_alone (flat_field (single k q group gap))
+flat_record (complete k q value) = flat_alone (complete k q value)
+
+-- it is a flat record: a field or a product of fields
+abbrev pub is_record : {T : Type 0} → FlatForm T → Bool
+is_record not_flat = false
+is_record (alternative q value) = true
+is_record (single k q group gap) = true
+is_record (complete k q value) = true
+is_record (product q fields) = true
+
+-- the items of a flat record
+abbrev pub product_roles : {T : Type 0} → FlatForm T → Roles
+product_roles not_flat = no_roles
+product_roles (alternative q value) = no_roles
+product_roles (single k q group gap) = no_roles
+product_roles (complete k q value) = no_roles
+product_roles (product q fields) = q
+
+-- how the fields of a flat record read the pieces
+abbrev pub product_reading : {T : Type 0} → FlatForm T → FieldsReading T
+product_reading not_flat = record { value = λ os v. ⊥; each = λ os. ⊥ }
+product_reading (alternative q value) = record { value = λ os v. ⊥; each = λ os. ⊥ }
+product_reading (single k q group gap) = record { value = λ os v. ⊥; each = λ os. ⊥ }
+product_reading (complete k q value) = record { value = λ os v. ⊥; each = λ os. ⊥ }
+product_reading (product q fields) = fields
