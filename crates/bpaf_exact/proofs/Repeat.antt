@@ -9,8 +9,8 @@ use Rattle.bpaf_exact.specs.Flat.{ErrorClass, OfMemory, OfMissing, Caught, Refus
 use Rattle.bpaf_exact.specs.Flat.{IsWhole, Steady, Kind, Named, OneWord, EachWord, front, back}
 use Rattle.bpaf_exact.specs.Flat.{OwnItems, FieldLaw, Gives}
 use Rattle.bpaf_exact.specs.Single.{Groups, Own, own_none, own_more, TakesAny, Readable, Gap}
-use Rattle.bpaf_exact.specs.Single.{SingleOk, gave_absent, took, SingleErr, of_memory, of_missing}
-use Rattle.bpaf_exact.specs.Single.{of_absent, of_piece, SingleLaw, OwnList, listed}
+use Rattle.bpaf_exact.specs.Single.{TookGroup, SingleOk, gave_absent, took, SingleErr, of_memory}
+use Rattle.bpaf_exact.specs.Single.{of_missing, of_absent, of_piece, SingleLaw, OwnList, listed}
 use Rattle.bpaf_exact.specs.Single.{listed_and_absent, only_absent, repeated, Stops, nothing_found}
 use Rattle.bpaf_exact.specs.Single.{caught, IsFewer, StepsRan, step, step_failed, idle_step, enough}
 use Rattle.bpaf_exact.specs.Single.{stopped, failed, no_room, present_count}
@@ -105,15 +105,13 @@ module _ (T : Type 0) (inner : Outcome T) (k : Kind) (q : Roles) (group : Groups
   stop_after s m e h (of_piece c p n) = absurd (no_stop s m e Refused h c (λ i. cc) (λ i. cc))
 
   -- one value more
-  took_more : (s m t : Situation) (v : T) (vs : List T) → Steady s m
-      → TakesAny q (cells s) (cells m)
-      → (Readable k group (pieces q (cells m)) → group (pieces q (cells s)) v (pieces q (cells m)))
+  took_more : (s m t : Situation) (v : T) (vs : List T) → TookGroup T k q group s v m
       → Took m vs t → Took s (v ∷ vs) t
-  took_more s m t v vs st ta up i = record {
-    steady = steady_trans st i.steady;
-    takes = some_trans q (any_some q ta) i.takes;
+  took_more s m t v vs h i = record {
+    steady = steady_trans h.steady i.steady;
+    takes = some_trans q (any_some q h.takes) i.takes;
     none = i.none;
-    list = own_more (up (readable k group i.list)) i.list;
+    list = own_more (h.read (readable k group i.list)) i.list;
     absent = i.absent;
   }
 
@@ -123,15 +121,15 @@ module _ (T : Type 0) (inner : Outcome T) (k : Kind) (q : Roles) (group : Groups
       → SingleOk T k q group gap s v m → (Steady s m → Took m vs t) → Took s (v ∷ vs) t
   step_took last s m t v vs w e f (gave_absent h p ab same st) i =
       absurd (not_fewer last s m e (not_less s m w st same) f)
-  step_took last s m t v vs w e f (took st ta ne up down) i = took_more s m t v vs st ta up (i st)
+  step_took last s m t v vs w e f (took h) i = took_more s m t v vs h (i h.steady)
 
   -- a value that took nothing ends it
   enough_took : (last : Option ℕ) (s t : Situation) (v : T) → IsWhole s → last ≡ Some (open_count s)
       → (IsFewer t last → ⊥)
       → SingleOk T k q group gap s v t → Took s [] t
   enough_took last s t v w e f (gave_absent h p ab same st) = ended s t st p same (λ i. (v, ab))
-  enough_took last s t v w e f (took st ta ne up down) =
-      absurd (f (is_fewer last s t e (fewer_count s t w st ta)))
+  enough_took last s t v w e f (took h) =
+      absurd (f (is_fewer last s t e (fewer_count s t w h.steady h.takes)))
 
   -- and isn't answered there
   idle_took : (last : Option ℕ) (s t : Situation) (v : T) → IsWhole s → last ≡ Some (open_count s)
@@ -191,8 +189,8 @@ module _ (T : Type 0) (inner : Outcome T) (k : Kind) (q : Roles) (group : Groups
         list =
             absent_alone s m v us none h p ab;
       }
-  first_step s m t v us (took st ta ne up down) more =
-      let i = took_more s m t v us st ta up (more st) in
+  first_step s m t v us (took h) more =
+      let i = took_more s m t v us h (more h.steady) in
       record {
         steady = i.steady;
         takes = i.takes;
@@ -212,7 +210,7 @@ module _ (T : Type 0) (inner : Outcome T) (k : Kind) (q : Roles) (group : Groups
             ∙ p;
         list = absent_alone s t v [] refl h p ab;
       }
-  first_idle s t v w e (took st ta ne up down) = let f = fewer_count s t w st ta in
+  first_idle s t v w e (took h) = let f = fewer_count s t w h.steady h.takes in
       absurd (omega arith)
 
   -- a first step that stops
@@ -271,13 +269,13 @@ module _ (T : Type 0) (inner : Outcome T) (k : Kind) (q : Roles) (group : Groups
       → GivesList (pieces q (cells m)) r t)
       → SingleOk T k q group gap s v m → Onward s m v r t
   on_step s m t v ws r n o i (gave_absent h p ab same st) = absurd (n h p same st)
-  on_step s m t v ws r n (view_none p e) i (took st ta ne up down) = absurd (ne p)
-  on_step s m t v ws r n (view_more w rest us e g o) i (took st ta ne up down) =
-      let d = down w rest g in
+  on_step s m t v ws r n (view_none p e) i (took h) = absurd (h.found p)
+  on_step s m t v ws r n (view_more w rest us e g o) i (took h) =
+      let d = h.readable w rest g in
       record {
         read = subst (λ os. group (pieces q (cells s)) v os) (sym d.1) d.0;
         gives =
-            i st us (subst (λ os. Own T group os us) (sym d.1) o);
+            i h.steady us (subst (λ os. Own T group os us) (sym d.1) o);
       }
 
   -- one value more
@@ -320,8 +318,8 @@ module _ (T : Type 0) (inner : Outcome T) (k : Kind) (q : Roles) (group : Groups
       (subst (λ os. Own T group os []) (sym p) own_none, ap (pieces q) same ∙ p)
   enough_gives last s t v ws w e f (view_more y rest us x g o) (gave_absent h p ab same st) =
       absurd (l.starts y rest (subst (λ z. group z y rest) p g))
-  enough_gives last s t v ws w e f o (took st ta ne up down) =
-      absurd (f (is_fewer last s t e (fewer_count s t w st ta)))
+  enough_gives last s t v ws w e f o (took h) =
+      absurd (f (is_fewer last s t e (fewer_count s t w h.steady h.takes)))
 
   -- where the pieces can be read, the steps after a value read them
   steps_give : (last : Option ℕ) (s t : Situation) (r : Result (List T) Error) (ws : List T)
@@ -391,7 +389,7 @@ module _ (T : Type 0) (inner : Outcome T) (k : Kind) (q : Roles) (group : Groups
       let j = i st in
       let none : us ≡ [] = own_nil (pieces q (cells m)) us (ap (pieces q) same ∙ p) j.list in
       (absent_alone s t v us none h p ab, j.none)
-  gap_step s m t v us p i (took st ta ne up down) = absurd (ne p)
+  gap_step s m t v us p i (took h) = absurd (h.found p)
 
   -- steps that fail after it
   gap_step_failed : (s m t : Situation) (v : T) (e : Error) → pieces q (cells s) ≡ []
@@ -400,14 +398,14 @@ module _ (T : Type 0) (inner : Outcome T) (k : Kind) (q : Roles) (group : Groups
       → SingleOk T k q group gap s v m → class e ≡ OfMemory
   gap_step_failed s m t v e p i (gave_absent h p' ab same st) =
       i st (λ y. (v, ab)) (subst (λ os. Own T group os []) (sym (ap (pieces q) same ∙ p)) own_none)
-  gap_step_failed s m t v e p i (took st ta ne up down) = absurd (ne p)
+  gap_step_failed s m t v e p i (took h) = absurd (h.found p)
 
   -- a first value that took nothing
   gap_idle : (s t : Situation) (v : T) → pieces q (cells s) ≡ [] → SingleOk T k q group gap s v t
       → GivesOwn (pieces q (cells s)) (Ok (v ∷ [])) t
   gap_idle s t v p (gave_absent h p' ab same st) =
       (absent_alone s t v [] refl h p ab, ap (pieces q) same ∙ p)
-  gap_idle s t v p (took st ta ne up down) = absurd (ne p)
+  gap_idle s t v p (took h) = absurd (h.found p)
 
   -- where there is an absent value a refusal is want of memory
   gap_failed : (s t : Situation) (a : T) (e : Error) → gap.has ≡ true → gap.absent a
@@ -429,7 +427,7 @@ module _ (T : Type 0) (inner : Outcome T) (k : Kind) (q : Roles) (group : Groups
   own_idle : (s t : Situation) (v : T) → IsWhole s → (gap.has ≡ true → pieces q (cells s) ≡ [] → ⊥)
       → open_count s ≤ open_count t → SingleOk T k q group gap s v t → ⊥
   own_idle s t v w n same (gave_absent h p ab e st) = n h p
-  own_idle s t v w n same (took st ta ne up down) = let f = fewer_count s t w st ta in omega arith
+  own_idle s t v w n same (took h) = let f = fewer_count s t w h.steady h.takes in omega arith
 
   -- where there is an own list, each answer is one, or want of memory
   first_gives : (s t : Situation) (r : Result (List T) Error) (ws : List T) → IsWhole s

@@ -124,11 +124,11 @@ module _ (T : Type 0) (inner : Outcome T) (k : Kind) (q : Roles) (group : Groups
         rest =
             λ n. nothing_left _ _ p (ap (pieces q) same ∙ p);
       }
-  single_took s t v (took st ta ne up down) = record {
-    steady = st;
-    takes = any_some q ta;
-    read = λ n. of_group (took_read k s t v l.words n up).0;
-    rest = λ n. (took_read k s t v l.words n up).1;
+  single_took s t v (took h) = record {
+    steady = h.steady;
+    takes = any_some q h.takes;
+    read = λ n. of_group (took_read k s t v l.words n h.read).0;
+    rest = λ n. (took_read k s t v l.words n h.read).1;
   }
 
   -- what the front means the pieces mean
@@ -157,9 +157,10 @@ module _ (T : Type 0) (inner : Outcome T) (k : Kind) (q : Roles) (group : Groups
   ok_gives s t v w (gave_absent h p ab same st) (view_group g) = absurd (not_empty _ w p g)
   ok_gives s t v w (gave_absent h p ab same st) (view_gap e a) =
       (nothing_read _ v p ab, nothing_left _ _ p (ap (pieces q) same ∙ p))
-  ok_gives s t v w (took st ta ne up down) (view_group g) =
-      let d = down w _ (of_front k _ w l.words g) in (of_group (to_front k _ v l.words d.0), d.1)
-  ok_gives s t v w (took st ta ne up down) (view_gap e a) = absurd (ne (nil_front k _ e))
+  ok_gives s t v w (took h) (view_group g) =
+      let d = h.readable w _ (of_front k _ w l.words g) in
+      (of_group (to_front k _ v l.words d.0), d.1)
+  ok_gives s t v w (took h) (view_gap e a) = absurd (h.found (nil_front k _ e))
 
   -- and a refusal is want of memory
   err_gives : (s t : Situation) (e : Error) (w : T) → SingleErr T k q group gap s e t
@@ -251,7 +252,7 @@ module _ (T : Type 0) (inner : Outcome T) (k : Kind) (q : Roles) (group : Groups
   some_gives s t x v w i o (view_some y e g) = let a = single_answers s t (Ok x) y w i g in
       (some_value a.0, a.1)
   some_gives s t x v w i (gave_absent h p ab same st) (view_none e n b) = absurd cc
-  some_gives s t x v w i (took st ta ne up down) (view_none e n b) = absurd (ne (nil_front k _ e))
+  some_gives s t x v w i (took h) (view_none e n b) = absurd (h.found (nil_front k _ e))
 
   -- and where it has none None is
   none_gives : (s m : Situation) (e : Error) (v : Option T) → Stops e s m
@@ -356,7 +357,7 @@ module _ (T : Type 0) (inner : Outcome T) (k : Kind) (q : Roles) (group : Groups
     kept_ok : (s t : Situation) (v : T) → front k (pieces q (cells s)) ≡ [] → gap.has ≡ false
         → SingleOk T k q group gap s v t → ⊥
     kept_ok s t v e h (gave_absent g p ab same st) = cc
-    kept_ok s t v e h (took st ta ne up down) = ne (nil_front k _ e)
+    kept_ok s t v e h (took g) = g.found (nil_front k _ e)
 
     own_missing : (s : Situation) (v : T) → (gap.has ≡ false) × (pieces q (cells s) ≡ [])
         → SingleView (front k (pieces q (cells s))) v → ⊥

@@ -44,19 +44,27 @@ pub record Gap (T : Type 0) : Type 1 where
   pub has : Bool
   pub absent : T → Type 0
 
+-- a value read off the front of the own pieces, of which at least one was taken
+pub record TookGroup (T : Type 0) (k : Kind) (q : Roles) (group : Groups T) (s : Situation) (v : T)
+    (t : Situation) : Type 0 where
+  pub steady : Steady s t
+  pub takes : TakesAny q (cells s) (cells t)
+  pub found : pieces q (cells s) ≡ [] → ⊥
+  -- it is the value of the first group, if the pieces that are left can be read at all
+  pub read : Readable k group (pieces q (cells t))
+      → group (pieces q (cells s)) v (pieces q (cells t))
+  -- a first group that can be read at all is the one that was taken
+  pub readable : (w : T) (rest : List Piece) → group (pieces q (cells s)) w rest
+      → group (pieces q (cells s)) v rest × (pieces q (cells t) ≡ rest)
+
 -- a value of one evaluation
 pub data SingleOk (T : Type 0) (k : Kind) (q : Roles) (group : Groups T) (gap : Gap T)
     (s : Situation) (v : T) (t : Situation) : Type 0 where
   -- no piece: the absent value, and nothing is taken
   gave_absent : gap.has ≡ true → pieces q (cells s) ≡ [] → gap.absent v → cells t ≡ cells s
       → Steady s t → SingleOk T k q group gap s v t
-  -- a value of the first group, if the rest can be read at all
-  took : Steady s t → TakesAny q (cells s) (cells t)
-      → (pieces q (cells s) ≡ [] → ⊥)
-      → (Readable k group (pieces q (cells t)) → group (pieces q (cells s)) v (pieces q (cells t)))
-      → ((w : T) (rest : List Piece) → group (pieces q (cells s)) w rest
-      → group (pieces q (cells s)) v rest × (pieces q (cells t) ≡ rest))
-      → SingleOk T k q group gap s v t
+  -- the value of the first group
+  took : TookGroup T k q group s v t → SingleOk T k q group gap s v t
 
 -- a refusal of one evaluation
 pub data SingleErr (T : Type 0) (k : Kind) (q : Roles) (group : Groups T) (gap : Gap T)
