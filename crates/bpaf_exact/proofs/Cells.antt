@@ -1,5 +1,5 @@
 -- What taking pieces does to the other pieces and to the cut.
-use Rattle.std.proofs.Common.{◌≡◌, true, false, List, ◌∷◌, Some, None, refl, sym, ap, ◌∙◌}
+use Rattle.std.proofs.Common.{◌≡◌, true, false, List, [], ◌∷◌, Some, None, refl, sym, ap, ◌∙◌}
 use Rattle.std.proofs.Common.{if◌then◌else◌}
 use Rattle.bpaf_words.specs.declared.arg.Arg.{Arg}
 use Rattle.bpaf_words.specs.declared.arg.Arg.TheVariants.{Short, Long, ArgWord, Word, PosWord}
@@ -54,9 +54,23 @@ begin_cong Alone k cs ds h e = ap (λ z. One k ∷ z) e
 begin_cong WithNext k cs ds h e = cc
 
 -- an item that isn't the field's own begins no piece
-begin_foreign : {x : Role} (k : Arg) (cs : Cells) (os : List Piece) → x ≡ Foreign
+pub begin_foreign : {x : Role} (k : Arg) (cs : Cells) (os : List Piece) → x ≡ Foreign
     → begin_piece x k cs os ≡ os
 begin_foreign k cs os e = ap (λ z. begin_piece z k cs os) e
+
+-- where no piece begins there is none behind
+pub nil_rest : (x : Role) (k : Arg) (cs : Cells) (os : List Piece) → begin_piece x k cs os ≡ []
+    → os ≡ []
+nil_rest Foreign k cs os e = e
+nil_rest Alone k cs os e = cc
+nil_rest WithNext k cs os e = cc
+
+-- and the item isn't the field's own
+pub nil_foreign : (x : Role) (k : Arg) (cs : Cells) (os : List Piece) → begin_piece x k cs os ≡ []
+    → x ≡ Foreign
+nil_foreign Foreign k cs os e = refl
+nil_foreign Alone k cs os e = cc
+nil_foreign WithNext k cs os e = cc
 
 -- An item that is no value makes no piece of two.
 no_value_next : (k w : Arg) (cs : Cells) → is_value w ≡ false → with_next k (Some w ∷ cs) ≡ One k

@@ -8,7 +8,7 @@ use Rattle.bpaf_exact.specs.Pieces.{either_role, with_next, begin_piece, pieces,
 use Rattle.bpaf_exact.specs.Pieces.{takes_two, takes_later}
 use Rattle.bpaf_exact.specs.Alternative.{TakesFirst, first_one, first_two, first_later, HasBad}
 use Rattle.bpaf_exact.specs.Alternative.{bad_here, bad_later}
-use Rattle.bpaf_exact.proofs.Cells.{value_not_key, keeps_other, same_next}
+use Rattle.bpaf_exact.proofs.Cells.{value_foreign, nil_rest, nil_foreign, keeps_other, same_next}
 
 -- taking the first piece is taking one
 pub first_takes : (q : Roles) {cs ds : Cells} {o : Piece} → TakesFirst q cs o ds → Takes q cs o ds
@@ -24,10 +24,6 @@ begin_at k cs os e = ap (λ z. begin_piece z k cs os) e
 -- a key with a value next to it
 two_next : (k w : Arg) (cs : Cells) → is_value w ≡ true → with_next k (Some w ∷ cs) ≡ Two k w
 two_next k w cs v = ap (λ b. if b then Two k w else One k) v
-
--- a value belongs to no named field
-value_foreign : (q : Roles) (w : Arg) → IsNamed q → is_value w ≡ true → q w ≡ Foreign
-value_foreign q w n v = n.only_keys w (value_not_key w v)
 
 -- a key and its value are one piece
 pub pair_pieces : (q : Roles) (k w : Arg) (cs : Cells) → IsNamed q → q k ≡ WithNext
@@ -49,20 +45,6 @@ first_pieces q n (first_later {c = Some k} {cs = cs} {ds = ds} h t) =
     let b = begin_at k ds (pieces q ds) h in
     let i = first_pieces q n t in
     cc
-
--- where no piece begins there is none behind
-nil_rest : (x : Role) (k : Arg) (cs : Cells) (os : List Piece) → begin_piece x k cs os ≡ []
-    → os ≡ []
-nil_rest Foreign k cs os e = e
-nil_rest Alone k cs os e = cc
-nil_rest WithNext k cs os e = cc
-
--- and the item isn't the field's own
-nil_foreign : (x : Role) (k : Arg) (cs : Cells) (os : List Piece) → begin_piece x k cs os ≡ []
-    → x ≡ Foreign
-nil_foreign Foreign k cs os e = refl
-nil_foreign Alone k cs os e = cc
-nil_foreign WithNext k cs os e = cc
 
 -- what was taken was there
 pub takes_nonempty : (q : Roles) {cs ds : Cells} {o : Piece} → Takes q cs o ds → pieces q cs ≡ []

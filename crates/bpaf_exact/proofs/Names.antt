@@ -2,7 +2,7 @@
 use Rattle.std.proofs.Common.{◌≡◌, Bool, true, false, not, ◌&&◌, ◌||◌, ◌==◌, List, [], ◌∷◌, ◌++◌}
 use Rattle.std.proofs.Common.{refl, sym, ap, ◌∙◌, subst, inl, inr, ◌⊎◌, ⊎_elim, bytes_eq}
 use Rattle.std.specs.List.{list_all, list_any}
-use Rattle.std.proofs.lemmas.Bool.{eqb-true}
+use Rattle.std.proofs.lemmas.Bool.{eqb-true, false_from_ne_true}
 use Rattle.std.proofs.lemmas.List.Folds.{list_any-append}
 use Rattle.std.proofs.lemmas.Slice.Eq.{bytes_eq-Decides}
 use Rattle.bpaf_doc.specs.Names.{Names}
@@ -82,19 +82,19 @@ one_list (names ∷ keys) others k apart e f = ⊎_elim
     (or_true (is_key_of names k) (is_key_of_any keys k) e)
 
 -- what isn't the field's own
-foreign_of : (x : Role) → (is_own_role x ≡ true → ⊥) → x ≡ Foreign
-foreign_of Foreign f = refl
-foreign_of Alone f = absurd (f refl)
-foreign_of WithNext f = absurd (f refl)
+pub foreign_of : (x : Role) → is_own_role x ≡ false → x ≡ Foreign
+foreign_of Foreign e = refl
+foreign_of Alone e = cc
+foreign_of WithNext e = cc
 
 -- keys that are apart keep the fields apart
 pub apart_of_names : (q r : Roles) (keys others : List Names) → Owns q keys → Owns r others
     → are_all_apart keys others ≡ true → Apart q r
 apart_of_names q r keys others a b h = record {
-  left = λ k e. foreign_of (r k)
-      (λ f. one_list keys others k h (sym (a.own k) ∙ e) (sym (b.own k) ∙ f));
-  right = λ k e. foreign_of (q k)
-      (λ f. one_list keys others k h (sym (a.own k) ∙ f) (sym (b.own k) ∙ e));
+  left = λ k e. foreign_of (r k) (false_from_ne_true (is_own_role (r k))
+      (λ f. one_list keys others k h (sym (a.own k) ∙ e) (sym (b.own k) ∙ f)));
+  right = λ k e. foreign_of (q k) (false_from_ne_true (is_own_role (q k))
+      (λ f. one_list keys others k h (sym (a.own k) ∙ f) (sym (b.own k) ∙ e)));
 }
 
 -- an item of both is one of either

@@ -38,6 +38,16 @@ readable Named group {vs = vs} o = (vs, o)
 readable OneWord group o = tt
 readable EachWord group o = tt
 
+-- where the cells are the same as many items are present
+pub same_count : (s m : Situation) → cells m ≡ cells s → open_count m ≡ open_count s
+same_count s m e = open_present m ∙ (ap present_count e ∙ sym (open_present s))
+
+-- a step stops only where something is missing or the error can be caught otherwise
+pub no_stop : (s m : Situation) (e : Error) (c : ErrorClass) → Stops e s m → class e ≡ c
+    → (c ≡ OfMissing → ⊥) → (c ≡ Caught → ⊥) → ⊥
+no_stop s m e c (nothing_found h n) g a b = a (sym g ∙ h)
+no_stop s m e c (caught h) g a b = b (sym g ∙ h)
+
 module _ (T : Type 0) (inner : Outcome T) (k : Kind) (q : Roles) (group : Groups T) (gap : Gap T)
     (l : SingleLaw T inner k q group gap) (idle : Bool) where
   -- what a repeat took, once it has the first value
@@ -48,20 +58,14 @@ module _ (T : Type 0) (inner : Outcome T) (k : Kind) (q : Roles) (group : Groups
     list : Own T group (pieces q (cells s)) vs
     absent : gap.has ≡ true → (a : T) × gap.absent a
 
-  -- where the cells are the same as many items are present
-  same_count : (s m : Situation) → IsWhole s → Steady s m → cells m ≡ cells s
-      → open_count m ≡ open_count s
-  same_count s m w st e = open_present m ∙ (ap present_count e ∙ sym (open_present s))
-
-  -- so not fewer
-  not_less : (s m : Situation) → IsWhole s → Steady s m → cells m ≡ cells s
-      → open_count s ≤ open_count m
-  not_less s m w st e = let h = same_count s m w st e in omega arith
+  -- where the cells are the same not fewer items are present
+  not_less : (s m : Situation) → cells m ≡ cells s → open_count s ≤ open_count m
+  not_less s m e = let h = same_count s m e in omega arith
 
   -- where a piece was taken fewer are
-  fewer_count : (s m : Situation) → IsWhole s → Steady s m → TakesAny q (cells s) (cells m)
+  fewer_count : (s m : Situation) → TakesAny q (cells s) (cells m)
       → open_count m < open_count s
-  fewer_count s m w st t =
+  fewer_count s m t =
       let a = takes_any_fewer q t in
       let b = open_present m in
       let c = open_present s in
@@ -90,12 +94,6 @@ module _ (T : Type 0) (inner : Outcome T) (k : Kind) (q : Roles) (group : Groups
     absent = ab;
   }
 
-  -- a step doesn't stop at other refusals
-  no_stop : (s m : Situation) (e : Error) (c : ErrorClass) → Stops e s m → class e ≡ c
-      → (c ≡ OfMissing → ⊥) → (c ≡ Caught → ⊥) → ⊥
-  no_stop s m e c (nothing_found h n) g a b = a (sym g ∙ h)
-  no_stop s m e c (caught h) g a b = b (sym g ∙ h)
-
   -- a step that stops after a value
   stop_after : (s m : Situation) (e : Error) → Stops e s m → SingleErr T k q group gap s e m
       → Took s [] s
@@ -120,7 +118,7 @@ module _ (T : Type 0) (inner : Outcome T) (k : Kind) (q : Roles) (group : Groups
       → last ≡ Some (open_count s) → IsFewer m last
       → SingleOk T k q group gap s v m → (Steady s m → Took m vs t) → Took s (v ∷ vs) t
   step_took last s m t v vs w e f (gave_absent h p ab same st) i =
-      absurd (not_fewer last s m e (not_less s m w st same) f)
+      absurd (not_fewer last s m e (not_less s m same) f)
   step_took last s m t v vs w e f (took h) i = took_more s m t v vs h (i h.steady)
 
   -- a value that took nothing ends it
@@ -129,7 +127,7 @@ module _ (T : Type 0) (inner : Outcome T) (k : Kind) (q : Roles) (group : Groups
       → SingleOk T k q group gap s v t → Took s [] t
   enough_took last s t v w e f (gave_absent h p ab same st) = ended s t st p same (λ i. (v, ab))
   enough_took last s t v w e f (took h) =
-      absurd (f (is_fewer last s t e (fewer_count s t w h.steady h.takes)))
+      absurd (f (is_fewer last s t e (fewer_count s t h.takes)))
 
   -- and isn't answered there
   idle_took : (last : Option ℕ) (s t : Situation) (v : T) → IsWhole s → last ≡ Some (open_count s)
@@ -210,7 +208,7 @@ module _ (T : Type 0) (inner : Outcome T) (k : Kind) (q : Roles) (group : Groups
             ∙ p;
         list = absent_alone s t v [] refl h p ab;
       }
-  first_idle s t v w e (took h) = let f = fewer_count s t w h.steady h.takes in
+  first_idle s t v w e (took h) = let f = fewer_count s t h.takes in
       absurd (omega arith)
 
   -- a first step that stops
@@ -290,7 +288,7 @@ module _ (T : Type 0) (inner : Outcome T) (k : Kind) (q : Roles) (group : Groups
       → SingleErr T k q group gap s e t → class e ≡ OfMemory
   failed_gives s t e ws w ab o n (of_memory c) = c
   failed_gives s t e ws w ab o n (of_missing c g p same st) =
-      absurd (n (nothing_found c (same_count s t w st same)))
+      absurd (n (nothing_found c (same_count s t same)))
   failed_gives s t e ws w ab o n (of_absent c g p none) = let a = ab g in absurd (none a.0 a.1)
   failed_gives s t e ws w ab (view_none p x) n (of_piece c ne none) = absurd (ne p)
   failed_gives s t e ws w ab (view_more v rest us x g o) n (of_piece c ne none) =
@@ -319,7 +317,7 @@ module _ (T : Type 0) (inner : Outcome T) (k : Kind) (q : Roles) (group : Groups
   enough_gives last s t v ws w e f (view_more y rest us x g o) (gave_absent h p ab same st) =
       absurd (l.starts y rest (subst (λ z. group z y rest) p g))
   enough_gives last s t v ws w e f o (took h) =
-      absurd (f (is_fewer last s t e (fewer_count s t w h.steady h.takes)))
+      absurd (f (is_fewer last s t e (fewer_count s t h.takes)))
 
   -- where the pieces can be read, the steps after a value read them
   steps_give : (last : Option ℕ) (s t : Situation) (r : Result (List T) Error) (ws : List T)
@@ -329,12 +327,12 @@ module _ (T : Type 0) (inner : Outcome T) (k : Kind) (q : Roles) (group : Groups
   steps_give last s t r ws w e ab o (step {m = m} {v = v} {vs = us} f fewer more) =
       cons_gives s m t v us
       (on_step s m t v ws (Ok us)
-      (λ h p same st. not_fewer last s m e (not_less s m w st same) fewer) (own_view _ ws o)
+      (λ h p same st. not_fewer last s m e (not_less s m same) fewer) (own_view _ ws o)
       (λ st xs ox. steps_give (Some (open_count m)) m t (Ok us) xs
       (whole_after s m w st) refl ab ox more) (l.ok s m v w f))
   steps_give last s t r ws w e ab o (step_failed {m = m} {v = v} {e = x} f fewer more) =
       let on = on_step s m t v ws (Err x)
-      (λ h p same st. not_fewer last s m e (not_less s m w st same) fewer) (own_view _ ws o)
+      (λ h p same st. not_fewer last s m e (not_less s m same) fewer) (own_view _ ws o)
       (λ st xs ox. steps_give (Some (open_count m)) m t (Err x) xs
       (whole_after s m w st) refl ab ox more) (l.ok s m v w f) in
       on.gives
@@ -427,7 +425,7 @@ module _ (T : Type 0) (inner : Outcome T) (k : Kind) (q : Roles) (group : Groups
   own_idle : (s t : Situation) (v : T) → IsWhole s → (gap.has ≡ true → pieces q (cells s) ≡ [] → ⊥)
       → open_count s ≤ open_count t → SingleOk T k q group gap s v t → ⊥
   own_idle s t v w n same (gave_absent h p ab e st) = n h p
-  own_idle s t v w n same (took h) = let f = fewer_count s t w h.steady h.takes in omega arith
+  own_idle s t v w n same (took h) = let f = fewer_count s t h.takes in omega arith
 
   -- where there is an own list, each answer is one, or want of memory
   first_gives : (s t : Situation) (r : Result (List T) Error) (ws : List T) → IsWhole s

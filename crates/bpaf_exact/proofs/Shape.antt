@@ -6,7 +6,7 @@ use Rattle.bpaf_laws.specs.Choice.{ChoiceOutcome}
 use Rattle.bpaf_laws.specs.Choices.{ChoicesOutcome, Nested}
 use Rattle.bpaf_laws.specs.Product.{BothOutcome, ProductOutcome}
 use Rattle.bpaf_laws.specs.Reading.{Outcome}
-use Rattle.bpaf_exact.specs.Pieces.{Role, Foreign, Alone, WithNext, Roles, is_own_role, no_roles}
+use Rattle.bpaf_exact.specs.Pieces.{Roles, no_roles}
 use Rattle.bpaf_exact.specs.Pieces.{either}
 use Rattle.bpaf_exact.specs.Names.{Owns, are_all_apart}
 use Rattle.bpaf_exact.specs.Flat.{ErrorClass, Refused, Kind, Named, OneWord, EachWord, FieldsLaw}
@@ -22,7 +22,7 @@ use Rattle.bpaf_exact.specs.Shape.{choice_shape, choices_rest, alternative_only,
 use Rattle.bpaf_exact.specs.Shape.{repeat_shape, last_shape, optional_shape, fallback_shape}
 use Rattle.bpaf_exact.specs.Shape.{field_shape, may_follow, both_shape, alone_shape, con_shape}
 use Rattle.bpaf_exact.specs.Shape.{record_shape, is_record, product_roles, product_reading}
-use Rattle.bpaf_exact.proofs.Names.{apart_of_names, either_owns}
+use Rattle.bpaf_exact.proofs.Names.{foreign_of, apart_of_names, either_owns}
 use Rattle.bpaf_exact.proofs.Alternative.{alternative_single, closed_alternative, closed_single}
 use Rattle.bpaf_exact.proofs.Choice.{choice_law}
 use Rattle.bpaf_exact.proofs.Repeat.{repeat_law}
@@ -221,12 +221,6 @@ field_shape_law T outcome names (single k q group gap) l =
     (single_law T outcome k q group gap l.0, l.1)
 field_shape_law T outcome names (complete k q value) l = l
 field_shape_law T outcome names (product q fields) l = tt
-
--- what isn't the field's own
-foreign_of : (x : Role) → is_own_role x ≡ false → x ≡ Foreign
-foreign_of Foreign e = refl
-foreign_of Alone e = cc
-foreign_of WithNext e = cc
 
 -- fields that may follow keep apart
 follows : (k : Kind) (q r : Roles) (own others : List Names) → Owns (keys k q) own → Owns r others

@@ -2,16 +2,16 @@
 use Rattle.std.proofs.Common.{◌≡◌, false, List, [], ◌∷◌, Option, Some, None, Result, Ok, Err, refl}
 use Rattle.std.proofs.Common.{sym, ap, ◌∙◌, subst}
 use Rattle.bpaf_line.specs.declared.error.Error.{Error}
-use Rattle.bpaf_line.specs.Situation.{Situation, open_count}
+use Rattle.bpaf_line.specs.Situation.{Situation}
 use Rattle.bpaf_laws.specs.Reading.{Outcome}
 use Rattle.bpaf_exact.specs.Pieces.{Roles, Piece, pieces, takes_none}
 use Rattle.bpaf_exact.specs.Flat.{ErrorClass, OfMemory, OfMissing, Caught, Refused, class, cells}
-use Rattle.bpaf_exact.specs.Flat.{IsWhole, Steady, Kind, Named, OneWord, EachWord, front, back}
+use Rattle.bpaf_exact.specs.Flat.{IsWhole, Kind, Named, OneWord, EachWord, front, back}
 use Rattle.bpaf_exact.specs.Flat.{LeavesNone, FieldTook, FieldLaw, Gives}
 use Rattle.bpaf_exact.specs.Single.{Groups, Own, own_none, Readable, Gap, SingleOk, gave_absent}
 use Rattle.bpaf_exact.specs.Single.{took, SingleErr, of_memory, of_missing, of_absent, of_piece}
 use Rattle.bpaf_exact.specs.Single.{ReadsWords, SingleLaw, SingleValue, of_group, of_gap, Stops}
-use Rattle.bpaf_exact.specs.Single.{nothing_found, caught, present_count}
+use Rattle.bpaf_exact.specs.Single.{nothing_found}
 use Rattle.bpaf_exact.specs.Wrappers.{Closure, Decides, AgreesOn, ClosedRan, closed_yes, closed_no}
 use Rattle.bpaf_exact.specs.Wrappers.{closed_memory, closed_err, ClosedValue, OptionalRan}
 use Rattle.bpaf_exact.specs.Wrappers.{optional_some, optional_none, optional_err, optional_memory}
@@ -20,8 +20,7 @@ use Rattle.bpaf_exact.specs.Wrappers.{catch_other, FallbackRan, fallback_ok, fal
 use Rattle.bpaf_exact.specs.Wrappers.{fallback_no, fallback_memory, fallback_err, FallbackValue}
 use Rattle.bpaf_exact.specs.Wrappers.{own_value, kept_value}
 use Rattle.bpaf_exact.proofs.Product.{steady_refl}
-use Rattle.bpaf_exact.proofs.Counts.{open_present}
-use Rattle.bpaf_exact.proofs.Repeat.{any_some, same_takes}
+use Rattle.bpaf_exact.proofs.Repeat.{any_some, same_takes, same_count, no_stop}
 
 -- of no piece none is taken
 front_nil : (k : Kind) → front k [] ≡ []
@@ -192,12 +191,6 @@ module _ (T : Type 0) (inner : Outcome T) (k : Kind) (q : Roles) (group : Groups
 
   -- optional
 
-  -- a step doesn't stop at other refusals
-  no_stop : (s m : Situation) (e : Error) (c : ErrorClass) → Stops e s m → class e ≡ c
-      → (c ≡ OfMissing → ⊥) → (c ≡ Caught → ⊥) → ⊥
-  no_stop s m e c (nothing_found h n) g a b = a (sym g ∙ h)
-  no_stop s m e c (caught h) g a b = b (sym g ∙ h)
-
   -- where it stops there is no piece
   stop_missing : (s m : Situation) (e : Error) → Stops e s m → SingleErr T k q group gap s e m
       → (gap.has ≡ false) × (pieces q (cells s) ≡ [])
@@ -239,11 +232,6 @@ module _ (T : Type 0) (inner : Outcome T) (k : Kind) (q : Roles) (group : Groups
   optional_view os v (some_value {v = x} g) = view_some x refl g
   optional_view os v (no_value h) = view_none refl refl h
 
-  -- where the cells are the same as many items are present
-  same_count : (s m : Situation) → IsWhole s → Steady s m → cells m ≡ cells s
-      → open_count m ≡ open_count s
-  same_count s m w st e = open_present m ∙ (ap present_count e ∙ sym (open_present s))
-
   -- where the share has a value, Some is right
   some_gives : (s t : Situation) (x : T) (v : Option T) → IsWhole s → inner s (Ok x) t
       → SingleOk T k q group gap s x t → OptionalView (front k (pieces q (cells s))) v
@@ -279,7 +267,7 @@ module _ (T : Type 0) (inner : Outcome T) (k : Kind) (q : Roles) (group : Groups
       → class e ≡ OfMemory
   none_fails s t e w n p b (of_memory c) = c
   none_fails s t e w n p b (of_missing c g p' same st) =
-      absurd (n (nothing_found c (same_count s t w st same)))
+      absurd (n (nothing_found c (same_count s t same)))
   none_fails s t e w n p b (of_absent c g p' x) = absurd cc
   none_fails s t e w n p b (of_piece c ne x) = absurd (ne (nil_front k _ p))
 
