@@ -53,13 +53,17 @@ pub record ReadsWords (V A : Type 0) (r : Roles) (value : List Piece → V → T
     (rest : List Piece → List Piece) (own : List Piece → A → Type 0) (of : V → A) : Type 0 where
   pub read : (os : List Piece) (v : V) → value os v → own (front k (rest (others r os))) (of v)
 
+-- what is said of positional fields alone
+abbrev pub OfWords : Kind → Type 0 → Type 0
+OfWords Named said = Unit {0}
+OfWords OneWord said = said
+OfWords EachWord said = said
+
 -- a record has such a field, of this shape
 abbrev pub WordsBy : {V A : Type 0} → Shape A → (List Piece → List Piece) → Shape V → (V → A)
     → Type 0
-WordsBy {V = V} {A = A} (complete OneWord q own) rest (product r fields) of =
-    ReadsWords V A r fields.value OneWord rest own of
-WordsBy {V = V} {A = A} (complete EachWord q own) rest (product r fields) of =
-    ReadsWords V A r fields.value EachWord rest own of
+WordsBy {V = V} {A = A} (complete k q own) rest (product r fields) of =
+    OfWords k (ReadsWords V A r fields.value k rest own of)
 WordsBy _ rest _ of = Unit {0}
 
 -- a shape is that of a positional field, whose value is so read off that of the whole
