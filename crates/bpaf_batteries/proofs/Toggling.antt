@@ -3,7 +3,7 @@
 use Rattle.std.proofs.Common.{◌≡◌, ◌≢◌, ℕ, ◌+◌, ◌<◌, ◌≤◌, ◌&&◌, ◌||◌, Bool, true, false, not, List}
 use Rattle.std.proofs.Common.{[], ◌∷◌, ◌++◌, Result, Ok, Err, Option, Some, None, refl, sym, ◌∙◌}
 use Rattle.std.proofs.Common.{ap, subst, arith, inl, inr, ⊎_elim, true≢false, if◌then◌else◌}
-use Rattle.std.proofs.lemmas.Bool.{cases_eq, cases_lt}
+use Rattle.std.proofs.lemmas.Bool.{cases_eq, cases_lt, not-true, and_parts}
 use Rattle.std.proofs.lemmas.Bool.Decides.{nat_tests}
 use Rattle.std.specs.Option.{option_map_or}
 use Rattle.bpaf_text.specs.declared.params.ParseFlag.{ParseFlag}
@@ -195,11 +195,6 @@ takes_one s p there =
 touched : (s : Situation) (p : ℕ) → is_open s p ≡ true → is_untouched s (take_place s p) ≡ false
 touched s p there = let fewer = takes_one s p there in grind (arith, nat_tests)
 
--- a test that holds with another holds by itself
-both_hold : (a b : Bool) → (a && b) ≡ true → a ≡ true
-both_hold true b e = refl
-both_hold false b e = e
-
 -- what isn't the opposite of a test that holds doesn't hold
 opposite : (a b : Bool) → a ≡ true → a ≡ not b → b ≡ false
 opposite a true e f = absurd (true≢false (sym e ∙ f))
@@ -282,7 +277,7 @@ module _ {T : Type 0} (clones : T → T → Type 0) (one other : ParseFlag T) (s
         → EqualDepths s a sa b sb (Ok v) t → TookKey clones one other s v t
     equal_took (Ok x) sa (Ok y) sb v t f g o = ⊎_elim
         (λ neither. absurd (true≢false
-        (sym (both_hold (is_untouched s sa) (is_untouched s sb) neither.0)
+        (sym (and_parts (is_untouched s sa) (is_untouched s sb) neither.0).0
         ∙ ran_touched one x sa f)))
         (λ winner. won t f.0 g.0 x y v f.1 g.1 f.3 g.3 winner.1.0 winner.1.1
         (subst (λ m. IsWinner m (take_place s g.0) (winner.1.0, winner.1.1)) f.2
@@ -325,12 +320,12 @@ module _ {T : Type 0} (clones : T → T → Type 0) (one other : ParseFlag T) (s
       o
   equal_none (Ok x) sa (Err d) sb e t f g o = ⊎_elim
       (λ wrong. absurd (true≢false
-      (sym (both_hold (is_untouched s sa) _ wrong.0) ∙ ran_touched one x sa f)))
+      (sym (and_parts (is_untouched s sa) _ wrong.0).0 ∙ ran_touched one x sa f)))
       (λ right. absurd (no_value x e (sym right.1)))
       o
   equal_none (Err d) sa (Ok y) sb e t f g o = ⊎_elim
       (λ wrong. absurd (true≢false
-      (sym (both_hold (is_untouched s sb) _ wrong.0) ∙ ran_touched other y sb g)))
+      (sym (and_parts (is_untouched s sb) _ wrong.0).0 ∙ ran_touched other y sb g)))
       (λ right. absurd (no_value y e (sym right.1)))
       o
   equal_none (Err d) sa (Err c) sb e t f g o =
@@ -389,12 +384,8 @@ module _ {T : Type 0} (clones : T → T → Type 0) (one other : ParseFlag T)
   stop_spared : (e : Error) (catches untouched : Bool)
       → stops_step catches e.0 untouched ≡ true → is_memory e.0 ≡ false
   stop_spared e catches untouched stops =
-      of_not (is_memory e.0) (both_hold (not (is_memory e.0)) (stops_spared catches e.0 untouched)
-      stops)
-    where
-      of_not : (b : Bool) → not b ≡ true → b ≡ false
-      of_not true h = absurd (true≢false (sym h))
-      of_not false h = refl
+      not-true (is_memory e.0)
+      (and_parts (not (is_memory e.0)) (stops_spared catches e.0 untouched) stops).0
 
   -- where a step stops there is no key
   stopped_none : (catches first : Bool) (s t : Situation)

@@ -1,7 +1,7 @@
 -- What a command answers that may be adjacent, and then reads the items behind its word without a
 -- gap.
 use Rattle.std.specs.Prelude.{◌≡◌, ◌⊎◌, ℕ, ◌+◌, Bool, true, false, List, None, Result, Ok, Err}
-use Rattle.bpaf_doc.specs.Shape.{Part}
+use Rattle.bpaf_doc.specs.Shape.{Part, Shape}
 use Rattle.bpaf_line.specs.declared.error.Error.{Error}
 use Rattle.bpaf_line.specs.declared.error.Message.TheVariants as message
 use Rattle.bpaf_line.specs.declared.failure.ParseFailure.{ParseFailure}
@@ -10,13 +10,14 @@ use Rattle.bpaf_line.specs.Messages.{is_memory}
 use Rattle.bpaf_line.specs.Stretches.{IsStretchFrom}
 use Rattle.bpaf_line.specs.Situation.{Situation, with_current, with_scope}
 use Rattle.bpaf_laws.specs.AdjacentCommand.{AdjacentReads, AllTaken, IsFirstLeft}
-use Rattle.bpaf_laws.specs.Command.{Called, CommandReads, IsNotOpened, IsOpenedAt, inside, opened}
-use Rattle.bpaf_laws.specs.Command.{opening_words}
+use Rattle.bpaf_laws.specs.Command.{Called, CommandPart, CommandReads, IsNotOpened, IsOpenedAt}
+use Rattle.bpaf_laws.specs.Command.{inside, opened, opening_words}
 use Rattle.bpaf_laws.specs.Reading.{Outcome, Readings}
 use Rattle.bpaf_core.specs.Command.{CommandOutcome, IsMissingPart}
 use Rattle.bpaf_parts.specs.Failures.{end_message}
-use Rattle.bpaf_core.specs.Ending.{Ending}
+use Rattle.bpaf_core.specs.Ending.{Ending, EndsRun}
 use Rattle.bpaf_core.specs.Run.{Runs}
+use Rattle.bpaf_core.specs.declared.commands.ParseCommand.{ParseCommand}
 
 -- an end of a run that isn't want of memory
 abbrev pub IsTold : ParseFailure → Type 0
@@ -86,6 +87,13 @@ abbrev pub EitherCommandOutcome : Bool → (T : Type 0) → Outcome T → Ending
     → Outcome T
 EitherCommandOutcome true T inner ending called shows = AdjacentOutcome T inner ending called shows
 EitherCommandOutcome false T inner ending called shows = CommandOutcome T inner ending called shows
+
+-- what this command answers, where the parser inside answers so and shows this
+abbrev pub OutcomeOfCommand : {T P : Type 0} → ParseCommand T P → Outcome T → (Shape → Type 0)
+    → Outcome T
+OutcomeOfCommand {T} command inner describes =
+    EitherCommandOutcome command.adjacent T inner (EndsRun describes command.info) command.names
+    (CommandPart command.names command.help describes)
 
 -- what is read of it
 abbrev pub EitherCommandReads : Bool → (T : Type 0) → List (List ℕ) → Readings T → Readings T

@@ -243,8 +243,7 @@ impl<T: Drop, P: Parser<T>> Parser<T> for ParseCommand<T, P> {
     ghost use Rattle.bpaf_laws.specs.Laws.{newly};
     ghost use Rattle.bpaf_laws.specs.OneStretch.{IsStretch};
     ghost use Rattle.bpaf_laws.specs.Spared.{IsNotMemory, WithoutMemory};
-    ghost use Rattle.bpaf_core.specs.Adjacent.{EitherCommandOutcome, EitherCommandReads};
-    ghost use Rattle.bpaf_core.specs.Ending.{EndsRun};
+    ghost use Rattle.bpaf_core.specs.Adjacent.{OutcomeOfCommand, EitherCommandReads};
     ghost use Rattle.bpaf_core.specs.EndingLaws.{run_ending};
     ghost use Rattle.bpaf_core.specs.AdjacentLaws.{either_lawful};
 
@@ -255,27 +254,19 @@ impl<T: Drop, P: Parser<T>> Parser<T> for ParseCommand<T, P> {
     ghost reads = { λ p.
         EitherCommandReads p.adjacent T (opening_words p.names) (P.reads p.inner) };
 
-    ghost outcome = { λ p. EitherCommandOutcome p.adjacent T (P.outcome p.inner)
-        (EndsRun (P.describes p.inner) p.info) p.names
-        (CommandPart p.names p.help (P.describes p.inner)) };
+    ghost outcome = { λ p. OutcomeOfCommand p (P.outcome p.inner) (P.describes p.inner) };
 
     fn eval(&self, state: &mut State) -> Result<T, Error>
         requires { P.can_eval self.now.inner }
-        ensures outcome { EitherCommandOutcome self.now.adjacent T
-            (P.outcome self.now.inner)
-            (EndsRun (P.describes self.now.inner) self.now.info) self.now.names
-            (CommandPart self.now.names self.now.help (P.describes self.now.inner))
-            state.old result state.new }
+        ensures outcome { OutcomeOfCommand self.now (P.outcome self.now.inner)
+            (P.describes self.now.inner) state.old result state.new }
         ensures command_leaves_nothing { self.now.adjacent ≡ false →
             IfOk result (λ _. LeavesNothing state.old state.new) }
         ensures takes_one_stretch { self.now.adjacent ≡ true →
             IfOk result (λ _. IsStretch (newly state.old state.new)) }
         ensures memory_is_never_caught { IsNotMemory result →
-            EitherCommandOutcome self.now.adjacent T
-            (WithoutMemory (P.outcome self.now.inner))
-            (EndsRun (P.describes self.now.inner) self.now.info) self.now.names
-            (CommandPart self.now.names self.now.help (P.describes self.now.inner))
-            state.old result state.new }
+            OutcomeOfCommand self.now (WithoutMemory (P.outcome self.now.inner))
+            (P.describes self.now.inner) state.old result state.new }
     {
         self.enter(state)?;
         match self.run_inside(state) {

@@ -4,18 +4,19 @@ use Rattle.bpaf_line.specs.declared.error.Error.{Error}
 use Rattle.bpaf_line.specs.Situation.{Situation}
 use Rattle.bpaf_laws.specs.Reading.{Outcome}
 use Rattle.bpaf_exact.specs.Pieces.{Roles, LinePiece, pieces, takes_none}
-use Rattle.bpaf_exact.specs.Flat.{Refused, class, cells, IsWhole, FieldKind, ByName, OneWord}
+use Rattle.bpaf_exact.specs.Flat.{Refused, class, cells, IsWhole, Steady, FieldKind, ByName, OneWord}
 use Rattle.bpaf_exact.specs.Flat.{EachWord}
 use Rattle.bpaf_exact.specs.Single.{Groups, FrontOf, Own, own_none, own_more, Readable, Gap, no_gap}
-use Rattle.bpaf_exact.specs.Single.{SingleOk, gave_absent, took, SingleErr, of_memory, of_missing}
-use Rattle.bpaf_exact.specs.Single.{of_absent, of_piece, ReadsWords, SingleLaw}
+use Rattle.bpaf_exact.specs.Single.{TookGroup, SingleOk, gave_absent, took, SingleErr, of_memory}
+use Rattle.bpaf_exact.specs.Single.{of_missing, of_absent, of_piece, ReadsWords, SingleLaw}
 use Rattle.bpaf_exact.specs.Wrappers.{Closure, AgreesOn, ClosedEval, closed_yes, closed_no}
 use Rattle.bpaf_exact.specs.Wrappers.{closed_memory, closed_err, ClosedGroup, closed_gap}
 use Rattle.bpaf_exact.specs.Wrappers.{ClosedPiece}
 use Rattle.bpaf_exact.specs.Alternative.{TakesFirst, HasBad, bad_here, bad_later, AlternativeOk}
 use Rattle.bpaf_exact.specs.Alternative.{AlternativeErr, alternative_memory, alternative_missing}
 use Rattle.bpaf_exact.specs.Alternative.{alternative_refused, AlternativeLaw}
-use Rattle.bpaf_exact.proofs.First.{first_pieces, takes_nonempty, bad_given_back, bad_nonempty}
+use Rattle.bpaf_exact.proofs.First.{first_pieces, first_takes, takes_nonempty, bad_given_back}
+use Rattle.bpaf_exact.proofs.First.{bad_nonempty}
 
 -- Pieces that can't be read have no own list.
 pub own_bad : (T : Type 0) (value : LinePiece → T → Type 0) (os : List LinePiece) (vs : List T)
@@ -27,6 +28,29 @@ own_bad T value os vs h (own_more {rest = rest} {v = v} {vs = us} g o) =
     by_bad : (HasBad T value rest → ⊥) → HasBad T value (g.piece ∷ rest) → ⊥
     by_bad i (bad_here n) = n v g.means
     by_bad i (bad_later b) = i b
+
+-- a value of the first piece is that of each first group that can be read, which leaves the same
+pub front_alone : (T : Type 0) (value : LinePiece → T → Type 0) (o : LinePiece) (v : T)
+    {os left rest : List LinePiece} {w : T} → os ≡ o ∷ left → value o v → FrontOf T value os w rest
+    → FrontOf T value os v rest × (left ≡ rest)
+front_alone T value o v {left = left} {rest = rest} e means g =
+    let d : o ∷ left ≡ g.piece ∷ rest = sym e ∙ g.is in
+    let r : left ≡ rest = cc in
+    (record { piece = o; is = e ∙ ap (λ z. o ∷ z) r; means = means }, r)
+
+-- where the first piece was taken and has the value, it is the first group
+pub took_front : (T : Type 0) (value : LinePiece → T → Type 0) (k : FieldKind) (q : Roles) (s t : Situation)
+    (v : T) (o : LinePiece) → Steady s t → TakesFirst q (cells s) o (cells t)
+    → pieces q (cells s) ≡ o ∷ pieces q (cells t) → value o v
+    → TookGroup T k q (FrontOf T value) s v t
+took_front T value k q s t v o st f e means =
+    let takes = first_takes q f in record {
+      steady = st;
+      takes = record { piece = o; middle = cells t; one = takes; more = takes_none };
+      found = takes_nonempty q takes;
+      read = λ r. record { piece = o; is = e; means = means };
+      readable = λ w rest g. front_alone T value o v e means g;
+    }
 
 -- An alternative is a field without a repeat or default.
 module _ (T : Type 0) (outcome : Outcome T) (q : Roles) (value : LinePiece → T → Type 0)
@@ -45,15 +69,15 @@ module _ (T : Type 0) (outcome : Outcome T) (q : Roles) (value : LinePiece → T
       → SingleOk T ByName q (FrontOf T value) (no_gap T) s v t
   alternative_ok s t v w o =
       let a = l.ok s t v w o in
-      took a.steady (record { piece = a.piece; middle = cells t; one = a.takes; more = takes_none })
-      (takes_nonempty q a.takes)
-      (alternative_reads s t v a a.first)
-      (λ x rest g.
-      let f = a.readable g.piece rest x g.is g.means in
-      let e = first_pieces q l.named f in
-      let d : a.piece ∷ pieces q (cells t) ≡ g.piece ∷ rest = sym e ∙ g.is in
-      let r : pieces q (cells t) ≡ rest = cc in
-      (record { piece = a.piece; is = e ∙ ap (λ z. a.piece ∷ z) r; means = a.means }, r))
+      took (record {
+        steady = a.steady;
+        takes = record { piece = a.piece; middle = cells t; one = a.takes; more = takes_none };
+        found = takes_nonempty q a.takes;
+        read = alternative_reads s t v a a.first;
+        readable = λ x rest g.
+            let e = first_pieces q l.named (a.readable g.piece rest x g.is g.means) in
+            front_alone T value a.piece v e a.means g;
+      })
 
   -- its refusal, as that of one evaluation
   alternative_err : (s t : Situation) (e : Error) → AlternativeErr T q value s e t
@@ -84,15 +108,13 @@ module _ (A B : Type 0) (inner : Outcome A) (q : Roles) (value : LinePiece → A
   closed_bad os (bad_later h) = bad_later (closed_bad _ h)
 
   -- nor can one whose value the closure refuses
-  refused_value : (x : A) (o : LinePiece) → value o x → f.no x → (v : B)
-      → ClosedPiece A B value f o v
+  refused_value : (x : A) (o : LinePiece) → value o x → f.no x → (v : B) → ClosedPiece A B value f o v
       → ⊥
   refused_value x o g n v c = agrees o c.from x v c.read g c.made n
 
   -- a value that the closure gave
   closed_alternative_ok : (s t : Situation) (v : B) → IsWhole s
-      → ClosedEval A B inner f Refused s (Ok v) t → AlternativeOk B q
-      (ClosedPiece A B value f) s v t
+      → ClosedEval A B inner f Refused s (Ok v) t → AlternativeOk B q (ClosedPiece A B value f) s v t
   closed_alternative_ok s t v w (closed_yes {x = x} i y) =
       let a = l.ok s t x w i in
       record {
@@ -153,8 +175,7 @@ module _ (A B : Type 0) (inner : Outcome A) (q : Roles) (value : LinePiece → A
   }
 
 -- inner closures round a field without a repeat or default
-module _ (A B : Type 0) (inner : Outcome A)
-    (k : FieldKind) (q : Roles) (group : Groups A) (gap : Gap A)
+module _ (A B : Type 0) (inner : Outcome A) (k : FieldKind) (q : Roles) (group : Groups A) (gap : Gap A)
     (l : SingleLaw A inner k q group gap) (f : Closure A B)
     (agrees : (os rest : List LinePiece) → AgreesOn (λ v. group os v rest) f)
     (gap_agrees : AgreesOn gap.absent f) where
@@ -196,10 +217,14 @@ module _ (A B : Type 0) (inner : Outcome A)
   yes_single : (s t : Situation) (x : A) (v : B) → f.yes x v → SingleOk A k q group gap s x t
       → SingleOk B k q (ClosedGroup A B group f) (closed_gap gap f) s v t
   yes_single s t x v y (gave_absent h p ab same st) = gave_absent h p (x, ab, y) same st
-  yes_single s t x v y (took st ta ne up down) = took st ta ne
-      (λ r. record { from = x; read = up (inner_readable k _ r); made = y })
-      (λ w rest g. let d = down g.from rest g.read in
-      (record { from = x; read = d.0; made = y }, d.1))
+  yes_single s t x v y (took h) = took (record {
+    steady = h.steady;
+    takes = h.takes;
+    found = h.found;
+    read = λ r. record { from = x; read = h.read (inner_readable k _ r); made = y };
+    readable = λ w rest g. let d = h.readable g.from rest g.read in
+        (record { from = x; read = d.0; made = y }, d.1);
+  })
 
   -- a value that the closure refused
   no_single : (s t : Situation) (x : A) (e : Error) → class e ≡ Refused → f.no x
@@ -207,10 +232,10 @@ module _ (A B : Type 0) (inner : Outcome A)
       → SingleErr B k q (ClosedGroup A B group f) (closed_gap gap f) s e t
   no_single s t x e c n (gave_absent h p ab same st) =
       of_absent c h p (λ v a. gap_agrees a.0 x v a.1 ab a.2 n)
-  no_single s t x e c n (took st ta ne up down) =
-      of_piece c ne
+  no_single s t x e c n (took h) =
+      of_piece c h.found
       (λ w rest g. agrees (pieces q (cells s)) rest g.from x w g.read
-      (down g.from rest g.read).0 g.made n)
+      (h.readable g.from rest g.read).0 g.made n)
 
   -- an inner refusal is passed on
   err_single : (s t : Situation) (e : Error) → SingleErr A k q group gap s e t

@@ -3,7 +3,7 @@ use Rattle.std.proofs.Common.{◌≡◌, ℕ, suc, zero, ◌<◌, Bool, true, fa
 use Rattle.std.proofs.Common.{length, Option, Some, None, Result, Ok, Err, refl, sym, ap, ap₂, ◌∙◌}
 use Rattle.std.proofs.Common.{subst, inl, inr, ◌⊎◌, ⊎_elim, arith, true≢false, nat_le, nat_lt}
 use Rattle.std.specs.Option.{option_map_or}
-use Rattle.std.proofs.lemmas.Bool.{eqb-true, le-leb, lt-ltb}
+use Rattle.std.proofs.lemmas.Bool.{eqb-true, le-leb, lt-ltb, and_parts}
 use Rattle.bpaf_words.specs.declared.arg.Arg.{Arg}
 use Rattle.bpaf_line.specs.declared.error.Error.{Error}
 use Rattle.bpaf_line.specs.Combining.{Combines}
@@ -357,18 +357,13 @@ module _ (T : Type 0) (a b : Outcome T) (qa qb : Roles) (va vb : LinePiece → T
       (second_won s sb sb y (lb.ok s sb y w g)
       (err_other qa va s sa (cells sb) e h (la.err s sa e w f)) (steady_refl sb) refl))
 
-  -- one of two tests
-  and_first : (x y : Bool) → (x && y) ≡ true → x ≡ true
-  and_first true y e = refl
-  and_first false y e = e
-
   -- the value where both paths are equally deep
   equal_ok : (s sa sb t : Situation) (v : T) (x y : Result T Error) → IsWhole s → a s x sa
       → b s y sb → IsNotMemory x → IsNotMemory y → EqualDepths s x sa y sb (Ok v) t
       → AlternativeOk T (either qa qb) vr s v t
   equal_ok s sa sb t v (Ok x) (Ok y) w f g hf hg (inl o) =
       absurd (never_untouched qa va s sa x (la.ok s sa x w f)
-      (and_first (is_untouched s sa) (is_untouched s sb) o.0))
+      (and_parts (is_untouched s sa) (is_untouched s sb) o.0).0)
   equal_ok s sa sb t v (Ok x) (Ok y) w f g hf hg (inr o) =
       winner_ok s sa sb t x y v o.1.0 o.1.1 w (la.ok s sa x w f) (lb.ok s sb y w g) o.1.2 o.1.3
   equal_ok s sa sb t v (Ok x) (Err e) w f g hf hg o = first_alone_ok s sa sb t x v e w f g hg o
@@ -479,7 +474,7 @@ module _ (T : Type 0) (a b : Outcome T) (qa qb : Roles) (va vb : LinePiece → T
       (e g : Error)
       → AlternativeOk T q v s x m → OneOk s x m e (Err g) t → ⊥
   one_no_refusal q v s m t x e g i (inl o) =
-      never_untouched q v s m x i (and_first (is_untouched s m) (is_wrong_input e.0) o.0)
+      never_untouched q v s m x i (and_parts (is_untouched s m) (is_wrong_input e.0) o.0).0
   one_no_refusal q v s m t x e g i (inr o) = let h = o.1 in cc
 
   -- the refusal where both paths are equally deep

@@ -26,7 +26,8 @@ pub not_memory : (m : Message) → is_memory m ≡ false → class_of m ≡ OfMe
 not_memory m e c = true≢false (sym (memory_of m c) ∙ e)
 
 -- what says that items are missing can be caught, and isn't want of memory
-missing_caught : (m : Message) → is_missing m ≡ true → (is_memory m ≡ false) × (can_catch m ≡ true)
+pub missing_caught : (m : Message) → is_missing m ≡ true
+    → (is_memory m ≡ false) × (can_catch m ≡ true)
 missing_caught (Missing items) e = (refl, refl)
 missing_caught other e = absurd cc
 

@@ -6,6 +6,7 @@ use Rattle.bpaf_line.specs.declared.error.Message.TheVariants.{Missing, ParseFai
 use Rattle.bpaf_line.specs.Combining.{Combines, CombinesSpared}
 use Rattle.bpaf_line.specs.Messages.{is_memory, can_catch}
 use Rattle.bpaf_exact.specs.Flat.{OfMemory, OfMissing, Refused, is_missing, class_by, class_of}
+use Rattle.bpaf_exact.proofs.Classes.{missing_caught}
 
 -- which of two refusals stands for both, where neither is want of memory
 data Stands (m n g : Message) : Type 0 where
@@ -38,11 +39,6 @@ class_tests false true c = (λ e. refl, λ e. absurd cc)
 class_tests false false true = (λ e. absurd cc, λ e. absurd cc)
 class_tests false false false = (λ e. absurd cc, λ e. refl)
 
--- what says that items are missing can be caught
-missing_caught : (m : Message) → is_missing m ≡ true → can_catch m ≡ true
-missing_caught (Missing items) e = refl
-missing_caught other e = absurd cc
-
 -- a refusal of that class says that items are missing
 is_missing_of : (m : Message) → class_of m ≡ OfMissing → is_missing m ≡ true
 is_missing_of m e = (class_tests (is_memory m) (is_missing m) (can_catch m)).0 e
@@ -53,7 +49,7 @@ is_kept m e = (class_tests (is_memory m) (is_missing m) (can_catch m)).1 e
 
 -- a missing item can be caught
 caught_of : (m : Message) → class_of m ≡ OfMissing → can_catch m ≡ true
-caught_of m e = missing_caught m (is_missing_of m e)
+caught_of m e = (missing_caught m (is_missing_of m e)).1
 
 -- want of memory, or a refusal that stands for both
 stands_or_memory : (m n g : Message) → Combines m n g → (class_of g ≡ OfMemory) ⊎ Stands m n g
@@ -85,9 +81,9 @@ combined_refused m n g one e f c =
         → (class_of m ≡ OfMissing) ⊎ (class_of m ≡ Refused)
         → (class_of n ≡ OfMissing) ⊎ (class_of n ≡ Refused) → class_of g ≡ Refused
     by_stands (joined h i k) (inl o) e f =
-        absurd (true≢false (sym (missing_caught m h) ∙ is_kept m o))
+        absurd (true≢false (sym (missing_caught m h).1 ∙ is_kept m o))
     by_stands (joined h i k) (inr o) e f =
-        absurd (true≢false (sym (missing_caught n i) ∙ is_kept n o))
+        absurd (true≢false (sym (missing_caught n i).1 ∙ is_kept n o))
     by_stands (first h i) o (inl e) f = absurd (true≢false (sym (caught_of m e) ∙ h))
     by_stands (first h i) o (inr e) f = ap class_of i ∙ e
     by_stands (second h i) o e (inl f) = absurd (true≢false (sym (caught_of n f) ∙ h))

@@ -63,7 +63,7 @@ module _ (T : Type 0) (inner : Outcome T)
   again_never : (m t : Situation) (v : T) → gap.has ≡ false → pieces q (cells m) ≡ []
       → SingleOk T k q group gap m v t → ⊥
   again_never m t v h p (gave_absent g p' ab same st) = cc
-  again_never m t v h p (took st ta ne up down) = ne p
+  again_never m t v h p (took g) = g.found p
 
   -- so the evaluation after an empty list answers no value
   again_ok : (s m t : Situation) (v : T) → IsWhole s → TurnsEval T inner true None s (Ok []) m

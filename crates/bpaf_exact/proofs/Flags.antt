@@ -10,8 +10,8 @@ use Rattle.bpaf_line.specs.Situation.{Situation, take_place}
 use Rattle.bpaf_line.specs.Taking.{HasNone, TakesFlag}
 use Rattle.bpaf_laws.specs.Environment.{is_set}
 use Rattle.bpaf_laws.specs.Flag.{FlagOutcome, FlagFails}
-use Rattle.bpaf_exact.specs.Pieces.{Alone, Roles, LinePiece, One, IsNamed, pieces, takes_none}
-use Rattle.bpaf_exact.specs.Flat.{class, class_of, cells, IsWhole, ByName}
+use Rattle.bpaf_exact.specs.Pieces.{Alone, Roles, LinePiece, One, IsNamed}
+use Rattle.bpaf_exact.specs.Flat.{class, class_of, IsWhole, ByName}
 use Rattle.bpaf_exact.specs.Single.{Groups, Gap, FrontOf, SingleOk, gave_absent, took, SingleErr}
 use Rattle.bpaf_exact.specs.Single.{of_memory, SingleLaw}
 use Rattle.bpaf_exact.specs.Alternative.{AlternativeOk, AlternativeErr, alternative_memory}
@@ -20,7 +20,8 @@ use Rattle.bpaf_exact.specs.Leaves.{flag_roles, FlagValue, switch_gap, flag_by, 
 use Rattle.bpaf_exact.specs.FlatForm.{FormLaw}
 use Rattle.bpaf_exact.proofs.Classes.{missing_class}
 use Rattle.bpaf_exact.proofs.Product.{steady_refl}
-use Rattle.bpaf_exact.proofs.First.{first_takes, first_pieces, takes_nonempty}
+use Rattle.bpaf_exact.proofs.First.{first_pieces}
+use Rattle.bpaf_exact.proofs.Alternative.{took_front}
 use Rattle.bpaf_exact.proofs.Places.{take_steady}
 use Rattle.bpaf_exact.proofs.Matching.{match_of, ByTest, by_test, names_named, no_pieces, one_taken}
 use Rattle.bpaf_exact.proofs.Matching.{first_alternative, missing_same, absence_missing, names_own}
@@ -93,21 +94,8 @@ module _ (T : Type 0) (clones : T → T → Type 0) (key : Key) (present : T)
         let h = one_taken (is_key_of key.names) q s takes.0 test takes.1 m in
         let e = first_pieces q named h in
         subst (SingleOk T ByName q group gap s v) (sym takes.2)
-        (took (take_steady s takes.0)
-        (record {
-          piece = One m.item;
-          middle = cells (take_place s takes.0);
-          one =
-              first_takes q h;
-          more = takes_none;
-        })
-        (takes_nonempty q (first_takes q h))
-        (λ r. record { piece = One m.item; is = e; means = y })
-        (λ x rest g.
-        let d : One m.item ∷ pieces q (cells (take_place s takes.0)) ≡ g.piece ∷ rest = sym e
-        ∙ g.is in
-        let i : pieces q (cells (take_place s takes.0)) ≡ rest = cc in
-        (record { piece = One m.item; is = e ∙ ap (λ z. One m.item ∷ z) i; means = y }, i)))
+        (took (took_front T value ByName q s (take_place s takes.0) v (One m.item)
+        (take_steady s takes.0) h e y))
 
     switch_none : (s t : Situation) (v : T) → HasNone (is_key_of key.names) s → t ≡ s
         → clones absent v → SingleOk T ByName q group gap s v t

@@ -6,11 +6,10 @@ use Rattle.bpaf_laws.specs.Choice.{ChoiceOutcome}
 use Rattle.bpaf_laws.specs.Choices.{ChoicesOutcome, Nested}
 use Rattle.bpaf_laws.specs.Product.{BothOutcome, ProductOutcome}
 use Rattle.bpaf_laws.specs.Reading.{Outcome}
-use Rattle.bpaf_exact.specs.Pieces.{Role, Foreign, Alone, WithNext, Roles, is_own_role, no_roles}
+use Rattle.bpaf_exact.specs.Pieces.{Roles, no_roles}
 use Rattle.bpaf_exact.specs.Pieces.{either}
 use Rattle.bpaf_exact.specs.Names.{Owns, are_all_apart}
-use Rattle.bpaf_exact.specs.Flat.{ErrorClass, Refused, FieldKind, ByName, OneWord, EachWord}
-use Rattle.bpaf_exact.specs.Flat.{FieldsLaw}
+use Rattle.bpaf_exact.specs.Flat.{ErrorClass, Refused, FieldKind, ByName, OneWord, EachWord, FieldsLaw}
 use Rattle.bpaf_exact.specs.Flat.{keys, Before}
 use Rattle.bpaf_exact.specs.Single.{TurnsEval, repeated}
 use Rattle.bpaf_exact.specs.Wrappers.{Closure, Decides, map_closure, ClosedEval, OptionalEval}
@@ -23,7 +22,7 @@ use Rattle.bpaf_exact.specs.FlatForm.{flat_choice, choices_rest, alternative_onl
 use Rattle.bpaf_exact.specs.FlatForm.{flat_repeat, flat_last, flat_optional, flat_fallback}
 use Rattle.bpaf_exact.specs.FlatForm.{flat_field, may_follow, flat_both, flat_alone, flat_con}
 use Rattle.bpaf_exact.specs.FlatForm.{flat_record, is_record, product_roles, product_reading}
-use Rattle.bpaf_exact.proofs.Names.{apart_of_names, either_owns}
+use Rattle.bpaf_exact.proofs.Names.{foreign_of, apart_of_names, either_owns}
 use Rattle.bpaf_exact.proofs.Alternative.{alternative_single, closed_alternative, closed_single}
 use Rattle.bpaf_exact.proofs.Choice.{choice_law}
 use Rattle.bpaf_exact.proofs.Repeat.{repeat_law}
@@ -223,15 +222,8 @@ flat_field_law T outcome names (single k q group gap) l =
 flat_field_law T outcome names (complete k q value) l = l
 flat_field_law T outcome names (product q fields) l = tt
 
--- what isn't the field's own
-foreign_of : (x : Role) → is_own_role x ≡ false → x ≡ Foreign
-foreign_of Foreign e = refl
-foreign_of Alone e = cc
-foreign_of WithNext e = cc
-
 -- fields that may follow keep apart
-follows : (k : FieldKind) (q r : Roles) (own others : List Names) → Owns (keys k q) own
-    → Owns r others
+follows : (k : FieldKind) (q r : Roles) (own others : List Names) → Owns (keys k q) own → Owns r others
     → may_follow k own others ≡ true → Before k q r
 follows ByName q r own others a b h = apart_of_names q r own others a b h
 follows OneWord q r own [] a b h = λ i. foreign_of (r i) (b.own i)

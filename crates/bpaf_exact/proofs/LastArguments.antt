@@ -178,9 +178,13 @@ module _ (T : Type 0) (means : List ℕ → T → Type 0) (argument : KeyWithVal
         meant = subst (λ z. means z v) (sym a.text_is) o.2;
         none_left = none;
       }) in
-      took a.steady a.any (takes_nonempty q a.any.one)
-      (λ readable. group (pieces q (cells t)) got.none)
-      (λ x rest g. (group rest g.none_left, got.none ∙ sym g.none_left))
+      took (record {
+        steady = a.steady;
+        takes = a.any;
+        found = takes_nonempty q a.any.one;
+        read = λ r. group (pieces q (cells t)) got.none;
+        readable = λ x rest g. (group rest g.none_left, got.none ∙ sym g.none_left);
+      })
 
   -- where a last text means no value, the pieces have none
   fault_group : (s t : Situation) (text : List ℕ) → GotAll s t text

@@ -1,8 +1,8 @@
 -- Fields whose keys are apart have no item in common.
-use Rattle.std.proofs.Common.{◌≡◌, Bool, true, false, not, ◌&&◌, ◌||◌, ◌==◌, List, [], ◌∷◌, ◌++◌}
-use Rattle.std.proofs.Common.{refl, sym, ap, ◌∙◌, subst, inl, inr, ◌⊎◌, ⊎_elim, bytes_eq}
+use Rattle.std.proofs.Common.{◌≡◌, Bool, true, false, not, ◌||◌, ◌==◌, List, [], ◌∷◌, ◌++◌}
+use Rattle.std.proofs.Common.{refl, sym, ap, ◌∙◌, subst, ⊎_elim, bytes_eq}
 use Rattle.std.specs.List.{list_all, list_any}
-use Rattle.std.proofs.lemmas.Bool.{eqb-true}
+use Rattle.std.proofs.lemmas.Bool.{eqb-true, false_from_ne_true, and_parts, or_cases}
 use Rattle.std.proofs.lemmas.List.Folds.{list_any-append}
 use Rattle.std.proofs.lemmas.Slice.Eq.{bytes_eq-Decides}
 use Rattle.bpaf_doc.specs.Names.{Names}
@@ -13,30 +13,15 @@ use Rattle.bpaf_exact.specs.Pieces.{Role, Foreign, Alone, WithNext, Roles, is_ow
 use Rattle.bpaf_exact.specs.Pieces.{Apart, either, either_role}
 use Rattle.bpaf_exact.specs.Names.{is_key_of_any, are_apart, are_all_apart, Owns}
 
--- one of two tests holds
-or_true : (a b : Bool) → (a || b) ≡ true → (a ≡ true) ⊎ (b ≡ true)
-or_true true b e = inl refl
-or_true false b e = inr e
-
--- the first of two tests that hold
-both_left : (a b : Bool) → (a && b) ≡ true → a ≡ true
-both_left true b e = refl
-both_left false b e = e
-
--- the second
-both_right : (a b : Bool) → (a && b) ≡ true → b ≡ true
-both_right true b e = e
-both_right false b e = absurd cc
-
 -- a test that holds of each element of a list holds of one that a second test picks
 picked : {X : Type 0} (test pick : X → Bool) (x : X) → ((y : X) → pick y ≡ true → y ≡ x)
     → (ys : List X) → list_all test ys ≡ true → list_any pick ys ≡ true → test x ≡ true
 picked test pick x same [] all any = absurd cc
 picked test pick x same (y ∷ ys) all any = ⊎_elim
     (λ (e : pick y ≡ true). subst (λ z. test z ≡ true) (same y e)
-    (both_left (test y) (list_all test ys) all))
-    (λ e. picked test pick x same ys (both_right (test y) (list_all test ys) all) e)
-    (or_true (pick y) (list_any pick ys) any)
+    (and_parts (test y) (list_all test ys) all).0)
+    (λ e. picked test pick x same ys (and_parts (test y) (list_all test ys) all).1 e)
+    (or_cases (pick y) (list_any pick ys) any)
 
 -- a test and its opposite don't both hold
 never_both : (b : Bool) → not b ≡ true → b ≡ true → ⊥
@@ -49,11 +34,11 @@ one_owner : (own others : Names) (k : Arg) → are_apart own others ≡ true →
 one_owner own others (Short c attached word) apart e f =
     never_both (is_among others.shorts c)
     (picked (λ name. not (is_among others.shorts name)) (λ d. d == c) c
-    (λ d h. eqb-true d c h) own.shorts (both_left _ _ apart) e) f
+    (λ d h. eqb-true d c h) own.shorts (and_parts _ _ apart).0 e) f
 one_owner own others (Long name attached word) apart e f =
     never_both (is_text_among others.longs name)
     (picked (λ other. not (is_text_among others.longs other)) (λ other. bytes_eq other name) name
-    (λ other h. (bytes_eq-Decides other name).0 h) own.longs (both_right _ _ apart) e) f
+    (λ other h. (bytes_eq-Decides other name).0 h) own.longs (and_parts _ _ apart).1 e) f
 one_owner own others (ArgWord text) apart e f = cc
 one_owner own others (Word text) apart e f = cc
 one_owner own others (PosWord text) apart e f = cc
@@ -65,10 +50,10 @@ none_owner : (names : Names) (others : List Names) (k : Arg)
 none_owner names [] k apart e f = cc
 none_owner names (other ∷ others) k apart e f = ⊎_elim
     (λ (h : is_key_of other k ≡ true). one_owner names other k
-    (both_left (are_apart names other) (list_all (are_apart names) others) apart) e h)
+    (and_parts (are_apart names other) (list_all (are_apart names) others) apart).0 e h)
     (λ h. none_owner names others k
-    (both_right (are_apart names other) (list_all (are_apart names) others) apart) e h)
-    (or_true (is_key_of other k) (is_key_of_any others k) f)
+    (and_parts (are_apart names other) (list_all (are_apart names) others) apart).1 e h)
+    (or_cases (is_key_of other k) (is_key_of_any others k) f)
 
 -- an item is a key of at most one of two lists that are apart
 one_list : (keys others : List Names) (k : Arg) → are_all_apart keys others ≡ true
@@ -76,25 +61,25 @@ one_list : (keys others : List Names) (k : Arg) → are_all_apart keys others �
 one_list [] others k apart e f = cc
 one_list (names ∷ keys) others k apart e f = ⊎_elim
     (λ (h : is_key_of names k ≡ true). none_owner names others k
-    (both_left (list_all (are_apart names) others) (are_all_apart keys others) apart) h f)
+    (and_parts (list_all (are_apart names) others) (are_all_apart keys others) apart).0 h f)
     (λ h. one_list keys others k
-    (both_right (list_all (are_apart names) others) (are_all_apart keys others) apart) h f)
-    (or_true (is_key_of names k) (is_key_of_any keys k) e)
+    (and_parts (list_all (are_apart names) others) (are_all_apart keys others) apart).1 h f)
+    (or_cases (is_key_of names k) (is_key_of_any keys k) e)
 
 -- what isn't the field's own
-foreign_of : (x : Role) → (is_own_role x ≡ true → ⊥) → x ≡ Foreign
-foreign_of Foreign f = refl
-foreign_of Alone f = absurd (f refl)
-foreign_of WithNext f = absurd (f refl)
+pub foreign_of : (x : Role) → is_own_role x ≡ false → x ≡ Foreign
+foreign_of Foreign e = refl
+foreign_of Alone e = cc
+foreign_of WithNext e = cc
 
 -- keys that are apart keep the fields apart
 pub apart_of_names : (q r : Roles) (keys others : List Names) → Owns q keys → Owns r others
     → are_all_apart keys others ≡ true → Apart q r
 apart_of_names q r keys others a b h = record {
-  left = λ k e. foreign_of (r k)
-      (λ f. one_list keys others k h (sym (a.own k) ∙ e) (sym (b.own k) ∙ f));
-  right = λ k e. foreign_of (q k)
-      (λ f. one_list keys others k h (sym (a.own k) ∙ f) (sym (b.own k) ∙ e));
+  left = λ k e. foreign_of (r k) (false_from_ne_true (is_own_role (r k))
+      (λ f. one_list keys others k h (sym (a.own k) ∙ e) (sym (b.own k) ∙ f)));
+  right = λ k e. foreign_of (q k) (false_from_ne_true (is_own_role (q k))
+      (λ f. one_list keys others k h (sym (a.own k) ∙ f) (sym (b.own k) ∙ e)));
 }
 
 -- an item of both is one of either

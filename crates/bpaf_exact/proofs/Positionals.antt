@@ -9,9 +9,7 @@ use Rattle.bpaf_line.specs.declared.error.Error.{Error}
 use Rattle.bpaf_line.specs.Situation.{Situation}
 use Rattle.bpaf_line.specs.Taking.{TakesText}
 use Rattle.bpaf_line.proofs.Matches.{open_item_there}
-use Rattle.bpaf_exact.specs.Pieces.{Cells, Foreign, Alone, WithNext, LinePiece, One, word_roles}
-use Rattle.bpaf_exact.specs.Pieces.{pieces}
-use Rattle.bpaf_exact.specs.Pieces.{takes_none}
+use Rattle.bpaf_exact.specs.Pieces.{Cells, Foreign, Alone, WithNext, LinePiece, One, word_roles, pieces}
 use Rattle.bpaf_exact.specs.Flat.{cells, IsWhole, Steady, OneWord, front, back}
 use Rattle.bpaf_exact.specs.Single.{Groups, FrontOf, no_gap, SingleOk, took, SingleErr, of_memory}
 use Rattle.bpaf_exact.specs.Single.{of_missing, of_piece, WordByWord, SingleLaw}
@@ -21,6 +19,7 @@ use Rattle.bpaf_exact.specs.Leaves.{word_missing, word_memory}
 use Rattle.bpaf_exact.specs.FlatForm.{FormLaw}
 use Rattle.bpaf_exact.proofs.Product.{steady_refl}
 use Rattle.bpaf_exact.proofs.First.{first_takes, takes_nonempty, begin_at}
+use Rattle.bpaf_exact.proofs.Alternative.{took_front}
 use Rattle.bpaf_exact.proofs.Places.{take_steady}
 use Rattle.bpaf_exact.proofs.Matching.{match_of, ByTest, by_test, no_pieces, one_taken}
 
@@ -90,20 +89,8 @@ module _ (T : Type 0) (means : List ℕ → T → Type 0) where
       let m = took_word s t p strict text takes in
       let e = word_pieces m.takes in
       let y : means (item_text m.word) v = subst (λ z. means z v) (sym m.text_is) y in
-      took m.steady
-      (record {
-        piece = One m.word;
-        middle = cells t;
-        one =
-            first_takes word_roles m.takes;
-        more = takes_none;
-      })
-      (takes_nonempty word_roles (first_takes word_roles m.takes))
-      (λ r. record { piece = One m.word; is = e; means = y })
-      (λ x rest i.
-      let d : One m.word ∷ pieces word_roles (cells t) ≡ i.piece ∷ rest = sym e ∙ i.is in
-      let j : pieces word_roles (cells t) ≡ rest = cc in
-      (record { piece = One m.word; is = e ∙ ap (λ z. One m.word ∷ z) j; means = y }, j))
+      took
+      (took_front T (WordValue means) OneWord word_roles s t v (One m.word) m.steady m.takes e y)
 
   -- a refusal: there is no word, or the first can't be read
   word_err : (s t : Situation) (e : Error) → IsWhole s → WordEval T means s (Err e) t
@@ -124,8 +111,7 @@ module _ (T : Type 0) (means : List ℕ → T → Type 0) where
   one_by_one : WordByWord T group
   one_by_one = record { by_front = fronts; of_front = heads }
     where
-      fronts : (os : List LinePiece) (v : T) (rest : List LinePiece)
-          → FrontOf T (WordValue means) os v rest
+      fronts : (os : List LinePiece) (v : T) (rest : List LinePiece) → FrontOf T (WordValue means) os v rest
           → FrontOf T (WordValue means) (front OneWord os) v [] × (rest ≡ back OneWord os)
       fronts [] v rest g = let e = g.is in absurd cc
       fronts (o ∷ os) v rest g =

@@ -8,8 +8,7 @@ use Rattle.bpaf_words.specs.Items.{item_text}
 use Rattle.bpaf_words.specs.declared.arg.Arg.{Arg}
 use Rattle.bpaf_exact.specs.Pieces.{Role, Foreign, Alone, WithNext, Roles, LinePiece, One, Two}
 use Rattle.bpaf_exact.specs.Pieces.{is_own_role, others, either, either_role, no_roles}
-use Rattle.bpaf_exact.specs.Flat.{FieldKind, ByName, OneWord, EachWord, BothValue, both_reading}
-use Rattle.bpaf_exact.specs.Flat.{keys}
+use Rattle.bpaf_exact.specs.Flat.{FieldKind, ByName, OneWord, EachWord, BothValue, both_reading, keys}
 use Rattle.bpaf_exact.specs.Flat.{front, back, FieldsReading}
 use Rattle.bpaf_exact.specs.Leaves.{WordValue}
 use Rattle.bpaf_exact.specs.Names.{Owns}
@@ -21,8 +20,8 @@ use Rattle.bpaf_exact.specs.FlatForm.{flat_both, flat_alone, flat_con, may_follo
 use Rattle.bpaf_exact.specs.FlatForm.{flat_record}
 use Rattle.bpaf_exact.specs.Wrappers.{Closure, ClosedValue}
 use Rattle.bpaf_exact.specs.Derived.{list_closure}
-use Rattle.bpaf_exact.specs.Fields.{words_behind_field, ReadsWords, WordsBy, IsWordsOf, FormOwns, OwnsKeys}
-use Rattle.bpaf_exact.specs.Fields.{word_texts, IsFirstWord}
+use Rattle.bpaf_exact.specs.Fields.{words_behind_field, ReadsWords, OfWords, WordsBy, IsWordsOf}
+use Rattle.bpaf_exact.specs.Fields.{FormOwns, OwnsKeys, word_texts, IsFirstWord}
 
 -- where no item is one's own, each piece is another's
 others_none : (q : Roles) → ((k : Arg) → is_own_role (q k) ≡ false) → (os : List LinePiece)
@@ -67,49 +66,47 @@ none_behind : (r : Roles) (own behind : List Names) → Owns r behind
 none_behind r own [] owned e k = owned.own k
 none_behind r own (names ∷ behind) owned e k = absurd cc
 
+-- what follows from what is said of positional fields is said of them too
+of_words_by : (k : FieldKind) {known said : Type 0} → (known → said) → OfWords k known → OfWords k said
+of_words_by ByName f h = tt
+of_words_by OneWord f h = f h
+of_words_by EachWord f h = f h
+
 -- a positional field that stands first among those of its kind
+first_reads : {A B : Type 0} (own behind : List Names) (k : FieldKind) (q : Roles)
+    (value : List LinePiece → A → Type 0) (r : Roles) (fields : FieldsReading B) → Owns r behind
+    → may_follow k own behind ≡ true
+    → OfWords k (ReadsWords (A × B) A (either (keys k q) r) (BothValue k q value fields.value) k
+    (λ os. os) value (λ v. v.0))
+first_reads own behind ByName q value r fields owned e = tt
+first_reads own behind OneWord q value r fields owned e = record {
+  read = λ os v i. subst (λ z. value (front OneWord z) v.0)
+      (sym (others_none r (none_behind r own behind owned e) os)) i.0;
+}
+first_reads own behind EachWord q value r fields owned e = record {
+  read = λ os v i. subst (λ z. value z v.0)
+      (sym (others_none r (none_behind r own behind owned e) os)) i.0;
+}
+
+-- it is one of both
 first_words_by : {A B : Type 0} (own behind : List Names) (a : FlatForm A) (s : FlatForm B)
     → FormOwns behind s → WordsBy a (λ os. os) (flat_both own behind a s) (λ v. v.0)
 first_words_by own behind not_flat s owned = tt
 first_words_by own behind (alternative q value) s owned = tt
 first_words_by own behind (single k q group gap) s owned = tt
 first_words_by own behind (product q fields) s owned = tt
-first_words_by own behind (complete ByName q value) s owned = tt
-first_words_by own behind (complete OneWord q value) not_flat owned = tt
-first_words_by own behind (complete OneWord q value) (alternative r other) owned = tt
-first_words_by own behind (complete OneWord q value) (single k r group gap) owned = tt
-first_words_by own behind (complete OneWord q value) (complete k r other) owned = tt
-first_words_by own behind (complete EachWord q value) not_flat owned = tt
-first_words_by own behind (complete EachWord q value) (alternative r other) owned = tt
-first_words_by own behind (complete EachWord q value) (single k r group gap) owned = tt
-first_words_by own behind (complete EachWord q value) (complete k r other) owned = tt
-first_words_by {A = A} {B = B} own behind (complete OneWord q value) (product r fields) owned =
-    by_names (may_follow OneWord own behind) refl
+first_words_by own behind (complete k q value) not_flat owned = tt
+first_words_by own behind (complete k q value) (alternative r other) owned = tt
+first_words_by own behind (complete k q value) (single j r group gap) owned = tt
+first_words_by own behind (complete k q value) (complete j r other) owned = tt
+first_words_by {A = A} {B = B} own behind (complete k q value) (product r fields) owned =
+    by_names (may_follow k own behind) refl
   where
-    by_names : (may : Bool) → may_follow OneWord own behind ≡ may
-        → WordsBy {V = A × B} (complete OneWord q value) (λ os. os)
-        (only_if may (product (either no_roles r) (both_reading OneWord q value fields))) (λ v. v.0)
-    by_names true e = record {
-      read = λ os v i. subst (λ z. value (front OneWord z) v.0)
-          (sym (others_none r (none_behind r own behind owned e) os)) i.0;
-    }
+    by_names : (may : Bool) → may_follow k own behind ≡ may
+        → WordsBy {V = A × B} (complete k q value) (λ os. os)
+        (only_if may (product (either (keys k q) r) (both_reading k q value fields))) (λ v. v.0)
+    by_names true e = first_reads own behind k q value r fields owned e
     by_names false e = tt
-first_words_by {A = A} {B = B} own behind (complete EachWord q value) (product r fields) owned =
-    by_names (may_follow OneWord own behind) refl
-  where
-    by_names : (may : Bool) → may_follow OneWord own behind ≡ may
-        → WordsBy {V = A × B} (complete EachWord q value) (λ os. os)
-        (only_if may (product (either no_roles r) (both_reading EachWord q value fields))) (λ v. v.0)
-    by_names true e = record {
-      read = λ os v i. subst (λ z. value z v.0)
-          (sym (others_none r (none_behind r own behind owned e) os)) i.0;
-    }
-    by_names false e = tt
-
--- the kinds of positional fields
-data IsWordKind : FieldKind → Type 0 where
-  one_word : IsWordKind OneWord
-  each_word : IsWordKind EachWord
 
 -- a positional field of fields that stand behind another
 module _ {A B C : Type 0} (own behind : List Names) (k : FieldKind) (p : Roles)
@@ -152,50 +149,27 @@ later_words_by own behind a not_flat s rest of owned h = tt
 later_words_by own behind a (alternative q value) s rest of owned h = tt
 later_words_by own behind a (single k q group gap) s rest of owned h = tt
 later_words_by own behind a (product q fields) s rest of owned h = tt
-later_words_by own behind a (complete ByName q value) s rest of owned h = tt
-later_words_by own behind not_flat (complete OneWord q value) s rest of owned h = tt
-later_words_by own behind (alternative p first) (complete OneWord q value) s rest of owned h = tt
-later_words_by own behind (single k p group gap) (complete OneWord q value) s rest of owned h = tt
-later_words_by own behind (product p first) (complete OneWord q value) s rest of owned h = tt
-later_words_by own behind (complete k p first) (complete OneWord q value) not_flat rest of owned h =
-    tt
-later_words_by own behind (complete k p first) (complete OneWord q value) (alternative r other) rest of owned h =
-    tt
-later_words_by own behind (complete k p first) (complete OneWord q value) (single j r group gap) rest of owned h =
-    tt
-later_words_by own behind (complete k p first) (complete OneWord q value) (complete j r other) rest of owned h =
-    tt
-later_words_by {A = A} {B = B} {C = C} own behind (complete k p first) (complete OneWord q value)
+later_words_by own behind not_flat (complete j q value) s rest of owned h = tt
+later_words_by own behind (alternative p first) (complete j q value) s rest of owned h = tt
+later_words_by own behind (single k p group gap) (complete j q value) s rest of owned h = tt
+later_words_by own behind (product p first) (complete j q value) s rest of owned h = tt
+later_words_by own behind (complete k p first) (complete j q value) not_flat rest of owned h = tt
+later_words_by own behind (complete k p first) (complete j q value) (alternative r other) rest of
+    owned h = tt
+later_words_by own behind (complete k p first) (complete j q value) (single i r group gap) rest of
+    owned h = tt
+later_words_by own behind (complete k p first) (complete j q value) (complete i r other) rest of
+    owned h = tt
+later_words_by {A = A} {B = B} {C = C} own behind (complete k p first) (complete j q value)
     (product r fields) rest of owned h =
     by_names (may_follow k own behind) refl
   where
     by_names : (may : Bool) → may_follow k own behind ≡ may
-        → WordsBy {V = A × C} (complete OneWord q value)
+        → WordsBy {V = A × C} (complete j q value)
         (λ os. rest (words_behind_field {A = A} (complete k p first) os))
         (only_if may (product (either (keys k p) r) (both_reading k p first fields))) (λ v. of v.1)
-    by_names true e = later_reads own behind k p first r fields owned OneWord rest value of h e
-    by_names false e = tt
-later_words_by own behind not_flat (complete EachWord q value) s rest of owned h = tt
-later_words_by own behind (alternative p first) (complete EachWord q value) s rest of owned h = tt
-later_words_by own behind (single k p group gap) (complete EachWord q value) s rest of owned h = tt
-later_words_by own behind (product p first) (complete EachWord q value) s rest of owned h = tt
-later_words_by own behind (complete k p first) (complete EachWord q value) not_flat rest of owned h =
-    tt
-later_words_by own behind (complete k p first) (complete EachWord q value) (alternative r other) rest of owned h =
-    tt
-later_words_by own behind (complete k p first) (complete EachWord q value) (single j r group gap) rest of owned h =
-    tt
-later_words_by own behind (complete k p first) (complete EachWord q value) (complete j r other) rest of owned h =
-    tt
-later_words_by {A = A} {B = B} {C = C} own behind (complete k p first) (complete EachWord q value)
-    (product r fields) rest of owned h =
-    by_names (may_follow k own behind) refl
-  where
-    by_names : (may : Bool) → may_follow k own behind ≡ may
-        → WordsBy {V = A × C} (complete EachWord q value)
-        (λ os. rest (words_behind_field {A = A} (complete k p first) os))
-        (only_if may (product (either (keys k p) r) (both_reading k p first fields))) (λ v. of v.1)
-    by_names true e = later_reads own behind k p first r fields owned EachWord rest value of h e
+    by_names true e =
+        of_words_by j (λ g. later_reads own behind k p first r fields owned j rest value of g e) h
     by_names false e = tt
 
 -- the last field, where it is positional
@@ -215,8 +189,7 @@ last_words_by (complete EachWord q value) = record {
 }
 
 -- a positional field of what a constructor makes
-made_words_by : {A B C : Type 0} (f : Closure A B) (a : FlatForm C)
-    (rest : List LinePiece → List LinePiece)
+made_words_by : {A B C : Type 0} (f : Closure A B) (a : FlatForm C) (rest : List LinePiece → List LinePiece)
     (s : FlatForm A) (of : A → C) (from : B → C)
     → ((x : A) (v : B) → f.yes x v → from v ≡ of x) → WordsBy a rest s of
     → WordsBy a rest (flat_record (flat_con f s)) from
@@ -224,23 +197,16 @@ made_words_by f not_flat rest s of from same h = tt
 made_words_by f (alternative q value) rest s of from same h = tt
 made_words_by f (single k q group gap) rest s of from same h = tt
 made_words_by f (product q fields) rest s of from same h = tt
-made_words_by f (complete ByName q value) rest s of from same h = tt
-made_words_by f (complete OneWord q value) rest not_flat of from same h = tt
-made_words_by f (complete OneWord q value) rest (alternative r other) of from same h = tt
-made_words_by f (complete OneWord q value) rest (single k r group gap) of from same h = tt
-made_words_by f (complete OneWord q value) rest (complete k r other) of from same h = tt
-made_words_by f (complete OneWord q value) rest (product r fields) of from same h = record {
-  read = λ os v i. subst (λ x. value (front OneWord (rest (others r os))) x)
-      (sym (same i.from v i.made)) (h.read os i.from i.read);
-}
-made_words_by f (complete EachWord q value) rest not_flat of from same h = tt
-made_words_by f (complete EachWord q value) rest (alternative r other) of from same h = tt
-made_words_by f (complete EachWord q value) rest (single k r group gap) of from same h = tt
-made_words_by f (complete EachWord q value) rest (complete k r other) of from same h = tt
-made_words_by f (complete EachWord q value) rest (product r fields) of from same h = record {
-  read = λ os v i. subst (λ x. value (front EachWord (rest (others r os))) x)
-      (sym (same i.from v i.made)) (h.read os i.from i.read);
-}
+made_words_by f (complete k q value) rest not_flat of from same h = tt
+made_words_by f (complete k q value) rest (alternative r other) of from same h = tt
+made_words_by f (complete k q value) rest (single j r group gap) of from same h = tt
+made_words_by f (complete k q value) rest (complete j r other) of from same h = tt
+made_words_by f (complete k q value) rest (product r fields) of from same h = of_words_by k
+    (λ g. record {
+      read = λ os v i. subst (λ x. value (front k (rest (others r os))) x)
+          (sym (same i.from v i.made)) (g.read os i.from i.read);
+    })
+    h
 
 -- The first of two is a positional field of both,
 pub first_words : {A B : Type 0} (own behind : List Names) (a : FlatForm A) (s : FlatForm B)
@@ -248,10 +214,8 @@ pub first_words : {A B : Type 0} (own behind : List Names) (a : FlatForm A) (s :
 first_words own behind a s owned = record { by = first_words_by own behind a s owned.by }
 
 -- one of the others gets what the first leaves,
-pub later_words : {A B C : Type 0} (own behind : List Names) (a : FlatForm A) (b : FlatForm B)
-    (s : FlatForm C)
-    (rest : List LinePiece → List LinePiece) (of : C → B) → OwnsKeys behind s
-    → IsWordsOf b rest s of
+pub later_words : {A B C : Type 0} (own behind : List Names) (a : FlatForm A) (b : FlatForm B) (s : FlatForm C)
+    (rest : List LinePiece → List LinePiece) (of : C → B) → OwnsKeys behind s → IsWordsOf b rest s of
     → IsWordsOf b (λ os. rest (words_behind_field a os)) (flat_both own behind a s) (λ v. of v.1)
 later_words own behind a b s rest of owned h =
     record { by = later_words_by own behind a b s rest of owned.by h.by }
@@ -261,8 +225,7 @@ pub last_words : {A : Type 0} (a : FlatForm A) → IsWordsOf a (λ os. os) (flat
 last_words a = record { by = last_words_by a }
 
 -- and so is one of what a constructor makes.
-pub made_words : {A B C : Type 0} (f : Closure A B) (a : FlatForm C)
-    (rest : List LinePiece → List LinePiece)
+pub made_words : {A B C : Type 0} (f : Closure A B) (a : FlatForm C) (rest : List LinePiece → List LinePiece)
     (s : FlatForm A) (of : A → C) (from : B → C)
     → ((x : A) (v : B) → f.yes x v → from v ≡ of x) → IsWordsOf a rest s of
     → IsWordsOf a rest (flat_record (flat_con f s)) from
@@ -275,8 +238,7 @@ module _ (T : Type 0) (means : List ℕ → T → Type 0) where
       → SingleValue T (FrontOf T (WordValue means)) (no_gap T) ws v → IsFirstWord T means os v
   word_by os ws v e (of_group g) = by_piece os g.piece (e ∙ g.is) g.means
     where
-      by_piece : (os : List LinePiece) (o : LinePiece) → front OneWord os ≡ o ∷ []
-          → WordValue means o v
+      by_piece : (os : List LinePiece) (o : LinePiece) → front OneWord os ≡ o ∷ [] → WordValue means o v
           → IsFirstWord T means os v
       by_piece [] o i m = absurd cc
       by_piece (One w ∷ more) (One x) i m = let same : w ≡ x = cc in

@@ -1,24 +1,23 @@
 -- A field before other fields: the laws of a product from those of its parts.
 use Rattle.std.proofs.Common.{◌≡◌, true, false, List, [], ◌∷◌, length, Some, Result, Ok, Err, refl}
 use Rattle.std.proofs.Common.{inl, inr, Bool, sym, ap, ◌∙◌, subst, if◌then◌else◌}
-use Rattle.bpaf_words.specs.declared.arg.Arg.{Arg}
 use Rattle.bpaf_line.specs.declared.error.Error.{Error}
 use Rattle.bpaf_line.specs.Situation.{Situation}
 use Rattle.bpaf_line.specs.Messages.{is_memory}
 use Rattle.bpaf_laws.specs.Product.{BothOutcome, joined}
 use Rattle.bpaf_laws.specs.Reading.{Outcome}
 use Rattle.bpaf_laws.specs.Spared.{IsNotMemory}
-use Rattle.bpaf_exact.specs.Pieces.{Cells, Role, Foreign, Alone, WithNext, Roles, LinePiece, One}
-use Rattle.bpaf_exact.specs.Pieces.{Two}
+use Rattle.bpaf_exact.specs.Pieces.{Cells, Role, Foreign, Alone, WithNext, Roles, LinePiece, One, Two}
 use Rattle.bpaf_exact.specs.Pieces.{is_own_role, is_own, others, either_role, either, IsNamed}
-use Rattle.bpaf_exact.specs.Pieces.{Apart, Cut, at_end, passed, flag, argument, word, begin_piece}
+use Rattle.bpaf_exact.specs.Pieces.{Apart, Cut, at_end, passed, flag, argument, word}
 use Rattle.bpaf_exact.specs.Pieces.{pieces, TakesPieces}
 use Rattle.bpaf_exact.specs.Flat.{cells, NonePresent, IsWhole, Steady, FieldKind, ByName, OneWord}
 use Rattle.bpaf_exact.specs.Flat.{EachWord, front, back, share, left, keys, IsWords, OwnItems}
 use Rattle.bpaf_exact.specs.Flat.{LeavesNone, FieldTook, FieldLaw, ReadOff, GivesAll, FieldsLaw}
 use Rattle.bpaf_exact.specs.Flat.{Before, FieldsReading, Gives, both_reading, class, OfMemory}
 use Rattle.bpaf_exact.proofs.Classes.{memory_class, not_memory}
-use Rattle.bpaf_exact.proofs.Cells.{value_not_key, word_not_key, pieces_of_cut, put_back_some}
+use Rattle.bpaf_exact.proofs.Cells.{value_foreign, word_foreign, begin_foreign, nil_rest}
+use Rattle.bpaf_exact.proofs.Cells.{nil_foreign, pieces_of_cut, others_foreign, put_back_some}
 use Rattle.bpaf_exact.proofs.Cells.{take_some_from}
 use Rattle.bpaf_exact.proofs.Words.{NoKeys, put_words_back, take_words_from, words_of_cut}
 
@@ -44,14 +43,8 @@ steady_trans a b =
       path = b.path ∙ a.path;
     }
 
--- an item that isn't the field's own begins no piece
-begin_foreign : {x : Role} (k : Arg) (cs : Cells) (os : List LinePiece) → x ≡ Foreign
-    → begin_piece x k cs os ≡ os
-begin_foreign k cs os e = ap (λ z. begin_piece z k cs os) e
-
 -- A cut by the keys of others holds no key of one's own.
-no_own_in_cut : (q r : Roles) {cs : Cells} {os : List LinePiece} → IsNamed q → Apart q r
-    → Cut r cs os
+no_own_in_cut : (q r : Roles) {cs : Cells} {os : List LinePiece} → IsNamed q → Apart q r → Cut r cs os
     → pieces q cs ≡ []
 no_own_in_cut q r n a at_end = refl
 no_own_in_cut q r n a (passed c) = no_own_in_cut q r n a c
@@ -59,10 +52,9 @@ no_own_in_cut q r n a (flag {k = k} {cs = cs} e c) =
     begin_foreign k cs (pieces q cs) (a.right k (ap is_own_role e)) ∙ no_own_in_cut q r n a c
 no_own_in_cut q r n a (argument {k = k} {w = w} {cs = cs} e v c) =
     begin_foreign k (Some w ∷ cs) (pieces q (Some w ∷ cs)) (a.right k (ap is_own_role e))
-    ∙ (begin_foreign w cs (pieces q cs) (n.only_keys w (value_not_key w v))
-    ∙ no_own_in_cut q r n a c)
+    ∙ (begin_foreign w cs (pieces q cs) (value_foreign q w n v) ∙ no_own_in_cut q r n a c)
 no_own_in_cut q r n a (word {w = w} {cs = cs} h c) =
-    begin_foreign w cs (pieces q cs) (n.only_keys w (word_not_key w h)) ∙ no_own_in_cut q r n a c
+    begin_foreign w cs (pieces q cs) (word_foreign q w n h) ∙ no_own_in_cut q r n a c
 
 -- an item that isn't the first's has the role that it has to the second
 either_foreign : (x y z : Role) → x ≡ Foreign → y ≡ z → either_role x y ≡ z
@@ -70,11 +62,10 @@ either_foreign Foreign y z e h = h
 either_foreign Alone y z e h = cc
 either_foreign WithNext y z e h = cc
 
--- a piece of others is one of them
-others_foreign : (q : Roles) (o : LinePiece) (os ps : List LinePiece) → is_own q o ≡ false
-    → others q os ≡ ps → others q (o ∷ os) ≡ o ∷ ps
-others_foreign q o os ps h e = ap (λ b. if b then others q os else (o ∷ others q os)) h
-    ∙ ap (λ z. o ∷ z) e
+-- with a piece of others more all are of others
+others_all : (q : Roles) (o : LinePiece) (os : List LinePiece) → is_own q o ≡ false → others q os ≡ os
+    → others q (o ∷ os) ≡ o ∷ os
+others_all q o os h e = others_foreign q o os h ∙ ap (λ z. o ∷ z) e
 
 -- a cut whose pieces are all of others
 record Widened (q r : Roles) (cs : Cells) (os : List LinePiece) : Type 0 where
@@ -92,7 +83,7 @@ widen q r n a (flag {k = k} {os = os} e c) =
     record {
       cut = flag (either_foreign (q k) (r k) Alone f e) i.cut;
       all =
-          others_foreign q (One k) os os (ap is_own_role f) i.all;
+          others_all q (One k) os (ap is_own_role f) i.all;
     }
 widen q r n a (argument {k = k} {w = w} {os = os} e v c) =
     let i = widen q r n a c in
@@ -100,14 +91,14 @@ widen q r n a (argument {k = k} {w = w} {os = os} e v c) =
     record {
       cut = argument (either_foreign (q k) (r k) WithNext f e) v i.cut;
       all =
-          others_foreign q (Two k w) os os (ap is_own_role f) i.all;
+          others_all q (Two k w) os (ap is_own_role f) i.all;
     }
 widen q r n a (word {w = w} {os = os} h c) =
     let i = widen q r n a c in
     record {
       cut = word h i.cut;
       all =
-          others_foreign q (One w) os os (ap is_own_role (n.only_keys w (word_not_key w h))) i.all;
+          others_all q (One w) os (ap is_own_role (word_foreign q w n h)) i.all;
     }
 
 -- a cut by the others' keys alone
@@ -115,21 +106,7 @@ record Narrowed (q r : Roles) (cs : Cells) (os : List LinePiece) : Type 0 where
   cut : Cut r cs os
   all : others q os ≡ os
 
--- where no piece begins the item isn't the field's own
-nil_foreign : (x : Role) (k : Arg) (cs : Cells) (os : List LinePiece) → begin_piece x k cs os ≡ []
-    → x ≡ Foreign
-nil_foreign Foreign k cs os e = refl
-nil_foreign Alone k cs os e = cc
-nil_foreign WithNext k cs os e = cc
-
--- and no piece is behind
-nil_rest : (x : Role) (k : Arg) (cs : Cells) (os : List LinePiece) → begin_piece x k cs os ≡ []
-    → os ≡ []
-nil_rest Foreign k cs os e = e
-nil_rest Alone k cs os e = cc
-nil_rest WithNext k cs os e = cc
-
--- then it has its role to the others
+-- an item that isn't the first's has its role to the others
 other_role : (x y z : Role) → x ≡ Foreign → either_role x y ≡ z → y ≡ z
 other_role Foreign y z e h = h
 other_role Alone y z e h = cc
@@ -146,7 +123,7 @@ narrow q r n p (flag {k = k} {cs = cs} {os = os} e c) =
     record {
       cut = flag (other_role (q k) (r k) Alone f e) i.cut;
       all =
-          others_foreign q (One k) os os (ap is_own_role f) i.all;
+          others_all q (One k) os (ap is_own_role f) i.all;
     }
 narrow q r n p (argument {k = k} {w = w} {cs = cs} {os = os} e v c) =
     let f = nil_foreign (q k) k (Some w ∷ cs) (pieces q (Some w ∷ cs)) p in
@@ -156,21 +133,20 @@ narrow q r n p (argument {k = k} {w = w} {cs = cs} {os = os} e v c) =
     record {
       cut = argument (other_role (q k) (r k) WithNext f e) v i.cut;
       all =
-          others_foreign q (Two k w) os os (ap is_own_role f) i.all;
+          others_all q (Two k w) os (ap is_own_role f) i.all;
     }
 narrow q r n p (word {w = w} {cs = cs} {os = os} h c) =
     let i = narrow q r n (nil_rest (q w) w cs (pieces q cs) p) c in
     record {
       cut = word h i.cut;
       all =
-          others_foreign q (One w) os os (ap is_own_role (n.only_keys w (word_not_key w h))) i.all;
+          others_all q (One w) os (ap is_own_role (word_foreign q w n h)) i.all;
     }
 
 -- What is read off the pieces, seen from before a field was evaluated.
 
 -- a cut from before a field was evaluated, with its share and what it left
-pub record StepBack (k : FieldKind) (q r : Roles) (cs : Cells)
-    (after : List LinePiece) : Type 0 where
+pub record StepBack (k : FieldKind) (q r : Roles) (cs : Cells) (after : List LinePiece) : Type 0 where
   pub before : List LinePiece
   pub cut : Cut (either (keys k q) r) cs before
   pub leaves : left k q before ≡ after
@@ -261,8 +237,7 @@ step_on EachWord q r n b t e c =
 -- Fields before others keep to the laws.
 
 -- the keys of all are keys
-both_named : (k : FieldKind) (q r : Roles) → OwnItems k q → IsNamed r
-    → IsNamed (either (keys k q) r)
+both_named : (k : FieldKind) (q r : Roles) → OwnItems k q → IsNamed r → IsNamed (either (keys k q) r)
 both_named ByName q r n m =
     record {
       only_keys =

@@ -4,18 +4,15 @@ use Rattle.std.proofs.Common.{None, Result, Ok, Err, refl, sym, ap, ◌∙◌, s
 use Rattle.bpaf_line.specs.declared.error.Error.{Error}
 use Rattle.bpaf_line.specs.Situation.{Situation, open_count}
 use Rattle.bpaf_laws.specs.Reading.{Outcome}
-use Rattle.bpaf_exact.specs.Pieces.{Cells, Roles, LinePiece, pieces, TakesPieces, takes_none}
-use Rattle.bpaf_exact.specs.Pieces.{takes_more}
+use Rattle.bpaf_exact.specs.Pieces.{Cells, Roles, LinePiece, pieces, TakesPieces, takes_none, takes_more}
 use Rattle.bpaf_exact.specs.Flat.{ErrorClass, OfMemory, OfMissing, Caught, Refused, class, cells}
-use Rattle.bpaf_exact.specs.Flat.{IsWhole, Steady, FieldKind, ByName, OneWord, EachWord, front}
-use Rattle.bpaf_exact.specs.Flat.{back}
+use Rattle.bpaf_exact.specs.Flat.{IsWhole, Steady, FieldKind, ByName, OneWord, EachWord, front, back}
 use Rattle.bpaf_exact.specs.Flat.{OwnItems, FieldLaw, Gives}
 use Rattle.bpaf_exact.specs.Single.{Groups, Own, own_none, own_more, TakesAny, Readable, Gap}
-use Rattle.bpaf_exact.specs.Single.{SingleOk, gave_absent, took, SingleErr, of_memory, of_missing}
-use Rattle.bpaf_exact.specs.Single.{of_absent, of_piece, SingleLaw, OwnList, listed}
+use Rattle.bpaf_exact.specs.Single.{TookGroup, SingleOk, gave_absent, took, SingleErr, of_memory}
+use Rattle.bpaf_exact.specs.Single.{of_missing, of_absent, of_piece, SingleLaw, OwnList, listed}
 use Rattle.bpaf_exact.specs.Single.{listed_and_absent, only_absent, repeated, Stops, nothing_found}
-use Rattle.bpaf_exact.specs.Single.{caught, IsFewer, TurnsEval, step, step_failed, idle_step}
-use Rattle.bpaf_exact.specs.Single.{enough}
+use Rattle.bpaf_exact.specs.Single.{caught, IsFewer, TurnsEval, step, step_failed, idle_step, enough}
 use Rattle.bpaf_exact.specs.Single.{stopped, failed, no_room, present_count}
 use Rattle.bpaf_exact.proofs.Product.{whole_after, steady_refl, steady_trans}
 use Rattle.bpaf_exact.proofs.Counts.{open_present, takes_any_fewer}
@@ -41,8 +38,17 @@ readable ByName group {vs = vs} o = (vs, o)
 readable OneWord group o = tt
 readable EachWord group o = tt
 
-module _ (T : Type 0) (inner : Outcome T)
-    (k : FieldKind) (q : Roles) (group : Groups T) (gap : Gap T)
+-- where the cells are the same as many items are present
+pub same_count : (s m : Situation) → cells m ≡ cells s → open_count m ≡ open_count s
+same_count s m e = open_present m ∙ (ap present_count e ∙ sym (open_present s))
+
+-- a turn stops only where something is missing or the error can be caught otherwise
+pub no_stop : (s m : Situation) (e : Error) (c : ErrorClass) → Stops e s m → class e ≡ c
+    → (c ≡ OfMissing → ⊥) → (c ≡ Caught → ⊥) → ⊥
+no_stop s m e c (nothing_found h n) g a b = a (sym g ∙ h)
+no_stop s m e c (caught h) g a b = b (sym g ∙ h)
+
+module _ (T : Type 0) (inner : Outcome T) (k : FieldKind) (q : Roles) (group : Groups T) (gap : Gap T)
     (l : SingleLaw T inner k q group gap) (idle : Bool) where
   -- what a repeat took, once it has the first value
   record Took (s : Situation) (vs : List T) (t : Situation) : Type 0 where
@@ -52,20 +58,14 @@ module _ (T : Type 0) (inner : Outcome T)
     list : Own T group (pieces q (cells s)) vs
     absent : gap.has ≡ true → (a : T) × gap.absent a
 
-  -- where the cells are the same as many items are present
-  same_count : (s m : Situation) → IsWhole s → Steady s m → cells m ≡ cells s
-      → open_count m ≡ open_count s
-  same_count s m w st e = open_present m ∙ (ap present_count e ∙ sym (open_present s))
-
-  -- so not fewer
-  not_less : (s m : Situation) → IsWhole s → Steady s m → cells m ≡ cells s
-      → open_count s ≤ open_count m
-  not_less s m w st e = let h = same_count s m w st e in omega arith
+  -- where the cells are the same not fewer items are present
+  not_less : (s m : Situation) → cells m ≡ cells s → open_count s ≤ open_count m
+  not_less s m e = let h = same_count s m e in omega arith
 
   -- where a piece was taken fewer are
-  fewer_count : (s m : Situation) → IsWhole s → Steady s m → TakesAny q (cells s) (cells m)
+  fewer_count : (s m : Situation) → TakesAny q (cells s) (cells m)
       → open_count m < open_count s
-  fewer_count s m w st t =
+  fewer_count s m t =
       let a = takes_any_fewer q t in
       let b = open_present m in
       let c = open_present s in
@@ -94,12 +94,6 @@ module _ (T : Type 0) (inner : Outcome T)
     absent = ab;
   }
 
-  -- a turn doesn't stop at other refusals
-  no_stop : (s m : Situation) (e : Error) (c : ErrorClass) → Stops e s m → class e ≡ c
-      → (c ≡ OfMissing → ⊥) → (c ≡ Caught → ⊥) → ⊥
-  no_stop s m e c (nothing_found h n) g a b = a (sym g ∙ h)
-  no_stop s m e c (caught h) g a b = b (sym g ∙ h)
-
   -- a turn that stops after a value
   stop_after : (s m : Situation) (e : Error) → Stops e s m → SingleErr T k q group gap s e m
       → Took s [] s
@@ -109,15 +103,13 @@ module _ (T : Type 0) (inner : Outcome T)
   stop_after s m e h (of_piece c p n) = absurd (no_stop s m e Refused h c (λ i. cc) (λ i. cc))
 
   -- one value more
-  took_more : (s m t : Situation) (v : T) (vs : List T) → Steady s m
-      → TakesAny q (cells s) (cells m)
-      → (Readable k group (pieces q (cells m)) → group (pieces q (cells s)) v (pieces q (cells m)))
+  took_more : (s m t : Situation) (v : T) (vs : List T) → TookGroup T k q group s v m
       → Took m vs t → Took s (v ∷ vs) t
-  took_more s m t v vs st ta up i = record {
-    steady = steady_trans st i.steady;
-    takes = some_trans q (any_some q ta) i.takes;
+  took_more s m t v vs h i = record {
+    steady = steady_trans h.steady i.steady;
+    takes = some_trans q (any_some q h.takes) i.takes;
     none = i.none;
-    list = own_more (up (readable k group i.list)) i.list;
+    list = own_more (h.read (readable k group i.list)) i.list;
     absent = i.absent;
   }
 
@@ -126,16 +118,16 @@ module _ (T : Type 0) (inner : Outcome T)
       → last ≡ Some (open_count s) → IsFewer m last
       → SingleOk T k q group gap s v m → (Steady s m → Took m vs t) → Took s (v ∷ vs) t
   step_took last s m t v vs w e f (gave_absent h p ab same st) i =
-      absurd (not_fewer last s m e (not_less s m w st same) f)
-  step_took last s m t v vs w e f (took st ta ne up down) i = took_more s m t v vs st ta up (i st)
+      absurd (not_fewer last s m e (not_less s m same) f)
+  step_took last s m t v vs w e f (took h) i = took_more s m t v vs h (i h.steady)
 
   -- a value that took nothing ends it
   enough_took : (last : Option ℕ) (s t : Situation) (v : T) → IsWhole s → last ≡ Some (open_count s)
       → (IsFewer t last → ⊥)
       → SingleOk T k q group gap s v t → Took s [] t
   enough_took last s t v w e f (gave_absent h p ab same st) = ended s t st p same (λ i. (v, ab))
-  enough_took last s t v w e f (took st ta ne up down) =
-      absurd (f (is_fewer last s t e (fewer_count s t w st ta)))
+  enough_took last s t v w e f (took h) =
+      absurd (f (is_fewer last s t e (fewer_count s t h.takes)))
 
   -- and isn't answered there
   idle_took : (last : Option ℕ) (s t : Situation) (v : T) → IsWhole s → last ≡ Some (open_count s)
@@ -195,8 +187,8 @@ module _ (T : Type 0) (inner : Outcome T)
         list =
             absent_alone s m v us none h p ab;
       }
-  first_step s m t v us (took st ta ne up down) more =
-      let i = took_more s m t v us st ta up (more st) in
+  first_step s m t v us (took h) more =
+      let i = took_more s m t v us h (more h.steady) in
       record {
         steady = i.steady;
         takes = i.takes;
@@ -216,7 +208,7 @@ module _ (T : Type 0) (inner : Outcome T)
             ∙ p;
         list = absent_alone s t v [] refl h p ab;
       }
-  first_idle s t v w e (took st ta ne up down) = let f = fewer_count s t w st ta in
+  first_idle s t v w e (took h) = let f = fewer_count s t h.takes in
       absurd (omega arith)
 
   -- a first turn that stops
@@ -275,13 +267,13 @@ module _ (T : Type 0) (inner : Outcome T)
       → GivesList (pieces q (cells m)) r t)
       → SingleOk T k q group gap s v m → Onward s m v r t
   on_step s m t v ws r n o i (gave_absent h p ab same st) = absurd (n h p same st)
-  on_step s m t v ws r n (view_none p e) i (took st ta ne up down) = absurd (ne p)
-  on_step s m t v ws r n (view_more w rest us e g o) i (took st ta ne up down) =
-      let d = down w rest g in
+  on_step s m t v ws r n (view_none p e) i (took h) = absurd (h.found p)
+  on_step s m t v ws r n (view_more w rest us e g o) i (took h) =
+      let d = h.readable w rest g in
       record {
         read = subst (λ os. group (pieces q (cells s)) v os) (sym d.1) d.0;
         gives =
-            i st us (subst (λ os. Own T group os us) (sym d.1) o);
+            i h.steady us (subst (λ os. Own T group os us) (sym d.1) o);
       }
 
   -- one value more
@@ -296,7 +288,7 @@ module _ (T : Type 0) (inner : Outcome T)
       → SingleErr T k q group gap s e t → class e ≡ OfMemory
   failed_gives s t e ws w ab o n (of_memory c) = c
   failed_gives s t e ws w ab o n (of_missing c g p same st) =
-      absurd (n (nothing_found c (same_count s t w st same)))
+      absurd (n (nothing_found c (same_count s t same)))
   failed_gives s t e ws w ab o n (of_absent c g p none) = let a = ab g in absurd (none a.0 a.1)
   failed_gives s t e ws w ab (view_none p x) n (of_piece c ne none) = absurd (ne p)
   failed_gives s t e ws w ab (view_more v rest us x g o) n (of_piece c ne none) =
@@ -324,8 +316,8 @@ module _ (T : Type 0) (inner : Outcome T)
       (subst (λ os. Own T group os []) (sym p) own_none, ap (pieces q) same ∙ p)
   enough_gives last s t v ws w e f (view_more y rest us x g o) (gave_absent h p ab same st) =
       absurd (l.starts y rest (subst (λ z. group z y rest) p g))
-  enough_gives last s t v ws w e f o (took st ta ne up down) =
-      absurd (f (is_fewer last s t e (fewer_count s t w st ta)))
+  enough_gives last s t v ws w e f o (took h) =
+      absurd (f (is_fewer last s t e (fewer_count s t h.takes)))
 
   -- where the pieces can be read, the turns after a value read them
   steps_give : (last : Option ℕ) (s t : Situation) (r : Result (List T) Error) (ws : List T)
@@ -335,12 +327,12 @@ module _ (T : Type 0) (inner : Outcome T)
   steps_give last s t r ws w e ab o (step {m = m} {v = v} {vs = us} f fewer more) =
       cons_gives s m t v us
       (on_step s m t v ws (Ok us)
-      (λ h p same st. not_fewer last s m e (not_less s m w st same) fewer) (own_view _ ws o)
+      (λ h p same st. not_fewer last s m e (not_less s m same) fewer) (own_view _ ws o)
       (λ st xs ox. steps_give (Some (open_count m)) m t (Ok us) xs
       (whole_after s m w st) refl ab ox more) (l.ok s m v w f))
   steps_give last s t r ws w e ab o (step_failed {m = m} {v = v} {e = x} f fewer more) =
       let on = on_step s m t v ws (Err x)
-      (λ h p same st. not_fewer last s m e (not_less s m w st same) fewer) (own_view _ ws o)
+      (λ h p same st. not_fewer last s m e (not_less s m same) fewer) (own_view _ ws o)
       (λ st xs ox. steps_give (Some (open_count m)) m t (Err x) xs
       (whole_after s m w st) refl ab ox more) (l.ok s m v w f) in
       on.gives
@@ -395,7 +387,7 @@ module _ (T : Type 0) (inner : Outcome T)
       let j = i st in
       let none : us ≡ [] = own_nil (pieces q (cells m)) us (ap (pieces q) same ∙ p) j.list in
       (absent_alone s t v us none h p ab, j.none)
-  gap_step s m t v us p i (took st ta ne up down) = absurd (ne p)
+  gap_step s m t v us p i (took h) = absurd (h.found p)
 
   -- turns that fail after it
   gap_step_failed : (s m t : Situation) (v : T) (e : Error) → pieces q (cells s) ≡ []
@@ -404,14 +396,14 @@ module _ (T : Type 0) (inner : Outcome T)
       → SingleOk T k q group gap s v m → class e ≡ OfMemory
   gap_step_failed s m t v e p i (gave_absent h p' ab same st) =
       i st (λ y. (v, ab)) (subst (λ os. Own T group os []) (sym (ap (pieces q) same ∙ p)) own_none)
-  gap_step_failed s m t v e p i (took st ta ne up down) = absurd (ne p)
+  gap_step_failed s m t v e p i (took h) = absurd (h.found p)
 
   -- a first value that took nothing
   gap_idle : (s t : Situation) (v : T) → pieces q (cells s) ≡ [] → SingleOk T k q group gap s v t
       → GivesOwn (pieces q (cells s)) (Ok (v ∷ [])) t
   gap_idle s t v p (gave_absent h p' ab same st) =
       (absent_alone s t v [] refl h p ab, ap (pieces q) same ∙ p)
-  gap_idle s t v p (took st ta ne up down) = absurd (ne p)
+  gap_idle s t v p (took h) = absurd (h.found p)
 
   -- where there is an absent value a refusal is want of memory
   gap_failed : (s t : Situation) (a : T) (e : Error) → gap.has ≡ true → gap.absent a
@@ -433,7 +425,7 @@ module _ (T : Type 0) (inner : Outcome T)
   own_idle : (s t : Situation) (v : T) → IsWhole s → (gap.has ≡ true → pieces q (cells s) ≡ [] → ⊥)
       → open_count s ≤ open_count t → SingleOk T k q group gap s v t → ⊥
   own_idle s t v w n same (gave_absent h p ab e st) = n h p
-  own_idle s t v w n same (took st ta ne up down) = let f = fewer_count s t w st ta in omega arith
+  own_idle s t v w n same (took h) = let f = fewer_count s t h.takes in omega arith
 
   -- where there is an own list, each answer is one, or want of memory
   first_gives : (s t : Situation) (r : Result (List T) Error) (ws : List T) → IsWhole s

@@ -2,17 +2,16 @@
 use Rattle.std.proofs.Common.{◌≡◌, false, List, [], ◌∷◌, Option, Some, None, Result, Ok, Err, refl}
 use Rattle.std.proofs.Common.{sym, ap, ◌∙◌, subst}
 use Rattle.bpaf_line.specs.declared.error.Error.{Error}
-use Rattle.bpaf_line.specs.Situation.{Situation, open_count}
+use Rattle.bpaf_line.specs.Situation.{Situation}
 use Rattle.bpaf_laws.specs.Reading.{Outcome}
 use Rattle.bpaf_exact.specs.Pieces.{Roles, LinePiece, pieces, takes_none}
 use Rattle.bpaf_exact.specs.Flat.{ErrorClass, OfMemory, OfMissing, Caught, Refused, class, cells}
-use Rattle.bpaf_exact.specs.Flat.{IsWhole, Steady, FieldKind, ByName, OneWord, EachWord, front}
-use Rattle.bpaf_exact.specs.Flat.{back}
+use Rattle.bpaf_exact.specs.Flat.{IsWhole, FieldKind, ByName, OneWord, EachWord, front, back}
 use Rattle.bpaf_exact.specs.Flat.{LeavesNone, FieldTook, FieldLaw, Gives}
 use Rattle.bpaf_exact.specs.Single.{Groups, Own, own_none, Readable, Gap, SingleOk, gave_absent}
 use Rattle.bpaf_exact.specs.Single.{took, SingleErr, of_memory, of_missing, of_absent, of_piece}
 use Rattle.bpaf_exact.specs.Single.{ReadsWords, SingleLaw, SingleValue, of_group, of_gap, Stops}
-use Rattle.bpaf_exact.specs.Single.{nothing_found, caught, present_count}
+use Rattle.bpaf_exact.specs.Single.{nothing_found}
 use Rattle.bpaf_exact.specs.Wrappers.{Closure, Decides, AgreesOn, ClosedEval, closed_yes, closed_no}
 use Rattle.bpaf_exact.specs.Wrappers.{closed_memory, closed_err, ClosedValue, OptionalEval}
 use Rattle.bpaf_exact.specs.Wrappers.{optional_some, optional_none, optional_err, optional_memory}
@@ -21,8 +20,7 @@ use Rattle.bpaf_exact.specs.Wrappers.{catch_other, FallbackEval, fallback_ok, fa
 use Rattle.bpaf_exact.specs.Wrappers.{fallback_no, fallback_memory, fallback_err, FallbackValue}
 use Rattle.bpaf_exact.specs.Wrappers.{own_value, kept_value}
 use Rattle.bpaf_exact.proofs.Product.{steady_refl}
-use Rattle.bpaf_exact.proofs.Counts.{open_present}
-use Rattle.bpaf_exact.proofs.Repeat.{any_some, same_takes}
+use Rattle.bpaf_exact.proofs.Repeat.{any_some, same_takes, same_count, no_stop}
 
 -- of no piece none is taken
 front_nil : (k : FieldKind) → front k [] ≡ []
@@ -44,8 +42,7 @@ nil_front OneWord (o ∷ os) e = absurd cc
 nil_front EachWord os e = e
 
 -- outer closures
-module _ (A B : Type 0) (inner : Outcome A)
-    (k : FieldKind) (q : Roles) (value : List LinePiece → A → Type 0)
+module _ (A B : Type 0) (inner : Outcome A) (k : FieldKind) (q : Roles) (value : List LinePiece → A → Type 0)
     (l : FieldLaw A inner k q value) (f : Closure A B)
     (agrees : (os : List LinePiece) → AgreesOn (value os) f) (c : ErrorClass) where
   -- a value that the closure gave
@@ -79,8 +76,7 @@ module _ (A B : Type 0) (inner : Outcome A)
   pub closed_law : FieldLaw B (ClosedEval A B inner f c) k q (ClosedValue A B value f)
   closed_law = record { own = l.own; ok = closed_ok; answers = closed_answers }
 
-module _ (T : Type 0) (inner : Outcome T)
-    (k : FieldKind) (q : Roles) (group : Groups T) (gap : Gap T)
+module _ (T : Type 0) (inner : Outcome T) (k : FieldKind) (q : Roles) (group : Groups T) (gap : Gap T)
     (l : SingleLaw T inner k q group gap) where
   -- the value of a single field: of a group, or the absent one
   data SingleView (os : List LinePiece) (v : T) : Type 0 where
@@ -103,8 +99,7 @@ module _ (T : Type 0) (inner : Outcome T)
   nothing_left os ps e h = h ∙ sym (ap (back k) e ∙ back_nil k)
 
   -- what was taken is the front
-  took_read : (z : FieldKind) (s t : Situation) (v : T) → ReadsWords z group
-      → LeavesNone z q (cells t)
+  took_read : (z : FieldKind) (s t : Situation) (v : T) → ReadsWords z group → LeavesNone z q (cells t)
       → (Readable z group (pieces q (cells t)) → group (pieces q (cells s)) v (pieces q (cells t)))
       → group (front z (pieces q (cells s))) v []
       × (pieces q (cells t) ≡ back z (pieces q (cells s)))
@@ -128,24 +123,22 @@ module _ (T : Type 0) (inner : Outcome T)
         rest =
             λ n. nothing_left _ _ p (ap (pieces q) same ∙ p);
       }
-  single_took s t v (took st ta ne up down) = record {
-    steady = st;
-    takes = any_some q ta;
-    read = λ n. of_group (took_read k s t v l.words n up).0;
-    rest = λ n. (took_read k s t v l.words n up).1;
+  single_took s t v (took h) = record {
+    steady = h.steady;
+    takes = any_some q h.takes;
+    read = λ n. of_group (took_read k s t v l.words n h.read).0;
+    rest = λ n. (took_read k s t v l.words n h.read).1;
   }
 
   -- what the front means the pieces mean
-  of_front : (z : FieldKind) (os : List LinePiece) (v : T) → ReadsWords z group
-      → group (front z os) v []
+  of_front : (z : FieldKind) (os : List LinePiece) (v : T) → ReadsWords z group → group (front z os) v []
       → group os v (back z os)
   of_front ByName os v u g = g
   of_front OneWord os v u g = u.of_front os v g
   of_front EachWord os v u g = absurd u
 
   -- and the other way
-  to_front : (z : FieldKind) (os : List LinePiece) (v : T) → ReadsWords z group
-      → group os v (back z os)
+  to_front : (z : FieldKind) (os : List LinePiece) (v : T) → ReadsWords z group → group os v (back z os)
       → group (front z os) v []
   to_front ByName os v u g = g
   to_front OneWord os v u g = (u.by_front os v (back OneWord os) g).0
@@ -163,9 +156,10 @@ module _ (T : Type 0) (inner : Outcome T)
   ok_gives s t v w (gave_absent h p ab same st) (view_group g) = absurd (not_empty _ w p g)
   ok_gives s t v w (gave_absent h p ab same st) (view_gap e a) =
       (nothing_read _ v p ab, nothing_left _ _ p (ap (pieces q) same ∙ p))
-  ok_gives s t v w (took st ta ne up down) (view_group g) =
-      let d = down w _ (of_front k _ w l.words g) in (of_group (to_front k _ v l.words d.0), d.1)
-  ok_gives s t v w (took st ta ne up down) (view_gap e a) = absurd (ne (nil_front k _ e))
+  ok_gives s t v w (took h) (view_group g) =
+      let d = h.readable w _ (of_front k _ w l.words g) in
+      (of_group (to_front k _ v l.words d.0), d.1)
+  ok_gives s t v w (took h) (view_gap e a) = absurd (h.found (nil_front k _ e))
 
   -- and a refusal is want of memory
   err_gives : (s t : Situation) (e : Error) (w : T) → SingleErr T k q group gap s e t
@@ -196,12 +190,6 @@ module _ (T : Type 0) (inner : Outcome T)
   }
 
   -- optional
-
-  -- a turn doesn't stop at other refusals
-  no_stop : (s m : Situation) (e : Error) (c : ErrorClass) → Stops e s m → class e ≡ c
-      → (c ≡ OfMissing → ⊥) → (c ≡ Caught → ⊥) → ⊥
-  no_stop s m e c (nothing_found h n) g a b = a (sym g ∙ h)
-  no_stop s m e c (caught h) g a b = b (sym g ∙ h)
 
   -- where it stops there is no piece
   stop_missing : (s m : Situation) (e : Error) → Stops e s m → SingleErr T k q group gap s e m
@@ -244,11 +232,6 @@ module _ (T : Type 0) (inner : Outcome T)
   optional_view os v (some_value {v = x} g) = view_some x refl g
   optional_view os v (no_value h) = view_none refl refl h
 
-  -- where the cells are the same as many items are present
-  same_count : (s m : Situation) → IsWhole s → Steady s m → cells m ≡ cells s
-      → open_count m ≡ open_count s
-  same_count s m w st e = open_present m ∙ (ap present_count e ∙ sym (open_present s))
-
   -- where the share has a value, Some is right
   some_gives : (s t : Situation) (x : T) (v : Option T) → IsWhole s → inner s (Ok x) t
       → SingleOk T k q group gap s x t → OptionalView (front k (pieces q (cells s))) v
@@ -257,7 +240,7 @@ module _ (T : Type 0) (inner : Outcome T)
   some_gives s t x v w i o (view_some y e g) = let a = single_answers s t (Ok x) y w i g in
       (some_value a.0, a.1)
   some_gives s t x v w i (gave_absent h p ab same st) (view_none e n b) = absurd cc
-  some_gives s t x v w i (took st ta ne up down) (view_none e n b) = absurd (ne (nil_front k _ e))
+  some_gives s t x v w i (took h) (view_none e n b) = absurd (h.found (nil_front k _ e))
 
   -- and where it has none None is
   none_gives : (s m : Situation) (e : Error) (v : Option T) → Stops e s m
@@ -284,7 +267,7 @@ module _ (T : Type 0) (inner : Outcome T)
       → class e ≡ OfMemory
   none_fails s t e w n p b (of_memory c) = c
   none_fails s t e w n p b (of_missing c g p' same st) =
-      absurd (n (nothing_found c (same_count s t w st same)))
+      absurd (n (nothing_found c (same_count s t same)))
   none_fails s t e w n p b (of_absent c g p' x) = absurd cc
   none_fails s t e w n p b (of_piece c ne x) = absurd (ne (nil_front k _ p))
 
@@ -355,15 +338,14 @@ module _ (T : Type 0) (inner : Outcome T)
       view_own : SingleValue T group gap os v → FallbackView os v
       view_kept : os ≡ [] → gap.has ≡ false → f.yes tt v → FallbackView os v
 
-    fallback_view : (os : List LinePiece) (v : T) → FallbackValue T group gap f os v
-        → FallbackView os v
+    fallback_view : (os : List LinePiece) (v : T) → FallbackValue T group gap f os v → FallbackView os v
     fallback_view os v (own_value g) = view_own g
     fallback_view os v (kept_value h y) = view_kept refl h y
 
     kept_ok : (s t : Situation) (v : T) → front k (pieces q (cells s)) ≡ [] → gap.has ≡ false
         → SingleOk T k q group gap s v t → ⊥
     kept_ok s t v e h (gave_absent g p ab same st) = cc
-    kept_ok s t v e h (took st ta ne up down) = ne (nil_front k _ e)
+    kept_ok s t v e h (took g) = g.found (nil_front k _ e)
 
     own_missing : (s : Situation) (v : T) → (gap.has ≡ false) × (pieces q (cells s) ≡ [])
         → SingleView (front k (pieces q (cells s))) v → ⊥

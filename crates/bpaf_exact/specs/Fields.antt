@@ -49,25 +49,25 @@ words_behind_field _ os = os
 
 -- A positional field of a record: its value is that of the words which the fields before it leave, of
 -- those that belong to no key.
-pub record ReadsWords (V A : Type 0) (r : Roles) (value : List LinePiece → V → Type 0)
-    (k : FieldKind)
-    (rest : List LinePiece → List LinePiece) (own : List LinePiece → A → Type 0)
-    (of : V → A) : Type 0 where
+pub record ReadsWords (V A : Type 0) (r : Roles) (value : List LinePiece → V → Type 0) (k : FieldKind)
+    (rest : List LinePiece → List LinePiece) (own : List LinePiece → A → Type 0) (of : V → A) : Type 0 where
   pub read : (os : List LinePiece) (v : V) → value os v → own (front k (rest (others r os))) (of v)
 
+-- what is said of positional fields alone
+abbrev pub OfWords : FieldKind → Type 0 → Type 0
+OfWords ByName said = Unit {0}
+OfWords OneWord said = said
+OfWords EachWord said = said
+
 -- a record has such a field, of this form
-abbrev pub WordsBy : {V A : Type 0} → FlatForm A → (List LinePiece → List LinePiece) → FlatForm V
-    → (V → A)
+abbrev pub WordsBy : {V A : Type 0} → FlatForm A → (List LinePiece → List LinePiece) → FlatForm V → (V → A)
     → Type 0
-WordsBy {V = V} {A = A} (complete OneWord q own) rest (product r fields) of =
-    ReadsWords V A r fields.value OneWord rest own of
-WordsBy {V = V} {A = A} (complete EachWord q own) rest (product r fields) of =
-    ReadsWords V A r fields.value EachWord rest own of
+WordsBy {V = V} {A = A} (complete k q own) rest (product r fields) of =
+    OfWords k (ReadsWords V A r fields.value k rest own of)
 WordsBy _ rest _ of = Unit {0}
 
 -- a form is that of a positional field, whose value is so read off that of the whole
-pub record IsWordsOf {V A : Type 0} (a : FlatForm A) (rest : List LinePiece → List LinePiece)
-    (s : FlatForm V)
+pub record IsWordsOf {V A : Type 0} (a : FlatForm A) (rest : List LinePiece → List LinePiece) (s : FlatForm V)
     (of : V → A) : Type 0 where
   pub by : WordsBy a rest s of
 
@@ -150,8 +150,7 @@ word_texts (One w ∷ os) = item_text w ∷ word_texts os
 word_texts (Two k w ∷ os) = word_texts os
 
 -- the value of a positional field without a repeat is what the first of the words means
-pub record IsFirstWord (T : Type 0) (means : List ℕ → T → Type 0) (os : List LinePiece)
-    (v : T) : Type 0
+pub record IsFirstWord (T : Type 0) (means : List ℕ → T → Type 0) (os : List LinePiece) (v : T) : Type 0
   where
     pub word : Arg
     pub more : List LinePiece

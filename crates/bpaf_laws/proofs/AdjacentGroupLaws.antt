@@ -1,10 +1,10 @@
 -- Adjacent groups keep to the laws where their products do.
 use Rattle.std.specs.Prelude.{IfOk, ◌≡◌, ℕ, ◌<◌, ◌≤◌, Bool, true, false, not, ◌&&◌, nat_le, nat_lt, Result, Ok, Err, Option, Some, None, if◌then◌else◌, refl}
 use Rattle.std.proofs.Common.{sym, subst, ◌∙◌, ◌+◌, arith, true≢false}
-use Rattle.std.proofs.lemmas.Bool.Decides.{nat_tests}
+use Rattle.std.proofs.lemmas.Bool.{and_parts}
 use Rattle.bpaf_doc.specs.Shape.{Part}
 use Rattle.bpaf_line.specs.declared.error.Error.{Error}
-use Rattle.bpaf_line.specs.Situation.{Situation, is_taken, is_open, in_scope, with_scope}
+use Rattle.bpaf_line.specs.Situation.{Situation, is_taken, is_open, with_scope}
 use Rattle.bpaf_line.proofs.Places.{open_in_scope, open_not_taken}
 use Rattle.bpaf_laws.specs.Reading.{Readings, Outcome, Share, IsEmptyShare, HasPlace}
 use Rattle.bpaf_laws.specs.Laws.{Keeps, Reads, Lawful, newly}
@@ -16,16 +16,8 @@ use Rattle.bpaf_laws.specs.AdjacentGroup.{TriesAt, skipped, failed, found, no_me
 use Rattle.bpaf_laws.specs.AdjacentGroup.{Searches, over, on, value, wanted, GroupOutcome, EndsWith, place_count}
 use Rattle.bpaf_laws.specs.Counting.{taken_count}
 use Rattle.bpaf_laws.proofs.Keeping.{keeps_of, keeps_refl, keeps_same, keeps_trans, keeps_scope}
+use Rattle.bpaf_laws.proofs.OneStretch.{between, new_in_stretch, keeps_stretch}
 use Rattle.bpaf_laws.proofs.Sparing.{not_both}
-
--- a place of a range lies in it
-in_range : (a b p : ℕ) → (nat_le a p && nat_lt p b) ≡ true → (a ≤ p) × (p < b)
-in_range a b p within = grind (arith, nat_tests)
-
--- at one place: what is present in a scope lies in it
-scope_of : (x y : Bool) → (x && not y) ≡ true → x ≡ true
-scope_of true y h = refl
-scope_of false y h = h
 
 -- at one place: what isn't present in a scope in which it lies is taken
 taken_of : (x y : Bool) → (x && not y) ≡ false → x ≡ true → y ≡ true
@@ -33,27 +25,9 @@ taken_of true true h e = refl
 taken_of true false h e = cc
 taken_of false y h e = cc
 
--- at one place: what is newly taken is a range, where that is taken and wasn't, and nothing else is
--- newly taken
-new_in_range : (x y z : Bool) → (z ≡ true → (x ≡ true) × (y ≡ false))
-    → ((x && not y) ≡ true → z ≡ true) → (x && not y) ≡ z
-new_in_range true true true f g = let h : true ≡ false = (f refl).1 in cc
-new_in_range true true false f g = refl
-new_in_range true false z f g = sym (g refl)
-new_in_range false y true f g = let h : false ≡ true = (f refl).0 in cc
-new_in_range false y false f g = refl
-
 -- places that are present in scope
 abbrev AllOpen : Situation → ℕ → ℕ → Type 0
 AllOpen s a b = (p : ℕ) → a ≤ p → p < b → is_open s p ≡ true
-
--- as a scope they keep all
-keeps_open : (s : Situation) (a b : ℕ) → AllOpen s a b → Keeps s (with_scope s a b)
-keeps_open s a b all =
-    keeps_scope s s a b (keeps_refl s)
-    (λ p within.
-    let inside = in_range a b p within in
-    scope_of (in_scope s p) (is_taken s p) (all p inside.0 inside.1))
 
 -- each place up to the end of an attempt is present before it
 pub narrowed_open : {T : Type 0} (inner : Outcome T) (s : Situation) (a b : ℕ)
@@ -70,7 +44,7 @@ module _ {T : Type 0} {inner : Outcome T} {reads : Readings T} (law : Lawful T i
   attempt_keeps : (a b : ℕ) (r : Result T Error) (t : Situation) → Narrowed T inner s a b
       → inner (with_scope s a b) r t → Keeps s t
   attempt_keeps a b r t narrowed ran =
-      keeps_trans s (with_scope s a b) t (keeps_open s a b (narrowed_open inner s a b narrowed).1)
+      keeps_trans s (with_scope s a b) t (keeps_stretch s a b (narrowed_open inner s a b narrowed).1)
       (keeps_of law (with_scope s a b) r t ran)
 
   -- so do the attempts from a place on
@@ -97,13 +71,13 @@ module _ {T : Type 0} {inner : Outcome T} {reads : Readings T} (law : Lawful T i
             to = stop;
             is = λ p.
                 let range = nat_le a p && nat_lt p stop in
-                new_in_range (is_taken left p) (is_taken s p) range
+                new_in_stretch (is_taken left p) (is_taken s p) range
                 (λ within.
-                let inside = in_range a stop p within in (
+                let inside = between a stop p within in (
                   taken_of range (is_taken left p) (none p inside.0) within,
                   open_not_taken s p (opened.1 p inside.0 inside.1),
                 ))
-                (λ new. scope_of range (is_taken s p) (read.keeps.fresh p new));
+                (λ new. (and_parts range (not (is_taken s p)) (read.keeps.fresh p new)).0);
           };
         };
       }

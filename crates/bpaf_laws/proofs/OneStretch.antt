@@ -1,6 +1,7 @@
 -- What a parser takes that reads a stretch of present places, and leaves none of them.
 use Rattle.std.proofs.Common.{◌≡◌, ℕ, ◌<◌, ◌≤◌, Bool, true, false, not, ◌&&◌, nat_le, nat_lt}
 use Rattle.std.proofs.Common.{refl, sym, arith}
+use Rattle.std.proofs.lemmas.Bool.{and_parts}
 use Rattle.std.proofs.lemmas.Bool.Decides.{nat_tests}
 use Rattle.bpaf_line.specs.Situation.{Situation, in_scope, is_open, is_taken, open_count}
 use Rattle.bpaf_line.specs.Situation.{with_scope}
@@ -10,7 +11,7 @@ use Rattle.bpaf_laws.proofs.CommandLaws.{leaves_nothing}
 use Rattle.bpaf_laws.proofs.Keeping.{keeps_refl, keeps_scope}
 
 -- at one place: what is newly taken is what lies in the stretch
-new_in_stretch : (taken before inside : Bool) → (inside ≡ true → (taken ≡ true) × (before ≡ false))
+pub new_in_stretch : (taken before inside : Bool) → (inside ≡ true → (taken ≡ true) × (before ≡ false))
     → ((taken && not before) ≡ true → inside ≡ true) → (taken && not before) ≡ inside
 new_in_stretch true true true all only = let there : true ≡ false = (all refl).1 in cc
 new_in_stretch true true false all only = refl
@@ -18,26 +19,21 @@ new_in_stretch true false inside all only = sym (only refl)
 new_in_stretch false before true all only = let there : false ≡ true = (all refl).0 in cc
 new_in_stretch false before false all only = refl
 
--- at one place: the first of two that both hold
-first_of_both : (x y : Bool) → (x && y) ≡ true → x ≡ true
-first_of_both true y both = refl
-first_of_both false y both = both
+-- a place of a stretch lies between its ends
+pub between : (from end p : ℕ) → (nat_le from p && nat_lt p end) ≡ true → (from ≤ p) × (p < end)
+between from end p inside = grind (arith, nat_tests)
 
 module _ (s : Situation) (from end : ℕ)
     (present : (p : ℕ) → from ≤ p → p < end → is_open s p ≡ true) where
-  -- what lies in the stretch lies between its ends
-  between : (p : ℕ) → (nat_le from p && nat_lt p end) ≡ true → (from ≤ p) × (p < end)
-  between p inside = grind (arith, nat_tests)
-
   -- what lies in the stretch is present, and in scope
   stretch_is_open : (p : ℕ) → (nat_le from p && nat_lt p end) ≡ true → is_open s p ≡ true
-  stretch_is_open p inside = let at = between p inside in present p at.0 at.1
+  stretch_is_open p inside = let at = between from end p inside in present p at.0 at.1
 
   -- the stretch as the scope keeps all
   pub keeps_stretch : Keeps s (with_scope s from end)
   keeps_stretch =
       keeps_scope s s from end (keeps_refl s)
-      (λ p inside. first_of_both (in_scope s p) (not (is_taken s p)) (stretch_is_open p inside))
+      (λ p inside. (and_parts (in_scope s p) (not (is_taken s p)) (stretch_is_open p inside)).0)
 
   -- where nothing of the stretch is left, what is newly taken is the stretch
   pub newly_stretch : (t : Situation) → Keeps (with_scope s from end) t
@@ -50,4 +46,4 @@ module _ (s : Situation) (from end : ℕ)
         leaves_nothing (with_scope s from end) t closed none p here,
         open_not_taken s p (stretch_is_open p here),
       ))
-      (λ new. first_of_both inside (not (is_taken s p)) (keeps.fresh p new))
+      (λ new. (and_parts inside (not (is_taken s p)) (keeps.fresh p new)).0)

@@ -1,12 +1,12 @@
 -- Finding: the first key with one of some names, along the chains of those.
-use Rattle.std.proofs.Common.{◌≡◌, ℕ, ◌<◌, ◌≤◌, ◌==◌, Bool, true, false, not, ◌&&◌, ◌||◌}
+use Rattle.std.proofs.Common.{◌≡◌, ℕ, ◌<◌, ◌≤◌, ◌==◌, Bool, true, false, not, ◌||◌}
 use Rattle.std.proofs.Common.{List, [], ◌++◌, Option, Some, None, length, refl, ap, sym}
 use Rattle.std.proofs.Common.{◌∙◌, subst, arith, ⊎_elim, if◌then◌else◌, nat_lt, slice_get}
 use Rattle.std.proofs.Common.{slice_index, bytes_eq, MatchOption, take, min}
 use Rattle.std.specs.Bool.{then_some}
 use Rattle.std.specs.Option.{option_map_or}
 use Rattle.std.proofs.lemmas.Bool.{cases_lt, cases_Bool, true≢false, ltb-true, ltb-false}
-use Rattle.std.proofs.lemmas.Bool.{le-ltb, lt-leb, and_left, and_right}
+use Rattle.std.proofs.lemmas.Bool.{le-ltb, lt-leb, and_left, and_right, and_parts}
 use Rattle.std.proofs.lemmas.List.{get_or-map, get_or-take, length-take-le}
 use Rattle.std.proofs.lemmas.List.Folds.{list_any-append}
 use Rattle.std.proofs.lemmas.Option.{get_or_from_slice_get}
@@ -158,17 +158,14 @@ among_more test names one s end p next old new = record {
       ∙ new.none q item before there passes);
 }
 
--- the first of two that both hold
-first_of : (a b : Bool) → (a && b) ≡ true → a ≡ true
-first_of true b e = refl
-first_of false b e = e
-
 -- a key with one of the names has one of the short ones or one of the long ones
 key_named : (names : Names) (adjacent : Bool) (item : Arg) → is_argument_key names adjacent item
     ≡ true → is_key_of (record { shorts = names.shorts; longs = [] }) item ≡ false
     → is_key_of (record { shorts = []; longs = names.longs }) item ≡ false → true ≡ false
-key_named names adjacent (Short c attached word) key short long = sym (first_of _ _ key) ∙ short
-key_named names adjacent (Long name attached word) key short long = sym (first_of _ _ key) ∙ long
+key_named names adjacent (Short c attached word) key short long =
+    sym (and_parts _ _ key).0 ∙ short
+key_named names adjacent (Long name attached word) key short long =
+    sym (and_parts _ _ key).0 ∙ long
 key_named names adjacent (ArgWord text) key short long = sym key
 key_named names adjacent (Word text) key short long = sym key
 key_named names adjacent (PosWord text) key short long = sym key

@@ -6,8 +6,8 @@ use Rattle.std.proofs.lemmas.Bool.{cases_lt, true≢false}
 use Rattle.std.proofs.lemmas.Bool.Decides.{nat_tests}
 use Rattle.std.specs.List.{range_with_len}
 use Rattle.std.specs.Prelude.{cond}
-use Rattle.bpaf_line.specs.Within.{first_present, IsFirstPresentWithin}
-use Rattle.bpaf_line.specs.Situation.{Situation, is_taken}
+use Rattle.bpaf_line.specs.Within.{first_present}
+use Rattle.bpaf_line.specs.Situation.{Situation, is_taken, IsFirstPresentWithin}
 
 -- no number of a row passes a test
 none_found :
@@ -79,4 +79,4 @@ pub some_present :
     → first_present s low high ≡ Some p
 some_present s low high top p is below first =
     first_found (λ q. not (is_taken s q)) (high - low) low p first.from (omega arith)
-    (ap not (first.present below)) (λ q from before. ap not (first.taken q from before))
+    (ap not (first.present below)) (λ q from before. ap not (first.passed q from before))

@@ -6,7 +6,8 @@ use Rattle.std.proofs.Common.{sym, ◌∙◌, subst, arith, if◌then◌else◌,
 use Rattle.std.proofs.Common.{slice_index, add-one, min}
 use Rattle.std.specs.Int.{from_bool}
 use Rattle.std.proofs.lemmas.Bool.{cases_lt, cases_eq, eq-eqb, ne_eqb, or_right, and_left}
-use Rattle.std.proofs.lemmas.Bool.{and_right, and_from, cases_Bool, true≢false, le-leb, lt-ltb}
+use Rattle.std.proofs.lemmas.Bool.{and_right, and_from, and_parts, not-true, cases_Bool, true≢false}
+use Rattle.std.proofs.lemmas.Bool.{le-leb, lt-ltb}
 use Rattle.std.proofs.lemmas.Bool.Decides.{nat_tests}
 use Rattle.std.proofs.lemmas.List.{take_at, take-take, take-append-le, get_or_push}
 use Rattle.std.proofs.lemmas.List.{get_or_append_left, get_or-take, length_push, length-take-le}
@@ -29,12 +30,8 @@ open_in_line s p there = grind (arith, nat_tests)
 
 -- and is not taken
 pub open_not_taken : (s : Situation) (p : ℕ) → is_open s p ≡ true → is_taken s p ≡ false
-open_not_taken s p there = of_and (in_scope s p) (is_taken s p) there
-  where
-    of_and : (x y : Bool) → (x && not y) ≡ true → y ≡ false
-    of_and true true h = cc
-    of_and true false h = refl
-    of_and false y h = cc
+open_not_taken s p there =
+    not-true (is_taken s p) (and_parts (in_scope s p) (not (is_taken s p)) there).1
 
 -- the situation with one place more on the trail
 abbrev pub put : Situation → ℕ → Situation

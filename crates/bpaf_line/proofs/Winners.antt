@@ -3,7 +3,8 @@ use Rattle.std.proofs.Common.{◌≡◌, ◌≢◌, ℕ, zero, suc, ◌*◌, ◌
 use Rattle.std.proofs.Common.{◌&&◌, ◌||◌, List, [], ◌∷◌, ◌++◌, Option, Some, None, length, take}
 use Rattle.std.proofs.Common.{drop, refl, ap, sym, ◌∙◌, subst, arith, ⊎_elim, nat_lt, slice_index}
 use Rattle.std.proofs.Common.{add-one, if◌then◌else◌, true≢false, Result, Ok, Err, OnOk}
-use Rattle.std.proofs.lemmas.Bool.{cases_eq, ne_eqb, eq-eqb, or_right, ltb-true, ltb-false}
+use Rattle.std.proofs.lemmas.Bool.{cases_eq, ne_eqb, eq-eqb, not-true, and_parts, or_right}
+use Rattle.std.proofs.lemmas.Bool.{or_from, ltb-true, ltb-false}
 use Rattle.std.proofs.lemmas.List.{take_more, take_all, take-append-drop}
 use Rattle.std.proofs.lemmas.List.Folds.{list_any-append}
 use Rattle.bpaf_line.specs.declared.mark.Mark.{Mark}
@@ -115,56 +116,32 @@ module _ (s : Situation) (mark : Mark) (steps : Changes) where
         same_in base true false e f = absurd (true≢false e)
         same_in base false true e f = absurd (true≢false f)
 
+    -- what only one of two trails from there has is taken with it alone
+    only_one : (own others : List ℕ) → PresentInTurn (undone mark s) own → (q : ℕ)
+        → is_in_first own others q ≡ true
+        → ((is_taken (undone mark s) q || is_on own q) ≡ true)
+        × ((is_taken (undone mark s) q || is_on others q) ≡ false)
+    only_one own others turn q alone =
+        let parts = and_parts (is_on own q) (not (is_on others q)) alone in
+        let free = present_all (undone mark s) own turn q parts.0 in (
+          or_right (is_taken (undone mark s) q) (is_on own q) parts.0,
+          or_from (is_taken (undone mark s) q) (is_on others q) free
+              (not-true (is_on others q) parts.1),
+        )
+
     -- what only this one took is taken in it alone
     only_here : (q : ℕ) → is_in_first (drop mark.taken s.trail) steps.taken q ≡ true
         → (is_taken s q ≡ true) × (is_taken (redone steps (undone mark s)) q ≡ false)
     only_here q alone =
-        let parts = both_of (is_on (drop mark.taken s.trail) q) (is_on steps.taken q) alone in
-        let free = present_all (undone mark s) (drop mark.taken s.trail) turns q parts.0 in (
-          taken_own q ∙ by_second (is_taken (undone mark s) q) (is_on (drop mark.taken s.trail) q)
-              parts.0,
-          taken_there q ∙ by_none (is_taken (undone mark s) q) (is_on steps.taken q) free
-              parts.1,
-        )
-      where
-        both_of : (a b : Bool) → (a && not b) ≡ true → (a ≡ true) × (b ≡ false)
-        both_of true false e = (refl, refl)
-        both_of true true e = absurd (true≢false (sym e))
-        both_of false b e = absurd (true≢false (sym e))
-
-        by_second : (a b : Bool) → b ≡ true → (a || b) ≡ true
-        by_second true b e = refl
-        by_second false b e = e
-
-        by_none : (a b : Bool) → a ≡ false → b ≡ false → (a || b) ≡ false
-        by_none false b e f = f
-        by_none true b e f = e
+        let parts = only_one (drop mark.taken s.trail) steps.taken turns q alone in
+        (taken_own q ∙ parts.0, taken_there q ∙ parts.1)
 
     -- what only the steps took is taken there alone
     only_there : (q : ℕ) → is_in_first steps.taken (drop mark.taken s.trail) q ≡ true
         → (is_taken s q ≡ false) × (is_taken (redone steps (undone mark s)) q ≡ true)
     only_there q alone =
-        let parts = both_of (is_on steps.taken q) (is_on (drop mark.taken s.trail) q) alone in
-        let free = present_all (undone mark s) steps.taken redo.present q parts.0 in (
-          taken_own q ∙ by_none (is_taken (undone mark s) q)
-              (is_on (drop mark.taken s.trail) q) free
-              parts.1,
-          taken_there q ∙ by_second (is_taken (undone mark s) q) (is_on steps.taken q)
-              parts.0,
-        )
-      where
-        both_of : (a b : Bool) → (a && not b) ≡ true → (a ≡ true) × (b ≡ false)
-        both_of true false e = (refl, refl)
-        both_of true true e = absurd (true≢false (sym e))
-        both_of false b e = absurd (true≢false (sym e))
-
-        by_second : (a b : Bool) → b ≡ true → (a || b) ≡ true
-        by_second true b e = refl
-        by_second false b e = e
-
-        by_none : (a b : Bool) → a ≡ false → b ≡ false → (a || b) ≡ false
-        by_none false b e f = f
-        by_none true b e f = e
+        let parts = only_one steps.taken (drop mark.taken s.trail) redo.present q alone in
+        (taken_own q ∙ parts.1, taken_there q ∙ parts.0)
 
     -- the leftmost is the leftmost of the first of either's own places
     leftmost_here : (p : ℕ) → is_in_first (drop mark.taken s.trail) steps.taken p ≡ true

@@ -135,12 +135,16 @@ PresentInTurn s places =
     (n : ℕ) → n < length places
     → is_taken (with_trail s (s.trail ++ take n places)) (slice_index places n) ≡ false
 
+-- the first present place from one on, below another; that other one, where there is none
+pub record IsFirstPresentWithin (s : Situation) (low high p : ℕ) : Type 0 where
+  pub from : low ≤ p
+  pub within : p ≤ high
+  pub present : p < high → is_taken s p ≡ false
+  pub passed : (q : ℕ) → low ≤ q → q < p → is_taken s q ≡ true
+
 -- the first place that is present in scope; the scope's end, where there is none
-pub record IsFirstPresent (s : Situation) (p : ℕ) : Type 0 where
-  pub from : s.start ≤ p
-  pub within : p ≤ s.end
-  pub present : p < s.end → is_taken s p ≡ false
-  pub passed : (q : ℕ) → s.start ≤ q → q < p → is_taken s q ≡ true
+abbrev pub IsFirstPresent : Situation → ℕ → Type 0
+IsFirstPresent s p = IsFirstPresentWithin s s.start s.end p
 
 -- the first place from one on that is present and in scope
 pub record IsNextOpen (s : Situation) (low p : ℕ) : Type 0 where

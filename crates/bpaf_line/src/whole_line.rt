@@ -1,7 +1,7 @@
 //! Places of the whole line, in scope or not.
 ghost use Rattle.std.specs.Prelude.{◌≡◌, ◌≤◌, length, option_copied};
-ghost use Rattle.bpaf_line.specs.Situation.{line_item};
-ghost use Rattle.bpaf_line.specs.Within.{first_present, IsFirstPresentWithin};
+ghost use Rattle.bpaf_line.specs.Situation.{line_item, IsFirstPresentWithin};
+ghost use Rattle.bpaf_line.specs.Within.{first_present};
 
 use crate::bits;
 use crate::state::State;

@@ -1,13 +1,13 @@
 -- What the combinators make of a form.
-use Rattle.std.proofs.Common.{◌≡◌, Bool, true, false, List, ◌&&◌, if◌then◌else◌, refl}
+use Rattle.std.proofs.Common.{◌≡◌, Bool, true, false, List, ◌&&◌, refl}
 use Rattle.bpaf_exact.specs.Flat.{ByName, OneWord, EachWord}
 use Rattle.bpaf_exact.specs.FlatForm.{FlatForm, not_flat, alternative, single, complete, product}
 use Rattle.bpaf_exact.specs.FlatForm.{flat_closed, flat_dressed, flat_repeat, flat_last}
 use Rattle.bpaf_exact.specs.FlatForm.{flat_optional}
 use Rattle.bpaf_exact.specs.FlatForm.{flat_fallback, unless, is_record}
 use Rattle.bpaf_exact.specs.Wrappers.{Closure}
-use Rattle.bpaf_record.specs.Form.{form_of, closed_form, completed_form, is_record_form}
-use Rattle.bpaf_record.specs.declared.form.Form.TheVariants.{NotFlat}
+use Rattle.bpaf_record.specs.Form.{form_of, closed_form, completed_form, unless_form}
+use Rattle.bpaf_record.specs.Form.{is_record_form}
 
 -- a closure
 pub closed_is : {A B : Type 0} (f : Closure A B) (s : FlatForm A)
@@ -60,7 +60,7 @@ last_is (complete EachWord q value) = refl
 last_is (product q fields) = refl
 
 -- optional
-pub optional_is : {T : Type 0} (s : FlatForm T)
+optional_is : {T : Type 0} (s : FlatForm T)
     → completed_form (form_of s) ≡ form_of (flat_optional s)
 optional_is not_flat = refl
 optional_is (alternative q value) = refl
@@ -85,11 +85,18 @@ fallback_is f (complete OneWord q value) = refl
 fallback_is f (complete EachWord q value) = refl
 fallback_is f (product q fields) = refl
 
--- `catch`
-pub caught_is : {T : Type 0} (catch : Bool) (s : FlatForm T)
-    → (if catch then NotFlat else form_of s) ≡ form_of (unless catch s)
-caught_is true s = refl
-caught_is false s = refl
+-- a repeat that may catch
+pub listed_unless : {T B : Type 0} (catch : Bool) (f : Closure (List T) B) (s : FlatForm T)
+    → unless_form catch (completed_form (form_of s))
+    ≡ form_of (unless catch (flat_closed f (flat_repeat s)))
+listed_unless true f s = refl
+listed_unless false f s = listed_is f s
+
+-- an optional one
+pub optional_unless : {T : Type 0} (catch : Bool) (s : FlatForm T)
+    → unless_form catch (completed_form (form_of s)) ≡ form_of (unless catch (flat_optional s))
+optional_unless true s = refl
+optional_unless false s = optional_is s
 
 -- one test alone
 pub and_true : (b : Bool) → b ≡ (b && true)

@@ -1,5 +1,6 @@
 -- Each answer that the table of a run allows to a flat record is exact.
-use Rattle.std.proofs.Common.{◌≡◌, ℕ, Bool, true, false, ◌&&◌, List, Some, None, Result, Ok, Err, IfOk, All, IsUtf8, refl, ap, subst, arith}
+use Rattle.std.proofs.Common.{◌≡◌, ℕ, true, List, Some, None, Result, Ok, Err, IfOk, All, IsUtf8, refl, ap, subst, arith}
+use Rattle.std.proofs.lemmas.Bool.{and_parts}
 use Rattle.bpaf_doc.specs.Names.{Names}
 use Rattle.bpaf_doc.specs.Shape.{Shape}
 use Rattle.bpaf_words.specs.Arguments.{Given}
@@ -172,8 +173,4 @@ module _ (T : Type 0) (outcome : Outcome T) (describes : Shape → Type 0) (info
 
 -- options that are a flat record have a parser that is one
 pub is_flat_form : {T : Type 0} (form : FlatForm T) (names : List Names) (info : RunInfo) → is_flat_record form names info ≡ true → is_record form ≡ true
-is_flat_form form names info e = both_left (is_record form) _ e
-  where
-    both_left : (a b : Bool) → (a && b) ≡ true → a ≡ true
-    both_left true b h = refl
-    both_left false b h = h
+is_flat_form form names info e = (and_parts (is_record form) _ e).0

@@ -50,6 +50,11 @@ completed_form Named = NamedComplete
 completed_form Word = WordComplete
 completed_form _ = NotFlat
 
+-- with one that may catch, and then is no flat field
+abbrev pub unless_form : Bool → Form → Form
+unless_form true form = NotFlat
+unless_form false form = form
+
 -- as a field of a product
 abbrev pub field_form : Form → Form
 field_form Alternative = NamedComplete

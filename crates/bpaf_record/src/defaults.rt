@@ -25,12 +25,9 @@ impl<T: Drop, P: FlatField<T>> FlatField<Option<T>> for ParseOptional<P> {
 
     ghost agrees = { λ p. P.agrees p.inner };
 
-    #[tactic(auto, using(crate::proofs::Forms::optional_is, crate::proofs::Forms::caught_is))]
+    #[tactic(auto, using(crate::proofs::Forms::optional_unless))]
     fn form(&self) -> Form {
-        if self.catch {
-            return Form::NotFlat;
-        }
-        self.inner.form().completed()
+        self.inner.form().completed_unless(self.catch)
     }
 
     ghost flat = { λ p a. optional_field_law T (P.outcome p.inner) p.catch (P.keys p.inner)

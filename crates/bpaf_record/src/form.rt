@@ -1,7 +1,7 @@
 //! What kind of field a parser is, as far as a flat record goes.
 ghost use Rattle.std.specs.Prelude.{◌≡◌};
 ghost use Rattle.bpaf_record.specs.Form.{closed_form, joined_form, completed_form, field_form};
-ghost use Rattle.bpaf_record.specs.Form.{alternative_form, alone_form, before_form};
+ghost use Rattle.bpaf_record.specs.Form.{alternative_form, alone_form, before_form, unless_form};
 ghost use Rattle.bpaf_record.specs.Form.{made_form, is_record_form};
 
 /// What a parser is to a flat record.
@@ -62,6 +62,17 @@ impl Form {
             Form::Alternative | Form::Named => Form::NamedComplete,
             Form::Word => Form::WordComplete,
             _ => Form::NotFlat,
+        }
+    }
+
+    /// With a repeat or a default that may catch, and then is no flat field.
+    pub(crate) fn completed_unless(self, catch: bool) -> Form
+        ensures { result ≡ unless_form catch (completed_form self) }
+    {
+        if catch {
+            Form::NotFlat
+        } else {
+            self.completed()
         }
     }
 

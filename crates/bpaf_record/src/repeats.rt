@@ -25,12 +25,9 @@ impl<T: Drop, P: FlatField<T>> FlatField<Vec<T>> for ParseMany<P> {
 
     ghost agrees = { λ p. P.agrees p.inner };
 
-    #[tactic(auto, using(crate::proofs::Forms::listed_is, crate::proofs::Forms::caught_is))]
+    #[tactic(auto, using(crate::proofs::Forms::listed_unless))]
     fn form(&self) -> Form {
-        if self.catch {
-            return Form::NotFlat;
-        }
-        self.inner.form().completed()
+        self.inner.form().completed_unless(self.catch)
     }
 
     ghost flat = { λ p a. many_field_law T (P.outcome p.inner) p.catch (P.keys p.inner)
@@ -57,12 +54,9 @@ impl<'m, T: Drop, P: FlatField<T>> FlatField<Vec<T>> for ParseSome<'m, P> {
 
     ghost agrees = { λ p. P.agrees p.inner };
 
-    #[tactic(auto, using(crate::proofs::Forms::listed_is, crate::proofs::Forms::caught_is))]
+    #[tactic(auto, using(crate::proofs::Forms::listed_unless))]
     fn form(&self) -> Form {
-        if self.catch {
-            return Form::NotFlat;
-        }
-        self.inner.form().completed()
+        self.inner.form().completed_unless(self.catch)
     }
 
     ghost flat = { λ p a. some_field_law T (P.outcome p.inner) p.catch p.message.now
@@ -89,12 +83,9 @@ impl<T: Drop, C: FromList<T> + Drop, P: FlatField<T>> FlatField<C> for ParseColl
 
     ghost agrees = { λ p. P.agrees p.inner };
 
-    #[tactic(auto, using(crate::proofs::Forms::listed_is, crate::proofs::Forms::caught_is))]
+    #[tactic(auto, using(crate::proofs::Forms::listed_unless))]
     fn form(&self) -> Form {
-        if self.catch {
-            return Form::NotFlat;
-        }
-        self.inner.form().completed()
+        self.inner.form().completed_unless(self.catch)
     }
 
     ghost flat = { λ p a. collect_field_law T C (P.outcome p.inner) p.catch C.fills

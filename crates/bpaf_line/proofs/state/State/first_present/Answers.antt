@@ -21,4 +21,4 @@ returns-else-place-high c =
     let s = c.args.self.now in
     let top = c.min-high.result in
     sym (none_present s c.args.low c.args.high top (omega arith)
-    (λ q from below. c.present_within-place.ensures.taken q from (omega arith)))
+    (λ q from below. c.present_within-place.ensures.passed q from (omega arith)))
