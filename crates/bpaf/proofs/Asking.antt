@@ -1,6 +1,7 @@
 -- What a run shows it was asked for, or its parser hands it on.
 use Rattle.std.proofs.Common.{◌≡◌, Bool, true, false, List, [], Option, Some, None, Result, Ok}
-use Rattle.std.proofs.Common.{inl, inr, Err, refl, sym, subst, ap, ◌∙◌, ⊎_elim, true≢false, if◌then◌else◌}
+use Rattle.std.proofs.Common.{inl, inr, Err, refl, sym, subst, ap, ◌∙◌, ⊎_elim, true≢false}
+use Rattle.std.proofs.Common.{if◌then◌else◌}
 use Rattle.std.specs.Prelude.{ℕ, ◌∷◌}
 use Rattle.std.specs.Result.{IfErr}
 use Rattle.bpaf_doc.specs.declared.doc.Piece.{Piece}

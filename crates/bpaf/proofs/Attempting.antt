@@ -6,8 +6,8 @@ use Rattle.bpaf_line.proofs.Places.{open_in_scope}
 use Rattle.bpaf_laws.specs.AdjacentGroup.{Narrowed, again, Tries, answered, refused}
 use Rattle.bpaf_laws.specs.Reading.{Outcome}
 use Rattle.bpaf_laws.proofs.AdjacentGroupLaws.{narrowed_open}
-use Rattle.bpaf.specs.declared.adjacent.AttemptEnd.{AttemptEnd}
-use Rattle.bpaf.specs.declared.adjacent.AttemptEnd.TheVariants as ending
+use Rattle.bpaf.specs.declared.adjacent.attempts.AttemptEnd.{AttemptEnd}
+use Rattle.bpaf.specs.declared.adjacent.attempts.AttemptEnd.TheVariants as ending
 use Rattle.bpaf.specs.Remembering.{EndsAttempt}
 
 -- an attempt's scope lies in the line

@@ -1,6 +1,8 @@
 -- What choices and commands show is what their parsers do.
-use Rattle.std.proofs.Common.{◌≡◌, ◌⊎◌, Bool, true, false, ℕ, ◌+◌, List, Option, Some, None, Result, Ok}
-use Rattle.std.proofs.Common.{inl, inr, Err, refl, sym, subst, ap, ◌∙◌, ⊎_elim, true≢false, if◌then◌else◌}
+use Rattle.std.proofs.Common.{◌≡◌, ◌⊎◌, Bool, true, false, ℕ, ◌+◌, List, Option, Some, None, Result}
+use Rattle.std.proofs.Common.{Ok}
+use Rattle.std.proofs.Common.{inl, inr, Err, refl, sym, subst, ap, ◌∙◌, ⊎_elim, true≢false}
+use Rattle.std.proofs.Common.{if◌then◌else◌}
 use Rattle.bpaf_doc.specs.declared.doc.Piece.{Piece}
 use Rattle.bpaf_doc.specs.Shape.{Part, Shape}
 use Rattle.bpaf_line.specs.declared.error.Error.{Error}
@@ -18,7 +20,8 @@ use Rattle.bpaf_laws.specs.Laws.{Lawful}
 use Rattle.bpaf_laws.specs.Reading.{Outcome, Readings}
 use Rattle.bpaf_laws.proofs.Keeping.{keeps_refl}
 use Rattle.bpaf_laws.proofs.OneStretch.{keeps_stretch}
-use Rattle.bpaf_core.specs.Adjacent.{AdjacentOutcome, Attempt, Attempts, EitherCommandOutcome, Retry}
+use Rattle.bpaf_core.specs.Adjacent.{AdjacentOutcome, Attempt, Attempts, EitherCommandOutcome}
+use Rattle.bpaf_core.specs.Adjacent.{Retry}
 use Rattle.bpaf_core.specs.Adjacent.{failed, first_fails, no_path, nothing_left, second_fails}
 use Rattle.bpaf_core.specs.Adjacent.{unnamed, wants_memory}
 use Rattle.bpaf_core.specs.Command.{CommandOutcome, IsMissingPart, ended, missing, no_memory}
@@ -157,7 +160,8 @@ module _ (describes : Shape → Type 0) (info : RunInfo) {T : Type 0} {inner : O
         → CameTo Behind s doc full
     attempt_shows end f t run ran is =
         came_from Behind s (with_scope s from end) doc full (keeps_stretch s from end run.present)
-        (run_shows describes info law showing handed plain (with_scope s from end) t f doc full ran is)
+        (run_shows describes info law showing handed plain
+        (with_scope s from end) t f doc full ran is)
 
     -- so does what follows it
     retry_shows : (end : ℕ) (f g : Failure) (t u : Situation) → IsStretchFrom s from end
@@ -215,7 +219,10 @@ module _ (describes : Shape → Type 0) (info : RunInfo) {T : Type 0} {inner : O
     pub command_hands_on : (adjacent : Bool)
         → HandsOn (BehindWord called Behind)
         (EitherCommandOutcome adjacent T inner Ends called shows)
-    command_hands_on true = record { all = λ s e t doc full o is. adjacent_shows s e t doc full o is }
+    command_hands_on true = record {
+      all = λ s e t doc full o is.
+          adjacent_shows s e t doc full o is;
+    }
     command_hands_on false = record { all = λ s e t doc full o is. plain_shows s e t doc full o is }
 
 -- what is shown behind a word may be shown there by what may show more

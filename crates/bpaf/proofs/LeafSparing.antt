@@ -7,7 +7,8 @@ use Rattle.bpaf_line.specs.declared.error.Error.{Error}
 use Rattle.bpaf_line.specs.declared.error.Message.{Message}
 use Rattle.bpaf_line.specs.declared.error.Message.TheVariants.{Memory, NoEnv, ParseSome, ParseFail}
 use Rattle.bpaf_line.specs.declared.error.Message.TheVariants.{PureFailed, Missing, StrictPos}
-use Rattle.bpaf_line.specs.declared.error.Message.TheVariants.{NonStrictPos, ParseFailed, GuardFailed}
+use Rattle.bpaf_line.specs.declared.error.Message.TheVariants.{NonStrictPos, ParseFailed}
+use Rattle.bpaf_line.specs.declared.error.Message.TheVariants.{GuardFailed}
 use Rattle.bpaf_line.specs.declared.error.Message.TheVariants.{NoArgument, Unconsumed, Ambiguity}
 use Rattle.bpaf_line.specs.declared.error.Message.TheVariants.{Conflict, Expected, OnlyOnce}
 use Rattle.bpaf_line.specs.declared.error.Message.TheVariants.{ParseFailure}

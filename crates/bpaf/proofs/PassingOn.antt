@@ -530,7 +530,8 @@ texts_are (text ∷ texts) (word ∷ words) all =
 -- texts that a value of a run passes on are exactly the words behind the first `--`, in order
 pub texts_passed : {T : Type 0} {inner : Outcome T} {describes : Shape → Type 0} {info : RunInfo}
     (texts : T → List (String Global))
-    → PassesOn inner (λ text word. string_bytes word ≡ text) texts → (given : Given) (v : T) → RunsWords T inner describes info given (Ok v)
+    → PassesOn inner (λ text word. string_bytes word ≡ text) texts → (given : Given) (v : T)
+    → RunsWords T inner describes info given (Ok v)
     → map string_bytes (texts v) ≡ words_behind given.words
 texts_passed texts passes given v run =
     texts_are (words_behind given.words) (texts v)

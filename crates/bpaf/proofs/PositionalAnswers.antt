@@ -1,5 +1,6 @@
 -- How the answer of a positional word is put together.
-use Rattle.std.proofs.Common.{◌≡◌, ℕ, Bool, true, false, List, Result, Ok, Err, Some, inr, ap, sym, ◌∙◌}
+use Rattle.std.proofs.Common.{◌≡◌, ℕ, Bool, true, false, List, Result, Ok, Err, Some, inr, ap, sym}
+use Rattle.std.proofs.Common.{◌∙◌}
 use Rattle.std.proofs.Common.{refl, subst, option_and_then, if◌then◌else◌}
 use Rattle.bpaf_words.specs.Items.{is_positional, word_text}
 use Rattle.bpaf_line.specs.declared.error.Error.{Error}

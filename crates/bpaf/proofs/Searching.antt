@@ -1,5 +1,7 @@
 -- How the search of an adjacent group is put together.
-use Rattle.std.proofs.Common.{◌≡◌, ℕ, ◌+◌, ◌≤◌, ◌<◌, Bool, true, false, nat_lt, if◌then◌else◌, Result, Ok, Err, MatchResult, Some, ap, subst, sym, ◌∙◌, arith, true≢false}
+use Rattle.std.proofs.Common.{◌≡◌, ℕ, ◌+◌, ◌≤◌, ◌<◌, Bool, true, false, nat_lt, if◌then◌else◌}
+use Rattle.std.proofs.Common.{Result, Ok, Err, MatchResult, Some, ap, subst, sym, ◌∙◌, arith}
+use Rattle.std.proofs.Common.{true≢false}
 use Rattle.std.proofs.lemmas.Bool.{lt-ltb}
 use Rattle.std.proofs.lemmas.Bool.Decides.{nat_tests}
 use Rattle.bpaf_line.specs.declared.error.Error.{Error}
@@ -15,7 +17,7 @@ use Rattle.bpaf_laws.specs.Reading.{Outcome, Readings}
 use Rattle.bpaf_laws.specs.Spared.{IsNotMemory}
 use Rattle.bpaf_laws.proofs.CountingLaws.{fewer_took, same_took_none, open_count-falls}
 use Rattle.bpaf_laws.proofs.Keeping.{keeps_of, keeps_scope}
-use Rattle.bpaf.specs.declared.adjacent.Remembered.{Remembered}
+use Rattle.bpaf.specs.declared.adjacent.failures.Remembered.{Remembered}
 use Rattle.bpaf.specs.Remembering.{IsRemembered, Takes, HasPlaceIf, TriesFrom, failure_of}
 
 -- at a scope of its own each place that is left outside is taken
@@ -90,7 +92,8 @@ module _ (s t : Situation) (keeps : Keeps s t) (best : Remembered) (e : Error)
       not_lt _ _ (omega arith) in
       record {
         longer =
-            sym (ap (λ more. if more then Some (record { error = e; left = t }) else failure_of s best)
+            sym (ap (λ more. if more then Some
+            (record { error = e; left = t }) else failure_of s best)
             no);
         sound = sound;
       }
@@ -130,7 +133,8 @@ now_remembered mark t m same k best e sound start stop left is_start is_stop is 
     is ∙ (ap (λ x. open_count (with_scope t x stop)) is_start
     ∙ ap (λ x. open_count (with_scope t s.start x)) is_stop) in
     let fit_here : CanRedo steps s = subst (λ x. CanRedo steps (undone mark x)) same fit in
-    let again_here : redone steps s ≡ t = subst (λ x. redone steps (undone mark x) ≡ x) same again in
+    let again_here : redone steps s ≡ t =
+    subst (λ x. redone steps (undone mark x) ≡ x) same again in
     subst (TriesFrom s best e t) (sym after_is)
     (now_longer s t k best e sound left counted steps more fit_here again_here)
 

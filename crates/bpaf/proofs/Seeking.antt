@@ -1,13 +1,16 @@
 -- How an adjacent group goes from place to place.
-use Rattle.std.proofs.Common.{◌≡◌, ℕ, ◌+◌, Result, Ok, Err, Option, Some, None, refl, ap, subst, sym, ◌∙◌, ⊎_elim, true, option_map}
+use Rattle.std.proofs.Common.{◌≡◌, ℕ, ◌+◌, Result, Ok, Err, Option, Some, None, refl, ap, subst}
+use Rattle.std.proofs.Common.{sym, ◌∙◌, ⊎_elim, true, option_map}
 use Rattle.bpaf_doc.specs.Shape.{Part}
 use Rattle.bpaf_line.specs.declared.error.Error.{Error}
 use Rattle.bpaf_line.specs.Messages.{is_memory}
 use Rattle.bpaf_line.specs.Situation.{Situation}
-use Rattle.bpaf_laws.specs.AdjacentGroup.{Failure, GroupOutcome, HasNoStart, IsGroupStart, Searches, TriesAt, place_count}
-use Rattle.bpaf_laws.specs.AdjacentGroup.{failed, found, no_memory, on, over, skipped, value, wanted}
+use Rattle.bpaf_laws.specs.AdjacentGroup.{Failure, GroupOutcome, HasNoStart, IsGroupStart, Searches}
+use Rattle.bpaf_laws.specs.AdjacentGroup.{TriesAt, place_count}
+use Rattle.bpaf_laws.specs.AdjacentGroup.{failed, found, no_memory, on, over, skipped, value}
+use Rattle.bpaf_laws.specs.AdjacentGroup.{wanted}
 use Rattle.bpaf_laws.specs.Reading.{Outcome}
-use Rattle.bpaf.specs.declared.adjacent.Remembered.{Remembered}
+use Rattle.bpaf.specs.declared.adjacent.failures.Remembered.{Remembered}
 use Rattle.bpaf.specs.Remembering.{IsEnd, failure_from, failure_of}
 
 -- what a place that gives no value leaves

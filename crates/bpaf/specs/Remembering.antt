@@ -1,5 +1,6 @@
 -- What the search of an adjacent group keeps of a failure, and what its steps answer.
-use Rattle.std.specs.Prelude.{◌≡◌, ◌⊎◌, ℕ, ◌+◌, Bool, true, false, List, Result, Ok, Err, Option, Some, None, IfSome, option_map}
+use Rattle.std.specs.Prelude.{◌≡◌, ◌⊎◌, ℕ, ◌+◌, Bool, true, false, List, Result, Ok, Err, Option}
+use Rattle.std.specs.Prelude.{Some, None, IfSome, option_map}
 use Rattle.bpaf_doc.specs.declared.item.Item.{Item}
 use Rattle.bpaf_doc.specs.Shape.{Shape, Part, part_of}
 use Rattle.bpaf_doc.specs.Walks.{first_part}
@@ -16,10 +17,10 @@ use Rattle.bpaf_laws.specs.Reading.{Outcome, Share, IsEmptyShare, HasPlace}
 use Rattle.bpaf_laws.specs.Spared.{IsNotMemory}
 use Rattle.bpaf.specs.declared.adjacent.AdjacentError.{AdjacentError}
 use Rattle.bpaf.specs.declared.adjacent.AdjacentError.TheVariants as refused
-use Rattle.bpaf.specs.declared.adjacent.AttemptEnd.{AttemptEnd}
-use Rattle.bpaf.specs.declared.adjacent.AttemptEnd.TheVariants as ending
-use Rattle.bpaf.specs.declared.adjacent.Failed.{Failed}
-use Rattle.bpaf.specs.declared.adjacent.Remembered.{Remembered}
+use Rattle.bpaf.specs.declared.adjacent.attempts.AttemptEnd.{AttemptEnd}
+use Rattle.bpaf.specs.declared.adjacent.attempts.AttemptEnd.TheVariants as ending
+use Rattle.bpaf.specs.declared.adjacent.failures.Failed.{Failed}
+use Rattle.bpaf.specs.declared.adjacent.failures.Remembered.{Remembered}
 
 -- a failure whose steps begin at a situation
 abbrev pub failure_from : Situation → Failed → Failure

@@ -68,7 +68,8 @@ module _ {T : Type 0} (clones : T → T → Type 0) (flag : ParseFlag T) (stands
   -- it reads one key
   one_key : (share : Share) (v : T) → reads_key context share v → AreKeys flag context share 1
   one_key share v (at_key key has is value) = record {
-    keys = λ p there. subst (HasItem (is_key flag) context) (sym (at_place p (sym (is p) ∙ there))) has;
+    keys = λ p there. subst (HasItem (is_key flag) context)
+        (sym (at_place p (sym (is p) ∙ there))) has;
     number =
         one_place share key (length context.line) is (item_within (is_key flag) context key has);
   }

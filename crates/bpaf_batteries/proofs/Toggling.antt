@@ -335,7 +335,8 @@ module _ {T : Type 0} (clones : T → T → Type 0) (one other : ParseFlag T)
     (keys : AreKeysApart one other) where
   -- the answers of both flags are equally deep
   same_depth : (s t : Situation) (r : Result T Error)
-      (ran : BranchesEval (KeyOutcome clones one) (KeyOutcome clones other) s r t) → depth ran.sa ≡ depth ran.sb
+      (ran : BranchesEval (KeyOutcome clones one) (KeyOutcome clones other) s r t)
+      → depth ran.sa ≡ depth ran.sb
   same_depth s t r ran =
       ran_depth clones one other s one ran.a ran.sa
       (key_ran clones one keys.one_stands s ran.sa ran.a ran.first_ran ran.first_spared)
@@ -352,7 +353,8 @@ module _ {T : Type 0} (clones : T → T → Type 0) (one other : ParseFlag T)
       (equal_depths s ran.a ran.sa ran.b ran.sb (Ok v) t (same_depth s t (Ok v) ran) ran.chosen)
 
   -- a refusal that isn't want of memory comes where there is no key
-  choice_none : (s t : Situation) (e : Error) → EitherOutcome clones one other s (Err e) t → is_memory e.0 ≡ false
+  choice_none : (s t : Situation) (e : Error) → EitherOutcome clones one other s (Err e) t
+      → is_memory e.0 ≡ false
       → HasNone (is_either one other) s
   choice_none s t e o spared = ⊎_elim
       (λ ran.
@@ -389,7 +391,8 @@ module _ {T : Type 0} (clones : T → T → Type 0) (one other : ParseFlag T)
 
   -- where a step stops there is no key
   stopped_none : (catches first : Bool) (s t : Situation)
-      → TurnOutcome (EitherOutcome clones one other) catches first s (Ok None) t → HasNone (is_either one other) s
+      → TurnOutcome (EitherOutcome clones one other) catches first s (Ok None) t
+      → HasNone (is_either one other) s
   stopped_none catches first s t o = ⊎_elim
       (λ dropped. absurd (not_dropped s t dropped.0 dropped.1 dropped.3))
       (λ stopped.
@@ -438,7 +441,8 @@ module _ {T : Type 0} (clones : T → T → Type 0) (one other : ParseFlag T)
 
   -- the last step before there is no key took the rightmost one
   last_step : (catches first : Bool) (s : Situation) (before : List T) (v : T) (t : Situation)
-      → Turns (EitherOutcome clones one other) catches first s (before ++ v ∷ []) t → HasNone (is_either one other) t
+      → Turns (EitherOutcome clones one other) catches first s (before ++ v ∷ []) t
+      → HasNone (is_either one other) t
       → RightmostGives clones one other s (Some v)
   last_step catches first s [] v t o none =
       let m = o.0 in
@@ -470,12 +474,14 @@ module _ {T : Type 0} (clones : T → T → Type 0) (one other : ParseFlag T)
       → RightmostGives clones one other s v
   last_wins catches s t values (Some v) run last =
       last_step catches true s last.0 v run.last
-      (subst (λ vs. Turns (EitherOutcome clones one other) catches true s vs run.last) last.1 run.steps)
+      (subst (λ vs. Turns (EitherOutcome clones one other) catches true s vs run.last) last.1
+      run.steps)
       (stopped_none catches (is_nil values) run.last t run.stop)
   last_wins catches s t values None run last =
       let none = stopped_none catches (is_nil values) run.last t run.stop in
       let same : s ≡ run.last =
-      subst (λ vs. Turns (EitherOutcome clones one other) catches true s vs run.last) last run.steps in
+      subst (λ vs. Turns (EitherOutcome clones one other) catches true s vs run.last) last
+      run.steps in
       subst (HasNone (is_either one other)) (sym same) none
 
 -- the last toggle wins

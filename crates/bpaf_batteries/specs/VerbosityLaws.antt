@@ -30,6 +30,7 @@ module _ {T : Type 0} (clones : T → T → Type 0) (more fewer : ParseFlag T) w
   count_key_lawful flag = count_lawful (flag_lawful T clones flag.named flag.present flag.absent)
 
   -- so do two
-  pub counts_lawful : Lawful (ℕ × ℕ) (CountsOutcome clones more fewer) (CountsReads clones more fewer)
+  pub counts_lawful : Lawful (ℕ × ℕ) (CountsOutcome clones more fewer)
+      (CountsReads clones more fewer)
   counts_lawful = product_lawful (λ counts v. v ≡ counts)
       (both_lawful (count_key_lawful more) (count_key_lawful fewer))

@@ -9,7 +9,8 @@ use Rattle.bpaf_words.specs.Arguments.{Given}
 use Rattle.bpaf_line.specs.declared.failure.ParseFailure.{ParseFailure}
 use Rattle.bpaf_line.specs.declared.failure.ParseFailure.TheVariants as failure
 use Rattle.bpaf_laws.specs.Choice.{ChoiceDescribes, ChoiceOutcome, ChoiceReads}
-use Rattle.bpaf_laws.specs.Command.{Called, CommandDescribes, CommandPart, named_only, opening_words}
+use Rattle.bpaf_laws.specs.Command.{Called, CommandDescribes, CommandPart, named_only}
+use Rattle.bpaf_laws.specs.Command.{opening_words}
 use Rattle.bpaf_laws.specs.Laws.{Lawful}
 use Rattle.bpaf_laws.specs.Reading.{Outcome, Readings}
 use Rattle.bpaf_laws.specs.Repeat.{ManyDescribes, ManyOutcome}
@@ -75,7 +76,11 @@ module _ (command : Command) where
       described = is.described;
       is = (
         shown.0,
-        (shown.1.0, is.shown.shapes_are shown.1.0 shown.1.1, rw (is.called_is, is.help_is) at shown.1.2),
+        (
+          shown.1.0,
+          is.shown.shapes_are shown.1.0 shown.1.1,
+          rw (is.called_is, is.help_is) at shown.1.2,
+        ),
         shown.2,
       );
     }
@@ -119,7 +124,8 @@ module _ (go turn repeat : Command) (go_is : IsTitled move_title go)
   -- what the choice of the three commands answers
   abbrev pub ChoiceAnswers : Outcome Step
   ChoiceAnswers =
-      ChoiceOutcome (ChoiceOutcome (CommandAnswers go) (CommandAnswers turn)) (CommandAnswers repeat)
+      ChoiceOutcome (ChoiceOutcome (CommandAnswers go) (CommandAnswers turn))
+      (CommandAnswers repeat)
 
   -- what it may show
   abbrev pub ChoiceShapes : Shapes

@@ -45,7 +45,8 @@ module _ (mark : Mark) (t m u : Situation) (back : m ≡ undone mark t) (fits : 
       → redone steps (undone mark u) ≡ t
   led_again steps led = ap (redone steps) back_again ∙ led
 
-module _ {T : Type 0} {inner : Outcome T} {ending : Ending} {reads : Readings T} (law : Lawful T inner reads)
+module _ {T : Type 0} {inner : Outcome T} {ending : Ending} {reads : Readings T}
+    (law : Lawful T inner reads)
     (ends : LawfulEnding ending)
     (s w t : Situation) (from end : ℕ) (r : Result T ParseFailure) (is : w ≡ with_scope s from end)
     (ran : Runs T inner ending w r t) where
@@ -64,18 +65,21 @@ module _ {T : Type 0} {inner : Outcome T} {ending : Ending} {reads : Readings T}
       (keeps_marks_scope s s from end (keeps_marks_refl s))
       (runs_keeps law ends (with_scope s from end) r t is_attempt).marks
 
-module _ {T : Type 0} (inner : Outcome T) (ending : Ending) (s : Situation) (from end : ℕ) (f : ParseFailure)
+module _ {T : Type 0} (inner : Outcome T) (ending : Ending) (s : Situation) (from end : ℕ)
+    (f : ParseFailure)
     (t : Situation) where
   -- memory is wanted, and all is as before the first attempt
   pub memory_wanted : (g : ParseFailure) (u : Situation) → g ≡ failure.Memory → u ≡ s
       → Retry T inner ending s from end f t (Err g) u
   memory_wanted g u is back =
       subst (λ x. Retry T inner ending s from end f t (Err x) u) (sym is)
-      (subst (λ x. Retry T inner ending s from end f t (Err failure.Memory) x) (sym back) wants_memory)
+      (subst (λ x. Retry T inner ending s from end f t (Err failure.Memory) x)
+      (sym back) wants_memory)
 
   -- so it is where a call refused that wants memory alone
   pub memory_refused : (r : Result T ParseFailure) (u : Situation)
-      → IsErr r × IsErrAnd r (λ g. g ≡ failure.Memory) → u ≡ s → Retry T inner ending s from end f t r u
+      → IsErr r × IsErrAnd r (λ g. g ≡ failure.Memory) → u ≡ s
+      → Retry T inner ending s from end f t r u
   memory_refused (Err g) u wanted back = memory_wanted g u wanted.1 back
   memory_refused (Ok v) u wanted back = absurd wanted.1
 
@@ -108,7 +112,8 @@ pub then_retried : {T : Type 0} {inner : Outcome T} {ending : Ending} (s : Situa
     → IsStretchFrom s from end → Attempt T inner ending s from end (Err f) t → o ≡ s
     → Retry T inner ending o from end f t r u → Attempts T inner ending s from r u
 then_retried {T} {inner} {ending} s from end f t o r u run ran back retry =
-    first_fails f end t r u run ran (subst (λ x. Retry T inner ending x from end f t r u) back retry)
+    first_fails f end t r u run ran
+    (subst (λ x. Retry T inner ending x from end f t r u) back retry)
 
 -- the old scope lies in the line still
 pub still_inside : (s u : Situation) (end : ℕ) → u.context ≡ s.context

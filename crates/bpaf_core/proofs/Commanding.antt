@@ -18,13 +18,15 @@ use Rattle.bpaf_core.specs.Adjacent.{StaysOutside}
 use Rattle.bpaf_core.specs.Adjacent.{counted, failed, no_path, unnamed}
 
 -- a plain command runs once inside
-pub runs_plain : {T : Type 0} (inner : Outcome T) (ending : Ending) (adjacent : Bool) (s : Situation)
+pub runs_plain : {T : Type 0} (inner : Outcome T) (ending : Ending) (adjacent : Bool)
+    (s : Situation)
     (r : Result T ParseFailure) (t : Situation) → adjacent ≡ false → Runs T inner ending s r t
     → RunsInside adjacent T inner ending s r t
 runs_plain inner ending false s r t plain run = run
 runs_plain inner ending true s r t plain run = absurd (true≢false plain)
 
-module _ {T : Type 0} (inner : Outcome T) (ending : Ending) (called : Called) (shows : Part → Type 0)
+module _ {T : Type 0} (inner : Outcome T) (ending : Ending) (called : Called)
+    (shows : Part → Type 0)
     (s : Situation) where
   -- the word isn't there
   lacking : (adjacent : Bool) (e : Error) → IsNotOpened (opening_words called) s
@@ -59,7 +61,8 @@ module _ {T : Type 0} (inner : Outcome T) (ending : Ending) (called : Called) (s
       → IsErr r × IsErrAnd r (λ given. given ≡ e) → StaysOutside called shows s e t
       → EitherCommandOutcome adjacent T inner ending called shows s r t
   refused_inside adjacent e (Err given) t handed outside =
-      subst (λ x. EitherCommandOutcome adjacent T inner ending called shows s (Err x) t) (sym handed.1)
+      subst (λ x. EitherCommandOutcome adjacent T inner ending called shows s (Err x) t)
+      (sym handed.1)
       (not_inside adjacent e t outside)
   refused_inside adjacent e (Ok v) t handed outside = absurd (true≢false (sym handed.0))
 
@@ -81,4 +84,5 @@ module _ {T : Type 0} (inner : Outcome T) (ending : Ending) (called : Called) (s
         failed f e enters.0 t enters.1
         (subst (λ x. AdjacentRuns T inner ending x (Err f) t) enters.2 runs) told
     inside_refuses false f e runs told =
-        ended f e enters.0 t enters.1 (subst (λ x. Runs T inner ending x (Err f) t) enters.2 runs) told
+        ended f e enters.0 t enters.1 (subst (λ x. Runs T inner ending x (Err f) t) enters.2 runs)
+        told

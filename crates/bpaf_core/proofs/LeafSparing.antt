@@ -6,7 +6,8 @@ use Rattle.bpaf_line.specs.declared.error.Error.{Error}
 use Rattle.bpaf_line.specs.declared.error.Message.{Message}
 use Rattle.bpaf_line.specs.declared.error.Message.TheVariants.{Memory, NoEnv, ParseSome, ParseFail}
 use Rattle.bpaf_line.specs.declared.error.Message.TheVariants.{PureFailed, Missing, StrictPos}
-use Rattle.bpaf_line.specs.declared.error.Message.TheVariants.{NonStrictPos, ParseFailed, GuardFailed}
+use Rattle.bpaf_line.specs.declared.error.Message.TheVariants.{NonStrictPos, ParseFailed}
+use Rattle.bpaf_line.specs.declared.error.Message.TheVariants.{GuardFailed}
 use Rattle.bpaf_line.specs.declared.error.Message.TheVariants.{NoArgument, Unconsumed, Ambiguity}
 use Rattle.bpaf_line.specs.declared.error.Message.TheVariants.{Conflict, Expected, OnlyOnce}
 use Rattle.bpaf_line.specs.declared.error.Message.TheVariants.{ParseFailure}
@@ -48,7 +49,8 @@ module _ {T : Type 0} (named : Named) (absent : Option T) (s t : Situation) wher
   flag_clones_nothing clones present (Ok v) answered = tt
   flag_clones_nothing clones present (Err e) answered = λ spared. by_message e.0 answered spared
 
-module _ {T : Type 0} (means : List ℕ → T → Type 0) (argument : KeyWithValue) (s t : Situation) where
+module _ {T : Type 0} (means : List ℕ → T → Type 0) (argument : KeyWithValue)
+    (s t : Situation) where
   -- an argument tells no fault of a text that means a value
   pub argument_faults_alone : (r : Result T Error) → ArgumentOutcome means argument s r t
       → IfErr r (FaultsTextAlone means argument s t)

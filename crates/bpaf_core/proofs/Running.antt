@@ -1,5 +1,7 @@
 -- How the answers of a run are put together.
-use Rattle.std.proofs.Common.{◌≡◌, ◌==◌, ℕ, ◌<◌, Bool, true, false, List, [], ◌∷◌, ◌++◌, Option, IfSome, length, ap, Result, Ok, Err, ⊎_elim, ◌∙◌, inl, inr, subst, sym, refl}
+use Rattle.std.proofs.Common.{◌≡◌, ◌==◌, ℕ, ◌<◌, Bool, true, false, List, [], ◌∷◌, ◌++◌, Option}
+use Rattle.std.proofs.Common.{IfSome, length, ap, Result, Ok, Err, ⊎_elim, ◌∙◌, inl, inr, subst}
+use Rattle.std.proofs.Common.{sym, refl}
 use Rattle.std.proofs.lemmas.Bool.Decides.{nat_tests}
 use Rattle.std.proofs.Common.{arith}
 use Rattle.bpaf_line.specs.declared.error.Message.{Message}
@@ -55,7 +57,8 @@ read_by_shown describes info words numbers flags arguments (Ok line) setting sho
       (ap (λ n. known_at n (record { flags = flags; arguments = arguments })) setting
       ∙ known_are describes info flags arguments shows) is,
 )
-read_by_shown describes info words numbers flags arguments (Err (fault.Ambiguous word number)) setting
+read_by_shown describes info words numbers flags arguments
+    (Err (fault.Ambiguous word number)) setting
     shows lacks = (
       shows.shape,
       shows.shown,
@@ -63,7 +66,8 @@ read_by_shown describes info words numbers flags arguments (Err (fault.Ambiguous
           (ap (λ n. known_at n (record { flags = flags; arguments = arguments })) setting
           ∙ known_are describes info flags arguments shows) lacks,
     )
-read_by_shown describes info words numbers flags arguments (Err fault.Memory) setting shows none = tt
+read_by_shown describes info words numbers flags arguments (Err fault.Memory) setting shows none =
+    tt
 
 -- the line that was read whatever names are known is the words' line
 pub read_by_any : (describes : Shape → Type 0) (info : RunInfo) (words : List (List ℕ))
@@ -166,7 +170,8 @@ fault_told known given name s none named made m f told = inr (
   subst (λ x. Renders m x f) made.2 told,
 )
 
-module _ {T : Type 0} {inner : Outcome T} {describes : Shape → Type 0} {info : RunInfo} (given : Given)
+module _ {T : Type 0} {inner : Outcome T} {describes : Shape → Type 0} {info : RunInfo}
+    (given : Given)
   where
     -- a run from the state that the words made
     pub started : (s : Situation) (r : Result T ParseFailure) (t : Situation)

@@ -63,7 +63,8 @@ module _ {T : Type 0} {inner : Outcome T} {ending : Ending} (ends : LawfulEnding
 
 -- an adjacent command catches no want of memory
 spared_adjacent : {T : Type 0} {inner : Outcome T} {ending : Ending} → LawfulEnding ending
-    → (called : Called) (shows : Part → Type 0) (s t : Situation) (r : Result T Error) → AdjacentOutcome T inner ending called shows s r t
+    → (called : Called) (shows : Part → Type 0) (s t : Situation) (r : Result T Error)
+    → AdjacentOutcome T inner ending called shows s r t
     → IsNotMemory r → AdjacentOutcome T (WithoutMemory inner) ending called shows s r t
 spared_adjacent ends called shows s t r (counted v p u at runs) spared =
     counted v p u at
@@ -78,7 +79,8 @@ spared_adjacent ends called shows s t r (no_path e p at is) spared = no_path e p
 
 -- nor does a plain one
 pub spared_either : {T : Type 0} (inner : Outcome T) (ending : Ending) → LawfulEnding ending
-    → (adjacent : Bool) (called : Called) (shows : Part → Type 0) (s t : Situation) (r : Result T Error)
+    → (adjacent : Bool) (called : Called) (shows : Part → Type 0) (s t : Situation)
+    (r : Result T Error)
     → EitherCommandOutcome adjacent T inner ending called shows s r t → IsNotMemory r
     → EitherCommandOutcome adjacent T (WithoutMemory inner) ending called shows s r t
 spared_either inner ending ends true called shows s t r outcome spared =
@@ -87,7 +89,8 @@ spared_either inner ending ends false called shows s t r outcome spared =
     spared_command ends called shows s t r outcome spared
 
 -- the attempt that a value comes of: it was over present places
-record Counted (T : Type 0) (inner : Outcome T) (ending : Ending) (s : Situation) (from : ℕ) (v : T) (t : Situation)
+record Counted (T : Type 0) (inner : Outcome T) (ending : Ending) (s : Situation) (from : ℕ) (v : T)
+    (t : Situation)
     : Type 0 where
   end : ℕ
   ordered : from ≤ end
@@ -97,7 +100,8 @@ record Counted (T : Type 0) (inner : Outcome T) (ending : Ending) (s : Situation
 module _ {T : Type 0} {inner : Outcome T} {ending : Ending} (s : Situation) (from : ℕ) where
   -- the second attempt is over fewer places than the first
   retry_counted : (end : ℕ) (f : ParseFailure) (t : Situation) (v : T) (u : Situation)
-      → IsStretchFrom s from end → Retry T inner ending s from end f t (Ok v) u → Counted T inner ending s from v u
+      → IsStretchFrom s from end → Retry T inner ending s from end f t (Ok v) u
+      → Counted T inner ending s from v u
   retry_counted end f t v u run (second_counts w stop x told left ran) = record {
     end = stop;
     ordered = left.behind;
@@ -118,7 +122,8 @@ module _ {T : Type 0} {inner : Outcome T} {ending : Ending} (s : Situation) (fro
   attempts_counted v u (first_fails f end t r w run ran retry) =
       retry_counted end f t v w run retry
 
-module _ {T : Type 0} {inner : Outcome T} {ending : Ending} {reads : Readings T} (law : Lawful T inner reads)
+module _ {T : Type 0} {inner : Outcome T} {ending : Ending} {reads : Readings T}
+    (law : Lawful T inner reads)
     (ends : LawfulEnding ending) where
   -- what an attempt over present places keeps
   attempt_keeps : (s : Situation) (from end : ℕ) (r : Result T ParseFailure) (t : Situation)
@@ -152,7 +157,8 @@ module _ {T : Type 0} {inner : Outcome T} {ending : Ending} {reads : Readings T}
 
   module _ (called : Called) (shows : Part → Type 0) where
     -- what an adjacent command answers is a reading, whose share is one stretch
-    adjacent_reads : (s t : Situation) (v : T) → AdjacentOutcome T inner ending called shows s (Ok v) t
+    adjacent_reads : (s t : Situation) (v : T)
+        → AdjacentOutcome T inner ending called shows s (Ok v) t
         → Reads T (AdjacentReads T (opening_words called) reads) s v t
     adjacent_reads s t v (counted w p u at runs) =
         let m : Situation = inside called s p in

@@ -20,7 +20,8 @@ use Rattle.bpaf_core.specs.Run.{value as run_value}
 use Rattle.bpaf_core.specs.Command.{CommandOutcome, ended, missing, no_memory, value}
 
 -- after a value of a run nothing is present
-pub run_empty : {T : Type 0} {inner : Outcome T} {ending : Ending} (s : Situation) (v : T) (t : Situation)
+pub run_empty : {T : Type 0} {inner : Outcome T} {ending : Ending} (s : Situation) (v : T)
+    (t : Situation)
     → Runs T inner ending s (Ok v) t → open_count t ≡ 0
 run_empty s v t (run_value w left answered none) = none
 
@@ -50,7 +51,8 @@ spared_command ends called shows s t r (ended f e p left at run is) spared =
 spared_command ends called shows s t r (missing e none is) spared = missing e none is
 spared_command ends called shows s t r (no_memory e p at is) spared = no_memory e p at is
 
-module _ {T : Type 0} {inner : Outcome T} {ending : Ending} {reads : Readings T} (law : Lawful T inner reads)
+module _ {T : Type 0} {inner : Outcome T} {ending : Ending} {reads : Readings T}
+    (law : Lawful T inner reads)
     (ends : LawfulEnding ending) where
   -- what a run from a situation on keeps, whatever it answers
   pub runs_keeps : (s : Situation) (r : Result T ParseFailure) (t : Situation)

@@ -7,7 +7,8 @@ use Rattle.bpaf_parts.specs.Info.{RunInfo}
 use Rattle.bpaf_core.specs.Known.{IsLineContext}
 
 -- v is read off all places of the words' line but that of the marker
-pub record IsDealtOut (T : Type 0) (reads : Readings T) (describes : Shape → Type 0) (info : RunInfo)
+pub record IsDealtOut (T : Type 0) (reads : Readings T) (describes : Shape → Type 0)
+    (info : RunInfo)
     (given : Given) (v : T) : Type 0 where
   pub context : Context
   pub is_context : IsLineContext describes info given context

@@ -25,7 +25,8 @@ known_names info shape = known_at info.numbers (record {
 })
 
 -- short names that are the known ones of a shape that the parser may show
-pub record ShowsNames (describes : Shape → Type 0) (info : RunInfo) (flags arguments : List ℕ) : Type 0
+pub record ShowsNames (describes : Shape → Type 0) (info : RunInfo)
+    (flags arguments : List ℕ) : Type 0
   where
     pub shape : Shape
     pub shown : describes shape
@@ -50,9 +51,11 @@ IsLineContext describes info given context =
     ((shape : Shape) × describes shape × IsContext (known_names info shape) given context)
     ⊎ ((names : ShortNames) → IsContext (known_at info.numbers names) given context)
 
--- how a run over words starts: at the beginning of their line; or they have none; or memory is wanted
+-- how a run over words starts: at the beginning of their line; or they have none; or memory is
+-- wanted
 abbrev pub Starts : (Shape → Type 0) → RunInfo → Given → Result Situation Message → Type 0
-Starts describes info given (Ok s) = (context : Context) × IsLineContext describes info given context
+Starts describes info given (Ok s) = (context : Context)
+    × IsLineContext describes info given context
     × (s ≡ beginning context)
 Starts describes info given (Err (message.Ambiguity word number)) =
     (shape : Shape) × describes shape × HasNoLine (known_names info shape) given.words word number

@@ -10,8 +10,8 @@ use Rattle.bpaf_laws.specs.Flag.{IsFlagAbsent}
 use Rattle.bpaf_parts.specs.Extra.{IsNoVersion}
 use Rattle.bpaf_parts.specs.Info.{RunInfo}
 
--- a refusal of a flag that isn't want of memory is of one that is absent and has no absent value: no
--- clone was to be made
+-- a refusal of a flag that isn't want of memory is of one that is absent and has no absent value:
+-- no clone was to be made
 abbrev pub ClonesNothing : {T : Type 0} → Named → Option T → Situation → Situation → Error → Type 0
 ClonesNothing named absent s t e =
     is_memory e.0 ≡ false → IsFlagAbsent named s t × (absent ≡ None)

@@ -64,8 +64,8 @@ refusal_of (message.OnlyOnce earlier place) = Some repeated_key
 refusal_of (message.Unconsumed place) = Some unexpected_item
 refusal_of (message.ParseFailure inner) = None
 
--- a run from a situation on tells a message: the parser refused with it, or left an item of which it
--- is the message; in the situation that was left
+-- a run from a situation on tells a message: the parser refused with it, or left an item of which
+-- it is the message; in the situation that was left
 pub data IsToldOf {T : Type 0} (inner : Outcome T) (s : Situation) (m : Message)
     : Situation → Type 0 where
   refusal : (e : Error) (left : Situation) → inner s (Err e) left → e.0 ≡ m

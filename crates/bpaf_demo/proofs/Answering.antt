@@ -1,5 +1,6 @@
 -- The lines of an exact answer.
-use Rattle.std.proofs.Common.{◌≡◌, ℕ, List, Ok, Err, All, IsUtf8, string_bytes, refl, sym, subst, ◌∙◌}
+use Rattle.std.proofs.Common.{◌≡◌, ℕ, List, Ok, Err, All, IsUtf8, string_bytes, refl, sym, subst}
+use Rattle.std.proofs.Common.{◌∙◌}
 use Rattle.bpaf_line.specs.declared.failure.ParseFailure.{ParseFailure}
 use Rattle.bpaf_line.specs.declared.failure.ParseFailure.TheVariants.{Stdout, Stderr, Memory}
 use Rattle.bpaf_program.specs.Running.{AnswersText}

@@ -1,5 +1,5 @@
--- From what a run says of the record's parser to options that are dealt out of the words, or help that
--- these ask for.
+-- From what a run says of the record's parser to options that are dealt out of the words, or help
+-- that these ask for.
 use Rattle.std.proofs.Common.{◌≡◌, ℕ, Bool, true, false, List, Some, Result, Ok}
 use Rattle.std.proofs.Common.{Err, IfOk, codes, sym, subst, ap, ◌∙◌}
 use Rattle.std.specs.Global.{Vec}
@@ -87,7 +87,8 @@ MakesOptions makes = (x : FieldValues) (v : Options) → makes x v → v ≡ opt
 module _ (makes : Makes) (parts : Parts) where
   -- what the switch reads
   abbrev pub VerboseReads : Readings Bool
-  VerboseReads = FlagReads Bool IsKept parts.verbose.named parts.verbose.present parts.verbose.absent
+  VerboseReads = FlagReads Bool IsKept parts.verbose.named parts.verbose.present
+      parts.verbose.absent
 
   -- what it answers
   abbrev pub VerboseOutcome : Outcome Bool
@@ -165,7 +166,8 @@ module _ (makes : Makes) (parts : Parts) where
       product_hands_on nothing_shown makes
       (both_hands_on nothing_shown
       (flag_lawful Bool IsKept parts.verbose.named parts.verbose.present parts.verbose.absent)
-      (flag_hands_on nothing_shown IsKept parts.verbose.named parts.verbose.present parts.verbose.absent)
+      (flag_hands_on nothing_shown IsKept parts.verbose.named parts.verbose.present
+      parts.verbose.absent)
       (both_hands_on nothing_shown (argument_lawful ℕ (SpellsUnsigned 64) parts.num)
       (argument_hands_on nothing_shown (SpellsUnsigned 64) parts.num)
       (many_hands_on nothing_shown file_lawful

@@ -13,8 +13,8 @@ use Rattle.bpaf_demo.specs.Lines.{lines}
 use Rattle.bpaf_demo.specs.Record.{IsDealtOptions, String}
 use Rattle.bpaf_demo.specs.Shown.{IsHelpAsked}
 
--- a text that answers the words: the lines of options that are dealt out of them and are the record's
--- value on them, or where the record has none the text of the help page that they ask for
+-- a text that answers the words: the lines of options that are dealt out of them and are the
+-- record's value on them, or where the record has none the text of the help page that they ask for
 pub data Answers (words : List (List ℕ)) : List ℕ → Type 0 where
   options : (v : Options) → IsDealtOptions words v → IsOptionsOf words v → Answers words (lines v)
   help : (doc : List Piece) (full : Bool) → IsHelpAsked words doc full
@@ -25,8 +25,8 @@ abbrev pub IsTextOrWant : List ℕ → Result String ParseFailure → Type 0
 IsTextOrWant text (Ok told) = string_bytes told ≡ text
 IsTextOrWant text (Err f) = f ≡ Memory
 
--- An answer to words is such a text; where the record has a value on them it is the lines of that, or
--- want of memory. All values on the same words have the same lines.
+-- An answer to words is such a text; where the record has a value on them it is the lines of that,
+-- or want of memory. All values on the same words have the same lines.
 pub record AnswersLines (words : List (List ℕ)) (r : Result String ParseFailure) : Type 0 where
   pub answer : AnswersText (Answers words) r
   pub complete : (v : Options) → IsOptionsOf words v → IsTextOrWant (lines v) r
@@ -42,8 +42,8 @@ pub data Prints (v : Options) (out out_after err err_after : Option (List ℕ)) 
   memory_wanted : Keeps out out_after → AppendsUpTo err err_after memory_line
       → Prints v out out_after err err_after 1
 
--- a run on words is exact: all values of the record on them have the same lines, and where it has one
--- these are written, but for a failed write and want of memory
+-- a run on words is exact: all values of the record on them have the same lines, and where it has
+-- one these are written, but for a failed write and want of memory
 pub record PrintsExactly (words : List (List ℕ)) (status : ℕ)
     (out out_after err err_after : Option (List ℕ)) : Type 0 where
   pub alike : (v w : Options) → IsOptionsOf words v → IsOptionsOf words w → lines v ≡ lines w

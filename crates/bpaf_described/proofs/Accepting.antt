@@ -1,5 +1,6 @@
 -- A check that accepts one text alone, by what it answers on values.
-use Rattle.std.proofs.Common.{◌≡◌, ℕ, Bool, List, Result, Ok, Err, Option, Some, None, sym, subst, ⊎_elim, String, string_bytes}
+use Rattle.std.proofs.Common.{◌≡◌, ℕ, Bool, List, Result, Ok, Err, Option, Some, None, sym, subst}
+use Rattle.std.proofs.Common.{⊎_elim, String, string_bytes}
 use Rattle.std.specs.declared.alloc.Global.{Global}
 use Rattle.std.proofs.lemmas.List.Elements.{All-weaker}
 use Rattle.bpaf_doc.specs.declared.doc.Piece.{Piece}

@@ -188,10 +188,12 @@ pub level_lawful : {P : Type 0} (outcome : P → Outcome Value) (reads : P → R
     → Lawful Value (LevelOutcome outcome describes clones k ps) (LevelReads reads clones k ps)
 level_lawful outcome reads describes clones (kind.Over m) ps each =
     over_lawful clones m (choices_lawful outcome reads ps each)
-level_lawful outcome reads describes clones kind.Product ps each = tuple_lawful outcome reads ps each
+level_lawful outcome reads describes clones kind.Product ps each =
+    tuple_lawful outcome reads ps each
 level_lawful outcome reads describes clones kind.Group ps each =
     together_lawful outcome reads describes ps each
-level_lawful outcome reads describes clones kind.OrElse ps each = or_else_lawful outcome reads ps each
+level_lawful outcome reads describes clones kind.OrElse ps each =
+    or_else_lawful outcome reads ps each
 level_lawful outcome reads describes clones (kind.Command called adjacent) ps each =
     called_lawful adjacent called (ChoicesDescribes describes ps)
     (choices_lawful outcome reads ps each)

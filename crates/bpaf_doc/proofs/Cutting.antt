@@ -1,5 +1,7 @@
 -- Texts cut at their first empty line, and what a full print shows of them.
-use Rattle.std.proofs.Common.{◌≡◌, ℕ, suc, ◌<◌, ◌≤◌, Bool, true, false, not, ◌&&◌, ◌||◌, ◌==◌, List, [], ◌∷◌, ◌++◌, length, drop, if◌then◌else◌, refl, ap, sym, ◌∙◌, arith, append-nil, subst, Some, None, option_map}
+use Rattle.std.proofs.Common.{◌≡◌, ℕ, suc, ◌<◌, ◌≤◌, Bool, true, false, not, ◌&&◌, ◌||◌, ◌==◌, List}
+use Rattle.std.proofs.Common.{[], ◌∷◌, ◌++◌, length, drop, if◌then◌else◌, refl, ap, sym, ◌∙◌, arith}
+use Rattle.std.proofs.Common.{append-nil, subst, Some, None, option_map}
 use Rattle.std.proofs.lemmas.Bool.Decides.{nat_tests}
 use Rattle.std.proofs.lemmas.List.Concat.{flat_map-append}
 use Rattle.std.proofs.lemmas.List.Elements.{filter-append}
@@ -7,7 +9,8 @@ use Rattle.std.specs.Prelude.{filter, flat_map}
 use Rattle.std.specs.Str.Pattern.{LacksTextAt}
 use Rattle.bpaf_doc.specs.declared.doc.Piece.{Piece}
 use Rattle.bpaf_doc.specs.Print.{printed}
-use Rattle.bpaf_doc.specs.Fold.{folded, empty_line, begins_with_empty_line, cut_at_empty_line, folded_parts, folded_whole, TextPieces, whole, cut}
+use Rattle.bpaf_doc.specs.Fold.{folded, empty_line, begins_with_empty_line, cut_at_empty_line}
+use Rattle.bpaf_doc.specs.Fold.{folded_parts, folded_whole, TextPieces, whole, cut}
 
 -- where no empty line stands first, the test says so
 lacks_first :
@@ -24,7 +27,8 @@ lacks_first (c ∷ d ∷ rest) lacks = by_tests (c == 10) refl (d == 10) refl
     by_tests true is_first true is_second =
         let is_break : c ≡ 10 = grind (arith, nat_tests) in
         let is_other : d ≡ 10 = grind (arith, nat_tests) in
-        let contrary = lacks rest (ap (λ x. x ∷ d ∷ rest) is_break ∙ ap (λ x. 10 ∷ x ∷ rest) is_other) in
+        let contrary = lacks rest (ap (λ x. x ∷ d ∷ rest) is_break
+        ∙ ap (λ x. 10 ∷ x ∷ rest) is_other) in
         absurd contrary
 
 -- one character more, where no empty line stands first

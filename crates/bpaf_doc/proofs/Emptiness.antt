@@ -1,5 +1,6 @@
 -- Documents that print nothing.
-use Rattle.std.proofs.Common.{◌≡◌, ℕ, suc, ◌<◌, true, false, ◌==◌, List, [], ◌∷◌, ◌++◌, ap, sym, ◌∙◌, drop, length, get_or, drop-cons, subst, refl}
+use Rattle.std.proofs.Common.{◌≡◌, ℕ, suc, ◌<◌, true, false, ◌==◌, List, [], ◌∷◌, ◌++◌, ap, sym}
+use Rattle.std.proofs.Common.{◌∙◌, drop, length, get_or, drop-cons, subst, refl}
 use Rattle.bpaf_doc.specs.declared.doc.Piece.{Piece}
 use Rattle.bpaf_doc.specs.Print.{printed}
 use Rattle.bpaf_doc.specs.Prints.{is_nil}

@@ -4,7 +4,8 @@ use Rattle.bpaf_line.specs.declared.error.Error.{Error}
 use Rattle.bpaf_line.specs.Situation.{Situation}
 use Rattle.bpaf_laws.specs.Reading.{Outcome}
 use Rattle.bpaf_exact.specs.Pieces.{Roles, LinePiece, pieces, takes_none}
-use Rattle.bpaf_exact.specs.Flat.{Refused, class, cells, IsWhole, Steady, FieldKind, ByName, OneWord}
+use Rattle.bpaf_exact.specs.Flat.{Refused, class, cells, IsWhole, Steady, FieldKind, ByName}
+use Rattle.bpaf_exact.specs.Flat.{OneWord}
 use Rattle.bpaf_exact.specs.Flat.{EachWord}
 use Rattle.bpaf_exact.specs.Single.{Groups, FrontOf, Own, own_none, own_more, Readable, Gap, no_gap}
 use Rattle.bpaf_exact.specs.Single.{TookGroup, SingleOk, gave_absent, took, SingleErr, of_memory}
@@ -39,7 +40,8 @@ front_alone T value o v {left = left} {rest = rest} e means g =
     (record { piece = o; is = e ∙ ap (λ z. o ∷ z) r; means = means }, r)
 
 -- where the first piece was taken and has the value, it is the first group
-pub took_front : (T : Type 0) (value : LinePiece → T → Type 0) (k : FieldKind) (q : Roles) (s t : Situation)
+pub took_front : (T : Type 0) (value : LinePiece → T → Type 0) (k : FieldKind) (q : Roles)
+    (s t : Situation)
     (v : T) (o : LinePiece) → Steady s t → TakesFirst q (cells s) o (cells t)
     → pieces q (cells s) ≡ o ∷ pieces q (cells t) → value o v
     → TookGroup T k q (FrontOf T value) s v t
@@ -108,13 +110,15 @@ module _ (A B : Type 0) (inner : Outcome A) (q : Roles) (value : LinePiece → A
   closed_bad os (bad_later h) = bad_later (closed_bad _ h)
 
   -- nor can one whose value the closure refuses
-  refused_value : (x : A) (o : LinePiece) → value o x → f.no x → (v : B) → ClosedPiece A B value f o v
+  refused_value : (x : A) (o : LinePiece) → value o x → f.no x → (v : B)
+      → ClosedPiece A B value f o v
       → ⊥
   refused_value x o g n v c = agrees o c.from x v c.read g c.made n
 
   -- a value that the closure gave
   closed_alternative_ok : (s t : Situation) (v : B) → IsWhole s
-      → ClosedEval A B inner f Refused s (Ok v) t → AlternativeOk B q (ClosedPiece A B value f) s v t
+      → ClosedEval A B inner f Refused s (Ok v) t
+      → AlternativeOk B q (ClosedPiece A B value f) s v t
   closed_alternative_ok s t v w (closed_yes {x = x} i y) =
       let a = l.ok s t x w i in
       record {
@@ -175,7 +179,8 @@ module _ (A B : Type 0) (inner : Outcome A) (q : Roles) (value : LinePiece → A
   }
 
 -- inner closures round a field without a repeat or default
-module _ (A B : Type 0) (inner : Outcome A) (k : FieldKind) (q : Roles) (group : Groups A) (gap : Gap A)
+module _ (A B : Type 0) (inner : Outcome A) (k : FieldKind) (q : Roles) (group : Groups A)
+    (gap : Gap A)
     (l : SingleLaw A inner k q group gap) (f : Closure A B)
     (agrees : (os rest : List LinePiece) → AgreesOn (λ v. group os v rest) f)
     (gap_agrees : AgreesOn gap.absent f) where

@@ -1,5 +1,6 @@
 -- A key of an argument and its value are a piece.
-use Rattle.std.proofs.Common.{◌≡◌, ℕ, Bool, true, false, not, ◌&&◌, List, [], None, refl, sym, ap, ◌∙◌}
+use Rattle.std.proofs.Common.{◌≡◌, ℕ, Bool, true, false, not, ◌&&◌, List, [], None, refl, sym, ap}
+use Rattle.std.proofs.Common.{◌∙◌}
 use Rattle.std.proofs.Common.{subst}
 use Rattle.bpaf_text.specs.Named.{KeyWithValue}
 use Rattle.bpaf_words.specs.declared.arg.Arg.{Arg}

@@ -64,7 +64,8 @@ module _ (T : Type 0) (means : List ℕ → T → Type 0) (argument : KeyWithVal
       let same = subst (λ b. TakesBefore b argument s t) once o.1 in
       let lacks = subst (λ z. LacksText argument z (NoArgument key metavar)) same o.0 in
       let m = match_of (is_key_with_value argument) s key lacks.0.matches in
-      let b = bare_taken (is_key_with_value argument) q s key (test argument plain) lacks.0 m lacks.1 in
+      let b = bare_taken (is_key_with_value argument) q s key
+      (test argument plain) lacks.0 m lacks.1 in
       first_refused T q value s t e (One m.item) b.tail c (ap (λ z. z.path) same) b.is (λ v y. y)
   argument_err s t e other c o =
       missing_same T q value s t e
@@ -75,7 +76,11 @@ module _ (T : Type 0) (means : List ℕ → T → Type 0) (argument : KeyWithVal
   -- an argument keeps to the laws of an alternative
   argument_law : AlternativeLaw T (ArgumentOutcome means argument) q value
   argument_law =
-      record { named = named argument plain; ok = argument_ok; err = λ s t e w o. argument_err s t e e.0 refl o }
+      record {
+        named = named argument plain;
+        ok = argument_ok;
+        err = λ s t e w o. argument_err s t e e.0 refl o;
+      }
 
 -- an argument keeps to the laws of its form
 pub argument_field_law : (T : Type 0) (means : List ℕ → T → Type 0) (argument : KeyWithValue)

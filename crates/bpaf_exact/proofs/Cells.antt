@@ -4,7 +4,8 @@ use Rattle.std.proofs.Common.{if◌then◌else◌}
 use Rattle.bpaf_words.specs.declared.arg.Arg.{Arg}
 use Rattle.bpaf_words.specs.declared.arg.Arg.TheVariants.{Short, Long, ArgWord, Word, PosWord}
 use Rattle.bpaf_words.specs.Items.{is_positional}
-use Rattle.bpaf_exact.specs.Pieces.{Cells, Role, Foreign, Alone, WithNext, Roles, LinePiece, One, Two}
+use Rattle.bpaf_exact.specs.Pieces.{Cells, Role, Foreign, Alone, WithNext, Roles, LinePiece, One}
+use Rattle.bpaf_exact.specs.Pieces.{Two}
 use Rattle.bpaf_exact.specs.Pieces.{is_value, is_key, is_own_role, is_own, mine, others}
 use Rattle.bpaf_exact.specs.Pieces.{either_role, either, IsNamed, Apart, Cut, at_end, passed, flag}
 use Rattle.bpaf_exact.specs.Pieces.{argument, word, with_next, begin_piece, pieces, TakesPiece}
@@ -66,7 +67,8 @@ nil_rest Alone k cs os e = cc
 nil_rest WithNext k cs os e = cc
 
 -- and the item isn't the field's own
-pub nil_foreign : (x : Role) (k : Arg) (cs : Cells) (os : List LinePiece) → begin_piece x k cs os ≡ []
+pub nil_foreign : (x : Role) (k : Arg) (cs : Cells) (os : List LinePiece)
+    → begin_piece x k cs os ≡ []
     → x ≡ Foreign
 nil_foreign Foreign k cs os e = refl
 nil_foreign Alone k cs os e = cc
@@ -77,7 +79,8 @@ no_value_next : (k w : Arg) (cs : Cells) → is_value w ≡ false → with_next 
 no_value_next k w cs h = ap (λ b. if b then Two k w else One k) h
 
 -- taking a piece leaves what a key before it has next to it
-pub same_next : (q : Roles) (k : Arg) {cs ds : Cells} {o : LinePiece} → IsNamed q → TakesPiece q cs o ds
+pub same_next : (q : Roles) (k : Arg) {cs ds : Cells} {o : LinePiece} → IsNamed q
+    → TakesPiece q cs o ds
     → with_next k ds ≡ with_next k cs
 same_next q k n (takes_one {k = j} {cs = cs} e) =
     sym (no_value_next k j cs (own_not_value q j n (ap is_own_role e)))
@@ -125,7 +128,8 @@ argument_mine WithNext y k w cs os ps e v h = let n : with_next k (Some w ∷ cs
     ≡ Two k w = ap (λ b. if b then Two k w else One k) v in cc
 
 -- a word, in the same way
-foreign_mine : (x : Role) (w : Arg) (cs : Cells) (o : LinePiece) (os ps : List LinePiece) → x ≡ Foreign
+foreign_mine : (x : Role) (w : Arg) (cs : Cells) (o : LinePiece) (os ps : List LinePiece)
+    → x ≡ Foreign
     → os ≡ ps
     → begin_piece x w cs os ≡ (if is_own_role x then (o ∷ ps) else ps)
 foreign_mine Foreign w cs o os ps e h = h
@@ -178,7 +182,8 @@ pub record CutAlike (q r : Roles) (cs : Cells) (os : List LinePiece) : Type 0 wh
   pub alike : others q now ≡ others q os
 
 -- a piece given back to its place is cut off there again
-pub put_back : (q r : Roles) {cs ds : Cells} {o : LinePiece} {os : List LinePiece} → TakesPiece q cs o ds
+pub put_back : (q r : Roles) {cs ds : Cells} {o : LinePiece} {os : List LinePiece}
+    → TakesPiece q cs o ds
     → Cut (either q r) ds os → CutAlike q (either q r) cs os
 put_back q r (takes_one {k = k} {cs = cs} e) (passed {os = os} c) =
     record {
@@ -287,7 +292,8 @@ take_from q r n (takes_later {c = Some k} t) (word h c) =
     }
 
 -- when some pieces are
-pub take_some_from : (q r : Roles) {cs ds : Cells} {os : List LinePiece} → IsNamed q → TakesPieces q cs ds
+pub take_some_from : (q r : Roles) {cs ds : Cells} {os : List LinePiece} → IsNamed q
+    → TakesPieces q cs ds
     → Cut (either q r) cs os → CutAlike q (either q r) ds os
 take_some_from q r {os = os} n takes_none c = record { now = os; cut = c; alike = refl }
 take_some_from q r n (takes_more t more) c =

@@ -6,14 +6,17 @@ use Rattle.bpaf_words.specs.declared.arg.Arg.{Arg}
 use Rattle.bpaf_line.specs.Situation.{Context}
 use Rattle.bpaf_exact.specs.Pieces.{Cells, Role, Foreign, Alone, WithNext, Roles, LinePiece, One}
 use Rattle.bpaf_exact.specs.Pieces.{Two}
-use Rattle.bpaf_exact.specs.Pieces.{is_own_role, is_own, mine, others, either, either_role, no_roles}
+use Rattle.bpaf_exact.specs.Pieces.{is_own_role, is_own, mine, others, either, either_role}
+use Rattle.bpaf_exact.specs.Pieces.{no_roles}
 use Rattle.bpaf_exact.specs.Pieces.{IsNamed, Apart, Cut, at_end, passed, flag, argument, word}
 use Rattle.bpaf_exact.specs.Pieces.{pieces}
-use Rattle.bpaf_exact.specs.Flat.{FieldKind, ByName, OneWord, EachWord, BothValue, both_reading, keys, left}
+use Rattle.bpaf_exact.specs.Flat.{FieldKind, ByName, OneWord, EachWord, BothValue, both_reading}
+use Rattle.bpaf_exact.specs.Flat.{keys, left}
 use Rattle.bpaf_exact.specs.Names.{Owns, are_all_apart}
 use Rattle.bpaf_exact.specs.Record.{RecordValue, line_cells}
 use Rattle.bpaf_exact.specs.FlatForm.{FlatForm, not_flat, alternative, single, complete, product}
-use Rattle.bpaf_exact.specs.FlatForm.{product_roles, product_reading, flat_both, flat_alone, flat_con}
+use Rattle.bpaf_exact.specs.FlatForm.{product_roles, product_reading, flat_both, flat_alone}
+use Rattle.bpaf_exact.specs.FlatForm.{flat_con}
 use Rattle.bpaf_exact.specs.FlatForm.{may_follow, only_if, flat_record}
 use Rattle.bpaf_exact.specs.Wrappers.{Closure}
 use Rattle.bpaf_exact.specs.Fields.{IsPart, ReadsOwn, FieldBy, IsFieldOf, FormOwns, OwnsKeys}
@@ -240,7 +243,8 @@ last_field a = record { by = last_by a }
 pub made_field : {A B C : Type 0} (f : Closure A B) (a : FlatForm C) (s : FlatForm A) (of : A → C)
     (from : B → C) → ((x : A) (v : B) → f.yes x v → from v ≡ of x) → IsFieldOf a s of
     → IsFieldOf a (flat_record (flat_con f s)) from
-made_field {A = A} f a s of from same h = record { by = of_record s (made_by f a s of from same h.by) }
+made_field {A = A} f a s of from same h =
+    record { by = of_record s (made_by f a s of from same h.by) }
   where
     of_record : (s : FlatForm A) → FieldBy a (flat_con f s) from
         → FieldBy a (flat_record (flat_con f s)) from

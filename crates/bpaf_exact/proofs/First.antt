@@ -2,16 +2,19 @@
 use Rattle.std.proofs.Common.{◌≡◌, ◌<◌, Bool, true, false, List, [], ◌∷◌, length, Option, Some}
 use Rattle.std.proofs.Common.{None, refl, sym, ap, ◌∙◌, subst, inl, inr, ◌⊎◌, if◌then◌else◌, arith}
 use Rattle.bpaf_words.specs.declared.arg.Arg.{Arg}
-use Rattle.bpaf_exact.specs.Pieces.{Cells, Role, Foreign, Alone, WithNext, Roles, LinePiece, One, Two}
+use Rattle.bpaf_exact.specs.Pieces.{Cells, Role, Foreign, Alone, WithNext, Roles, LinePiece, One}
+use Rattle.bpaf_exact.specs.Pieces.{Two}
 use Rattle.bpaf_exact.specs.Pieces.{is_value, is_own_role, is_own, IsNamed, Apart, either}
-use Rattle.bpaf_exact.specs.Pieces.{either_role, with_next, begin_piece, pieces, TakesPiece, takes_one}
+use Rattle.bpaf_exact.specs.Pieces.{either_role, with_next, begin_piece, pieces, TakesPiece}
+use Rattle.bpaf_exact.specs.Pieces.{takes_one}
 use Rattle.bpaf_exact.specs.Pieces.{takes_two, takes_later}
 use Rattle.bpaf_exact.specs.Alternative.{TakesFirst, first_one, first_two, first_later, HasBad}
 use Rattle.bpaf_exact.specs.Alternative.{bad_here, bad_later}
 use Rattle.bpaf_exact.proofs.Cells.{value_foreign, nil_rest, nil_foreign, keeps_other, same_next}
 
 -- taking the first piece is taking one
-pub first_takes : (q : Roles) {cs ds : Cells} {o : LinePiece} → TakesFirst q cs o ds → TakesPiece q cs o ds
+pub first_takes : (q : Roles) {cs ds : Cells} {o : LinePiece} → TakesFirst q cs o ds
+    → TakesPiece q cs o ds
 first_takes q (first_one e) = takes_one e
 first_takes q (first_two e v) = takes_two e v
 first_takes q (first_later n t) = takes_later (first_takes q t)
@@ -47,7 +50,8 @@ first_pieces q n (first_later {c = Some k} {cs = cs} {ds = ds} h t) =
     cc
 
 -- what was taken was there
-pub takes_nonempty : (q : Roles) {cs ds : Cells} {o : LinePiece} → TakesPiece q cs o ds → pieces q cs ≡ []
+pub takes_nonempty : (q : Roles) {cs ds : Cells} {o : LinePiece} → TakesPiece q cs o ds
+    → pieces q cs ≡ []
     → ⊥
 takes_nonempty q (takes_one {k = k} {cs = cs} e) h = let f =
     nil_foreign (q k) k cs (pieces q cs) h in cc
@@ -79,7 +83,8 @@ module _ (T : Type 0) (value : LinePiece → T → Type 0) where
       by_next x y e (bad_later h) = bad_later (f h)
 
   -- A piece that can't be read stays one when others are given back.
-  pub bad_given_back : (q : Roles) {cs ds : Cells} {o : LinePiece} → IsNamed q → TakesPiece q cs o ds
+  pub bad_given_back : (q : Roles) {cs ds : Cells} {o : LinePiece} → IsNamed q
+      → TakesPiece q cs o ds
       → HasBad T value (pieces q ds) → HasBad T value (pieces q cs)
   bad_given_back q n (takes_one {k = k} {cs = cs} e) h =
       subst (HasBad T value) (sym (begin_at k cs (pieces q cs) e)) (bad_later h)
@@ -148,7 +153,8 @@ left_role : (qa qb r : Roles) (k : Arg) (x : Role) → Union qa qb r → is_own_
 left_role qa qb r k x u h e = u.left k (ap is_own_role e ∙ h) ∙ e
 
 -- what the first takes both take
-pub takes_left : (qa qb r : Roles) {cs ds : Cells} {o : LinePiece} → Union qa qb r → TakesPiece qa cs o ds
+pub takes_left : (qa qb r : Roles) {cs ds : Cells} {o : LinePiece} → Union qa qb r
+    → TakesPiece qa cs o ds
     → TakesPiece r cs o ds
 takes_left qa qb r u (takes_one {k = k} e) = takes_one (left_role qa qb r k Alone u refl e)
 takes_left qa qb r u (takes_two {k = k} e v) = takes_two (left_role qa qb r k WithNext u refl e) v
@@ -260,7 +266,8 @@ owner qa qb r (Some k ∷ cs) o os u e =
 
 -- An item that isn't the first field's own goes before the first piece only where it isn't the
 -- other's either.
-not_either : (qa qb r : Roles) (k : Arg) (cs : Cells) (o : LinePiece) (os : List LinePiece) → Union qa qb r
+not_either : (qa qb r : Roles) (k : Arg) (cs : Cells) (o : LinePiece) (os : List LinePiece)
+    → Union qa qb r
     → qa k ≡ Foreign → is_own qa o ≡ true → pieces r (Some k ∷ cs) ≡ o ∷ os
     → (r k ≡ Foreign) × (pieces r cs ≡ o ∷ os)
 not_either qa qb r k cs o os u f h e = by_owner (belongs qa qb r k u)
@@ -274,7 +281,8 @@ not_either qa qb r k cs o os u f h e = by_owner (belongs qa qb r k u)
     by_owner (to_none x y z) = (z, sym (begin_at k cs (pieces r cs) z) ∙ e)
 
 -- Where the first piece of both is the first field's, the first field's first is the first of both.
-pub first_mine : (qa qb r : Roles) {cs ds : Cells} {oa o : LinePiece} {os : List LinePiece} → Union qa qb r
+pub first_mine : (qa qb r : Roles) {cs ds : Cells} {oa o : LinePiece} {os : List LinePiece}
+    → Union qa qb r
     → pieces r cs ≡ o ∷ os → is_own qa o ≡ true → TakesFirst qa cs oa ds → TakesFirst r cs oa ds
 first_mine qa qb r u e h (first_one {k = k} x) = first_one (left_role qa qb r k Alone u refl x)
 first_mine qa qb r u e h (first_two {k = k} x v) =
@@ -285,7 +293,8 @@ first_mine qa qb r {o = o} {os = os} u e h (first_later {c = Some k} {cs = cs} n
     first_later d.0 (first_mine qa qb r u d.1 h t)
 
 -- The same where the other field has no piece.
-pub first_alone : (qa qb r : Roles) {cs ds : Cells} {oa : LinePiece} → Union qa qb r → pieces qb cs ≡ []
+pub first_alone : (qa qb r : Roles) {cs ds : Cells} {oa : LinePiece} → Union qa qb r
+    → pieces qb cs ≡ []
     → TakesFirst qa cs oa ds → TakesFirst r cs oa ds
 first_alone qa qb r u e (first_one {k = k} x) = first_one (left_role qa qb r k Alone u refl x)
 first_alone qa qb r u e (first_two {k = k} x v) =
@@ -378,7 +387,8 @@ takes_shorter q n (takes_later {c = Some k} {cs = cs} {ds = ds} t) =
     begin_length (q k) k ds cs (pieces q ds) (pieces q cs) (takes_shorter q n t)
 
 -- so it changes the cells
-pub takes_changes : (q : Roles) {cs ds : Cells} {o : LinePiece} → IsNamed q → TakesPiece q cs o ds → ds ≡ cs
+pub takes_changes : (q : Roles) {cs ds : Cells} {o : LinePiece} → IsNamed q → TakesPiece q cs o ds
+    → ds ≡ cs
     → ⊥
 takes_changes q n t e = let a = takes_shorter q n t in let b = ap (λ z. length (pieces q z)) e in
     omega arith
@@ -405,7 +415,8 @@ module _ (T : Type 0) (va vr : LinePiece → T → Type 0) (qa qb r : Roles) (u 
   bad_any WithNext k cs os h = bad_later h
 
   -- a piece of the first that can't be read, behind an item
-  bad_at : (x y : Role) (k : Arg) (cs : Cells) (os ps : List LinePiece) → (is_own_role x ≡ true → y ≡ x)
+  bad_at : (x y : Role) (k : Arg) (cs : Cells) (os ps : List LinePiece)
+      → (is_own_role x ≡ true → y ≡ x)
       → ((o : LinePiece) → is_own qa o ≡ is_own_role (qa k) → is_own qa o ≡ is_own_role x)
       → (HasBad T va os → HasBad T vr ps) → HasBad T va (begin_piece x k cs os)
       → HasBad T vr (begin_piece y k cs ps)

@@ -9,7 +9,8 @@ use Rattle.bpaf_laws.specs.Reading.{Outcome}
 use Rattle.bpaf_exact.specs.Pieces.{Roles, no_roles}
 use Rattle.bpaf_exact.specs.Pieces.{either}
 use Rattle.bpaf_exact.specs.Names.{Owns, are_all_apart}
-use Rattle.bpaf_exact.specs.Flat.{ErrorClass, Refused, FieldKind, ByName, OneWord, EachWord, FieldsLaw}
+use Rattle.bpaf_exact.specs.Flat.{ErrorClass, Refused, FieldKind, ByName, OneWord, EachWord}
+use Rattle.bpaf_exact.specs.Flat.{FieldsLaw}
 use Rattle.bpaf_exact.specs.Flat.{keys, Before}
 use Rattle.bpaf_exact.specs.Single.{TurnsEval, repeated}
 use Rattle.bpaf_exact.specs.Wrappers.{Closure, Decides, map_closure, ClosedEval, OptionalEval}
@@ -223,7 +224,8 @@ flat_field_law T outcome names (complete k q value) l = l
 flat_field_law T outcome names (product q fields) l = tt
 
 -- fields that may follow keep apart
-follows : (k : FieldKind) (q r : Roles) (own others : List Names) → Owns (keys k q) own → Owns r others
+follows : (k : FieldKind) (q r : Roles) (own others : List Names) → Owns (keys k q) own
+    → Owns r others
     → may_follow k own others ≡ true → Before k q r
 follows ByName q r own others a b h = apart_of_names q r own others a b h
 follows OneWord q r own [] a b h = λ i. foreign_of (r i) (b.own i)

@@ -1,5 +1,6 @@
 -- What a field's value says of the keys with its names that stand on the line.
-use Rattle.std.proofs.Common.{◌≡◌, ℕ, Bool, true, false, List, [], ◌∷◌, Option, Some, None, length, map, suc}
+use Rattle.std.proofs.Common.{◌≡◌, ℕ, Bool, true, false, List, [], ◌∷◌, Option, Some, None, length}
+use Rattle.std.proofs.Common.{map, suc}
 use Rattle.std.proofs.Common.{refl, sym, ap, ◌∙◌, subst, true≢false, if◌then◌else◌, ◌++◌}
 use Rattle.std.specs.List.{AllZip}
 use Rattle.std.specs.Global.{Vec}
@@ -11,11 +12,13 @@ use Rattle.bpaf_exact.specs.Pieces.{begin_piece, with_next, is_value, IsNamed, i
 use Rattle.bpaf_exact.specs.Single.{FrontOf, Own, own_none, own_more, OwnList, listed}
 use Rattle.bpaf_exact.specs.Single.{listed_and_absent, only_absent, SingleValue, of_group, of_gap}
 use Rattle.bpaf_exact.specs.Single.{no_gap}
-use Rattle.bpaf_exact.specs.Leaves.{flag_roles, argument_roles, FlagValue, ArgumentValue, switch_gap}
+use Rattle.bpaf_exact.specs.Leaves.{flag_roles, argument_roles, FlagValue, ArgumentValue}
+use Rattle.bpaf_exact.specs.Leaves.{switch_gap}
 use Rattle.bpaf_exact.specs.Wrappers.{Closure, ClosedValue, OptionalValue, some_value, no_value}
 use Rattle.bpaf_exact.specs.Wrappers.{FallbackValue, own_value, kept_value}
 use Rattle.bpaf_exact.specs.Derived.{list_closure}
-use Rattle.bpaf_exact.specs.FlatForm.{FlatForm, FormLaw, not_flat, alternative, single, complete, product}
+use Rattle.bpaf_exact.specs.FlatForm.{FlatForm, FormLaw, not_flat, alternative, single, complete}
+use Rattle.bpaf_exact.specs.FlatForm.{product}
 use Rattle.bpaf_exact.specs.Fields.{keys_on, texts_of, FormOwns, IsSwitched, switched_on}
 use Rattle.bpaf_exact.specs.Fields.{switched_off, HasOneText, MayHaveText, HasTextOr, its_text}
 use Rattle.bpaf_exact.specs.Fields.{in_its_place, HaveTexts, HasLastText, IsFieldOf, IsSwitchOf}
@@ -45,7 +48,8 @@ key_of (One k) = k
 key_of (Two k w) = k
 
 -- the pieces of a flag are its keys
-flag_pieces : (names : Names) (cs : Cells) → pieces (flag_roles names) cs ≡ map One (keys_on names cs)
+flag_pieces : (names : Names) (cs : Cells)
+    → pieces (flag_roles names) cs ≡ map One (keys_on names cs)
 flag_pieces names [] = refl
 flag_pieces names (None ∷ cs) = flag_pieces names cs
 flag_pieces names (Some k ∷ cs) = by_key (is_key_of names k) (flag_pieces names cs)
@@ -104,7 +108,8 @@ module _ (clones : Bool → Bool → Type 0) (same : (x y : Bool) → clones x y
           (switched_on (one_key (keys_on names cs) k (e ∙ i)))
       by_piece (Two k w) i m = absurd m
   switched [] b e (of_gap a) =
-      subst (IsSwitched names cs) (sym (same false b a)) (switched_off (no_key (keys_on names cs) e))
+      subst (IsSwitched names cs) (sym (same false b a))
+      (switched_off (no_key (keys_on names cs) e))
 
   -- A switch is true exactly where a key with one of its names stands on the line, and then once.
   pub switch_said : (b : Bool)
@@ -243,7 +248,8 @@ module _ (T : Type 0) (means : List ℕ → T → Type 0) (names : Names) (cs : 
       → OwnList T (FrontOf T (ArgumentValue means)) (no_gap T) ps vs
       → HaveTexts T means names cs vs
   list_by ps vs e (listed h o) =
-      let all = all_texts own vs (subst (λ z. Own T (FrontOf T (ArgumentValue means)) z vs) (sym e) o) in
+      let all = all_texts own vs (subst (λ z. Own T (FrontOf T (ArgumentValue means)) z vs)
+      (sym e) o) in
       record { meant = all.0; each = all.1 ∙ ap length (argument_pieces names cs) }
   list_by ps (v ∷ vs) e (listed_and_absent h a o) = absurd a
   list_by [] (v ∷ []) e (only_absent h a) = absurd a
@@ -312,7 +318,8 @@ module _ {V T A : Type 0} (means : List ℕ → T → Type 0) (argument : KeyWit
       (subst
       (λ z. IsFieldOf (made (argument_by means argument.named.names [] z argument.last)) s of) apart
       (subst
-      (λ z. IsFieldOf (made (argument_by means argument.named.names z argument.adjacent argument.last))
+      (λ z. IsFieldOf (made (argument_by means argument.named.names z argument.adjacent
+      argument.last))
       s of)
       no_envs field))
 
@@ -347,7 +354,8 @@ module _ {V T : Type 0} (means : List ℕ → T → Type 0) (argument : KeyWithV
       → HasTextOr T means (f.yes tt) names (line_cells context) (of v)
   fallback_of f of field = fallback_said T means names (line_cells context) f (of v)
       (field_value s (argument_roles names) _ of (argument_named names)
-      (plain_field means argument (λ a. flat_field (flat_fallback f a)) s of no_envs apart once field)
+      (plain_field means argument (λ a. flat_field (flat_fallback f a)) s of no_envs apart once
+      field)
       context v value)
 
   -- under `many`

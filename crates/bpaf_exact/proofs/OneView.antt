@@ -26,7 +26,8 @@ use Rattle.bpaf_exact.specs.FlatForm.{FormLaw, Agrees, only_if, flat_closed, fla
 use Rattle.bpaf_exact.specs.FlatForm.{flat_choice, choices_rest, alternative_only, flat_choices}
 use Rattle.bpaf_exact.specs.FlatForm.{flat_repeat, flat_many, flat_last, flat_optional}
 use Rattle.bpaf_exact.specs.FlatForm.{flat_fallback, flat_field, may_follow, flat_both, flat_alone}
-use Rattle.bpaf_exact.specs.FlatForm.{flat_con, flat_record, is_record, product_roles, product_reading}
+use Rattle.bpaf_exact.specs.FlatForm.{flat_con, flat_record, is_record, product_roles}
+use Rattle.bpaf_exact.specs.FlatForm.{product_reading}
 use Rattle.bpaf_exact.specs.OneView.{Alike, OneGroup, HasOneView, Respects, option_view, pair_view}
 use Rattle.bpaf_exact.specs.OneView.{LooksLike, RunsToOne}
 use Rattle.bpaf_exact.proofs.Alternative.{alternative_single}

@@ -1,5 +1,6 @@
 -- The items of a field's own are those with one of its names, whatever stands round it.
-use Rattle.std.proofs.Common.{◌≡◌, ℕ, Bool, true, false, ◌||◌, List, [], ◌∷◌, ◌++◌, Option, Some, None}
+use Rattle.std.proofs.Common.{◌≡◌, ℕ, Bool, true, false, ◌||◌, List, [], ◌∷◌, ◌++◌, Option, Some}
+use Rattle.std.proofs.Common.{None}
 use Rattle.std.proofs.Common.{refl, subst, if◌then◌else◌}
 use Rattle.std.proofs.lemmas.List.{append-nil}
 use Rattle.bpaf_doc.specs.Names.{Names}
@@ -12,9 +13,11 @@ use Rattle.bpaf_exact.specs.Leaves.{flag_roles, flag_by, flag_field, argument_by
 use Rattle.bpaf_exact.specs.Leaves.{argument_roles}
 use Rattle.bpaf_exact.specs.Leaves.{argument_field, word_field}
 use Rattle.bpaf_exact.specs.Names.{Owns}
-use Rattle.bpaf_exact.specs.FlatForm.{FlatForm, not_flat, alternative, single, complete, product, only_if}
+use Rattle.bpaf_exact.specs.FlatForm.{FlatForm, not_flat, alternative, single, complete, product}
+use Rattle.bpaf_exact.specs.FlatForm.{only_if}
 use Rattle.bpaf_exact.specs.FlatForm.{flat_closed, flat_optional, flat_fallback, flat_repeat}
-use Rattle.bpaf_exact.specs.FlatForm.{unless, flat_many, flat_field, flat_alone, flat_both, may_follow}
+use Rattle.bpaf_exact.specs.FlatForm.{unless, flat_many, flat_field, flat_alone, flat_both}
+use Rattle.bpaf_exact.specs.FlatForm.{may_follow}
 use Rattle.bpaf_exact.specs.Wrappers.{Closure}
 use Rattle.bpaf_exact.specs.Derived.{list_closure}
 use Rattle.bpaf_exact.specs.Fields.{OwnsKeys}
@@ -105,7 +108,8 @@ many_owns {T = T} names s h =
     closed_owns (list_closure T) names (flat_repeat s) (repeat_owns names s h)
 
 -- without `catch`,
-pub unless_owns : {T : Type 0} (catch : Bool) (names : List Names) (s : FlatForm T) → OwnsKeys names s
+pub unless_owns : {T : Type 0} (catch : Bool) (names : List Names) (s : FlatForm T)
+    → OwnsKeys names s
     → OwnsKeys names (unless catch s)
 unless_owns true names s h = record { by = tt }
 unless_owns false names s h = h

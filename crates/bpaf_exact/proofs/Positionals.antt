@@ -9,7 +9,8 @@ use Rattle.bpaf_line.specs.declared.error.Error.{Error}
 use Rattle.bpaf_line.specs.Situation.{Situation}
 use Rattle.bpaf_line.specs.Taking.{TakesText}
 use Rattle.bpaf_line.proofs.Matches.{open_item_there}
-use Rattle.bpaf_exact.specs.Pieces.{Cells, Foreign, Alone, WithNext, LinePiece, One, word_roles, pieces}
+use Rattle.bpaf_exact.specs.Pieces.{Cells, Foreign, Alone, WithNext, LinePiece, One, word_roles}
+use Rattle.bpaf_exact.specs.Pieces.{pieces}
 use Rattle.bpaf_exact.specs.Flat.{cells, IsWhole, Steady, OneWord, front, back}
 use Rattle.bpaf_exact.specs.Single.{Groups, FrontOf, no_gap, SingleOk, took, SingleErr, of_memory}
 use Rattle.bpaf_exact.specs.Single.{of_missing, of_piece, WordByWord, SingleLaw}
@@ -111,7 +112,8 @@ module _ (T : Type 0) (means : List ℕ → T → Type 0) where
   one_by_one : WordByWord T group
   one_by_one = record { by_front = fronts; of_front = heads }
     where
-      fronts : (os : List LinePiece) (v : T) (rest : List LinePiece) → FrontOf T (WordValue means) os v rest
+      fronts : (os : List LinePiece) (v : T) (rest : List LinePiece)
+          → FrontOf T (WordValue means) os v rest
           → FrontOf T (WordValue means) (front OneWord os) v [] × (rest ≡ back OneWord os)
       fronts [] v rest g = let e = g.is in absurd cc
       fronts (o ∷ os) v rest g =

@@ -8,7 +8,8 @@ use Rattle.bpaf_words.specs.Items.{item_text}
 use Rattle.bpaf_words.specs.declared.arg.Arg.{Arg}
 use Rattle.bpaf_exact.specs.Pieces.{Role, Foreign, Alone, WithNext, Roles, LinePiece, One, Two}
 use Rattle.bpaf_exact.specs.Pieces.{is_own_role, others, either, either_role, no_roles}
-use Rattle.bpaf_exact.specs.Flat.{FieldKind, ByName, OneWord, EachWord, BothValue, both_reading, keys}
+use Rattle.bpaf_exact.specs.Flat.{FieldKind, ByName, OneWord, EachWord, BothValue, both_reading}
+use Rattle.bpaf_exact.specs.Flat.{keys}
 use Rattle.bpaf_exact.specs.Flat.{front, back, FieldsReading}
 use Rattle.bpaf_exact.specs.Leaves.{WordValue}
 use Rattle.bpaf_exact.specs.Names.{Owns}
@@ -46,7 +47,8 @@ others_both q r (One k ∷ os) = by_role (q k) (r k) refl (others_both q r os)
     by_role Alone y e h = h
     by_role WithNext y e h = h
     by_role Foreign y e h =
-        ap (λ z. if is_own_role z then others r (others q os) else (One k ∷ others r (others q os))) e
+        ap (λ z. if is_own_role z then others r (others q os) else (One k ∷ others r (others q os)))
+        e
         ∙ ap (λ z. if is_own_role y then z else (One k ∷ z)) h
 others_both q r (Two k w ∷ os) = by_role (q k) (r k) refl (others_both q r os)
   where
@@ -57,7 +59,8 @@ others_both q r (Two k w ∷ os) = by_role (q k) (r k) refl (others_both q r os)
     by_role Alone y e h = h
     by_role WithNext y e h = h
     by_role Foreign y e h =
-        ap (λ z. if is_own_role z then others r (others q os) else (Two k w ∷ others r (others q os))) e
+        ap (λ z. if is_own_role z then others r (others q os) else
+        (Two k w ∷ others r (others q os))) e
         ∙ ap (λ z. if is_own_role y then z else (Two k w ∷ z)) h
 
 -- behind a positional field no item is another field's own
@@ -67,7 +70,8 @@ none_behind r own [] owned e k = owned.own k
 none_behind r own (names ∷ behind) owned e k = absurd cc
 
 -- what follows from what is said of positional fields is said of them too
-of_words_by : (k : FieldKind) {known said : Type 0} → (known → said) → OfWords k known → OfWords k said
+of_words_by : (k : FieldKind) {known said : Type 0} → (known → said) → OfWords k known
+    → OfWords k said
 of_words_by ByName f h = tt
 of_words_by OneWord f h = f h
 of_words_by EachWord f h = f h
@@ -142,7 +146,8 @@ module _ {A B C : Type 0} (own behind : List Names) (k : FieldKind) (p : Roles)
       by_kind EachWord e = behind_words (λ os. []) (none_behind r own behind owned e) _
 
 -- a positional field of those that stand behind another field
-later_words_by : {A B C : Type 0} (own behind : List Names) (a : FlatForm A) (b : FlatForm B) (s : FlatForm C)
+later_words_by : {A B C : Type 0} (own behind : List Names) (a : FlatForm A) (b : FlatForm B)
+    (s : FlatForm C)
     (rest : List LinePiece → List LinePiece) (of : C → B) → FormOwns behind s → WordsBy b rest s of
     → WordsBy b (λ os. rest (words_behind_field a os)) (flat_both own behind a s) (λ v. of v.1)
 later_words_by own behind a not_flat s rest of owned h = tt
@@ -189,7 +194,8 @@ last_words_by (complete EachWord q value) = record {
 }
 
 -- a positional field of what a constructor makes
-made_words_by : {A B C : Type 0} (f : Closure A B) (a : FlatForm C) (rest : List LinePiece → List LinePiece)
+made_words_by : {A B C : Type 0} (f : Closure A B) (a : FlatForm C)
+    (rest : List LinePiece → List LinePiece)
     (s : FlatForm A) (of : A → C) (from : B → C)
     → ((x : A) (v : B) → f.yes x v → from v ≡ of x) → WordsBy a rest s of
     → WordsBy a rest (flat_record (flat_con f s)) from
@@ -214,8 +220,10 @@ pub first_words : {A B : Type 0} (own behind : List Names) (a : FlatForm A) (s :
 first_words own behind a s owned = record { by = first_words_by own behind a s owned.by }
 
 -- one of the others gets what the first leaves,
-pub later_words : {A B C : Type 0} (own behind : List Names) (a : FlatForm A) (b : FlatForm B) (s : FlatForm C)
-    (rest : List LinePiece → List LinePiece) (of : C → B) → OwnsKeys behind s → IsWordsOf b rest s of
+pub later_words : {A B C : Type 0} (own behind : List Names) (a : FlatForm A) (b : FlatForm B)
+    (s : FlatForm C)
+    (rest : List LinePiece → List LinePiece) (of : C → B) → OwnsKeys behind s
+    → IsWordsOf b rest s of
     → IsWordsOf b (λ os. rest (words_behind_field a os)) (flat_both own behind a s) (λ v. of v.1)
 later_words own behind a b s rest of owned h =
     record { by = later_words_by own behind a b s rest of owned.by h.by }
@@ -225,7 +233,8 @@ pub last_words : {A : Type 0} (a : FlatForm A) → IsWordsOf a (λ os. os) (flat
 last_words a = record { by = last_words_by a }
 
 -- and so is one of what a constructor makes.
-pub made_words : {A B C : Type 0} (f : Closure A B) (a : FlatForm C) (rest : List LinePiece → List LinePiece)
+pub made_words : {A B C : Type 0} (f : Closure A B) (a : FlatForm C)
+    (rest : List LinePiece → List LinePiece)
     (s : FlatForm A) (of : A → C) (from : B → C)
     → ((x : A) (v : B) → f.yes x v → from v ≡ of x) → IsWordsOf a rest s of
     → IsWordsOf a rest (flat_record (flat_con f s)) from
@@ -238,11 +247,17 @@ module _ (T : Type 0) (means : List ℕ → T → Type 0) where
       → SingleValue T (FrontOf T (WordValue means)) (no_gap T) ws v → IsFirstWord T means os v
   word_by os ws v e (of_group g) = by_piece os g.piece (e ∙ g.is) g.means
     where
-      by_piece : (os : List LinePiece) (o : LinePiece) → front OneWord os ≡ o ∷ [] → WordValue means o v
+      by_piece : (os : List LinePiece) (o : LinePiece) → front OneWord os ≡ o ∷ []
+          → WordValue means o v
           → IsFirstWord T means os v
       by_piece [] o i m = absurd cc
       by_piece (One w ∷ more) (One x) i m = let same : w ≡ x = cc in
-          record { word = w; more = more; is = refl; meant = subst (λ z. means (item_text z) v) (sym same) m }
+          record {
+            word = w;
+            more = more;
+            is = refl;
+            meant = subst (λ z. means (item_text z) v) (sym same) m;
+          }
       by_piece (Two k w ∷ more) (One x) i m = absurd cc
       by_piece os (Two k w) i m = absurd m
   word_by os [] v e (of_gap a) = absurd a

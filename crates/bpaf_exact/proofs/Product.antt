@@ -7,7 +7,8 @@ use Rattle.bpaf_line.specs.Messages.{is_memory}
 use Rattle.bpaf_laws.specs.Product.{BothOutcome, joined}
 use Rattle.bpaf_laws.specs.Reading.{Outcome}
 use Rattle.bpaf_laws.specs.Spared.{IsNotMemory}
-use Rattle.bpaf_exact.specs.Pieces.{Cells, Role, Foreign, Alone, WithNext, Roles, LinePiece, One, Two}
+use Rattle.bpaf_exact.specs.Pieces.{Cells, Role, Foreign, Alone, WithNext, Roles, LinePiece, One}
+use Rattle.bpaf_exact.specs.Pieces.{Two}
 use Rattle.bpaf_exact.specs.Pieces.{is_own_role, is_own, others, either_role, either, IsNamed}
 use Rattle.bpaf_exact.specs.Pieces.{Apart, Cut, at_end, passed, flag, argument, word}
 use Rattle.bpaf_exact.specs.Pieces.{pieces, TakesPieces}
@@ -44,7 +45,8 @@ steady_trans a b =
     }
 
 -- A cut by the keys of others holds no key of one's own.
-no_own_in_cut : (q r : Roles) {cs : Cells} {os : List LinePiece} → IsNamed q → Apart q r → Cut r cs os
+no_own_in_cut : (q r : Roles) {cs : Cells} {os : List LinePiece} → IsNamed q → Apart q r
+    → Cut r cs os
     → pieces q cs ≡ []
 no_own_in_cut q r n a at_end = refl
 no_own_in_cut q r n a (passed c) = no_own_in_cut q r n a c
@@ -63,7 +65,8 @@ either_foreign Alone y z e h = cc
 either_foreign WithNext y z e h = cc
 
 -- with a piece of others more all are of others
-others_all : (q : Roles) (o : LinePiece) (os : List LinePiece) → is_own q o ≡ false → others q os ≡ os
+others_all : (q : Roles) (o : LinePiece) (os : List LinePiece) → is_own q o ≡ false
+    → others q os ≡ os
     → others q (o ∷ os) ≡ o ∷ os
 others_all q o os h e = others_foreign q o os h ∙ ap (λ z. o ∷ z) e
 
@@ -146,7 +149,8 @@ narrow q r n p (word {w = w} {cs = cs} {os = os} h c) =
 -- What is read off the pieces, seen from before a field was evaluated.
 
 -- a cut from before a field was evaluated, with its share and what it left
-pub record StepBack (k : FieldKind) (q r : Roles) (cs : Cells) (after : List LinePiece) : Type 0 where
+pub record StepBack (k : FieldKind) (q r : Roles) (cs : Cells)
+    (after : List LinePiece) : Type 0 where
   pub before : List LinePiece
   pub cut : Cut (either (keys k q) r) cs before
   pub leaves : left k q before ≡ after
@@ -237,7 +241,8 @@ step_on EachWord q r n b t e c =
 -- Fields before others keep to the laws.
 
 -- the keys of all are keys
-both_named : (k : FieldKind) (q r : Roles) → OwnItems k q → IsNamed r → IsNamed (either (keys k q) r)
+both_named : (k : FieldKind) (q r : Roles) → OwnItems k q → IsNamed r
+    → IsNamed (either (keys k q) r)
 both_named ByName q r n m =
     record {
       only_keys =

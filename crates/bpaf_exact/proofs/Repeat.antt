@@ -4,15 +4,18 @@ use Rattle.std.proofs.Common.{None, Result, Ok, Err, refl, sym, ap, ◌∙◌, s
 use Rattle.bpaf_line.specs.declared.error.Error.{Error}
 use Rattle.bpaf_line.specs.Situation.{Situation, open_count}
 use Rattle.bpaf_laws.specs.Reading.{Outcome}
-use Rattle.bpaf_exact.specs.Pieces.{Cells, Roles, LinePiece, pieces, TakesPieces, takes_none, takes_more}
+use Rattle.bpaf_exact.specs.Pieces.{Cells, Roles, LinePiece, pieces, TakesPieces, takes_none}
+use Rattle.bpaf_exact.specs.Pieces.{takes_more}
 use Rattle.bpaf_exact.specs.Flat.{ErrorClass, OfMemory, OfMissing, Caught, Refused, class, cells}
-use Rattle.bpaf_exact.specs.Flat.{IsWhole, Steady, FieldKind, ByName, OneWord, EachWord, front, back}
+use Rattle.bpaf_exact.specs.Flat.{IsWhole, Steady, FieldKind, ByName, OneWord, EachWord, front}
+use Rattle.bpaf_exact.specs.Flat.{back}
 use Rattle.bpaf_exact.specs.Flat.{OwnItems, FieldLaw, Gives}
 use Rattle.bpaf_exact.specs.Single.{Groups, Own, own_none, own_more, TakesAny, Readable, Gap}
 use Rattle.bpaf_exact.specs.Single.{TookGroup, SingleOk, gave_absent, took, SingleErr, of_memory}
 use Rattle.bpaf_exact.specs.Single.{of_missing, of_absent, of_piece, SingleLaw, OwnList, listed}
 use Rattle.bpaf_exact.specs.Single.{listed_and_absent, only_absent, repeated, Stops, nothing_found}
-use Rattle.bpaf_exact.specs.Single.{caught, IsFewer, TurnsEval, step, step_failed, idle_step, enough}
+use Rattle.bpaf_exact.specs.Single.{caught, IsFewer, TurnsEval, step, step_failed, idle_step}
+use Rattle.bpaf_exact.specs.Single.{enough}
 use Rattle.bpaf_exact.specs.Single.{stopped, failed, no_room, present_count}
 use Rattle.bpaf_exact.proofs.Product.{whole_after, steady_refl, steady_trans}
 use Rattle.bpaf_exact.proofs.Counts.{open_present, takes_any_fewer}
@@ -48,7 +51,8 @@ pub no_stop : (s m : Situation) (e : Error) (c : ErrorClass) → Stops e s m →
 no_stop s m e c (nothing_found h n) g a b = a (sym g ∙ h)
 no_stop s m e c (caught h) g a b = b (sym g ∙ h)
 
-module _ (T : Type 0) (inner : Outcome T) (k : FieldKind) (q : Roles) (group : Groups T) (gap : Gap T)
+module _ (T : Type 0) (inner : Outcome T) (k : FieldKind) (q : Roles) (group : Groups T)
+    (gap : Gap T)
     (l : SingleLaw T inner k q group gap) (idle : Bool) where
   -- what a repeat took, once it has the first value
   record Took (s : Situation) (vs : List T) (t : Situation) : Type 0 where

@@ -103,7 +103,8 @@ module _ {P : Type 0} (describes : P → Shape → Type 0)
   choices_show (p ∷ ps) = nested_shows (describes p) (each p) ps
 
 -- the last field
-pub last_shows : {last : Shape → Type 0} → ShowsTheSame last → FieldsShowTheSame (LastDescribes last)
+pub last_shows : {last : Shape → Type 0} → ShowsTheSame last
+    → FieldsShowTheSame (LastDescribes last)
 last_shows one = record {
   same = λ all others first second.
       ap (λ shapes. parts_of_all (members shapes)) first.2

@@ -186,7 +186,8 @@ value_behind_switch os c =
 word_too_many :
     ¬ ((last_reading OneWord word_roles TextValue).each (One (letter 9) ∷ One (letter 8) ∷ []))
 word_too_many =
-    surplus_word _ _ (One (letter 9) ∷ One (letter 8) ∷ []) (none_left OneWord word_roles TextValue) (One (letter 8)) [] refl
+    surplus_word _ _ (One (letter 9) ∷ One (letter 8) ∷ []) (none_left OneWord word_roles TextValue)
+    (One (letter 8)) [] refl
 
 -- the items of the argument and a word
 abbrev two_roles : Roles

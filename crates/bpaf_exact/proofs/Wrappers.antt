@@ -42,7 +42,8 @@ nil_front OneWord (o ∷ os) e = absurd cc
 nil_front EachWord os e = e
 
 -- outer closures
-module _ (A B : Type 0) (inner : Outcome A) (k : FieldKind) (q : Roles) (value : List LinePiece → A → Type 0)
+module _ (A B : Type 0) (inner : Outcome A) (k : FieldKind) (q : Roles)
+    (value : List LinePiece → A → Type 0)
     (l : FieldLaw A inner k q value) (f : Closure A B)
     (agrees : (os : List LinePiece) → AgreesOn (value os) f) (c : ErrorClass) where
   -- a value that the closure gave
@@ -76,7 +77,8 @@ module _ (A B : Type 0) (inner : Outcome A) (k : FieldKind) (q : Roles) (value :
   pub closed_law : FieldLaw B (ClosedEval A B inner f c) k q (ClosedValue A B value f)
   closed_law = record { own = l.own; ok = closed_ok; answers = closed_answers }
 
-module _ (T : Type 0) (inner : Outcome T) (k : FieldKind) (q : Roles) (group : Groups T) (gap : Gap T)
+module _ (T : Type 0) (inner : Outcome T) (k : FieldKind) (q : Roles) (group : Groups T)
+    (gap : Gap T)
     (l : SingleLaw T inner k q group gap) where
   -- the value of a single field: of a group, or the absent one
   data SingleView (os : List LinePiece) (v : T) : Type 0 where
@@ -99,7 +101,8 @@ module _ (T : Type 0) (inner : Outcome T) (k : FieldKind) (q : Roles) (group : G
   nothing_left os ps e h = h ∙ sym (ap (back k) e ∙ back_nil k)
 
   -- what was taken is the front
-  took_read : (z : FieldKind) (s t : Situation) (v : T) → ReadsWords z group → LeavesNone z q (cells t)
+  took_read : (z : FieldKind) (s t : Situation) (v : T) → ReadsWords z group
+      → LeavesNone z q (cells t)
       → (Readable z group (pieces q (cells t)) → group (pieces q (cells s)) v (pieces q (cells t)))
       → group (front z (pieces q (cells s))) v []
       × (pieces q (cells t) ≡ back z (pieces q (cells s)))
@@ -131,14 +134,16 @@ module _ (T : Type 0) (inner : Outcome T) (k : FieldKind) (q : Roles) (group : G
   }
 
   -- what the front means the pieces mean
-  of_front : (z : FieldKind) (os : List LinePiece) (v : T) → ReadsWords z group → group (front z os) v []
+  of_front : (z : FieldKind) (os : List LinePiece) (v : T) → ReadsWords z group
+      → group (front z os) v []
       → group os v (back z os)
   of_front ByName os v u g = g
   of_front OneWord os v u g = u.of_front os v g
   of_front EachWord os v u g = absurd u
 
   -- and the other way
-  to_front : (z : FieldKind) (os : List LinePiece) (v : T) → ReadsWords z group → group os v (back z os)
+  to_front : (z : FieldKind) (os : List LinePiece) (v : T) → ReadsWords z group
+      → group os v (back z os)
       → group (front z os) v []
   to_front ByName os v u g = g
   to_front OneWord os v u g = (u.by_front os v (back OneWord os) g).0
@@ -338,7 +343,8 @@ module _ (T : Type 0) (inner : Outcome T) (k : FieldKind) (q : Roles) (group : G
       view_own : SingleValue T group gap os v → FallbackView os v
       view_kept : os ≡ [] → gap.has ≡ false → f.yes tt v → FallbackView os v
 
-    fallback_view : (os : List LinePiece) (v : T) → FallbackValue T group gap f os v → FallbackView os v
+    fallback_view : (os : List LinePiece) (v : T) → FallbackValue T group gap f os v
+        → FallbackView os v
     fallback_view os v (own_value g) = view_own g
     fallback_view os v (kept_value h y) = view_kept refl h y
 

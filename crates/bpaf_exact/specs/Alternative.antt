@@ -50,7 +50,8 @@ pub data AlternativeErr (T : Type 0) (q : Roles) (value : LinePiece → T → Ty
       → Steady s t → AlternativeErr T q value s e t
   -- the first piece can't be read
   alternative_refused : class e ≡ Refused → t.path ≡ s.path → HasBad T value (pieces q (cells s))
-      → ((o : LinePiece) (os : List LinePiece) (w : T) → pieces q (cells s) ≡ o ∷ os → value o w → ⊥)
+      → ((o : LinePiece) (os : List LinePiece) (w : T) → pieces q (cells s) ≡ o ∷ os → value o w
+      → ⊥)
       → AlternativeErr T q value s e t
 
 -- the laws of a required flag or argument, or of a choice of them

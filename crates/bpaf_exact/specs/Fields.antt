@@ -7,7 +7,8 @@ use Rattle.bpaf_doc.specs.Names.{Names}
 use Rattle.bpaf_words.specs.Items.{is_key_of, item_text}
 use Rattle.bpaf_words.specs.declared.arg.Arg.{Arg}
 use Rattle.bpaf_exact.specs.Leaves.{argument_roles}
-use Rattle.bpaf_exact.specs.Pieces.{Cells, Roles, LinePiece, One, Two, is_own_role, mine, others, pieces}
+use Rattle.bpaf_exact.specs.Pieces.{Cells, Roles, LinePiece, One, Two, is_own_role, mine, others}
+use Rattle.bpaf_exact.specs.Pieces.{pieces}
 use Rattle.bpaf_exact.specs.Flat.{ByName}
 use Rattle.bpaf_text.specs.Named.{Named as Key}
 use Rattle.bpaf_exact.specs.Names.{Owns}
@@ -47,10 +48,12 @@ words_behind_field (complete OneWord q own) os = back OneWord os
 words_behind_field (complete EachWord q own) os = []
 words_behind_field _ os = os
 
--- A positional field of a record: its value is that of the words which the fields before it leave, of
--- those that belong to no key.
-pub record ReadsWords (V A : Type 0) (r : Roles) (value : List LinePiece → V → Type 0) (k : FieldKind)
-    (rest : List LinePiece → List LinePiece) (own : List LinePiece → A → Type 0) (of : V → A) : Type 0 where
+-- A positional field of a record: its value is that of the words which the fields before it leave,
+-- of those that belong to no key.
+pub record ReadsWords (V A : Type 0) (r : Roles) (value : List LinePiece → V → Type 0)
+    (k : FieldKind)
+    (rest : List LinePiece → List LinePiece) (own : List LinePiece → A → Type 0)
+    (of : V → A) : Type 0 where
   pub read : (os : List LinePiece) (v : V) → value os v → own (front k (rest (others r os))) (of v)
 
 -- what is said of positional fields alone
@@ -60,14 +63,16 @@ OfWords OneWord said = said
 OfWords EachWord said = said
 
 -- a record has such a field, of this form
-abbrev pub WordsBy : {V A : Type 0} → FlatForm A → (List LinePiece → List LinePiece) → FlatForm V → (V → A)
+abbrev pub WordsBy : {V A : Type 0} → FlatForm A → (List LinePiece → List LinePiece) → FlatForm V
+    → (V → A)
     → Type 0
 WordsBy {V = V} {A = A} (complete k q own) rest (product r fields) of =
     OfWords k (ReadsWords V A r fields.value k rest own of)
 WordsBy _ rest _ of = Unit {0}
 
 -- a form is that of a positional field, whose value is so read off that of the whole
-pub record IsWordsOf {V A : Type 0} (a : FlatForm A) (rest : List LinePiece → List LinePiece) (s : FlatForm V)
+pub record IsWordsOf {V A : Type 0} (a : FlatForm A) (rest : List LinePiece → List LinePiece)
+    (s : FlatForm V)
     (of : V → A) : Type 0 where
   pub by : WordsBy a rest s of
 
@@ -137,7 +142,8 @@ pub data HasTextOr (T : Type 0) (means : List ℕ → T → Type 0) (kept : T �
   its_text : HasOneText T means names cs v → HasTextOr T means kept names cs v
   in_its_place : keys_on names cs ≡ [] → kept v → HasTextOr T means kept names cs v
 
--- the texts behind all keys with one of these names mean the values, in line order, one for each key
+-- the texts behind all keys with one of these names mean the values, in line order, one for each
+-- key
 pub record HaveTexts (T : Type 0) (means : List ℕ → T → Type 0) (names : Names) (cs : Cells)
     (vs : List T) : Type 0 where
   pub meant : AllZip means (texts_on names cs) vs
@@ -150,7 +156,8 @@ word_texts (One w ∷ os) = item_text w ∷ word_texts os
 word_texts (Two k w ∷ os) = word_texts os
 
 -- the value of a positional field without a repeat is what the first of the words means
-pub record IsFirstWord (T : Type 0) (means : List ℕ → T → Type 0) (os : List LinePiece) (v : T) : Type 0
+pub record IsFirstWord (T : Type 0) (means : List ℕ → T → Type 0) (os : List LinePiece)
+    (v : T) : Type 0
   where
     pub word : Arg
     pub more : List LinePiece

@@ -7,7 +7,8 @@ use Rattle.bpaf_line.specs.Situation.{Situation, open_count}
 use Rattle.bpaf_laws.specs.Reading.{Outcome}
 use Rattle.bpaf_exact.specs.Pieces.{Cells, Roles, LinePiece, pieces, TakesPiece, TakesPieces}
 use Rattle.bpaf_exact.specs.Flat.{OfMemory, OfMissing, Caught, Refused, class, cells, IsWhole}
-use Rattle.bpaf_exact.specs.Flat.{Steady, FieldKind, ByName, OneWord, EachWord, front, back, OwnItems}
+use Rattle.bpaf_exact.specs.Flat.{Steady, FieldKind, ByName, OneWord, EachWord, front, back}
+use Rattle.bpaf_exact.specs.Flat.{OwnItems}
 
 -- how one evaluation reads a value off the front of the own pieces, and which it leaves
 abbrev pub Groups : Type 0 → Type 1
@@ -23,7 +24,8 @@ pub record FrontOf (T : Type 0) (value : LinePiece → T → Type 0) (os : List 
 -- the values read off the pieces, one after the other
 pub data Own (T : Type 0) (group : Groups T) : List LinePiece → List T → Type 0 where
   own_none : Own T group [] []
-  own_more : {os rest : List LinePiece} {v : T} {vs : List T} → group os v rest → Own T group rest vs
+  own_more : {os rest : List LinePiece} {v : T} {vs : List T} → group os v rest
+      → Own T group rest vs
       → Own T group os (v ∷ vs)
 
 -- at least one piece taken
@@ -45,7 +47,8 @@ pub record Gap (T : Type 0) : Type 1 where
   pub absent : T → Type 0
 
 -- a value read off the front of the own pieces, of which at least one was taken
-pub record TookGroup (T : Type 0) (k : FieldKind) (q : Roles) (group : Groups T) (s : Situation) (v : T)
+pub record TookGroup (T : Type 0) (k : FieldKind) (q : Roles) (group : Groups T) (s : Situation)
+    (v : T)
     (t : Situation) : Type 0 where
   pub steady : Steady s t
   pub takes : TakesAny q (cells s) (cells t)
@@ -95,7 +98,8 @@ ReadsWords {T = T} OneWord group = WordByWord T group
 ReadsWords EachWord group = ⊥
 
 -- the laws of a field without a repeat or default
-pub record SingleLaw (T : Type 0) (outcome : Outcome T) (k : FieldKind) (q : Roles) (group : Groups T)
+pub record SingleLaw (T : Type 0) (outcome : Outcome T) (k : FieldKind) (q : Roles)
+    (group : Groups T)
     (gap : Gap T) : Type 0 where
   pub own : OwnItems k q
   pub words : ReadsWords k group
@@ -108,7 +112,8 @@ pub record SingleLaw (T : Type 0) (outcome : Outcome T) (k : FieldKind) (q : Rol
 
 -- The own list under a repeat; the absent value must be there also where it isn't used: the repeat
 -- asks once more.
-pub data OwnList (T : Type 0) (group : Groups T) (gap : Gap T) : List LinePiece → List T → Type 0 where
+pub data OwnList (T : Type 0) (group : Groups T) (gap : Gap T) : List LinePiece → List T
+    → Type 0 where
   listed : {os : List LinePiece} {vs : List T} → gap.has ≡ false → Own T group os vs
       → OwnList T group gap os vs
   listed_and_absent : {os : List LinePiece} {v a : T} {vs : List T} → gap.has ≡ true → gap.absent a
@@ -116,7 +121,8 @@ pub data OwnList (T : Type 0) (group : Groups T) (gap : Gap T) : List LinePiece 
   only_absent : {a : T} → gap.has ≡ true → gap.absent a → OwnList T group gap [] (a ∷ [])
 
 -- the value of a field without a repeat or default
-pub data SingleValue (T : Type 0) (group : Groups T) (gap : Gap T) : List LinePiece → T → Type 0 where
+pub data SingleValue (T : Type 0) (group : Groups T) (gap : Gap T) : List LinePiece → T
+    → Type 0 where
   of_group : {os : List LinePiece} {v : T} → group os v [] → SingleValue T group gap os v
   of_gap : {v : T} → gap.absent v → SingleValue T group gap [] v
 

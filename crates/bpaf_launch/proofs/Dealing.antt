@@ -230,7 +230,8 @@ module _ (parts : Parts) (program : AreProgramParts parts) where
 
       name_reads_before : ReadsBefore (WordReads parts.name)
       name_reads_before =
-          subst (λ p. ReadsBefore (PositionalReads String MeansText p)) (sym program.name.position_is)
+          subst (λ p. ReadsBefore (PositionalReads String MeansText p))
+          (sym program.name.position_is)
           (word_reads_before String MeansText)
 
       words_pass : PassesOn (ManyOutcome (WordOutcome parts.words.inner) parts.words.catch)

@@ -1,5 +1,6 @@
 -- Adjacent groups keep to the laws where their products do.
-use Rattle.std.specs.Prelude.{IfOk, ◌≡◌, ℕ, ◌<◌, ◌≤◌, Bool, true, false, not, ◌&&◌, nat_le, nat_lt, Result, Ok, Err, Option, Some, None, if◌then◌else◌, refl}
+use Rattle.std.specs.Prelude.{IfOk, ◌≡◌, ℕ, ◌<◌, ◌≤◌, Bool, true, false, not, ◌&&◌, nat_le, nat_lt}
+use Rattle.std.specs.Prelude.{Result, Ok, Err, Option, Some, None, if◌then◌else◌, refl}
 use Rattle.std.proofs.Common.{sym, subst, ◌∙◌, ◌+◌, arith, true≢false}
 use Rattle.std.proofs.lemmas.Bool.{and_parts}
 use Rattle.bpaf_doc.specs.Shape.{Part}
@@ -13,7 +14,8 @@ use Rattle.bpaf_laws.specs.OneStretch.{IsStretch}
 use Rattle.bpaf_laws.specs.AdjacentGroup.{GroupReads, Failure, longer, taken_by, Probe}
 use Rattle.bpaf_laws.specs.AdjacentGroup.{Narrowed, whole, again, Tries, answered, refused}
 use Rattle.bpaf_laws.specs.AdjacentGroup.{TriesAt, skipped, failed, found, no_memory}
-use Rattle.bpaf_laws.specs.AdjacentGroup.{Searches, over, on, value, wanted, GroupOutcome, EndsWith, place_count}
+use Rattle.bpaf_laws.specs.AdjacentGroup.{Searches, over, on, value, wanted, GroupOutcome, EndsWith}
+use Rattle.bpaf_laws.specs.AdjacentGroup.{place_count}
 use Rattle.bpaf_laws.specs.Counting.{taken_count}
 use Rattle.bpaf_laws.proofs.Keeping.{keeps_of, keeps_refl, keeps_same, keeps_trans, keeps_scope}
 use Rattle.bpaf_laws.proofs.OneStretch.{between, new_in_stretch, keeps_stretch}
@@ -44,7 +46,8 @@ module _ {T : Type 0} {inner : Outcome T} {reads : Readings T} (law : Lawful T i
   attempt_keeps : (a b : ℕ) (r : Result T Error) (t : Situation) → Narrowed T inner s a b
       → inner (with_scope s a b) r t → Keeps s t
   attempt_keeps a b r t narrowed ran =
-      keeps_trans s (with_scope s a b) t (keeps_stretch s a b (narrowed_open inner s a b narrowed).1)
+      keeps_trans s (with_scope s a b) t
+      (keeps_stretch s a b (narrowed_open inner s a b narrowed).1)
       (keeps_of law (with_scope s a b) r t ran)
 
   -- so do the attempts from a place on
@@ -158,7 +161,8 @@ pub group_takes_stretch : {T : Type 0} {inner : Outcome T} {reads : Readings T} 
 group_takes_stretch first law s (Ok v) t o = ((group_lawful first law).ok s t v o).reading.stretch
 group_takes_stretch first law s (Err e) t o = tt
 
-module _ {T : Type 0} (inner without : Outcome T) (spares : Spares inner without) (s : Situation) where
+module _ {T : Type 0} (inner without : Outcome T) (spares : Spares inner without)
+    (s : Situation) where
   -- what ended an attempt with a value isn't want of memory
   narrowed_spared : (a b : ℕ) → Narrowed T inner s a b → Narrowed T without s a b
   narrowed_spared a b (whole stop run) = whole stop run

@@ -1,5 +1,6 @@
 -- The name by which a program is called keeps to the laws.
-use Rattle.std.proofs.Common.{◌≡◌, ℕ, List, [], ◌∷◌, Option, Some, None, IfSome, slice_get, string_bytes, String}
+use Rattle.std.proofs.Common.{◌≡◌, ℕ, List, [], ◌∷◌, Option, Some, None, IfSome, slice_get}
+use Rattle.std.proofs.Common.{string_bytes, String}
 use Rattle.std.specs.declared.alloc.Global.{Global}
 use Rattle.bpaf_laws.specs.Laws.{Lawful}
 use Rattle.bpaf_laws.specs.Appname.{AppnameOutcome, AppnameReads, first_entry}

@@ -6,7 +6,8 @@ use Rattle.bpaf_line.specs.Conflicts.{ConflictsSaved}
 use Rattle.bpaf_line.specs.declared.error.Error.{Error}
 use Rattle.bpaf_laws.specs.Reading.{Readings, Outcome}
 use Rattle.bpaf_laws.specs.Laws.{Keeps, Reads, Lawful}
-use Rattle.bpaf_laws.proofs.Keeping.{keeps_of, keeps_same, keeps_conflicts, closes_conflicts, newly_conflicts}
+use Rattle.bpaf_laws.proofs.Keeping.{keeps_of, keeps_same, keeps_conflicts, closes_conflicts}
+use Rattle.bpaf_laws.proofs.Keeping.{newly_conflicts}
 use Rattle.bpaf_laws.specs.Choice.{Winner, EqualDepths, Chosen, ChoiceOutcome, ChoiceReads}
 
 -- an error is no value

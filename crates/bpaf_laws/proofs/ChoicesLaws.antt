@@ -9,7 +9,8 @@ use Rattle.bpaf_laws.proofs.PureLaws.{pure_lawful}
 use Rattle.bpaf_laws.specs.Choices.{Nested, ChoicesOutcome, ChoicesReads, no_choice}
 
 -- a choice of a lawful outcome and of lawful parsers is lawful
-pub from_lawful : {T P : Type 0} (outcome : P → Outcome T) (reads : P → Readings T) (before : Outcome T)
+pub from_lawful : {T P : Type 0} (outcome : P → Outcome T) (reads : P → Readings T)
+    (before : Outcome T)
     (read : Readings T) (ps : List P)
     → ((p : P) → Lawful T (outcome p) (reads p)) → Lawful T before read
     → Lawful T (Nested ChoiceOutcome outcome before ps) (Nested ChoiceReads reads read ps)

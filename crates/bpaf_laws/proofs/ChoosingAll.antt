@@ -1,5 +1,6 @@
 -- Choices of any number of parsers: one parser after another.
-use Rattle.std.proofs.Common.{◌≡◌, true, false, List, [], ◌∷◌, ◌++◌, Result, Ok, Err, IsErrAnd, length, ◌==◌, ◌⊎◌, refl, sym, ap, subst, inl, inr, ⊎_elim, true≢false}
+use Rattle.std.proofs.Common.{◌≡◌, true, false, List, [], ◌∷◌, ◌++◌, Result, Ok, Err, IsErrAnd}
+use Rattle.std.proofs.Common.{length, ◌==◌, ◌⊎◌, refl, sym, ap, subst, inl, inr, ⊎_elim, true≢false}
 use Rattle.bpaf_doc.specs.Shape.{Shape}
 use Rattle.bpaf_line.specs.Messages.{is_memory}
 use Rattle.bpaf_line.specs.Situation.{Situation}
@@ -7,7 +8,8 @@ use Rattle.bpaf_line.specs.declared.error.Error.{Error}
 use Rattle.bpaf_line.specs.declared.error.Message.TheVariants.{Memory}
 use Rattle.bpaf_laws.specs.Reading.{Outcome}
 use Rattle.bpaf_laws.specs.Spared.{IsNotMemory, WithoutMemory}
-use Rattle.bpaf_laws.specs.Choice.{is_want, IsWant, Chosen, BranchesEval, ChoiceOutcome, ChoiceDescribes, either_shape}
+use Rattle.bpaf_laws.specs.Choice.{is_want, IsWant, Chosen, BranchesEval, ChoiceOutcome}
+use Rattle.bpaf_laws.specs.Choice.{ChoiceDescribes, either_shape}
 use Rattle.bpaf_laws.proofs.Choosing.{ran_outcome, choice_spared}
 use Rattle.bpaf_laws.specs.Choices.{Nested, ChoicesOutcome}
 

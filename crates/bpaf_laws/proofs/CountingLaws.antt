@@ -1,7 +1,10 @@
 -- Counting what an evaluation newly took.
-use Rattle.std.proofs.Common.{◌≡◌, ℕ, zero, suc, ◌+◌, ◌<◌, ◌≤◌, Bool, true, false, not, ◌&&◌, ◌||◌, if◌then◌else◌, length, refl, sym, subst, ap, ◌∙◌, ⊎_elim, arith, true≢false}
+use Rattle.std.proofs.Common.{◌≡◌, ℕ, zero, suc, ◌+◌, ◌<◌, ◌≤◌, Bool, true, false, not, ◌&&◌, ◌||◌}
+use Rattle.std.proofs.Common.{if◌then◌else◌, length, refl, sym, subst, ap, ◌∙◌, ⊎_elim, arith}
+use Rattle.std.proofs.Common.{true≢false}
 use Rattle.std.proofs.lemmas.Bool.{cases_eq, cases_lt, false_from_ne_true}
-use Rattle.bpaf_line.specs.Situation.{Situation, is_taken, is_open, in_scope, count_below, open_count}
+use Rattle.bpaf_line.specs.Situation.{Situation, is_taken, is_open, in_scope, count_below}
+use Rattle.bpaf_line.specs.Situation.{open_count}
 use Rattle.bpaf_line.proofs.Places.{open_in_line}
 use Rattle.bpaf_laws.specs.Reading.{Outcome, Readings, Joins, IsEmptyShare, HasPlace}
 use Rattle.bpaf_laws.specs.Laws.{Keeps, Closes, Lawful, newly}

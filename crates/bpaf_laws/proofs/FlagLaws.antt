@@ -11,8 +11,10 @@ use Rattle.bpaf_line.specs.declared.error.Message.{Message}
 use Rattle.bpaf_line.specs.declared.error.Message.TheVariants.{Memory}
 use Rattle.bpaf_laws.specs.Reading.{Readings}
 use Rattle.bpaf_laws.specs.Laws.{Keeps, Reads, Lawful}
-use Rattle.bpaf_laws.proofs.Keeping.{keeps_same, reads_same, closes_take, newly_none, keeps_take, newly_take}
-use Rattle.bpaf_laws.specs.Flag.{FlagReads, at_key, in_environment, nowhere, FlagOutcome, FlagFails, IsAbsentValue, IsFlagPresent, IsFlagAbsent, IsPresent}
+use Rattle.bpaf_laws.proofs.Keeping.{keeps_same, reads_same, closes_take, newly_none, keeps_take}
+use Rattle.bpaf_laws.proofs.Keeping.{newly_take}
+use Rattle.bpaf_laws.specs.Flag.{FlagReads, at_key, in_environment, nowhere, FlagOutcome, FlagFails}
+use Rattle.bpaf_laws.specs.Flag.{IsAbsentValue, IsFlagPresent, IsFlagAbsent, IsPresent}
 
 -- what looking for a flag keeps
 pub flag_keeps : (names : Names) (s : Situation) (found : Bool) (t : Situation)

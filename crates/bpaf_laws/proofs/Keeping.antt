@@ -1,12 +1,16 @@
 -- How what evaluations keep is put together. No combinator builds a `Keeps` of its own: it goes
 -- through these lemmas and one for each call of a state, so that a clause can be added to the laws
 -- here.
-use Rattle.std.specs.Prelude.{◌≡◌, ◌≢◌, ℕ, ◌+◌, ◌==◌, Bool, true, false, not, ◌&&◌, ◌||◌, List, [], ◌∷◌, ◌++◌, Result, Ok, Err, Option, None, refl}
-use Rattle.std.proofs.Common.{sym, ◌∙◌, ap, subst, append_assoc, append-nil, arith, ⊎_elim, true≢false}
+use Rattle.std.specs.Prelude.{◌≡◌, ◌≢◌, ℕ, ◌+◌, ◌==◌, Bool, true, false, not, ◌&&◌, ◌||◌, List, []}
+use Rattle.std.specs.Prelude.{◌∷◌, ◌++◌, Result, Ok, Err, Option, None, refl}
+use Rattle.std.proofs.Common.{sym, ◌∙◌, ap, subst, append_assoc, append-nil, arith, ⊎_elim}
+use Rattle.std.proofs.Common.{true≢false}
 use Rattle.std.proofs.lemmas.Bool.{cases_eq}
 use Rattle.std.proofs.lemmas.Bool.Decides.{nat_tests}
-use Rattle.bpaf_line.specs.Situation.{Situation, is_taken, is_open, in_scope, take_place, with_scope, with_path, with_current}
-use Rattle.bpaf_line.proofs.Marks.{keeps_marks_refl, keeps_marks_trans, keeps_marks_take, keeps_marks_scope, keeps_marks_path, keeps_marks_current}
+use Rattle.bpaf_line.specs.Situation.{Situation, is_taken, is_open, in_scope, take_place}
+use Rattle.bpaf_line.specs.Situation.{with_scope, with_path, with_current}
+use Rattle.bpaf_line.proofs.Marks.{keeps_marks_refl, keeps_marks_trans, keeps_marks_take}
+use Rattle.bpaf_line.proofs.Marks.{keeps_marks_scope, keeps_marks_path, keeps_marks_current}
 use Rattle.bpaf_line.proofs.Places.{taken_here, taken_other, open_not_taken}
 use Rattle.bpaf_line.specs.Conflicts.{ConflictsSaved}
 use Rattle.bpaf_line.specs.declared.error.Error.{Error}
@@ -76,7 +80,8 @@ keeps_trans s m t a b = record {
         more = a.path.more ++ b.path.more;
         is =
             b.path.is
-            ∙ (ap (λ path. path ++ b.path.more) a.path.is ∙ append_assoc s.path a.path.more b.path.more);
+            ∙ (ap (λ path. path ++ b.path.more) a.path.is
+            ∙ append_assoc s.path a.path.more b.path.more);
       };
   marks = keeps_marks_trans s m t a.marks b.marks;
 }

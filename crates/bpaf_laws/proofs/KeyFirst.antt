@@ -91,7 +91,8 @@ absence_is_no_fault s (Some part) envs place words absent = absent
 absence_is_no_fault s None [] place words absent = absent
 absence_is_no_fault s None (name ∷ names) place words absent = absent
 
-module _ {T : Type 0} (means : List ℕ → T → Type 0) (argument : KeyWithValue) (s t : Situation) where
+module _ {T : Type 0} (means : List ℕ → T → Type 0) (argument : KeyWithValue)
+    (s t : Situation) where
   -- a text at fault is that behind the key where one is there, and else that of the environment
   fault_first : (text : List ℕ) (m : Message) → GetsText argument s text t
       → FaultsText means text t.current m → FailsKeyFirst means argument s m
@@ -114,8 +115,13 @@ module _ {T : Type 0} (means : List ℕ → T → Type 0) (argument : KeyWithVal
         (λ takes.
         let that = counted argument s text t argument.last takes in
         absurd (true≢false (sym that.matches ∙ none that.key)))
-        (λ variable.
-        (text, variable.set, fault.0, fault.1 ∙ ap (λ (after : Situation). after.current) variable.left))
+        (λ variable. (
+          text,
+          variable.set,
+          fault.0,
+          fault.1
+              ∙ ap (λ (after : Situation). after.current) variable.left,
+        ))
         gets),
   )
   fault_first text other gets fault = absurd fault

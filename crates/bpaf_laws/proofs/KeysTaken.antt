@@ -1,6 +1,7 @@
 -- What taking a key with the text behind it takes, and what taking all of them does.
 use Rattle.std.specs.Prelude.{◌≡◌, ◌≢◌, ℕ, zero, suc, ◌+◌, ◌<◌, ◌≤◌, ◌==◌, Bool, true, false, not}
-use Rattle.std.specs.Prelude.{◌&&◌, ◌||◌, List, [], ◌∷◌, ◌++◌, Option, Some, None, option_and_then, refl}
+use Rattle.std.specs.Prelude.{◌&&◌, ◌||◌, List, [], ◌∷◌, ◌++◌, Option, Some, None, option_and_then}
+use Rattle.std.specs.Prelude.{refl}
 use Rattle.std.specs.Prelude.{if◌then◌else◌}
 use Rattle.std.specs.Option.{option_map_or}
 use Rattle.std.proofs.Common.{sym, subst, ap, ◌∙◌, ⊎_elim, arith, true≢false, add-one}
@@ -10,7 +11,8 @@ use Rattle.bpaf_text.specs.Named.{KeyWithValue}
 use Rattle.bpaf_words.specs.declared.arg.Arg.{Arg}
 use Rattle.bpaf_words.specs.declared.arg.Arg.TheVariants.{Short, Long, ArgWord, Word, PosWord}
 use Rattle.bpaf_words.specs.Items.{value_text}
-use Rattle.bpaf_line.specs.Situation.{Situation, is_open, is_taken, in_scope, item_at, item_in, take_place}
+use Rattle.bpaf_line.specs.Situation.{Situation, is_open, is_taken, in_scope, item_at, item_in}
+use Rattle.bpaf_line.specs.Situation.{take_place}
 use Rattle.bpaf_line.specs.Taking.{is_match, value_after}
 use Rattle.bpaf_line.proofs.Places.{taken_other, open_not_taken}
 use Rattle.bpaf_line.proofs.Matches.{match_is_open, match_has_item, value_is_open}

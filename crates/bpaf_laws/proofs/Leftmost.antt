@@ -1,5 +1,7 @@
 -- The leftmost place that only one of two branches took belongs to the chosen one.
-use Rattle.std.proofs.Common.{◌≡◌, ◌≢◌, ◌⊎◌, ℕ, ◌<◌, ◌≤◌, Bool, true, false, not, ◌&&◌, Result, Ok, Err, Option, Some, None, IsOk, refl, sym, ◌∙◌, subst, arith, inl, inr, ⊎_elim, true≢false}
+use Rattle.std.proofs.Common.{◌≡◌, ◌≢◌, ◌⊎◌, ℕ, ◌<◌, ◌≤◌, Bool, true, false, not, ◌&&◌, Result, Ok}
+use Rattle.std.proofs.Common.{Err, Option, Some, None, IsOk, refl, sym, ◌∙◌, subst, arith, inl, inr}
+use Rattle.std.proofs.Common.{⊎_elim, true≢false}
 use Rattle.std.proofs.lemmas.Bool.{cases_lt, cases_eq}
 use Rattle.std.proofs.lemmas.Bool.Decides.{nat_tests}
 use Rattle.bpaf_line.specs.Conflicts.{IsLeftmost, TakeTheSame, IsWinner}
@@ -8,7 +10,8 @@ use Rattle.bpaf_line.specs.declared.error.Error.{Error}
 use Rattle.bpaf_laws.specs.Reading.{Readings, Outcome}
 use Rattle.bpaf_laws.specs.Laws.{Lawful}
 use Rattle.bpaf_laws.specs.Turn.{is_untouched}
-use Rattle.bpaf_laws.specs.Choice.{depth, Winner, EqualDepths, Chosen, IsChosen, TookAndIsChosen, ChoiceOutcome, LeftmostWins}
+use Rattle.bpaf_laws.specs.Choice.{depth, Winner, EqualDepths, Chosen, IsChosen, TookAndIsChosen}
+use Rattle.bpaf_laws.specs.Choice.{ChoiceOutcome, LeftmostWins}
 use Rattle.bpaf_laws.proofs.CountingLaws.{same_took_none}
 use Rattle.std.proofs.Math.Bool.{and-eq-true_iff}
 

@@ -11,7 +11,8 @@ use Rattle.bpaf_laws.proofs.CommandLaws.{leaves_nothing}
 use Rattle.bpaf_laws.proofs.Keeping.{keeps_refl, keeps_scope}
 
 -- at one place: what is newly taken is what lies in the stretch
-pub new_in_stretch : (taken before inside : Bool) → (inside ≡ true → (taken ≡ true) × (before ≡ false))
+pub new_in_stretch : (taken before inside : Bool)
+    → (inside ≡ true → (taken ≡ true) × (before ≡ false))
     → ((taken && not before) ≡ true → inside ≡ true) → (taken && not before) ≡ inside
 new_in_stretch true true true all only = let there : true ≡ false = (all refl).1 in cc
 new_in_stretch true true false all only = refl

@@ -6,8 +6,10 @@ use Rattle.bpaf_line.specs.Messages.{is_memory}
 use Rattle.bpaf_line.specs.declared.error.Error.{Error}
 use Rattle.bpaf_laws.specs.Reading.{Readings, Outcome}
 use Rattle.bpaf_laws.specs.Laws.{Keeps, Reads, Lawful, newly}
-use Rattle.bpaf_laws.proofs.Keeping.{keeps_of, keeps_trans, keeps_current, closes_trans, newly_joins}
-use Rattle.bpaf_laws.specs.Product.{BothReads, BothOutcome, FailFastOutcome, joined, ProductOutcome, ProductReads}
+use Rattle.bpaf_laws.proofs.Keeping.{keeps_of, keeps_trans, keeps_current, closes_trans}
+use Rattle.bpaf_laws.proofs.Keeping.{newly_joins}
+use Rattle.bpaf_laws.specs.Product.{BothReads, BothOutcome, FailFastOutcome, joined, ProductOutcome}
+use Rattle.bpaf_laws.specs.Product.{ProductReads}
 
 -- the values of fields that were evaluated one after the other are a reading of both
 both_ok : (A B : Type 0) (first : Outcome A) (rest : Outcome B) (rf : Readings A) (rr : Readings B)

@@ -30,14 +30,16 @@ rest_spared (Err x) (Err f) r is spared =
     [ true ↦ λ told memory. not_wanted r f told spared | false ↦ λ told none. none ] is refl
 
 -- a field and those after it
-pub both_spares : {A B : Type 0} (first : Outcome A) (rest without : Outcome B) → Spares rest without
+pub both_spares : {A B : Type 0} (first : Outcome A) (rest without : Outcome B)
+    → Spares rest without
     → Spares (BothOutcome first rest) (BothOutcome (WithoutMemory first) without)
 both_spares {A} {B} first rest without rests s t (Ok v) ran spared = record {
   a = ran.a;
   middle = ran.middle;
   b = ran.b;
   first_ran = (ran.first_ran, ran.spared);
-  rest_ran = rests ran.middle t ran.b ran.rest_ran (rest_spared ran.a ran.b (Ok v) ran.answer spared);
+  rest_ran = rests ran.middle t ran.b ran.rest_ran
+      (rest_spared ran.a ran.b (Ok v) ran.answer spared);
   spared = ran.spared;
   answer = ran.answer;
 }

@@ -5,7 +5,9 @@ use Rattle.bpaf_line.specs.Messages.{is_memory}
 use Rattle.bpaf_line.specs.Situation.{Situation}
 use Rattle.bpaf_line.specs.declared.error.Error.{Error}
 use Rattle.bpaf_laws.specs.Reading.{Outcome}
-use Rattle.bpaf_laws.specs.Repeat.{is_nil, Turns, UntilRest, UntilFault, stops, rests, ListOutcome, ManyOutcome, SomeOutcome, CollectOutcome, CountOutcome, LastOutcome}
+use Rattle.bpaf_laws.specs.Repeat.{is_nil, Turns, UntilRest, UntilFault, stops, rests, ListOutcome}
+use Rattle.bpaf_laws.specs.Repeat.{ManyOutcome, SomeOutcome, CollectOutcome, CountOutcome}
+use Rattle.bpaf_laws.specs.Repeat.{LastOutcome}
 use Rattle.bpaf_laws.specs.Spared.{WithoutMemory}
 use Rattle.bpaf_laws.proofs.Sparing.{CatchesNoMemory, spared_step, not_both}
 

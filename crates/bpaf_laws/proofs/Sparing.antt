@@ -1,5 +1,6 @@
 -- A turn catches no want of memory, and where it stops it takes nothing.
-use Rattle.std.proofs.Common.{◌≡◌, Bool, true, false, not, Result, Ok, Err, Option, Some, None, inl, inr, ⊎_elim, true≢false, sym, ◌∙◌}
+use Rattle.std.proofs.Common.{◌≡◌, Bool, true, false, not, Result, Ok, Err, Option, Some, None, inl}
+use Rattle.std.proofs.Common.{inr, ⊎_elim, true≢false, sym, ◌∙◌}
 use Rattle.std.proofs.lemmas.Bool.{not-true, and_parts}
 use Rattle.bpaf_line.specs.declared.error.Error.{Error}
 use Rattle.bpaf_line.specs.Messages.{is_memory}
@@ -19,7 +20,8 @@ CatchesNoMemory {T} {R} combined inner =
 pub stop_spared : (catches : Bool) (m : Message) (untouched : Bool)
     → stops_step catches m untouched ≡ true → is_memory m ≡ false
 stop_spared catches m untouched stops =
-    not-true (is_memory m) (and_parts (not (is_memory m)) (stops_spared catches m untouched) stops).0
+    not-true (is_memory m) (and_parts (not (is_memory m))
+    (stops_spared catches m untouched) stops).0
 
 -- an answer isn't want of memory and is
 pub not_both : (m : Message) → is_memory m ≡ false → is_memory m ≡ true → ⊥

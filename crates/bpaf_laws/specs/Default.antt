@@ -97,4 +97,5 @@ ShowsFormatted writes v shown =
 abbrev pub ShowsAnswer : {T E : Type 0} → (Result T E → Type 0)
     → (T → Option (List Piece) → Type 0) → Option (List Piece) → Option (List Piece) → Type 0
 ShowsAnswer {T} {E} answers shows before after =
-    ((v : T) × answers (Ok v) × shows v after) ⊎ ((fault : E) × answers (Err fault) × (after ≡ before))
+    ((v : T) × answers (Ok v) × shows v after)
+    ⊎ ((fault : E) × answers (Err fault) × (after ≡ before))

@@ -1,5 +1,6 @@
 -- A key comes before the environment.
-use Rattle.std.specs.Prelude.{◌≡◌, ℕ, ◌+◌, ◌<◌, Bool, true, false, List, Ok, Err, Option, Some, None}
+use Rattle.std.specs.Prelude.{◌≡◌, ℕ, ◌+◌, ◌<◌, Bool, true, false, List, Ok, Err, Option, Some}
+use Rattle.std.specs.Prelude.{None}
 use Rattle.std.specs.Prelude.{⊤}
 use Rattle.bpaf_text.specs.Named.{KeyWithValue}
 use Rattle.bpaf_line.specs.Situation.{Situation}

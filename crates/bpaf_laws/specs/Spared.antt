@@ -14,8 +14,8 @@ IsNotMemory (Err e) = is_memory e.0 ≡ false
 abbrev pub WithoutMemory : {T : Type 0} → Outcome T → Outcome T
 WithoutMemory outcome s r t = outcome s r t × IsNotMemory r
 
--- of an outcome, what is answered where nothing inside wanted memory: each answer that isn't want of
--- memory is one of these
+-- of an outcome, what is answered where nothing inside wanted memory: each answer that isn't want
+-- of memory is one of these
 abbrev pub Spares : {T : Type 0} → Outcome T → Outcome T → Type 0
 Spares {T} outcome without = (s t : Situation) (r : Result T Error) → outcome s r t → IsNotMemory r
     → without s r t

@@ -1,5 +1,6 @@
 -- Chains: how a line's places are linked, and how a walk along the links goes.
-use Rattle.std.proofs.Common.{◌≡◌, ◌≢◌, ℕ, zero, suc, refl, ◌+◌, ◌-◌, ◌%◌, ◌<◌, ◌≤◌, true, false, Bool, List, [], ◌∷◌}
+use Rattle.std.proofs.Common.{◌≡◌, ◌≢◌, ℕ, zero, suc, refl, ◌+◌, ◌-◌, ◌%◌, ◌<◌, ◌≤◌, true, false}
+use Rattle.std.proofs.Common.{Bool, List, [], ◌∷◌}
 use Rattle.std.proofs.Common.{Option, Some, None, not, ◌||◌, slice_get, replicate}
 use Rattle.std.specs.Option.{option_map_or}
 use Rattle.std.proofs.lemmas.Slice.Eq.{bytes_eq-Decides}
@@ -19,7 +20,8 @@ use Rattle.bpaf_words.specs.declared.arg.Arg.TheVariants.{Short, Long, ArgWord, 
 use Rattle.bpaf_words.specs.Items.{is_key_of}
 use Rattle.bpaf_line.specs.declared.chains.Chains.TheInside.{Inside}
 use Rattle.bpaf_line.specs.Chained.{Chained, IsNextOf, IsPlaceOf, IsWalkStart, HasWalked, AreBehind}
-use Rattle.bpaf_line.specs.Chained.{name_number, class_in, class_of, head_of, owner_of, cursor_of, text_number}
+use Rattle.bpaf_line.specs.Chained.{name_number, class_in, class_of, head_of, owner_of, cursor_of}
+use Rattle.bpaf_line.specs.Chained.{text_number}
 use Rattle.bpaf_line.specs.Chained.{names_of, names_in, named_at, shares_name, is_key}
 use Rattle.bpaf_line.specs.Chained.{HasNoKeyFrom}
 use Rattle.bpaf_line.specs.InsideChains.{chained_of, IsLinked}
@@ -64,7 +66,8 @@ class_of_below count number some = by_test (nat_lt number 128) refl
     by_test : (b : Bool) → nat_lt number 128 ≡ b
         → (if b then number else 128 + number % (count - 128)) < count
     by_test true e = let own : number < 128 = ltb-true number 128 e in omega arith
-    by_test false e = let low : number % (count - 128) < count - 128 = mod-lt number (omega arith) in omega arith
+    by_test false e =
+        let low : number % (count - 128) < count - 128 = mod-lt number (omega arith) in omega arith
 
 -- and so is that of an item
 pub class_below : (items : List Arg) (count : ℕ) → 128 < count → (p : ℕ) → p < length items
@@ -143,8 +146,8 @@ linked_owned s class place cursor h inside there =
           (omega (arith, h.cursors, size));
     }
 
--- the links are right where they are those of a line's places, each chain begins at its first place,
--- and no class has an owner
+-- the links are right where they are those of a line's places, each chain begins at its first
+-- place, and no class has an owner
 pub linked_first : (s : Inside) (classes next heads : List ℕ) → rc_slice_items s.classes ≡ classes
     → rc_slice_items s.next ≡ next → s.heads.items ≡ heads → 128 < length heads → length next
     ≡ length classes
@@ -184,7 +187,8 @@ classes_size items classes count are = ap length are ∙ length-map items (class
 
 -- and below their number
 pub classes_below : (items : List Arg) (classes : List ℕ) (count : ℕ) → classes
-    ≡ map (class_in count) items → 128 < count → (p : ℕ) → p < length classes → slice_index classes p
+    ≡ map (class_in count) items → 128 < count → (p : ℕ) → p < length classes
+    → slice_index classes p
     < count
 classes_below items classes count are some p within =
     subst (λ xs. slice_index xs p < count) (sym are)
@@ -321,7 +325,8 @@ behind_passed line set old place from head h within inside read headed walked =
           ap (slice_index old.heads) at ∙ sym read in omega arith))
           (λ (behind : from ≤ p). walked.passed class p headed behind
           (let now : slice_index heads (slice_index old.classes p) ≡ head =
-          ap (slice_index heads) at ∙ get_or-set_same old.heads class head 0 inside in omega arith) at)
+          ap (slice_index heads) at ∙ get_or-set_same old.heads class head 0 inside in omega arith)
+          at)
           (cases_lt p from))
           (λ (other : slice_index old.classes p ≢ class). h.passed p below
           (let same : slice_index heads (slice_index old.classes p) ≡ head_of old p =
@@ -340,7 +345,8 @@ early_set line set old key class from p h start below at early named = ⊎_elim
     (let begin : head_of old p ≡ slice_index old.heads class = ap (slice_index old.heads) at in
     omega arith))
     (λ (behind : slice_index old.heads class ≤ p). h.named p below
-    (let stand : cursor_of old p ≡ slice_index old.cursors class = ap (slice_index old.cursors) at in
+    (let stand : cursor_of old p ≡ slice_index old.cursors class =
+    ap (slice_index old.cursors) at in
     omega (arith, start.cursor p early behind))
     (ap (λ k. shares_name line (slice_index old.owners k) p) at
     ∙ shares_named line key (slice_index old.owners class) p (start.owner p early behind) named))
@@ -352,8 +358,8 @@ in_set true shares e f = refl
 in_set false true e f = e
 in_set false false e f = f
 
--- and where the class has that place for its owner, and its cursor stands behind places of the set and
--- such of other names
+-- and where the class has that place for its owner, and its cursor stands behind places of the set
+-- and such of other names
 pub behind_owned : (line : List Arg) (set : ℕ → Bool) (old : Chained) (place class from cursor : ℕ)
     → AreBehind line set old → class < length old.owners → class < length old.cursors
     → IsWalkStart line (names_in line place) old class from
@@ -377,7 +383,8 @@ behind_owned line set old place class from cursor h owned inside start walked =
           ap (slice_index cursors) at ∙ get_or-set_same old.cursors class cursor 0 inside in
           let mine : shares_name line place p ≡ true =
           ap (λ o. shares_name line o p) (sym owner) ∙ shares in ⊎_elim
-          (λ (early : p < from). early_set line set old (slice_get line place) class from p h start below
+          (λ (early : p < from). early_set line set old
+          (slice_get line place) class from p h start below
           at early mine)
           (λ (behind : from ≤ p). in_set (set p) (shares_name line place p)
           (walked.passed class p start.place behind (omega arith) at) mine)
@@ -405,7 +412,8 @@ behind_passed_read s line set classes place from head h same within read behind 
     let at : slice_index (rc_slice_items s.classes) place ≡ class =
     ap (λ xs. slice_index xs place) (sym same) in
     let begins = get_or_read s.heads.items class from inside read 0 in
-    subst (λ k. AreBehind line set (record (chained_of s) { heads = slice_set s.heads.items k head }))
+    subst (λ k. AreBehind line set (record
+    (chained_of s) { heads = slice_set s.heads.items k head }))
     at (behind_passed line set (chained_of s) place from head behind within
     (h.numbered place within) (begins ∙ ap (slice_index s.heads.items) (sym at))
     (subst (IsPlaceOf (rc_slice_items s.classes) (slice_index (rc_slice_items s.classes) place))
@@ -454,6 +462,7 @@ behind_nothing chains line keys classes heads count same begin size none short k
           ∙ (ap (λ xs. slice_index (replicate count (length line)) (slice_index xs p)) same
           ∙ get_or-replicate count (slice_index classes p) (length line) 0
           (classes_below (take keys line) classes count are some p inside)) in
-          absurd (past_nameless line (length line) p (slice_get_past line (length line) (omega arith))
+          absurd (past_nameless line (length line) p
+          (slice_get_past line (length line) (omega arith))
           (ap (λ o. shares_name line o p) (sym owner) ∙ shares));
     }

@@ -105,7 +105,8 @@ remembers_left s start end left first taken counted is_first all =
         counted = counted ∙ sym (ap (λ trail. open_count
             (with_scope (with_trail (with_scope s start end) trail) s.start s.end)) whole);
         first = subst (λ trail. IsFirstPresent
-            (with_scope (with_trail (with_scope s start end) trail) s.start s.end) first) (sym whole)
+            (with_scope (with_trail (with_scope s start end) trail) s.start s.end) first)
+            (sym whole)
             (record {
               from = is_first.from;
               within = is_first.within;
@@ -146,7 +147,8 @@ count_since s start end turns (suc d) n all =
     let t = cut_to s n in
     let here : drop n s.trail ≡ p ∷ drop (n + 1) s.trail = drop_more s.trail n 0 (omega arith) in
     let later = count_since s start end turns d (n + 1) (omega arith) in
-    let step : cut_to s (n + 1) ≡ put t p = ap (with_trail s) (take_more s.trail n 0 (omega arith)) in
+    let step : cut_to s (n + 1) ≡ put t p =
+    ap (with_trail s) (take_more s.trail n 0 (omega arith)) in
     let one : open_count (with_scope (put t p) start end)
     + from_bool (nat_le start p && nat_lt p end) ≡ open_count (with_scope t start end) =
     open_count-put (with_scope t start end) p (turns n (omega arith)) in

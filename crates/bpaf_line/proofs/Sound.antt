@@ -27,7 +27,8 @@ use Rattle.bpaf_line.specs.Situation.{Situation, with_trail, with_scope, cut_to,
 use Rattle.bpaf_line.specs.Situation.{is_taken, is_on, in_scope, open_count, TakenInTurn}
 use Rattle.bpaf_line.specs.Situation.{IsFirstPresent, IsNextOpen, HasNoneOpen}
 use Rattle.bpaf_line.specs.Taking.{open_item}
-use Rattle.bpaf_line.proofs.Remembered.{survey_since, count_since, remembers_nothing, remembers_put, remembers_cut}
+use Rattle.bpaf_line.proofs.Remembered.{survey_since, count_since, remembers_nothing, remembers_put}
+use Rattle.bpaf_line.proofs.Remembered.{remembers_cut}
 use Rattle.bpaf_line.proofs.Places.{put, put_here, put_other, put_stays, open_count-put}
 use Rattle.bpaf_line.proofs.Places.{in_turn_put, room_on_trail, last_put, in_turn_cut}
 use Rattle.bpaf_line.proofs.Places.{first_without, present_in_line, open_in_scope, open_not_taken}
@@ -75,11 +76,12 @@ behind_since line old new (Some chains) grown h =
 pub behind_bits : (s : Situation) (p : ℕ) (words : List ℕ) (chains : Option Chained)
     → BitsOf (put s p) words → IfSome chains (AreChainsOf s)
     → IfSome chains (AreBehind s.context.line (has_bit words))
-behind_bits s p words chains bits h = behind_since s.context.line (is_taken s) (has_bit words) chains
+behind_bits s p words chains bits h =
+    behind_since s.context.line (is_taken s) (has_bit words) chains
     (λ q within taken. bits q within ∙ put_stays s p q taken) h
 
--- and where the chains begin no later, nor their cursors stand later, also not behind the place that is
--- taken no more
+-- and where the chains begin no later, nor their cursors stand later, also not behind the place
+-- that is taken no more
 pub chains_untake : (s : Situation) (p : ℕ) (old new : Option Chained)
     → IfSome old (AreChainsOf (put s p)) → IfChained (ReachBack p) old new
     → IfSome new (AreChainsOf s)

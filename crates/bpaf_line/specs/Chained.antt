@@ -64,8 +64,8 @@ pub record HasNoKeyFrom (line : List Arg) (low : ℕ) : Type 0 where
 abbrev pub shares_name : List Arg → ℕ → ℕ → Bool
 shares_name line owner p = named_at line (names_in line owner) p
 
--- the class of each place; for each class the place at which its chain begins, a place with the name
--- that owns it, and the place in front of which those of that name were passed
+-- the class of each place; for each class the place at which its chain begins, a place with the
+-- name that owns it, and the place in front of which those of that name were passed
 pub record Chained : Type 0 where
   pub classes : List ℕ
   pub heads : List ℕ
@@ -95,16 +95,16 @@ pub record IsNextOf (classes : List ℕ) (class low p : ℕ) : Type 0 where
 abbrev pub IsPlaceOf : List ℕ → ℕ → ℕ → Type 0
 IsPlaceOf classes class p = p < length classes → slice_index classes p ≡ class
 
--- a chain was walked from one place to another, whose class is the same; all places of the class that
--- were passed are to be passed
+-- a chain was walked from one place to another, whose class is the same; all places of the class
+-- that were passed are to be passed
 pub record HasWalked (classes : List ℕ) (passes : ℕ → Bool) (low p : ℕ) : Type 0 where
   pub above : low ≤ p
   pub same : (k : ℕ) → IsPlaceOf classes k low → IsPlaceOf classes k p
   pub passed : (k q : ℕ) → IsPlaceOf classes k low → low ≤ q → q < p → slice_index classes q ≡ k
       → passes q ≡ true
 
--- a place of a class, or one past them all: what stands before it, but not before the beginning of the
--- chain, stands before the cursor, and then the owner has one of the names
+-- a place of a class, or one past them all: what stands before it, but not before the beginning of
+-- the chain, stands before the cursor, and then the owner has one of the names
 pub record IsWalkStart (line : List Arg) (names : Names) (chains : Chained)
     (class p : ℕ) : Type 0 where
   pub place : IsPlaceOf chains.classes class p

@@ -13,8 +13,8 @@ chained_of s = record {
   cursors = s.cursors.items;
 }
 
--- each place has its next one, each class is one of them, each chain begins at one of its places, and
--- its cursor stands at one
+-- each place has its next one, each class is one of them, each chain begins at one of its places,
+-- and its cursor stands at one
 pub record IsLinked (s : Inside) : Type 0 where
   pub some : 128 < length s.heads.items
   pub whole : length (rc_slice_items s.next) ≡ length (rc_slice_items s.classes)

@@ -1,5 +1,7 @@
 -- The lines that a walk gathers.
-use Rattle.std.proofs.Common.{◌≡◌, ℕ, zero, suc, ◌+◌, ◌<◌, Bool, true, false, ◌||◌, if◌then◌else◌, List, [], ◌∷◌, ◌++◌, Option, map, ap, sym, ◌∙◌, append-nil, drop, length, get_or, drop-cons, refl, arith}
+use Rattle.std.proofs.Common.{◌≡◌, ℕ, zero, suc, ◌+◌, ◌<◌, Bool, true, false, ◌||◌, if◌then◌else◌}
+use Rattle.std.proofs.Common.{List, [], ◌∷◌, ◌++◌, Option, map, ap, sym, ◌∙◌, append-nil, drop}
+use Rattle.std.proofs.Common.{length, get_or, drop-cons, refl, arith}
 use Rattle.std.proofs.lemmas.List.{length-map, map-append, get_or-map}
 use denote.Bor.{Bor}
 use Rattle.bpaf_doc.specs.declared.doc.Doc.{Doc}
@@ -10,7 +12,9 @@ use Rattle.bpaf_pages.specs.declared.lines.Line.{Line as LineHere}
 use Rattle.bpaf_pages.specs.declared.lines.Told.TheVariants as told
 use Rattle.bpaf_pages.specs.InsideLine.{line_of, place_of}
 use Rattle.bpaf_doc.specs.declared.meta.Meta.{Meta}
-use Rattle.bpaf_doc.specs.Shape.{Shape, Shapes, And, Or, Optional, Required, Adjacent, Many, Strict, Subsection, Suffix, CustomUsage, Shown, Skip, none, ◌then◌, shape_of, members_of, part_of}
+use Rattle.bpaf_doc.specs.Shape.{Shape, Shapes, And, Or, Optional, Required, Adjacent, Many, Strict}
+use Rattle.bpaf_doc.specs.Shape.{Subsection, Suffix, CustomUsage, Shown, Skip, none, ◌then◌}
+use Rattle.bpaf_doc.specs.Shape.{shape_of, members_of, part_of}
 use Rattle.bpaf_pages.specs.Lines.{Line, Listed, Below, place_in, lines, below_last}
 
 -- a text below the last line

@@ -43,7 +43,8 @@ module _ (s : Situation) (start : Start) (begins : IsStart start s)
 
     -- so what is chosen is chosen of where both led
     pub chosen_kept : {T : Type 0} (a b r : Result T Error) (u : Situation)
-        → Chosen (start_of start t) a (end_of start branch t) b t r u ⊎ IsWant (start_of start t) r u
+        → Chosen (start_of start t) a (end_of start branch t) b t r u
+        ⊎ IsWant (start_of start t) r u
         → Chosen s a sa b t r u ⊎ IsWant s r u
     chosen_kept a b r u answer =
         subst (λ w. Chosen s a w b t r u ⊎ IsWant s r u) led.there

@@ -29,4 +29,8 @@ module _ {T : Type 0} (out out_after err err_after : Option (List ℕ))
           → (f : ParseFailure) × (a ≡ Err f) × IsTold out out_after err err_after f status
       by_end a s (with_value kept quiet) e = absurd cc
       by_end a s (with_status {f = f} {status = n} told) e =
-          let same : n ≡ status = cc in (f, refl, subst (IsTold out out_after err err_after f) same told)
+          let same : n ≡ status = cc in (
+            f,
+            refl,
+            subst (IsTold out out_after err err_after f) same told,
+          )

@@ -44,7 +44,8 @@ pub data IsTold (out out_after err err_after : Option (List ℕ)) : ParseFailure
   no_memory : {f : ParseFailure} → Keeps out out_after → AppendsUpTo err err_after memory_line
       → IsTold out out_after err err_after f 1
 
--- how a run ends by an answer: with its value and nothing written, or with the status of what is told
+-- how a run ends by an answer: with its value and nothing written, or with the status of what is
+-- told
 pub data EndsBy {T : Type 0} (out out_after err err_after : Option (List ℕ))
     : Result T ParseFailure → Result T ℕ → Type 0 where
   with_value : {v : T} → Keeps out out_after → Keeps err err_after

@@ -18,7 +18,8 @@ use Rattle.bpaf_exact.specs.FlatForm.{flat_record}
 use Rattle.bpaf_exact.proofs.OneField.{switch_of}
 use Rattle.bpaf_record.specs.Record.{AnswersExactly}
 use Rattle.bpaf.specs.declared.leaves.positional.Position.{Position}
-use Rattle.bpaf.specs.declared.leaves.positional.Position.TheVariants.{Unrestricted, Strict, NonStrict}
+use Rattle.bpaf.specs.declared.leaves.positional.Position.TheVariants.{Unrestricted, Strict}
+use Rattle.bpaf.specs.declared.leaves.positional.Position.TheVariants.{NonStrict}
 use Rattle.bpaf_exact.proofs.Owning.{word_owns}
 use Rattle.bpaf_exact.specs.Fields.{OwnsKeys}
 use Rattle.bpaf_record.specs.Positional.{positional_field}

@@ -1,5 +1,6 @@
 -- The words of a flat record have one line, since it shows the same parts each time.
-use Rattle.std.proofs.Common.{◌≡◌, ℕ, [], ◌++◌, All, IsUtf8, List, Option, ⊎_elim, refl, sym, ap, subst, ◌∙◌}
+use Rattle.std.proofs.Common.{◌≡◌, ℕ, [], ◌++◌, All, IsUtf8, List, Option, ⊎_elim, refl, sym, ap}
+use Rattle.std.proofs.Common.{subst, ◌∙◌}
 use Rattle.bpaf_doc.specs.Shape.{Part, Shape}
 use Rattle.bpaf_doc.specs.Walks.{shorts_of_arguments, shorts_of_flags}
 use Rattle.bpaf_words.specs.declared.arg.Arg.{Arg}
@@ -68,7 +69,8 @@ module _ (given : Given) (texts : All IsUtf8 given.words) where
     never_without a shape word number first shown none = ⊎_elim
         (λ one. (one_lines (known_names info shape) given.words texts).not_both a.line a.marker word
         number
-        (subst (λ known. IsContext known given a) (same_names one.0 shape one.1 shown) one.2).is_line
+        (subst (λ known. IsContext known given a)
+        (same_names one.0 shape one.1 shown) one.2).is_line
         none)
         (λ any. (one_lines (known_names info shape) given.words texts).not_both a.line a.marker word
         number (any (known_names info shape).names).is_line none)

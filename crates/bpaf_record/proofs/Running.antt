@@ -1,5 +1,6 @@
 -- Each answer that the table of a run allows to a flat record is exact.
-use Rattle.std.proofs.Common.{◌≡◌, ℕ, true, List, Some, None, Result, Ok, Err, IfOk, All, IsUtf8, refl, ap, subst, arith}
+use Rattle.std.proofs.Common.{◌≡◌, ℕ, true, List, Some, None, Result, Ok, Err, IfOk, All, IsUtf8}
+use Rattle.std.proofs.Common.{refl, ap, subst, arith}
 use Rattle.std.proofs.lemmas.Bool.{and_parts}
 use Rattle.bpaf_doc.specs.Names.{Names}
 use Rattle.bpaf_doc.specs.Shape.{Shape}
@@ -13,15 +14,19 @@ use Rattle.bpaf_line.specs.Situation.{Context, Situation, beginning, is_open, op
 use Rattle.bpaf_line.proofs.Counts.{count_below-some}
 use Rattle.bpaf_line.proofs.Places.{open_in_line}
 use Rattle.bpaf_laws.specs.Reading.{Outcome}
-use Rattle.bpaf_core.specs.Ending.{EndsRun, memory, usage, passed_on, refused as told_refusal, leftover as told_leftover}
+use Rattle.bpaf_core.specs.Ending.{EndsRun, memory, usage, passed_on, refused as told_refusal}
+use Rattle.bpaf_core.specs.Ending.{leftover as told_leftover}
 use Rattle.bpaf_parts.specs.Info.{RunInfo}
 use Rattle.bpaf_core.specs.Known.{IsLineContext}
-use Rattle.bpaf_core.specs.Run.{Runs, value, leftover, refused, ran, no_line as none_there, no_memory as wanted}
+use Rattle.bpaf_core.specs.Run.{Runs, value, leftover, refused, ran, no_line as none_there}
+use Rattle.bpaf_core.specs.Run.{no_memory as wanted}
 use Rattle.bpaf_exact.specs.Flat.{FieldsLaw, FieldsReading}
 use Rattle.bpaf_exact.specs.Pieces.{Cut, Roles}
-use Rattle.bpaf_exact.specs.Record.{RunRan, run_value, run_leftover, run_memory, run_refusal, IsNoValue}
+use Rattle.bpaf_exact.specs.Record.{RunRan, run_value, run_leftover, run_memory, run_refusal}
+use Rattle.bpaf_exact.specs.Record.{IsNoValue}
 use Rattle.bpaf_exact.specs.Record.{IsAcceptedOrWant, IsExact, RecordValue, line_cells}
-use Rattle.bpaf_exact.specs.FlatForm.{FlatForm, FormLaw, is_record, product_roles, product_reading, flat_record}
+use Rattle.bpaf_exact.specs.FlatForm.{FlatForm, FormLaw, is_record, product_roles, product_reading}
+use Rattle.bpaf_exact.specs.FlatForm.{flat_record}
 use Rattle.bpaf_exact.proofs.Classes.{memory_class, not_memory}
 use Rattle.bpaf_exact.proofs.Accepted.{cut_holds_together}
 use Rattle.bpaf_exact.proofs.Exact.{runs_exactly}
@@ -51,18 +56,25 @@ no_value T failure.Memory = tt
 
 module _ (T : Type 0) (outcome : Outcome T) (describes : Shape → Type 0) (info : RunInfo) where
   -- a run that leaves items
-  leftover_ran : (s left t : Situation) (v : T) (f : ParseFailure) → outcome s (Ok v) left → EndsRun describes info None s left f t → RunRan T outcome s (answer_of (Err f))
-  leftover_ran s left t v f o (told_leftover m before after g u is tells) = run_leftover o (left_over left m is) (no_value T f)
+  leftover_ran : (s left t : Situation) (v : T) (f : ParseFailure) → outcome s (Ok v) left
+      → EndsRun describes info None s left f t → RunRan T outcome s (answer_of (Err f))
+  leftover_ran s left t v f o (told_leftover m before after g u is tells) =
+      run_leftover o (left_over left m is) (no_value T f)
 
   -- a run whose parser refuses
-  refused_ran : (s left t : Situation) (e : Error) (f : ParseFailure) → outcome s (Err e) left → EndsRun describes info (Some e.0) s left f t → RunRan T outcome s (answer_of (Err f))
+  refused_ran : (s left t : Situation) (e : Error) (f : ParseFailure) → outcome s (Err e) left
+      → EndsRun describes info (Some e.0) s left f t → RunRan T outcome s (answer_of (Err f))
   refused_ran s left t e f o (memory m before after is) = run_memory o (memory_class e.0 is)
-  refused_ran s left t e f o (usage m before g after spared shows is) = run_refusal o (not_memory e.0 spared) (no_value T f)
-  refused_ran s left t e f o (passed_on g before after spared shows) = run_refusal o (not_memory e.0 spared) (no_value T f)
-  refused_ran s left t e f o (told_refusal m before after g u spared shows plain tells) = run_refusal o (not_memory e.0 spared) (no_value T f)
+  refused_ran s left t e f o (usage m before g after spared shows is) =
+      run_refusal o (not_memory e.0 spared) (no_value T f)
+  refused_ran s left t e f o (passed_on g before after spared shows) =
+      run_refusal o (not_memory e.0 spared) (no_value T f)
+  refused_ran s left t e f o (told_refusal m before after g u spared shows plain tells) =
+      run_refusal o (not_memory e.0 spared) (no_value T f)
 
   -- a run from its beginning
-  run_ran : (s t : Situation) (r : Result T ParseFailure) → Runs T outcome (EndsRun describes info) s r t → RunRan T outcome s (answer_of r)
+  run_ran : (s t : Situation) (r : Result T ParseFailure)
+      → Runs T outcome (EndsRun describes info) s r t → RunRan T outcome s (answer_of r)
   run_ran s t r (value v after o none) = run_value o none
   run_ran s t r (leftover v left f after o ends) = leftover_ran s left after v f o ends
   run_ran s t r (refused e left f after o ends) = refused_ran s left after e f o ends
@@ -117,7 +129,8 @@ module _ (T : Type 0) (outcome : Outcome T) (describes : Shape → Type 0) (info
       answer_on (Err failure.Memory) none = refl
 
       -- the pieces of the words are those of this line
-      pieces_on : All IsUtf8 given.words → (line : Line) → Cut roles (line_cells context) line.cut_into
+      pieces_on : All IsUtf8 given.words → (line : Line)
+          → Cut roles (line_cells context) line.cut_into
       pieces_on texts line = subst (λ c. Cut roles (line_cells c) line.cut_into)
           (one_context given texts shows info line.context context line.on_line is) line.cut
 
@@ -172,5 +185,6 @@ module _ (T : Type 0) (outcome : Outcome T) (describes : Shape → Type 0) (info
     }
 
 -- options that are a flat record have a parser that is one
-pub is_flat_form : {T : Type 0} (form : FlatForm T) (names : List Names) (info : RunInfo) → is_flat_record form names info ≡ true → is_record form ≡ true
+pub is_flat_form : {T : Type 0} (form : FlatForm T) (names : List Names) (info : RunInfo)
+    → is_flat_record form names info ≡ true → is_record form ≡ true
 is_flat_form form names info e = (and_parts (is_record form) _ e).0

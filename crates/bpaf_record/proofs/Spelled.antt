@@ -37,7 +37,8 @@ module _ (known : Known) (names : Names) where
   -- an item that, if it is such a key, is spelled by one of these words
   abbrev IsSpelledBy : List (List ℕ) → Arg → Type 0
   IsSpelledBy words item =
-      is_key_of names item ≡ true → (word : List ℕ) × Contains words word × SpellsKey known names word
+      is_key_of names item ≡ true → (word : List ℕ) × Contains words word
+      × SpellsKey known names word
 
   -- each item that words spell is
   parts_spelled : (words : List (List ℕ)) (parts : List (List Arg))
@@ -108,7 +109,8 @@ module _ (known : Known) (names : Names) where
           → (if b then (j ∷ keys_on names (first_cells (λ p. at (suc p)) n))
           else keys_on names (first_cells (λ p. at (suc p)) n)) ≡ k ∷ ks
           → (keys_on names (first_cells (λ p. at (suc p)) n) ≡ k ∷ ks → IsAt at) → IsAt at
-      by_key j here true is_key e later = record { place = zero; key = j; is = here; is_key = is_key }
+      by_key j here true is_key e later =
+          record { place = zero; key = j; is = here; is_key = is_key }
       by_key j here false is_key e later = later e
 
       by_cell : (c : Option Arg) → at zero ≡ c

@@ -1,5 +1,7 @@
 -- The line of words with a spelled front, and where its marker lies.
-use Rattle.std.proofs.Common.{◌≡◌, ℕ, ◌+◌, ◌<◌, ◌≤◌, Bool, true, false, List, [], ◌++◌, length, take, drop, map, refl, arith, append-nil, codes, Option, IfSome, IfOk, Result, Ok, Err, length-append, nat_lt}
+use Rattle.std.proofs.Common.{◌≡◌, ℕ, ◌+◌, ◌<◌, ◌≤◌, Bool, true, false, List, [], ◌++◌, length}
+use Rattle.std.proofs.Common.{take, drop, map, refl, arith, append-nil, codes, Option, IfSome, IfOk}
+use Rattle.std.proofs.Common.{Result, Ok, Err, length-append, nat_lt}
 use Rattle.std.specs.Bool.{then_some}
 use Rattle.std.proofs.lemmas.Bool.Decides.{nat_tests}
 use Rattle.std.proofs.lemmas.Grind.{common_steps}
@@ -55,6 +57,8 @@ line_found numbers words items n (Ok line) begun ends are marker = λ names.
 line_found numbers words items n (Err e) begun ends are marker = tt
 
 -- the marker of a line lies in it
-pub marker_of_line : (known : Known) (words : List (List ℕ)) (line : List Arg) (marker : Option ℕ) → IsLine known words line marker → IfSome marker (λ p. p < length line)
+pub marker_of_line : (known : Known) (words : List (List ℕ)) (line : List Arg) (marker : Option ℕ)
+    → IsLine known words line marker → IfSome marker (λ p. p < length line)
 marker_of_line known words line marker (without_marker items none s) = tt
-marker_of_line known words line marker (with_marker before after items cut none s) = simp length-append (omega arith)
+marker_of_line known words line marker (with_marker before after items cut none s) =
+    simp length-append (omega arith)

@@ -1,5 +1,8 @@
 -- Lines: a word more.
-use Rattle.std.proofs.Common.{◌≡◌, ◌≢◌, ℕ, zero, suc, Bool, ◌+◌, ◌<◌, List, [], ◌∷◌, ◌++◌, take, drop, map, refl, ap, sym, ◌∙◌, arith, append_assoc, append-nil, codes, Some, slice_get, bytes_eq, true, false, IsUtf8, ⊎_elim, subst, length, All}
+use Rattle.std.proofs.Common.{◌≡◌, ◌≢◌, ℕ, zero, suc, Bool, ◌+◌, ◌<◌, List, [], ◌∷◌, ◌++◌, take}
+use Rattle.std.proofs.Common.{drop, map, refl, ap, sym, ◌∙◌, arith, append_assoc, append-nil, codes}
+use Rattle.std.proofs.Common.{Some, slice_get, bytes_eq, true, false, IsUtf8, ⊎_elim, subst, length}
+use Rattle.std.proofs.Common.{All}
 use Rattle.std.proofs.lemmas.Bool.{cases_lt}
 use Rattle.std.proofs.lemmas.Option.{get_or_from_slice_get}
 use Rattle.std.proofs.lemmas.List.Elements.{AllWithin-more}
@@ -14,15 +17,21 @@ use Rattle.bpaf_words.specs.Splitting.{Begins, BeginsByAny, SpellsByAny}
 use Rattle.bpaf_words.proofs.Lists.{AllZip_push, take_next, drop_next, cut_at}
 
 -- a word of the rest goes over to the items
-pub rest_moved : (words : List (List ℕ)) (i : ℕ) (word : List ℕ) (old new all : List Arg) → slice_get words i ≡ Some word → old ++ map PosWord (drop i words) ≡ all → new ≡ old ++ PosWord word ∷ []
+pub rest_moved : (words : List (List ℕ)) (i : ℕ) (word : List ℕ) (old new all : List Arg)
+    → slice_get words i ≡ Some word → old ++ map PosWord (drop i words) ≡ all
+    → new ≡ old ++ PosWord word ∷ []
     → new ++ map PosWord (drop (i + 1) words) ≡ all
 rest_moved words i word old new all at e n =
-    ap (λ z. z ++ map PosWord (drop (i + 1) words)) n ∙ (append_assoc old (PosWord word ∷ []) (map PosWord (drop (i + 1) words)) ∙ (ap (λ z. old ++ map PosWord z) (sym (drop_next words i word at)) ∙ e))
+    ap (λ z. z ++ map PosWord (drop (i + 1) words)) n
+    ∙ (append_assoc old (PosWord word ∷ []) (map PosWord (drop (i + 1) words))
+    ∙ (ap (λ z. old ++ map PosWord z) (sym (drop_next words i word at)) ∙ e))
 
 -- one text more
-pub texts_more : (words : List (List ℕ)) (low i : ℕ) (word : List ℕ) → AllWithin IsUtf8 words low i → slice_get words i ≡ Some word → IsUtf8 word → AllWithin IsUtf8 words low (i + 1)
+pub texts_more : (words : List (List ℕ)) (low i : ℕ) (word : List ℕ) → AllWithin IsUtf8 words low i
+    → slice_get words i ≡ Some word → IsUtf8 word → AllWithin IsUtf8 words low (i + 1)
 texts_more words low i word h at u =
-    AllWithin-more IsUtf8 words low i h (λ d. subst IsUtf8 (sym (get_or_from_slice_get words i word d at)) u)
+    AllWithin-more IsUtf8 words low i h
+    (λ d. subst IsUtf8 (sym (get_or_from_slice_get words i word d at)) u)
 
 -- no words in front, and no items
 pub begins_none : (known : Known) (words : List (List ℕ)) → Begins known words [] 0
@@ -89,5 +98,6 @@ pub not_marker : (word : List ℕ) → false ≡ bytes_eq word (codes "--") → 
 not_marker word h e = let t : false ≡ true = h ∙ ap (λ x. bytes_eq x (codes "--")) e in cc
 
 -- words that are texts in front of a place and from there on are all texts
-pub texts_all : (words : List (List ℕ)) (n : ℕ) → AllWithin IsUtf8 words 0 n → AllWithin IsUtf8 words n (length words) → All IsUtf8 words
+pub texts_all : (words : List (List ℕ)) (n : ℕ) → AllWithin IsUtf8 words 0 n
+    → AllWithin IsUtf8 words n (length words) → All IsUtf8 words
 texts_all words n f r k d l = ⊎_elim (λ b. f k d (omega arith) b) (λ a. r k d a l) (cases_lt k n)

@@ -1,6 +1,7 @@
 -- What the splitter answers for a word, by what the word spells, and for all words, by their line.
 use Rattle.std.specs.Prelude.{◌≡◌, ◌≢◌, ◌<◌, ◌≤◌, ℕ, Bool, List, ◌∷◌, ◌++◌, length, take, codes}
-use Rattle.std.specs.Prelude.{slice_get, encode_utf8_all, Result, Ok, Err, Option, Some, None, IsUtf8}
+use Rattle.std.specs.Prelude.{slice_get, encode_utf8_all, Result, Ok, Err, Option, Some, None}
+use Rattle.std.specs.Prelude.{IsUtf8}
 use Rattle.std.specs.Prelude.{⊤}
 use Rattle.std.specs.Borrow.{Bor}
 use Rattle.std.specs.List.{AllWithin}
@@ -50,8 +51,8 @@ pub record AreJoined (word letters : List ℕ) : Type 0 where
   pub no_dash : first ≢ dash_char
   pub no_equals : HasNoEquals (encode_utf8_all (second ∷ others))
 
--- what is answered of a word behind a dash that isn't a number that is a word: nothing, and its items
--- are the new ones; or its letters, which are joined, and no item is new
+-- what is answered of a word behind a dash that isn't a number that is a word: nothing, and its
+-- items are the new ones; or its letters, which are joined, and no item is new
 abbrev pub SplitsDashed : List ℕ → List Arg → Option (Bor (List ℕ)) → List Arg → Type 0
 SplitsDashed word old None new = SpellsAs word old new
 SplitsDashed word old (Some letters) new = AreJoined word letters.now × (new ≡ old)

@@ -6,7 +6,8 @@ use Rattle.bpaf_laws.proofs.ChoicesLaws.{from_lawful}
 use Rattle.bpaf_laws.proofs.ChoosingAll.{one_more, wants, want_of}
 use Rattle.bpaf_laws.proofs.Keeping.{keeps_of}
 use Rattle.bpaf_parts.specs.Branches.{LedTo}
-use Rattle.bpaf_parts.proofs.Branching.{start_back, start_kept, second_keeps, branch_kept, chosen_kept}
+use Rattle.bpaf_parts.proofs.Branching.{start_back, start_kept, second_keeps, branch_kept}
+use Rattle.bpaf_parts.proofs.Branching.{chosen_kept}
 use Rattle.bpaf.proofs.choices.choose_several.Goals as goal
 
 pub undo-requires : goal.undo-requires
@@ -38,7 +39,8 @@ returns-then-is_want g c =
     subst (λ u. Nested ChoiceOutcome g.P.Parser.outcome (g.P.Parser.outcome c.args.first.now)
     c.args.rest.now s c.loop-parser.answer u)
     (sym (c.undo.ensures.undone ∙ start_back s start begins back c.loop-parser.state keeps))
-    (wants g.P.Parser.outcome (g.P.Parser.outcome c.args.first.now) s c.loop-parser.answer c.args.rest.now
+    (wants g.P.Parser.outcome (g.P.Parser.outcome c.args.first.now) s c.loop-parser.answer
+    c.args.rest.now
     c.requires.several (sym c.is_want.ensures ∙ c.if-is_want.true))
 
 pub leave-requires : goal.leave-requires
@@ -70,7 +72,8 @@ returns-in_err-this g c =
     subst (λ u. Nested ChoiceOutcome g.P.Parser.outcome (g.P.Parser.outcome c.args.first.now)
     c.args.rest.now s c.from_residual.result u)
     (sym (c.leave.ensures.back ∙ start_back s start begins back c.loop-parser.state keeps))
-    (wants g.P.Parser.outcome (g.P.Parser.outcome c.args.first.now) s c.from_residual.result c.args.rest.now
+    (wants g.P.Parser.outcome (g.P.Parser.outcome c.args.first.now) s c.from_residual.result
+    c.args.rest.now
     c.requires.several (want_of c.from_residual.result c.from_residual.ensures.1))
 
 pub undo-requires-then-is_want-2 : goal.undo-requires-then-is_want-2
@@ -105,8 +108,10 @@ returns-then-is_want-2 g c =
     c.eval-other.new.state c.loop-parser.invariant c.leave.ensures.back c.eval-other.ensures in
     subst (λ u. Nested ChoiceOutcome g.P.Parser.outcome (g.P.Parser.outcome c.args.first.now)
     c.args.rest.now s c.eval-other.result u)
-    (sym (c.undo-then-is_want-2.ensures.undone ∙ start_back s start begins back c.eval-other.new.state both.1))
-    (wants g.P.Parser.outcome (g.P.Parser.outcome c.args.first.now) s c.eval-other.result c.args.rest.now
+    (sym (c.undo-then-is_want-2.ensures.undone
+    ∙ start_back s start begins back c.eval-other.new.state both.1))
+    (wants g.P.Parser.outcome (g.P.Parser.outcome c.args.first.now) s c.eval-other.result
+    c.args.rest.now
     c.requires.several (sym c.is_want-in-loop-parser.ensures ∙ c.if-is_want-2.true))
 
 pub this_or_that-answer-requires-clause-start : goal.this_or_that-answer-requires-clause-start
@@ -139,7 +144,8 @@ this_or_that-answer-requires-clause-this g c =
     second_keeps s start begins back law (g.met.P.Parser.lawful c.parser-item.result)
     c.loop-parser.answer c.loop-parser.state c.leave.new.state c.eval-other.result
     c.eval-other.new.state c.loop-parser.invariant c.leave.ensures.back c.eval-other.ensures in
-    let led = subst (λ o. LedTo c.in_ok-this.this o c.loop-parser.state) both.0 c.in_ok-this.ensures.left in
+    let led = subst (λ o. LedTo c.in_ok-this.this o c.loop-parser.state) both.0
+    c.in_ok-this.ensures.left in
     branch_kept s start begins back c.in_ok-this.this c.loop-parser.state c.eval-other.new.state
     led both.1
 
@@ -157,13 +163,15 @@ loop-parser-preserved g c =
     second_keeps s start begins back law (g.met.P.Parser.lawful c.parser-item.result)
     c.loop-parser.answer c.loop-parser.state c.leave.new.state c.eval-other.result
     c.eval-other.new.state c.loop-parser.invariant c.leave.ensures.back c.eval-other.ensures in
-    let led = subst (λ o. LedTo c.in_ok-this.this o c.loop-parser.state) both.0 c.in_ok-this.ensures.left in
+    let led = subst (λ o. LedTo c.in_ok-this.this o c.loop-parser.state) both.0
+    c.in_ok-this.ensures.left in
     let i = c.loop-parser.parser-index in
     let more : take (i + 1) c.args.rest.now ≡ take i c.args.rest.now ++ c.parser-item.result ∷ [] =
     take_more c.args.rest.now i c.parser-item.result c.loop-parser-test.true
     ∙ (rw (sym c.parser-item.is) refl) in
     let other =
-    subst (λ w. g.P.Parser.outcome c.parser-item.result w c.eval-other.result c.eval-other.new.state)
+    subst (λ w. g.P.Parser.outcome c.parser-item.result w c.eval-other.result
+    c.eval-other.new.state)
     both.0 c.eval-other.ensures in
     let chosen =
     chosen_kept s start begins back c.in_ok-this.this c.loop-parser.state c.eval-other.new.state led

@@ -4,4 +4,5 @@ use Rattle.bpaf_laws.specs.Choices.{Nested}
 use Rattle.bpaf.proofs.choices.choose_several.Given as goal
 
 abbrev pub invariant-loop-parser : goal.invariant-loop-parser
-invariant-loop-parser g l = Nested ChoiceOutcome g.P.Parser.outcome (g.P.Parser.outcome l.first) (take l.parser-index l.rest) l.fn.state l.answer l.state
+invariant-loop-parser g l = Nested ChoiceOutcome g.P.Parser.outcome (g.P.Parser.outcome l.first)
+    (take l.parser-index l.rest) l.fn.state l.answer l.state

@@ -5,4 +5,5 @@ use Rattle.bpaf_laws.specs.Choices.{Nested}
 use Rattle.bpaf.proofs.choices.meta_from.Given as goal
 
 abbrev pub invariant-loop-parser : goal.invariant-loop-parser
-invariant-loop-parser g l = Nested ChoiceDescribes g.P.Parser.describes (g.P.Parser.describes l.first) (take l.parser-index l.rest) (shape_of l.shown)
+invariant-loop-parser g l = Nested ChoiceDescribes g.P.Parser.describes
+    (g.P.Parser.describes l.first) (take l.parser-index l.rest) (shape_of l.shown)

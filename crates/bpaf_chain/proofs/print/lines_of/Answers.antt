@@ -19,5 +19,6 @@ returns-in_err-text_of c =
 
 pub returns : goal.returns
 returns c =
-    subst (Answers (map string_bytes c.args.words.now)) (sym (rw c.as_slice.ensures.value at c.in_ok-text_of.ensures))
+    subst (Answers (map string_bytes c.args.words.now))
+    (sym (rw c.as_slice.ensures.value at c.in_ok-text_of.ensures))
     (steps c.in_ok-steps.steps c.in_ok-steps.ensures.dealt)

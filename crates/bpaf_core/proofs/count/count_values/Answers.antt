@@ -1,4 +1,5 @@
-use Rattle.std.proofs.Common.{◌≡◌, ◌≤◌, ◌+◌, ◌++◌, ◌∷◌, [], List, ℕ, length, arith, length-append, ⊎_elim, ◌⊎◌}
+use Rattle.std.proofs.Common.{◌≡◌, ◌≤◌, ◌+◌, ◌++◌, ◌∷◌, [], List, ℕ, length, arith, length-append}
+use Rattle.std.proofs.Common.{⊎_elim, ◌⊎◌}
 use Rattle.bpaf_line.specs.Situation.{open_count}
 use Rattle.bpaf_laws.proofs.Repeating.{count_nil, rests_here, goes_on, stops_here, fits_more}
 use Rattle.bpaf_core.proofs.count.count_values.Goals as goal

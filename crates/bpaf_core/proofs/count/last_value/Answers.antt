@@ -1,6 +1,7 @@
 use Rattle.std.proofs.Common.{◌++◌, ◌∷◌, [], refl, subst, inl}
 use Rattle.bpaf_laws.specs.Repeat.{UntilRest}
-use Rattle.bpaf_laws.proofs.Repeating.{EndsIn, none_nil, rests_here, goes_on, stops_here, last_answers}
+use Rattle.bpaf_laws.proofs.Repeating.{EndsIn, none_nil, rests_here, goes_on, stops_here}
+use Rattle.bpaf_laws.proofs.Repeating.{last_answers}
 use Rattle.bpaf_core.proofs.count.last_value.Goals as goal
 
 pub returns-then-len-left : goal.returns-then-len-left

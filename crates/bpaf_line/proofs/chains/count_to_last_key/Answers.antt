@@ -6,7 +6,8 @@ use Rattle.bpaf_line.proofs.chains.count_to_last_key.Goals as goal
 pub loop-count-preserved : goal.loop-count-preserved
 loop-count-preserved c =
     let items = c.args.items.now in
-    let back : c.loop-count.count ≡ c.loop-count.count - 1 + 1 = omega (arith, c.loop-count-test.true) in
+    let back : c.loop-count.count ≡ c.loop-count.count - 1 + 1 =
+    omega (arith, c.loop-count-test.true) in
     record {
       within = omega (arith, c.loop-count.invariant.within);
       keyless = keyless_more items (c.loop-count.count - 1) c.index-items-count.result

@@ -36,6 +36,7 @@ returns-clause-ok g c =
     ∙ (c.in_ok-that.ensures.again ∙ same) in
     let saved =
     subst (λ loser. ConflictsSaved this loser place t) that
-    (subst (λ m. ConflictsSaved m (redone c.in_ok-that.that (undone mark c.resume-2.new.state)) place t) resumed
+    (subst (λ m. ConflictsSaved m (redone c.in_ok-that.that (undone mark c.resume-2.new.state))
+    place t) resumed
     (c.in_ok-save_conflicts-2.ensures.ok mark)) in
     first_wins c.args.x this c.args.y s place t winner saved

@@ -3,7 +3,8 @@ use Rattle.bpaf_words.specs.declared.arg.Arg.TheVariants.{Word}
 use Rattle.bpaf_words.specs.Spelling.{IsNumber, number_word, by_dash, plain, Items}
 use Rattle.bpaf_words.proofs.SplitLemmas.{no_dash, after_dash, alone_by_any}
 use Rattle.bpaf_words.proofs.split.split_alone.Goals as goal
-use Rattle.bpaf_words.proofs.split.split_alone.Goals.{else-numbers-via-then-numbers+else-is_number, else-numbers-via-else-numbers}
+use Rattle.bpaf_words.proofs.split.split_alone.Goals.{else-numbers-via-then-numbers+else-is_number}
+use Rattle.bpaf_words.proofs.split.split_alone.Goals.{else-numbers-via-else-numbers}
 
 pub returns-in_default : goal.returns-in_default
 returns-in_default c names =

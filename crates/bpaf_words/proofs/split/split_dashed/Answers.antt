@@ -1,8 +1,10 @@
-use Rattle.std.proofs.Common.{[], ◌∷◌, ◌++◌, ap, ◌∙◌, sym, rules, true, false, refl, encode_utf8, append-nil, length}
+use Rattle.std.proofs.Common.{[], ◌∷◌, ◌++◌, ap, ◌∙◌, sym, rules, true, false, refl, encode_utf8}
+use Rattle.std.proofs.Common.{append-nil, length}
 use Rattle.std.proofs.lemmas.List.{nil_from_length}
 use Rattle.bpaf_words.specs.declared.arg.Arg.TheVariants.{Short, Word, ArgWord}
 use Rattle.bpaf_words.specs.Spelling.{dash, short}
-use Rattle.bpaf_words.proofs.SplitLemmas.{no_dash, other_than_dash, at_equals, no_equals, with_value, are_joined, not_both, is_zero, first_letter}
+use Rattle.bpaf_words.proofs.SplitLemmas.{no_dash, other_than_dash, at_equals, no_equals}
+use Rattle.bpaf_words.proofs.SplitLemmas.{with_value, are_joined, not_both, is_zero, first_letter}
 use Rattle.bpaf_words.proofs.split.split_dashed.Goals as goal
 use Rattle.bpaf_words.proofs.split.split_dashed.Goals.{then-is_empty-2, else-is_empty-2}
 

@@ -3,4 +3,5 @@ use Rattle.bpaf_words.proofs.JoinedLemmas.{Walked}
 use Rattle.bpaf_words.proofs.split.split_joined.Given as goal
 
 abbrev pub invariant-loop-c : goal.invariant-loop-c
-invariant-loop-c l = Walked (record { flags = l.flags; arguments = l.arguments }) l.word l.letters l.initial.items.items l.items.items l.count (chars_rest l.rest)
+invariant-loop-c l = Walked (record { flags = l.flags; arguments = l.arguments }) l.word l.letters
+    l.initial.items.items l.items.items l.count (chars_rest l.rest)

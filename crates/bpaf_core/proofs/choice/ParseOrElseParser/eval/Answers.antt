@@ -3,7 +3,8 @@ use Rattle.bpaf_laws.specs.Choice.{ChoiceOutcome}
 use Rattle.bpaf_laws.proofs.Choosing.{ran_outcome, choice_spared, want_outcome, want_leftmost}
 use Rattle.bpaf_laws.proofs.Leftmost.{leftmost_is_chosen}
 use Rattle.bpaf_parts.specs.Branches.{LedTo}
-use Rattle.bpaf_parts.proofs.Branching.{start_back, start_kept, second_keeps, branch_kept, chosen_kept}
+use Rattle.bpaf_parts.proofs.Branching.{start_back, start_kept, second_keeps, branch_kept}
+use Rattle.bpaf_parts.proofs.Branching.{chosen_kept}
 use Rattle.bpaf_core.proofs.choice.ParseOrElseParser.eval.Goals as goal
 
 pub undo-requires-then-is_want-2 : goal.undo-requires-then-is_want-2
@@ -31,8 +32,10 @@ returns-then-is_want-2-clause-outcome g c =
     c.leave.new.state c.eval-second.result c.eval-second.new.state c.eval-first.ensures
     c.leave.ensures.back c.eval-second.ensures in
     want_outcome (g.A.Parser.outcome c.args.self.now.this) (g.B.Parser.outcome c.args.self.now.that)
-    s c.eval-second.result c.undo-then-is_want-2.new.self (sym c.is_want-2.ensures ∙ c.if-is_want-2.true)
-    (c.undo-then-is_want-2.ensures.undone ∙ start_back s start begins back c.eval-second.new.state both.1)
+    s c.eval-second.result c.undo-then-is_want-2.new.self
+    (sym c.is_want-2.ensures ∙ c.if-is_want-2.true)
+    (c.undo-then-is_want-2.ensures.undone
+    ∙ start_back s start begins back c.eval-second.new.state both.1)
 
 pub returns-then-is_want-2-clause-leftmost_wins :
     goal.returns-then-is_want-2-clause-leftmost_wins
@@ -46,9 +49,12 @@ returns-then-is_want-2-clause-leftmost_wins g c =
     (g.met.B.Parser.lawful c.args.self.now.that) c.eval-first.result c.eval-first.new.state
     c.leave.new.state c.eval-second.result c.eval-second.new.state c.eval-first.ensures
     c.leave.ensures.back c.eval-second.ensures in
-    want_leftmost (g.A.Parser.outcome c.args.self.now.this) (g.B.Parser.outcome c.args.self.now.that)
-    s c.eval-second.result c.undo-then-is_want-2.new.self (sym c.is_want-2.ensures ∙ c.if-is_want-2.true)
-    (c.undo-then-is_want-2.ensures.undone ∙ start_back s start begins back c.eval-second.new.state both.1)
+    want_leftmost (g.A.Parser.outcome c.args.self.now.this)
+    (g.B.Parser.outcome c.args.self.now.that)
+    s c.eval-second.result c.undo-then-is_want-2.new.self
+    (sym c.is_want-2.ensures ∙ c.if-is_want-2.true)
+    (c.undo-then-is_want-2.ensures.undone
+    ∙ start_back s start begins back c.eval-second.new.state both.1)
 
 pub this_or_that-requires-clause-start : goal.this_or_that-requires-clause-start
 this_or_that-requires-clause-start g c =
@@ -74,7 +80,8 @@ this_or_that-requires-clause-this g c =
     (g.met.B.Parser.lawful c.args.self.now.that) c.eval-first.result c.eval-first.new.state
     c.leave.new.state c.eval-second.result c.eval-second.new.state c.eval-first.ensures
     c.leave.ensures.back c.eval-second.ensures in
-    let led = subst (λ o. LedTo c.in_ok-this.this o c.eval-first.new.state) both.0 c.in_ok-this.ensures.left in
+    let led = subst (λ o. LedTo c.in_ok-this.this o c.eval-first.new.state) both.0
+    c.in_ok-this.ensures.left in
     branch_kept s start begins back c.in_ok-this.this c.eval-first.new.state
     c.eval-second.new.state led both.1
 
@@ -93,7 +100,8 @@ ran g c =
     (g.met.B.Parser.lawful c.args.self.now.that) c.eval-first.result c.eval-first.new.state
     c.leave.new.state c.eval-second.result c.eval-second.new.state c.eval-first.ensures
     c.leave.ensures.back c.eval-second.ensures in
-    let led = subst (λ o. LedTo c.in_ok-this.this o c.eval-first.new.state) both.0 c.in_ok-this.ensures.left in
+    let led = subst (λ o. LedTo c.in_ok-this.this o c.eval-first.new.state) both.0
+    c.in_ok-this.ensures.left in
     ran_outcome (g.A.Parser.outcome c.args.self.now.this) (g.B.Parser.outcome c.args.self.now.that)
     s c.eval-first.result c.eval-first.new.state c.eval-second.result c.eval-second.new.state
     c.this_or_that.result c.this_or_that.new.state c.eval-first.ensures

@@ -6,5 +6,6 @@ pub of_line-requires : goal.of_line-requires
 of_line-requires g c = marker_within _ c.args.self.now.info _ c.in_ok-line.line c.in_ok-line.ensures
 
 pub returns : goal.returns
-returns g c = starts_at _ c.args.self.now.info (given_of c.args.args) _ c.in_ok-line.line _ c.words.ensures
+returns g c = starts_at _ c.args.self.now.info
+    (given_of c.args.args) _ c.in_ok-line.line _ c.words.ensures
     c.in_ok-line.ensures c.in_ok-of_line.ensures

@@ -6,7 +6,8 @@ pub returns-in-Ok-Help : goal.returns-in-Ok-Help
 returns-in-Ok-Help g c =
     let p = c.args.self.now in
     shown c.in-Ok-Help.field-0 _ _ c.in-Ok-Help.ensures
-    (subst (λ asked. Shows (g.P.Parser.describes p.inner.now) p.info.now asked c.look.new.state c.help.result)
+    (subst (λ asked. Shows (g.P.Parser.describes p.inner.now) p.info.now asked c.look.new.state
+    c.help.result)
     (sym c.in-Ok-Help.field-0-is) c.help.ensures)
 
 pub returns-in-Ok-Version : goal.returns-in-Ok-Version
@@ -14,7 +15,8 @@ returns-in-Ok-Version g c =
     let p = c.args.self.now in
     shown c.in-Ok-Version.field-0 _ _ c.in-Ok-Version.ensures
     (subst
-    (λ asked. Shows (g.P.Parser.describes p.inner.now) p.info.now asked c.look.new.state c.version_page.result)
+    (λ asked. Shows (g.P.Parser.describes p.inner.now) p.info.now asked c.look.new.state
+    c.version_page.result)
     (sym c.in-Ok-Version.field-0-is) c.version_page.ensures)
 
 pub returns-then-is_memory : goal.returns-then-is_memory

@@ -63,7 +63,8 @@ invariant_of-result c =
       c.deref_mut-2.ensures.len,
       c.in_ok-heads.ensures.len,
     ))
-    (λ k within. ap (λ xs. slice_index xs k) (c.in_ok-cursors.ensures.items_if_clones_equal (λ y e. e))
+    (λ k within. ap (λ xs. slice_index xs k)
+    (c.in_ok-cursors.ensures.items_if_clones_equal (λ y e. e))
     ∙ (get_or-replicate (128 + keys) k keys 0 (omega (
       arith,
       c.link.auto.heads,

@@ -28,7 +28,8 @@ returns c =
     behind_owned items set (chained_of s) c.args.place class c.start_at-from.result
     c.first_of_name-cursor.result
     (subst (AreBehind items set) (sym c.self.view_is) c.requires.behind)
-    (omega (arith, inside, c.self.invariant.owned)) (omega (arith, inside, c.self.invariant.cursors))
+    (omega (arith, inside, c.self.invariant.owned))
+    (omega (arith, inside, c.self.invariant.cursors))
     (subst (λ t. IsWalkStart items (names_in items c.args.place) t class c.start_at-from.result)
     (sym c.self.view_is) c.start_at-from.ensures)
     (subst (λ t. HasWalked t.classes (λ p. set p || not (shares_name items c.args.place p))

@@ -21,7 +21,8 @@ invariant_of-self c =
 pub returns-clause-behind : goal.returns-clause-behind
 returns-clause-behind c =
     behind_passed_read c.self.inside c.args.items.now (has_bit c.args.words.now)
-    c.as_slice.result.now c.args.place c.index-head.result.now c.first_clear-first.result c.self.invariant
+    c.as_slice.result.now c.args.place c.index-head.result.now c.first_clear-first.result
+    c.self.invariant
     c.as_slice.ensures.value
     (omega (
       arith,

@@ -22,12 +22,16 @@ loop-long-preserved c =
     let chains = c.args.chains.now in
     let class = class_of (length chains.heads) (name_number key) in
     let line = c.as_slice-items.ensures.value ∙ ap (λ t. t.context.line) c.self.view_is in
-    let begins = subst (λ ns. IsWalkStart s.context.line (record { shorts = []; longs = ns }) chains class c.start-start.result)
-    c.from_ref.ensures.value (subst (λ items. IsWalkStart items (record { shorts = []; longs = c.from_ref.result.now }) chains class
+    let begins = subst (λ ns. IsWalkStart s.context.line
+    (record { shorts = []; longs = ns }) chains class c.start-start.result)
+    c.from_ref.ensures.value (subst
+    (λ items. IsWalkStart items (record { shorts = []; longs = c.from_ref.result.now }) chains
+    class
     c.start-start.result) line (subst (λ number. IsWalkStart c.as_slice-items.result.now
     (record { shorts = []; longs = c.from_ref.result.now }) chains
     (class_of (length chains.heads) number) c.start-start.result)
-    (c.text_number-number.ensures ∙ ap (text_number 0) (c.as_str.ensures)) c.start-start.ensures)) in
+    (c.text_number-number.ensures ∙ ap (text_number 0) (c.as_str.ensures))
+    c.start-start.ensures)) in
     subst (λ ns. IsFirstAmong test (record { shorts = []; longs = ns }) s c.args.end
     c.first_along-place.result) (sym (take_more longs i name c.loop-long-test.true
     ∙ ap (λ n. take i longs ++ n ∷ []) (sym c.long-item.is)))

@@ -22,8 +22,11 @@ loop-short-preserved c =
     let chains = c.args.chains.now in
     let class = class_of (length chains.heads) (name_number key) in
     let line = c.as_slice-items.ensures.value ∙ ap (λ t. t.context.line) c.self.view_is in
-    let begins = subst (λ ns. IsWalkStart s.context.line (record { shorts = ns; longs = [] }) chains class c.start-start.result)
-    c.from_ref.ensures.value (subst (λ items. IsWalkStart items (record { shorts = c.from_ref.result.now; longs = [] }) chains class
+    let begins = subst (λ ns. IsWalkStart s.context.line
+    (record { shorts = ns; longs = [] }) chains class c.start-start.result)
+    c.from_ref.ensures.value (subst
+    (λ items. IsWalkStart items (record { shorts = c.from_ref.result.now; longs = [] }) chains
+    class
     c.start-start.result) line c.start-start.ensures) in
     subst (λ ns. IsFirstAmong test (record { shorts = ns; longs = [] }) s c.args.end
     c.first_along-place.result) (sym (take_more shorts i name c.loop-short-test.true

@@ -10,5 +10,6 @@ abbrev pub invariant-loop-number : goal.invariant-loop-number
 invariant-loop-number l =
     let all = map line_of l.self.all.items in
     let titles = l.self.titles.items in
-    joined_behind (codes "\n") (prints l.page) (sections l.width all l.number (drop l.number titles))
+    joined_behind (codes "\n") (prints l.page)
+    (sections l.width all l.number (drop l.number titles))
     ≡ joined_behind (codes "\n") (prints l.initial.page) (sections l.width all 0 titles)

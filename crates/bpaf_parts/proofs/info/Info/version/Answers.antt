@@ -12,7 +12,8 @@ pub returns-then-is_present : goal.returns-then-is_present
 returns-then-is_present c =
     version_asked c.args.self.now c.args.state.now c.in_ok-key.key c.is_present.result
     c.is_present.new.state c.is_present.ensures c.in_ok-key.ensures c.in-Some.version
-    (sym (ap (λ i. i.version) c.self.view_is) ∙ c.in-Some.is) c.if-is_present.true c.in_ok-copy.field-0 c.in_ok-copy.ensures
+    (sym (ap (λ i. i.version) c.self.view_is) ∙ c.in-Some.is) c.if-is_present.true
+    c.in_ok-copy.field-0 c.in_ok-copy.ensures
 
 pub returns : goal.returns
 returns c =

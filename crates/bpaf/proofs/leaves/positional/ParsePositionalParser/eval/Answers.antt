@@ -7,13 +7,16 @@ use Rattle.bpaf.proofs.leaves.positional.ParsePositionalParser.eval.Goals as goa
 pub returns-then-not-accepts-clause-outcome : goal.returns-then-not-accepts-clause-outcome
 returns-then-not-accepts-clause-outcome g c =
     let word = c.in_ok-place.ensures in
-    word_misplaced _ _ _ _ _ _ _ _ (word_removed _ _ _ _ _ word.0 word.1 c.remove.ensures.taken) _ (sym c.accepts.ensures ∙ c.if-not-accepts.true) c.in_ok-misplaced.ensures
+    word_misplaced _ _ _ _ _ _ _ _ (word_removed _ _ _ _ _ word.0 word.1 c.remove.ensures.taken) _
+    (sym c.accepts.ensures ∙ c.if-not-accepts.true) c.in_ok-misplaced.ensures
 
 pub returns-clause-outcome : goal.returns-clause-outcome
 returns-clause-outcome g c =
     let word = c.in_ok-place.ensures in
-    word_read _ _ _ _ _ _ _ _ (word_removed _ _ _ _ _ word.0 word.1 c.remove-2.ensures.taken) _ (sym c.accepts.ensures ∙ c.if-not-accepts.false)
-    (reading_told g.T.FromText.means c.in_ok-place.text.now _ _ _ (rw c.as_str.ensures at c.from_text-read.ensures) c.value_or_refusal.ensures)
+    word_read _ _ _ _ _ _ _ _ (word_removed _ _ _ _ _ word.0 word.1 c.remove-2.ensures.taken) _
+    (sym c.accepts.ensures ∙ c.if-not-accepts.false)
+    (reading_told g.T.FromText.means c.in_ok-place.text.now _ _ _
+    (rw c.as_str.ensures at c.from_text-read.ensures) c.value_or_refusal.ensures)
 
 pub returns-clause-memory_is_never_caught : goal.returns-clause-memory_is_never_caught
 returns-clause-memory_is_never_caught g c =

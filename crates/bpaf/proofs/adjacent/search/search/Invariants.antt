@@ -3,7 +3,7 @@ use Rattle.std.proofs.Common.{◌≡◌, ◌≤◌, ◌-◌}
 use Rattle.bpaf_doc.specs.Shape.{part_of}
 use Rattle.bpaf.specs.Remembering.{IsRemembered}
 use Rattle.bpaf.proofs.Seeking.{Rest}
-use Rattle.bpaf.proofs.adjacent.search.Given as goal
+use Rattle.bpaf.proofs.adjacent.search.search.Given as goal
 
 abbrev pub invariant-loop-places : goal.invariant-loop-places
 invariant-loop-places g l = record {

@@ -1,5 +1,5 @@
 use Rattle.bpaf.proofs.Searching.{takes_from}
-use Rattle.bpaf.proofs.adjacent.takes_item.Goals as goal
+use Rattle.bpaf.proofs.adjacent.attempts.takes_item.Goals as goal
 
 pub returns-clause-takes : goal.returns-clause-takes
 returns-clause-takes g c =

@@ -1,5 +1,5 @@
 use Rattle.bpaf.proofs.StretchEnds.{told_end}
-use Rattle.bpaf.proofs.adjacent.stretch_end.Goals as goal
+use Rattle.bpaf.proofs.adjacent.attempts.stretch_end.Goals as goal
 
 pub returns-then-len-scope-clause-stretch : goal.returns-then-len-scope-clause-stretch
 returns-then-len-scope-clause-stretch c =

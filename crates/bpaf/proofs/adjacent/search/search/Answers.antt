@@ -2,7 +2,7 @@ use Rattle.std.proofs.Common.{◌≤◌, ap, subst, ◌∙◌, arith, Ok}
 use Rattle.bpaf_doc.specs.Shape.{part_of}
 use Rattle.bpaf.specs.Remembering.{IsRemembered}
 use Rattle.bpaf.proofs.Seeking.{refused_at, rest_on, search_ends, unchanged, value_found}
-use Rattle.bpaf.proofs.adjacent.search.Goals as goal
+use Rattle.bpaf.proofs.adjacent.search.search.Goals as goal
 
 pub returns-in-Err : goal.returns-in-Err
 returns-in-Err g c =

@@ -1,5 +1,5 @@
 use Rattle.bpaf.proofs.Searching.{now_remembered, not_remembered}
-use Rattle.bpaf.proofs.adjacent.Remembered.keep.Goals as goal
+use Rattle.bpaf.proofs.adjacent.failures.Remembered.keep.Goals as goal
 
 pub returns-then-self-left-clause-ok : goal.returns-then-self-left-clause-ok
 returns-then-self-left-clause-ok c =
