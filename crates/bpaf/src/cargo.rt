@@ -44,8 +44,8 @@ pub fn cargo_helper<P: Drop>(
     })
 }
 
-/// The word is evaluated, and then the parser, also after an error; then no word is current. Want of
-/// memory is refused at once.
+/// The word is evaluated, and then the parser, also after an error; then no word is current. Want
+/// of memory is refused at once.
 impl<T: Drop, P: Parser<T>> Parser<T> for CargoHelper<P> {
     ghost use Rattle.std.specs.Prelude.{◌≡◌, Option};
     ghost use Rattle.bpaf_laws.specs.Product.{ProductOutcome, ProductReads, ProductDescribes};

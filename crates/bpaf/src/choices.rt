@@ -107,9 +107,9 @@ fn meta_from<T, P: Parser<T>>(first: &P, rest: &[P], alloc: Global) -> Result<Me
 }
 
 /// The parsers are evaluated as nested choices of two, the first ones innermost
-/// ([`this_or_that`](bpaf_core::this_or_that)). Want of memory in one of them is refused at once, with
-/// the state as before. Without parsers it is refused with ParseFail, or for want of memory for the
-/// message, and no place is current then.
+/// ([`this_or_that`](bpaf_core::this_or_that)). Want of memory in one of them is refused at once,
+/// with the state as before. Without parsers it is refused with ParseFail, or for want of memory
+/// for the message, and no place is current then.
 impl<T: Drop, P: Parser<T> + Drop> Parser<T> for ParseChoice<P> {
     ghost use Rattle.std.specs.Prelude.{All};
     ghost use Rattle.bpaf_laws.specs.Spared.{IsNotMemory, WithoutMemory};

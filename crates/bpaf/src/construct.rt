@@ -1,21 +1,21 @@
 //! The macro that joins parsers into a product or a choice.
 
-/// Combines parsers into one: a product of its fields, whose values make a tuple or a value by name, or
-/// a choice of them.
+/// Combines parsers into one: a product of its fields, whose values make a tuple or a value by
+/// name, or a choice of them.
 ///
 /// | call | answers a parser of |
 /// |---|---|
 /// | `construct!(a, b)` | the tuple `(a, b)` |
-/// | `construct!(Name { a, b })` | a struct with these fields, or a variant, as in `Command::Build { a, b }` |
-/// | `construct!(Name(a, b))` | a struct with numbered fields, or a variant, as in `Command::Run(a, b)` |
+/// | `construct!(Name { a, b })` | these fields of a struct or a variant, as `Command::Build { a, b }` |
+/// | `construct!(Name(a, b))` | the same with numbered fields, as `Command::Run(a, b)` |
 /// | `construct!(Name {})`, `construct!(Name())` | that value: it is [`pure`](crate::pure) of it |
 /// | `construct!(a)` | what `a` parses: it is that parser itself |
 /// | `construct!([a, b, c])` | what one of them parses: it is `a.or_else(b).or_else(c)` |
 /// | `construct!([a])` | what `a` parses: it is that parser itself |
 ///
 /// A name may be a path, such as `self::One(a, b)`; a leading `::` is dropped. A trailing comma may
-/// stand. One call takes up to some fifty fields, where the compiler's own limit lies; a product may
-/// itself be a field.
+/// stand. One call takes up to some fifty fields, where the compiler's own limit lies; a product
+/// may itself be a field.
 ///
 /// A field is one of these, and they are evaluated in the order in which they are written:
 ///
@@ -33,13 +33,13 @@
 /// });
 /// ```
 ///
-/// `construct!(a(expression))` alone is a value by the name `a`, since a constructor is read before a
-/// field; with a trailing comma it is one field.
+/// `construct!(a(expression))` alone is a value by the name `a`, since a constructor is read before
+/// a field; with a trailing comma it is one field.
 ///
-/// bpaf's macro makes a closure over the parsers, and evaluates them in it. This one makes a product,
-/// [`ParseCon`](crate::ParseCon) over nested [`Both`](crate::Both) and [`Last`](crate::Last), and a
-/// closure for the constructor alone: so what the whole parses follows from what its fields do. The two
-/// have the same forms.
+/// bpaf's macro makes a closure over the parsers, and evaluates them in it. This one makes a
+/// product, [`ParseCon`](crate::ParseCon) over nested [`Both`](crate::Both) and
+/// [`Last`](crate::Last), and a closure for the constructor alone: so what the whole parses follows
+/// from what its fields do. The two have the same forms.
 #[macro_export]
 macro_rules! construct {
     // construct!(Name {}) and construct!(Name())

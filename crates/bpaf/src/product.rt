@@ -9,7 +9,8 @@ use bpaf_line::{Error, State};
 use std::alloc::{AllocError, Global};
 use std::marker::PhantomData;
 
-/// The fields of a product, in order: their values are nested pairs. bpaf has a closure in its place.
+/// The fields of a product, in order: their values are nested pairs. bpaf has a closure in its
+/// place.
 pub trait Fields<V>: Sized {
     ghost use Rattle.std.specs.Prelude.{List};
     ghost use Rattle.bpaf_doc.specs.Shape.{Shape};
@@ -200,7 +201,8 @@ impl<T: Drop, V: Drop, A: Parser<T>, R: Fields<V>> Fields<(T, V)> for Both<A, R>
         (R.outcome p.rest) (R.spared_outcome p.rest) (R.memory_is_never_caught p.rest) };
 }
 
-/// A product: what a constructor makes of the values of fields (bpaf's `ParseCon`, in `structs.rs`).
+/// A product: what a constructor makes of the values of fields (bpaf's `ParseCon`, in
+/// `structs.rs`).
 ///
 /// `V` is the type of the fields' values, nested pairs.
 #[derive(Drop)]

@@ -17,8 +17,8 @@ fn push_text(text: &str, out: &mut String) -> Result<(), AllocError> {
 }
 
 /// What a parser answers to words, as one line: `ok` and the value, `err` and the message, `out`
-/// and a text that was asked for, `full` and one that was asked for in full, or `memory` where memory
-/// was wanted.
+/// and a text that was asked for, `full` and one that was asked for in full, or `memory` where
+/// memory was wanted.
 pub fn answer<P: Parser<Value> + Drop>(
     alloc: Global,
     options: &OptionParser<Value, P>,
@@ -46,8 +46,8 @@ pub fn answer<P: Parser<Value> + Drop>(
     Ok(out)
 }
 
-/// Runs a parser on the beginnings of words that are shorter than these, from the empty one on and at
-/// most so many, and answers how many it ran.
+/// Runs a parser on the beginnings of words that are shorter than these, from the empty one on and
+/// at most so many, and answers how many it ran.
 pub fn run_beginnings<P: Parser<Value> + Drop>(
     alloc: Global,
     options: &OptionParser<Value, P>,
@@ -68,8 +68,8 @@ pub fn run_beginnings<P: Parser<Value> + Drop>(
     Ok(ran)
 }
 
-/// Whether a text is an answer: of a value, of a message, of a text that was asked for, or of want of
-/// memory.
+/// Whether a text is an answer: of a value, of a message, of a text that was asked for, or of want
+/// of memory.
 pub fn is_answer(text: &str) -> bool {
     text == "err"
         || text == "memory"

@@ -10,9 +10,9 @@
 //! chain move 1 2 turn --left 90 repeat 3    move 1 2, turn left 90, repeat 3, a line each
 //! chain turn 90 --left                      turn left 90
 //! chain                                     nothing, status 0
-//! chain --help, chain move --help           the help page, of the program or of a command, status 0
-//! chain move 1                              Error: expected `DY`, pass `--help` for usage information,
-//!                                           on standard error, status 1
+//! chain --help, chain move --help           the help page, of the program or of a command
+//! chain move 1                              Error: expected `DY`, pass `--help` for usage
+//!                                           information, on standard error, status 1
 //! chain move -1 2                           a refusal as well: `-1` is a key
 //! ```
 //!

@@ -12,8 +12,9 @@ use std::io::Write;
 ///
 /// Status 0 comes only where steps were read and all their lines written on `out`, or where a help
 /// page was asked for and written there, that of the program or of a command; and then nothing is
-/// written on `err`. A refusal is told on `err`, as `Error: ` and the message, and nothing is written
-/// on `out`; its status is 1, as is that of a write that fails, after a beginning of the text.
+/// written on `err`. A refusal is told on `err`, as `Error: ` and the message, and nothing is
+/// written on `out`; its status is 1, as is that of a write that fails, after a beginning of the
+/// text.
 pub fn run<W: Write, E: Write>(alloc: Global, words: &[String], out: &mut W, err: &mut E) -> u8
     ensures { RunsTo (Answers (map string_bytes words.now)) result (W.contents out.old)
         (W.contents out.new) (E.contents err.old) (E.contents err.new) }

@@ -72,7 +72,8 @@ where
         .run_once(Args::from(words).set_name("chain"))
 }
 
-/// The adjacent command of this name and description over a parser; refused only for want of memory.
+/// The adjacent command of this name and description over a parser; refused only for want of
+/// memory.
 fn chained<P: Parser<Step> + Drop>(
     alloc: Global,
     name: &str,

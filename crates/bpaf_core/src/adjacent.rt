@@ -41,7 +41,8 @@ impl<T: Drop, P: Parser<T>> Run<'_, T, P> {
         requires ordered { from ≤ end }
         requires inside { end ≤ length state.old.context.line }
         ensures runs { Attempt T (P.outcome self.now.inner.now)
-            (EndsRun (P.describes self.now.inner.now) self.now.info.now) state.old from end result state.new }
+            (EndsRun (P.describes self.now.inner.now) self.now.info.now)
+            state.old from end result state.new }
         ensures context { state.new.context ≡ state.old.context }
         ensures marks { KeepsMarks state.old state.new }
     {
@@ -64,7 +65,8 @@ impl<T: Drop, P: Parser<T>> Run<'_, T, P> {
         requires fits { Fits mark state.old }
         requires inside { end ≤ length state.old.context.line }
         ensures { Retry T (P.outcome self.now.inner.now)
-            (EndsRun (P.describes self.now.inner.now) self.now.info.now) (undone mark state.old) from end failure
+            (EndsRun (P.describes self.now.inner.now) self.now.info.now)
+            (undone mark state.old) from end failure
             state.old result state.new }
     {
         if wants_memory(&failure) {
@@ -89,7 +91,8 @@ impl<T: Drop, P: Parser<T>> Run<'_, T, P> {
         requires can { P.can_eval self.now.inner.now }
         requires inside { from ≤ length state.old.context.line }
         ensures { Attempts T (P.outcome self.now.inner.now)
-            (EndsRun (P.describes self.now.inner.now) self.now.info.now) state.old from result state.new }
+            (EndsRun (P.describes self.now.inner.now) self.now.info.now)
+            state.old from result state.new }
     {
         let mark = state.mark();
         let end = state.adjacently_available_from(from).end;
@@ -105,7 +108,8 @@ impl<T: Drop, P: Parser<T>> Run<'_, T, P> {
         requires can { P.can_eval self.now.inner.now }
         requires word { state.old.start < state.old.end }
         ensures { AdjacentRuns T (P.outcome self.now.inner.now)
-            (EndsRun (P.describes self.now.inner.now) self.now.info.now) state.old result state.new }
+            (EndsRun (P.describes self.now.inner.now) self.now.info.now)
+            state.old result state.new }
     {
         let scope = state.scope();
         match self.attempts(state, scope.start + 1) {

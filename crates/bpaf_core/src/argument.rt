@@ -8,13 +8,13 @@ use std::alloc::{AllocError, Global};
 
 /// What the text behind the first key with one of the names means, or, where there is no such key,
 /// that of the first of its names in the environment that is set (bpaf's `ParseArgument`, in
-/// `params.rs`). With `take_last` all such keys are taken, each with the text behind it, and the last
-/// text counts.
+/// `params.rs`). With `take_last` all such keys are taken, each with the text behind it, and the
+/// last text counts.
 ///
-/// Refused with Missing where there is neither, or NoEnv where it has names in the environment alone;
-/// with NoArgument where no text stands behind a key, those before it taken; with ParseFailed, its places
-/// taken, where the text that counts means no value; or for want of memory. A text of the environment
-/// leaves no place current.
+/// Refused with Missing where there is neither, or NoEnv where it has names in the environment
+/// alone; with NoArgument where no text stands behind a key, those before it taken; with
+/// ParseFailed, its places taken, where the text that counts means no value; or for want of memory.
+/// A text of the environment leaves no place current.
 impl<T: FromText + Drop> Parser<T> for ParseArgument<T> {
     ghost use Rattle.std.specs.Prelude.{◌≡◌};
     ghost use Rattle.bpaf_laws.specs.Argument.{ArgumentOutcome, ArgumentReads, argument_shape};

@@ -27,8 +27,8 @@ fn count_values<T: Drop, P: Parser<T>>(parser: &P, state: &mut State) -> Result<
     Ok(count)
 }
 
-/// The last value before a turn stops, or one that took nothing; without a value what the parser answers
-/// once more.
+/// The last value before a turn stops, or one that took nothing; without a value what the parser
+/// answers once more.
 fn last_value<T: Drop, P: Parser<T>>(parser: &P, state: &mut State) -> Result<T, Error>
     requires { P.can_eval parser.now }
     ensures { LastOutcome (P.outcome parser.now) state.old result state.new }
@@ -55,8 +55,8 @@ pub struct ParseCount<P, T> {
     pub inner_res: PhantomData<T>,
 }
 
-/// The number of inner values, until a turn stops or a value took nothing, which is counted. Every error
-/// at which no turn stops is refused, with the state that it left; so is want of memory.
+/// The number of inner values, until a turn stops or a value took nothing, which is counted. Every
+/// error at which no turn stops is refused, with the state that it left; so is want of memory.
 impl<T: Drop, P: Parser<T>> Parser<usize> for ParseCount<P, T> {
     ghost use Rattle.bpaf_laws.specs.Repeat.{CountOutcome, CountReads, ManyDescribes};
     ghost use Rattle.bpaf_laws.proofs.RepeatLaws.{count_lawful};
@@ -92,9 +92,9 @@ pub struct ParseLast<P> {
     pub inner: P,
 }
 
-/// The last inner value before a turn stops, or one that took nothing. Without a value the inner parser
-/// is evaluated once more, and what it answers is the answer. Every error at which no turn stops is
-/// refused, with the state that it left; so is want of memory.
+/// The last inner value before a turn stops, or one that took nothing. Without a value the inner
+/// parser is evaluated once more, and what it answers is the answer. Every error at which no turn
+/// stops is refused, with the state that it left; so is want of memory.
 impl<T: Drop, P: Parser<T>> Parser<T> for ParseLast<P> {
     ghost use Rattle.bpaf_laws.specs.Repeat.{LastOutcome, LastReads, SomeDescribes};
     ghost use Rattle.bpaf_laws.proofs.RepeatLaws.{last_lawful};

@@ -2,7 +2,8 @@
 ghost use Rattle.std.specs.Prelude.{◌≡◌, IfOk};
 ghost use Rattle.std.specs.Fn.{FnReturnsAt};
 ghost use Rattle.bpaf_doc.specs.Shape.{shape_of};
-ghost use Rattle.bpaf_laws.specs.Default.{AttemptOutcome, DefaultDescribes, ShowsAnswer, ShowsDefault};
+ghost use Rattle.bpaf_laws.specs.Default.{AttemptOutcome, DefaultDescribes, ShowsAnswer};
+ghost use Rattle.bpaf_laws.specs.Default.{ShowsDefault};
 ghost use Rattle.bpaf_laws.specs.Default.{ShowsFormatted};
 
 use crate::optional::optional_meta;
@@ -41,7 +42,8 @@ fn default_meta<T, P: Parser<T>>(
     alloc: Global,
 ) -> Result<Meta, AllocError>
     requires { P.can_eval parser.now }
-    ensures { IfOk result (λ meta. DefaultDescribes (P.describes parser.now) shown.now (shape_of meta)) }
+    ensures { IfOk result (λ meta.
+        DefaultDescribes (P.describes parser.now) shown.now (shape_of meta)) }
 {
     let meta = optional_meta(parser, alloc)?;
     match shown {
@@ -223,9 +225,9 @@ impl<T: Debug + Drop, P: Drop, F: Fn() -> Result<T, E> + Drop, E: Drop> ParseFal
 }
 
 impl<T: Drop, P: Drop, F: Fn() -> Result<T, E> + Drop, E: Drop> ParseFallbackWith<T, P, F, E> {
-    /// The closure's value is shown in the help page, as another closure writes it; the first one is
-    /// called once, and where it has none what was shown stays (bpaf's `format_fallback`). Refused
-    /// only for want of memory, and then the parser is gone.
+    /// The closure's value is shown in the help page, as another closure writes it; the first one
+    /// is called once, and where it has none what was shown stays (bpaf's `format_fallback`).
+    /// Refused only for want of memory, and then the parser is gone.
     pub fn format_fallback<G: Fn(&T) -> Result<String, AllocError>>(
         mut self,
         alloc: Global,

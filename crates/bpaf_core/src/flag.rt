@@ -9,9 +9,9 @@ use std::alloc::{AllocError, Global};
 /// Present where a key with one of the names is taken, or else where one of its names in the
 /// environment is set; else absent (bpaf's `ParseFlag`, in `params.rs`).
 ///
-/// A required flag, which has no absent value, answers Missing where it is absent, or NoEnv where it
-/// has names in the environment alone. The value is a clone of the kept one, which may be refused for
-/// memory; that is told as nothing else.
+/// A required flag, which has no absent value, answers Missing where it is absent, or NoEnv where
+/// it has names in the environment alone. The value is a clone of the kept one, which may be
+/// refused for memory; that is told as nothing else.
 impl<T: Clone + Drop> Parser<T> for ParseFlag<T> {
     ghost use Rattle.std.specs.Prelude.{◌≡◌};
     ghost use Rattle.std.specs.Result.{IfErr};

@@ -3,8 +3,8 @@ ghost use Rattle.bpaf_laws.specs.Counting.{CountFalls};
 
 use crate::parser::Parser;
 
-/// Whatever a parser's type: after an Ok the count of present items has fallen by the number of newly
-/// taken places.
+/// Whatever a parser's type: after an Ok the count of present items has fallen by the number of
+/// newly taken places.
 pub fn count_falls<T, P: Parser<T>>(parser: &P)
     ensures { CountFalls (P.outcome parser.now) }
 {

@@ -1,7 +1,7 @@
 //! Parsers: what reads a value off a line, and a run over a whole line.
 //!
-//! It stands on `bpaf_parts`, whose [`Info`], [`CommandNames`] and [`read_text`] it hands on, and on the
-//! crates below that. For the layers above:
+//! It stands on `bpaf_parts`, whose [`Info`], [`CommandNames`] and [`read_text`] it hands on, and
+//! on the crates below that. For the layers above:
 //!
 //! - [`Parser`] is the trait of every parser. By its ghost members an implementation says what it
 //!   means: `reads`, which values may be read off which places of a line; `outcome`, what one
@@ -9,29 +9,29 @@
 //!   show of itself. Its law `lawful` ties the outcome to the readings: the newly taken places with
 //!   the value are a reading, each taken place lay present in the scope, and so on
 //!   (specs/Laws.antt). Every implementation proves it, from the laws of its inner parsers alone.
-//! - [`bpaf_text::ParseFlag`] and [`bpaf_text::ParseArgument`] are the first parsers. Where their key
-//!   isn't on the line, the first of their names in the environment that is set counts
+//! - [`bpaf_text::ParseFlag`] and [`bpaf_text::ParseArgument`] are the first parsers. Where their
+//!   key isn't on the line, the first of their names in the environment that is set counts
 //!   (specs/Environment.antt).
 //! - [`ParseMap`], [`ParseWith`] and [`ParseGuard`] change or check a value (specs/Transform.antt);
-//!   [`ParseOptional`], [`ParseFallback`] and [`ParseFallbackWith`] stand in for one that isn't there
-//!   (specs/Turn.antt, specs/Default.antt). By clauses of their `eval` none of these catches want of
-//!   memory, and what stands in takes nothing (specs/Spared.antt).
-//! - [`ParseMany`], [`ParseSome`], [`ParseCollect`], [`ParseCount`] and [`ParseLast`] take
-//!   turns of one parser until one stops (specs/Repeat.antt); [`bpaf_text::FromList`] is what a list
-//!   of values fills. Each turn but the first takes an item, so there are no more values than items
+//!   [`ParseOptional`], [`ParseFallback`] and [`ParseFallbackWith`] stand in for one that isn't
+//!   there (specs/Turn.antt, specs/Default.antt). By clauses of their `eval` none of these catches
+//!   want of memory, and what stands in takes nothing (specs/Spared.antt).
+//! - [`ParseMany`], [`ParseSome`], [`ParseCollect`], [`ParseCount`] and [`ParseLast`] take turns of
+//!   one parser until one stops (specs/Repeat.antt); [`bpaf_text::FromList`] is what a list of
+//!   values fills. Each turn but the first takes an item, so there are no more values than items
 //!   present at the start and one (clause `repeat_is_bounded`), and none catches want of memory
 //!   (clause `memory_is_never_caught`).
 //! - [`ParseOrElse`] is one of two parsers, both evaluated from the same state: the table of
-//!   [`this_or_that`] tells which answer stands. That function, [`Start`], [`Branch`], [`or_meta`] and
-//!   [`is_want`] are for the crates of this repository, not for callers. The branch that took the
-//!   leftmost place taken by only one of them wins (clause `leftmost_wins`).
+//!   [`this_or_that`] tells which answer stands. That function, [`Start`], [`Branch`], [`or_meta`]
+//!   and [`is_want`] are for the crates of this repository, not for callers. The branch that took
+//!   the leftmost place taken by only one of them wins (clause `leftmost_wins`).
 //! - [`ParseHide`] names no missing item in its refusals (specs/Hide.antt); [`ParseUsage`],
 //!   [`ParseGroupHelp`] and [`ParseWithGroupHelp`] change only what is shown: their outcome, their
 //!   readings and their law are those of the parser inside.
 //! - [`ParseCommand`], which [`command`] and [`OptionParser::command`] make, is a word that opens a
-//!   run of its own over the items behind it (specs/Command.antt). It answers a value only where that
-//!   run leaves nothing in the scope that the command was given (clause `command_leaves_nothing`),
-//!   and catches no want of memory.
+//!   run of its own over the items behind it (specs/Command.antt). It answers a value only where
+//!   that run leaves nothing in the scope that the command was given (clause
+//!   `command_leaves_nothing`), and catches no want of memory.
 //! - [`OptionParser::run_inner`] runs a parser over words. It answers a value only where that is
 //!   dealt out of the words: read off all items of their line but the first `--`, each used once
 //!   (specs/Dealt.antt), whatever the parser's type.

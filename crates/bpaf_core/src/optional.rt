@@ -13,8 +13,8 @@ use std::alloc::{AllocError, Global};
 /// One turn of an optional value or a repeat (bpaf's `parse_option`, in `structs.rs`): Some of a
 /// value, or None where it stops.
 ///
-/// `catches` tells that it stops at every error but those of wrong input and want of memory, `first`
-/// that no value came before it.
+/// `catches` tells that it stops at every error but those of wrong input and want of memory,
+/// `first` that no value came before it.
 pub(crate) fn parse_option<T: Drop, P: Parser<T>>(
     parser: &P,
     state: &mut State,
@@ -77,9 +77,9 @@ impl<P> ParseOptional<P> {
     }
 }
 
-/// None where the inner parser answers Missing and took nothing, or another error that can be caught, or
-/// with `catch` any that isn't of wrong input; all is then as before. Every other error is refused, with
-/// the state that it left; so is want of memory.
+/// None where the inner parser answers Missing and took nothing, or another error that can be
+/// caught, or with `catch` any that isn't of wrong input; all is then as before. Every other error
+/// is refused, with the state that it left; so is want of memory.
 impl<T: Drop, P: Parser<T>> Parser<Option<T>> for ParseOptional<P> {
     ghost use Rattle.std.specs.Prelude.{true};
     ghost use Rattle.bpaf_laws.specs.Default.{OptionalReads, OptionalDescribes};

@@ -225,12 +225,12 @@ impl<T: Drop, P: Parser<T>> OptionParser<T, P> {
     /// Ok(v) comes only where v is dealt out of the words: read off all items of their line but the
     /// first `--`, each used once. The parser is unchanged, and may run again.
     ///
-    /// Each refusal has one of twelve names (specs/Refusals.antt): want of memory; a word of letters
-    /// with two readings; help or the version, which is shown; nothing there of what a parser looks
-    /// for; a key without its value; a word on the wrong side of `--`; a text that means no value; a
-    /// value that a check refused; no value of what looks at no item, or of a repeat that wants one;
-    /// an item that another excludes; a key once more than it may stand; an item that no parser took.
-    /// Or the parser hands on that of a run inside it, as commands do.
+    /// Each refusal has one of twelve names (specs/Refusals.antt): want of memory; a word of
+    /// letters with two readings; help or the version, which is shown; nothing there of what a
+    /// parser looks for; a key without its value; a word on the wrong side of `--`; a text that
+    /// means no value; a value that a check refused; no value of what looks at no item, or of a
+    /// repeat that wants one; an item that another excludes; a key once more than it may stand; an
+    /// item that no parser took. Or the parser hands on that of a run inside it, as commands do.
     ///
     /// Want of memory is caught nowhere: where the answer isn't want of memory, nor is that of the
     /// parser.
@@ -267,8 +267,8 @@ impl<T: Drop, P: Parser<T>> OptionParser<T, P> {
         Ok(State::of_line(self.alloc, args, line)?)
     }
 
-    /// The line of the words: by the known short names, where a word is joined letters; else it is the
-    /// same whatever names are known, and the parser isn't asked for them.
+    /// The line of the words: by the known short names, where a word is joined letters; else it is
+    /// the same whatever names are known, and the parser isn't asked for them.
     fn line(&self, words: Words<'_>) -> Result<Line, LineFault>
         requires { P.can_eval self.now.inner }
         ensures { ReadsLineOf (P.describes self.now.inner) self.now.info (words_in words.entry)
@@ -282,8 +282,8 @@ impl<T: Drop, P: Parser<T>> OptionParser<T, P> {
         front.line_by(self.alloc, words, &flags, &arguments)
     }
 
-    /// The known short names, by which joined words are read: those of the shown flags, of help and of
-    /// version as flags, and those of the shown arguments.
+    /// The known short names, by which joined words are read: those of the shown flags, of help and
+    /// of version as flags, and those of the shown arguments.
     fn known_shorts(&self) -> Result<(Vec<char>, Vec<char>), AllocError>
         requires { P.can_eval self.now.inner }
         ensures { IfOk result (λ r. ShowsNames (P.describes self.now.inner) self.now.info

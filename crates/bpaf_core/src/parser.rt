@@ -28,7 +28,8 @@ pub trait Parser<T>: Sized {
     ghost use Rattle.bpaf_laws.specs.Laws.{Lawful};
 
     /// Whether it may be evaluated: its closures may be called on every value. `eval`, `meta` and a
-    /// run ask for it; the combinators below don't, so a function that only joins parsers needs not.
+    /// run ask for it; the combinators below don't, so a function that only joins parsers needs
+    /// not.
     ghost can_eval: { Self → Type 0 };
 
     /// What it may show of itself.
@@ -42,7 +43,8 @@ pub trait Parser<T>: Sized {
 
     /// Reads a value off the present items in scope, and takes these.
     ///
-    /// Which values it answers and what it refuses, want of memory too, is what its `outcome` allows.
+    /// Which values it answers and what it refuses, want of memory too, is what its `outcome`
+    /// allows.
     fn eval(&self, state: &mut State) -> Result<T, Error>
         requires { can_eval self.now }
         ensures { outcome self.now state.old result state.new };
@@ -135,8 +137,8 @@ pub trait Parser<T>: Sized {
         }
     }
 
-    /// A kept value where there is nothing to read (bpaf's `Parser::fallback`); it is cloned when it is
-    /// given out.
+    /// A kept value where there is nothing to read (bpaf's `Parser::fallback`); it is cloned when
+    /// it is given out.
     ///
     /// A value that stands there and can't be read is refused as before.
     ///
@@ -181,8 +183,8 @@ pub trait Parser<T>: Sized {
         }
     }
 
-    /// All values, as often as there is one to read (bpaf's `Parser::many`); each but the first takes an
-    /// item.
+    /// All values, as often as there is one to read (bpaf's `Parser::many`); each but the first
+    /// takes an item.
     ///
     /// A value that stands there and can't be read is refused as before.
     ///
@@ -199,8 +201,8 @@ pub trait Parser<T>: Sized {
         }
     }
 
-    /// All values, of which there has to be one (bpaf's `Parser::some`): without one the message is the
-    /// refusal.
+    /// All values, of which there has to be one (bpaf's `Parser::some`): without one the message is
+    /// the refusal.
     ///
     /// ```text
     /// positional::<String>("FILE").some("name a file")
@@ -234,8 +236,8 @@ pub trait Parser<T>: Sized {
         }
     }
 
-    /// How many values there are (bpaf's `Parser::count`); one that takes no item is counted and ends
-    /// it.
+    /// How many values there are (bpaf's `Parser::count`); one that takes no item is counted and
+    /// ends it.
     ///
     /// ```text
     /// short(alloc, 'v')?.req_flag(()).count()
@@ -262,8 +264,9 @@ pub trait Parser<T>: Sized {
 
     /// What one of two parsers reads (bpaf's `Parser::or_else`).
     ///
-    /// Both are evaluated from the same state. Of two values that of the parser which took the leftmost
-    /// item counts, and what only the other one took stays on the line, in conflict with that item.
+    /// Both are evaluated from the same state. Of two values that of the parser which took the
+    /// leftmost item counts, and what only the other one took stays on the line, in conflict with
+    /// that item.
     ///
     /// ```text
     /// long(alloc, "meters")?.argument::<u64>("M").or_else(long(alloc, "miles")?.argument("MI"))
@@ -275,8 +278,8 @@ pub trait Parser<T>: Sized {
         ParseOrElse { this: self, that }
     }
 
-    /// This parser, which is not shown (bpaf's `Parser::hide`); where it is missing, a message names
-    /// no item of it.
+    /// This parser, which is not shown (bpaf's `Parser::hide`); where it is missing, a message
+    /// names no item of it.
     ///
     /// ```text
     /// long(alloc, "trace")?.switch().hide()

@@ -75,8 +75,8 @@ impl<P> ParseMany<P> {
 }
 
 /// The inner values in order, until a turn stops: where the inner parser answers Missing and took
-/// nothing, or another error that can be caught, or a value after the first that took nothing. Every
-/// other error is refused, with the state that it left; so is want of memory.
+/// nothing, or another error that can be caught, or a value after the first that took nothing.
+/// Every other error is refused, with the state that it left; so is want of memory.
 impl<T: Drop, P: Parser<T>> Parser<Vec<T>> for ParseMany<P> {
     ghost use Rattle.std.specs.Prelude.{IfOk};
     ghost use Rattle.bpaf_laws.specs.Repeat.{ManyOutcome, ManyReads, ManyDescribes, IsBounded};

@@ -1,5 +1,5 @@
-//! A run of a parser from a state on: its value where nothing is left; else help, the version, or the
-//! message.
+//! A run of a parser from a state on: its value where nothing is left; else help, the version, or
+//! the message.
 ghost use Rattle.std.specs.Prelude.{◌≡◌, ◌==◌, ◌&&◌, not, IfOk};
 ghost use Rattle.bpaf_line.specs.Situation.{open_count};
 ghost use Rattle.bpaf_core.specs.Ending.{EndsRefused, EndsRun, IsHelp, PassesOrTells, ShowsHelp};
@@ -14,8 +14,8 @@ use bpaf_parts::{ExtraParams, Info, version_page};
 use std::alloc::{AllocError, Global};
 use std::marker::PhantomData;
 
-/// A parser that is run, and what a run of it knows beside it: that of the outermost parser, or of a
-/// command.
+/// A parser that is run, and what a run of it knows beside it: that of the outermost parser, or of
+/// a command.
 #[derive(Drop)]
 pub(crate) struct Run<'p, T, P> {
     /// What reads the value.
@@ -48,7 +48,8 @@ impl<T: Drop, P: Parser<T>> Run<'_, T, P> {
     pub(crate) fn run_from(&self, state: &mut State) -> Result<T, ParseFailure>
         requires { P.can_eval self.now.inner.now }
         ensures { Runs T (P.outcome self.now.inner.now)
-            (EndsRun (P.describes self.now.inner.now) self.now.info.now) state.old result state.new }
+            (EndsRun (P.describes self.now.inner.now) self.now.info.now)
+            state.old result state.new }
     {
         let usage = self.wants_usage(state);
         match self.inner.eval(state) {
@@ -63,8 +64,8 @@ impl<T: Drop, P: Parser<T>> Run<'_, T, P> {
         }
     }
 
-    /// Whether help is shown in place of a message: the program wants it so, and there is nothing to
-    /// read.
+    /// Whether help is shown in place of a message: the program wants it so, and there is nothing
+    /// to read.
     fn wants_usage(&self, state: &State) -> bool
         ensures { result ≡ (self.now.info.now.help_if_no_args && (open_count state.now == 0)) }
     {
@@ -131,7 +132,8 @@ impl<T: Drop, P: Parser<T>> Run<'_, T, P> {
     /// The help page, in full or not; or want of memory for it.
     fn help(&self, state: &State, full: bool) -> ParseFailure
         requires { P.can_eval self.now.inner.now }
-        ensures { ShowsHelp (P.describes self.now.inner.now) self.now.info.now full state.now result }
+        ensures { ShowsHelp (P.describes self.now.inner.now) self.now.info.now full state.now
+            result }
     {
         match self.help_page(state) {
             Ok(doc) => ParseFailure::Stdout(doc, full),
@@ -142,14 +144,16 @@ impl<T: Drop, P: Parser<T>> Run<'_, T, P> {
     /// The help page at the path of a state; refused only for want of memory.
     fn help_page(&self, state: &State) -> Result<Doc, AllocError>
         requires { P.can_eval self.now.inner.now }
-        ensures { IfOk result (IsHelp (P.describes self.now.inner.now) self.now.info.now state.now) }
+        ensures { IfOk result
+            (IsHelp (P.describes self.now.inner.now) self.now.info.now state.now) }
     {
         let meta = self.inner.meta(self.alloc)?;
         Ok(self.info.page(self.alloc, state.path(), &meta)?)
     }
 }
 
-/// Whether help, where it is wanted, stands in for a message: for each but one that shows something.
+/// Whether help, where it is wanted, stands in for a message: for each but one that shows
+/// something.
 fn stands_in(usage: bool, message: &Message) -> bool
     ensures { result ≡ (usage && not (is_shown message.now)) }
 {

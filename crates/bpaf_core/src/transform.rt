@@ -115,8 +115,9 @@ pub struct ParseGuard<'m, P, F> {
     pub message: &'m str,
 }
 
-/// The state stays as the inner parser left it. Beside what that refuses it refuses a value of which
-/// the check is false, with GuardFailed, which names the current place; or for want of memory.
+/// The state stays as the inner parser left it. Beside what that refuses it refuses a value of
+/// which the check is false, with GuardFailed, which names the current place; or for want of
+/// memory.
 impl<'m, T: Drop, P: Parser<T>, F: Fn(&T) -> bool> Parser<T> for ParseGuard<'m, P, F> {
     ghost use Rattle.std.specs.Fn.{FnReturnsAt};
     ghost use Rattle.bpaf_laws.specs.Spared.{IsNotMemory, WithoutMemory};

@@ -1,9 +1,9 @@
-//! A program over a record of options: a switch, a number, of which the last one counts, and any number
-//! of files.
+//! A program over a record of options: a switch, a number, of which the last one counts, and any
+//! number of files.
 //!
-//! It stands on `bpaf`, `bpaf_record` and `bpaf_program`, and has no contract for a layer above: it is
-//! the top. `run` is the whole program over two writers; `main` hands it the words, standard output
-//! and standard error, and ends with its status.
+//! It stands on `bpaf`, `bpaf_record` and `bpaf_program`, and has no contract for a layer above: it
+//! is the top. `run` is the whole program over two writers; `main` hands it the words, standard
+//! output and standard error, and ends with its status.
 //!
 //! ```text
 //! bpaf_demo -v -n 3      verbose: true, num: 3, a line each, status 0
@@ -24,10 +24,10 @@
 //! - Status 0 comes only with nothing written on the error writer, and on the other exactly the
 //!   lines of the record's value on the words (specs/Lines.antt), or where it has none exactly the
 //!   help page that the words ask for (specs/Shown.antt, `WritesExactly` in specs/Running.antt).
-//! - Where the record has a value on the words, its lines are written and the status is 0; or a write
-//!   failed, and a beginning of them stands there, not all; or memory was wanted, nothing stands there,
-//!   and on the error writer `Error: out of memory`, or a beginning of that (`Prints`,
-//!   specs/Running.antt). No other message is told there.
+//! - Where the record has a value on the words, its lines are written and the status is 0; or a
+//!   write failed, and a beginning of them stands there, not all; or memory was wanted, nothing
+//!   stands there, and on the error writer `Error: out of memory`, or a beginning of that
+//!   (`Prints`, specs/Running.antt). No other message is told there.
 //! - The value that is printed is dealt out of the words, each place of their line used once
 //!   (specs/Record.antt).
 #![tactic(auto)]

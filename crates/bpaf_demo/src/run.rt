@@ -12,8 +12,8 @@ use std::io::Write;
 ///
 /// Status 0 comes only where the options were read and all their lines written on `out`, or where
 /// help was asked for and written there; and then nothing is written on `err`. A refusal is told on
-/// `err`, as `Error: ` and the message, and nothing is written on `out`; its status is 1, as is that
-/// of a write that fails, after a beginning of the lines or of the page.
+/// `err`, as `Error: ` and the message, and nothing is written on `out`; its status is 1, as is
+/// that of a write that fails, after a beginning of the lines or of the page.
 pub fn run<W: Write, E: Write>(alloc: Global, words: &[String], out: &mut W, err: &mut E) -> u8
     ensures answers { RunsTo (Answers (map string_bytes words.now)) result (W.contents out.old)
         (W.contents out.new) (E.contents err.old) (E.contents err.new) }

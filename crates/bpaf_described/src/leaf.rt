@@ -90,9 +90,12 @@ impl Parser<Value> for Leaf {
     ghost use Rattle.bpaf_laws.proofs.PureLaws.{pure_lawful};
     ghost use Rattle.bpaf_laws.proofs.AnyLaws.{any_lawful};
     ghost use Rattle.bpaf_described.specs.declared.leaf.Leaf.TheVariants.{Switch, Flag, Number};
-    ghost use Rattle.bpaf_described.specs.declared.leaf.Leaf.TheVariants.{Integer, Text, NumberWord};
-    ghost use Rattle.bpaf_described.specs.declared.leaf.Leaf.TheVariants.{Word, Pure, PureWith, Fail};
-    ghost use Rattle.bpaf_described.specs.declared.leaf.Leaf.TheVariants.{Literal, Any, Appname, Unread};
+    ghost use Rattle.bpaf_described.specs.declared.leaf.Leaf.TheVariants.{Integer, Text};
+    ghost use Rattle.bpaf_described.specs.declared.leaf.Leaf.TheVariants.{NumberWord};
+    ghost use Rattle.bpaf_described.specs.declared.leaf.Leaf.TheVariants.{Word, Pure, PureWith};
+    ghost use Rattle.bpaf_described.specs.declared.leaf.Leaf.TheVariants.{Fail};
+    ghost use Rattle.bpaf_described.specs.declared.leaf.Leaf.TheVariants.{Literal, Any, Appname};
+    ghost use Rattle.bpaf_described.specs.declared.leaf.Leaf.TheVariants.{Unread};
     ghost use Rattle.bpaf_described.specs.Told.{told_lawful};
 
     ghost can_eval = { elim [

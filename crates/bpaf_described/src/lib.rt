@@ -1,19 +1,20 @@
 //! Parsers described as data: text is read to a parser that answers as the parsers of `bpaf` do.
 //!
 //! It stands on `bpaf`, and hands on `bpaf_tokens`: a description is a list of tokens
-//! ([`Description`]); docs/BENCH.md says how it is written. [`read_parser`] makes a parser of it, and
-//! [`read_options`] the run of one. That is a [`Level`] over levels over a [`Leaf`]:
-//! a leaf is one option or word, told as a [`Value`], and a level holds its inner parsers once, beside
-//! a [`Kind`], and makes the parser of that kind over lent ones at each evaluation. So a level more
-//! costs a proof nothing, and [`SixLevels`] is enough for the combinations of this repository's rows.
+//! ([`Description`]); docs/BENCH.md says how it is written. [`read_parser`] makes a parser of it,
+//! and [`read_options`] the run of one. That is a [`Level`] over levels over a [`Leaf`]: a leaf is
+//! one option or word, told as a [`Value`], and a level holds its inner parsers once, beside a
+//! [`Kind`], and makes the parser of that kind over lent ones at each evaluation. So a level more
+//! costs a proof nothing, and [`SixLevels`] is enough for the combinations of this repository's
+//! rows.
 //!
-//! For the layers above: [`Leaf`] and [`Level`] are lawful parsers, each from its inner parsers' laws
-//! alone, and so is any type that is [`Described`], which may always be evaluated. What a described
-//! parser answers is dealt out of the words as for any parser; a level's outcome is the one of the
-//! `bpaf` parser that its kind names (specs/Levels.antt, specs/Several.antt, specs/Groups.antt,
-//! specs/Commands.antt), but for what the checks of `guard` and `parse` answer and for the texts of
-//! faults, of which nothing is said. A [`Fault`] tells which token of a description stands at which
-//! place, and why it can't.
+//! For the layers above: [`Leaf`] and [`Level`] are lawful parsers, each from its inner parsers'
+//! laws alone, and so is any type that is [`Described`], which may always be evaluated. What a
+//! described parser answers is dealt out of the words as for any parser; a level's outcome is the
+//! one of the `bpaf` parser that its kind names (specs/Levels.antt, specs/Several.antt,
+//! specs/Groups.antt, specs/Commands.antt), but for what the checks of `guard` and `parse` answer
+//! and for the texts of faults, of which nothing is said. A [`Fault`] tells which token of a
+//! description stands at which place, and why it can't.
 #![tactic(auto)]
 
 mod as_value;

@@ -2,7 +2,8 @@
 ghost use Rattle.std.specs.Prelude.{◌≡◌, All, IfOk};
 ghost use Rattle.bpaf_doc.specs.Shape.{shape_of};
 ghost use Rattle.bpaf_laws.specs.Product.{ProductDescribes};
-ghost use Rattle.bpaf_described.specs.Several.{FourOutcome, NestedOutcome, ThreeOutcome, TwoOutcome};
+ghost use Rattle.bpaf_described.specs.Several.{FourOutcome, NestedOutcome, ThreeOutcome};
+ghost use Rattle.bpaf_described.specs.Several.{TwoOutcome};
 ghost use Rattle.bpaf_described.specs.Several.{OrElseDescribes, OrElseOutcome};
 ghost use Rattle.bpaf_described.specs.Several.{TupleDescribes, TupleOutcome};
 

@@ -1,5 +1,6 @@
 //! Documents: texts in styles, one after another.
-ghost use Rattle.std.specs.Prelude.{◌≡◌, ◌==◌, Bool, true, IfOk, OnOk, OnErr, List, [], ◌∷◌, ◌++◌, map, string_bytes};
+ghost use Rattle.std.specs.Prelude.{◌≡◌, ◌==◌, Bool, true, IfOk, OnOk, OnErr, List, [], ◌∷◌, ◌++◌};
+ghost use Rattle.std.specs.Prelude.{map, string_bytes};
 ghost use Rattle.std.specs.List.{before_first};
 ghost use Rattle.bpaf_doc.specs.Prints.{prints, is_empty};
 ghost use Rattle.bpaf_doc.specs.Print.{printed, shown_as, in_backticks, first_line};

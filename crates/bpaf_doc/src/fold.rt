@@ -37,8 +37,8 @@ fn push_break(out: &mut String, after_break: bool, line: &str, more: &str) -> Re
     }
 }
 
-/// The text with its line breaks folded; refused only for want of memory. One without line breaks is
-/// copied as it is.
+/// The text with its line breaks folded; refused only for want of memory. One without line breaks
+/// is copied as it is.
 fn folded(alloc: Global, text: &str) -> Result<Text, AllocError>
     ensures { IfOk result (λ t. t ≡ folded text.now) }
 {
@@ -76,7 +76,8 @@ fn folded_below(alloc: Global, text: &str) -> Result<Text, AllocError>
     Ok(Text::from(whole))
 }
 
-/// The pieces that a text gives; refused only for want of memory. A text without line breaks is one.
+/// The pieces that a text gives; refused only for want of memory. A text without line breaks is
+/// one.
 pub(crate) fn text_pieces(alloc: Global, text: &str) -> Result<Vec<Piece>, AllocError>
     ensures { IfOk result (λ all. TextPieces text.now all.items) }
 {

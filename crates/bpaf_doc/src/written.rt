@@ -50,8 +50,8 @@ impl Item {
 
     /// Appends what is written for it inside messages and usage; refused only for want of memory.
     ///
-    /// A flag is `--long`, or `-s` where it has no long name; an argument the same with `=METAVAR`; a
-    /// word its metavar; a command `COMMAND ...`; an item with a text of its own that text, which
+    /// A flag is `--long`, or `-s` where it has no long name; an argument the same with `=METAVAR`;
+    /// a word its metavar; a command `COMMAND ...`; an item with a text of its own that text, which
     /// stands whole in each print (bpaf's `Doc::write_item`, in `buffer.rs`).
     pub fn push_text(&self, doc: &mut Doc) -> Result<(), AllocError>
         ensures ok { OnOk result ((full : Bool) →

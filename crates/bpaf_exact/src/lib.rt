@@ -6,23 +6,24 @@
 //!
 //! - A line is a list of cells, each with the item that is present there. A field has items of its
 //!   own; they begin its pieces, and the whole line is cut into pieces (specs/Pieces.antt).
-//! - What one evaluation of a field answers and takes depends on its own pieces alone, whatever fields
-//!   before it took: `FieldLaw`; so does that of a list of fields: `FieldsLaw` (specs/Flat.antt).
-//!   Single evaluations, which repeats and defaults build on, keep to `SingleLaw`
-//!   (specs/Single.antt), required flags, arguments and choices of them to `AlternativeLaw`
-//!   (specs/Alternative.antt).
-//! - What a parser is to a flat record is its `FlatForm`: how it reads its pieces. Each combinator is a
-//!   function on forms; what isn't flat computes to `not_flat` (specs/FlatForm.antt, specs/Leaves.antt,
-//!   specs/Wrappers.antt, specs/Derived.antt). Keys are kept apart by their names (specs/Names.antt).
-//! - The value of a record on a line is read off the pieces of its cut (specs/Record.antt), and each
-//!   answer of a run is exact (specs/Theorem.antt).
+//! - What one evaluation of a field answers and takes depends on its own pieces alone, whatever
+//!   fields before it took: `FieldLaw`; so does that of a list of fields: `FieldsLaw`
+//!   (specs/Flat.antt). Single evaluations, which repeats and defaults build on, keep to
+//!   `SingleLaw` (specs/Single.antt), required flags, arguments and choices of them to
+//!   `AlternativeLaw` (specs/Alternative.antt).
+//! - What a parser is to a flat record is its `FlatForm`: how it reads its pieces. Each combinator
+//!   is a function on forms; what isn't flat computes to `not_flat` (specs/FlatForm.antt,
+//!   specs/Leaves.antt, specs/Wrappers.antt, specs/Derived.antt). Keys are kept apart by their
+//!   names (specs/Names.antt).
+//! - The value of a record on a line is read off the pieces of its cut (specs/Record.antt), and
+//!   each answer of a run is exact (specs/Theorem.antt).
 //! - A line that is cut holds together (`HoldsTogether`, specs/Accepted.antt): each key is one of
 //!   the record's, behind an argument's key stands its value, which no positional field gets, an
 //!   attached value stands nowhere else, and what is left to positional fields are words
 //!   (`cut_holds_together`, proofs/Accepted.antt). An occurrence or a word too many leaves no value
 //!   (`HasNoSurplus`), nor does an occurrence that can't be read (proofs/Surplus.antt).
-//! - A line may have several values that differ in what contracts don't see, such as the room of a text.
-//!   Where closures can't tell apart what looks alike, the values of a line look alike
+//! - A line may have several values that differ in what contracts don't see, such as the room of a
+//!   text. Where closures can't tell apart what looks alike, the values of a line look alike
 //!   (specs/OneView.antt, `record_looks_one` and `runs_to_one` of proofs/OneView.antt).
 //!
 //! Proofs that closures, repeats, choices and products keep to these laws by their tables stand in

@@ -1,7 +1,7 @@
 //! The program of docs/USERS.md: each piece of code in that guide stands here, and is checked.
 //!
-//! It stands on `bpaf`, `bpaf_record` and `bpaf_program`, and its definitions also cite those of the crates
-//! below.
+//! It stands on `bpaf`, `bpaf_record` and `bpaf_program`, and its definitions also cite those of
+//! the crates below.
 //!
 //! ```text
 //! bpaf_guide -s 3 --level=high --no-color -n 1 -n 2

@@ -15,8 +15,8 @@ pub struct Removal {
     pub files: Vec<String>,
 }
 
-/// The removal that the words tell. It is forced only where one of the words before the first `--` spells `-f`
-/// or `--force`, alone or among joined letters.
+/// The removal that the words tell. It is forced only where one of the words before the first `--`
+/// spells `-f` or `--force`, alone or among joined letters.
 pub fn read_removal(alloc: Global, words: &[String]) -> Result<Removal, ParseFailure>
     ensures forced { IfOk result (λ removal.
         removal.force ≡ true → WasSpelled force_names (map string_bytes words.now)) }

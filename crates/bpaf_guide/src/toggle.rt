@@ -2,8 +2,8 @@
 use bpaf::{Error, Meta, NamedArg, Parser, State};
 use std::alloc::{AllocError, Global};
 
-/// Two keys, such as `--color` and `--no-color`: Some(true) for the one, Some(false) for the other, None
-/// where neither is there.
+/// Two keys, such as `--color` and `--no-color`: Some(true) for the one, Some(false) for the other,
+/// None where neither is there.
 #[derive(Drop)]
 pub struct Toggle {
     /// The key that turns it on.
@@ -12,8 +12,9 @@ pub struct Toggle {
     pub off: NamedArg,
 }
 
-/// The first key that turns it on counts, else the first that turns it off. It refuses nothing and shows
-/// nothing, so its keys have long names alone: short ones of joined words are known by what is shown.
+/// The first key that turns it on counts, else the first that turns it off. It refuses nothing and
+/// shows nothing, so its keys have long names alone: short ones of joined words are known by what
+/// is shown.
 impl Parser<Option<bool>> for Toggle {
     ghost use Rattle.std.specs.Prelude.{◌≡◌};
     ghost use Rattle.bpaf_doc.specs.Shape.{Skip};

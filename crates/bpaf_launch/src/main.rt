@@ -1,8 +1,9 @@
 //! A launcher: options of its own, the name of a program, and words that are passed on unread.
 //!
-//! It stands on `bpaf` and `bpaf_program`, and has no contract for a layer above: it is the top. `run` is the
-//! whole program over two writers; `main` hands it the words, standard output and standard error,
-//! and ends with its status. It starts nothing: it prints what it would start, with which words.
+//! It stands on `bpaf` and `bpaf_program`, and has no contract for a layer above: it is the top.
+//! `run` is the whole program over two writers; `main` hands it the words, standard output and
+//! standard error, and ends with its status. It starts nothing: it prints what it would start, with
+//! which words.
 //!
 //! ```text
 //! launch [-v|--verbose] [--dry-run] NAME [-- WORD...]
@@ -11,16 +12,18 @@
 //!                            a line each, status 0
 //! launch ls --dry-run        verbose: false, dry run: true, name: ls
 //! launch --help              the help page, status 0
-//! launch ls -l               Error: `-l` is not expected in this context, on standard error, status 1
+//! launch ls -l               Error: `-l` is not expected in this context, on standard error,
+//!                            status 1
 //! launch ls x                Error: expected `WORD` to be on the right side of `--`, likewise
 //! ```
 //!
 //! What is proved of it: where the writers tell their bytes, status 0 comes only where the launch
 //! that was printed is dealt out of the words, its name stands before the first `--`, and its words
-//! are all words behind that, in order, byte for byte (specs/Dealing.antt, specs/Lines.antt); or where
-//! the words ask for help and its page was printed (specs/Shown.antt, specs/Running.antt). Where the
-//! status is 1, a beginning of the lines of such a launch or of that page was printed, not all, and
-//! nothing on standard error; or nothing was, and there a message, or a beginning of it.
+//! are all words behind that, in order, byte for byte (specs/Dealing.antt, specs/Lines.antt); or
+//! where the words ask for help and its page was printed (specs/Shown.antt, specs/Running.antt).
+//! Where the status is 1, a beginning of the lines of such a launch or of that page was printed,
+//! not all, and nothing on standard error; or nothing was, and there a message, or a beginning of
+//! it.
 #![tactic(auto)]
 
 mod options;

@@ -10,10 +10,10 @@ use std::io::Write;
 
 /// Runs the program on its words, and gives its status.
 ///
-/// Status 0 comes only where a launch was read and all its lines written on `out`, or where help was
-/// asked for and written there; and then nothing is written on `err`. A refusal is told on `err`, as
-/// `Error: ` and the message, and nothing is written on `out`; its status is 1, as is that of a write
-/// that fails, after a beginning of the text.
+/// Status 0 comes only where a launch was read and all its lines written on `out`, or where help
+/// was asked for and written there; and then nothing is written on `err`. A refusal is told on
+/// `err`, as `Error: ` and the message, and nothing is written on `out`; its status is 1, as is
+/// that of a write that fails, after a beginning of the text.
 pub fn run<W: Write, E: Write>(alloc: Global, words: &[String], out: &mut W, err: &mut E) -> u8
     ensures { RunsTo (Answers (map string_bytes words.now)) result (W.contents out.old)
         (W.contents out.new) (E.contents err.old) (E.contents err.new) }

@@ -1,15 +1,15 @@
 //! What parsers mean, in definitions and lemmas alone: no function stands here.
 //!
-//! It stands on `bpaf_doc`, `bpaf_words`, `bpaf_line` and `bpaf_text`, whose types it speaks of. For
-//! the layers above:
+//! It stands on `bpaf_doc`, `bpaf_words`, `bpaf_line` and `bpaf_text`, whose types it speaks of.
+//! For the layers above:
 //!
 //! - A share is a set of places, a reading a relation between a context, a share and a value, an
 //!   outcome a relation between a situation, an answer and the situation that is left
 //!   (specs/Reading.antt).
-//! - The laws that every parser keeps to are `Lawful` (specs/Laws.antt). What evaluations keep is put
-//!   together by the lemmas of proofs/Keeping.antt: no combinator builds a `Keeps` of its own.
-//! - For each leaf and combinator there is its outcome, its readings and what it may show, over those
-//!   of its inner parsers (specs/Flag.antt, specs/Argument.antt, specs/Transform.antt,
+//! - The laws that every parser keeps to are `Lawful` (specs/Laws.antt). What evaluations keep is
+//!   put together by the lemmas of proofs/Keeping.antt: no combinator builds a `Keeps` of its own.
+//! - For each leaf and combinator there is its outcome, its readings and what it may show, over
+//!   those of its inner parsers (specs/Flag.antt, specs/Argument.antt, specs/Transform.antt,
 //!   specs/Default.antt, specs/Repeat.antt, specs/Choice.antt, specs/Choices.antt, specs/Pure.antt,
 //!   specs/Product.antt, specs/Hide.antt, specs/Any.antt), and the lemma that it keeps to the laws
 //!   where its inner parsers do, in the file of proofs/ of that name and `Laws`.

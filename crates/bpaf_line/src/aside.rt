@@ -4,7 +4,8 @@ ghost use Rattle.bpaf_line.specs.Remembered.{no_aside, count_within};
 
 use crate::state::lies_within;
 
-/// The places of a scope, how many were present there and which first, when so many places were taken.
+/// The places of a scope, how many were present there and which first, when so many places were
+/// taken.
 #[derive(Clone, Copy, Debug)]
 pub(crate) struct Aside {
     pub(crate) start: usize,

@@ -1,6 +1,9 @@
 //! A set of places, as bits in words of 64.
 ghost use Rattle.std.specs.Prelude.{ℕ, ◌≡◌, ◌+◌, ◌*◌, ◌<◌, ◌≤◌, length, true, false};
-ghost use Rattle.bpaf_line.specs.Bits.{has_bit, count_clear, clear_within, lesser_of, is_on_as, is_in_first, AreWithin, ChangesBit, ChangesBits, IsClearStretch, IsSetStretch, IsFirstClear, IsFirstSet, IsLeastIn};
+ghost use Rattle.bpaf_line.specs.Bits.{has_bit, count_clear, clear_within, lesser_of, is_on_as};
+ghost use Rattle.bpaf_line.specs.Bits.{is_in_first, AreWithin, ChangesBit, ChangesBits};
+ghost use Rattle.bpaf_line.specs.Bits.{IsClearStretch, IsSetStretch, IsFirstClear, IsFirstSet};
+ghost use Rattle.bpaf_line.specs.Bits.{IsLeastIn};
 ghost use Rattle.bpaf_line.specs.Situation.{is_on};
 
 /// Whether the bit of a place is set.

@@ -1,10 +1,15 @@
 //! The places of a line, chained by the names of their items.
-ghost use Rattle.std.specs.Prelude.{ℕ, ◌≡◌, ◌*◌, ◌+◌, ◌<◌, ◌≤◌, ◌||◌, not, IfOk, IfSome, MatchOption, length, map, slice_get, slice_index, take, ◌-◌, false, true};
+ghost use Rattle.std.specs.Prelude.{ℕ, ◌≡◌, ◌*◌, ◌+◌, ◌<◌, ◌≤◌, ◌||◌, not, IfOk, IfSome};
+ghost use Rattle.std.specs.Prelude.{MatchOption, length, map, slice_get, slice_index, take, ◌-◌};
+ghost use Rattle.std.specs.Prelude.{false, true};
 ghost use Rattle.std.specs.Option.{option_map_or};
 ghost use Rattle.bpaf_words.specs.declared.arg.Arg.{Arg};
 ghost use Rattle.bpaf_words.specs.Items.{is_key_of};
 ghost use Rattle.bpaf_line.specs.Bits.{has_bit};
-ghost use Rattle.bpaf_line.specs.Chained.{is_key, text_number, name_number, class_in, class_of, named_at, names_in, shares_name, IsNextOf, IsPlaceOf, IsWalkStart, HasWalked, AreBehind, ReachBack, IfChained, HasNoKeyFrom};
+ghost use Rattle.bpaf_line.specs.Chained.{is_key, text_number, name_number, class_in, class_of};
+ghost use Rattle.bpaf_line.specs.Chained.{named_at, names_in, shares_name, IsNextOf, IsPlaceOf};
+ghost use Rattle.bpaf_line.specs.Chained.{IsWalkStart, HasWalked, AreBehind, ReachBack, IfChained};
+ghost use Rattle.bpaf_line.specs.Chained.{HasNoKeyFrom};
 
 use crate::bits;
 use bpaf_doc::Text;
@@ -23,8 +28,9 @@ const OWN_CLASSES: usize = 128;
 /// The places of a line up to its last key, each linked to the next one of its class, and for each
 /// class the place at which its chain begins. Items of the same name are of one class.
 ///
-/// Items of other names may be of that class too. So each class has an owner, which is a place with the
-/// name that was taken last behind another one, and a cursor: what has that name in front of it is taken.
+/// Items of other names may be of that class too. So each class has an owner, which is a place with
+/// the name that was taken last behind another one, and a cursor: what has that name in front of it
+/// is taken.
 ///
 /// Contracts see the classes, the beginnings, the owners and the cursors (`Chained`).
 #[derive(Drop)]
@@ -159,7 +165,8 @@ impl Chains {
     /// The next place of a place's class.
     pub(crate) fn after(&self, place: usize) -> usize
         requires { place < length self.now.classes }
-        ensures { IsNextOf self.now.classes (slice_index self.now.classes place) (place + 1) result }
+        ensures { IsNextOf self.now.classes (slice_index self.now.classes place) (place + 1)
+            result }
     {
         self.next.as_slice()[place]
     }
@@ -183,7 +190,8 @@ impl Chains {
         place
     }
 
-    /// The first place from one on along its chain whose bit is not set, and which has the name of another.
+    /// The first place from one on along its chain whose bit is not set, and which has the name of
+    /// another.
     fn first_of_name(&self, items: &[Arg], words: &[u64], owner: usize, from: usize) -> usize
         requires { length self.now.classes ≤ 64 * length words.now }
         ensures { HasWalked self.now.classes
@@ -209,8 +217,8 @@ impl Chains {
         }
     }
 
-    /// Lets the chain of a place's class begin later, past places whose bits are set: whether it began
-    /// in front of the place, and the class may hold other names.
+    /// Lets the chain of a place's class begin later, past places whose bits are set: whether it
+    /// began in front of the place, and the class may hold other names.
     fn pass_taken(&mut self, items: &[Arg], words: &[u64], place: usize) -> bool
         requires within { place < length self.old.classes }
         requires worded { length self.old.classes ≤ 64 * length words.now }
@@ -225,9 +233,9 @@ impl Chains {
         class >= OWN_CLASSES && head != place
     }
 
-    /// Makes a place the owner of its class, and lets the cursor stand behind places whose bits are set
-    /// and places with other names. It is called on few lines, so it stays out of what each take
-    /// runs.
+    /// Makes a place the owner of its class, and lets the cursor stand behind places whose bits are
+    /// set and places with other names. It is called on few lines, so it stays out of what each
+    /// take runs.
     #[inline(never)]
     fn pass_others(&mut self, items: &[Arg], words: &[u64], place: usize)
         requires within { place < length self.old.classes }
@@ -258,8 +266,8 @@ impl Chains {
     }
 }
 
-/// Lets the chain of a place's class begin later, and its cursor stand later, past places whose bits are
-/// set; the cursor also past places with other names.
+/// Lets the chain of a place's class begin later, and its cursor stand later, past places whose
+/// bits are set; the cursor also past places with other names.
 pub(crate) fn pass(chains: &mut Option<Chains>, items: &[Arg], words: &[u64], place: usize)
     requires worded { IfSome chains.old (λ c. length c.classes ≤ 64 * length words.now) }
     requires behind { IfSome chains.old (AreBehind items.now (has_bit words.now)) }

@@ -1,5 +1,6 @@
 //! Which of two branches wins, and the conflict notes of the other's places.
-ghost use Rattle.std.specs.Prelude.{ℕ, ◌≡◌, ◌&&◌, ◌++◌, List, not, OnOk, OnErr, None, Some, if◌then◌else◌};
+ghost use Rattle.std.specs.Prelude.{ℕ, ◌≡◌, ◌&&◌, ◌++◌, List, not, OnOk, OnErr, None, Some};
+ghost use Rattle.std.specs.Prelude.{if◌then◌else◌};
 ghost use Rattle.bpaf_line.specs.Situation.{is_on, is_taken, conflict_at, last_of};
 ghost use Rattle.bpaf_line.specs.Marks.{HasReached, CanRedo, KeepsMarks, undone, redone};
 ghost use Rattle.bpaf_line.specs.Conflicts.{IsWinner, ConflictsSaved, first_conflict, leftmost_of};
@@ -42,8 +43,8 @@ impl State {
         saved
     }
 
-    /// Appends those of some places that are present, each with the place handed in; refused only for
-    /// want of memory, and then nothing is appended.
+    /// Appends those of some places that are present, each with the place handed in; refused only
+    /// for want of memory, and then nothing is appended.
     fn exclude(
         &self,
         taken: &[usize],
@@ -69,8 +70,8 @@ impl State {
         Ok(())
     }
 
-    /// What the conflict note of a place names, where it has one; a taken place has none. It takes no
-    /// memory.
+    /// What the conflict note of a place names, where it has one; a taken place has none. It takes
+    /// no memory.
     pub fn conflict_at(&self, place: usize) -> Option<usize>
         ensures { result ≡ conflict_at self.now place }
     {

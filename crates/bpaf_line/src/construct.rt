@@ -1,5 +1,6 @@
 //! How a state begins, and how it is copied.
-ghost use Rattle.std.specs.Prelude.{ℕ, ◌≡◌, ◌*◌, ◌<◌, ◌≤◌, length, IfOk, OnOk, IfSome, All, IsUtf8, map, option_map, option_to_list, string_bytes};
+ghost use Rattle.std.specs.Prelude.{ℕ, ◌≡◌, ◌*◌, ◌<◌, ◌≤◌, length, IfOk, OnOk, IfSome, All, IsUtf8};
+ghost use Rattle.std.specs.Prelude.{map, option_map, option_to_list, string_bytes};
 ghost use Rattle.std.specs.Prelude.{true};
 ghost use Rattle.bpaf_words.specs.Arguments.{words_of, given_of, name_of, env_of, entries_of};
 ghost use Rattle.bpaf_words.specs.Arguments.{env_entries};
@@ -24,9 +25,9 @@ impl State {
     /// The state at the beginning of the words' line: all of it is present but the first `--`, the
     /// scope is the whole line, and the path is the set name.
     ///
-    /// `short_flags` and `short_args` are the known short names, by which joined words such as `-vn3`
-    /// are read. Refused with Ambiguity exactly where the words have no line, naming the first
-    /// ambiguous word and its character; or for want of memory.
+    /// `short_flags` and `short_args` are the known short names, by which joined words such as
+    /// `-vn3` are read. Refused with Ambiguity exactly where the words have no line, naming the
+    /// first ambiguous word and its character; or for want of memory.
     pub fn construct(
         alloc: Global,
         args: Args<'_>,
@@ -81,8 +82,8 @@ impl State {
     }
 
     /// The state at the beginning of a line, with the name and the environment that a run is given:
-    /// all of the line is present but the first `--`, the scope is the whole line, and the path is the
-    /// set name. bpaf has no such call.
+    /// all of the line is present but the first `--`, the scope is the whole line, and the path is
+    /// the set name. bpaf has no such call.
     ///
     /// Refused only for want of memory.
     pub fn of_line(alloc: Global, args: Args<'_>, line: Line) -> Result<State, AllocError>

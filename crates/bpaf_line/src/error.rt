@@ -11,13 +11,14 @@ use std::alloc::{AllocError, AllocFailed};
 
 /// Why a parser gives no value, or words have no line (bpaf's `Message`).
 ///
-/// A place is that of an item in the line. bpaf keeps some of the texts as `&'static str`, here each is
-/// a [`Text`].
+/// A place is that of an item in the line. bpaf keeps some of the texts as `&'static str`, here
+/// each is a [`Text`].
 #[derive(Debug, Drop)]
 pub enum Message {
     /// Memory was wanted and refused. bpaf has no such case.
     Memory,
-    /// The name of an environment variable that is not set, where nothing else could give the value.
+    /// The name of an environment variable that is not set, where nothing else could give the
+    /// value.
     NoEnv(Text),
     /// What a parser says that wants one value at least and found none.
     ParseSome(Text),
@@ -29,16 +30,17 @@ pub enum Message {
     Missing(MissingItems),
     /// The whole answer of an inner run, such as the help of a command.
     ParseFailure(ParseFailure),
-    /// The place of a word that stands on the left side of `--` and should stand on the right, and its
-    /// metavar.
+    /// The place of a word that stands on the left side of `--` and should stand on the right, and
+    /// its metavar.
     StrictPos(usize, Text),
-    /// The place of a word that stands on the right side of `--` and should stand on the left, and its
-    /// metavar.
+    /// The place of a word that stands on the right side of `--` and should stand on the left, and
+    /// its metavar.
     NonStrictPos(usize, Text),
-    /// A text that could not be read: the place of its word, where it came from the line, and the fault.
+    /// A text that could not be read: the place of its word, where it came from the line, and the
+    /// fault.
     ParseFailed(Option<usize>, Text),
-    /// A value that a check refused: the place of its word, where it came from the line, and what the
-    /// check says.
+    /// A value that a check refused: the place of its word, where it came from the line, and what
+    /// the check says.
     GuardFailed(Option<usize>, Text),
     /// The place of a key without a value, and what stands for the value.
     NoArgument(usize, Text),
@@ -47,14 +49,14 @@ pub enum Message {
     /// A word with a character that is both a known flag and a known argument, and the number of
     /// that character, the dash being 0.
     Ambiguity(Text, usize),
-    /// The places of two items that exclude each other: that of the one which was taken, and that of the
-    /// one which is left.
+    /// The places of two items that exclude each other: that of the one which was taken, and that
+    /// of the one which is left.
     Conflict(usize, usize),
     /// The items of which one should stand there, and the place of what stands there instead, if
     /// anything does.
     Expected(Vec<Item>, Option<usize>),
-    /// The places of two keys of one name that may stand once only: that of the earlier one, and that
-    /// of the one which is left.
+    /// The places of two keys of one name that may stand once only: that of the earlier one, and
+    /// that of the one which is left.
     OnlyOnce(usize, usize),
 }
 
@@ -89,8 +91,8 @@ impl Message {
         )
     }
 
-    /// Whether the words of the line are at fault, which even a repeat that catches every fault of a
-    /// value doesn't go past. It takes no memory.
+    /// Whether the words of the line are at fault, which even a repeat that catches every fault of
+    /// a value doesn't go past. It takes no memory.
     pub fn wrong_input(&self) -> bool
         ensures { result ≡ is_wrong_input self.now }
     {
@@ -119,9 +121,9 @@ impl Message {
 
     /// The one refusal of two parsers of which either would have served.
     ///
-    /// It is Memory where one of the two is want of memory; else the ParseFailure, the first before the
-    /// second; else of two Missing all that is missing; else the first where it can't be caught, else
-    /// the second. Joining two Missing may want memory, and then it is Memory too.
+    /// It is Memory where one of the two is want of memory; else the ParseFailure, the first before
+    /// the second; else of two Missing all that is missing; else the first where it can't be
+    /// caught, else the second. Joining two Missing may want memory, and then it is Memory too.
     pub fn combine_with(self, other: Message) -> Message
         ensures { Combines self other result }
     {
@@ -207,8 +209,8 @@ impl From<AllocError> for Message {
     }
 }
 
-/// So that a parser of a caller's own may write `vec.push(x)?` and `Box::new(alloc, x)?`; what was to be
-/// kept is dropped.
+/// So that a parser of a caller's own may write `vec.push(x)?` and `Box::new(alloc, x)?`; what was
+/// to be kept is dropped.
 impl<T: Drop> From<AllocFailed<T>> for Error {
     ghost use Rattle.std.specs.Prelude.{◌≡◌};
     ghost use Rattle.bpaf_line.specs.declared.error.Message.TheVariants.{Memory};

@@ -16,8 +16,8 @@ use std::slice;
 const NARROW_SCOPE: usize = 8;
 
 impl State {
-    /// The first key that is present, in scope, and has one of the names; under `adjacent` the first
-    /// attached one. It takes no memory.
+    /// The first key that is present, in scope, and has one of the names; under `adjacent` the
+    /// first attached one. It takes no memory.
     ///
     /// On a long line the first present place of the scope is looked at, and then only the places
     /// chained with one of the names; in a narrow scope each of its places. Places behind the
@@ -95,7 +95,8 @@ impl State {
         place
     }
 
-    /// The first such key below a place with one of the long names; that place, where there is none.
+    /// The first such key below a place with one of the long names; that place, where there is
+    /// none.
     fn first_long_key(
         &self,
         chains: &Chains,
@@ -120,8 +121,8 @@ impl State {
         place
     }
 
-    /// The first such key below a place, along the chain from another on; that place, where there is
-    /// none.
+    /// The first such key below a place, along the chain from another on; that place, where there
+    /// is none.
     fn first_along(
         &self,
         chains: &Chains,

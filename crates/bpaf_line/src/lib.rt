@@ -4,26 +4,26 @@
 //!
 //! - [`State::construct`] begins a parse at the line of the words (specs/Constructing.antt), and
 //!   [`State::construct_numbers`] does so where negative numbers are words.
-//! - [`State`] is a parse in progress. Contracts see it as a `Situation` (specs/Situation.antt), and
-//!   the layers above speak of one only through its accessors (`item_at`, `is_taken`, `conflict_at`,
-//!   `in_scope`, `is_open`, `open_count`, and the steps `take_place`, `with_scope`, `with_path`,
-//!   `with_current`, `beginning`): how what is taken is kept is this crate's own affair. What the steps
-//!   change of it is in proofs/Places.antt. The marker, which is the first `--`, is taken from the
-//!   start and is the item of no place.
-//! - The take calls meet their relation of specs/Taking.antt for every answer, over the whole state.
-//!   [`State::items_iter`] walks the `open_items` (specs/OpenItems.antt).
-//! - Of two branches that went on from one mark [`State::pick_winner`] tells which took the leftmost
-//!   place that only one took; [`State::save_conflicts`] notes what the other took, and
-//!   [`State::conflict`] answers such a note (specs/Conflicts.antt; `conflict_at` is the accessor). What
-//!   is noted is present.
-//! - [`State::undo`] goes back to a [`Mark`], and [`State::redo`] does the [`Steps`] since one again
-//!   (specs/Marks.antt). Each call that changes a state leaves what its earlier marks go back to
-//!   (`KeepsMarks`).
-//! - [`Message`], [`Error`] and [`ParseFailure`] say why a parser, or a whole run, gives no value. A
-//!   [`Message`] is want of memory (`is_memory`), one past which an optional parser goes on
-//!   (`can_catch`), one for which the words are at fault (`is_wrong_input`; specs/Messages.antt), or
-//!   none of these. Of two there is one by `Combines` (specs/Combining.antt). What is told of one
-//!   stands beside this crate's callers, in `bpaf_messages`.
+//! - [`State`] is a parse in progress. Contracts see it as a `Situation` (specs/Situation.antt),
+//!   and the layers above speak of one only through its accessors (`item_at`, `is_taken`,
+//!   `conflict_at`, `in_scope`, `is_open`, `open_count`, and the steps `take_place`, `with_scope`,
+//!   `with_path`, `with_current`, `beginning`): how what is taken is kept is this crate's own
+//!   affair. What the steps change of it is in proofs/Places.antt. The marker, which is the first
+//!   `--`, is taken from the start and is the item of no place.
+//! - The take calls meet their relation of specs/Taking.antt for every answer, over the whole
+//!   state. [`State::items_iter`] walks the `open_items` (specs/OpenItems.antt).
+//! - Of two branches that went on from one mark [`State::pick_winner`] tells which took the
+//!   leftmost place that only one took; [`State::save_conflicts`] notes what the other took, and
+//!   [`State::conflict`] answers such a note (specs/Conflicts.antt; `conflict_at` is the accessor).
+//!   What is noted is present.
+//! - [`State::undo`] goes back to a [`Mark`], and [`State::redo`] does the [`Steps`] since one
+//!   again (specs/Marks.antt). Each call that changes a state leaves what its earlier marks go back
+//!   to (`KeepsMarks`).
+//! - [`Message`], [`Error`] and [`ParseFailure`] say why a parser, or a whole run, gives no value.
+//!   A [`Message`] is want of memory (`is_memory`), one past which an optional parser goes on
+//!   (`can_catch`), one for which the words are at fault (`is_wrong_input`; specs/Messages.antt),
+//!   or none of these. Of two there is one by `Combines` (specs/Combining.antt). What is told of
+//!   one stands beside this crate's callers, in `bpaf_messages`.
 //!
 //! The source of the design is bpaf's `args.rs` and `error.rs`.
 #![tactic(auto)]

@@ -1,8 +1,10 @@
 //! Marks to which a parse goes back, and what it did since one, to be done again.
-ghost use Rattle.std.specs.Prelude.{◌≡◌, ◌++◌, ◌<◌, ◌≤◌, ◌-◌, length, min, if◌then◌else◌, IfOk, OnOk, OnErr};
+ghost use Rattle.std.specs.Prelude.{◌≡◌, ◌++◌, ◌<◌, ◌≤◌, ◌-◌, length, min, if◌then◌else◌, IfOk};
+ghost use Rattle.std.specs.Prelude.{OnOk, OnErr};
 ghost use Rattle.bpaf_line.specs.Situation.{with_trail, with_scope, cut_to, PresentInTurn};
 ghost use Rattle.bpaf_line.specs.Remembered.{IsSurvey};
-ghost use Rattle.bpaf_line.specs.Marks.{mark_of, HasReached, Fits, undone, KeepsMarks, steps_since, CanRedo, redone};
+ghost use Rattle.bpaf_line.specs.Marks.{mark_of, HasReached, Fits, undone, KeepsMarks, steps_since};
+ghost use Rattle.bpaf_line.specs.Marks.{CanRedo, redone};
 
 use crate::aside::{Aside, count_within};
 use crate::construct::copy_path;
@@ -181,10 +183,11 @@ impl State {
         self.end = end;
     }
 
-    /// How many places are present in another scope, and which is the first; its end, where none is.
+    /// How many places are present in another scope, and which is the first; its end, where none
+    /// is.
     ///
-    /// Nothing is counted where that scope leaves out taken places in front alone. Of the scope that was
-    /// left last the places taken since then are looked at alone.
+    /// Nothing is counted where that scope leaves out taken places in front alone. Of the scope
+    /// that was left last the places taken since then are looked at alone.
     fn survey(&self, start: usize, end: usize) -> (usize, usize)
         requires ordered { start ≤ end }
         requires inside { end ≤ length self.now.context.line }

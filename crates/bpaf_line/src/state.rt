@@ -1,12 +1,18 @@
 //! A parse in progress, and what its calls read and set.
-ghost use Rattle.std.specs.Prelude.{◌≡◌, ◌+◌, ◌++◌, ◌&&◌, ◌<◌, ◌≤◌, ◌^◌, ◌==◌, [], ◌∷◌, if◌then◌else◌, not, nat_lt, nat_le, length, slice_get, true, false, Bool, MatchOption, option_copied, option_map, option_and_then, Some, None, IfOk, OnOk, OnErr, IfSome, string_bytes, map, List};
+ghost use Rattle.std.specs.Prelude.{◌≡◌, ◌+◌, ◌++◌, ◌&&◌, ◌<◌, ◌≤◌, ◌^◌, ◌==◌, [], ◌∷◌};
+ghost use Rattle.std.specs.Prelude.{if◌then◌else◌, not, nat_lt, nat_le, length, slice_get, true};
+ghost use Rattle.std.specs.Prelude.{false, Bool, MatchOption, option_copied, option_map};
+ghost use Rattle.std.specs.Prelude.{option_and_then, Some, None, IfOk, OnOk, OnErr, IfSome};
+ghost use Rattle.std.specs.Prelude.{string_bytes, map, List};
 ghost use Rattle.std.specs.Borrow.{Bor};
 ghost use Rattle.bpaf_doc.specs.Shape.{part_of};
 ghost use Rattle.bpaf_words.specs.declared.arg.Arg.{Arg};
 ghost use Rattle.bpaf_words.specs.Items.{is_positional, word_text};
 ghost use Rattle.bpaf_line.specs.MissingIn.{IsMissingIn};
 ghost use Rattle.bpaf_line.specs.OpenItems.{open_items, open_items_from, items_left};
-ghost use Rattle.bpaf_line.specs.Situation.{item_at, open_count, is_taken, is_open, take_place, with_trail, with_scope, with_path, with_current, HasNoneOpen, IsNextOpen};
+ghost use Rattle.bpaf_line.specs.Situation.{item_at, open_count, is_taken, is_open, take_place};
+ghost use Rattle.bpaf_line.specs.Situation.{with_trail, with_scope, with_path, with_current};
+ghost use Rattle.bpaf_line.specs.Situation.{HasNoneOpen, IsNextOpen};
 ghost use Rattle.bpaf_line.specs.Marks.{KeepsMarks};
 ghost use Rattle.bpaf_line.specs.Taking.{HasNone, IsFirst, value_after, open_item, entry_of};
 
@@ -122,7 +128,8 @@ impl State {
     /// The set name, where there is one, and then the names that were put on the path.
     pub fn path(&self) -> &[String]
         ensures path { map string_bytes result.now ≡ self.now.path }
-        ensures named { IfSome self.now.context.name (λ name. slice_get self.now.path 0 ≡ Some name) }
+        ensures named { IfSome self.now.context.name (λ name.
+            slice_get self.now.path 0 ≡ Some name) }
     {
         self.path.as_slice()
     }

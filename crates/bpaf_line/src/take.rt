@@ -2,7 +2,8 @@
 ghost use Rattle.bpaf_words.specs.Items.{any_item, is_command_word};
 ghost use Rattle.bpaf_line.specs.Marks.{KeepsMarks};
 ghost use Rattle.bpaf_line.specs.Taking.{TakesFlag, TakesArgument, TakesKeyText, FindsArgument};
-ghost use Rattle.bpaf_line.specs.Taking.{FindsWord, TakesWord, TakesCommand, HasNoCommand, IsCommandAt};
+ghost use Rattle.bpaf_line.specs.Taking.{FindsWord, TakesWord, TakesCommand, HasNoCommand};
+ghost use Rattle.bpaf_line.specs.Taking.{IsCommandAt};
 ghost use Rattle.bpaf_line.specs.Situation.{is_open, take_place};
 ghost use Rattle.std.specs.Prelude.{◌≡◌, ◌+◌, ◌<◌, ◌^◌, true, IfOk, IfSome, MatchOption};
 
@@ -28,11 +29,11 @@ impl State {
         }
     }
 
-    /// Takes the first present key in scope with one of the names (under `adjacent` an attached one)
-    /// and the text behind it; None, and nothing changes, where there is no such key.
+    /// Takes the first present key in scope with one of the names (under `adjacent` an attached
+    /// one) and the text behind it; None, and nothing changes, where there is no such key.
     ///
-    /// Refused with NoArgument where the next place isn't a present Word or ArgWord in scope, or for
-    /// want of memory. A refusal takes nothing.
+    /// Refused with NoArgument where the next place isn't a present Word or ArgWord in scope, or
+    /// for want of memory. A refusal takes nothing.
     pub fn take_arg(
         &mut self,
         shorts: &[char],
@@ -52,8 +53,8 @@ impl State {
         Ok(Some(text))
     }
 
-    /// The same as [`State::take_arg`], with the text as a [`Text`], which takes no memory where it is
-    /// short. bpaf has no such call.
+    /// The same as [`State::take_arg`], with the text as a [`Text`], which takes no memory where it
+    /// is short. bpaf has no such call.
     pub fn take_text(
         &mut self,
         shorts: &[char],
@@ -128,8 +129,8 @@ impl State {
         }
     }
 
-    /// Takes the first present Word or PosWord in scope: its place, whether it is a PosWord, a copy of
-    /// its text.
+    /// Takes the first present Word or PosWord in scope: its place, whether it is a PosWord, a copy
+    /// of its text.
     ///
     /// Refused as [`State::positional_word`] is. A refusal takes nothing.
     pub fn take_positional_word(&mut self, metavar: Metavar) -> Result<(usize, bool, String), Error>
@@ -142,11 +143,11 @@ impl State {
         Ok((place, strict, text))
     }
 
-    /// Takes the first present item in scope, where it is the word of a command: a Word, any Short, or
-    /// a Long that isn't attached, whose word is this one. It takes no memory.
+    /// Takes the first present item in scope, where it is the word of a command: a Word, any Short,
+    /// or a Long that isn't attached, whose word is this one. It takes no memory.
     ///
-    /// Later items are not looked at. Otherwise false, no place is then the current one, and nothing
-    /// else changes.
+    /// Later items are not looked at. Otherwise false, no place is then the current one, and
+    /// nothing else changes.
     pub fn take_cmd(&mut self, word: &str) -> bool
         ensures marks { KeepsMarks self.old self.new }
         ensures taken { TakesCommand word.now self.old result self.new }

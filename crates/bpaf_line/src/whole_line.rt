@@ -8,7 +8,8 @@ use crate::state::State;
 use bpaf_words::Arg;
 
 impl State {
-    /// The item at a place of the line, taken or not; the first `--` is one too. It takes no memory.
+    /// The item at a place of the line, taken or not; the first `--` is one too. It takes no
+    /// memory.
     pub fn line_item(&self, place: usize) -> Option<&Arg>
         ensures { option_copied result ≡ line_item self.now place }
     {

@@ -1,8 +1,11 @@
 //! The texts of messages.
-ghost use Rattle.std.specs.Prelude.{◌≡◌, ◌++◌, true, IfOk, Some, None, codes, map, option_and_then, option_copied, option_map, string_bytes};
+ghost use Rattle.std.specs.Prelude.{◌≡◌, ◌++◌, true, IfOk, Some, None, codes, map, option_and_then};
+ghost use Rattle.std.specs.Prelude.{option_copied, option_map, string_bytes};
 ghost use Rattle.bpaf_doc.specs.Fold.{folded_whole};
 ghost use Rattle.bpaf_doc.specs.Print.{printed};
-ghost use Rattle.bpaf_messages.specs.Rendering.{message_text, side_text, parse_failed_text, guard_failed_text, no_argument_text, only_once_text, IsRefusal, Renders};
+ghost use Rattle.bpaf_messages.specs.Rendering.{message_text, side_text, parse_failed_text};
+ghost use Rattle.bpaf_messages.specs.Rendering.{guard_failed_text, no_argument_text};
+ghost use Rattle.bpaf_messages.specs.Rendering.{only_once_text, IsRefusal, Renders};
 ghost use Rattle.bpaf_messages.specs.Shown.{shown_item, word_at, quoted_word, key_behind};
 
 use crate::ambiguity::ambiguity;
@@ -189,8 +192,8 @@ fn without_argument(state: &State, place: usize, metavar: &Text) -> Result<Doc, 
     }
 }
 
-/// The text of a message; want of memory and the answer of an inner run have none. Refused only for want of
-/// memory.
+/// The text of a message; want of memory and the answer of an inner run have none. Refused only for
+/// want of memory.
 fn message_doc(message: &Message, state: &State) -> Result<Doc, AllocError>
     ensures { IfOk result (λ doc. printed true doc ≡ message_text message.now state.now) }
 {

@@ -4,8 +4,8 @@
 //!
 //! - [`usage_of`] writes the usage text of a tree (specs/Usage.antt), and [`render_help`] its help
 //!   page (specs/Help.antt), for which a program gives [`HelpTexts`]. Both are said as texts in two
-//!   prints, with the detail and without it; whether a text is empty, and so left out, is told by its
-//!   full print (specs/Joined.antt).
+//!   prints, with the detail and without it; whether a text is empty, and so left out, is told by
+//!   its full print (specs/Joined.antt).
 //! - The lines of a page are those of the items that a tree shows, in order, each with the place
 //!   where it stands (specs/Lines.antt).
 //!

@@ -22,8 +22,8 @@ pub fn first_set<'a>(state: &'a State, names: &[Text]) -> Option<&'a str>
     None
 }
 
-/// The refusal of a key that is neither on the line nor in the environment: its item is missing, or,
-/// where it shows none, its first name in the environment isn't set (bpaf's `NoEnv`).
+/// The refusal of a key that is neither on the line nor in the environment: its item is missing,
+/// or, where it shows none, its first name in the environment isn't set (bpaf's `NoEnv`).
 ///
 /// Refused only for want of memory.
 pub fn absence(state: &State, item: Option<Item>, envs: &[Text]) -> Result<Error, AllocError>
@@ -40,7 +40,8 @@ pub fn absence(state: &State, item: Option<Item>, envs: &[Text]) -> Result<Error
 }
 
 /// Whether a key without a value is present: the first one in scope with one of the names, which is
-/// taken; or, where there is none, one of its names in the environment that is set. It takes no memory.
+/// taken; or, where there is none, one of its names in the environment that is set. It takes no
+/// memory.
 ///
 /// It is the one test for flags and for the keys that ask for help and for the version.
 pub fn is_present(named: &NamedArg, state: &mut State) -> bool
@@ -50,8 +51,8 @@ pub fn is_present(named: &NamedArg, state: &mut State) -> bool
     found || first_set(state, named.envs()).is_some()
 }
 
-/// The text behind the first key of an argument, both of which are taken; None, and nothing changes,
-/// where there is no key. Refused as [`State::take_text`] is.
+/// The text behind the first key of an argument, both of which are taken; None, and nothing
+/// changes, where there is no key. Refused as [`State::take_text`] is.
 fn take_first_key<T>(argument: &ParseArgument<T>, state: &mut State) -> Result<Option<Text>, Error>
     ensures { TakesAtKey false argument.now state.old result state.new }
 {
@@ -64,8 +65,8 @@ fn take_first_key<T>(argument: &ParseArgument<T>, state: &mut State) -> Result<O
     )
 }
 
-/// The text behind the last key of an argument, all of whose keys are taken, each with the text behind
-/// it; None, and nothing changes, where there is no key.
+/// The text behind the last key of an argument, all of whose keys are taken, each with the text
+/// behind it; None, and nothing changes, where there is no key.
 ///
 /// Refused as [`State::take_text`] is; the keys before the refused one then stay taken.
 fn take_all_keys<T>(argument: &ParseArgument<T>, state: &mut State) -> Result<Option<Text>, Error>
@@ -91,8 +92,8 @@ fn take_key<T>(argument: &ParseArgument<T>, state: &mut State) -> Result<Option<
     }
 }
 
-/// The text of an argument: that behind its key, or behind the last of all its keys where that counts;
-/// or, where there is no key, that of the first name in the environment that is set (bpaf's
+/// The text of an argument: that behind its key, or behind the last of all its keys where that
+/// counts; or, where there is no key, that of the first name in the environment that is set (bpaf's
 /// `take_argument`, which knows no last key).
 pub fn take_argument<T>(argument: &ParseArgument<T>, state: &mut State) -> Result<Text, Error>
     ensures { TakesText argument.now state.old result state.new }

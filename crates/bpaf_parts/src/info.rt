@@ -9,7 +9,8 @@ ghost use Rattle.bpaf_doc.specs.Shape.{And, members, shape_of};
 ghost use Rattle.bpaf_parts.specs.Extra.{ExtraOutcome, IsNotAsked, LooksForVersion};
 ghost use Rattle.bpaf_parts.specs.Extra.{extra_shape, key_shape};
 ghost use Rattle.bpaf_parts.specs.Version.{ShowsVersion, version_text};
-ghost use Rattle.bpaf_parts.specs.Info.{help_key, key_or, page_texts, plain_info, short_descr, usual_key};
+ghost use Rattle.bpaf_parts.specs.Info.{help_key, key_or, page_texts, plain_info, short_descr};
+ghost use Rattle.bpaf_parts.specs.Info.{usual_key};
 ghost use Rattle.bpaf_parts.specs.Info.{version_key};
 
 use crate::environment::is_present;
@@ -100,7 +101,8 @@ fn copy_of(key: &Option<NamedArg>) -> Result<Option<NamedArg>, AllocError>
     }
 }
 
-/// Appends the short names of a key, or the usual one where none is set; refused for want of memory.
+/// Appends the short names of a key, or the usual one where none is set; refused for want of
+/// memory.
 fn push_shorts(key: &Option<NamedArg>, usual: char, names: &mut Vec<char>) -> Result<(), AllocError>
     ensures { OnOk result ((name : _) (help : _) → names.new.items ≡ names.old.items
         ++ (key_or (usual_key usual name help) key.now).names.shorts) }
@@ -176,8 +178,8 @@ fn version_doc(alloc: Global, version: &Doc) -> Result<Doc, AllocError>
 }
 
 impl Info {
-    /// The keys `-h`, `--help` and `-V`, `--version`, no version, no texts, 100 columns, and no number that
-    /// is a word (bpaf's `Info::default`). It takes no memory.
+    /// The keys `-h`, `--help` and `-V`, `--version`, no version, no texts, 100 columns, and no
+    /// number that is a word (bpaf's `Info::default`). It takes no memory.
     pub fn new() -> Info
         ensures { result ≡ plain_info }
     {
@@ -288,9 +290,9 @@ impl Info {
         Ok(None)
     }
 
-    /// What the run is asked for beside its value: help, where its key is present, which is then taken,
-    /// and once more where it is present again; else the version, where one is set and its key is
-    /// present (bpaf's `Info`, in `info.rs`).
+    /// What the run is asked for beside its value: help, where its key is present, which is then
+    /// taken, and once more where it is present again; else the version, where one is set and its
+    /// key is present (bpaf's `Info`, in `info.rs`).
     ///
     /// Refused with ParseFail, where neither is there; and for want of memory.
     pub fn look(&self, state: &mut State) -> Result<ExtraParams, Error>

@@ -3,18 +3,19 @@
 //! It stands on the definitions of `bpaf_laws` and on what these speak of. For the layer of parsers
 //! above, which hands on what programs need of it:
 //!
-//! - [`Info`] is what a run knows beside its parser: the keys that ask for help and for the version,
-//!   which [`Info::look`] looks for (specs/Extra.antt), and the texts of the help page
+//! - [`Info`] is what a run knows beside its parser: the keys that ask for help and for the
+//!   version, which [`Info::look`] looks for (specs/Extra.antt), and the texts of the help page
 //!   (specs/Info.antt, specs/Version.antt).
 //! - [`CommandNames`] are the names of a command; [`CommandNames::open`] takes its word.
 //! - [`Start`] and [`Branch`] are where branches of a choice begin and where one led to
 //!   (specs/Branches.antt); the table of [`this_or_that`] tells which of two answers stands, and
 //!   [`or_meta`] what a choice shows.
 //! - [`is_present`] is the one test for flags; [`take_argument`] takes the text of an argument;
-//!   [`first_set`] and [`absence`] tell of names in the environment; [`read_text`] reads the value of a
-//!   taken text; [`displayed`], [`debugged`] and [`formatted`] write a default.
-//! - [`end_message`] makes the end of an inner run a refusal (specs/Failures.antt), [`hide`] names no
-//!   missing item in one, [`guard_failed`] tells a check, and [`stops_step`] at which a turn stops.
+//!   [`first_set`] and [`absence`] tell of names in the environment; [`read_text`] reads the value
+//!   of a taken text; [`displayed`], [`debugged`] and [`formatted`] write a default.
+//! - [`end_message`] makes the end of an inner run a refusal (specs/Failures.antt), [`hide`] names
+//!   no missing item in one, [`guard_failed`] tells a check, and [`stops_step`] at which a turn
+//!   stops.
 //!
 //! The source of the design is bpaf's `info.rs`, `params.rs` and `structs.rs`.
 #![tactic(auto)]

@@ -32,8 +32,8 @@ pub fn end<T, W: Write, E: Write>(
     }
 }
 
-/// Prints the text of an answer on `out`, or ends as [`end`], and gives the status: 0 where all of the
-/// text stands there, 1 where a write failed, after a beginning of it.
+/// Prints the text of an answer on `out`, or ends as [`end`], and gives the status: 0 where all of
+/// the text stands there, 1 where a write failed, after a beginning of it.
 ///
 /// ```text
 /// print(lines_of(alloc, words), out, err)

@@ -24,10 +24,10 @@ pub trait Program<T> {
     /// The value that the words give, with nothing written; or the status with which the program is
     /// to end (bpaf's `OptionParser::run`, which ends the process).
     ///
-    /// Status 0: the text that was asked for stands on `out`, and nothing new on `err`. Status 1: on
-    /// `out` is nothing, or after a failed write a beginning of that text; on `err` stands
-    /// `Error: `, the message and a line break, or a beginning of that where a write failed. Want of
-    /// memory is told as `Error: out of memory`.
+    /// Status 0: the text that was asked for stands on `out`, and nothing new on `err`. Status 1:
+    /// on `out` is nothing, or after a failed write a beginning of that text; on `err` stands
+    /// `Error: `, the message and a line break, or a beginning of that where a write failed. Want
+    /// of memory is told as `Error: out of memory`.
     ///
     /// ```text
     /// let options = options.run(Args::from(words), out, err)?;

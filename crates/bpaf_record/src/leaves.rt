@@ -53,8 +53,8 @@ impl<T> HasKeys for ParseArgument<T> {
     }
 }
 
-/// With a name in the environment, or with `adjacent`, it is no flat field. With `take_last` it is a
-/// field by itself, and no alternative of a choice.
+/// With a name in the environment, or with `adjacent`, it is no flat field. With `take_last` it is
+/// a field by itself, and no alternative of a choice.
 impl<T: FromText + Drop> FlatField<T> for ParseArgument<T> {
     ghost use Rattle.bpaf_exact.specs.Leaves.{argument_field};
     ghost use Rattle.bpaf_exact.proofs.Arguments.{argument_field_law};

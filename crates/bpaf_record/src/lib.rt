@@ -5,18 +5,18 @@
 //!
 //! - [`FlatField`] is written for the parsers that may be a field of a flat record: flags,
 //!   arguments and positional words, choices of required flags and arguments, `map`, `parse`,
-//!   `guard`, `optional`, the repeats, both fallbacks, `hide_usage`, `custom_usage`, `group_help`, and
-//!   products; [`FlatFields`] for the fields of a product. Each says what it is (`flat_form`), and
-//!   proves the law of that form: what it answers and takes depends on its own pieces of the
+//!   `guard`, `optional`, the repeats, both fallbacks, `hide_usage`, `custom_usage`, `group_help`,
+//!   and products; [`FlatFields`] for the fields of a product. Each says what it is (`flat_form`),
+//!   and proves the law of that form: what it answers and takes depends on its own pieces of the
 //!   line alone. A parser that has no [`FlatField`] is no field of a record: the compiler tells.
 //! - Its premise is `agrees`: whether a closure of `parse`, `guard` or `fallback_with` accepts
 //!   depends on the pieces alone. `map` and constructors need none, nor do kept values and
 //!   `from_text`.
 //! - [`Record::is_record`] tells, without memory, whether options are a flat record, exactly as
 //!   `is_flat_record` says (specs/Record.antt): at most one repeat or default in a field, choices
-//!   not empty and without `take_last`, positional words last, no `strict`, `non_strict`, `catch`, `adjacent` or name in
-//!   the environment, nothing round a product and none inside a field, and no name shared with
-//!   another field, help or version.
+//!   not empty and without `take_last`, positional words last, no `strict`, `non_strict`, `catch`,
+//!   `adjacent` or name in the environment, nothing round a product and none inside a field, and no
+//!   name shared with another field, help or version.
 //! - [`Record::run_record`] runs such options as `run_inner` does, and each answer that the table
 //!   of a run allows is exact (`AnswersExactly`, specs/Record.antt): a value comes only where it
 //!   is one of the record on the words' line, and where the record has a value there no other

@@ -30,7 +30,8 @@ impl<T, P: FlatField<T>> FlatField<T> for ParseUsage<P> {
     }
 
     ghost flat = { λ p a.
-        flat_dressed_law T (P.outcome p.inner) (P.keys p.inner) (P.flat_form p.inner) (P.flat p.inner a) };
+        flat_dressed_law T (P.outcome p.inner) (P.keys p.inner) (P.flat_form p.inner)
+        (P.flat p.inner a) };
 
     ghost shows = { λ p. usage_shows (P.shows p.inner) p.usage };
 }
@@ -58,7 +59,8 @@ impl<T, P: FlatField<T>> FlatField<T> for ParseGroupHelp<P> {
     }
 
     ghost flat = { λ p a.
-        flat_dressed_law T (P.outcome p.inner) (P.keys p.inner) (P.flat_form p.inner) (P.flat p.inner a) };
+        flat_dressed_law T (P.outcome p.inner) (P.keys p.inner) (P.flat_form p.inner)
+        (P.flat p.inner a) };
 
     ghost shows = { λ p. section_shows (P.shows p.inner) p.message };
 }

@@ -1,5 +1,5 @@
-//! How often closures are called: once in each evaluation of their parser, also where the parse goes
-//! back and does again what is kept.
+//! How often closures are called: once in each evaluation of their parser, also where the parse
+//! goes back and does again what is kept.
 use crate::shared::value;
 use bpaf::{Parser, short};
 use std::alloc::{AllocError, Global};

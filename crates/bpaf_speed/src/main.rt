@@ -4,10 +4,10 @@
 //! bpaf_speed WORK SIZE REPEATS
 //! ```
 //!
-//! It stands on `bpaf` alone. WORK names a parser and its line ([`Work`]), SIZE is how many words of
-//! the line there are of the kind that it is about, and REPEATS how often the parser is built and
-//! run. What it prints is the sum over all answers, so that no run can be left out. docs/SPEED.md says
-//! how it is counted, and what was counted.
+//! It stands on `bpaf` alone. WORK names a parser and its line ([`Work`]), SIZE is how many words
+//! of the line there are of the kind that it is about, and REPEATS how often the parser is built
+//! and run. What it prints is the sum over all answers, so that no run can be left out.
+//! docs/SPEED.md says how it is counted, and what was counted.
 #![tactic(auto)]
 
 mod parsers;

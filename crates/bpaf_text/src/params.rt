@@ -111,7 +111,8 @@ impl<T> ParseArgument<T> {
     /// The argument that takes all its keys at once, each with its value, and reads the last value
     /// alone; bpaf has no such call. It takes no memory.
     ///
-    /// The earlier values needn't be readable. A key without a value is refused as for any argument.
+    /// The earlier values needn't be readable. A key without a value is refused as for any
+    /// argument.
     ///
     /// ```text
     /// short(alloc, 'n')?.argument::<u64>("NUM").take_last()     reads 4 off `-n 3 -n 4`

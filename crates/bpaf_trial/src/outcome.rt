@@ -34,8 +34,8 @@ impl Written {
         self.status == 0 && self.err.is_empty() && self.out.as_slice() == text.as_bytes()
     }
 
-    /// Whether this message was told in a line of its own, nothing was written on the other writer, and
-    /// the status is 1.
+    /// Whether this message was told in a line of its own, nothing was written on the other writer,
+    /// and the status is 1.
     pub fn is_message(&self, message: &str) -> bool {
         let told = self.err.as_slice();
         let line = told.strip_prefix(b"Error: ");
@@ -48,8 +48,8 @@ impl Written {
         self.out.len().saturating_add(self.err.len())
     }
 
-    /// Whether the status is 1, no write followed one that failed, and what stands on the writers are
-    /// beginnings of what stands on those of another run.
+    /// Whether the status is 1, no write followed one that failed, and what stands on the writers
+    /// are beginnings of what stands on those of another run.
     pub fn stops_within(&self, whole: &Written) -> bool {
         self.status == 1
             && !self.late
@@ -69,8 +69,8 @@ fn owned(alloc: Global, words: &str) -> Result<Vec<String>, AllocError> {
     Ok(all)
 }
 
-/// What a program writes on words, which are parted by single spaces, on two writers with so much room,
-/// each of which fails at the call of this number, or at none where it is 0.
+/// What a program writes on words, which are parted by single spaces, on two writers with so much
+/// room, each of which fails at the call of this number, or at none where it is 0.
 pub fn ran_in<P: Tried>(
     alloc: Global,
     program: &P,
@@ -96,8 +96,8 @@ pub fn ran<P: Tried>(alloc: Global, program: &P, words: &str) -> Result<Written,
     ran_in(alloc, program, words, usize::MAX, 0)
 }
 
-/// How many writes a program makes on words, where each of them, made to fail, ends it: with the status
-/// 1, a beginning of what it writes otherwise, and no write behind. None where one doesn't.
+/// How many writes a program makes on words, where each of them, made to fail, ends it: with the
+/// status 1, a beginning of what it writes otherwise, and no write behind. None where one doesn't.
 pub fn stops_where_a_write_fails<P: Tried>(
     alloc: Global,
     program: &P,

@@ -1,7 +1,8 @@
-//! The rows of what stands above `bpaf`, as tests: flat records, batteries and the ends of programs.
+//! The rows of what stands above `bpaf`, as tests: flat records, batteries and the ends of
+//! programs.
 //!
-//! It stands on `bpaf_program`, `bpaf_record`, `bpaf_batteries` and `bpaf`. Nothing stands on this crate: one with
-//! tests is proved twice. docs/ROWS.md names each row and its test.
+//! It stands on `bpaf_program`, `bpaf_record`, `bpaf_batteries` and `bpaf`. Nothing stands on this
+//! crate: one with tests is proved twice. docs/ROWS.md names each row and its test.
 #![tactic(auto)]
 
 #[cfg(test)]

@@ -1,4 +1,5 @@
-//! Which options are no flat record, of switches, numbers and words. What runs as one in `record_rows` is one.
+//! Which options are no flat record, of switches, numbers and words. What runs as one in
+//! `record_rows` is one.
 use bpaf::params::{ParseArgument, ParseFlag, ParsePositional};
 use bpaf::{Doc, Parser, choice, construct, positional, short};
 use bpaf_record::{FlatField, Record};

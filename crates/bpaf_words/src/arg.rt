@@ -1,6 +1,7 @@
 //! The items of a line, and tests on one.
 ghost use Rattle.std.specs.Prelude.{◌≡◌, option_copied};
-ghost use Rattle.bpaf_words.specs.Items.{is_text_among, is_key_of, is_argument_key, is_attached, is_positional, value_text, item_text, is_command_word};
+ghost use Rattle.bpaf_words.specs.Items.{is_text_among, is_key_of, is_argument_key, is_attached};
+ghost use Rattle.bpaf_words.specs.Items.{is_positional, value_text, item_text, is_command_word};
 
 use bpaf_doc::Text;
 use std::fmt;
@@ -8,8 +9,8 @@ use std::fmt;
 /// One item of the line (bpaf's `Arg`).
 ///
 /// The first two are keys. A key is attached where a value stands behind it in its own word, as in
-/// `-n=3`; its last text is the word that it stands in, or the empty text for a flag of joined words
-/// that isn't the first.
+/// `-n=3`; its last text is the word that it stands in, or the empty text for a flag of joined
+/// words that isn't the first.
 #[derive(Debug, Drop)]
 pub enum Arg {
     /// `-c`: the character, whether it is attached, and its word.

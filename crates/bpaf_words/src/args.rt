@@ -1,6 +1,8 @@
 //! What a run is given.
-ghost use Rattle.std.specs.Prelude.{◌≡◌, ◌<◌, Some, length, slice_get, List, ℕ, map, option_map, string_bytes};
-ghost use Rattle.bpaf_words.specs.Arguments.{words_in, words_of, name_of, env_of, entries_of, env_entries};
+ghost use Rattle.std.specs.Prelude.{◌≡◌, ◌<◌, Some, length, slice_get, List, ℕ, map, option_map};
+ghost use Rattle.std.specs.Prelude.{string_bytes};
+ghost use Rattle.bpaf_words.specs.Arguments.{words_in, words_of, name_of, env_of, entries_of};
+ghost use Rattle.bpaf_words.specs.Arguments.{env_entries};
 
 use std::collections::BTreeMap;
 
@@ -137,8 +139,8 @@ impl<'a> Args<'a> {
         self.env
     }
 
-    /// The same, with this name in place of the one that it has (bpaf's `Args::set_name`). It takes no
-    /// memory.
+    /// The same, with this name in place of the one that it has (bpaf's `Args::set_name`). It takes
+    /// no memory.
     pub fn set_name(self, name: &'a str) -> Args<'a>
         ensures words { words_of result ≡ words_of self.entry }
         ensures name { name_of result ≡ Some name.now }
@@ -150,8 +152,8 @@ impl<'a> Args<'a> {
         }
     }
 
-    /// The same, with this environment in place of the one that it has. It takes no memory; bpaf reads
-    /// the process's own.
+    /// The same, with this environment in place of the one that it has. It takes no memory; bpaf
+    /// reads the process's own.
     pub fn set_env(self, env: &'a BTreeMap<String, String>) -> Args<'a>
         ensures words { words_of result ≡ words_of self.entry }
         ensures name { name_of result ≡ name_of self.entry }

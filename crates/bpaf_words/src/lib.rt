@@ -13,9 +13,9 @@
 //! - [`line_of`] answers the [`Line`] of all words and the place of their first `--`. A line is
 //!   refused exactly where a word is ambiguous (`IsLine` and `HasNoLine`, specs/Line.antt), and for
 //!   want of memory. Words have one line or a first ambiguous word, never both.
-//! - [`Front`] is the beginning of a line that is the same whatever short names are known. So a line
-//!   without joined words such as `-vn3` is read before anything is known, and of any other the rest
-//!   is read when the names are there.
+//! - [`Front`] is the beginning of a line that is the same whatever short names are known. So a
+//!   line without joined words such as `-vn3` is read before anything is known, and of any other
+//!   the rest is read when the names are there.
 //!
 //! The source of the design is bpaf's `arg.rs` and `args.rs`.
 #![tactic(auto)]

@@ -114,8 +114,8 @@ impl Front {
 /// The line of words: the items of those before the first `--`, and then a PosWord for it and for
 /// each later word.
 ///
-/// `flags` and `arguments` are the known short names, by which joined words such as `-vn3` are read.
-/// With `numbers` a word of `-` and ASCII digits alone, such as `-12`, is a Word.
+/// `flags` and `arguments` are the known short names, by which joined words such as `-vn3` are
+/// read. With `numbers` a word of `-` and ASCII digits alone, such as `-12`, is a Word.
 ///
 /// Refused with Ambiguous exactly where the words have no line, or for want of memory.
 pub fn line_of(
@@ -134,8 +134,8 @@ pub fn line_of(
     front.line_by(alloc, words, flags, arguments)
 }
 
-/// The items of the words before the first `--` and before the first that is joined letters, and how
-/// many these words are; refused only for want of memory.
+/// The items of the words before the first `--` and before the first that is joined letters, and
+/// how many these words are; refused only for want of memory.
 fn split_front(
     alloc: Global,
     words: Words<'_>,
@@ -143,7 +143,8 @@ fn split_front(
     items: &mut Vec<Arg>,
 ) -> Result<usize, AllocError>
     requires { items.old.items ≡ [] }
-    ensures { IfOk result (λ read. BeginsByAny numbers (words_in words.entry) items.new.items read) }
+    ensures { IfOk result (λ read.
+        BeginsByAny numbers (words_in words.entry) items.new.items read) }
 {
     for index in 0..words.len() {
         let word = words.at(index);
@@ -157,8 +158,8 @@ fn split_front(
     Ok(words.len())
 }
 
-/// The items of the words from a place up to the first `--`, at the end of those before them, and how
-/// many words stand before that `--`.
+/// The items of the words from a place up to the first `--`, at the end of those before them, and
+/// how many words stand before that `--`.
 fn split_words(
     alloc: Global,
     words: Words<'_>,
@@ -192,8 +193,8 @@ fn split_words(
     Ok(words.len())
 }
 
-/// The line of words of which so many stand before the first `--`, and have these items; refused only
-/// for want of memory.
+/// The line of words of which so many stand before the first `--`, and have these items; refused
+/// only for want of memory.
 fn line_behind(
     alloc: Global,
     words: Words<'_>,

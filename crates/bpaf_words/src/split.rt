@@ -1,5 +1,6 @@
 //! The items of one word.
-ghost use Rattle.std.specs.Prelude.{◌≡◌, ◌≢◌, ◌↔◌, [], ◌∷◌, ◌++◌, false, IsTrue, EachIndex, IfOk, OnOk};
+ghost use Rattle.std.specs.Prelude.{◌≡◌, ◌≢◌, ◌↔◌, [], ◌∷◌, ◌++◌, false, IsTrue, EachIndex, IfOk};
+ghost use Rattle.std.specs.Prelude.{OnOk};
 ghost use Rattle.std.specs.Prelude.{slice_index, codes, encode_utf8, encode_utf8_all};
 ghost use Rattle.std.specs.Bool.{MatchBool};
 ghost use Rattle.std.specs.Char.{IsAsciiDigit};
@@ -58,8 +59,8 @@ pub fn split_word(
     }
 }
 
-/// The items of a word that isn't `--`, at the end of the items before it, where they don't depend on
-/// the known short names; else the letters of the word, which are joined, and no items.
+/// The items of a word that isn't `--`, at the end of the items before it, where they don't depend
+/// on the known short names; else the letters of the word, which are joined, and no items.
 ///
 /// Refused only for want of memory.
 ///
@@ -148,8 +149,8 @@ fn push_word(alloc: Global, word: &str, items: &mut Vec<Arg>) -> Result<(), Allo
     Ok(())
 }
 
-/// A key and the value in its own word behind the items; refused only for want of memory, which drops the
-/// key.
+/// A key and the value in its own word behind the items; refused only for want of memory, which
+/// drops the key.
 fn push_attached(
     alloc: Global,
     key: Arg,
@@ -224,8 +225,8 @@ fn push_flag(alloc: Global, c: char, text: &str, items: &mut Vec<Arg>) -> Result
     Ok(())
 }
 
-/// An argument of joined letters behind the items, and the letters after it as its value; refused only
-/// for want of memory.
+/// An argument of joined letters behind the items, and the letters after it as its value; refused
+/// only for want of memory.
 fn push_argument(
     alloc: Global,
     c: char,

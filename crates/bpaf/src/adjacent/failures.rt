@@ -1,5 +1,6 @@
 //! The failure of a group that is told where none gives a value.
-ghost use Rattle.std.specs.Prelude.{◌≡◌, true, false, None, Some, Ok, Err, OnOk, OnErr, MatchResult};
+ghost use Rattle.std.specs.Prelude.{◌≡◌, true, false, None, Some, Ok, Err, OnOk, OnErr};
+ghost use Rattle.std.specs.Prelude.{MatchResult};
 ghost use Rattle.bpaf_doc.specs.Shape.{part_of};
 ghost use Rattle.bpaf_line.specs.Marks.{Fits, undone};
 ghost use Rattle.bpaf_line.specs.Messages.{is_memory};

@@ -65,8 +65,8 @@ pub fn positional<T>(metavar: &'static str) -> ParsePositional<T>
 }
 
 impl<T> ParsePositional<T> {
-    /// The word with this help, in place of the one that it has (bpaf's `ParsePositional::help`). It
-    /// takes no memory.
+    /// The word with this help, in place of the one that it has (bpaf's `ParsePositional::help`).
+    /// It takes no memory.
     ///
     /// ```text
     /// positional::<String>("FILE").help(Doc::from_text(alloc, "File to process")?)
@@ -90,8 +90,8 @@ impl<T> ParsePositional<T> {
         })
     }
 
-    /// The word must stand on the right side of `--` (bpaf's `ParsePositional::strict`); one that does
-    /// not is taken and refused.
+    /// The word must stand on the right side of `--` (bpaf's `ParsePositional::strict`); one that
+    /// does not is taken and refused.
     ///
     /// ```text
     /// positional::<String>("S").strict()      "a" off `-- a`; `a` is refused
@@ -103,8 +103,8 @@ impl<T> ParsePositional<T> {
         self
     }
 
-    /// The word must stand on the left side of `--` (bpaf's `ParsePositional::non_strict`); one that
-    /// does not is taken and refused.
+    /// The word must stand on the left side of `--` (bpaf's `ParsePositional::non_strict`); one
+    /// that does not is taken and refused.
     ///
     /// ```text
     /// positional::<String>("S").non_strict()      "a" off `a`; `-- a` is refused

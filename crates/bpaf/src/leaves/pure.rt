@@ -15,8 +15,8 @@ pub struct ParsePure<T> {
     pub value: T,
 }
 
-/// A parser that looks at no item and always answers this value (bpaf's `pure`); it is cloned when it
-/// is given out.
+/// A parser that looks at no item and always answers this value (bpaf's `pure`); it is cloned when
+/// it is given out.
 ///
 /// ```text
 /// let level = pure(Level::Normal);
@@ -91,8 +91,8 @@ pub fn pure_with<T, F: Fn() -> Result<T, E>, E: Display>(f: F) -> ParsePureWith<
     }
 }
 
-/// The closure's value; its fault is refused with PureFailed, and so is want of memory for the text of
-/// that. No place is current then.
+/// The closure's value; its fault is refused with PureFailed, and so is want of memory for the text
+/// of that. No place is current then.
 impl<T: Drop, F: Fn() -> Result<T, E>, E: Display + Drop> Parser<T> for ParsePureWith<T, F, E> {
     ghost use Rattle.std.specs.Prelude.{◌≡◌};
     ghost use Rattle.bpaf_doc.specs.Shape.{Skip};
