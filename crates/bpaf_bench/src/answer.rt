@@ -4,6 +4,26 @@ use bpaf_described::Value;
 use std::alloc::{AllocError, Global};
 use std::collections::BTreeMap;
 
+/// What the words of a row are run with.
+#[derive(Clone, Copy)]
+pub struct Surroundings<'a> {
+    /// The name of the program, where one is set.
+    pub name: Option<&'a str>,
+    /// The environment.
+    pub variables: &'a BTreeMap<String, String>,
+}
+
+impl<'a> Surroundings<'a> {
+    /// These words with them.
+    fn args(self, words: &'a [String]) -> Args<'a> {
+        let args = Args::from(words).set_env(self.variables);
+        match self.name {
+            Some(name) => args.set_name(name),
+            None => args,
+        }
+    }
+}
+
 /// Appends a text on one line: a line break is `\n`, and a backslash stands twice.
 fn push_text(text: &str, out: &mut String) -> Result<(), AllocError> {
     for letter in text.chars() {
@@ -22,13 +42,13 @@ fn push_text(text: &str, out: &mut String) -> Result<(), AllocError> {
 pub fn answer<P: Parser<Value> + Drop>(
     alloc: Global,
     options: &OptionParser<Value, P>,
-    variables: &BTreeMap<String, String>,
+    surroundings: Surroundings<'_>,
     words: &[String],
 ) -> Result<String, AllocError>
     requires { P.can_eval options.now.inner }
 {
     let mut out = String::new(alloc);
-    match options.run_inner(Args::from(words).set_env(variables)) {
+    match options.run_inner(surroundings.args(words)) {
         Ok(value) => {
             out.push_str("ok ")?;
             value.print(&mut out)?;
@@ -51,7 +71,7 @@ pub fn answer<P: Parser<Value> + Drop>(
 pub fn run_beginnings<P: Parser<Value> + Drop>(
     alloc: Global,
     options: &OptionParser<Value, P>,
-    variables: &BTreeMap<String, String>,
+    surroundings: Surroundings<'_>,
     words: &[String],
     most: u64,
 ) -> Result<u64, AllocError>
@@ -62,7 +82,7 @@ pub fn run_beginnings<P: Parser<Value> + Drop>(
         if ran >= most {
             break;
         }
-        answer(alloc, options, variables, &words[..end])?;
+        answer(alloc, options, surroundings, &words[..end])?;
         ran = ran.saturating_add(1);
     }
     Ok(ran)

@@ -1,5 +1,5 @@
 //! The rows of a file, read line by line, and what they come to.
-use crate::answer::{answer, is_answer, is_wanted, run_beginnings};
+use crate::answer::{Surroundings, answer, is_answer, is_wanted, run_beginnings};
 use crate::words::{is_separated, quoted, quoted_words, separated_words};
 use bpaf::OptionParser;
 use bpaf_described::{Described, Description, Place, Value, read_options};
@@ -73,6 +73,7 @@ pub struct Bench<P> {
     line: u64,
     description: Description,
     parser: Standing<P>,
+    name: Option<String>,
     variables: BTreeMap<String, String>,
     counts: Counts,
 }
@@ -98,6 +99,7 @@ impl<P: Described> Bench<P> {
             line: 0,
             description: Description::new(alloc),
             parser: Standing::Missing,
+            name: None,
             variables: BTreeMap::new(alloc),
             counts: Counts {
                 rows: 0,
@@ -114,12 +116,14 @@ impl<P: Described> Bench<P> {
         self.counts
     }
 
-    /// Begins a file of this name: no parser stands, and no variable is set.
+    /// Begins a file of this name: no parser stands, and neither the program's name nor a variable
+    /// is set.
     pub fn begin(&mut self, file: &str) -> Result<(), AllocError> {
         self.file = String::from_str(self.alloc, file)?;
         self.line = 0;
         self.description = Description::new(self.alloc);
         self.parser = Standing::Missing;
+        self.name = None;
         self.variables = BTreeMap::new(self.alloc);
         Ok(())
     }
@@ -184,7 +188,8 @@ impl<P: Described> Bench<P> {
         Ok(LineEnd::Read)
     }
 
-    /// Reads a line that begins with `#` and is no row: a comment, a variable or a description.
+    /// Reads a line that begins with `#` and is no row: a comment, a variable, the program's name or a
+    /// description.
     fn heading<W: Write>(&mut self, line: &str, out: &mut W) -> io::Result<LineEnd> {
         if line.starts_with("##") {
             return self.copy(line, out);
@@ -193,8 +198,21 @@ impl<P: Described> Bench<P> {
             self.copy(line, out)?;
             return self.set(setting, out);
         }
+        if let Some(name) = line.strip_prefix("#name ") {
+            self.copy(line, out)?;
+            self.name = Some(String::from_str(self.alloc, name)?);
+            return Ok(LineEnd::Read);
+        }
         self.description = Description::new(self.alloc);
         self.describe(2, line.strip_prefix('#').unwrap_or(""), line, out)
+    }
+
+    /// What words are run with.
+    fn surroundings(&self) -> Surroundings<'_> {
+        Surroundings {
+            name: self.name.as_ref().map(String::as_str),
+            variables: &self.variables,
+        }
     }
 
     /// Sets a variable of the environment.
@@ -268,9 +286,9 @@ impl<P: Described> Bench<P> {
             Standing::Made(parser) => {
                 let words = words.as_slice();
                 let most = self.beginnings;
-                let ran = run_beginnings(self.alloc, parser, &self.variables, words, most)?;
+                let ran = run_beginnings(self.alloc, parser, self.surroundings(), words, most)?;
                 self.counts.beginnings = self.counts.beginnings.saturating_add(ran);
-                answer(self.alloc, parser, &self.variables, words)?
+                answer(self.alloc, parser, self.surroundings(), words)?
             }
         };
         if self.all || wanted.is_none() {
@@ -311,7 +329,7 @@ impl<P: Described> Bench<P> {
     /// answer.
     fn again<W: Write>(&self, words: &[String], out: &mut W) -> io::Result<()> {
         if let Standing::Made(parser) = &self.parser {
-            let got = answer(self.alloc, parser, &self.variables, words)?;
+            let got = answer(self.alloc, parser, self.surroundings(), words)?;
             writeln!(out, "    again   {got}")?;
         }
         Ok(())

@@ -4,5 +4,7 @@ pub mod Ending
 pub mod Commanding
 pub mod Attempting
 pub mod Refusing
+pub mod CommandSparing
+pub mod Leaving
 pub mod RunSparing
 pub mod LeafSparing

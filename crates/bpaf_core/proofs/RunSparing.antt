@@ -8,9 +8,9 @@ use Rattle.bpaf_words.specs.Arguments.{Given}
 use Rattle.bpaf_laws.specs.Reading.{Outcome}
 use Rattle.bpaf_laws.specs.Spared.{WithoutMemory}
 use Rattle.bpaf_parts.specs.Info.{RunInfo}
-use Rattle.bpaf_core.specs.CommandLaws.{spared_run}
 use Rattle.bpaf_core.specs.EndingLaws.{run_ending}
 use Rattle.bpaf_core.specs.Run.{IsNotWant, RunsWords, ran, no_line, no_memory}
+use Rattle.bpaf_core.proofs.CommandSparing.{spared_run}
 
 module _ {T : Type 0} (inner : Outcome T) (describes : Shape → Type 0) (info : RunInfo) where
   -- an answer that isn't told as want of memory comes of an inner one that isn't it

@@ -1,21 +1,17 @@
--- Commands keep to the laws where their inner parsers do, leave nothing in their scope and catch no
--- want of memory.
-use Rattle.std.specs.Prelude.{◌≡◌, false, Some, None, Result, Ok, Err, refl}
-use Rattle.std.proofs.Common.{subst}
+-- Commands keep to the laws where their inner parsers do.
+use Rattle.std.specs.Prelude.{◌≡◌, Some, None, Result, Ok, Err, refl}
 use Rattle.bpaf_doc.specs.Shape.{Part}
 use Rattle.bpaf_line.specs.declared.error.Error.{Error}
 use Rattle.bpaf_line.specs.declared.failure.ParseFailure.{ParseFailure}
-use Rattle.bpaf_line.specs.Messages.{is_memory}
 use Rattle.bpaf_line.specs.Situation.{Situation, open_count, with_current}
 use Rattle.bpaf_laws.specs.Reading.{Outcome, Readings}
 use Rattle.bpaf_laws.specs.Laws.{Keeps, Lawful, Reads}
-use Rattle.bpaf_laws.specs.Command.{Called, CommandReads, LeavesNothing, inside, opening_words}
-use Rattle.bpaf_laws.specs.Spared.{IsNotMemory, WithoutMemory}
-use Rattle.bpaf_laws.proofs.CommandLaws.{inside_read, keeps_inside, keeps_opened, leaves_nothing}
+use Rattle.bpaf_laws.specs.Command.{Called, CommandReads, inside, opening_words}
+use Rattle.bpaf_laws.proofs.CommandLaws.{inside_read, keeps_inside, keeps_opened}
 use Rattle.bpaf_laws.proofs.Keeping.{keeps_trans, keeps_unset}
 use Rattle.bpaf_core.specs.Ending.{Ending}
 use Rattle.bpaf_core.specs.EndingLaws.{LawfulEnding}
-use Rattle.bpaf_core.specs.Run.{IsNotWant, Runs, leftover, refused}
+use Rattle.bpaf_core.specs.Run.{Runs, leftover, refused}
 use Rattle.bpaf_core.specs.Run.{value as run_value}
 use Rattle.bpaf_core.specs.Command.{CommandOutcome, ended, missing, no_memory, value}
 
@@ -24,32 +20,6 @@ pub run_empty : {T : Type 0} {inner : Outcome T} {ending : Ending} (s : Situatio
     (t : Situation)
     → Runs T inner ending s (Ok v) t → open_count t ≡ 0
 run_empty s v t (run_value w left answered none) = none
-
--- a run that isn't told as want of memory had no inner want of memory
-pub spared_run : {T : Type 0} {inner : Outcome T} {ending : Ending} → LawfulEnding ending
-    → (s : Situation) (r : Result T ParseFailure) (t : Situation) → Runs T inner ending s r t
-    → IsNotWant r → Runs T (WithoutMemory inner) ending s r t
-spared_run ends s r t (run_value v left answered none) spared =
-    run_value v left (answered, tt) none
-spared_run ends s r t (leftover v left f u answered tells) spared =
-    leftover v left f u (answered, tt) tells
-spared_run ends s r t (refused e left f u answered tells) spared =
-    refused e left f u (answered, ends.spared e.0 s left f u tells spared) tells
-
--- a command catches no want of memory
-pub spared_command : {T : Type 0} {inner : Outcome T} {ending : Ending} → LawfulEnding ending
-    → (called : Called) (shows : Part → Type 0) (s t : Situation) (r : Result T Error)
-    → CommandOutcome T inner ending called shows s r t → IsNotMemory r
-    → CommandOutcome T (WithoutMemory inner) ending called shows s r t
-spared_command ends called shows s t r (value v p left at run) spared =
-    value v p left at (spared_run ends (inside called s p) (Ok v) left run tt)
-spared_command ends called shows s t r (ended f e p left at run is) spared =
-    ended f e p left at
-    (spared_run ends (inside called s p) (Err f) left run
-    (subst (λ m. is_memory m ≡ false) is spared))
-    is
-spared_command ends called shows s t r (missing e none is) spared = missing e none is
-spared_command ends called shows s t r (no_memory e p at is) spared = no_memory e p at is
 
 module _ {T : Type 0} {inner : Outcome T} {ending : Ending} {reads : Readings T}
     (law : Lawful T inner reads)
@@ -75,13 +45,6 @@ module _ {T : Type 0} {inner : Outcome T} {ending : Ending} {reads : Readings T}
         → Reads T (CommandReads T (opening_words called) reads) s v t
     command_read s t v (value w p left at run) =
         inside_read called s p at w left (run_read (inside called s p) w left run)
-
-    -- and leaves nothing in the scope that the command was given
-    pub command_leaves_nothing : (s t : Situation) (v : T)
-        → CommandOutcome T inner ending called shows s (Ok v) t → LeavesNothing s t
-    command_leaves_nothing s t v (value w p left at run) =
-        leaves_nothing s left (command_read s left w (value w p left at run)).closed
-        (run_empty (inside called s p) w left run)
 
     -- what a command's refusal keeps
     command_refused : (s t : Situation) (e : Error)

@@ -22,6 +22,7 @@ mod closures;
 mod commands;
 mod described;
 mod groups;
+mod heads;
 mod kind;
 mod leaf;
 mod lent;
@@ -36,7 +37,8 @@ mod value;
 
 pub use as_value::AsValue;
 pub use bpaf_tokens::{Description, Fault, Place, Problem, Token, Tokens};
-pub use described::{Described, read_options, read_parser};
+pub use described::{Described, read_parser};
+pub use heads::read_options;
 pub use kind::{Kind, Modifier};
 pub use leaf::{Answer, Leaf};
 pub use level::Level;

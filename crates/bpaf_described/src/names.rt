@@ -9,7 +9,8 @@ use bpaf::{NamedArg, appname, fail, literal, positional, pure};
 use std::alloc::{AllocError, Global};
 use std::marker::PhantomData;
 
-fn as_value<T, P>(inner: P) -> AsValue<T, P> {
+/// A parser whose value is told as one of a described parser.
+pub fn as_value<T, P>(inner: P) -> AsValue<T, P> {
     AsValue {
         inner,
         of: PhantomData,

@@ -2,7 +2,7 @@
 use crate::keys::{num, verbose};
 use bpaf::params::{ParseArgument, ParseFlag};
 use bpaf::parsers::ParseCommand;
-use bpaf::{Args, Doc, ParseFailure, Parser, command, construct};
+use bpaf::{Args, ParseFailure, Parser, command, construct};
 use std::alloc::{AllocError, Global};
 
 /// What the program is asked to do.
@@ -14,8 +14,8 @@ pub enum Task {
 
 /// `build -n 3`, and `b -n 3`.
 pub fn build(alloc: Global) -> Result<ParseCommand<u64, ParseArgument<u64>>, AllocError> {
-    let descr = Doc::from_text(alloc, "Builds with so many jobs")?;
-    let options = num(alloc)?.to_options(alloc)?.descr(descr);
+    let options = num(alloc)?.to_options(alloc)?;
+    let options = options.descr_str("Builds with so many jobs")?;
     options.command("build")?.short('b')
 }
 

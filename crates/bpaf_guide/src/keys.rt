@@ -5,7 +5,7 @@ use bpaf::parsers::{
     ParseChoice, ParseCollect, ParseCount, ParseFallback, ParseLast, ParseMany, ParseOptional,
     ParseOrElse, ParseSome,
 };
-use bpaf::{Doc, Parser, choice, construct, env, long, positional, short};
+use bpaf::{Parser, choice, construct, env, long, positional, short};
 use std::alloc::{AllocError, Global};
 use std::collections::BTreeSet;
 
@@ -41,8 +41,7 @@ pub fn home(alloc: Global) -> Result<ParseArgument<String>, AllocError> {
 
 /// A switch with a help.
 pub fn tall(alloc: Global) -> Result<ParseFlag<bool>, AllocError> {
-    let help = Doc::from_text(alloc, "Print a tall page")?;
-    Ok(short(alloc, 't')?.help(help).switch())
+    Ok(short(alloc, 't')?.help_str(alloc, "Print a tall page")?.switch())
 }
 
 /// A word by itself.

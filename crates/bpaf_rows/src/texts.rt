@@ -101,23 +101,3 @@ fn group_misses_its_second_number(rt: HostRuntime) -> Result<(), Fail> {
         err expected `--point`, pass `--help` for usage information\n",
     )
 }
-
-/// A number whose help is shown on the empty line.
-fn usage_for_empty_line(alloc: Global) -> Result<String, AllocError> {
-    let options = num(alloc)?.to_options(alloc)?.fallback_to_usage();
-    answers(alloc, options, &[&[], &["-v"], &["-n", "3"]])
-}
-
-#[test]
-fn help_stands_in_on_the_empty_line_alone(rt: HostRuntime) -> Result<(), Fail> {
-    reads(
-        &rt,
-        usage_for_empty_line(rt.alloc()),
-        "out Usage: -n=NUM\n\n\
-        Available options:\n    \
-        -n=NUM\n    \
-        -h, --help  Prints help information\n\n\
-        err expected `-n=NUM`, got `-v`. Pass `--help` for usage information\n\
-        ok 3\n",
-    )
-}

@@ -1,6 +1,8 @@
 //! Keys by their names, before it is said what they give.
-ghost use Rattle.std.specs.Prelude.{◌≡◌, Some, None, true, false, IfOk};
+ghost use Rattle.std.specs.Prelude.{◌≡◌, Some, None, true, false, IfOk, List};
 ghost use Rattle.std.specs.Option.{option_map};
+ghost use Rattle.bpaf_doc.specs.declared.doc.Piece.{Piece};
+ghost use Rattle.bpaf_doc.specs.Fold.{TextPieces};
 ghost use Rattle.bpaf_doc.specs.Shape.{name_of, part_of, shown_name};
 ghost use Rattle.bpaf_text.specs.Named.{flag_part, argument_part, first_text};
 ghost use Rattle.bpaf_text.specs.Named.{key_named, nothing_named};
@@ -192,6 +194,19 @@ impl NamedArg {
     {
         self.help = Some(help);
         self
+    }
+
+    /// The key with a help of this text, as [`Doc::from_text`] makes it; refused only for want of
+    /// memory, and then the key is gone.
+    ///
+    /// ```text
+    /// short(alloc, 'v')?.long("verbose")?.help_str(alloc, "Print more")?.switch()
+    /// ```
+    pub fn help_str(self, alloc: Global, help: &str) -> Result<NamedArg, AllocError>
+        ensures { IfOk result (λ helped. (pieces : List Piece) × TextPieces help.now pieces
+            × (helped ≡ with_help self pieces)) }
+    {
+        Ok(self.help(Doc::from_text(alloc, help)?))
     }
 
     /// All short names, in the order in which they were given.

@@ -1,10 +1,12 @@
 //! Flags and arguments.
-ghost use Rattle.std.specs.Prelude.{◌≡◌, IfOk, IsSomeAnd, MatchOption, None, false, true};
+ghost use Rattle.std.specs.Prelude.{◌≡◌, IfOk, IsSomeAnd, MatchOption, None, false, true, List};
+ghost use Rattle.bpaf_doc.specs.declared.doc.Piece.{Piece};
+ghost use Rattle.bpaf_doc.specs.Fold.{TextPieces};
 ghost use Rattle.bpaf_text.specs.Named.{with_help};
 
 use crate::named::NamedArg;
 use bpaf_doc::{Doc, Metavar};
-use std::alloc::AllocError;
+use std::alloc::{AllocError, Global};
 use std::marker::{Model, PhantomData};
 
 /// A key without a value: `present` where it stands on the line, and `absent` where it does not
@@ -63,6 +65,17 @@ impl<T> ParseFlag<T> {
     }
 }
 
+impl<T: Drop> ParseFlag<T> {
+    /// The same with a help of this text, as [`Doc::from_text`] makes it; refused only for want of
+    /// memory, and then the flag is gone.
+    pub fn help_str(self, alloc: Global, help: &str) -> Result<ParseFlag<T>, AllocError>
+        ensures { IfOk result (λ helped. (pieces : List Piece) × TextPieces help.now pieces
+            × (helped ≡ record self { named = with_help self.named pieces })) }
+    {
+        Ok(self.help(Doc::from_text(alloc, help)?))
+    }
+}
+
 impl<T: Clone + Drop> ParseFlag<T> {
     /// The same flag, with clones of its values; where clones equal their source it is an equal
     /// one. Refused only for want of memory.
@@ -93,6 +106,15 @@ impl<T> ParseArgument<T> {
     {
         self.named = self.named.help(help);
         self
+    }
+
+    /// The same with a help of this text, as [`Doc::from_text`] makes it; refused only for want of
+    /// memory, and then the argument is gone.
+    pub fn help_str(self, alloc: Global, help: &str) -> Result<ParseArgument<T>, AllocError>
+        ensures { IfOk result (λ helped. (pieces : List Piece) × TextPieces help.now pieces
+            × (helped ≡ record self { named = with_help self.named pieces })) }
+    {
+        Ok(self.help(Doc::from_text(alloc, help)?))
     }
 
     /// The argument whose key counts only with its value in its own word (bpaf's

@@ -1,5 +1,7 @@
 //! An item of any kind, as far as a check takes it.
-ghost use Rattle.std.specs.Prelude.{◌≡◌, ◌∷◌, [], IfOk, Some, None, true, false};
+ghost use Rattle.std.specs.Prelude.{◌≡◌, ◌∷◌, [], IfOk, Some, None, true, false, List};
+ghost use Rattle.bpaf_doc.specs.declared.doc.Piece.{Piece};
+ghost use Rattle.bpaf_doc.specs.Fold.{TextPieces};
 ghost use Rattle.bpaf_doc.specs.Print.{shown_as};
 
 use crate::leaves::look::{Look, any_item, take_match};
@@ -90,6 +92,17 @@ impl<I, T, F> ParseAny<I, T, F> {
     {
         self.anywhere = true;
         self
+    }
+}
+
+impl<I, T, F: Drop> ParseAny<I, T, F> {
+    /// The same with a help of this text, as [`Doc::from_text`] makes it; refused only for want of
+    /// memory, and then the parser is gone.
+    pub fn help_str(self, alloc: Global, help: &str) -> Result<ParseAny<I, T, F>, AllocError>
+        ensures { IfOk result (λ helped. (pieces : List Piece) × TextPieces help.now pieces
+            × (helped ≡ record self { help = Some pieces })) }
+    {
+        Ok(self.help(Doc::from_text(alloc, help)?))
     }
 }
 

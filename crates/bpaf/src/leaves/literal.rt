@@ -1,5 +1,7 @@
 //! A word that stands on the line as it is.
-ghost use Rattle.std.specs.Prelude.{◌≡◌, ◌∷◌, [], IfOk, Some, None, true, false};
+ghost use Rattle.std.specs.Prelude.{◌≡◌, ◌∷◌, [], IfOk, Some, None, true, false, List};
+ghost use Rattle.bpaf_doc.specs.declared.doc.Piece.{Piece};
+ghost use Rattle.bpaf_doc.specs.Fold.{TextPieces};
 ghost use Rattle.bpaf_doc.specs.Print.{shown_as};
 
 use crate::leaves::look::{Look, any_item, take_match};
@@ -50,6 +52,15 @@ impl ParseLiteral {
     {
         self.help = Some(help);
         self
+    }
+
+    /// The same with a help of this text, as [`Doc::from_text`] makes it; refused only for want of
+    /// memory, and then the parser is gone.
+    pub fn help_str(self, alloc: Global, help: &str) -> Result<ParseLiteral, AllocError>
+        ensures { IfOk result (λ helped. (pieces : List Piece) × TextPieces help.now pieces
+            × (helped ≡ record self { help = Some pieces })) }
+    {
+        Ok(self.help(Doc::from_text(alloc, help)?))
     }
 
     /// This parser with this metavar, in place of its text. It takes no memory.

@@ -1,5 +1,7 @@
 //! A word of the line, by its place and not by a name.
-ghost use Rattle.std.specs.Prelude.{◌≡◌, IfOk, Some, None};
+ghost use Rattle.std.specs.Prelude.{◌≡◌, IfOk, Some, None, List};
+ghost use Rattle.bpaf_doc.specs.declared.doc.Piece.{Piece};
+ghost use Rattle.bpaf_doc.specs.Fold.{TextPieces};
 ghost use Rattle.bpaf.specs.Positional.{accepts, misplaced};
 
 use bpaf_core::{Parser, value_or_refusal};
@@ -76,6 +78,15 @@ impl<T> ParsePositional<T> {
     {
         self.help = Some(help);
         self
+    }
+
+    /// The same with a help of this text, as [`Doc::from_text`] makes it; refused only for want of
+    /// memory, and then the word is gone.
+    pub fn help_str(self, alloc: Global, help: &str) -> Result<ParsePositional<T>, AllocError>
+        ensures { IfOk result (λ helped. (pieces : List Piece) × TextPieces help.now pieces
+            × (helped ≡ record self { help = Some pieces })) }
+    {
+        Ok(self.help(Doc::from_text(alloc, help)?))
     }
 
     /// An equal word; refused only for want of memory.

@@ -1,4 +1,4 @@
-use Rattle.bpaf_core.specs.AdjacentLaws.{attempts_context}
+use Rattle.bpaf_core.proofs.Leaving.{attempts_context}
 use Rattle.bpaf_core.specs.EndingLaws.{run_ending}
 use Rattle.bpaf_core.proofs.Attempting.{still_inside}
 use Rattle.bpaf_core.proofs.run.Run.run_adjacent.Goals as goal

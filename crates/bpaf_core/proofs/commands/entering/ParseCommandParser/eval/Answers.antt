@@ -2,9 +2,10 @@ use Rattle.std.proofs.Common.{Ok, Err}
 use Rattle.bpaf_laws.specs.Command.{CommandPart}
 use Rattle.bpaf_core.specs.Ending.{EndsRun}
 use Rattle.bpaf_core.specs.EndingLaws.{run_ending}
-use Rattle.bpaf_core.specs.AdjacentLaws.{plain_leaves_nothing, spared_either, takes_one_stretch}
+use Rattle.bpaf_core.proofs.CommandSparing.{spared_either}
+use Rattle.bpaf_core.proofs.Leaving.{plain_leaves_nothing, takes_one_stretch}
 use Rattle.bpaf_core.proofs.Commanding.{inside_answers, inside_refuses, refused_inside}
-use Rattle.bpaf_core.proofs.commands.ParseCommandParser.eval.Goals as goal
+use Rattle.bpaf_core.proofs.commands.entering.ParseCommandParser.eval.Goals as goal
 
 pub returns-in_err-enter-clause-outcome : goal.returns-in_err-enter-clause-outcome
 returns-in_err-enter-clause-outcome g c =

@@ -1,7 +1,7 @@
 use Rattle.std.proofs.Common.{◌∙◌}
 use Rattle.bpaf_words.specs.Arguments.{given_of, name_of}
 use Rattle.bpaf_core.proofs.Running.{fault_told}
-use Rattle.bpaf_core.proofs.options.tell_fault.Goals as goal
+use Rattle.bpaf_core.proofs.options.running.tell_fault.Goals as goal
 
 pub returns-in-Ok : goal.returns-in-Ok
 returns-in-Ok c =

@@ -1,0 +1,133 @@
+//! What a command answers: its word is taken, and what runs inside it ends before or at the end of
+//! its scope.
+ghost use Rattle.std.specs.Prelude.{◌≡◌, ◌<◌, IfOk};
+ghost use Rattle.bpaf_doc.specs.Shape.{part_of};
+ghost use Rattle.bpaf_laws.specs.Command.{CommandPart};
+ghost use Rattle.bpaf_core.specs.Adjacent.{Enters, RunsInside};
+ghost use Rattle.bpaf_core.specs.Command.{IsMissingPart};
+ghost use Rattle.bpaf_core.specs.Ending.{EndsRun};
+
+use crate::commands::ParseCommand;
+use crate::parser::Parser;
+use crate::run::Run;
+use bpaf_doc::{Doc, Item, Meta, Text};
+use bpaf_line::{Error, ParseFailure, State};
+use bpaf_parts::end_message;
+use std::alloc::{AllocError, Global};
+
+impl<T: Drop, P: Parser<T>> ParseCommand<T, P> {
+    /// What it shows; refused only for want of memory.
+    fn item(&self, alloc: Global) -> Result<Item, AllocError>
+        requires { P.can_eval self.now.inner }
+        ensures { IfOk result (λ item. CommandPart self.now.names self.now.help
+            (P.describes self.now.inner) (part_of item)) }
+    {
+        Ok(Item::Command {
+            name: Text::new(alloc, self.names.name())?,
+            short: self.names.first_short(),
+            help: Doc::copy_of(&self.help)?,
+            meta: Box::new(alloc, self.inner.meta(alloc)?)?,
+        })
+    }
+
+    /// That its word isn't there; also the refusal where memory for that is wanted.
+    fn missing(&self, state: &State) -> Error
+        requires { P.can_eval self.now.inner }
+        ensures { IsMissingPart (CommandPart self.now.names self.now.help
+            (P.describes self.now.inner)) state.now result.0 }
+    {
+        match self.item(state.alloc()) {
+            Ok(item) => match state.missing(Some(item)) {
+                Ok(error) => error,
+                Err(refused) => Error::from(refused),
+            },
+            Err(refused) => Error::from(refused),
+        }
+    }
+
+    /// Takes its word, makes the scope run from it to its old end, and puts the name on the path.
+    /// Refused where the word isn't there, and for want of memory.
+    fn enter(&self, state: &mut State) -> Result<(), Error>
+        requires { P.can_eval self.now.inner }
+        ensures { Enters self.now.names (CommandPart self.now.names self.now.help
+            (P.describes self.now.inner)) state.old result state.new }
+    {
+        if !self.names.open(state) {
+            return Err(self.missing(state));
+        }
+        state.push_path(self.names.name())?;
+        Ok(())
+    }
+
+    /// The run over all that is in scope; of an adjacent command the attempts behind its word,
+    /// which stands where the scope begins.
+    fn run_inside(&self, state: &mut State) -> Result<T, ParseFailure>
+        requires can { P.can_eval self.now.inner }
+        requires word { state.old.start < state.old.end }
+        ensures { RunsInside self.now.adjacent T (P.outcome self.now.inner)
+            (EndsRun (P.describes self.now.inner) self.now.info)
+            state.old result state.new }
+    {
+        let run = Run::new(&self.inner, &self.info, self.alloc);
+        if self.adjacent {
+            run.run_adjacent(state)
+        } else {
+            run.run_from(state)
+        }
+    }
+}
+
+/// The value of the inner run over the items behind the command's word; Ok only where that leaves
+/// nothing present in scope.
+///
+/// Where the first present item in scope isn't its word, its item is missing. A refusal of the
+/// inner run is ParseFailure, which nothing but `catch` catches; want of memory stays that. An
+/// adjacent command runs over the unbroken stretch of present items behind its word, or over a part
+/// of it, and leaves what follows to others.
+impl<T: Drop, P: Parser<T>> Parser<T> for ParseCommand<T, P> {
+    ghost use Rattle.std.specs.Prelude.{◌≡◌, IfOk, true, false};
+    ghost use Rattle.bpaf_laws.specs.Command.{CommandDescribes, CommandPart, LeavesNothing};
+    ghost use Rattle.bpaf_laws.specs.Command.{opening_words};
+    ghost use Rattle.bpaf_laws.specs.Laws.{newly};
+    ghost use Rattle.bpaf_laws.specs.OneStretch.{IsStretch};
+    ghost use Rattle.bpaf_laws.specs.Spared.{IsNotMemory, WithoutMemory};
+    ghost use Rattle.bpaf_core.specs.Adjacent.{OutcomeOfCommand, EitherCommandReads};
+    ghost use Rattle.bpaf_core.specs.EndingLaws.{run_ending};
+    ghost use Rattle.bpaf_core.specs.AdjacentLaws.{either_lawful};
+
+    ghost can_eval = { λ p. P.can_eval p.inner };
+
+    ghost describes = { λ p. CommandDescribes p.names p.help (P.describes p.inner) };
+
+    ghost reads = { λ p.
+        EitherCommandReads p.adjacent T (opening_words p.names) (P.reads p.inner) };
+
+    ghost outcome = { λ p. OutcomeOfCommand p (P.outcome p.inner) (P.describes p.inner) };
+
+    fn eval(&self, state: &mut State) -> Result<T, Error>
+        requires { P.can_eval self.now.inner }
+        ensures outcome { OutcomeOfCommand self.now (P.outcome self.now.inner)
+            (P.describes self.now.inner) state.old result state.new }
+        ensures command_leaves_nothing { self.now.adjacent ≡ false →
+            IfOk result (λ _. LeavesNothing state.old state.new) }
+        ensures takes_one_stretch { self.now.adjacent ≡ true →
+            IfOk result (λ _. IsStretch (newly state.old state.new)) }
+        ensures memory_is_never_caught { IsNotMemory result →
+            OutcomeOfCommand self.now (WithoutMemory (P.outcome self.now.inner))
+            (P.describes self.now.inner) state.old result state.new }
+    {
+        self.enter(state)?;
+        match self.run_inside(state) {
+            Ok(value) => Ok(value),
+            Err(failure) => Err(Error(end_message(failure))),
+        }
+    }
+
+    fn meta(&self, alloc: Global) -> Result<Meta, AllocError> {
+        Ok(Meta::Item(self.item(alloc)?))
+    }
+
+    ghost lawful = { λ p. either_lawful (P.lawful p.inner)
+        (run_ending (P.describes p.inner) p.info) p.names
+        (CommandPart p.names p.help (P.describes p.inner)) p.adjacent };
+}

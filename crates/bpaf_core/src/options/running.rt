@@ -1,0 +1,139 @@
+//! A run over words: their line is read, and the parser runs over it.
+ghost use Rattle.std.specs.Prelude.{◌≡◌, IfOk};
+ghost use Rattle.std.specs.Result.{IfErr};
+ghost use Rattle.bpaf_words.specs.Arguments.{given_of, name_of, words_in};
+ghost use Rattle.bpaf_laws.specs.Spared.{WithoutMemory};
+ghost use Rattle.bpaf_core.specs.Known.{ReadsLineOf, ShowsNames, Starts};
+ghost use Rattle.bpaf_core.specs.Dealt.{IsDealtOut};
+ghost use Rattle.bpaf_core.specs.Run.{IsNotWant, RunsWords};
+ghost use Rattle.bpaf_core.specs.Ending.{TellsNoLine};
+ghost use Rattle.bpaf_core.specs.Refusals.{IsOneOfTwelve};
+
+use crate::options::OptionParser;
+use crate::parser::Parser;
+use crate::run::Run;
+use bpaf_line::{Message, ParseFailure, State};
+use bpaf_messages::render;
+use bpaf_parts::renamed;
+use bpaf_words::{Args, Front, Line, LineFault, Words};
+use std::alloc::{AllocError, Global};
+
+impl<T: Drop, P: Parser<T>> OptionParser<T, P> {
+    /// The value that the words give (bpaf's `run_inner`).
+    ///
+    /// Ok(v) comes only where v is dealt out of the words: read off all items of their line but the
+    /// first `--`, each used once. The parser is unchanged, and may run again.
+    ///
+    /// Each refusal has one of twelve names (specs/Refusals.antt): want of memory; a word of
+    /// letters with two readings; help or the version, which is shown; nothing there of what a
+    /// parser looks for; a key without its value; a word on the wrong side of `--`; a text that
+    /// means no value; a value that a check refused; no value of what looks at no item, or of a
+    /// repeat that wants one; an item that another excludes; a key once more than it may stand; an
+    /// item that no parser took. Or the parser hands on that of a run inside it, as commands do.
+    ///
+    /// Want of memory is caught nowhere: where the answer isn't want of memory, nor is that of the
+    /// parser.
+    ///
+    /// ```text
+    /// let options = construct!(verbose, num).to_options(alloc)?;
+    /// options.run_inner(Args::from(&["-v", "-n", "3"]))           Ok((true, 3))
+    /// options.run_inner(Args::from(&["-v", "-n", "3", "x"]))      refused: `x` is not expected ..
+    /// ```
+    pub fn run_inner(&self, args: Args<'_>) -> Result<T, ParseFailure>
+        requires { P.can_eval self.now.inner }
+        ensures outcome { RunsWords T (P.outcome self.now.inner) (P.describes self.now.inner)
+            self.now.info (given_of args.entry) result }
+        ensures named { IfErr result (IsOneOfTwelve (P.outcome self.now.inner)
+            (P.describes self.now.inner) self.now.info (given_of args.entry)) }
+        ensures dealt { IfOk result (λ v. IsDealtOut T (P.reads self.now.inner)
+            (P.describes self.now.inner) self.now.info (given_of args.entry) v) }
+        ensures memory_is_never_caught { IsNotWant result →
+            RunsWords T (WithoutMemory (P.outcome self.now.inner)) (P.describes self.now.inner)
+            self.now.info (given_of args.entry) result }
+    {
+        match self.construct(args) {
+            Ok(mut state) => Run::new(&self.inner, &self.info, self.alloc).run_from(&mut state),
+            Err(message) => Err(tell_fault(self.alloc, args, message)),
+        }
+    }
+
+    /// The state at the beginning of the words' line.
+    fn construct(&self, args: Args<'_>) -> Result<State, Message>
+        requires { P.can_eval self.now.inner }
+        ensures { Starts (P.describes self.now.inner) self.now.info (given_of args.entry) result }
+    {
+        let line = self.line(args.words())?;
+        Ok(State::of_line(self.alloc, args, line)?)
+    }
+
+    /// The line of the words: by the known short names, where a word is joined letters; else it is
+    /// the same whatever names are known, and the parser isn't asked for them.
+    fn line(&self, words: Words<'_>) -> Result<Line, LineFault>
+        requires { P.can_eval self.now.inner }
+        ensures { ReadsLineOf (P.describes self.now.inner) self.now.info (words_in words.entry)
+            result }
+    {
+        let front = Front::new(self.alloc, words, self.info.numbers)?;
+        if front.is_whole(words) {
+            return Ok(front.line(self.alloc, words)?);
+        }
+        let (flags, arguments) = self.known_shorts()?;
+        front.line_by(self.alloc, words, &flags, &arguments)
+    }
+
+    /// The known short names, by which joined words are read: those of the shown flags, of help and
+    /// of version as flags, and those of the shown arguments.
+    fn known_shorts(&self) -> Result<(Vec<char>, Vec<char>), AllocError>
+        requires { P.can_eval self.now.inner }
+        ensures { IfOk result (λ r. ShowsNames (P.describes self.now.inner) self.now.info
+            r.0.items r.1.items) }
+    {
+        let meta = self.inner.meta(self.alloc)?;
+        let mut flags = Vec::new(self.alloc);
+        let mut arguments = Vec::new(self.alloc);
+        meta.collect_shorts(&mut flags, &mut arguments)?;
+        self.info.push_shorts(&mut flags)?;
+        Ok((flags, arguments))
+    }
+}
+
+/// What is told of words that have no line: there is no state, so one without words stands for it,
+/// of the same set name. Or want of memory for that.
+fn tell_fault(alloc: Global, args: Args<'_>, message: Message) -> ParseFailure
+    ensures { TellsNoLine (name_of args.entry) message result }
+{
+    let words: [&str; 0] = [];
+    match State::construct(alloc, renamed(Args::from(&words), args.name()), &[], &[]) {
+        Ok(state) => render(message, &state),
+        Err(fault) => {
+            drop(fault);
+            drop(message);
+            ParseFailure::Memory
+        }
+    }
+}
+
+impl<T: Drop, P: Parser<T> + Drop> OptionParser<T, P> {
+    /// The value that the words give, and the end of the parser: [`OptionParser::run_inner`] for a
+    /// parser that runs once. bpaf has no such call.
+    ///
+    /// The parser is handed over, so a function may end in this call also where the parser borrows.
+    ///
+    /// ```text
+    /// construct!(Options { verbose, num }).to_options(alloc)?.run_once(Args::from(words))
+    /// ```
+    pub fn run_once(self, args: Args<'_>) -> Result<T, ParseFailure>
+        requires { P.can_eval self.inner }
+        ensures outcome { RunsWords T (P.outcome self.inner) (P.describes self.inner)
+            self.info (given_of args.entry) result }
+        ensures named { IfErr result (IsOneOfTwelve (P.outcome self.inner)
+            (P.describes self.inner) self.info (given_of args.entry)) }
+        ensures dealt { IfOk result (λ v. IsDealtOut T (P.reads self.inner)
+            (P.describes self.inner) self.info (given_of args.entry) v) }
+        ensures memory_is_never_caught { IsNotWant result →
+            RunsWords T (WithoutMemory (P.outcome self.inner)) (P.describes self.inner)
+            self.info (given_of args.entry) result }
+    {
+        self.run_inner(args)
+    }
+}
