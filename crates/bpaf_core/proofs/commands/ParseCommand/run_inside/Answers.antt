@@ -1,6 +1,6 @@
 use Rattle.bpaf_core.specs.Ending.{EndsRun}
 use Rattle.bpaf_core.proofs.Commanding.{runs_plain}
-use Rattle.bpaf_core.proofs.commands.entering.ParseCommand.run_inside.Goals as goal
+use Rattle.bpaf_core.proofs.commands.ParseCommand.run_inside.Goals as goal
 
 pub returns-else-self : goal.returns-else-self
 returns-else-self g c =

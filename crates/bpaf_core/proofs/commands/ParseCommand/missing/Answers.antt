@@ -1,6 +1,6 @@
 use Rattle.std.proofs.Common.{inr}
 use Rattle.bpaf_doc.specs.Shape.{part_of}
-use Rattle.bpaf_core.proofs.commands.entering.ParseCommand.missing.Goals as goal
+use Rattle.bpaf_core.proofs.commands.ParseCommand.missing.Goals as goal
 
 pub returns-in-Ok-missing : goal.returns-in-Ok-missing
 returns-in-Ok-missing g c =

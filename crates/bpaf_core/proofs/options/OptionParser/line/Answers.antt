@@ -1,7 +1,7 @@
 use Rattle.std.proofs.Common.{◌∙◌, [], ap}
 use Rattle.bpaf_words.specs.Arguments.{words_in}
 use Rattle.bpaf_core.proofs.Running.{read_by_shown}
-use Rattle.bpaf_core.proofs.options.running.OptionParser.line.Goals as goal
+use Rattle.bpaf_core.proofs.options.OptionParser.line.Goals as goal
 
 pub is_whole-requires : goal.is_whole-requires
 is_whole-requires g c =

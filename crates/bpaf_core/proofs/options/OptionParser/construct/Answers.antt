@@ -1,6 +1,6 @@
 use Rattle.bpaf_words.specs.Arguments.{given_of}
 use Rattle.bpaf_core.proofs.Running.{marker_within, starts_at}
-use Rattle.bpaf_core.proofs.options.running.OptionParser.construct.Goals as goal
+use Rattle.bpaf_core.proofs.options.OptionParser.construct.Goals as goal
 
 pub of_line-requires : goal.of_line-requires
 of_line-requires g c = marker_within _ c.args.self.now.info _ c.in_ok-line.line c.in_ok-line.ensures
