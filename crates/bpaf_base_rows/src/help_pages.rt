@@ -42,6 +42,18 @@ fn headed(
     printed(alloc, path.as_slice(), header.as_ref(), shown, extra)
 }
 
+// The page of a tree and of a description of what stands behind it.
+fn page_with(
+    alloc: Global,
+    shown: &Meta,
+    extra: &str,
+    name: &str,
+    header: &str,
+) -> Result<String, AllocError> {
+    let extra = tree(alloc, extra)?;
+    headed(alloc, name, header, shown, &extra)
+}
+
 // The page of a description and of what stands behind it.
 fn page(
     alloc: Global,
@@ -51,8 +63,7 @@ fn page(
     header: &str,
 ) -> Result<String, AllocError> {
     let shown = tree(alloc, lines)?;
-    let extra = tree(alloc, extra)?;
-    headed(alloc, name, header, &shown, &extra)
+    page_with(alloc, &shown, extra, name, header)
 }
 
 const HELP: &str = "flag h help Prints help information";
