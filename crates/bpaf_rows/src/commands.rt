@@ -1,8 +1,8 @@
 //! Commands as a program writes them, and the name by which it is called.
-use crate::shared::{num, prints, value, verbose};
-use bpaf::params::{ParseArgument, ParseFlag};
+use crate::shared::{num, prints, value};
+use bpaf::params::ParseArgument;
 use bpaf::parsers::ParseCommand;
-use bpaf::{Args, Doc, Parser, appname, command, construct};
+use bpaf::{Args, Doc, Parser, appname, command};
 use std::alloc::{AllocError, Global};
 use std::test::Fail;
 
@@ -15,8 +15,8 @@ fn build(alloc: Global) -> Result<ParseCommand<u64, ParseArgument<u64>>, AllocEr
 
 /// The command `run` over a number, by the method, with a help.
 fn run(alloc: Global) -> Result<ParseCommand<u64, ParseArgument<u64>>, AllocError> {
-    let help = Doc::from_text(alloc, "Runs it")?;
-    Ok(num(alloc)?.to_options(alloc)?.command("run")?.help(help))
+    let run = num(alloc)?.to_options(alloc)?.command("run")?;
+    run.help_str("Runs it")
 }
 
 /// One of the two.
@@ -45,52 +45,6 @@ fn commands_are_called(rt: HostRuntime) -> Result<(), Fail> {
     prints(&rt, either(a, &["-b", "-n", "3"]), "None")?;
     prints(&rt, help_of(build(a)), "Some(\"Builds it\")")?;
     prints(&rt, help_of(run(a)), "Some(\"Runs it\")")
-}
-
-/// The command `c` over a switch.
-fn innermost(alloc: Global) -> Result<ParseCommand<bool, ParseFlag<bool>>, AllocError> {
-    verbose(alloc)?.to_options(alloc)?.command("c")
-}
-
-/// The command `a` over a switch and another parser.
-fn in_a<T: Drop, P: Parser<T> + Drop>(
-    alloc: Global,
-    inner: P,
-    words: &[&str],
-) -> Result<Option<(bool, T)>, AllocError>
-    requires { P.can_eval inner }
-{
-    let v = verbose(alloc)?;
-    let options = construct!(v, inner).to_options(alloc)?;
-    value(alloc, options.command("a")?, words)
-}
-
-/// The command `b` over a switch and another parser, in the command `a` over a switch.
-fn in_both<T: Drop, P: Parser<T> + Drop>(
-    alloc: Global,
-    inner: P,
-    words: &[&str],
-) -> Result<Option<(bool, (bool, T))>, AllocError>
-    requires { P.can_eval inner }
-{
-    let v = verbose(alloc)?;
-    let options = construct!(v, inner).to_options(alloc)?;
-    in_a(alloc, options.command("b")?, words)
-}
-
-/// A command in a command in a command, each with a switch of the same name.
-fn three(alloc: Global, words: &[&str]) -> Result<Option<(bool, (bool, bool))>, AllocError> {
-    in_both(alloc, innermost(alloc)?, words)
-}
-
-#[test]
-fn commands_stand_in_commands(rt: HostRuntime) -> Result<(), Fail> {
-    let a = rt.alloc();
-    let all = "Some((true, (true, true)))";
-    prints(&rt, three(a, &["a", "-v", "b", "-v", "c", "-v"]), all)?;
-    let outer = "Some((true, (false, false)))";
-    prints(&rt, three(a, &["a", "b", "c", "-v"]), outer)?;
-    prints(&rt, three(a, &["a", "b", "c", "x"]), "None")
 }
 
 /// The name of a program.

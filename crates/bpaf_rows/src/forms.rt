@@ -10,7 +10,7 @@ use std::test::Fail;
 
 /// How much is told.
 #[derive(Clone, Debug, Drop)]
-enum Level {
+enum Telling {
     Quiet,
     Normal,
 }
@@ -20,7 +20,7 @@ enum Level {
 struct Settings {
     verbose: bool,
     num: u64,
-    level: Level,
+    level: Telling,
 }
 
 /// A struct with one numbered field.
@@ -87,7 +87,7 @@ fn fields_are_named_in_place(rt: HostRuntime) -> Result<(), Fail> {
 
 /// A struct by the names of its fields.
 fn named_fields(alloc: Global, words: &[&str]) -> Result<Option<Settings>, AllocError> {
-    let level = short(alloc, 'q')?.flag(Level::Quiet, Level::Normal);
+    let level = short(alloc, 'q')?.flag(Telling::Quiet, Telling::Normal);
     let record = construct!(Settings {
         verbose(verbose(alloc)?),
         num(num(alloc)?),

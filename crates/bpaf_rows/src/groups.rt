@@ -1,28 +1,9 @@
-//! Adjacent groups: which products make none, and how often a group is evaluated.
-use crate::shared::{num, value};
-use bpaf::{AdjacentError, Parser, construct, long, positional, pure};
+//! Adjacent groups: how often one is evaluated.
+use crate::shared::value;
+use bpaf::{Parser, construct, long, positional};
 use std::alloc::{AllocError, Global};
 use std::cell::Cell;
 use std::test::Fail;
-
-/// Whether a product that shows no item first is refused as such.
-fn without_first_item(alloc: Global) -> Result<bool, AllocError> {
-    let product = construct!(a(pure(1)), n(num(alloc)?));
-    match product.adjacent(alloc) {
-        Ok(group) => {
-            drop(group);
-            Ok(false)
-        }
-        Err(AdjacentError::NoFirstItem) => Ok(true),
-        Err(AdjacentError::Memory) => Err(AllocError),
-    }
-}
-
-#[test]
-fn group_without_first_item(rt: HostRuntime) -> Result<(), Fail> {
-    assert!(rt; without_first_item(rt.alloc())?);
-    Ok(())
-}
 
 /// How often the closure of a group's field is called; None where the group can't be made.
 fn calls_inside(alloc: Global, words: &[&str]) -> Result<Option<u64>, AllocError> {
