@@ -1,8 +1,9 @@
 //! A group is looked for at each present place of the scope, from left to right.
 ghost use Rattle.std.specs.Prelude.{◌≡◌, ◌+◌, ◌≤◌, None, Some, Ok, Err, length, IfSome, MatchOption};
 ghost use Rattle.bpaf_doc.specs.Shape.{part_of};
-ghost use Rattle.bpaf_laws.specs.AdjacentGroup.{GroupOutcome, Tries, TriesAt};
+ghost use Rattle.bpaf_laws.specs.AdjacentGroup.{GroupOutcome, Tries};
 ghost use Rattle.bpaf_laws.specs.AdjacentGroup.{HasNoStart, IsGroupStart, place_count};
+ghost use Rattle.bpaf.specs.PlaceTried.{TriesAt};
 ghost use Rattle.bpaf.specs.Remembering.{IsRemembered};
 ghost use Rattle.bpaf.specs.Remembering.{failure_of};
 
