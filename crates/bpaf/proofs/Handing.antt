@@ -14,7 +14,8 @@ use Rattle.bpaf_line.specs.Combining.{Combines, CombinesSpared}
 use Rattle.bpaf_line.specs.Messages.{can_catch, is_memory}
 use Rattle.bpaf_line.specs.Stretches.{IsStretchFrom}
 use Rattle.bpaf_line.specs.Situation.{Situation, with_scope}
-use Rattle.bpaf_laws.specs.Choice.{ChoiceOutcome, Chosen, EqualDepths, Winner}
+use Rattle.bpaf_laws.proofs.ChoiceLaws.{not_winner}
+use Rattle.bpaf_laws.specs.Choice.{branch_of, ChoiceOutcome, Chosen, EqualDepths}
 use Rattle.bpaf_laws.specs.Command.{Called, IsOpenedAt, inside, opening_words}
 use Rattle.bpaf_laws.specs.Laws.{Lawful}
 use Rattle.bpaf_laws.specs.Reading.{Outcome, Readings}
@@ -55,13 +56,6 @@ combined_shows first second both doc full o is =
     ⊎_elim (λ want. absurd cc)
     (λ spared. spared_shows first second both (inner_answer doc full) spared.1 is doc full refl) o
 
--- the value of a branch that won is no error
-no_winner : {T : Type 0} (x : T) (sa : Situation) (y : T) (sb : Situation) (one : Bool)
-    (place : Option ℕ) (e : Error) (t : Situation) → ¬ (Winner x sa y sb one place (Err e) t)
-no_winner x sa y sb one None e t won = cc
-no_winner x sa y sb true (Some place) e t won = cc
-no_winner x sa y sb false (Some place) e t won = cc
-
 module _ (showing : Showing) {T : Type 0} {first second : Outcome T}
     (one : HandsOn showing first) (other : HandsOn showing second) where
   module _ (s t : Situation) (e : Error) (doc : List Piece) (full : Bool)
@@ -91,18 +85,18 @@ module _ (showing : Showing) {T : Type 0} {first second : Outcome T}
         → first s a sa → second s b sb → EqualDepths s a sa b sb (Err e) t
         → CameTo showing s doc full
     equal_show (Ok x) sa (Ok y) sb f g o =
-        ⊎_elim (λ neither. absurd (no_value x neither.1))
-        (λ won. absurd (no_winner x sa y sb won.1.0 won.1.1 e t won.1.3)) o
+        ⊎_elim (λ neither. absurd (no_value x neither.1.0))
+        (λ won. absurd (not_winner (branch_of x sa) (branch_of y sb) won.1.0 e t won.1.2)) o
       where
         no_value : (v : T) → ¬ (◌≡◌ {A = Result T Error} (Err e) (Ok v))
         no_value v same = cc
     equal_show (Ok x) sa (Err d) sb f g o =
-        ⊎_elim (λ wrong. of_second (Err d) sb g wrong.1) (λ right. absurd (no_value x right.1)) o
+        ⊎_elim (λ wrong. of_second (Err d) sb g wrong.1) (λ right. absurd (no_value x right.1.0)) o
       where
         no_value : (v : T) → ¬ (◌≡◌ {A = Result T Error} (Err e) (Ok v))
         no_value v same = cc
     equal_show (Err d) sa (Ok y) sb f g o =
-        ⊎_elim (λ wrong. of_first (Err d) sa f wrong.1) (λ right. absurd (no_value y right.1)) o
+        ⊎_elim (λ wrong. of_first (Err d) sa f wrong.1) (λ right. absurd (no_value y right.1.0)) o
       where
         no_value : (v : T) → ¬ (◌≡◌ {A = Result T Error} (Err e) (Ok v))
         no_value v same = cc

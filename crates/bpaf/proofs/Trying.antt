@@ -7,11 +7,11 @@ use Rattle.bpaf_line.specs.declared.mark.Mark.{Mark}
 use Rattle.bpaf_line.specs.Marks.{Fits, undone}
 use Rattle.bpaf_line.specs.Messages.{is_memory}
 use Rattle.bpaf_line.specs.Situation.{Situation}
-use Rattle.bpaf_laws.specs.AdjacentGroup.{Failure, Probe, Tries, TriesAt, failed, found, longer}
-use Rattle.bpaf_laws.specs.AdjacentGroup.{no_memory, skipped}
+use Rattle.bpaf_laws.specs.AdjacentGroup.{Failure, Probe, Tries, longer}
 use Rattle.bpaf_laws.specs.Laws.{Keeps, Lawful, newly}
 use Rattle.bpaf_laws.specs.Reading.{Outcome, Readings}
 use Rattle.bpaf_laws.proofs.AdjacentGroupLaws.{tries_keep}
+use Rattle.bpaf.specs.PlaceTried.{TriesAt, failed, found, no_memory, skipped}
 use Rattle.bpaf.specs.Remembering.{Takes, HasPlaceIf}
 
 -- where attempts end from a mark on: back there, and all is kept

@@ -4,4 +4,5 @@ pub mod Matching
 pub mod Asked
 pub mod Marker
 pub mod Remembering
+pub mod PlaceTried
 pub mod Leaves

@@ -18,10 +18,10 @@ use Rattle.bpaf_line.specs.Situation.{Situation, is_taken, in_scope, is_open, it
 use Rattle.bpaf_line.specs.Situation.{open_count, take_place}
 use Rattle.bpaf_line.specs.Taking.{IsFirst, HasNone, is_match, open_item}
 use Rattle.bpaf_line.specs.declared.error.Error.{Error}
-use Rattle.bpaf_laws.proofs.ChoiceLaws.{choice_lawful}
+use Rattle.bpaf_laws.proofs.ChoiceLaws.{choice_lawful, not_winner}
 use Rattle.bpaf_laws.proofs.CountingLaws.{same_took_none}
 use Rattle.bpaf_laws.proofs.FlagLaws.{flag_lawful}
-use Rattle.bpaf_laws.specs.Choice.{BranchesEval, Chosen, EqualDepths, Winner, depth}
+use Rattle.bpaf_laws.specs.Choice.{BranchesEval, Chosen, EqualDepths, Winner, branch_of, depth}
 use Rattle.bpaf_laws.specs.Repeat.{Turns, UntilStop, is_nil}
 use Rattle.bpaf_laws.specs.Turn.{TurnOutcome, stops_step, stops_spared, is_untouched}
 use Rattle.bpaf_batteries.proofs.Keys.{KeyEval, key_ran, not_both}
@@ -239,16 +239,16 @@ module _ {T : Type 0} (clones : T → T → Type 0) (one other : ParseFlag T) (s
     -- both took a key: the one that wins took the leftmost of the two
     won : (t : Situation) (p q : ℕ) (x y v : T)
         → IsFirst (is_key one) s p → IsFirst (is_key other) s q
-        → clones one.present x → clones other.present y → (here : Bool) (place : Option ℕ)
-        → IsWinner (take_place s p) (take_place s q) (here, place)
-        → Winner x (take_place s p) y (take_place s q) here place (Ok v) t
+        → clones one.present x → clones other.present y → (winner : Bool × Option ℕ)
+        → IsWinner (take_place s p) (take_place s q) winner
+        → Winner (branch_of x (take_place s p)) (branch_of y (take_place s q)) winner (Ok v) t
         → TookKey clones one other s v t
-    won t p q x y v mine theirs value_one value_other here None winner result =
+    won t p q x y v mine theirs value_one value_other (here, None) winner result =
         let there = match_is_open (is_key one) s p mine.matches in
         let two = two_places p q mine.matches theirs.matches in
         absurd (true≢false
         (sym (taken_here s p) ∙ (winner.0 p ∙ (taken_other s q p two ∙ open_not_taken s p there))))
-    won t p q x y v mine theirs value_one value_other true (Some w) winner result =
+    won t p q x y v mine theirs value_one value_other (true, Some w) winner result =
         let open_p = match_is_open (is_key one) s p mine.matches in
         let open_q = match_is_open (is_key other) s q theirs.matches in
         let two = two_places p q mine.matches theirs.matches in
@@ -259,7 +259,7 @@ module _ {T : Type 0} (clones : T → T → Type 0) (one other : ParseFlag T) (s
         took_one clones one other s t p v mine (λ r before. theirs.first r (omega arith))
         (subst (clones one.present) same value_one)
         (alike_conflicts (take_place s p) (take_place s q) w t result.1)
-    won t p q x y v mine theirs value_one value_other false (Some w) winner result =
+    won t p q x y v mine theirs value_one value_other (false, Some w) winner result =
         let open_p = match_is_open (is_key one) s p mine.matches in
         let open_q = match_is_open (is_key other) s q theirs.matches in
         let two = two_places p q mine.matches theirs.matches in
@@ -279,54 +279,49 @@ module _ {T : Type 0} (clones : T → T → Type 0) (one other : ParseFlag T) (s
         (λ neither. absurd (true≢false
         (sym (and_parts (is_untouched s sa) (is_untouched s sb) neither.0).0
         ∙ ran_touched one x sa f)))
-        (λ winner. won t f.0 g.0 x y v f.1 g.1 f.3 g.3 winner.1.0 winner.1.1
-        (subst (λ m. IsWinner m (take_place s g.0) (winner.1.0, winner.1.1)) f.2
-        (subst (λ m. IsWinner sa m (winner.1.0, winner.1.1)) g.2 winner.1.2))
-        (subst (λ m. Winner x m y (take_place s g.0) winner.1.0 winner.1.1 (Ok v) t) f.2
-        (subst (λ m. Winner x sa y m winner.1.0 winner.1.1 (Ok v) t) g.2 winner.1.3)))
+        (λ winner. won t f.0 g.0 x y v f.1 g.1 f.3 g.3 winner.1.0
+        (subst (λ m. IsWinner m (take_place s g.0) winner.1.0) f.2
+        (subst (λ m. IsWinner sa m winner.1.0) g.2 winner.1.1))
+        (subst (λ m. Winner (branch_of x m) (branch_of y (take_place s g.0)) winner.1.0 (Ok v) t)
+        f.2
+        (subst (λ m. Winner (branch_of x sa) (branch_of y m) winner.1.0 (Ok v) t) g.2 winner.1.2)))
         o
     equal_took (Ok x) sa (Err e) sb v t f g o = ⊎_elim
         (λ wrong. absurd (no_value v e wrong.1))
         (λ right.
-        let same : x ≡ v = let r = right.1 in cc in
+        let same : x ≡ v = let r = right.1.0 in cc in
         took_one clones one other s t f.0 v f.1 (λ r before. g.0 r)
         (subst (clones one.present) same f.3)
-        (alike_same t (take_place s f.0) (right.2 ∙ f.2)))
+        (alike_same t (take_place s f.0) (right.1.1 ∙ f.2)))
         o
     equal_took (Err e) sa (Ok y) sb v t f g o = ⊎_elim
         (λ wrong. absurd (no_value v e wrong.1))
         (λ right.
-        let same : y ≡ v = let r = right.1 in cc in
+        let same : y ≡ v = let r = right.1.0 in cc in
         took_other clones one other s t g.0 v g.1 (λ r before. f.0 r)
         (subst (clones other.present) same g.3)
-        (alike_same t (take_place s g.0) (right.2 ∙ g.2)))
+        (alike_same t (take_place s g.0) (right.1.1 ∙ g.2)))
         o
     equal_took (Err e) sa (Err d) sb v t f g o = absurd (no_value v o.0.0 o.0.2)
-
-  -- the branch that won has a value
-  not_winner : (x : T) (sa : Situation) (y : T) (sb : Situation) (here : Bool) (place : Option ℕ)
-      (e : Error) (t : Situation) → Winner x sa y sb here place (Err e) t → ⊥
-  not_winner x sa y sb here None e t won = no_value x e (sym won.0)
-  not_winner x sa y sb true (Some place) e t won = no_value x e (sym won.0)
-  not_winner x sa y sb false (Some place) e t won = no_value y e (sym won.0)
 
   -- a refusal at equal depths comes where neither has a key
   equal_none : (a : Result T Error) (sa : Situation) (b : Result T Error) (sb : Situation)
       (e : Error) (t : Situation) → KeyEval clones one s a sa → KeyEval clones other s b sb
       → EqualDepths s a sa b sb (Err e) t → HasNone (is_either one other) s
   equal_none (Ok x) sa (Ok y) sb e t f g o = ⊎_elim
-      (λ neither. absurd (no_value x e (sym neither.1)))
-      (λ winner. absurd (not_winner x sa y sb winner.1.0 winner.1.1 e t winner.1.3))
+      (λ neither. absurd (no_value x e (sym neither.1.0)))
+      (λ winner.
+      absurd (not_winner (branch_of x sa) (branch_of y sb) winner.1.0 e t winner.1.2))
       o
   equal_none (Ok x) sa (Err d) sb e t f g o = ⊎_elim
       (λ wrong. absurd (true≢false
       (sym (and_parts (is_untouched s sa) _ wrong.0).0 ∙ ran_touched one x sa f)))
-      (λ right. absurd (no_value x e (sym right.1)))
+      (λ right. absurd (no_value x e (sym right.1.0)))
       o
   equal_none (Err d) sa (Ok y) sb e t f g o = ⊎_elim
       (λ wrong. absurd (true≢false
       (sym (and_parts (is_untouched s sb) _ wrong.0).0 ∙ ran_touched other y sb g)))
-      (λ right. absurd (no_value y e (sym right.1)))
+      (λ right. absurd (no_value y e (sym right.1.0)))
       o
   equal_none (Err d) sa (Err c) sb e t f g o =
       λ q. neither_at (is_key one) (is_key other) (open_item s q) (f.0 q) (g.0 q)

@@ -1,12 +1,12 @@
 -- A group by what its constructor makes of the values: here the values themselves.
-use Rattle.std.proofs.Common.{◌≡◌, ◌+◌, ℕ, Result, Ok, Err, Option, Some, None, ⊎_elim}
-use Rattle.std.proofs.Common.{inl, inr}
+use Rattle.std.proofs.Common.{◌≡◌, ◌+◌, ℕ, List, [], ◌∷◌, Result, Ok, Err, ⊎_elim, inl, inr}
 use Rattle.bpaf_doc.specs.Shape.{Part}
 use Rattle.bpaf_line.specs.Situation.{Situation}
 use Rattle.bpaf_line.specs.declared.error.Error.{Error}
 use Rattle.bpaf_laws.specs.AdjacentGroup.{Failure, GroupOutcome, Narrowed, Probe, Searches, Tries}
-use Rattle.bpaf_laws.specs.AdjacentGroup.{TriesAt, again, answered, failed, found, no_memory, on}
-use Rattle.bpaf_laws.specs.AdjacentGroup.{over, refused, skipped, value, wanted, whole, place_count}
+use Rattle.bpaf_laws.specs.AdjacentGroup.{TriedInVain, again, all_failed, answered, gave}
+use Rattle.bpaf_laws.specs.AdjacentGroup.{none_gave, none_tried, not_taken, place_count, refused}
+use Rattle.bpaf_laws.specs.AdjacentGroup.{wanted, whole}
 use Rattle.bpaf_laws.specs.Product.{ProductOutcome}
 use Rattle.bpaf_laws.specs.Reading.{HasPlace, IsEmptyShare, Outcome, Share}
 use Rattle.bpaf_described.specs.Groups.{BegunOutcome}
@@ -44,31 +44,26 @@ module _ {T : Type 0} (inner more : Outcome T) (allows : Allows inner more) (s :
     takes = probe.takes;
   }
 
-  -- what comes of a place
-  tried_more : (a stop : ℕ) (best : Option Failure) (r : Result (Option T) Error)
-      (after : Option Failure) (t : Situation) → TriesAt T inner s a stop best r after t
-      → TriesAt T more s a stop best r after t
-  tried_more a stop best r after t (skipped probe) =
-      skipped (probe_more a stop IsEmptyShare probe)
-  tried_more a stop best r after t (failed e left probe tries spared) =
-      failed e left (probe_more a stop HasPlace probe) (tries_more a (Err e) left tries) spared
-  tried_more a stop best r after t (found v left probe tries) =
-      found v left (probe_more a stop HasPlace probe) (tries_more a (Ok v) left tries)
-  tried_more a stop best r after t (no_memory e memory) = no_memory e memory
+  -- places that were tried in vain
+  vain_more : (first : Part) (from : ℕ) (failures : List Failure)
+      → TriedInVain T inner s first from failures → TriedInVain T more s first from failures
+  vain_more first from failures none_tried = none_tried
+  vain_more first from failures (not_taken from' a failures' before start probe) =
+      not_taken from' a failures' (vain_more first from' failures' before) start
+      (probe_more a (a + place_count first) IsEmptyShare probe)
+  vain_more first from failures (all_failed from' a failures' e t before start probe tries spared) =
+      all_failed from' a failures' e t (vain_more first from' failures' before) start
+      (probe_more a (a + place_count first) HasPlace probe) (tries_more a (Err e) t tries) spared
 
   -- so is each answer of a group over the one that of a group over the other
-  group_more : (first : Part) (from : ℕ) (best : Option Failure) (r : Result T Error)
-      (t : Situation) → Searches T inner s first from best r t
-      → Searches T more s first from best r t
-  group_more first from best r t (over from' best' e t' none ends) = over from' best' e t' none ends
-  group_more first from best r t (on from' a best' after r' t' start tried rest) =
-      on from' a best' after r' t' start
-      (tried_more a (a + place_count first) best' (Ok None) after s tried)
-      (group_more first (a + 1) after r' t' rest)
-  group_more first from best r t (value from' a best' after v t' start tried) =
-      value from' a best' after v t' start
-      (tried_more a (a + place_count first) best' (Ok (Some v)) after t' tried)
-  group_more first from best r t (wanted from' best' e memory) = wanted from' best' e memory
+  group_more : (first : Part) (r : Result T Error) (t : Situation) → Searches T inner s first r t
+      → Searches T more s first r t
+  group_more first r t (gave from a failures v t' before start probe tries) =
+      gave from a failures v t' (vain_more first from failures before) start
+      (probe_more a (a + place_count first) HasPlace probe) (tries_more a (Ok v) t' tries)
+  group_more first r t (none_gave from failures e t' before none ends) =
+      none_gave from failures e t' (vain_more first from failures before) none ends
+  group_more first r t (wanted e memory) = wanted e memory
 
 -- a constructor that makes of values these values
 abbrev pub IsSame : {V : Type 0} → (V → V → Type 0) → Type 0
@@ -90,12 +85,12 @@ begun_by {V} fast makes told first s t (Ok v) ran same =
     let more = same_product fast makes same in (
       ran.0,
       group_more (ProductOutcome fast makes) (ProductOutcome fast (λ x y. y ≡ x)) more s first
-          s.start None (Ok ran.0) t ran.1,
+          (Ok ran.0) t ran.1,
       ran.2,
     )
 begun_by {V} fast makes told first s t (Err e) ran same =
     let more = same_product fast makes same in
     let by = group_more (ProductOutcome fast makes) (ProductOutcome fast (λ x y. y ≡ x)) more s
-    first s.start None in
+    first in
     ⊎_elim (λ refusal. inl (by (Err e) t refusal))
     (λ short. inr (short.0, by (Ok short.0) t short.1, short.2)) ran

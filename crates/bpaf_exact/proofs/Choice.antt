@@ -14,7 +14,8 @@ use Rattle.bpaf_line.specs.Taking.{open_item}
 use Rattle.bpaf_line.proofs.Places.{present_in_line}
 use Rattle.bpaf_line.proofs.Matches.{open_has_item}
 use Rattle.bpaf_words.specs.Items.{any_item}
-use Rattle.bpaf_laws.specs.Choice.{ChoiceOutcome, EqualDepths, OneOk, Winner}
+use Rattle.bpaf_laws.proofs.ChoiceLaws.{not_winner}
+use Rattle.bpaf_laws.specs.Choice.{branch_of, ChoiceOutcome, EqualDepths, OneOk, Winner}
 use Rattle.bpaf_laws.specs.Reading.{Outcome}
 use Rattle.bpaf_laws.specs.Spared.{IsNotMemory}
 use Rattle.bpaf_laws.specs.Turn.{is_untouched}
@@ -307,14 +308,14 @@ module _ (T : Type 0) (a b : Outcome T) (qa qb : Roles) (va vb : LinePiece → T
       absurd (omega arith)
 
   -- the winner's value, where both answered
-  winner_ok : (s sa sb t : Situation) (x y v : T) (first : Bool) (place : Option ℕ) → IsWhole s
+  winner_ok : (s sa sb t : Situation) (x y v : T) (winner : Bool × Option ℕ) → IsWhole s
       → AlternativeOk T qa va s x sa → AlternativeOk T qb vb s y sb
-      → IsWinner sa sb (first, place) → Winner x sa y sb first place (Ok v) t
+      → IsWinner sa sb winner → Winner (branch_of x sa) (branch_of y sb) winner (Ok v) t
       → AlternativeOk T (either qa qb) vr s v t
-  winner_ok s sa sb t x y v first None w i j win k =
+  winner_ok s sa sb t x y v (first, None) w i j win k =
       absurd (never_same qa qb (either qa qb) u i.takes j.takes
       (cells_same sb sa (steady_both i.steady j.steady) win.0))
-  winner_ok s sa sb t x y v true (Some p) w i j win k =
+  winner_ok s sa sb t x y v (true, Some p) w i j win k =
       let d : x ≡ v = cc in
       let free = differ (is_taken sa p) (is_taken sb p) win.0.differs win.1 in
       subst (λ z. AlternativeOk T (either qa qb) vr s z t) d
@@ -322,7 +323,7 @@ module _ (T : Type 0) (a b : Outcome T) (qa qb : Roles) (va vb : LinePiece → T
       (took_other qb vb s sa sb y j
       (left_of s sa sb p w i.steady j.steady win.1 free win.0.first))
       (saved_steady sa sb t p k.1) (cells_same sa t (saved_steady sa sb t p k.1) k.1.taken))
-  winner_ok s sa sb t x y v false (Some p) w i j win k =
+  winner_ok s sa sb t x y v (false, Some p) w i j win k =
       let d : y ≡ v = cc in
       let here = differ_not (is_taken sa p) (is_taken sb p) win.0.differs win.1 in
       subst (λ z. AlternativeOk T (either qa qb) vr s z t) d
@@ -333,26 +334,26 @@ module _ (T : Type 0) (a b : Outcome T) (qa qb : Roles) (va vb : LinePiece → T
 
   -- the value of one, where the other refused
   first_alone_ok : (s sa sb t : Situation) (x v : T) (e : Error) → IsWhole s → a s (Ok x) sa
-      → b s (Err e) sb → is_memory e.0 ≡ false → OneOk s x sa e (Ok v) t
+      → b s (Err e) sb → is_memory e.0 ≡ false → OneOk s (branch_of x sa) e (Ok v) t
       → AlternativeOk T (either qa qb) vr s v t
   first_alone_ok s sa sb t x v e w f g h (inl o) = let i = o.1 in absurd cc
   first_alone_ok s sa sb t x v e w f g h (inr o) =
-      let given = o.1 in
+      let given = o.1.0 in
       let d : x ≡ v = cc in
-      subst (λ z. AlternativeOk T (either qa qb) vr s v z) (sym o.2)
+      subst (λ z. AlternativeOk T (either qa qb) vr s v z) (sym o.1.1)
       (subst (λ z. AlternativeOk T (either qa qb) vr s z sa) d
       (first_won s sa sa x (la.ok s sa x w f)
       (err_other qb vb s sb (cells sa) e h (lb.err s sb e w g)) (steady_refl sa) refl))
 
   -- the value of the second, where the first refused
   second_alone_ok : (s sa sb t : Situation) (y v : T) (e : Error) → IsWhole s → a s (Err e) sa
-      → b s (Ok y) sb → is_memory e.0 ≡ false → OneOk s y sb e (Ok v) t
+      → b s (Ok y) sb → is_memory e.0 ≡ false → OneOk s (branch_of y sb) e (Ok v) t
       → AlternativeOk T (either qa qb) vr s v t
   second_alone_ok s sa sb t y v e w f g h (inl o) = let i = o.1 in absurd cc
   second_alone_ok s sa sb t y v e w f g h (inr o) =
-      let given = o.1 in
+      let given = o.1.0 in
       let d : y ≡ v = cc in
-      subst (λ z. AlternativeOk T (either qa qb) vr s v z) (sym o.2)
+      subst (λ z. AlternativeOk T (either qa qb) vr s v z) (sym o.1.1)
       (subst (λ z. AlternativeOk T (either qa qb) vr s z sb) d
       (second_won s sb sb y (lb.ok s sb y w g)
       (err_other qa va s sa (cells sb) e h (la.err s sa e w f)) (steady_refl sb) refl))
@@ -365,7 +366,7 @@ module _ (T : Type 0) (a b : Outcome T) (qa qb : Roles) (va vb : LinePiece → T
       absurd (never_untouched qa va s sa x (la.ok s sa x w f)
       (and_parts (is_untouched s sa) (is_untouched s sb) o.0).0)
   equal_ok s sa sb t v (Ok x) (Ok y) w f g hf hg (inr o) =
-      winner_ok s sa sb t x y v o.1.0 o.1.1 w (la.ok s sa x w f) (lb.ok s sb y w g) o.1.2 o.1.3
+      winner_ok s sa sb t x y v o.1.0 w (la.ok s sa x w f) (lb.ok s sb y w g) o.1.1 o.1.2
   equal_ok s sa sb t v (Ok x) (Err e) w f g hf hg o = first_alone_ok s sa sb t x v e w f g hg o
   equal_ok s sa sb t v (Err e) (Ok y) w f g hf hg o = second_alone_ok s sa sb t y v e w f g hf o
   equal_ok s sa sb t v (Err e) (Err d) w f g hf hg o = let i = o.0.2 in absurd cc
@@ -462,28 +463,21 @@ module _ (T : Type 0) (a b : Outcome T) (qa qb : Roles) (va vb : LinePiece → T
       by_class s g (combined_refused e.0 f.0 g.0 (inl p) (inr p) (inr q) c) (first_bad (cells s) h)
       (both_unread s k none)
 
-  -- a value is no refusal
-  value_no_refusal : (s sa sb t : Situation) (x y : T) (e : Error) (first : Bool) (place : Option ℕ)
-      → Winner x sa y sb first place (Err e) t → ⊥
-  value_no_refusal s sa sb t x y e first None k = let i = k.0 in cc
-  value_no_refusal s sa sb t x y e true (Some p) k = let i = k.0 in cc
-  value_no_refusal s sa sb t x y e false (Some p) k = let i = k.0 in cc
-
-  -- nor is the value of one, where the other refused
+  -- the value of one, where the other refused, is no refusal
   one_no_refusal : (q : Roles) (v : LinePiece → T → Type 0) (s m t : Situation) (x : T)
       (e g : Error)
-      → AlternativeOk T q v s x m → OneOk s x m e (Err g) t → ⊥
+      → AlternativeOk T q v s x m → OneOk s (branch_of x m) e (Err g) t → ⊥
   one_no_refusal q v s m t x e g i (inl o) =
       never_untouched q v s m x i (and_parts (is_untouched s m) (is_wrong_input e.0) o.0).0
-  one_no_refusal q v s m t x e g i (inr o) = let h = o.1 in cc
+  one_no_refusal q v s m t x e g i (inr o) = let h = o.1.0 in cc
 
   -- the refusal where both paths are equally deep
   equal_err : (s sa sb t : Situation) (g : Error) (x y : Result T Error) → IsWhole s → a s x sa
       → b s y sb → IsNotMemory x → IsNotMemory y → EqualDepths s x sa y sb (Err g) t
       → AlternativeErr T (either qa qb) vr s g t
-  equal_err s sa sb t g (Ok x) (Ok y) w f h hf hg (inl o) = let i = o.1 in absurd cc
+  equal_err s sa sb t g (Ok x) (Ok y) w f h hf hg (inl o) = let i = o.1.0 in absurd cc
   equal_err s sa sb t g (Ok x) (Ok y) w f h hf hg (inr o) =
-      absurd (value_no_refusal s sa sb t x y g o.1.0 o.1.1 o.1.3)
+      absurd (not_winner (branch_of x sa) (branch_of y sb) o.1.0 g t o.1.2)
   equal_err s sa sb t g (Ok x) (Err e) w f h hf hg o =
       absurd (one_no_refusal qa va s sa t x e g (la.ok s sa x w f) o)
   equal_err s sa sb t g (Err e) (Ok y) w f h hf hg o =

@@ -1,11 +1,15 @@
 -- The classes of refusals.
 use Rattle.std.proofs.Common.{◌≡◌, Bool, true, false, not, ◌&&◌, if◌then◌else◌, refl, sym, ap, ap₂}
-use Rattle.std.proofs.Common.{◌∙◌, inl, inr, ◌⊎◌, true≢false}
+use Rattle.std.proofs.Common.{◌∙◌, inl, inr, ◌⊎◌, ⊎_elim, true≢false}
+use Rattle.std.proofs.lemmas.Bool.{eqb-true, eq-eqb}
+use Rattle.bpaf_line.specs.declared.error.Error.{Error}
 use Rattle.bpaf_line.specs.declared.error.Message.{Message}
 use Rattle.bpaf_line.specs.declared.error.Message.TheVariants.{Memory, Missing, ParseFailure}
 use Rattle.bpaf_line.specs.Messages.{is_memory, can_catch}
-use Rattle.bpaf_laws.specs.Turn.{stops_step, stops_spared}
+use Rattle.bpaf_line.specs.Situation.{Situation, open_count}
+use Rattle.bpaf_laws.specs.Turn.{stops_step, stops_spared, is_untouched}
 use Rattle.bpaf_exact.specs.Flat.{OfMemory, OfMissing, Caught, is_missing, class_by, class_of}
+use Rattle.bpaf_exact.specs.Single.{Stops, nothing_found, caught}
 
 -- want of memory is of its class
 pub memory_class : (m : Message) → is_memory m ≡ true → class_of m ≡ OfMemory
@@ -104,3 +108,17 @@ no_stop_class m untouched e c =
     by_tests false false true h k = cc
     by_tests false false false h (inl k) = let d = k.0 in cc
     by_tests false false false h (inr k) = cc
+
+-- an error at which a turn stops
+pub stops_at : (e : Error) (s m : Situation) → stops_step false e.0 (is_untouched s m) ≡ true
+    → Stops e s m
+stops_at e s m h = ⊎_elim
+    (λ missing. nothing_found missing.0 (eqb-true (open_count m) (open_count s) missing.1))
+    (λ other. caught other) (stop_class e.0 (is_untouched s m) h)
+
+-- an error at which it doesn't
+pub goes_on : (e : Error) (s m : Situation) → stops_step false e.0 (is_untouched s m) ≡ false
+    → Stops e s m → ⊥
+goes_on e s m h (nothing_found c same) =
+    no_stop_class e.0 (is_untouched s m) h (inl (c, eq-eqb (open_count m) (open_count s) same))
+goes_on e s m h (caught c) = no_stop_class e.0 (is_untouched s m) h (inr c)

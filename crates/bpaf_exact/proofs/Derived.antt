@@ -1,18 +1,18 @@
 -- some and last keep to the laws of a field.
-use Rattle.std.proofs.Common.{◌≡◌, true, false, List, [], ◌∷◌, ◌++◌, None, Result, Ok, Err, refl}
-use Rattle.std.proofs.Common.{sym, ◌∙◌}
+use Rattle.std.proofs.Common.{◌≡◌, true, false, List, [], ◌∷◌, ◌++◌, Result, Ok, Err, refl, sym}
+use Rattle.std.proofs.Common.{◌∙◌, inl, inr}
 use Rattle.bpaf_line.specs.declared.error.Error.{Error}
 use Rattle.bpaf_line.specs.Situation.{Situation}
 use Rattle.bpaf_laws.specs.Reading.{Outcome}
+use Rattle.bpaf_laws.specs.Repeat.{LastOutcome, UntilRest}
 use Rattle.bpaf_exact.specs.Pieces.{Roles, LinePiece, pieces}
 use Rattle.bpaf_exact.specs.Flat.{cells, IsWhole, FieldKind, front, back, FieldTook, FieldLaw}
 use Rattle.bpaf_exact.specs.Flat.{Gives}
 use Rattle.bpaf_exact.specs.Single.{Groups, Gap, SingleOk, gave_absent, took, SingleLaw, OwnList}
 use Rattle.bpaf_exact.specs.Single.{listed, listed_and_absent, only_absent, Own, own_none, own_more}
-use Rattle.bpaf_exact.specs.Single.{repeated, TurnsEval}
+use Rattle.bpaf_exact.specs.Single.{repeated, RepeatOutcome}
 use Rattle.bpaf_exact.specs.Wrappers.{AgreesOn}
-use Rattle.bpaf_exact.specs.Derived.{some_closure, IsLast, LastEval, last_of, last_err, last_again}
-use Rattle.bpaf_exact.specs.Derived.{LastOf}
+use Rattle.bpaf_exact.specs.Derived.{some_closure, IsLast, LastOf}
 use Rattle.bpaf_exact.proofs.Product.{whole_after}
 use Rattle.bpaf_exact.proofs.Repeat.{repeat_law, repeat_took, own_nil}
 
@@ -28,8 +28,7 @@ module _ (T : Type 0) (inner : Outcome T)
     (k : FieldKind) (q : Roles) (group : Groups T) (gap : Gap T)
     (l : SingleLaw T inner k q group gap) where
   -- the laws of the list
-  rl : FieldLaw (List T) (λ s r t. TurnsEval T inner true None s r t) (repeated k) q
-      (OwnList T group gap)
+  rl : FieldLaw (List T) (RepeatOutcome inner true) (repeated k) q (OwnList T group gap)
   rl = repeat_law T inner k q group gap l true
 
   -- no value at all: there was no piece, and none has an absent value
@@ -51,7 +50,7 @@ module _ (T : Type 0) (inner : Outcome T)
   -- and no piece gives an empty list
   empty_nothing : (os : List LinePiece) (vs : List T) → Nothing os → OwnList T group gap os vs
       → vs ≡ []
-  empty_nothing os vs (nothing g e) (listed h o) = own_nil T inner k q group gap l true os vs e o
+  empty_nothing os vs (nothing g e) (listed h o) = own_nil T inner k q group gap l os vs e o
   empty_nothing os vs (nothing g e) (listed_and_absent h a o) = absurd cc
   empty_nothing os vs (nothing g e) (only_absent h a) = absurd cc
 
@@ -66,7 +65,7 @@ module _ (T : Type 0) (inner : Outcome T)
   again_never m t v h p (took g) = g.found p
 
   -- so the evaluation after an empty list answers no value
-  again_ok : (s m t : Situation) (v : T) → IsWhole s → TurnsEval T inner true None s (Ok []) m
+  again_ok : (s m t : Situation) (v : T) → IsWhole s → UntilRest inner s [] m
       → inner m (Ok v) t → ⊥
   again_ok s m t v w f g =
       let i = repeat_took T inner k q group gap l true s m [] w f in
@@ -78,40 +77,47 @@ module _ (T : Type 0) (inner : Outcome T)
       by_empty (nothing h e) p o = again_never m t v h p o
 
   -- a last value is that of the own list
-  last_took : (s t : Situation) (v : T) → IsWhole s → LastEval T inner s (Ok v) t
+  last_took : (s t : Situation) (v : T) → IsWhole s → LastOutcome inner s (Ok v) t
       → FieldTook T (repeated k) q (LastOf T group gap) s v t
-  last_took s t v w (last_of {vs = vs} f h) =
-      let i = rl.ok s t vs w f in
+  last_took s t v w (inl o) =
+      let vs = o.0 ++ v ∷ [] in
+      let i = rl.ok s t vs w o.1 in
       record {
         steady = i.steady;
         takes = i.takes;
-        read =
-            λ n. record { list = vs; own = i.read n; is = h };
+        read = λ n. record {
+          list = vs;
+          own = i.read n;
+          is = record { before = o.0; is = refl };
+        };
         rest = i.rest;
       }
-  last_took s t v w (last_again {m = m} f g) = absurd (again_ok s m t v w f g)
+  last_took s t v w (inr o) = absurd (again_ok s o.0 t v w o.1 o.2)
 
   -- where the list has a last value it isn't empty
   again_gives : (s m t : Situation) (r : Result T Error) (v : T) → IsWhole s
-      → TurnsEval T inner true None s (Ok []) m → inner m r t
+      → UntilRest inner s [] m
       → LastOf T group gap (front (repeated k) (pieces q (cells s))) v
       → Gives q (LastOf T group gap (front (repeated k) (pieces q (cells s))))
       (back (repeated k) (pieces q (cells s))) r t
-  again_gives s m t r v w f g h =
+  again_gives s m t r v w f h =
       let j = rl.answers s m (Ok []) h.list w f h.own in
       absurd (no_last T h.list v h.is (empty_nothing _ h.list (empty_list _ [] refl j.0) h.own))
 
   -- each answer is the last of an own list, or want of memory
-  last_answers : (s t : Situation) (r : Result T Error) (v : T) → IsWhole s → LastEval T inner s r t
+  last_answers : (s t : Situation) (r : Result T Error) (v : T) → IsWhole s
+      → LastOutcome inner s r t
       → LastOf T group gap (front (repeated k) (pieces q (cells s))) v
       → Gives q (LastOf T group gap (front (repeated k) (pieces q (cells s))))
       (back (repeated k) (pieces q (cells s))) r t
-  last_answers s t r v w (last_of {vs = vs} {v = x} f h) g =
-      let j = rl.answers s t (Ok vs) g.list w f g.own in
-      (record { list = vs; own = j.0; is = h }, j.1)
-  last_answers s t r v w (last_err {e = e} f) g = rl.answers s t (Err e) g.list w f g.own
-  last_answers s t r v w (last_again {r = x} {m = m} f h) g = again_gives s m t x v w f h g
+  last_answers s t (Ok x) v w (inl o) g =
+      let vs = o.0 ++ x ∷ [] in
+      let j = rl.answers s t (Ok vs) g.list w o.1 g.own in
+      (record { list = vs; own = j.0; is = record { before = o.0; is = refl } }, j.1)
+  last_answers s t (Ok x) v w (inr o) g = again_gives s o.0 t (Ok x) v w o.1 g
+  last_answers s t (Err e) v w (inl o) g = rl.answers s t (Err e) g.list w o g.own
+  last_answers s t (Err e) v w (inr o) g = again_gives s o.0 t (Err e) v w o.1 g
 
   -- last keeps to the laws of a field
-  pub last_of_law : FieldLaw T (LastEval T inner) (repeated k) q (LastOf T group gap)
+  pub last_of_law : FieldLaw T (LastOutcome inner) (repeated k) q (LastOf T group gap)
   last_of_law = record { own = rl.own; ok = last_took; answers = last_answers }

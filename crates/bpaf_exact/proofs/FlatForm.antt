@@ -1,21 +1,22 @@
 -- Each form that is made of flat fields keeps to its laws.
-use Rattle.std.proofs.Common.{◌≡◌, Bool, true, false, List, [], ◌∷◌, ◌++◌, None, flat_map, refl}
+use Rattle.std.proofs.Common.{◌≡◌, Bool, true, false, List, [], ◌∷◌, ◌++◌, flat_map, refl}
 use Rattle.std.proofs.Common.{sym, subst, ◌∙◌, append-nil, append_assoc}
 use Rattle.bpaf_doc.specs.Names.{Names}
 use Rattle.bpaf_laws.specs.Choice.{ChoiceOutcome}
 use Rattle.bpaf_laws.specs.Choices.{ChoicesOutcome, Nested}
 use Rattle.bpaf_laws.specs.Product.{BothOutcome, ProductOutcome}
 use Rattle.bpaf_laws.specs.Reading.{Outcome}
+use Rattle.bpaf_laws.specs.Repeat.{LastOutcome}
 use Rattle.bpaf_exact.specs.Pieces.{Roles, no_roles}
 use Rattle.bpaf_exact.specs.Pieces.{either}
 use Rattle.bpaf_exact.specs.Names.{Owns, are_all_apart}
 use Rattle.bpaf_exact.specs.Flat.{ErrorClass, Refused, FieldKind, ByName, OneWord, EachWord}
 use Rattle.bpaf_exact.specs.Flat.{FieldsLaw}
 use Rattle.bpaf_exact.specs.Flat.{keys, Before}
-use Rattle.bpaf_exact.specs.Single.{TurnsEval, repeated}
+use Rattle.bpaf_exact.specs.Single.{RepeatOutcome, repeated}
 use Rattle.bpaf_exact.specs.Wrappers.{Closure, Decides, map_closure, ClosedEval, OptionalEval}
 use Rattle.bpaf_exact.specs.Wrappers.{FallbackEval}
-use Rattle.bpaf_exact.specs.Derived.{some_closure, LastEval}
+use Rattle.bpaf_exact.specs.Derived.{some_closure}
 use Rattle.bpaf_exact.specs.FlatForm.{EachAgrees, FlatForm, not_flat, alternative, single, complete}
 use Rattle.bpaf_exact.specs.FlatForm.{product, FormLaw, Agrees, only_if, flat_closed, flat_dressed}
 use Rattle.bpaf_exact.specs.FlatForm.{flat_either}
@@ -156,7 +157,7 @@ repeated_keys EachWord q names o = o
 pub flat_listed_law : (T B : Type 0) (inner : Outcome T) (idle : Bool) (f : Closure (List T) B)
     (c : ErrorClass) (names : List Names) (s : FlatForm T) → Agrees f (flat_repeat s)
     → FormLaw inner names s
-    → FormLaw (ClosedEval (List T) B (λ s r t. TurnsEval T inner idle None s r t) f c) names
+    → FormLaw (ClosedEval (List T) B (RepeatOutcome inner idle) f c) names
     (flat_closed f (flat_repeat s))
 flat_listed_law T B inner idle f c names not_flat g l = tt
 flat_listed_law T B inner idle f c names (alternative q value) g l = let m =
@@ -180,7 +181,7 @@ some_agrees T inner names (product q fields) l = tt
 
 -- the last value
 pub flat_last_law : (T : Type 0) (inner : Outcome T) (names : List Names) (s : FlatForm T)
-    → FormLaw inner names s → FormLaw (LastEval T inner) names (flat_last s)
+    → FormLaw inner names s → FormLaw (LastOutcome inner) names (flat_last s)
 flat_last_law T inner names not_flat l = tt
 flat_last_law T inner names (alternative q value) l =
     (last_of_law T inner ByName q _ _ (alternative_single T inner q value l.0), l.1)

@@ -1,9 +1,11 @@
 -- Repeats of a field that keeps to the laws of one evaluation.
-use Rattle.std.proofs.Common.{◌≡◌, ℕ, ◌<◌, ◌≤◌, Bool, true, false, List, [], ◌∷◌, Option, Some}
-use Rattle.std.proofs.Common.{None, Result, Ok, Err, refl, sym, ap, ◌∙◌, subst, arith}
+use Rattle.std.proofs.Common.{◌≡◌, ◌<◌, ◌≤◌, Bool, true, false, List, [], ◌∷◌, None, Result}
+use Rattle.std.proofs.Common.{Ok, Err, refl, sym, ap, ◌∙◌, subst, arith, inl, inr, ◌⊎◌, true≢false}
 use Rattle.bpaf_line.specs.declared.error.Error.{Error}
 use Rattle.bpaf_line.specs.Situation.{Situation, open_count}
 use Rattle.bpaf_laws.specs.Reading.{Outcome}
+use Rattle.bpaf_laws.specs.Repeat.{Turns, stops, rests, is_nil}
+use Rattle.bpaf_laws.specs.Turn.{TurnOutcome}
 use Rattle.bpaf_exact.specs.Pieces.{Cells, Roles, LinePiece, pieces, TakesPieces, takes_none}
 use Rattle.bpaf_exact.specs.Pieces.{takes_more}
 use Rattle.bpaf_exact.specs.Flat.{ErrorClass, OfMemory, OfMissing, Caught, Refused, class, cells}
@@ -14,9 +16,8 @@ use Rattle.bpaf_exact.specs.Single.{Groups, Own, own_none, own_more, TakesAny, R
 use Rattle.bpaf_exact.specs.Single.{TookGroup, SingleOk, gave_absent, took, SingleErr, of_memory}
 use Rattle.bpaf_exact.specs.Single.{of_missing, of_absent, of_piece, SingleLaw, OwnList, listed}
 use Rattle.bpaf_exact.specs.Single.{listed_and_absent, only_absent, repeated, Stops, nothing_found}
-use Rattle.bpaf_exact.specs.Single.{caught, IsFewer, TurnsEval, step, step_failed, idle_step}
-use Rattle.bpaf_exact.specs.Single.{enough}
-use Rattle.bpaf_exact.specs.Single.{stopped, failed, no_room, present_count}
+use Rattle.bpaf_exact.specs.Single.{caught, RepeatOutcome, present_count}
+use Rattle.bpaf_exact.proofs.Classes.{memory_class, stops_at, goes_on}
 use Rattle.bpaf_exact.proofs.Product.{whole_after, steady_refl, steady_trans}
 use Rattle.bpaf_exact.proofs.Counts.{open_present, takes_any_fewer}
 
@@ -53,7 +54,7 @@ no_stop s m e c (caught h) g a b = b (sym g ∙ h)
 
 module _ (T : Type 0) (inner : Outcome T) (k : FieldKind) (q : Roles) (group : Groups T)
     (gap : Gap T)
-    (l : SingleLaw T inner k q group gap) (idle : Bool) where
+    (l : SingleLaw T inner k q group gap) where
   -- what a repeat took, once it has the first value
   record Took (s : Situation) (vs : List T) (t : Situation) : Type 0 where
     steady : Steady s t
@@ -75,17 +76,15 @@ module _ (T : Type 0) (inner : Outcome T) (k : FieldKind) (q : Roles) (group : G
       let c = open_present s in
       omega arith
 
-  -- as many aren't fewer than after the last value
-  not_fewer : (last : Option ℕ) (s m : Situation) → last ≡ Some (open_count s)
-      → open_count s ≤ open_count m → IsFewer m last → ⊥
-  not_fewer last s m e same f =
-      let g : open_count m < open_count s = subst (IsFewer m) e f in
-      omega arith
+  -- as many aren't fewer
+  not_fewer : (s m : Situation) → open_count s ≤ open_count m → open_count m < open_count s → ⊥
+  not_fewer s m same fewer = omega arith
 
-  -- fewer are
-  is_fewer : (last : Option ℕ) (s m : Situation) → last ≡ Some (open_count s)
-      → open_count m < open_count s → IsFewer m last
-  is_fewer last s m e h = subst (IsFewer m) (sym e) h
+  -- a value after the first one took an item
+  took_item : (s m : Situation) → (false ≡ true) ⊎ (open_count m < open_count s)
+      → open_count m < open_count s
+  took_item s m (inl e) = absurd cc
+  took_item s m (inr fewer) = fewer
 
   -- a repeat that ends where there is no piece
   ended : (s t : Situation) → Steady s t → pieces q (cells s) ≡ [] → cells t ≡ cells s
@@ -118,37 +117,35 @@ module _ (T : Type 0) (inner : Outcome T) (k : FieldKind) (q : Roles) (group : G
   }
 
   -- a turn after a value took something
-  step_took : (last : Option ℕ) (s m t : Situation) (v : T) (vs : List T) → IsWhole s
-      → last ≡ Some (open_count s) → IsFewer m last
+  step_took : (s m t : Situation) (v : T) (vs : List T) → open_count m < open_count s
       → SingleOk T k q group gap s v m → (Steady s m → Took m vs t) → Took s (v ∷ vs) t
-  step_took last s m t v vs w e f (gave_absent h p ab same st) i =
-      absurd (not_fewer last s m e (not_less s m same) f)
-  step_took last s m t v vs w e f (took h) i = took_more s m t v vs h (i h.steady)
+  step_took s m t v vs fewer (gave_absent h p ab same st) i =
+      absurd (not_fewer s m (not_less s m same) fewer)
+  step_took s m t v vs fewer (took h) i = took_more s m t v vs h (i h.steady)
 
   -- a value that took nothing ends it
-  enough_took : (last : Option ℕ) (s t : Situation) (v : T) → IsWhole s → last ≡ Some (open_count s)
-      → (IsFewer t last → ⊥)
+  enough_took : (s t : Situation) (v : T) → open_count s ≤ open_count t
       → SingleOk T k q group gap s v t → Took s [] t
-  enough_took last s t v w e f (gave_absent h p ab same st) = ended s t st p same (λ i. (v, ab))
-  enough_took last s t v w e f (took h) =
-      absurd (f (is_fewer last s t e (fewer_count s t h.takes)))
+  enough_took s t v same (gave_absent h p ab e st) = ended s t st p e (λ i. (v, ab))
+  enough_took s t v same (took h) = absurd (not_fewer s t same (fewer_count s t h.takes))
 
-  -- and isn't answered there
-  idle_took : (last : Option ℕ) (s t : Situation) (v : T) → IsWhole s → last ≡ Some (open_count s)
-      → IsFewer t last → open_count s ≤ open_count t → Took s (v ∷ []) t
-  idle_took last s t v w e f same = absurd (not_fewer last s t e same f)
+  -- a turn after a value that stops
+  stop_took : (s t : Situation) → IsWhole s → TurnOutcome inner false false s (Ok None) t
+      → Took s [] t
+  stop_took s t w (inl o) = enough_took s t o.0 o.3 (l.ok s t o.0 w o.1)
+  stop_took s t w (inr o) =
+      subst (λ z. Took s [] z) (sym o.1)
+      (stop_after s o.0.1 o.0.0 (stops_at o.0.0 s o.0.1 o.0.3) (l.err s o.0.1 o.0.0 w o.0.2))
 
   -- Once it has the first value, a repeat that answers has read all its pieces.
-  steps_took : (last : Option ℕ) (s t : Situation) (vs : List T) → IsWhole s
-      → last ≡ Some (open_count s) → TurnsEval T inner idle last s (Ok vs) t → Took s vs t
-  steps_took last s t vs w e (step {m = m} {v = v} {vs = us} f fewer more) =
-      let o = l.ok s m v w f in
-      step_took last s m t v us w e fewer o
-      (λ st. steps_took (Some (open_count m)) m t us (whole_after s m w st) refl more)
-  steps_took last s t vs w e (idle_step {v = v} h f fewer same) =
-      idle_took last s t v w e fewer same
-  steps_took last s t vs w e (enough {v = v} f n) = enough_took last s t v w e n (l.ok s t v w f)
-  steps_took last s t vs w e (stopped {m = m} {e = x} f h) = stop_after s m x h (l.err s m x w f)
+  later_took : (vs : List T) (s m t : Situation) → IsWhole s → Turns inner false false s vs m
+      → TurnOutcome inner false false m (Ok None) t → Took s vs t
+  later_took [] s m t w turns stop =
+      stop_took s t w
+      (subst (λ z. TurnOutcome inner false false z (Ok None) t) (sym turns) stop)
+  later_took (v ∷ vs) s m t w turns stop =
+      step_took s turns.0 t v vs (took_item s turns.0 turns.1.1) (l.ok s turns.0 v w turns.1.0)
+      (λ st. later_took vs turns.0 m t (whole_after s turns.0 w st) turns.2 stop)
 
   -- a repeat from its start
   pub record RepeatTook (s : Situation) (vs : List T) (t : Situation) : Type 0 where
@@ -230,15 +227,32 @@ module _ (T : Type 0) (inner : Outcome T) (k : FieldKind) (q : Roles) (group : G
   first_stop s m e h (of_absent c g p n) = absurd (no_stop s m e Refused h c (λ i. cc) (λ i. cc))
   first_stop s m e h (of_piece c p n) = absurd (no_stop s m e Refused h c (λ i. cc) (λ i. cc))
 
+  -- a first turn that stops read all
+  first_stopped : (s t : Situation) → IsWhole s → TurnOutcome inner false true s (Ok None) t
+      → RepeatTook s [] t
+  first_stopped s t w (inl o) = absurd (true≢false o.2)
+  first_stopped s t w (inr o) =
+      subst (λ z. RepeatTook s [] z) (sym o.1)
+      (first_stop s o.0.1 o.0.0 (stops_at o.0.0 s o.0.1 o.0.3) (l.err s o.0.1 o.0.0 w o.0.2))
+
+  -- so did turns from the first one on, until one stops
+  turns_took : (first : Bool) (vs : List T) (s m t : Situation) → IsWhole s
+      → Turns inner false first s vs m → TurnOutcome inner false (is_nil vs) m (Ok None) t
+      → RepeatTook s vs t
+  turns_took first [] s m t w turns stop =
+      first_stopped s t w
+      (subst (λ z. TurnOutcome inner false true z (Ok None) t) (sym turns) stop)
+  turns_took first (v ∷ vs) s m t w turns stop =
+      first_step s turns.0 t v vs (l.ok s turns.0 v w turns.1.0)
+      (λ st. later_took vs turns.0 m t (whole_after s turns.0 w st) turns.2 stop)
+
   -- A repeat that answers has read all its pieces.
-  pub repeat_took : (s t : Situation) (vs : List T) → IsWhole s
-      → TurnsEval T inner idle None s (Ok vs) t → RepeatTook s vs t
-  repeat_took s t vs w (step {m = m} {v = v} {vs = us} f fewer more) =
-      first_step s m t v us (l.ok s m v w f)
-      (λ st. steps_took (Some (open_count m)) m t us (whole_after s m w st) refl more)
-  repeat_took s t vs w (idle_step {v = v} h f fewer same) = first_idle s t v w same (l.ok s t v w f)
-  repeat_took s t vs w (enough f n) = absurd (n tt)
-  repeat_took s t vs w (stopped {m = m} {e = x} f h) = first_stop s m x h (l.err s m x w f)
+  pub repeat_took : (idle : Bool) (s t : Situation) (vs : List T) → IsWhole s
+      → RepeatOutcome inner idle s (Ok vs) t → RepeatTook s vs t
+  repeat_took false s t vs w o = turns_took true vs s o.last t w o.steps o.stop
+  repeat_took true s t vs w (stops m turns stop) = turns_took false vs s m t w turns stop
+  repeat_took true s t vs w (rests v e ran same) =
+      subst (λ z. RepeatTook s z t) (sym e) (first_idle s t v w same (l.ok s t v w ran))
 
   -- Where the pieces can be read no other answer comes, but for want of memory.
 
@@ -313,42 +327,65 @@ module _ (T : Type 0) (inner : Outcome T) (k : FieldKind) (q : Roles) (group : G
       absurd (no_stop s m e Refused h c (λ i. cc) (λ i. cc))
 
   -- so did one that took nothing
-  enough_gives : (last : Option ℕ) (s t : Situation) (v : T) (ws : List T) → IsWhole s
-      → last ≡ Some (open_count s) → (IsFewer t last → ⊥) → OwnView (pieces q (cells s)) ws
-      → SingleOk T k q group gap s v t → GivesList (pieces q (cells s)) (Ok []) t
-  enough_gives last s t v ws w e f (view_none p x) (gave_absent h p' ab same st) =
-      (subst (λ os. Own T group os []) (sym p) own_none, ap (pieces q) same ∙ p)
-  enough_gives last s t v ws w e f (view_more y rest us x g o) (gave_absent h p ab same st) =
+  enough_gives : (s t : Situation) (v : T) (ws : List T) → open_count s ≤ open_count t
+      → OwnView (pieces q (cells s)) ws → SingleOk T k q group gap s v t
+      → GivesList (pieces q (cells s)) (Ok []) t
+  enough_gives s t v ws same (view_none p x) (gave_absent h p' ab e st) =
+      (subst (λ os. Own T group os []) (sym p) own_none, ap (pieces q) e ∙ p)
+  enough_gives s t v ws same (view_more y rest us x g o) (gave_absent h p ab e st) =
       absurd (l.starts y rest (subst (λ z. group z y rest) p g))
-  enough_gives last s t v ws w e f o (took h) =
-      absurd (f (is_fewer last s t e (fewer_count s t h.takes)))
+  enough_gives s t v ws same o (took h) = absurd (not_fewer s t same (fewer_count s t h.takes))
 
-  -- where the pieces can be read, the turns after a value read them
-  steps_give : (last : Option ℕ) (s t : Situation) (r : Result (List T) Error) (ws : List T)
-      → IsWhole s → last ≡ Some (open_count s) → (gap.has ≡ true → (a : T) × gap.absent a)
-      → Own T group (pieces q (cells s)) ws → TurnsEval T inner idle last s r t
-      → GivesList (pieces q (cells s)) r t
-  steps_give last s t r ws w e ab o (step {m = m} {v = v} {vs = us} f fewer more) =
-      cons_gives s m t v us
-      (on_step s m t v ws (Ok us)
-      (λ h p same st. not_fewer last s m e (not_less s m same) fewer) (own_view _ ws o)
-      (λ st xs ox. steps_give (Some (open_count m)) m t (Ok us) xs
-      (whole_after s m w st) refl ab ox more) (l.ok s m v w f))
-  steps_give last s t r ws w e ab o (step_failed {m = m} {v = v} {e = x} f fewer more) =
-      let on = on_step s m t v ws (Err x)
-      (λ h p same st. not_fewer last s m e (not_less s m same) fewer) (own_view _ ws o)
-      (λ st xs ox. steps_give (Some (open_count m)) m t (Err x) xs
-      (whole_after s m w st) refl ab ox more) (l.ok s m v w f) in
+  -- a turn after a value that stops
+  stop_gives : (s t : Situation) (ws : List T) → IsWhole s → OwnView (pieces q (cells s)) ws
+      → TurnOutcome inner false false s (Ok None) t → GivesList (pieces q (cells s)) (Ok []) t
+  stop_gives s t ws w view (inl o) = enough_gives s t o.0 ws o.3 view (l.ok s t o.0 w o.1)
+  stop_gives s t ws w view (inr o) =
+      subst (λ z. GivesList (pieces q (cells s)) (Ok []) z) (sym o.1)
+      (stopped_gives s o.0.1 o.0.0 ws (stops_at o.0.0 s o.0.1 o.0.3) view
+      (l.err s o.0.1 o.0.0 w o.0.2))
+
+  -- where the pieces can be read, a turn fails for want of memory alone
+  turn_fails : (first : Bool) (s t : Situation) (e : Error) (ws : List T) → IsWhole s
+      → (gap.has ≡ true → (a : T) × gap.absent a) → OwnView (pieces q (cells s)) ws
+      → TurnOutcome inner false first s (Err e) t → class e ≡ OfMemory
+  turn_fails first s t e ws w ab view (inl o) =
+      failed_gives s t e ws w ab view (goes_on e s t o.1) (l.err s t e w o.0)
+  turn_fails first s t e ws w ab view (inr o) = memory_class e.0 o.0
+
+  -- where the pieces can be read, the turns after a value read them, until one stops
+  later_gives : (vs : List T) (s m t : Situation) (ws : List T) → IsWhole s
+      → Own T group (pieces q (cells s)) ws → Turns inner false false s vs m
+      → TurnOutcome inner false false m (Ok None) t → GivesList (pieces q (cells s)) (Ok vs) t
+  later_gives [] s m t ws w o turns stop =
+      stop_gives s t ws w (own_view _ ws o)
+      (subst (λ z. TurnOutcome inner false false z (Ok None) t) (sym turns) stop)
+  later_gives (v ∷ vs) s m t ws w o turns stop =
+      cons_gives s turns.0 t v vs
+      (on_step s turns.0 t v ws (Ok vs)
+      (λ h p same st.
+      not_fewer s turns.0 (not_less s turns.0 same) (took_item s turns.0 turns.1.1))
+      (own_view _ ws o)
+      (λ st xs own. later_gives vs turns.0 m t xs (whole_after s turns.0 w st) own turns.2 stop)
+      (l.ok s turns.0 v w turns.1.0))
+
+  -- and fail for want of memory alone
+  later_fails : (vs : List T) (s m t : Situation) (e : Error) (ws : List T) → IsWhole s
+      → (gap.has ≡ true → (a : T) × gap.absent a) → Own T group (pieces q (cells s)) ws
+      → Turns inner false false s vs m → TurnOutcome inner false false m (Err e) t
+      → class e ≡ OfMemory
+  later_fails [] s m t e ws w ab o turns fails =
+      turn_fails false s t e ws w ab (own_view _ ws o)
+      (subst (λ z. TurnOutcome inner false false z (Err e) t) (sym turns) fails)
+  later_fails (v ∷ vs) s m t e ws w ab o turns fails =
+      let on = on_step s turns.0 t v ws (Err e)
+      (λ h p same st.
+      not_fewer s turns.0 (not_less s turns.0 same) (took_item s turns.0 turns.1.1))
+      (own_view _ ws o)
+      (λ st xs own.
+      later_fails vs turns.0 m t e xs (whole_after s turns.0 w st) ab own turns.2 fails)
+      (l.ok s turns.0 v w turns.1.0) in
       on.gives
-  steps_give last s t r ws w e ab o (idle_step {v = v} h f fewer same) =
-      absurd (not_fewer last s t e same fewer)
-  steps_give last s t r ws w e ab o (enough {v = v} f n) =
-      enough_gives last s t v ws w e n (own_view _ ws o) (l.ok s t v w f)
-  steps_give last s t r ws w e ab o (stopped {m = m} {e = x} f h) =
-      stopped_gives s m x ws h (own_view _ ws o) (l.err s m x w f)
-  steps_give last s t r ws w e ab o (failed {e = x} f n) =
-      failed_gives s t x ws w ab (own_view _ ws o) n (l.err s t x w f)
-  steps_give last s t r ws w e ab o (no_room c) = c
 
   -- an own list under a repeat: all that is read, or the absent value alone
   data ListView (os : List LinePiece) (vs : List T) : Type 0 where
@@ -431,46 +468,82 @@ module _ (T : Type 0) (inner : Outcome T) (k : FieldKind) (q : Roles) (group : G
   own_idle s t v w n same (gave_absent h p ab e st) = n h p
   own_idle s t v w n same (took h) = let f = fewer_count s t h.takes in omega arith
 
-  -- where there is an own list, each answer is one, or want of memory
-  first_gives : (s t : Situation) (r : Result (List T) Error) (ws : List T) → IsWhole s
-      → ListView (pieces q (cells s)) ws → TurnsEval T inner idle None s r t
-      → GivesOwn (pieces q (cells s)) r t
-  first_gives s t r ws w (all_read ab o n) (step {m = m} {v = v} {vs = us} f fewer more) =
-      own_given (pieces q (cells s)) (Ok (v ∷ us)) t ab n
-      (cons_gives s m t v us
-      (on_step s m t v ws (Ok us) (λ h p same st. n h p) (own_view _ ws o)
-      (λ st xs ox. steps_give (Some (open_count m)) m t (Ok us) xs
-      (whole_after s m w st) refl ab ox more) (l.ok s m v w f)))
-  first_gives s t r ws w (all_read ab o n) (step_failed {m = m} {v = v} {e = x} f fewer more) =
-      let on = on_step s m t v ws (Err x) (λ h p same st. n h p) (own_view _ ws o)
-      (λ st xs ox. steps_give (Some (open_count m)) m t (Err x) xs
-      (whole_after s m w st) refl ab ox more) (l.ok s m v w f) in
+  -- where there is an own list, a first turn that stops answers it
+  first_stop_gives : (s t : Situation) (ws : List T) → IsWhole s → ListView (pieces q (cells s)) ws
+      → TurnOutcome inner false true s (Ok None) t → GivesOwn (pieces q (cells s)) (Ok []) t
+  first_stop_gives s t ws w view (inl o) = absurd (true≢false o.2)
+  first_stop_gives s t ws w (all_read ab own n) (inr o) =
+      subst (λ z. GivesOwn (pieces q (cells s)) (Ok []) z) (sym o.1)
+      (own_given (pieces q (cells s)) (Ok []) s ab n
+      (stopped_gives s o.0.1 o.0.0 ws (stops_at o.0.0 s o.0.1 o.0.3) (own_view _ ws own)
+      (l.err s o.0.1 o.0.0 w o.0.2)))
+  first_stop_gives s t ws w (gap_read h a ab p) (inr o) =
+      absurd (gap_stopped s o.0.1 o.0.0 h p (stops_at o.0.0 s o.0.1 o.0.3)
+      (l.err s o.0.1 o.0.0 w o.0.2))
+
+  -- so do turns from the first one on, until one stops
+  turns_give : (first : Bool) (vs : List T) (s m t : Situation) (ws : List T) → IsWhole s
+      → ListView (pieces q (cells s)) ws → Turns inner false first s vs m
+      → TurnOutcome inner false (is_nil vs) m (Ok None) t → GivesOwn (pieces q (cells s)) (Ok vs) t
+  turns_give first [] s m t ws w view turns stop =
+      first_stop_gives s t ws w view
+      (subst (λ z. TurnOutcome inner false true z (Ok None) t) (sym turns) stop)
+  turns_give first (v ∷ vs) s m t ws w (all_read ab o n) turns stop =
+      own_given (pieces q (cells s)) (Ok (v ∷ vs)) t ab n
+      (cons_gives s turns.0 t v vs
+      (on_step s turns.0 t v ws (Ok vs) (λ h p same st. n h p) (own_view _ ws o)
+      (λ st xs own. later_gives vs turns.0 m t xs (whole_after s turns.0 w st) own turns.2 stop)
+      (l.ok s turns.0 v w turns.1.0)))
+  turns_give first (v ∷ vs) s m t ws w (gap_read h a ab p) turns stop =
+      gap_step s turns.0 t v vs p
+      (λ st. later_took vs turns.0 m t (whole_after s turns.0 w st) turns.2 stop)
+      (l.ok s turns.0 v w turns.1.0)
+
+  -- and fail for want of memory alone
+  turns_fail : (first : Bool) (vs : List T) (s m t : Situation) (e : Error) (ws : List T)
+      → IsWhole s → ListView (pieces q (cells s)) ws → Turns inner false first s vs m
+      → TurnOutcome inner false (is_nil vs) m (Err e) t → class e ≡ OfMemory
+  turns_fail first [] s m t e ws w view turns fails =
+      by_view view (subst (λ z. TurnOutcome inner false true z (Err e) t) (sym turns) fails)
+    where
+      by_view : ListView (pieces q (cells s)) ws → TurnOutcome inner false true s (Err e) t
+          → class e ≡ OfMemory
+      by_view (all_read ab o n) one = turn_fails true s t e ws w ab (own_view _ ws o) one
+      by_view (gap_read h a ab p) (inl one) = gap_failed s t a e h ab p (l.err s t e w one.0)
+      by_view (gap_read h a ab p) (inr one) = memory_class e.0 one.0
+  turns_fail first (v ∷ vs) s m t e ws w (all_read ab o n) turns fails =
+      let on = on_step s turns.0 t v ws (Err e) (λ h p same st. n h p) (own_view _ ws o)
+      (λ st xs own.
+      later_fails vs turns.0 m t e xs (whole_after s turns.0 w st) ab own turns.2 fails)
+      (l.ok s turns.0 v w turns.1.0) in
       on.gives
-  first_gives s t r ws w (all_read ab o n) (idle_step {v = v} h f fewer same) =
-      absurd (own_idle s t v w n same (l.ok s t v w f))
-  first_gives s t r ws w (all_read ab o n) (enough f i) = absurd (i tt)
-  first_gives s t r ws w (all_read ab o n) (stopped {m = m} {e = x} f h) =
-      own_given (pieces q (cells s)) (Ok []) s ab n
-      (stopped_gives s m x ws h (own_view _ ws o) (l.err s m x w f))
-  first_gives s t r ws w (all_read ab o n) (failed {e = x} f i) =
-      failed_gives s t x ws w ab (own_view _ ws o) i (l.err s t x w f)
-  first_gives s t r ws w (all_read ab o n) (no_room c) = c
-  first_gives s t r ws w (gap_read h a ab p) (step {m = m} {v = v} {vs = us} f fewer more) =
-      gap_step s m t v us p
-      (λ st. steps_took (Some (open_count m)) m t us (whole_after s m w st) refl more)
-      (l.ok s m v w f)
-  first_gives s t r ws w (gap_read h a ab p) (step_failed {m = m} {v = v} {e = y} f fewer more) =
-      gap_step_failed s m t v y p
-      (λ st abs o. steps_give (Some (open_count m)) m t (Err y) []
-      (whole_after s m w st) refl abs o more) (l.ok s m v w f)
-  first_gives s t r ws w (gap_read h a ab p) (idle_step {v = v} i f fewer same) =
-      gap_idle s t v p (l.ok s t v w f)
-  first_gives s t r ws w (gap_read h a ab p) (enough f i) = absurd (i tt)
-  first_gives s t r ws w (gap_read h a ab p) (stopped {m = m} {e = y} f i) =
-      absurd (gap_stopped s m y h p i (l.err s m y w f))
-  first_gives s t r ws w (gap_read h a ab p) (failed {e = y} f i) =
-      gap_failed s t a y h ab p (l.err s t y w f)
-  first_gives s t r ws w (gap_read h a ab p) (no_room c) = c
+  turns_fail first (v ∷ vs) s m t e ws w (gap_read h a ab p) turns fails =
+      gap_step_failed s turns.0 t v e p
+      (λ st abs own.
+      later_fails vs turns.0 m t e [] (whole_after s turns.0 w st) abs own turns.2 fails)
+      (l.ok s turns.0 v w turns.1.0)
+
+  -- so it is of one value alone that took nothing
+  rest_gives : (s t : Situation) (v : T) (ws : List T) → IsWhole s
+      → ListView (pieces q (cells s)) ws → open_count s ≤ open_count t
+      → SingleOk T k q group gap s v t → GivesOwn (pieces q (cells s)) (Ok (v ∷ [])) t
+  rest_gives s t v ws w (all_read ab o n) same one = absurd (own_idle s t v w n same one)
+  rest_gives s t v ws w (gap_read h a ab p) same one = gap_idle s t v p one
+
+  -- where there is an own list, each answer is one, or want of memory
+  first_gives : (idle : Bool) (s t : Situation) (r : Result (List T) Error) (ws : List T)
+      → IsWhole s → ListView (pieces q (cells s)) ws → RepeatOutcome inner idle s r t
+      → GivesOwn (pieces q (cells s)) r t
+  first_gives false s t (Ok vs) ws w view o = turns_give true vs s o.last t ws w view o.steps o.stop
+  first_gives false s t (Err e) ws w view o =
+      turns_fail true o.values s o.last t e ws w view o.steps o.fails
+  first_gives true s t (Ok vs) ws w view (stops m turns stop) =
+      turns_give false vs s m t ws w view turns stop
+  first_gives true s t (Ok vs) ws w view (rests v e ran same) =
+      subst (λ z. GivesOwn (pieces q (cells s)) (Ok z) t) (sym e)
+      (rest_gives s t v ws w view same (l.ok s t v w ran))
+  first_gives true s t (Err e) ws w view o =
+      turns_fail false o.values s o.last t e ws w view o.steps o.fails
 
   -- The values of a repeat are its own list, and no other answer comes but for want of memory.
 
@@ -502,15 +575,15 @@ module _ (T : Type 0) (inner : Outcome T) (k : FieldKind) (q : Roles) (group : G
       by_kind EachWord o = o
 
   -- each answer of a repeat
-  repeat_gives : (s t : Situation) (r : Result (List T) Error) (ws : List T) → IsWhole s
-      → TurnsEval T inner idle None s r t
+  repeat_gives : (idle : Bool) (s t : Situation) (r : Result (List T) Error) (ws : List T)
+      → IsWhole s → RepeatOutcome inner idle s r t
       → OwnList T group gap (front (repeated k) (pieces q (cells s))) ws
       → Gives q (OwnList T group gap (front (repeated k) (pieces q (cells s))))
       (back (repeated k) (pieces q (cells s))) r t
-  repeat_gives s t r ws w f o =
+  repeat_gives idle s t r ws w f o =
       let o' : OwnList T group gap (pieces q (cells s)) ws =
       subst (λ os. OwnList T group gap os ws) (front_all (pieces q (cells s))) o in
-      shown r (first_gives s t r ws w (list_view (pieces q (cells s)) ws o') f)
+      shown r (first_gives idle s t r ws w (list_view (pieces q (cells s)) ws o') f)
     where
       shown : (r : Result (List T) Error) → GivesOwn (pieces q (cells s)) r t
           → Gives q (OwnList T group gap (front (repeated k) (pieces q (cells s))))
@@ -523,16 +596,16 @@ module _ (T : Type 0) (inner : Outcome T) (k : FieldKind) (q : Roles) (group : G
       shown (Err e) c = c
 
   -- many, and what is built on it: the values of the own list
-  pub repeat_law : FieldLaw (List T) (λ s r t. TurnsEval T inner idle None s r t) (repeated k) q
+  pub repeat_law : (idle : Bool) → FieldLaw (List T) (RepeatOutcome inner idle) (repeated k) q
       (OwnList T group gap)
-  repeat_law = record {
+  repeat_law idle = record {
     own = own_repeated;
-    ok = λ s t vs w f. let i = repeat_took s t vs w f in record {
+    ok = λ s t vs w f. let i = repeat_took idle s t vs w f in record {
       steady = i.steady;
       takes = i.takes;
       read = λ n. subst (λ os. OwnList T group gap os vs)
           (sym (front_all (pieces q (cells s)))) i.list;
       rest = λ n. i.none ∙ sym (back_none (pieces q (cells s)));
     };
-    answers = repeat_gives;
+    answers = repeat_gives idle;
   }

@@ -1,22 +1,20 @@
 -- What parsers answer, by their tables, is what the laws of flat fields speak of.
-use Rattle.std.proofs.Common.{◌≡◌, ℕ, ◌<◌, Bool, true, false, List, [], ◌∷◌, ◌++◌, Option, Some}
+use Rattle.std.proofs.Common.{◌≡◌, ℕ, Bool, true, false, List, [], Option, Some}
 use Rattle.std.proofs.Common.{None, Result, Ok, Err, refl, sym, ap, ◌∙◌, subst, inl, inr, ◌⊎◌}
-use Rattle.std.proofs.Common.{⊎_elim, arith, true≢false}
+use Rattle.std.proofs.Common.{⊎_elim, true≢false}
 use Rattle.std.specs.Global.{Vec}
-use Rattle.std.proofs.lemmas.Bool.{eqb-true, eq-eqb}
 use Rattle.bpaf_doc.specs.Names.{Names}
 use Rattle.bpaf_line.specs.declared.error.Error.{Error}
 use Rattle.bpaf_line.specs.Messages.{can_catch}
-use Rattle.bpaf_line.specs.Situation.{Situation, open_count}
+use Rattle.bpaf_line.specs.Situation.{Situation}
 use Rattle.bpaf_laws.specs.Default.{Gives, GivesClone, GivesAnswer, FallbackOutcome}
 use Rattle.bpaf_laws.specs.Reading.{Outcome}
-use Rattle.bpaf_laws.specs.Repeat.{Turns, UntilRest, UntilFault, ManyOutcome, SomeOutcome}
-use Rattle.bpaf_laws.specs.Repeat.{CollectOutcome, CountOutcome, LastOutcome, is_nil, stops, rests}
-use Rattle.bpaf_laws.specs.Turn.{TurnOutcome, stops_step, is_untouched}
+use Rattle.bpaf_laws.specs.Repeat.{ManyOutcome, SomeOutcome, CollectOutcome, CountOutcome}
+use Rattle.bpaf_laws.specs.Repeat.{LastOutcome, is_nil}
+use Rattle.bpaf_laws.specs.Turn.{TurnOutcome}
 use Rattle.bpaf_laws.specs.Transform.{MapOutcome, ParseOutcome, GuardOutcome}
 use Rattle.bpaf_exact.specs.Flat.{OfMemory, Caught, Refused, class, class_of}
-use Rattle.bpaf_exact.specs.Single.{Stops, nothing_found, caught, TurnsEval, step, step_failed}
-use Rattle.bpaf_exact.specs.Single.{idle_step, enough, stopped, failed, no_room}
+use Rattle.bpaf_exact.specs.Single.{RepeatOutcome}
 use Rattle.bpaf_exact.specs.Wrappers.{Closure, Decides, map_closure, parse_closure, guard_closure}
 use Rattle.bpaf_exact.specs.Wrappers.{answer_closure, kept_closure, ClosedEval, closed_yes}
 use Rattle.bpaf_exact.specs.Wrappers.{closed_no, closed_memory, closed_err, OptionalEval}
@@ -25,13 +23,11 @@ use Rattle.bpaf_exact.specs.Wrappers.{CanCatch, catch_missing, catch_other, Fall
 use Rattle.bpaf_exact.specs.Wrappers.{fallback_ok, fallback_given, fallback_no, fallback_memory}
 use Rattle.bpaf_exact.specs.Wrappers.{fallback_err}
 use Rattle.bpaf_exact.specs.Derived.{list_closure, some_closure, count_closure, collect_closure}
-use Rattle.bpaf_exact.specs.Derived.{LastEval, last_of, last_err, last_again}
 use Rattle.bpaf_exact.specs.FlatForm.{FlatForm, FormLaw, Agrees, flat_closed, flat_repeat}
 use Rattle.bpaf_exact.specs.FlatForm.{flat_many}
 use Rattle.bpaf_exact.specs.FlatForm.{flat_some, flat_count, flat_collect, flat_last}
 use Rattle.bpaf_exact.specs.FlatForm.{flat_optional, flat_fallback, unless}
-use Rattle.bpaf_exact.proofs.Classes.{memory_class, caught_class, kept_class, stop_class}
-use Rattle.bpaf_exact.proofs.Classes.{no_stop_class}
+use Rattle.bpaf_exact.proofs.Classes.{memory_class, caught_class, kept_class, stops_at, goes_on}
 use Rattle.bpaf_exact.proofs.Narrow.{AllowsNoMore, narrower_form}
 use Rattle.bpaf_exact.proofs.FlatForm.{flat_closed_law, never_refuses, flat_listed_law, some_agrees}
 use Rattle.bpaf_exact.proofs.FlatForm.{flat_last_law, flat_optional_law, flat_fallback_law}
@@ -103,22 +99,6 @@ guard_field_law A inner checks message names s g l =
     narrower_form A _ _ (guard_within A inner checks message) names _
     (flat_closed_law A A inner (guard_closure checks) names s g l)
 
--- Turns.
-
--- an error at which a turn stops
-stops_at : (e : Error) (s m : Situation) → stops_step false e.0 (is_untouched s m) ≡ true
-    → Stops e s m
-stops_at e s m h = ⊎_elim
-    (λ missing. nothing_found missing.0 (eqb-true (open_count m) (open_count s) missing.1))
-    (λ other. caught other) (stop_class e.0 (is_untouched s m) h)
-
--- an error at which it doesn't
-goes_on : (e : Error) (s m : Situation) → stops_step false e.0 (is_untouched s m) ≡ false
-    → Stops e s m → ⊥
-goes_on e s m h (nothing_found c same) =
-    no_stop_class e.0 (is_untouched s m) h (inl (c, eq-eqb (open_count m) (open_count s) same))
-goes_on e s m h (caught c) = no_stop_class e.0 (is_untouched s m) h (inr c)
-
 -- optional
 optional_within : (T : Type 0) (inner : Outcome T)
     → AllowsNoMore (Option T) (OptionalEval T inner) (TurnOutcome inner false true)
@@ -145,108 +125,19 @@ optional_field_law T inner false names s l =
 
 -- Repeats.
 
-module _ (T : Type 0) (inner : Outcome T) (idle : Bool) where
-  -- a turn stops after a value
-  stop_later : (s t : Situation) → TurnOutcome inner false false s (Ok None) t
-      → TurnsEval T inner idle (Some (open_count s)) s (Ok []) t
-  stop_later s t (inl o) = let l = o.3 in enough o.1 (λ fewer. absurd (omega arith))
-  stop_later s t (inr o) =
-      subst (TurnsEval T inner idle (Some (open_count s)) s (Ok [])) (sym o.1)
-      (stopped o.0.2 (stops_at o.0.0 s o.0.1 o.0.3))
-
-  -- and without one
-  stop_first : (s t : Situation) → TurnOutcome inner false true s (Ok None) t
-      → TurnsEval T inner idle None s (Ok []) t
-  stop_first s t (inl o) = absurd (true≢false o.2)
-  stop_first s t (inr o) =
-      subst (TurnsEval T inner idle None s (Ok [])) (sym o.1)
-      (stopped o.0.2 (stops_at o.0.0 s o.0.1 o.0.3))
-
-  -- a turn fails
-  step_fails : (last : Option ℕ) (first : Bool) (s t : Situation) (e : Error)
-      → TurnOutcome inner false first s (Err e) t → TurnsEval T inner idle last s (Err e) t
-  step_fails last first s t e (inl o) = failed o.0 (goes_on e s t o.1)
-  step_fails last first s t e (inr o) = no_room (memory_class e.0 o.0)
-
-  -- a later value took something
-  took_item : (s m : Situation) → (false ≡ true) ⊎ (open_count m < open_count s)
-      → open_count m < open_count s
-  took_item s m (inl e) = absurd cc
-  took_item s m (inr l) = l
-
-  -- turns after a value, until one stops
-  later_values : (values : List T) (s last t : Situation) → Turns inner false false s values last
-      → TurnOutcome inner false false last (Ok None) t
-      → TurnsEval T inner idle (Some (open_count s)) s (Ok values) t
-  later_values [] s last t steps stop =
-      subst (λ z. TurnsEval T inner idle (Some (open_count z)) z (Ok []) t) (sym steps)
-      (stop_later last t stop)
-  later_values (v ∷ values) s last t steps stop =
-      step steps.1.0 (took_item s steps.0 steps.1.1)
-      (later_values values steps.0 last t steps.2 stop)
-
-  -- until one fails
-  later_fault : (values : List T) (s last t : Situation) (e : Error)
-      → Turns inner false false s values last → TurnOutcome inner false false last (Err e) t
-      → TurnsEval T inner idle (Some (open_count s)) s (Err e) t
-  later_fault [] s last t e steps fails =
-      subst (λ z. TurnsEval T inner idle (Some (open_count z)) z (Err e) t) (sym steps)
-      (step_fails (Some (open_count last)) false last t e fails)
-  later_fault (v ∷ values) s last t e steps fails =
-      step_failed steps.1.0 (took_item s steps.0 steps.1.1)
-      (later_fault values steps.0 last t e steps.2 fails)
-
-  -- all values, until a turn stops
-  all_values : (first : Bool) (values : List T) (s last t : Situation)
-      → Turns inner false first s values last
-      → TurnOutcome inner false (is_nil values) last (Ok None) t
-      → TurnsEval T inner idle None s (Ok values) t
-  all_values first [] s last t steps stop =
-      subst (λ z. TurnsEval T inner idle None z (Ok []) t) (sym steps) (stop_first last t stop)
-  all_values first (v ∷ values) s last t steps stop =
-      step steps.1.0 tt (later_values values steps.0 last t steps.2 stop)
-
-  -- until one fails
-  all_fault : (first : Bool) (values : List T) (s last t : Situation) (e : Error)
-      → Turns inner false first s values last
-      → TurnOutcome inner false (is_nil values) last (Err e) t
-      → TurnsEval T inner idle None s (Err e) t
-  all_fault first [] s last t e steps fails =
-      subst (λ z. TurnsEval T inner idle None z (Err e) t) (sym steps)
-      (step_fails None true last t e fails)
-  all_fault first (v ∷ values) s last t e steps fails =
-      step_failed steps.1.0 tt (later_fault values steps.0 last t e steps.2 fails)
-
--- the turns of a repeat
-abbrev Repeated : (T : Type 0) → Outcome T → Bool → Outcome (List T)
-Repeated T inner idle s r t = TurnsEval T inner idle None s r t
-
--- values until a turn stops, or one that took nothing
-rest_values : (T : Type 0) (inner : Outcome T) (s t : Situation) (values : List T)
-    → UntilRest inner s values t → TurnsEval T inner true None s (Ok values) t
-rest_values T inner s t values (stops m steps stop) =
-    all_values T inner true false values s m t steps stop
-rest_values T inner s t values (rests v e f l) =
-    subst (λ z. TurnsEval T inner true None s (Ok z) t) (sym e) (idle_step refl f tt l)
-
--- until one fails
-rest_fault : (T : Type 0) (inner : Outcome T) (s t : Situation) (e : Error) → UntilFault inner s e t
-    → TurnsEval T inner true None s (Err e) t
-rest_fault T inner s t e o = all_fault T inner true false o.values s o.last t e o.steps o.fails
-
 -- many
 many_within : (T : Type 0) (inner : Outcome T)
     → AllowsNoMore (Vec T)
-    (ClosedEval (List T) (Vec T) (Repeated T inner false) (list_closure T) Refused)
+    (ClosedEval (List T) (Vec T) (RepeatOutcome inner false) (list_closure T) Refused)
     (ManyOutcome inner false)
 many_within T inner = record { within = by_answer }
   where
     by_answer : (s t : Situation) (r : Result (Vec T) Error) → ManyOutcome inner false s r t
-        → ClosedEval (List T) (Vec T) (Repeated T inner false) (list_closure T) Refused s r t
+        → ClosedEval (List T) (Vec T) (RepeatOutcome inner false) (list_closure T) Refused s r t
     by_answer s t (Ok v) o =
-        closed_yes (all_values T inner false true v.items s o.last t o.steps o.stop) refl
+        closed_yes o refl
     by_answer s t (Err e) o =
-        closed_err (all_fault T inner false true o.values s o.last t e o.steps o.fails)
+        closed_err o
 
 -- keeps to the laws of its form
 pub many_field_law : (T : Type 0) (inner : Outcome T) (catch : Bool) (names : List Names)
@@ -265,21 +156,19 @@ not_nil T values e f = true≢false (sym (ap is_nil f) ∙ e)
 -- its answers, as those of a closure on the list
 some_within : (T : Type 0) (inner : Outcome T) (message : List ℕ)
     → AllowsNoMore (Vec T)
-    (ClosedEval (List T) (Vec T) (Repeated T inner false) (some_closure T) Caught)
+    (ClosedEval (List T) (Vec T) (RepeatOutcome inner false) (some_closure T) Caught)
     (SomeOutcome inner false message)
 some_within T inner message = record { within = by_answer }
   where
     by_answer : (s t : Situation) (r : Result (Vec T) Error) → SomeOutcome inner false message s r t
-        → ClosedEval (List T) (Vec T) (Repeated T inner false) (some_closure T) Caught s r t
+        → ClosedEval (List T) (Vec T) (RepeatOutcome inner false) (some_closure T) Caught s r t
     by_answer s t (Ok v) o =
-        closed_yes (all_values T inner false true v.items s o.0.last t o.0.steps o.0.stop)
-        (refl, not_nil T v.items o.1)
+        closed_yes o.0 (refl, not_nil T v.items o.1)
     by_answer s t (Err e) (inl o) =
-        closed_err (all_fault T inner false true o.values s o.last t e o.steps o.fails)
+        closed_err o
     by_answer s t (Err e) (inr o) =
-        let steps = all_values T inner false true [] s o.0.last t o.0.steps o.0.stop in
-        ⊎_elim (λ told. closed_no steps refl (ap class_of told))
-        (λ memory. closed_memory steps (ap class_of memory)) o.1
+        ⊎_elim (λ told. closed_no o.0 refl (ap class_of told))
+        (λ memory. closed_memory o.0 (ap class_of memory)) o.1
 
 -- keeps to the laws of its form
 pub some_field_law : (T : Type 0) (inner : Outcome T) (catch : Bool) (message : List ℕ)
@@ -294,19 +183,18 @@ some_field_law T inner false message names s l =
 -- collect
 collect_within : (T C : Type 0) (inner : Outcome T) (fills : List T → C → Type 0)
     → AllowsNoMore C
-    (ClosedEval (List T) C (Repeated T inner false) (collect_closure fills) Refused)
+    (ClosedEval (List T) C (RepeatOutcome inner false) (collect_closure fills) Refused)
     (CollectOutcome inner false fills)
 collect_within T C inner fills = record { within = by_answer }
   where
     by_answer : (s t : Situation) (r : Result C Error) → CollectOutcome inner false fills s r t
-        → ClosedEval (List T) C (Repeated T inner false) (collect_closure fills) Refused s r t
+        → ClosedEval (List T) C (RepeatOutcome inner false) (collect_closure fills) Refused s r t
     by_answer s t (Ok v) o =
-        closed_yes (all_values T inner false true o.0 s o.1.last t o.1.steps o.1.stop) o.2
+        closed_yes o.1 o.2
     by_answer s t (Err e) (inl o) =
-        closed_err (all_fault T inner false true o.values s o.last t e o.steps o.fails)
+        closed_err o
     by_answer s t (Err e) (inr o) =
-        closed_memory (all_values T inner false true o.0 s o.1.last t o.1.steps o.1.stop)
-        (memory_class e.0 o.2)
+        closed_memory o.1 (memory_class e.0 o.2)
 
 -- keeps to the laws of its form
 pub collect_field_law : (T C : Type 0) (inner : Outcome T) (catch : Bool)
@@ -320,14 +208,14 @@ collect_field_law T C inner false fills names s l =
 
 -- count
 count_within : (T : Type 0) (inner : Outcome T)
-    → AllowsNoMore ℕ (ClosedEval (List T) ℕ (Repeated T inner true) (count_closure T) Refused)
+    → AllowsNoMore ℕ (ClosedEval (List T) ℕ (RepeatOutcome inner true) (count_closure T) Refused)
     (CountOutcome inner)
 count_within T inner = record { within = by_answer }
   where
     by_answer : (s t : Situation) (r : Result ℕ Error) → CountOutcome inner s r t
-        → ClosedEval (List T) ℕ (Repeated T inner true) (count_closure T) Refused s r t
-    by_answer s t (Ok n) o = closed_yes (rest_values T inner s t o.0 o.1) o.2
-    by_answer s t (Err e) o = closed_err (rest_fault T inner s t e o)
+        → ClosedEval (List T) ℕ (RepeatOutcome inner true) (count_closure T) Refused s r t
+    by_answer s t (Ok n) o = closed_yes o.1 o.2
+    by_answer s t (Err e) o = closed_err o
 
 -- keeps to the laws of its form
 pub count_field_law : (T : Type 0) (inner : Outcome T) (names : List Names) (s : FlatForm T)
@@ -337,24 +225,10 @@ count_field_law T inner names s l =
     (flat_listed_law T ℕ inner true (count_closure T) Refused names s
     (never_refuses (List T) ℕ (count_closure T) (λ x n. n) (flat_repeat s)) l)
 
--- last
-last_within : (T : Type 0) (inner : Outcome T)
-    → AllowsNoMore T (LastEval T inner) (LastOutcome inner)
-last_within T inner = record { within = by_answer }
-  where
-    by_answer : (s t : Situation) (r : Result T Error) → LastOutcome inner s r t
-        → LastEval T inner s r t
-    by_answer s t (Ok v) (inl o) =
-        last_of (rest_values T inner s t (o.0 ++ v ∷ []) o.1) (record { before = o.0; is = refl })
-    by_answer s t (Ok v) (inr o) = last_again (rest_values T inner s o.0 [] o.1) o.2
-    by_answer s t (Err e) (inl o) = last_err (rest_fault T inner s t e o)
-    by_answer s t (Err e) (inr o) = last_again (rest_values T inner s o.0 [] o.1) o.2
-
--- keeps to the laws of its form
+-- last keeps to the laws of its form
 pub last_field_law : (T : Type 0) (inner : Outcome T) (names : List Names) (s : FlatForm T)
     → FormLaw inner names s → FormLaw (LastOutcome inner) names (flat_last s)
-last_field_law T inner names s l =
-    narrower_form T _ _ (last_within T inner) names _ (flat_last_law T inner names s l)
+last_field_law T inner names s l = flat_last_law T inner names s l
 
 -- Defaults.
 

@@ -1,11 +1,8 @@
 -- some, collect, count and last: what they make of the own list.
-use Rattle.std.specs.Prelude.{◌≡◌, ℕ, true, List, [], ◌∷◌, ◌++◌, length, None, Result, Ok, Err}
+use Rattle.std.specs.Prelude.{◌≡◌, ℕ, List, [], ◌∷◌, ◌++◌, length}
 use Rattle.std.specs.Global.{Vec}
-use Rattle.bpaf_line.specs.declared.error.Error.{Error}
-use Rattle.bpaf_line.specs.Situation.{Situation}
 use Rattle.bpaf_exact.specs.Pieces.{LinePiece}
-use Rattle.bpaf_laws.specs.Reading.{Outcome}
-use Rattle.bpaf_exact.specs.Single.{Groups, Gap, OwnList, TurnsEval}
+use Rattle.bpaf_exact.specs.Single.{Groups, Gap, OwnList}
 use Rattle.bpaf_exact.specs.Wrappers.{Closure}
 
 -- many: the list
@@ -31,16 +28,6 @@ collect_closure post = record { yes = post; no = λ vs. ⊥ }
 pub record IsLast (T : Type 0) (vs : List T) (v : T) : Type 0 where
   pub before : List T
   pub is : vs ≡ before ++ (v ∷ [])
-
--- last: its last value. Without a value the inner parser is evaluated once more.
-pub data LastEval (T : Type 0) (inner : Outcome T) (s : Situation) : Result T Error → Situation
-    → Type 0 where
-  last_of : {vs : List T} {v : T} {t : Situation} → TurnsEval T inner true None s (Ok vs) t
-      → IsLast T vs v → LastEval T inner s (Ok v) t
-  last_err : {e : Error} {t : Situation} → TurnsEval T inner true None s (Err e) t
-      → LastEval T inner s (Err e) t
-  last_again : {r : Result T Error} {m t : Situation} → TurnsEval T inner true None s (Ok []) m
-      → inner m r t → LastEval T inner s r t
 
 -- the last of the own list
 pub record LastOf (T : Type 0) (group : Groups T) (gap : Gap T) (os : List LinePiece)

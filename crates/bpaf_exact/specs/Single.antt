@@ -1,10 +1,10 @@
 -- A flat field without a repeat or default: one evaluation, and what repeats and defaults make of
 -- it.
-use Rattle.std.specs.Prelude.{◌≡◌, ℕ, suc, ◌<◌, ◌≤◌, Bool, true, false, List, [], ◌∷◌, Option, Some}
-use Rattle.std.specs.Prelude.{None, Result, Ok, Err}
+use Rattle.std.specs.Prelude.{◌≡◌, ℕ, suc, Bool, true, false, List, [], ◌∷◌, Some, None, Ok, Err}
 use Rattle.bpaf_line.specs.declared.error.Error.{Error}
 use Rattle.bpaf_line.specs.Situation.{Situation, open_count}
 use Rattle.bpaf_laws.specs.Reading.{Outcome}
+use Rattle.bpaf_laws.specs.Repeat.{ListOutcome, UntilRest, UntilFault}
 use Rattle.bpaf_exact.specs.Pieces.{Cells, Roles, LinePiece, pieces, TakesPiece, TakesPieces}
 use Rattle.bpaf_exact.specs.Flat.{OfMemory, OfMissing, Caught, Refused, class, cells, IsWhole}
 use Rattle.bpaf_exact.specs.Flat.{Steady, FieldKind, ByName, OneWord, EachWord, front, back}
@@ -137,33 +137,12 @@ pub data Stops (e : Error) (s m : Situation) : Type 0 where
   nothing_found : class e ≡ OfMissing → open_count m ≡ open_count s → Stops e s m
   caught : class e ≡ Caught → Stops e s m
 
--- fewer items are present than after the last value; the first time always
-abbrev pub IsFewer : Situation → Option ℕ → Type 0
-IsFewer m None = Unit {0}
-IsFewer m (Some n) = open_count m < n
-
--- the turns of a repeat; idle says that it stops also after a value that took nothing.
-pub data TurnsEval (T : Type 0) (inner : Outcome T) (idle : Bool) : Option ℕ → Situation
-    → Result (List T) Error → Situation → Type 0 where
-  step : {last : Option ℕ} {s m t : Situation} {v : T} {vs : List T} → inner s (Ok v) m
-      → IsFewer m last
-      → TurnsEval T inner idle (Some (open_count m)) m (Ok vs) t
-      → TurnsEval T inner idle last s (Ok (v ∷ vs)) t
-  step_failed : {last : Option ℕ} {s m t : Situation} {v : T} {e : Error} → inner s (Ok v) m
-      → IsFewer m last
-      → TurnsEval T inner idle (Some (open_count m)) m (Err e) t
-      → TurnsEval T inner idle last s (Err e) t
-  idle_step : {last : Option ℕ} {s t : Situation} {v : T} → idle ≡ true → inner s (Ok v) t
-      → IsFewer t last → open_count s ≤ open_count t
-      → TurnsEval T inner idle last s (Ok (v ∷ [])) t
-  enough : {last : Option ℕ} {s t : Situation} {v : T} → inner s (Ok v) t → (IsFewer t last → ⊥)
-      → TurnsEval T inner idle last s (Ok []) t
-  stopped : {last : Option ℕ} {s m : Situation} {e : Error} → inner s (Err e) m → Stops e s m
-      → TurnsEval T inner idle last s (Ok []) s
-  failed : {last : Option ℕ} {s t : Situation} {e : Error} → inner s (Err e) t → (Stops e s t → ⊥)
-      → TurnsEval T inner idle last s (Err e) t
-  no_room : {last : Option ℕ} {s t : Situation} {e : Error} → class e ≡ OfMemory
-      → TurnsEval T inner idle last s (Err e) t
+-- the values of a repeat, by its turns, until one stops; with `idle` also one value alone that took
+-- nothing
+abbrev pub RepeatOutcome : {T : Type 0} → Outcome T → Bool → Outcome (List T)
+RepeatOutcome inner false s r t = ListOutcome inner false s r t
+RepeatOutcome inner true s (Ok values) t = UntilRest inner s values t
+RepeatOutcome inner true s (Err e) t = UntilFault inner s e t
 
 -- the number of places where an item is present
 abbrev pub present_count : Cells → ℕ

@@ -1,6 +1,6 @@
 -- Adjacent groups keep to the laws where their products do.
 use Rattle.std.specs.Prelude.{IfOk, ◌≡◌, ℕ, ◌<◌, ◌≤◌, Bool, true, false, not, ◌&&◌, nat_le, nat_lt}
-use Rattle.std.specs.Prelude.{Result, Ok, Err, Option, Some, None, if◌then◌else◌, refl}
+use Rattle.std.specs.Prelude.{List, Result, Ok, Err, Option, Some, None, if◌then◌else◌, refl}
 use Rattle.std.proofs.Common.{sym, subst, ◌∙◌, ◌+◌, arith, true≢false}
 use Rattle.std.proofs.lemmas.Bool.{and_parts}
 use Rattle.bpaf_doc.specs.Shape.{Part}
@@ -11,10 +11,10 @@ use Rattle.bpaf_laws.specs.Reading.{Readings, Outcome, Share, IsEmptyShare, HasP
 use Rattle.bpaf_laws.specs.Laws.{Keeps, Reads, Lawful, newly}
 use Rattle.bpaf_laws.specs.Spared.{IsNotMemory, Spares}
 use Rattle.bpaf_laws.specs.OneStretch.{IsStretch}
-use Rattle.bpaf_laws.specs.AdjacentGroup.{GroupReads, Failure, longer, taken_by, Probe}
+use Rattle.bpaf_laws.specs.AdjacentGroup.{GroupReads, Failure, longer, longest, taken_by, Probe}
 use Rattle.bpaf_laws.specs.AdjacentGroup.{Narrowed, whole, again, Tries, answered, refused}
-use Rattle.bpaf_laws.specs.AdjacentGroup.{TriesAt, skipped, failed, found, no_memory}
-use Rattle.bpaf_laws.specs.AdjacentGroup.{Searches, over, on, value, wanted, GroupOutcome, EndsWith}
+use Rattle.bpaf_laws.specs.AdjacentGroup.{TriedInVain, none_tried, not_taken, all_failed, Searches}
+use Rattle.bpaf_laws.specs.AdjacentGroup.{gave, none_gave, wanted, GroupOutcome, EndsWith}
 use Rattle.bpaf_laws.specs.AdjacentGroup.{place_count}
 use Rattle.bpaf_laws.specs.Counting.{taken_count}
 use Rattle.bpaf_laws.proofs.Keeping.{keeps_of, keeps_refl, keeps_same, keeps_trans, keeps_scope}
@@ -85,7 +85,7 @@ module _ {T : Type 0} {inner : Outcome T} {reads : Readings T} (law : Lawful T i
         };
       }
 
-  -- a failure that is remembered keeps all
+  -- a failure keeps all, if there is one
   abbrev BestKeeps : Option Failure → Type 0
   BestKeeps None = Unit {0}
   BestKeeps (Some failure) = Keeps s failure.left
@@ -98,60 +98,43 @@ module _ {T : Type 0} {inner : Outcome T} {reads : Readings T} (law : Lawful T i
       as (λ more. BestKeeps (if more then Some other else best))
       [ true ↦ now | false ↦ before ]
 
-  -- what is remembered after a place keeps all
-  tried_keeps : (a stop : ℕ) (best : Option Failure) (r : Result (Option T) Error)
-      (after : Option Failure) (t : Situation) → TriesAt T inner s a stop best r after t
-      → BestKeeps best → BestKeeps after
-  tried_keeps a stop best r after t (skipped probe) before = before
-  tried_keeps a stop best r after t (failed e left probe tries spared) before =
-      longer_keeps best (record { error = e; left = left }) before (tries_keep a (Err e) left tries)
-  tried_keeps a stop best r after t (found v left probe tries) before = before
-  tried_keeps a stop best r after t (no_memory e memory) before = before
-
-  -- a value that comes of a place is a reading
-  abbrev IsFound : Result (Option T) Error → Situation → Type 0
-  IsFound (Ok (Some v)) t = Reads T (GroupReads T reads) s v t
-  IsFound (Ok None) t = Unit {0}
-  IsFound (Err e) t = Unit {0}
-
-  -- it is
-  tried_reads : (a stop : ℕ) (best : Option Failure) (r : Result (Option T) Error)
-      (after : Option Failure) (t : Situation) → TriesAt T inner s a stop best r after t
-      → IsFound r t
-  tried_reads a stop best r after t (skipped probe) = tt
-  tried_reads a stop best r after t (failed e left probe tries spared) = tt
-  tried_reads a stop best r after t (found v left probe tries) = tries_read a v left tries
-  tried_reads a stop best r after t (no_memory e memory) = tt
+  -- the longest failure of places that were tried in vain keeps all
+  vain_keeps : (first : Part) (from : ℕ) (failures : List Failure)
+      → TriedInVain T inner s first from failures → BestKeeps (longest s failures)
+  vain_keeps first from failures none_tried = tt
+  vain_keeps first from failures (not_taken from' a failures' before start probe) =
+      vain_keeps first from' failures' before
+  vain_keeps first from failures
+      (all_failed from' a failures' e t before start probe tries spared) =
+      longer_keeps (longest s failures') (record { error = e; left = t })
+      (vain_keeps first from' failures' before) (tries_keep a (Err e) t tries)
 
   -- what the laws say of an answer
   abbrev IsGood : Result T Error → Situation → Type 0
   IsGood (Ok v) t = Reads T (GroupReads T reads) s v t
   IsGood (Err e) t = Keeps s t
 
-  -- the failure that is remembered is a good end; so is that nothing is
+  -- the longest failure is a good end; so is that there is none
   end_keeps : (first : Part) (best : Option Failure) (e : Error) (t : Situation) → BestKeeps best
       → EndsWith s first best e t → Keeps s t
   end_keeps first None e t before ends = keeps_same s t ends.3
   end_keeps first (Some failure) e t before ends = subst (Keeps s) (sym ends.1) before
 
   -- a search keeps to the laws
-  searches_good : (first : Part) (from : ℕ) (best : Option Failure) (r : Result T Error)
-      (t : Situation) → BestKeeps best → Searches T inner s first from best r t → IsGood r t
-  searches_good first from best r t before (over from' best' e t' none ends) =
-      end_keeps first best' e t' before ends
-  searches_good first from best r t before (on from' a best' after r' t' start tried rest) =
-      searches_good first (a + 1) after r' t'
-      (tried_keeps a (a + place_count first) best' (Ok None) after s tried before) rest
-  searches_good first from best r t before (value from' a best' after v t' start tried) =
-      tried_reads a (a + place_count first) best' (Ok (Some v)) after t' tried
-  searches_good first from best r t before (wanted from' best' e memory) = keeps_refl s
+  searches_good : (first : Part) (r : Result T Error) (t : Situation)
+      → Searches T inner s first r t → IsGood r t
+  searches_good first r t (gave from a failures v t' before start probe tries) =
+      tries_read a v t' tries
+  searches_good first r t (none_gave from failures e t' before none ends) =
+      end_keeps first (longest s failures) e t' (vain_keeps first from failures before) ends
+  searches_good first r t (wanted e memory) = keeps_refl s
 
 -- adjacent groups keep to the laws
 pub group_lawful : {T : Type 0} {inner : Outcome T} {reads : Readings T} (first : Part)
     → Lawful T inner reads → Lawful T (GroupOutcome T inner first) (GroupReads T reads)
 group_lawful first law = record {
-  ok = λ s t v o. searches_good law s first s.start None (Ok v) t tt o;
-  err = λ s t e o. searches_good law s first s.start None (Err e) t tt o;
+  ok = λ s t v o. searches_good law s first (Ok v) t o;
+  err = λ s t e o. searches_good law s first (Err e) t o;
 }
 
 -- a value of theirs newly took one stretch
@@ -191,33 +174,25 @@ module _ {T : Type 0} (inner without : Outcome T) (spares : Spares inner without
     takes = probe.takes;
   }
 
-  -- what comes of a place catches none
-  tried_spared : (a stop : ℕ) (best : Option Failure) (r : Result (Option T) Error)
-      (after : Option Failure) (t : Situation) → IsNotMemory r
-      → TriesAt T inner s a stop best r after t
-      → TriesAt T without s a stop best r after t
-  tried_spared a stop best r after t not_memory (skipped probe) =
-      skipped (probe_spared a stop IsEmptyShare probe)
-  tried_spared a stop best r after t not_memory (failed e left probe tries spared) =
-      failed e left (probe_spared a stop HasPlace probe)
-      (tries_spared a (Err e) left spared tries) spared
-  tried_spared a stop best r after t not_memory (found v left probe tries) =
-      found v left (probe_spared a stop HasPlace probe) (tries_spared a (Ok v) left tt tries)
-  tried_spared a stop best r after t not_memory (no_memory e memory) =
-      absurd (not_both e.0 not_memory memory)
+  -- nor do places that were tried in vain
+  vain_spared : (first : Part) (from : ℕ) (failures : List Failure)
+      → TriedInVain T inner s first from failures → TriedInVain T without s first from failures
+  vain_spared first from failures none_tried = none_tried
+  vain_spared first from failures (not_taken from' a failures' before start probe) =
+      not_taken from' a failures' (vain_spared first from' failures' before) start
+      (probe_spared a (a + place_count first) IsEmptyShare probe)
+  vain_spared first from failures
+      (all_failed from' a failures' e t before start probe tries spared) =
+      all_failed from' a failures' e t (vain_spared first from' failures' before) start
+      (probe_spared a (a + place_count first) HasPlace probe)
+      (tries_spared a (Err e) t spared tries) spared
 
   -- so an adjacent group catches none
-  pub spared_group : (first : Part) (from : ℕ) (best : Option Failure) (r : Result T Error)
-      (t : Situation) → Searches T inner s first from best r t → IsNotMemory r
-      → Searches T without s first from best r t
-  spared_group first from best r t (over from' best' e t' none ends) spared =
-      over from' best' e t' none ends
-  spared_group first from best r t (on from' a best' after r' t' start tried rest) spared =
-      on from' a best' after r' t' start
-      (tried_spared a (a + place_count first) best' (Ok None) after s tt tried)
-      (spared_group first (a + 1) after r' t' rest spared)
-  spared_group first from best r t (value from' a best' after v t' start tried) spared =
-      value from' a best' after v t' start
-      (tried_spared a (a + place_count first) best' (Ok (Some v)) after t' tt tried)
-  spared_group first from best r t (wanted from' best' e memory) spared =
-      absurd (not_both e.0 spared memory)
+  pub spared_group : (first : Part) (r : Result T Error) (t : Situation)
+      → Searches T inner s first r t → IsNotMemory r → Searches T without s first r t
+  spared_group first r t (gave from a failures v t' before start probe tries) spared =
+      gave from a failures v t' (vain_spared first from failures before) start
+      (probe_spared a (a + place_count first) HasPlace probe) (tries_spared a (Ok v) t' tt tries)
+  spared_group first r t (none_gave from failures e t' before none ends) spared =
+      none_gave from failures e t' (vain_spared first from failures before) none ends
+  spared_group first r t (wanted e memory) spared = absurd (not_both e.0 spared memory)

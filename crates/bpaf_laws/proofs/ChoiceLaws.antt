@@ -8,11 +8,19 @@ use Rattle.bpaf_laws.specs.Reading.{Readings, Outcome}
 use Rattle.bpaf_laws.specs.Laws.{Keeps, Reads, Lawful}
 use Rattle.bpaf_laws.proofs.Keeping.{keeps_of, keeps_same, keeps_conflicts, closes_conflicts}
 use Rattle.bpaf_laws.proofs.Keeping.{newly_conflicts}
-use Rattle.bpaf_laws.specs.Choice.{Winner, EqualDepths, Chosen, ChoiceOutcome, ChoiceReads}
+use Rattle.bpaf_laws.specs.Choice.{AnsweredBranch, branch_of, Winner, EqualDepths, Chosen}
+use Rattle.bpaf_laws.specs.Choice.{ChoiceOutcome, ChoiceReads}
 
 -- an error is no value
 no_value : {T : Type 0} (v : T) (e : Error) → ◌≡◌ {A = Result T Error} (Ok v) (Err e) → ⊥
 no_value v e same = cc
+
+-- the branch that won has a value
+pub not_winner : {T : Type 0} (first second : AnsweredBranch T) (winner : Bool × Option ℕ)
+    (e : Error) (t : Situation) → Winner first second winner (Err e) t → ⊥
+not_winner first second (wins, None) e t won = no_value first.value e (sym won.0)
+not_winner first second (true, Some place) e t won = no_value first.value e (sym won.0)
+not_winner first second (false, Some place) e t won = no_value second.value e (sym won.0)
 
 -- a reading stays one under conflict notes
 reads_conflicts : {T : Type 0} (reads : Readings T) (s m loser : Situation) (winner : ℕ) (v : T)
@@ -52,17 +60,17 @@ module _ {T : Type 0} {first second : Outcome T} {rf rs : Readings T} (lf : Lawf
       (subst (λ w. second s b w) (sym left) ran)))
 
   -- and that of the one which won
-  winner_ok : (x : T) (sa : Situation) (y : T) (sb : Situation) (one : Bool) (place : Option ℕ)
-      (v : T) (t : Situation)
-      → first s (Ok x) sa → second s (Ok y) sb → Winner x sa y sb one place (Ok v) t
-      → Reads T (ChoiceReads rf rs) s v t
-  winner_ok x sa y sb one None v t f g won = from_first (Ok x) sa v t f won.0 won.1
-  winner_ok x sa y sb true (Some place) v t f g won =
-      of_first v t (reads_conflicts rf s sa sb place v t won.1
-      (lf.ok s sa v (subst (λ r. first s r sa) (sym won.0) f)))
-  winner_ok x sa y sb false (Some place) v t f g won =
-      of_second v t (reads_conflicts rs s sb sa place v t won.1
-      (ls.ok s sb v (subst (λ r. second s r sb) (sym won.0) g)))
+  winner_ok : (one other : AnsweredBranch T) (winner : Bool × Option ℕ) (v : T) (t : Situation)
+      → first s (Ok one.value) one.left → second s (Ok other.value) other.left
+      → Winner one other winner (Ok v) t → Reads T (ChoiceReads rf rs) s v t
+  winner_ok one other (wins, None) v t f g won =
+      from_first (Ok one.value) one.left v t f won.0 won.1
+  winner_ok one other (true, Some place) v t f g won =
+      of_first v t (reads_conflicts rf s one.left other.left place v t won.1
+      (lf.ok s one.left v (subst (λ r. first s r one.left) (sym won.0) f)))
+  winner_ok one other (false, Some place) v t f g won =
+      of_second v t (reads_conflicts rs s other.left one.left place v t won.1
+      (ls.ok s other.left v (subst (λ r. second s r other.left) (sym won.0) g)))
 
   -- a value at equal depths
   equal_ok : (a : Result T Error) (sa : Situation) (b : Result T Error) (sb : Situation) (v : T)
@@ -70,14 +78,14 @@ module _ {T : Type 0} {first second : Outcome T} {rf rs : Readings T} (lf : Lawf
       → first s a sa → second s b sb → EqualDepths s a sa b sb (Ok v) t
       → Reads T (ChoiceReads rf rs) s v t
   equal_ok (Ok x) sa (Ok y) sb v t f g o =
-      ⊎_elim (λ neither. from_first (Ok x) sa v t f neither.1 neither.2)
-      (λ won. winner_ok x sa y sb won.1.0 won.1.1 v t f g won.1.3) o
+      ⊎_elim (λ neither. from_first (Ok x) sa v t f neither.1.0 neither.1.1)
+      (λ won. winner_ok (branch_of x sa) (branch_of y sb) won.1.0 v t f g won.1.2) o
   equal_ok (Ok x) sa (Err e) sb v t f g o =
       ⊎_elim (λ wrong. absurd (no_value v e wrong.1))
-      (λ right. from_first (Ok x) sa v t f right.1 right.2) o
+      (λ right. from_first (Ok x) sa v t f right.1.0 right.1.1) o
   equal_ok (Err e) sa (Ok y) sb v t f g o =
       ⊎_elim (λ wrong. absurd (no_value v e wrong.1))
-      (λ right. from_second (Ok y) sb v t g right.1 right.2) o
+      (λ right. from_second (Ok y) sb v t g right.1.0 right.1.1) o
   equal_ok (Err e) sa (Err d) sb v t f g o = absurd (no_value v o.0.0 o.0.2)
 
   -- a value of the table
@@ -99,23 +107,16 @@ module _ {T : Type 0} {first second : Outcome T} {rf rs : Readings T} (lf : Lawf
   keeps_second : (b : Result T Error) (sb t : Situation) → second s b sb → t ≡ sb → Keeps s t
   keeps_second b sb t ran left = subst (Keeps s) (sym left) (keeps_of ls s b sb ran)
 
-  -- the branch that won has a value
-  not_winner : (x : T) (sa : Situation) (y : T) (sb : Situation) (one : Bool) (place : Option ℕ)
-      (e : Error) (t : Situation) → Winner x sa y sb one place (Err e) t → ⊥
-  not_winner x sa y sb one None e t won = no_value x e (sym won.0)
-  not_winner x sa y sb true (Some place) e t won = no_value x e (sym won.0)
-  not_winner x sa y sb false (Some place) e t won = no_value y e (sym won.0)
-
   -- a refusal at equal depths leaves all as before
   equal_err : (a : Result T Error) (sa : Situation) (b : Result T Error) (sb : Situation)
       (e : Error) (t : Situation) → EqualDepths s a sa b sb (Err e) t → t ≡ s
   equal_err (Ok x) sa (Ok y) sb e t o =
-      ⊎_elim (λ neither. absurd (no_value x e (sym neither.1)))
-      (λ won. absurd (not_winner x sa y sb won.1.0 won.1.1 e t won.1.3)) o
+      ⊎_elim (λ neither. absurd (no_value x e (sym neither.1.0)))
+      (λ won. absurd (not_winner (branch_of x sa) (branch_of y sb) won.1.0 e t won.1.2)) o
   equal_err (Ok x) sa (Err f) sb e t o =
-      ⊎_elim (λ wrong. wrong.2) (λ right. absurd (no_value x e (sym right.1))) o
+      ⊎_elim (λ wrong. wrong.2) (λ right. absurd (no_value x e (sym right.1.0))) o
   equal_err (Err f) sa (Ok y) sb e t o =
-      ⊎_elim (λ wrong. wrong.2) (λ right. absurd (no_value y e (sym right.1))) o
+      ⊎_elim (λ wrong. wrong.2) (λ right. absurd (no_value y e (sym right.1.0))) o
   equal_err (Err f) sa (Err d) sb e t o = o.1
 
   -- a refusal of the table

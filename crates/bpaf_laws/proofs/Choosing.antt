@@ -6,8 +6,8 @@ use Rattle.bpaf_line.specs.Situation.{Situation, is_taken}
 use Rattle.bpaf_line.specs.declared.error.Error.{Error}
 use Rattle.bpaf_laws.specs.Reading.{Outcome}
 use Rattle.bpaf_laws.specs.Spared.{IsNotMemory, WithoutMemory}
-use Rattle.bpaf_laws.specs.Choice.{is_want, IsWant, ValueOfWinner, Chosen, BranchesEval}
-use Rattle.bpaf_laws.specs.Choice.{ChoiceOutcome, LeftmostWins}
+use Rattle.bpaf_laws.specs.Choice.{AnsweredBranch, is_want, IsWant, ValueOfWinner, Chosen}
+use Rattle.bpaf_laws.specs.Choice.{BranchesEval, ChoiceOutcome, LeftmostWins}
 
 -- an answer that isn't want of memory
 spared_of : {T : Type 0} (r : Result T Error) → is_want r ≡ false → IsNotMemory r
@@ -92,18 +92,20 @@ leftmost_of_other s other p h = record {
     turned a true e = sym (ap not e)
     turned a false e = sym (ap not e)
 
--- who doesn't win against the second is the first
-pub first_wins : {T : Type 0} (x : T) (sa : Situation) (y : T) (sb : Situation) (place : ℕ)
-    (t : Situation) → IsWinner sb sa (false, Some place) → ConflictsSaved sa sb place t
-    → ValueOfWinner x sa y sb (Ok x) t
-first_wins x sa y sb place t winner saved =
-    let left = leftmost_of_other sb sa place winner.0 in
-    (true, Some place, (left, left.differs ∙ ap not winner.1), (refl, saved))
+-- where the second branch doesn't win against the first, the first one does
+pub first_wins : {T : Type 0} (first second : AnsweredBranch T) (place : ℕ) (t : Situation)
+    → IsWinner second.left first.left (false, Some place)
+    → ConflictsSaved first.left second.left place t
+    → ValueOfWinner first second (Ok first.value) t
+first_wins first second place t winner saved =
+    let left = leftmost_of_other second.left first.left place winner.0 in
+    ((true, Some place), (left, left.differs ∙ ap not winner.1), (refl, saved))
 
--- and who does is the second
-pub second_wins : {T : Type 0} (x : T) (sa : Situation) (y : T) (sb : Situation) (place : ℕ)
-    (t : Situation) → IsWinner sb sa (true, Some place) → ConflictsSaved sb sa place t
-    → ValueOfWinner x sa y sb (Ok y) t
-second_wins x sa y sb place t winner saved =
-    let left = leftmost_of_other sb sa place winner.0 in
-    (false, Some place, (left, left.differs ∙ ap not winner.1), (refl, saved))
+-- and where it wins, it is the winner
+pub second_wins : {T : Type 0} (first second : AnsweredBranch T) (place : ℕ) (t : Situation)
+    → IsWinner second.left first.left (true, Some place)
+    → ConflictsSaved second.left first.left place t
+    → ValueOfWinner first second (Ok second.value) t
+second_wins first second place t winner saved =
+    let left = leftmost_of_other second.left first.left place winner.0 in
+    ((false, Some place), (left, left.differs ∙ ap not winner.1), (refl, saved))

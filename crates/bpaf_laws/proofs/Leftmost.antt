@@ -10,8 +10,8 @@ use Rattle.bpaf_line.specs.declared.error.Error.{Error}
 use Rattle.bpaf_laws.specs.Reading.{Readings, Outcome}
 use Rattle.bpaf_laws.specs.Laws.{Lawful}
 use Rattle.bpaf_laws.specs.Turn.{is_untouched}
-use Rattle.bpaf_laws.specs.Choice.{depth, Winner, EqualDepths, Chosen, IsChosen, TookAndIsChosen}
-use Rattle.bpaf_laws.specs.Choice.{ChoiceOutcome, LeftmostWins}
+use Rattle.bpaf_laws.specs.Choice.{AnsweredBranch, branch_of, depth, Stands, Winner, EqualDepths}
+use Rattle.bpaf_laws.specs.Choice.{Chosen, IsChosen, TookAndIsChosen, ChoiceOutcome, LeftmostWins}
 use Rattle.bpaf_laws.proofs.CountingLaws.{same_took_none}
 use Rattle.std.proofs.Math.Bool.{and-eq-true_iff}
 
@@ -44,43 +44,45 @@ not_false true y e opposite = refl
 not_false false y e opposite = absurd (true≢false (sym opposite ∙ e))
 
 module _ {T : Type 0} (v : T) (t : Situation) where
-  -- a branch whose answer and situation stand is chosen
-  stands : (a : Result T Error) (sa : Situation) → Ok v ≡ a → t ≡ sa → IsChosen a sa v t
-  stands a sa answer left =
-      record {
-        answer = sym answer;
-        takes = λ p. subst (λ after. is_taken after p ≡ is_taken sa p)
-            (sym left) refl;
-      }
+  -- a branch that stands is chosen
+  stands : (branch : AnsweredBranch T) → Stands branch (Ok v) t
+      → IsChosen (Ok branch.value) branch.left v t
+  stands branch answer = record {
+    answer = sym answer.0;
+    takes = λ p. subst (λ after. is_taken after p ≡ is_taken branch.left p) (sym answer.1) refl;
+  }
 
   -- the winner took the leftmost place
-  winner_took : (x : T) (sa : Situation) (y : T) (sb : Situation) (one : Bool) (place : Option ℕ)
-      → IsWinner sa sb (one, place) → Winner x sa y sb one place (Ok v) t
-      → (p : ℕ) → IsLeftmost sa sb p → TookAndIsChosen p (Ok x) sa v t
-      ⊎ TookAndIsChosen p (Ok y) sb v t
-  winner_took x sa y sb one None decided winner p left =
-      absurd (differ (is_taken sa p) (is_taken sb p) left.differs (decided.0 p))
-  winner_took x sa y sb true (Some place) decided winner p left =
+  winner_took : (first second : AnsweredBranch T) (winner : Bool × Option ℕ)
+      → IsWinner first.left second.left winner → Winner first second winner (Ok v) t
+      → (p : ℕ) → IsLeftmost first.left second.left p
+      → TookAndIsChosen p (Ok first.value) first.left v t
+      ⊎ TookAndIsChosen p (Ok second.value) second.left v t
+  winner_took first second (wins, None) decided won p left =
+      absurd (differ (is_taken first.left p) (is_taken second.left p) left.differs (decided.0 p))
+  winner_took first second (true, Some place) decided won p left =
       inl (record {
-        chosen = record { answer = sym winner.0; takes = winner.1.taken };
-        took =
-            subst (λ q. is_taken sa q ≡ true) (one_leftmost sa sb p place left decided.0) decided.1;
+        chosen = record { answer = sym won.0; takes = won.1.taken };
+        took = subst (λ q. is_taken first.left q ≡ true)
+            (one_leftmost first.left second.left p place left decided.0) decided.1;
       })
-  winner_took x sa y sb false (Some place) decided winner p left =
+  winner_took first second (false, Some place) decided won p left =
       inr (record {
-        chosen = record { answer = sym winner.0; takes = winner.1.taken };
-        took =
-            subst (λ q. is_taken sb q ≡ true) (one_leftmost sa sb p place left decided.0)
-            (not_false (is_taken sb place) (is_taken sa place) decided.1 decided.0.differs);
+        chosen = record { answer = sym won.0; takes = won.1.taken };
+        took = subst (λ q. is_taken second.left q ≡ true)
+            (one_leftmost first.left second.left p place left decided.0)
+            (not_false (is_taken second.left place) (is_taken first.left place) decided.1
+            decided.0.differs);
       })
 
   -- without a place taken by only one of them the first is the winner
-  winner_first : (x : T) (sa : Situation) (y : T) (sb : Situation) (one : Bool) (place : Option ℕ)
-      → IsWinner sa sb (one, place) → Winner x sa y sb one place (Ok v) t
-      → TakeTheSame sa sb → IsChosen (Ok x) sa v t
-  winner_first x sa y sb one None decided winner same = stands (Ok x) sa winner.0 winner.1
-  winner_first x sa y sb one (Some place) decided winner same =
-      absurd (differ (is_taken sa place) (is_taken sb place) decided.0.differs (same place))
+  winner_first : (first second : AnsweredBranch T) (winner : Bool × Option ℕ)
+      → IsWinner first.left second.left winner → Winner first second winner (Ok v) t
+      → TakeTheSame first.left second.left → IsChosen (Ok first.value) first.left v t
+  winner_first first second (wins, None) decided won same = stands first won
+  winner_first first second (wins, Some place) decided won same =
+      absurd (differ (is_taken first.left place) (is_taken second.left place) decided.0.differs
+      (same place))
 
 -- what answered a value and left as many items took nothing
 took_nothing : {T : Type 0} {outcome : Outcome T} {reads : Readings T} → Lawful T outcome reads
@@ -110,7 +112,8 @@ module _ {T : Type 0} {first second : Outcome T} {first_reads second_reads : Rea
   equal_took (Ok x) sa (Ok y) sb first_ran second_ran chosen first_ok second_ok p left = ⊎_elim
       (λ neither. absurd (differ (is_taken sa p) (is_taken sb p) left.differs
       (none_differs x sa y sb first_ran second_ran neither.0 p)))
-      (λ winner. winner_took v t x sa y sb winner.1.0 winner.1.1 winner.1.2 winner.1.3 p left)
+      (λ won.
+      winner_took v t (branch_of x sa) (branch_of y sb) won.1.0 won.1.1 won.1.2 p left)
       chosen
   equal_took (Ok x) sa (Err e) sb first_ran second_ran chosen first_ok second_ok p left =
       absurd (true≢false (sym second_ok))
@@ -121,8 +124,8 @@ module _ {T : Type 0} {first second : Outcome T} {first_reads second_reads : Rea
   equal_first : (a : Result T Error) (sa : Situation) (b : Result T Error) (sb : Situation)
       → EqualDepths s a sa b sb (Ok v) t → IsOk a → IsOk b → TakeTheSame sa sb → IsChosen a sa v t
   equal_first (Ok x) sa (Ok y) sb chosen first_ok second_ok same = ⊎_elim
-      (λ neither. stands v t (Ok x) sa neither.1 neither.2)
-      (λ winner. winner_first v t x sa y sb winner.1.0 winner.1.1 winner.1.2 winner.1.3 same)
+      (λ neither. stands v t (branch_of x sa) neither.1)
+      (λ won. winner_first v t (branch_of x sa) (branch_of y sb) won.1.0 won.1.1 won.1.2 same)
       chosen
   equal_first (Ok x) sa (Err e) sb chosen first_ok second_ok same =
       absurd (true≢false (sym second_ok))

@@ -1,6 +1,6 @@
 -- Adjacent groups: products whose items stand next to one another.
-use Rattle.std.specs.Prelude.{◌≡◌, ℕ, ◌+◌, ◌<◌, ◌≤◌, true, false, List, Result, Ok, Err}
-use Rattle.std.specs.Prelude.{Option, Some, None, nat_lt, if◌then◌else◌}
+use Rattle.std.specs.Prelude.{◌≡◌, ℕ, ◌+◌, ◌<◌, ◌≤◌, true, false, List, [], ◌∷◌, Result, Ok}
+use Rattle.std.specs.Prelude.{Err, Option, Some, None, nat_lt, if◌then◌else◌}
 use Rattle.bpaf_doc.specs.Shape.{Shape, Part, Argument, Adjacent}
 use Rattle.bpaf_line.specs.declared.error.Error.{Error}
 use Rattle.bpaf_line.specs.declared.error.Message.TheVariants as message
@@ -36,14 +36,18 @@ abbrev pub taken_by : Situation → Option Failure → ℕ
 taken_by s None = 0
 taken_by s (Some failure) = taken_count s failure.left
 
--- of the failure that is remembered and another one that which took more places; of equals the
+-- of the longest failure until now and a later one that which took more places; of equals the
 -- former
 abbrev pub longer : Situation → Option Failure → Failure → Option Failure
 longer s best other = if nat_lt (taken_by s best)
     (taken_count s other.left) then Some other else best
 
--- at the end the failure that is remembered; without one the first item is missing, and all is as
--- before
+-- of failures, latest first, the one that took most places; of equals the earliest
+abbrev pub longest : Situation → List Failure → Option Failure
+longest s [] = None
+longest s (latest ∷ before) = longer s (longest s before) latest
+
+-- at the end the longest failure; without one the first item is missing, and all is as before
 abbrev pub EndsWith : Situation → Part → Option Failure → Error → Situation → Type 0
 EndsWith s first (Some failure) e t = (e ≡ failure.error) × (t ≡ failure.left)
 EndsWith s first None e t =
@@ -85,37 +89,35 @@ module _ (T : Type 0) (inner : Outcome T) (s : Situation) where
     refused : (stop : ℕ) (e : Error) (t : Situation) → Narrowed place stop
         → inner (with_scope s place stop) (Err e) t → Tries place (Err e) t
 
-  -- what comes of a place: None, where no item is taken or the attempts fail, which may be
-  -- remembered; a value; or want of memory
-  pub data TriesAt (place stop : ℕ) (best : Option Failure) : Result (Option T) Error
-      → Option Failure → Situation → Type 0 where
-    skipped : Probe place stop IsEmptyShare → TriesAt place stop best (Ok None) best s
-    failed : (e : Error) (t : Situation) → Probe place stop HasPlace → Tries place (Err e) t
+  -- the places before this one were tried in vain, with these failures, latest first: at each that
+  -- begins a first item no item is taken, or the attempts fail
+  pub data TriedInVain (first : Part) : ℕ → List Failure → Type 0 where
+    none_tried : TriedInVain first s.start []
+    not_taken : (from place : ℕ) (failures : List Failure) → TriedInVain first from failures
+        → IsGroupStart s (place_count first) from place
+        → Probe place (place + place_count first) IsEmptyShare
+        → TriedInVain first (place + 1) failures
+    all_failed : (from place : ℕ) (failures : List Failure) (e : Error) (t : Situation)
+        → TriedInVain first from failures → IsGroupStart s (place_count first) from place
+        → Probe place (place + place_count first) HasPlace → Tries place (Err e) t
         → is_memory e.0 ≡ false
-        → TriesAt place stop best (Ok None) (longer s best (record { error = e; left = t })) s
-    found : (v : T) (t : Situation) → Probe place stop HasPlace → Tries place (Ok v) t
-        → TriesAt place stop best (Ok (Some v)) best t
-    no_memory : (e : Error) → is_memory e.0 ≡ true → TriesAt place stop best (Err e) best s
+        → TriedInVain first (place + 1) (record { error = e; left = t } ∷ failures)
 
-  -- the places are tried one after the other, until one gives a value
-  pub data Searches (first : Part) : ℕ → Option Failure → Result T Error → Situation → Type 0 where
-    over : (from : ℕ) (best : Option Failure) (e : Error) (t : Situation)
-        → HasNoStart s (place_count first) from → EndsWith s first best e t
-        → Searches first from best (Err e) t
-    on : (from place : ℕ) (best after : Option Failure) (r : Result T Error) (t : Situation)
-        → IsGroupStart s (place_count first) from place
-        → TriesAt place (place + place_count first) best (Ok None) after s
-        → Searches first (place + 1) after r t → Searches first from best r t
-    value : (from place : ℕ) (best after : Option Failure) (v : T) (t : Situation)
-        → IsGroupStart s (place_count first) from place
-        → TriesAt place (place + place_count first) best (Ok (Some v)) after t
-        → Searches first from best (Ok v) t
-    wanted : (from : ℕ) (best : Option Failure) (e : Error) → is_memory e.0 ≡ true
-        → Searches first from best (Err e) s
+  -- what a search gives: the value of the first place that gives one; where none does, the longest
+  -- failure; or want of memory
+  pub data Searches (first : Part) : Result T Error → Situation → Type 0 where
+    gave : (from place : ℕ) (failures : List Failure) (v : T) (t : Situation)
+        → TriedInVain first from failures → IsGroupStart s (place_count first) from place
+        → Probe place (place + place_count first) HasPlace → Tries place (Ok v) t
+        → Searches first (Ok v) t
+    none_gave : (from : ℕ) (failures : List Failure) (e : Error) (t : Situation)
+        → TriedInVain first from failures → HasNoStart s (place_count first) from
+        → EndsWith s first (longest s failures) e t → Searches first (Err e) t
+    wanted : (e : Error) → is_memory e.0 ≡ true → Searches first (Err e) s
 
--- a group, from the start of its scope on
+-- a group, over all places of its scope
 abbrev pub GroupOutcome : (T : Type 0) → Outcome T → Part → Outcome T
-GroupOutcome T inner first s r t = Searches T inner s first s.start None r t
+GroupOutcome T inner first s r t = Searches T inner s first r t
 
 -- a group shows its product, as what stands together
 abbrev pub GroupDescribes : (Shape → Type 0) → Shape → Type 0

@@ -26,36 +26,56 @@ abbrev pub IsWant : {T : Type 0} → Situation → Result T Error → Situation 
 IsWant s (Ok v) t = ⊥
 IsWant s (Err e) t = (is_memory e.0 ≡ true) × (t ≡ s)
 
--- the value of the branch that wins, by a place if by one: what only the other one took has then a
--- conflict note that names it
-abbrev pub Winner : {T : Type 0} → T → Situation → T → Situation → Bool → Option ℕ → Result T Error
+-- a branch that answered Ok: the value that it gave, and the situation that it left
+pub record AnsweredBranch (T : Type 0) : Type 0 where
+  pub value : T
+  pub left : Situation
+
+-- the branch that gave this value and left this situation
+abbrev pub branch_of : {T : Type 0} → T → Situation → AnsweredBranch T
+branch_of x s = record { value = x; left = s }
+
+-- a branch stands: its value is the answer, in the situation that it left
+abbrev pub Stands : {T : Type 0} → AnsweredBranch T → Result T Error → Situation → Type 0
+Stands branch r t = (r ≡ Ok branch.value) × (t ≡ branch.left)
+
+-- a branch won against another by a place: its value is the answer, and what only the other one
+-- took has a conflict note that names the place
+abbrev pub WonBy : {T : Type 0} → AnsweredBranch T → AnsweredBranch T → ℕ → Result T Error
     → Situation → Type 0
-Winner x sa y sb first None r t = (r ≡ Ok x) × (t ≡ sa)
-Winner x sa y sb true (Some place) r t = (r ≡ Ok x) × ConflictsSaved sa sb place t
-Winner x sa y sb false (Some place) r t = (r ≡ Ok y) × ConflictsSaved sb sa place t
+WonBy winner loser place r t =
+    (r ≡ Ok winner.value) × ConflictsSaved winner.left loser.left place t
+
+-- the answer, by whether the first of two branches wins, and by which place; without one it stands
+abbrev pub Winner : {T : Type 0} → AnsweredBranch T → AnsweredBranch T → Bool × Option ℕ
+    → Result T Error → Situation → Type 0
+Winner first second (wins, None) r t = Stands first r t
+Winner first second (true, Some place) r t = WonBy first second place r t
+Winner first second (false, Some place) r t = WonBy second first place r t
 
 -- the value of the branch that took the leftmost place taken by only one of them; without such a
 -- place it is the first
-abbrev pub ValueOfWinner : {T : Type 0} → T → Situation → T → Situation → Result T Error → Situation
-    → Type 0
-ValueOfWinner x sa y sb r t =
-    (first : Bool) × (place : Option ℕ) × IsWinner sa sb (first, place)
-    × Winner x sa y sb first place r t
+abbrev pub ValueOfWinner : {T : Type 0} → AnsweredBranch T → AnsweredBranch T → Result T Error
+    → Situation → Type 0
+ValueOfWinner first second r t =
+    (winner : Bool × Option ℕ) × IsWinner first.left second.left winner
+    × Winner first second winner r t
 
 -- both answered a value: that of the first where neither took an item, else that of the winner
-abbrev pub BothOk : {T : Type 0} → Situation → T → Situation → T → Situation → Result T Error
-    → Situation → Type 0
-BothOk s x sa y sb r t =
-    (((is_untouched s sa && is_untouched s sb) ≡ true) × (r ≡ Ok x) × (t ≡ sa))
-    ⊎ (((is_untouched s sa && is_untouched s sb) ≡ false) × ValueOfWinner x sa y sb r t)
+abbrev pub BothOk : {T : Type 0} → Situation → AnsweredBranch T → AnsweredBranch T
+    → Result T Error → Situation → Type 0
+BothOk s first second r t =
+    (((is_untouched s first.left && is_untouched s second.left) ≡ true) × Stands first r t)
+    ⊎ (((is_untouched s first.left && is_untouched s second.left) ≡ false)
+    × ValueOfWinner first second r t)
 
--- one answered a value: it is the answer, unless it took nothing and the other's error is wrong
--- input
-abbrev pub OneOk : {T : Type 0} → Situation → T → Situation → Error → Result T Error → Situation
-    → Type 0
-OneOk s x sx e r t =
-    (((is_untouched s sx && is_wrong_input e.0) ≡ true) × (r ≡ Err e) × (t ≡ s))
-    ⊎ (((is_untouched s sx && is_wrong_input e.0) ≡ false) × (r ≡ Ok x) × (t ≡ sx))
+-- one answered a value: it stands, unless it took nothing and the other's error is wrong input,
+-- which is then the answer
+abbrev pub OneOk : {T : Type 0} → Situation → AnsweredBranch T → Error → Result T Error
+    → Situation → Type 0
+OneOk s branch e r t =
+    (((is_untouched s branch.left && is_wrong_input e.0) ≡ true) × (r ≡ Err e) × (t ≡ s))
+    ⊎ (((is_untouched s branch.left && is_wrong_input e.0) ≡ false) × Stands branch r t)
 
 -- neither did: their errors combined, and all is as before
 abbrev pub BothErr : {T : Type 0} → Situation → Error → Error → Result T Error → Situation → Type 0
@@ -64,9 +84,9 @@ BothErr s e f r t = ((both : Error) × Combines e.0 f.0 both.0 × (r ≡ Err bot
 -- the answer where both paths are equally deep
 abbrev pub EqualDepths : {T : Type 0} → Situation → Result T Error → Situation → Result T Error
     → Situation → Result T Error → Situation → Type 0
-EqualDepths s (Ok x) sa (Ok y) sb r t = BothOk s x sa y sb r t
-EqualDepths s (Ok x) sa (Err f) sb r t = OneOk s x sa f r t
-EqualDepths s (Err e) sa (Ok y) sb r t = OneOk s y sb e r t
+EqualDepths s (Ok x) sa (Ok y) sb r t = BothOk s (branch_of x sa) (branch_of y sb) r t
+EqualDepths s (Ok x) sa (Err f) sb r t = OneOk s (branch_of x sa) f r t
+EqualDepths s (Err e) sa (Ok y) sb r t = OneOk s (branch_of y sb) e r t
 EqualDepths s (Err e) sa (Err f) sb r t = BothErr s e f r t
 
 -- the answer by what the two branches answered: that of the deeper path, else as above

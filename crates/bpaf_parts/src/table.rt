@@ -3,7 +3,7 @@ ghost use Rattle.std.specs.Prelude.{◌≡◌, ◌⊎◌, IfOk, OnErr, Ok, map};
 ghost use Rattle.bpaf_doc.specs.Shape.{shape_of};
 ghost use Rattle.bpaf_line.specs.Marks.{Fits, CanRedo, undone, redone};
 ghost use Rattle.bpaf_laws.specs.Choice.{Chosen, BothOk, ValueOfWinner, OneOk, IsWant, is_want};
-ghost use Rattle.bpaf_laws.specs.Choice.{alternatives, either_shape};
+ghost use Rattle.bpaf_laws.specs.Choice.{alternatives, branch_of, either_shape};
 ghost use Rattle.bpaf_parts.specs.Branches.{IsStart, IsBranch, start_of, end_of};
 
 use crate::branch::{Branch, Start, resume};
@@ -77,7 +77,7 @@ fn value_of_first<T: Drop>(
 ) -> Result<T, Error>
     requires start { IsStart start state.old }
     requires this { IsBranch start this state.old }
-    ensures { OneOk (start_of start state.old) value (end_of start this state.old)
+    ensures { OneOk (start_of start state.old) (branch_of value (end_of start this state.old))
         error result state.new
         ⊎ IsWant (start_of start state.old) result state.new }
 {
@@ -98,7 +98,8 @@ fn value_of_second<T: Drop>(
     error: Error,
 ) -> Result<T, Error>
     requires { IsStart start state.old }
-    ensures { OneOk (start_of start state.old) value state.old error result state.new }
+    ensures { OneOk (start_of start state.old) (branch_of value state.old)
+        error result state.new }
 {
     if state.len() == start.left && error.wrong_input() {
         state.undo(start.mark);
@@ -118,8 +119,8 @@ fn value_of_both<T: Drop>(
 ) -> Result<T, Error>
     requires start { IsStart start state.old }
     requires this { IsBranch start this state.old }
-    ensures { BothOk (start_of start state.old) x (end_of start this state.old)
-        y state.old result state.new
+    ensures { BothOk (start_of start state.old) (branch_of x (end_of start this state.old))
+        (branch_of y state.old) result state.new
         ⊎ IsWant (start_of start state.old) result state.new }
 {
     if this.left == start.left && state.len() == start.left {
@@ -147,8 +148,9 @@ fn value_of_winner<T: Drop>(
 ) -> Result<T, AllocError>
     requires fits { Fits mark state.old }
     requires this { CanRedo this (undone mark state.old) }
-    ensures ok { IfOk result (λ value. ValueOfWinner x (redone this (undone mark state.old))
-        y state.old (Ok value) state.new) }
+    ensures ok { IfOk result (λ value.
+        ValueOfWinner (branch_of x (redone this (undone mark state.old)))
+        (branch_of y state.old) (Ok value) state.new) }
     ensures fits { OnErr result (Fits mark state.new) }
     ensures back { OnErr result (undone mark state.new ≡ undone mark state.old) }
 {

@@ -2,8 +2,9 @@
 ghost use Rattle.std.specs.Prelude.{◌≡◌, ◌+◌, ◌≤◌, None, Some, Ok, Err, length, IfSome};
 ghost use Rattle.std.specs.Prelude.{MatchOption};
 ghost use Rattle.bpaf_doc.specs.Shape.{part_of};
-ghost use Rattle.bpaf_laws.specs.AdjacentGroup.{GroupOutcome, Tries, TriesAt};
+ghost use Rattle.bpaf_laws.specs.AdjacentGroup.{GroupOutcome, Tries};
 ghost use Rattle.bpaf_laws.specs.AdjacentGroup.{HasNoStart, IsGroupStart, place_count};
+ghost use Rattle.bpaf.specs.PlaceTried.{TriesAt};
 ghost use Rattle.bpaf.specs.Remembering.{IsRemembered};
 ghost use Rattle.bpaf.specs.Remembering.{failure_of};
 

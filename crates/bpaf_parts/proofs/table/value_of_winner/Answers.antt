@@ -2,6 +2,7 @@ use Rattle.std.proofs.Common.{ap, subst, ◌∙◌}
 use Rattle.bpaf_line.specs.Conflicts.{IsWinner, ConflictsSaved}
 use Rattle.bpaf_line.specs.Marks.{undone, redone}
 use Rattle.bpaf_laws.proofs.Choosing.{first_wins, second_wins}
+use Rattle.bpaf_laws.specs.Choice.{branch_of}
 use Rattle.bpaf_parts.proofs.table.value_of_winner.Goals as goal
 
 pub returns-then-here-clause-ok : goal.returns-then-here-clause-ok
@@ -17,7 +18,7 @@ returns-then-here-clause-ok g c =
     let saved =
     subst (λ m. ConflictsSaved m (redone c.args.this (undone mark m)) place t)
     c.pick_winner-here.ensures.same (c.in_ok-save_conflicts.ensures.ok mark) in
-    second_wins c.args.x this c.args.y s place t winner saved
+    second_wins (branch_of c.args.x this) (branch_of c.args.y s) place t winner saved
 
 pub returns-clause-ok : goal.returns-clause-ok
 returns-clause-ok g c =
@@ -39,4 +40,4 @@ returns-clause-ok g c =
     (subst (λ m. ConflictsSaved m (redone c.in_ok-that.that (undone mark c.resume-2.new.state))
     place t) resumed
     (c.in_ok-save_conflicts-2.ensures.ok mark)) in
-    first_wins c.args.x this c.args.y s place t winner saved
+    first_wins (branch_of c.args.x this) (branch_of c.args.y s) place t winner saved

@@ -1,4 +1,3 @@
-use Rattle.std.proofs.Common.{None}
 use Rattle.bpaf_doc.specs.Shape.{part_of}
 use Rattle.bpaf_laws.specs.Product.{ProductOutcome}
 use Rattle.bpaf_laws.proofs.ProductLaws.{product_lawful}
@@ -22,5 +21,5 @@ returns-clause-memory_is_never_caught g c =
     let without = g.P.Fields.fast_spared_outcome fields in
     spared_group (ProductOutcome answers makes) (ProductOutcome without makes)
     (product_spares answers without makes (g.met.P.Fields.fast_memory_is_never_caught fields))
-    c.args.state.now (part_of c.args.self.now.first) c.args.state.now.start None c.search.result
-    c.search.new.state c.search.ensures
+    c.args.state.now (part_of c.args.self.now.first) c.search.result c.search.new.state
+    c.search.ensures

@@ -1,8 +1,8 @@
--- All is as before, and what the places from here on give is what the group gives.
+-- All is as before, and the places before this one were tried in vain.
 use Rattle.std.proofs.Common.{◌≡◌, ◌≤◌, ◌-◌}
 use Rattle.bpaf_doc.specs.Shape.{part_of}
 use Rattle.bpaf.specs.Remembering.{IsRemembered}
-use Rattle.bpaf.proofs.Seeking.{Rest}
+use Rattle.bpaf.proofs.Seeking.{InVain}
 use Rattle.bpaf.proofs.adjacent.search.search.Given as goal
 
 abbrev pub invariant-loop-places : goal.invariant-loop-places
@@ -10,7 +10,7 @@ invariant-loop-places g l = record {
   same : l.state ≡ l.fn.state;
   begun : l.fn.state.start ≤ l.from;
   sound : IsRemembered l.fn.state l.best;
-  rest : Rest g.row.T.Denot (g.P.Parser.outcome l.parser) l.fn.state (part_of l.first) l.from
+  vain : InVain g.row.T.Denot (g.P.Parser.outcome l.parser) l.fn.state (part_of l.first) l.from
       l.best;
 }
 
