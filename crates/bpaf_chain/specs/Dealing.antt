@@ -1,4 +1,4 @@
--- Steps that are dealt out of the words, and what a run of the program does.
+-- Steps that are dealt out of the words.
 use Rattle.std.specs.Prelude.{◌≡◌, ℕ, ℤ, Bool, true, false, List, [], ◌∷◌, Some, codes}
 use Rattle.std.specs.Global.{Vec}
 use mir.Syntax.{w64}
@@ -6,9 +6,6 @@ use Rattle.bpaf_doc.specs.Names.{Names}
 use Rattle.bpaf_text.specs.Meaning.{SpellsSigned, SpellsUnsigned}
 use Rattle.bpaf_text.specs.Named.{key_named}
 use Rattle.bpaf_words.specs.Arguments.{Given}
-use Rattle.bpaf_words.specs.Spelling.{Known}
-use Rattle.bpaf_line.specs.Constructing.{IsContext}
-use Rattle.bpaf_line.specs.Situation.{Context, is_dealt_place}
 use Rattle.bpaf_laws.specs.AdjacentCommand.{AdjacentReads}
 use Rattle.bpaf_laws.specs.Choice.{ChoiceReads}
 use Rattle.bpaf_laws.specs.Flag.{FlagReads}
@@ -17,6 +14,8 @@ use Rattle.bpaf_laws.specs.Reading.{Readings}
 use Rattle.bpaf_laws.specs.Repeat.{ManyReads}
 use Rattle.bpaf.specs.declared.leaves.positional.Position.TheVariants.{Unrestricted}
 use Rattle.bpaf.specs.Positional.{PositionalReads}
+use Rattle.bpaf_program.specs.Dealt.{IsDealtBySome}
+use Rattle.bpaf_program.specs.Values.{IsKept}
 use Rattle.bpaf_chain.specs.declared.steps.Step.{Step}
 use Rattle.bpaf_chain.specs.declared.steps.Step.TheVariants.{Move, Turn, Repeat}
 
@@ -27,10 +26,6 @@ program_given words = record { words = words; env = []; name = Some (codes "chai
 -- the name of the switch by which a turn goes to the left
 abbrev pub left_names : Names
 left_names = record { shorts = []; longs = codes "left" ∷ [] }
-
--- a truth value that a switch keeps is given as it is
-abbrev pub IsKept : Bool → Bool → Type 0
-IsKept kept v = v ≡ kept
 
 -- a word that spells a number
 abbrev pub NumberReads : Readings ℕ
@@ -72,13 +67,10 @@ StepReads move turn repeat =
 
 -- all places of the words' line but the first `--`, by some known short names, are dealt out to the
 -- steps, each used once
-pub record AreDealt (move turn repeat : Readings Step) (words : List (List ℕ))
-    (steps : Vec Step) : Type 0 where
-  pub known : Known
-  pub context : Context
-  pub is_context : IsContext known (program_given words) context
-  pub read : ManyReads (StepReads move turn repeat) context (is_dealt_place context) steps
+abbrev pub AreDealt : (move turn repeat : Readings Step) → List (List ℕ) → Vec Step → Type 0
+AreDealt move turn repeat words =
+    IsDealtBySome (program_given words) (ManyReads (StepReads move turn repeat))
 
 -- so are the steps of the program, each made of its own parts
 abbrev pub AreDealtSteps : List (List ℕ) → Vec Step → Type 0
-AreDealtSteps words steps = AreDealt MoveReads TurnReads RepeatReads words steps
+AreDealtSteps = AreDealt MoveReads TurnReads RepeatReads

@@ -1,13 +1,9 @@
 -- What the program prints: a line for each step.
 use Rattle.std.specs.Prelude.{ℕ, Bool, List, [], ◌∷◌, ◌++◌, codes, if◌then◌else◌}
 use Rattle.std.specs.Fmt.{decimal, signed_decimal}
-use Rattle.bpaf_doc.specs.Print.{line_break}
+use Rattle.bpaf_program.specs.Lines.{line}
 use Rattle.bpaf_chain.specs.declared.steps.Step.{Step}
 use Rattle.bpaf_chain.specs.declared.steps.Step.TheVariants.{Move, Turn, Repeat}
-
--- a text and the end of its line
-abbrev pub line : List ℕ → List ℕ
-line text = text ++ line_break ∷ []
 
 -- the line of a turn
 abbrev pub turn_line : Bool → ℕ → List ℕ

@@ -1,5 +1,1 @@
 pub mod Alike
-pub mod Answering
-pub mod Dealing
-pub mod Ending
-pub mod Exactness

@@ -1,20 +1,20 @@
--- Options that are dealt out of the words, and what a run of the program does.
+-- Options that are dealt out of the words.
 use Rattle.std.specs.Prelude.{◌≡◌, ℕ, Bool, true, false, List, [], ◌∷◌, Some, codes}
-use Rattle.std.specs.Prelude.{string_bytes, String as StringIn}
-use Rattle.std.specs.declared.alloc.Global.{Global}
+use Rattle.std.specs.Global.{Vec}
 use Rattle.bpaf_doc.specs.Names.{Names}
 use Rattle.bpaf_text.specs.Meaning.{SpellsUnsigned}
 use Rattle.bpaf_text.specs.Named.{KeyWithValue, key_named}
 use Rattle.bpaf_words.specs.Arguments.{Given}
 use Rattle.bpaf_words.specs.Spelling.{Known, knowing}
-use Rattle.bpaf_line.specs.Constructing.{IsContext}
-use Rattle.bpaf_line.specs.Situation.{Context, is_dealt_place}
-use Rattle.bpaf_laws.specs.Reading.{Share, Joins}
 use Rattle.bpaf_laws.specs.Argument.{ArgumentReads}
 use Rattle.bpaf_laws.specs.Flag.{FlagReads}
+use Rattle.bpaf_laws.specs.Product.{BothReads, ProductReads}
+use Rattle.bpaf_laws.specs.Reading.{Readings}
 use Rattle.bpaf_laws.specs.Repeat.{ManyReads}
 use Rattle.bpaf.specs.declared.leaves.positional.Position.TheVariants.{Unrestricted}
 use Rattle.bpaf.specs.Positional.{PositionalReads}
+use Rattle.bpaf_program.specs.Dealt.{IsDealtBy}
+use Rattle.bpaf_program.specs.Values.{IsKept, MeansText, String}
 use Rattle.bpaf_demo.specs.declared.options.Options.{Options}
 
 -- the names of the switch
@@ -43,31 +43,34 @@ program_known = knowing (record { flags = codes "vhV"; arguments = codes "n" })
 abbrev pub program_given : List (List ℕ) → Given
 program_given words = record { words = words; env = []; name = Some (codes "bpaf_demo") }
 
--- a text of the program
-abbrev pub String : Type 0
-String = StringIn Global
+-- the values of the switch, the number and the files
+abbrev pub FieldValues : Type 0
+FieldValues = Bool × (ℕ × Vec String)
 
--- a text means itself
-abbrev pub MeansText : List ℕ → String → Type 0
-MeansText text file = string_bytes file ≡ text
+-- the options of them
+abbrev pub options_of : FieldValues → Options
+options_of x = record { verbose = x.0; num = x.1.0; files = x.1.1 }
 
--- a truth value that a switch keeps is given as it is
-abbrev pub IsKept : Bool → Bool → Type 0
-IsKept kept v = v ≡ kept
+-- what the switch reads
+abbrev pub VerboseReads : Readings Bool
+VerboseReads = FlagReads Bool IsKept (key_named verbose_names) true (Some false)
+
+-- what the number reads
+abbrev pub NumReads : Readings ℕ
+NumReads = ArgumentReads ℕ (SpellsUnsigned 64) number_key
+
+-- what the files read: a word each
+abbrev pub FilesReads : Readings (Vec String)
+FilesReads = ManyReads (PositionalReads String MeansText Unrestricted)
+
+-- what the options read: the switch, the number and the files, each place once
+abbrev pub OptionsReads : Readings Options
+OptionsReads =
+    ProductReads FieldValues Options
+    (BothReads Bool (ℕ × Vec String) VerboseReads (BothReads ℕ (Vec String) NumReads FilesReads))
+    (λ x v. v ≡ options_of x)
 
 -- all places of the words' line but the first `--` are dealt out to the switch, the number and the
 -- files, each used once
-pub record IsDealtOptions (words : List (List ℕ)) (v : Options) : Type 0 where
-  pub context : Context
-  pub is_context : IsContext program_known (program_given words) context
-  pub verbose_share : Share
-  pub num_share : Share
-  pub files_share : Share
-  pub other_share : Share
-  pub joins : Joins verbose_share other_share (is_dealt_place context)
-  pub others_join : Joins num_share files_share other_share
-  pub verbose : FlagReads Bool IsKept (key_named verbose_names) true (Some false)
-      context verbose_share v.verbose
-  pub num : ArgumentReads ℕ (SpellsUnsigned 64) number_key context num_share v.num
-  pub files : ManyReads (PositionalReads String MeansText Unrestricted)
-      context files_share v.files
+abbrev pub IsDealtOptions : List (List ℕ) → Options → Type 0
+IsDealtOptions words = IsDealtBy program_known (program_given words) OptionsReads

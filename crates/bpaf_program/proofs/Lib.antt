@@ -1,4 +1,10 @@
+pub mod Also
+pub mod Before
+pub mod Commands
 pub mod Ended
+pub mod Exactly
+pub mod Known
 pub mod Parts
 pub mod Running
+pub mod Seen
 pub mod Shown

@@ -1,18 +1,28 @@
 -- A program that prints its answer runs to the texts that answer its words.
 use Rattle.std.proofs.Common.{Ok, ◌≡◌, ◌⊎◌, ℕ, Bool, List, Option, Result, Err, string_bytes, codes}
-use Rattle.std.proofs.Common.{inl, inr, refl}
+use Rattle.std.proofs.Common.{All, IsUtf8, inl, inr, map, refl, slice_index_or, subst, ◌∙◌}
 use Rattle.std.specs.declared.alloc.Global.{Global}
 use Rattle.std.specs.Prelude.{String}
+use Rattle.std.specs.Io.KnownBytes.{Appends}
 use Rattle.std.specs.Result.{IsErr, IsErrAnd}
+use Rattle.std.proofs.lemmas.List.Elements.{All-map}
+use Rattle.std.proofs.lemmas.Str.{IsUtf8-string_bytes}
 use Rattle.bpaf_doc.specs.declared.doc.Piece.{Piece}
 use Rattle.bpaf_doc.specs.Print.{printed}
 use Rattle.bpaf_line.specs.declared.failure.ParseFailure.{ParseFailure}
 use Rattle.bpaf_line.specs.declared.failure.ParseFailure.TheVariants.{Stdout, Stderr, Memory}
 use Rattle.bpaf.specs.Asked.{IfShown}
-use Rattle.bpaf_program.specs.Ending.{IsPrinted, IsTold, no_memory, printed_in_part, printed_whole}
-use Rattle.bpaf_program.specs.Ending.{refused, shown, shown_in_part, told}
-use Rattle.bpaf_program.specs.Running.{AnswersText, FailsToWrite, RunsTo, WritesText, in_part}
-use Rattle.bpaf_program.specs.Running.{message}
+use Rattle.bpaf_program.specs.Ending.{AppendsPart, IsPrinted, IsTold, no_memory, printed_in_part}
+use Rattle.bpaf_program.specs.Ending.{printed_whole, refused, shown, shown_in_part, told}
+use Rattle.bpaf_program.specs.Running.{AnswersText, AnswersTextOf, FailsToWrite, IsTextOrWant}
+use Rattle.bpaf_program.specs.Running.{Prints, PrintsTextOf, RunsTo, WritesText, in_part}
+use Rattle.bpaf_program.specs.Running.{memory_wanted, message, write_failed, written}
+
+-- texts are in UTF-8
+pub are_texts : (words : List (String Global)) → All IsUtf8 (map string_bytes words)
+are_texts words =
+    All-map IsUtf8 string_bytes words
+    (λ k d within. IsUtf8-string_bytes (slice_index_or words k d))
 
 -- what holds of each refusal that a step hands on holds of its answer
 pub handed_on : {A F : Type 0} {P : F → Type 0} (holds : Result A F → Type 0) (r : Result A F)
@@ -73,3 +83,44 @@ module _ (answers : List ℕ → Type 0) (out out_after err err_after : Option (
     succeeds = told_text f n is answer;
     fails = told_none f n is answer;
   }
+
+module _ (out out_after err err_after : Option (List ℕ)) where
+  -- where memory was wanted, that alone is told
+  wants : (text : List ℕ) (f : ParseFailure) (status : ℕ)
+      → IsTold out out_after err err_after f status → f ≡ Memory
+      → Prints text out out_after err err_after status
+  wants text f status (shown wrote quiet) is = absurd cc
+  wants text f status (shown_in_part part quiet) is = absurd cc
+  wants text f status (refused kept line) is = absurd cc
+  wants text f status (no_memory kept line) is = memory_wanted kept line
+
+  -- an answer that is a text, or want of memory, is printed
+  prints : (text : List ℕ) (r : Result (String Global) ParseFailure) (status : ℕ)
+      → IsPrinted out out_after err err_after string_bytes r status → IsTextOrWant text r
+      → Prints text out out_after err err_after status
+  prints text r status (printed_whole wrote quiet) own =
+      written (subst (Appends out out_after) own wrote) quiet
+  prints text r status (printed_in_part part quiet) own =
+      write_failed (subst (AppendsPart out out_after) own part) quiet
+  prints text r status (told {f = f} {status = n} is) own = wants text f n is own
+
+  -- so is the text of the values
+  pub prints_text : {V : Type 0} {value : V → Type 0} {text_of : V → List ℕ}
+      (r : Result (String Global) ParseFailure) (status : ℕ)
+      → IsPrinted out out_after err err_after string_bytes r status
+      → AnswersTextOf value text_of r
+      → PrintsTextOf value text_of status out out_after err err_after
+  prints_text {text_of = text_of} r status is answers = record {
+    alike = answers.alike;
+    prints = λ v there. prints (text_of v) r status is (answers.complete v there);
+  }
+
+-- values of one text of which one is printed
+pub text_answered : {V : Type 0} {value : V → Type 0} (text_of : V → List ℕ)
+    → ((v w : V) → value v → value w → text_of v ≡ text_of w) → (v : V) → value v
+    → (text : String Global) → string_bytes text ≡ text_of v
+    → AnswersTextOf value text_of (Ok text)
+text_answered text_of alike v there text is = record {
+  alike = alike;
+  complete = λ w other. is ∙ alike v w there other;
+}

@@ -5,7 +5,7 @@ use Rattle.std.specs.Io.KnownBytes.{Keeps, Appends}
 use Rattle.bpaf_doc.specs.Print.{printed}
 use Rattle.bpaf_line.specs.declared.failure.ParseFailure.{ParseFailure}
 use Rattle.bpaf_line.specs.declared.failure.ParseFailure.TheVariants.{Stdout, Stderr, Memory}
-use Rattle.bpaf_program.specs.Ending.{AppendsPart, AppendsUpTo, error_line}
+use Rattle.bpaf_program.specs.Ending.{AppendsPart, AppendsUpTo, error_line, memory_line}
 
 -- an answer gives or shows one of the texts that answer the words, or it refuses
 abbrev pub AnswersText : (List ℕ → Type 0) → Result (String Global) ParseFailure → Type 0
@@ -38,3 +38,31 @@ pub record RunsTo (answers : List ℕ → Type 0) (status : ℕ)
   pub by_status : (status ≡ 0) ⊎ (status ≡ 1)
   pub succeeds : status ≡ 0 → WritesText answers out out_after err err_after
   pub fails : status ≡ 1 → FailsToWrite answers out out_after err err_after
+
+-- an answer is this text, or want of memory
+abbrev pub IsTextOrWant : List ℕ → Result (String Global) ParseFailure → Type 0
+IsTextOrWant text (Ok told) = string_bytes told ≡ text
+IsTextOrWant text (Err f) = f ≡ Memory
+
+-- all these values have the same text; and where there is one, the answer is its text, or want of
+-- memory
+pub record AnswersTextOf {V : Type 0} (value : V → Type 0) (text_of : V → List ℕ)
+    (r : Result (String Global) ParseFailure) : Type 0 where
+  pub alike : (v w : V) → value v → value w → text_of v ≡ text_of w
+  pub complete : (v : V) → value v → IsTextOrWant (text_of v) r
+
+-- a run prints a text: it is written; or a write failed, and a beginning of it is; or memory was
+-- wanted, which alone is told
+pub data Prints (text : List ℕ) (out out_after err err_after : Option (List ℕ)) : ℕ → Type 0 where
+  written : Appends out out_after text → Keeps err err_after
+      → Prints text out out_after err err_after 0
+  write_failed : AppendsPart out out_after text → Keeps err err_after
+      → Prints text out out_after err err_after 1
+  memory_wanted : Keeps out out_after → AppendsUpTo err err_after memory_line
+      → Prints text out out_after err err_after 1
+
+-- all these values have the same text; and where there is one, a run prints its text
+pub record PrintsTextOf {V : Type 0} (value : V → Type 0) (text_of : V → List ℕ) (status : ℕ)
+    (out out_after err err_after : Option (List ℕ)) : Type 0 where
+  pub alike : (v w : V) → value v → value w → text_of v ≡ text_of w
+  pub prints : (v : V) → value v → Prints (text_of v) out out_after err err_after status

@@ -1,55 +1,53 @@
-use Rattle.std.proofs.Common.{rules}
+use Rattle.std.proofs.Common.{◌≡◌, codes, map, refl, rules, string_bytes}
 use Rattle.bpaf_words.specs.Arguments.{given_of}
-use Rattle.bpaf_launch.proofs.Dealing.{Parts, AreProgramParts, answer_asked, help_asked}
+use Rattle.bpaf_parts.specs.Info.{plain_info}
+use Rattle.bpaf.specs.declared.leaves.positional.Position.TheVariants.{Strict, NonStrict}
+use Rattle.bpaf_program.specs.Values.{MeansText}
+use Rattle.bpaf_program.proofs.Known.{IsSwitch, IsWord, both_known, known_asked, known_dealt}
+use Rattle.bpaf_program.proofs.Known.{last_known, many_known, product_known, switch_known}
+use Rattle.bpaf_program.proofs.Known.{word_known}
+use Rattle.bpaf_launch.specs.Dealing.{dry_run_names, program_given, verbose_names}
+use Rattle.bpaf_launch.specs.Shown.{IsProgramShape}
+use Rattle.bpaf_launch.proofs.Dealing.{launch_asked}
 use Rattle.bpaf_launch.proofs.options.read_launch.Goals as goal
 
 pub returns : goal.returns
 returns c =
     let options = c.in_ok-to_options.field-0 in
     let fields = options.inner.fields in
-    let parts : Parts =
+    let positionals = fields.rest.rest in
+    let verbose : IsSwitch verbose_names (codes "Print more") c.in_ok-from_text.field-0
+    fields.first = search rules in
+    let dry_run : IsSwitch dry_run_names (codes "Start nothing") c.in_ok-from_text-2.field-0
+    fields.rest.first = search rules in
+    let name : IsWord NonStrict (codes "NAME") (codes "Program to start")
+    c.in_ok-from_text-3.field-0 positionals.first = search rules in
+    let passed : IsWord Strict (codes "WORD") (codes "Words to pass on")
+    c.in_ok-from_text-4.field-0 positionals.rest.last.inner = search rules in
+    let info : options.info ≡ plain_info = search rules in
+    let given : given_of c.set_name.result ≡ program_given (map string_bytes c.args.words.now) =
+    search rules in
+    let known =
+    both_known (switch_known verbose)
+    (both_known (switch_known dry_run)
+    (both_known (word_known MeansText name)
+    (last_known (many_known positionals.rest.last.catch (word_known MeansText passed))))) in
     record {
-      verbose = fields.first;
-      dry_run = fields.rest.first;
-      name = fields.rest.rest.first;
-      words = fields.rest.rest.rest.last;
-      info = options.info;
-    } in
-    let program : AreProgramParts parts =
-    record {
-      verbose = record {
-        help = c.in_ok-from_text.field-0;
-        told = search rules;
-        named = search rules;
-        present = search rules;
-        absent = search rules;
-      };
-      dry_run = record {
-        help = c.in_ok-from_text-2.field-0;
-        told = search rules;
-        named = search rules;
-        present = search rules;
-        absent = search rules;
-      };
-      name = record {
-        help = c.in_ok-from_text-3.field-0;
-        told = search rules;
-        position_is = search rules;
-        metavar_is = search rules;
-        help_is = search rules;
-      };
-      words = record {
-        help = c.in_ok-from_text-4.field-0;
-        told = search rules;
-        position_is = search rules;
-        metavar_is = search rules;
-        help_is = search rules;
-      };
-      info = search rules;
-    } in
-    record {
-      launch = answer_asked _ parts (given_of c.set_name.result) _ (λ x v e. search rules)
-          program (search rules) _ c.run_once.ensures.dealt c.run_once.ensures.outcome;
-      asked = help_asked _ parts program _ (given_of c.set_name.result) (search rules) _
-          c.run_once.ensures.outcome;
+      launch = launch_asked _ (λ x v e. search rules) fields.first fields.rest.first _ _ _ _ _
+          (known_dealt (product_known (λ x v e. search rules) known) info given _
+          c.run_once.ensures.dealt)
+          (rw (name.position_is, passed.position_is, given) at c.run_once.ensures.outcome);
+      asked = known_asked (product_known (λ x v e. e) known) info given IsProgramShape
+          (record {
+            verbose = c.in_ok-from_text.field-0;
+            dry_run = c.in_ok-from_text-2.field-0;
+            name = c.in_ok-from_text-3.field-0;
+            words = c.in_ok-from_text-4.field-0;
+            verbose_help = verbose.told;
+            dry_run_help = dry_run.told;
+            name_help = name.told;
+            words_help = passed.told;
+            is = refl;
+          })
+          _ c.run_once.ensures.outcome;
     }

@@ -1,0 +1,101 @@
+-- What one parser reads another reads too: of combinators where that holds of what is inside.
+use Rattle.std.proofs.Common.{◌≡◌, ℕ, List, [], ◌∷◌, Option, inl, inr, ⊎_elim}
+use Rattle.bpaf_text.specs.Named.{Named}
+use Rattle.bpaf_line.specs.Situation.{Context}
+use Rattle.bpaf_laws.specs.AdjacentCommand.{AdjacentReads}
+use Rattle.bpaf_laws.specs.Choice.{ChoiceReads}
+use Rattle.bpaf_laws.specs.Flag.{FlagReads}
+use Rattle.bpaf_laws.specs.Product.{BothReads, ProductReads}
+use Rattle.bpaf_laws.specs.Reading.{Readings, Share}
+use Rattle.bpaf_laws.specs.Repeat.{EachReads, ListReads, ManyReads}
+use Rattle.bpaf.specs.declared.leaves.positional.Position.{Position}
+use Rattle.bpaf.specs.Positional.{PositionalReads}
+
+-- each reading of the one is a reading of the other
+abbrev pub IsAlso : {T : Type 0} → Readings T → Readings T → Type 0
+IsAlso {T} first second =
+    (context : Context) (share : Share) (v : T) → first context share v → second context share v
+
+-- a word at this position
+pub word_also : {T : Type 0} (means : List ℕ → T → Type 0) {at position : Position} → at ≡ position
+    → IsAlso (PositionalReads T means at) (PositionalReads T means position)
+word_also means is context share v read = rw is at read
+
+-- a flag of these names and values
+pub flag_also : {T : Type 0} (clones : T → T → Type 0) {named names : Named} {present shown : T}
+    {absent hidden : Option T} → named ≡ names → present ≡ shown → absent ≡ hidden
+    → IsAlso (FlagReads T clones named present absent) (FlagReads T clones names shown hidden)
+flag_also clones is is_present is_absent context share v read =
+    rw (is, is_present, is_absent) at read
+
+-- fields
+pub both_also : {A B : Type 0} {first first' : Readings A} {rest rest' : Readings B}
+    → IsAlso first first' → IsAlso rest rest'
+    → IsAlso (BothReads A B first rest) (BothReads A B first' rest')
+both_also one others context share v read = record {
+  first_share = read.first_share;
+  rest_share = read.rest_share;
+  joins = read.joins;
+  first_read = one context read.first_share v.0 read.first_read;
+  rest_read = others context read.rest_share v.1 read.rest_read;
+}
+
+-- what a constructor makes of fields
+pub product_also : {V T : Type 0} {fields fields' : Readings V} {makes makes' : V → T → Type 0}
+    → IsAlso fields fields' → ((x : V) (v : T) → makes x v → makes' x v)
+    → IsAlso (ProductReads V T fields makes) (ProductReads V T fields' makes')
+product_also also made context share v read = record {
+  values = read.values;
+  read = also context share read.values read.read;
+  made = made read.values v read.made;
+}
+
+module _ {T : Type 0} {inner inner' : Readings T} (also : IsAlso inner inner') where
+  -- values, one after another
+  each_also : IsAlso (EachReads inner) (EachReads inner')
+  each_also context share [] none = none
+  each_also context share (v ∷ vs) read = (
+    read.0,
+    read.1,
+    read.2,
+    read.3,
+    also context read.0 v read.4,
+    each_also context read.1 vs read.5,
+  )
+
+  -- so it is where the first share may be empty
+  list_also : IsAlso (ListReads inner) (ListReads inner')
+  list_also context share [] none = none
+  list_also context share (v ∷ vs) read = (
+    read.0,
+    read.1,
+    read.2,
+    also context read.0 v read.3,
+    each_also context read.1 vs read.4,
+  )
+
+  -- a repeat
+  pub many_also : IsAlso (ManyReads inner) (ManyReads inner')
+  many_also context share values read = list_also context share values.items read
+
+  -- an adjacent command of one name
+  pub adjacent_also : (words : List (List ℕ))
+      → IsAlso (AdjacentReads T words inner) (AdjacentReads T words inner')
+  adjacent_also words context share v read = record {
+    command = record {
+      name = read.command.name;
+      named = read.command.named;
+      name_share = read.command.name_share;
+      is_name = read.command.is_name;
+      inner_share = read.command.inner_share;
+      joins = read.command.joins;
+      read = also context read.command.inner_share v read.command.read;
+    };
+    stretch = read.stretch;
+  }
+
+-- a choice of two
+pub choice_also : {T : Type 0} {first first' second second' : Readings T} → IsAlso first first'
+    → IsAlso second second' → IsAlso (ChoiceReads first second) (ChoiceReads first' second')
+choice_also one other context share v =
+    ⊎_elim (λ read. inl (one context share v read)) (λ read. inr (other context share v read))

@@ -1,0 +1,182 @@
+-- Parsers with adjacent commands inside: what they read, and that they show a page of theirs alone.
+use Rattle.std.proofs.Common.{◌≡◌, ◌∷◌, Bool, true, false, List, [], Option, Result, Ok, Err, IfOk, ap}
+use Rattle.std.proofs.Common.{ℕ, subst, ⊎_elim}
+use Rattle.std.specs.Result.{IfErr}
+use Rattle.bpaf_doc.specs.declared.doc.Piece.{Piece}
+use Rattle.bpaf_doc.specs.Shape.{Shape}
+use Rattle.bpaf_words.specs.Arguments.{Given}
+use Rattle.bpaf_words.specs.Spelling.{Known, ShortNames, known_at}
+use Rattle.bpaf_line.specs.Constructing.{IsContext}
+use Rattle.bpaf_line.specs.declared.failure.ParseFailure.{ParseFailure}
+use Rattle.bpaf_line.specs.declared.failure.ParseFailure.TheVariants as failure
+use Rattle.bpaf_laws.specs.AdjacentCommand.{AdjacentReads}
+use Rattle.bpaf_laws.specs.Choice.{ChoiceDescribes, ChoiceOutcome, ChoiceReads}
+use Rattle.bpaf_laws.specs.Command.{Called, CommandDescribes, CommandPart, named_only}
+use Rattle.bpaf_laws.specs.Command.{opening_words}
+use Rattle.bpaf_laws.specs.Laws.{Lawful}
+use Rattle.bpaf_laws.specs.Reading.{Outcome, Readings}
+use Rattle.bpaf_laws.specs.Repeat.{ManyDescribes, ManyOutcome, ManyReads}
+use Rattle.bpaf_laws.proofs.ChoiceLaws.{choice_lawful}
+use Rattle.bpaf_laws.proofs.RepeatLaws.{many_lawful}
+use Rattle.bpaf_parts.specs.Info.{RunInfo, plain_info}
+use Rattle.bpaf_core.specs.Adjacent.{EitherCommandOutcome, EitherCommandReads}
+use Rattle.bpaf_core.specs.AdjacentLaws.{either_lawful}
+use Rattle.bpaf_core.specs.Dealt.{IsDealtOut}
+use Rattle.bpaf_core.specs.Ending.{EndsRun}
+use Rattle.bpaf_core.specs.EndingLaws.{run_ending}
+use Rattle.bpaf_core.specs.Run.{RunsWords}
+use Rattle.bpaf.specs.Asked.{BehindWord, HandsOn, IfShown, IsAskedAt, RunShows, Showing}
+use Rattle.bpaf.specs.Asked.{ShowsNothing, WordsShow, nothing_shown}
+use Rattle.bpaf.proofs.Asking.{IsAlsoShown, answer_shows, asked_at_also, hands_also, many_hands_on}
+use Rattle.bpaf.proofs.Asking.{words_also}
+use Rattle.bpaf.proofs.Handing.{behind_also, choice_hands_on, command_hands_on}
+use Rattle.bpaf_program.specs.Dealt.{IsDealtBySome}
+use Rattle.bpaf_program.proofs.Also.{IsAlso, adjacent_also, choice_also, many_also}
+
+-- a parser keeps to the laws, hands on what may be shown, reads what is wanted, and shows these
+-- shapes alone
+pub record Hands {T : Type 0} (showing : Showing) (outcome : Outcome T) (reads : Readings T)
+    (describes : Shape → Type 0) (wanted : Readings T) (shapes : Shape → Type 0) : Type 0 where
+  pub law : Lawful T outcome reads
+  pub hands : HandsOn showing outcome
+  pub also : IsAlso reads wanted
+  pub shows : (shape : Shape) → describes shape → shapes shape
+
+-- what a parser hands on may be shown
+pub hands_as : {T : Type 0} {one other : Showing} {outcome : Outcome T} {reads wanted : Readings T}
+    {describes shapes : Shape → Type 0} → IsAlsoShown one other
+    → Hands one outcome reads describes wanted shapes
+    → Hands other outcome reads describes wanted shapes
+hands_as {one = one} {other = other} also is = record {
+  law = is.law;
+  hands = hands_also one other also is.hands;
+  also = is.also;
+  shows = is.shows;
+}
+
+module _ {T : Type 0} {inner : Outcome T} {reads wanted : Readings T}
+    {describes shapes : Shape → Type 0} (law : Lawful T inner reads)
+    (nothing : ShowsNothing inner) (also : IsAlso reads wanted)
+    (shows : (shape : Shape) → describes shape → shapes shape) {adjacent : Bool} {called : Called}
+    {help own : Option (List Piece)} (info : RunInfo) (plain : info.help_if_no_args ≡ false)
+    (name : List ℕ) (is_adjacent : adjacent ≡ true) (is_called : called ≡ named_only name)
+    (is_help : help ≡ own) where
+  -- an adjacent command of one name over a parser that shows nothing by itself hands on its page
+  pub command_hands : Hands (BehindWord (named_only name) (IsAskedAt shapes info))
+      (EitherCommandOutcome adjacent T inner (EndsRun describes info) called
+      (CommandPart called help describes))
+      (EitherCommandReads adjacent T (opening_words called) reads)
+      (CommandDescribes called help describes) (AdjacentReads T (name ∷ []) wanted)
+      (CommandDescribes (named_only name) own shapes)
+  command_hands = record {
+    law = either_lawful law (run_ending describes info) called (CommandPart called help describes)
+        adjacent;
+    hands = hands_also _ (BehindWord (named_only name) (IsAskedAt shapes info))
+        (λ s doc full behind. behind_also (named_only name) (RunShows describes info nothing_shown)
+        (IsAskedAt shapes info)
+        (λ x d u. ⊎_elim (asked_at_also describes shapes info shows x d u) (λ none. absurd none))
+        s doc full
+        (subst (λ c. BehindWord c (RunShows describes info nothing_shown) s doc full) is_called
+        behind))
+        (command_hands_on describes info law nothing_shown nothing plain called
+        (CommandPart called help describes) adjacent);
+    also = λ context share v read. adjacent_also also (name ∷ []) context share v
+        (rw (is_adjacent, is_called) at read);
+    shows = λ shape shown. (
+      shown.0,
+      (shown.1.0, shows shown.1.0 shown.1.1, rw (is_called, is_help) at shown.1.2),
+      shown.2,
+    );
+  }
+
+-- so does a choice of two
+pub choice_hands : {T : Type 0} {showing : Showing} {first second : Outcome T}
+    {reads reads' wanted wanted' : Readings T} {describes describes' : Shape → Type 0}
+    {shapes shapes' : Shape → Type 0} → Hands showing first reads describes wanted shapes
+    → Hands showing second reads' describes' wanted' shapes'
+    → Hands showing (ChoiceOutcome first second) (ChoiceReads reads reads')
+    (ChoiceDescribes describes describes') (ChoiceReads wanted wanted')
+    (ChoiceDescribes shapes shapes')
+choice_hands {showing = showing} one other = record {
+  law = choice_lawful one.law other.law;
+  hands = choice_hands_on showing one.hands other.hands;
+  also = choice_also one.also other.also;
+  shows = λ shape shown. (
+    shown.0,
+    shown.1,
+    one.shows shown.0 shown.2,
+    other.shows shown.1 shown.3,
+    shown.4,
+  );
+}
+
+-- so does a repeat
+pub many_hands : {T : Type 0} {showing : Showing} {outcome : Outcome T}
+    {reads wanted : Readings T} {describes shapes : Shape → Type 0} (catches : Bool)
+    → Hands showing outcome reads describes wanted shapes
+    → Hands showing (ManyOutcome outcome catches) (ManyReads reads) (ManyDescribes describes)
+    (ManyReads wanted) (ManyDescribes shapes)
+many_hands {showing = showing} catches is = record {
+  law = many_lawful is.law catches;
+  hands = many_hands_on showing is.law is.hands catches;
+  also = many_also is.also;
+  shows = λ shape shown. (shown.0, is.shows shown.0 shown.1, shown.2);
+}
+
+module _ {T : Type 0} {showing : Showing} {outcome : Outcome T} {reads wanted : Readings T}
+    {describes shapes : Shape → Type 0}
+    (is : Hands showing outcome reads describes wanted shapes) {info : RunInfo}
+    (plain : info ≡ plain_info) {given own : Given} (same : given ≡ own) where
+  -- what it deals out is dealt out by some known names
+  pub hands_dealt : (r : Result T ParseFailure)
+      → IfOk r (λ v. IsDealtOut T reads describes info given v)
+      → IfOk r (λ v. IsDealtBySome own wanted v)
+  hands_dealt (Ok v) dealt =
+      ⊎_elim (λ shown. by _ shown.2)
+      (λ any. by (known_at info.numbers nothing) (any nothing)) dealt.is_context
+    where
+      nothing : ShortNames
+      nothing = record { flags = []; arguments = [] }
+
+      by : (known : Known) → IsContext known given dealt.context → IsDealtBySome own wanted v
+      by known is_context = (
+        known,
+        record {
+          context = dealt.context;
+          is_context = subst (λ g. IsContext known g dealt.context) same is_context;
+          read = is.also dealt.context _ v dealt.read;
+        },
+      )
+  hands_dealt (Err f) dealt = tt
+
+  -- what it shows in place of a value is a page that the words ask for
+  pub hands_asked : IsAlsoShown (IsAskedAt shapes plain_info) showing
+      → (r : Result T ParseFailure) → RunsWords T outcome describes info given r
+      → IfErr r (IfShown (WordsShow shapes plain_info own showing))
+  hands_asked asks (Ok v) runs = tt
+  hands_asked asks (Err (failure.Stdout doc full)) runs =
+      let was : WordsShow describes info given (RunShows describes info showing) doc full =
+      answer_shows describes info is.law showing is.hands
+      (ap (λ known. known.help_if_no_args) plain) given (Err (failure.Stdout doc full)) runs in
+      words_also describes shapes plain_info own (RunShows describes plain_info showing) showing
+      is.shows
+      (λ s d u. ⊎_elim
+      (λ at. asks s d u (asked_at_also describes shapes plain_info is.shows s d u at))
+      (λ page. page))
+      doc full (rw (plain, same) at was)
+  hands_asked asks (Err (failure.Stderr doc)) runs = tt
+  hands_asked asks (Err failure.Memory) runs = tt
+
+-- what is dealt out to the one is to the other
+pub also_dealt : {T : Type 0} {reads wanted : Readings T} → IsAlso reads wanted → (given : Given)
+    (r : Result T ParseFailure) → IfOk r (λ v. IsDealtBySome given reads v)
+    → IfOk r (λ v. IsDealtBySome given wanted v)
+also_dealt also given (Ok v) dealt = (
+  dealt.0,
+  record {
+    context = dealt.1.context;
+    is_context = dealt.1.is_context;
+    read = also dealt.1.context _ v dealt.1.read;
+  },
+)
+also_dealt also given (Err f) dealt = tt
