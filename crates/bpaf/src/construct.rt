@@ -6,7 +6,7 @@
 /// | call | answers a parser of |
 /// |---|---|
 /// | `construct!(a, b)` | the tuple `(a, b)` |
-/// | `construct!(Name { a, b })` | these fields of a struct or a variant, as `Command::Build { a, b }` |
+/// | `construct!(Name { a, b })` | fields of a struct or a variant, as `Command::Build { a, b }` |
 /// | `construct!(Name(a, b))` | the same with numbered fields, as `Command::Run(a, b)` |
 /// | `construct!(Name {})`, `construct!(Name())` | that value: it is [`pure`](crate::pure) of it |
 /// | `construct!(a)` | what `a` parses: it is that parser itself |

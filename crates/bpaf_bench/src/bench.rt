@@ -188,8 +188,8 @@ impl<P: Described> Bench<P> {
         Ok(LineEnd::Read)
     }
 
-    /// Reads a line that begins with `#` and is no row: a comment, a variable, the program's name or a
-    /// description.
+    /// Reads a line that begins with `#` and is no row: a comment, a variable, the program's name
+    /// or a description.
     fn heading<W: Write>(&mut self, line: &str, out: &mut W) -> io::Result<LineEnd> {
         if line.starts_with("##") {
             return self.copy(line, out);

@@ -25,9 +25,8 @@ use Rattle.bpaf_core.specs.EndingLaws.{LawfulEnding}
 use Rattle.bpaf_core.specs.CommandLaws.{command_lawful, run_empty, run_read, runs_keeps}
 
 -- the attempt that a value comes of: it was over present places
-pub record Counted (T : Type 0) (inner : Outcome T) (ending : Ending) (s : Situation) (from : ℕ) (v : T)
-    (t : Situation)
-    : Type 0 where
+pub record Counted (T : Type 0) (inner : Outcome T) (ending : Ending) (s : Situation) (from : ℕ)
+    (v : T) (t : Situation) : Type 0 where
   pub end : ℕ
   pub ordered : from ≤ end
   pub present : (p : ℕ) → from ≤ p → p < end → is_open s p ≡ true

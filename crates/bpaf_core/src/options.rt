@@ -165,8 +165,8 @@ impl<T, P> OptionParser<T, P> {
 }
 
 impl<T, P: Drop> OptionParser<T, P> {
-    /// The same with a description of this text, as [`Doc::from_text`] makes it; refused only for want
-    /// of memory, and then the parser is gone.
+    /// The same with a description of this text, as [`Doc::from_text`] makes it; refused only for
+    /// want of memory, and then the parser is gone.
     pub fn descr_str(self, descr: &str) -> Result<OptionParser<T, P>, AllocError>
         ensures { IfOk result (λ parser. (pieces : List Piece) × TextPieces descr.now pieces
             × (parser ≡ record self { info = record self.info { descr = Some pieces } })) }
@@ -205,8 +205,8 @@ impl<T, P: Drop> OptionParser<T, P> {
         Ok(self.footer(Doc::from_text(alloc, footer)?))
     }
 
-    /// The same with a usage paragraph of this text, as [`Doc::from_text`] makes it; refused only for want
-    /// of memory, and then the parser is gone.
+    /// The same with a usage paragraph of this text, as [`Doc::from_text`] makes it; refused only
+    /// for want of memory, and then the parser is gone.
     pub fn usage_str(self, usage: &str) -> Result<OptionParser<T, P>, AllocError>
         ensures { IfOk result (λ parser. (pieces : List Piece) × TextPieces usage.now pieces
             × (parser ≡ record self { info = record self.info { usage = Some pieces } })) }

@@ -1,5 +1,6 @@
 -- All values of the program's record on words print the same lines.
-use Rattle.std.proofs.Common.{◌++◌, ℕ, Bool, List, [], ◌∷◌, All, IsUtf8, ap, codes, refl, string_bytes}
+use Rattle.std.proofs.Common.{◌++◌, ℕ, Bool, List, [], ◌∷◌, All, IsUtf8, ap, codes, refl}
+use Rattle.std.proofs.Common.{string_bytes}
 use Rattle.std.proofs.Common.{sym, ◌∙◌}
 use Rattle.std.specs.Fmt.{decimal}
 use Rattle.bpaf_text.specs.Meaning.{SpellsUnsigned}

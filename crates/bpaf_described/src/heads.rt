@@ -104,8 +104,8 @@ fn with_head<P: Described>(
 
 /// The run of the parser of a description, at whose head may stand words of the run: `numbers`, by
 /// which a negative number is a word ([`OptionParser::numbers_as_words`]), `fallback_to_usage`,
-/// `descr`, `version`, `header`, `footer` and `usage`, each with a text behind it, `help_parser` and
-/// `version_parser` with a key, and `max_width` with a number. Refused as
+/// `descr`, `version`, `header`, `footer` and `usage`, each with a text behind it, `help_parser`
+/// and `version_parser` with a key, and `max_width` with a number. Refused as
 /// [`read_parser`](crate::read_parser).
 ///
 /// ```text

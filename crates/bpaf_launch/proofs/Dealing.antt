@@ -18,7 +18,8 @@ use Rattle.bpaf.specs.declared.leaves.positional.Position.TheVariants.{Strict, N
 use Rattle.bpaf.specs.Marker.{words_before}
 use Rattle.bpaf.specs.Positional.{PositionalOutcome}
 use Rattle.bpaf.specs.PositionalLaws.{positional_lawful}
-use Rattle.bpaf.proofs.PassingOn.{PassesOn, ReadsBefore, both_passes, flag_reads_before, many_passes}
+use Rattle.bpaf.proofs.PassingOn.{PassesOn, ReadsBefore, both_passes, flag_reads_before}
+use Rattle.bpaf.proofs.PassingOn.{many_passes}
 use Rattle.bpaf.proofs.PassingOn.{product_passes, texts_passed, word_reads_before}
 use Rattle.bpaf_program.specs.Values.{IsKept, MeansText, String}
 use Rattle.bpaf_program.proofs.Before.{word_before}

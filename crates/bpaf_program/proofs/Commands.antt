@@ -1,5 +1,6 @@
 -- Parsers with adjacent commands inside: what they read, and that they show a page of theirs alone.
-use Rattle.std.proofs.Common.{◌≡◌, ◌∷◌, Bool, true, false, List, [], Option, Result, Ok, Err, IfOk, ap}
+use Rattle.std.proofs.Common.{◌≡◌, ◌∷◌, Bool, true, false, List, [], Option, Result, Ok, Err}
+use Rattle.std.proofs.Common.{IfOk, ap}
 use Rattle.std.proofs.Common.{ℕ, subst, ⊎_elim}
 use Rattle.std.specs.Result.{IfErr}
 use Rattle.bpaf_doc.specs.declared.doc.Piece.{Piece}

@@ -169,7 +169,8 @@ impl<T: FromText + Drop> Parser<T> for ParsePositional<T> {
     fn eval(&self, state: &mut State) -> Result<T, Error>
         ensures outcome { PositionalOutcome T.means self.now.position self.now.metavar.0.now
             state.old result state.new }
-        ensures memory_is_never_caught { IfErr result (FaultsWordAlone T.means state.old state.new) }
+        ensures memory_is_never_caught { IfErr result
+            (FaultsWordAlone T.means state.old state.new) }
     {
         let (place, strict, text) = state.positional_word(self.metavar)?;
         if !self.position.accepts(strict) {
