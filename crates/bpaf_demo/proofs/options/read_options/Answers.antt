@@ -2,18 +2,15 @@ use Rattle.std.proofs.Common.{◌≡◌, codes, false, map, refl, rules, string_
 use Rattle.bpaf_words.specs.Arguments.{given_of}
 use Rattle.bpaf_text.specs.Meaning.{SpellsUnsigned}
 use Rattle.bpaf_parts.specs.Info.{plain_info}
-use Rattle.bpaf_exact.specs.FlatForm.{product_reading, product_roles}
 use Rattle.bpaf.specs.declared.leaves.positional.Position.TheVariants.{Unrestricted}
 use Rattle.bpaf_program.specs.Values.{MeansText}
-use Rattle.bpaf_program.proofs.Exactly.{read_exactly}
 use Rattle.bpaf_program.proofs.Known.{IsArgument, IsSwitch, IsWord, argument_known, both_known}
 use Rattle.bpaf_program.proofs.Known.{known_asked, known_dealt, last_known, many_known}
 use Rattle.bpaf_program.proofs.Known.{product_known, switch_known, word_known}
 use Rattle.bpaf_program.proofs.Running.{are_texts}
-use Rattle.bpaf_demo.specs.Exact.{values_form}
-use Rattle.bpaf_demo.specs.Record.{number_key, options_of, program_given, verbose_names}
+use Rattle.bpaf_demo.specs.Record.{number_key, program_given, verbose_names}
 use Rattle.bpaf_demo.specs.Shown.{IsProgramShape}
-use Rattle.bpaf_demo.proofs.Alike.{options_seen}
+use Rattle.bpaf_demo.proofs.Form.{program_exact, program_flat}
 use Rattle.bpaf_demo.proofs.options.read_options.Goals as goal
 
 pub run_record-requires-clause-record : goal.run_record-requires-clause-record
@@ -28,18 +25,10 @@ run_record-requires-clause-record c =
     c.in_ok-from_text-3.field-0 fields.rest.rest.last.inner = search rules in
     let catch : fields.rest.rest.last.catch ≡ false = search rules in
     let info : options.info ≡ plain_info = search rules in
-    rw (
-      verbose.named_is,
-      verbose.present_is,
-      verbose.absent_is,
-      num.key_is,
-      files.position_is,
-      catch,
-      info,
-    ) refl
+    program_flat verbose num files catch _ info
 
-pub returns : goal.returns
-returns c =
+pub returns-clause-dealt : goal.returns-clause-dealt
+returns-clause-dealt c =
     let options = c.in_ok-options.options in
     let fields = options.inner.fields in
     let verbose : IsSwitch verbose_names (codes "Print more") c.in_ok-from_text.field-0
@@ -48,39 +37,64 @@ returns c =
     fields.rest.first = search rules in
     let files : IsWord Unrestricted (codes "FILE") (codes "Files to read")
     c.in_ok-from_text-3.field-0 fields.rest.rest.last.inner = search rules in
-    let catch : fields.rest.rest.last.catch ≡ false = search rules in
     let info : options.info ≡ plain_info = search rules in
     let given : given_of c.set_name.result ≡ program_given (map string_bytes c.args.words.now) =
     search rules in
-    let known =
-    both_known (switch_known verbose)
+    known_dealt
+    (product_known (λ x v e. search rules)
+    (both_known (switch_known verbose)
     (both_known (argument_known (SpellsUnsigned 64) num)
-    (last_known (many_known fields.rest.rest.last.catch (word_known MeansText files)))) in
-    record {
-      dealt = known_dealt (product_known (λ x v e. search rules) known) info given _
-          c.run_record.ensures.dealt;
-      asked = known_asked (product_known (λ x v e. e) known) info given IsProgramShape
-          (record {
-            verbose = c.in_ok-from_text.field-0;
-            num = c.in_ok-from_text-2.field-0;
-            file = c.in_ok-from_text-3.field-0;
-            verbose_help = verbose.told;
-            num_help = num.told;
-            file_help = files.told;
-            is = refl;
-          })
-          _ c.run_record.ensures.outcome;
-      exact = read_exactly (product_known (λ x v e. e) known) (program_given _) options_of
-          (λ x v e. search rules) (product_roles values_form) (product_reading values_form) options_seen
-          (are_texts c.args.words.now) _ (c.run_record.ensures.exact (tt, (tt, tt)))
-          (rw (
-            verbose.named_is,
-            verbose.present_is,
-            verbose.absent_is,
-            num.key_is,
-            files.position_is,
-            catch,
-          )
-          refl)
-          info given;
-    }
+    (last_known (many_known fields.rest.rest.last.catch (word_known MeansText files))))))
+    info given _ c.run_record.ensures.dealt
+
+pub returns-clause-asked : goal.returns-clause-asked
+returns-clause-asked c =
+    let options = c.in_ok-options.options in
+    let fields = options.inner.fields in
+    let verbose : IsSwitch verbose_names (codes "Print more") c.in_ok-from_text.field-0
+    fields.first = search rules in
+    let num : IsArgument number_key (codes "A number") c.in_ok-from_text-2.field-0
+    fields.rest.first = search rules in
+    let files : IsWord Unrestricted (codes "FILE") (codes "Files to read")
+    c.in_ok-from_text-3.field-0 fields.rest.rest.last.inner = search rules in
+    let info : options.info ≡ plain_info = search rules in
+    let given : given_of c.set_name.result ≡ program_given (map string_bytes c.args.words.now) =
+    search rules in
+    known_asked
+    (product_known (λ x v e. e)
+    (both_known (switch_known verbose)
+    (both_known (argument_known (SpellsUnsigned 64) num)
+    (last_known (many_known fields.rest.rest.last.catch (word_known MeansText files))))))
+    info given IsProgramShape
+    (record {
+      verbose = c.in_ok-from_text.field-0;
+      num = c.in_ok-from_text-2.field-0;
+      file = c.in_ok-from_text-3.field-0;
+      verbose_help = verbose.told;
+      num_help = num.told;
+      file_help = files.told;
+      is = refl;
+    })
+    _ c.run_record.ensures.outcome
+
+pub returns-clause-exact : goal.returns-clause-exact
+returns-clause-exact c =
+    let options = c.in_ok-options.options in
+    let fields = options.inner.fields in
+    let verbose : IsSwitch verbose_names (codes "Print more") c.in_ok-from_text.field-0
+    fields.first = search rules in
+    let num : IsArgument number_key (codes "A number") c.in_ok-from_text-2.field-0
+    fields.rest.first = search rules in
+    let files : IsWord Unrestricted (codes "FILE") (codes "Files to read")
+    c.in_ok-from_text-3.field-0 fields.rest.rest.last.inner = search rules in
+    let info : options.info ≡ plain_info = search rules in
+    let given : given_of c.set_name.result ≡ program_given (map string_bytes c.args.words.now) =
+    search rules in
+    let catch : fields.rest.rest.last.catch ≡ false = search rules in
+    program_exact verbose num files catch _ info
+    (product_known (λ x v e. e)
+    (both_known (switch_known verbose)
+    (both_known (argument_known (SpellsUnsigned 64) num)
+    (last_known (many_known fields.rest.rest.last.catch (word_known MeansText files))))))
+    _ (are_texts c.args.words.now) given _ (c.run_record.ensures.exact (tt, (tt, tt)))
+    (λ x v e. search rules)

@@ -1,0 +1,80 @@
+-- The program's parser has the form of the program's record, by what its parts are made of; so its
+-- answers are exact for the record.
+use Rattle.std.proofs.Common.{◌≡◌, ℕ, Bool, true, false, List, [], ◌∷◌, All, IsUtf8, Result}
+use Rattle.std.proofs.Common.{ap, codes, refl}
+use Rattle.bpaf_doc.specs.declared.doc.Piece.{Piece}
+use Rattle.bpaf_doc.specs.Shape.{Shape}
+use Rattle.bpaf_text.specs.declared.params.ParseFlag.{ParseFlag}
+use Rattle.bpaf_text.specs.Meaning.{SpellsUnsigned}
+use Rattle.bpaf_text.specs.Named.{KeyWithValue}
+use Rattle.bpaf_words.specs.Arguments.{Given}
+use Rattle.bpaf_line.specs.declared.failure.ParseFailure.{ParseFailure}
+use Rattle.bpaf_laws.specs.Product.{ProductReads}
+use Rattle.bpaf_laws.specs.Reading.{Outcome, Readings}
+use Rattle.bpaf_parts.specs.Info.{RunInfo, plain_info}
+use Rattle.bpaf_core.specs.declared.repeat.ParseMany.{ParseMany}
+use Rattle.bpaf_core.specs.Known.{known_names}
+use Rattle.bpaf.specs.declared.leaves.positional.ParsePositional.{ParsePositional}
+use Rattle.bpaf.specs.declared.leaves.positional.Position.TheVariants.{Unrestricted}
+use Rattle.bpaf_exact.specs.FlatForm.{FlatForm, flat_alone, flat_both, flat_con, flat_field}
+use Rattle.bpaf_exact.specs.FlatForm.{flat_many, product_reading, product_roles, unless}
+use Rattle.bpaf_exact.specs.Leaves.{argument_field, flag_field}
+use Rattle.bpaf_exact.specs.Wrappers.{map_closure}
+use Rattle.bpaf_record.specs.Positional.{positional_field}
+use Rattle.bpaf_record.specs.Record.{AnswersExactly, is_flat_record}
+use Rattle.bpaf_program.specs.ReadBy.{AnswersReadBy}
+use Rattle.bpaf_program.specs.Values.{IsKept, MeansText, String}
+use Rattle.bpaf_program.proofs.Exactly.{read_exactly}
+use Rattle.bpaf_program.proofs.Known.{IsArgument, IsKnown, IsSwitch, IsWord}
+use Rattle.bpaf_demo.specs.declared.options.Options.{Options}
+use Rattle.bpaf_demo.specs.Exact.{options_form, values_form}
+use Rattle.bpaf_demo.specs.Record.{FieldValues, number_key, options_of, program_given, verbose_names}
+use Rattle.bpaf_demo.proofs.Alike.{options_seen}
+
+module _ {verbose_help num_help file_help : List Piece} {verbose : ParseFlag Bool}
+    {num : KeyWithValue} {files : ParseMany (ParsePositional String)}
+    (is_verbose : IsSwitch verbose_names (codes "Print more") verbose_help verbose)
+    (is_num : IsArgument number_key (codes "A number") num_help num)
+    (is_files : IsWord Unrestricted (codes "FILE") (codes "Files to read") file_help files.inner)
+    (no_catch : files.catch ≡ false) where
+  -- the form of the parser's fields
+  abbrev PartsForm : FlatForm FieldValues
+  PartsForm =
+      flat_both (verbose.named.names ∷ []) (num.named.names ∷ [])
+      (flat_field (flag_field IsKept verbose.named verbose.present verbose.absent))
+      (flat_both (num.named.names ∷ []) [] (flat_field (argument_field (SpellsUnsigned 64) num))
+      (flat_alone (flat_field (unless files.catch
+      (flat_many (positional_field MeansText files.inner.position))))))
+
+  -- it is that of the record's fields
+  same_form : PartsForm ≡ values_form
+  same_form =
+      rw (
+        is_verbose.absent_is,
+        is_verbose.present_is,
+        is_verbose.named_is,
+        is_num.key_is,
+        no_catch,
+        is_files.position_is,
+      ) refl
+
+  module _ (makes : FieldValues → Options → Type 0) {info : RunInfo} (plain : info ≡ plain_info)
+    where
+      -- the parser is a flat record
+      pub program_flat : is_flat_record (flat_con (map_closure makes) PartsForm)
+          (verbose.named.names ∷ num.named.names ∷ []) info ≡ true
+      program_flat = rw (same_form, is_verbose.named_is, is_num.key_is, plain) refl
+
+      -- so its answers are exact
+      pub program_exact : {outcome : Outcome Options} {fields : Readings FieldValues}
+          {describes : Shape → Type 0} {wanted : Readings Options} {shape : Shape} {given : Given}
+          → IsKnown outcome (ProductReads FieldValues Options fields makes) describes wanted shape
+          → (words : List (List ℕ)) → All IsUtf8 words → given ≡ program_given words
+          → (r : Result Options ParseFailure)
+          → AnswersExactly Options describes info (flat_con (map_closure makes) PartsForm) given r
+          → ((x : FieldValues) (v : Options) → makes x v → v ≡ options_of x)
+          → AnswersReadBy (known_names plain_info shape) (program_given words) options_form r
+      program_exact is words texts same r answers made =
+          read_exactly is (program_given words) options_of made (product_roles values_form)
+          (product_reading values_form) options_seen texts r answers
+          (ap (flat_con (map_closure makes)) same_form) plain same
