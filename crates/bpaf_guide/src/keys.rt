@@ -41,7 +41,11 @@ pub fn home(alloc: Global) -> Result<ParseArgument<String>, AllocError> {
 
 /// A switch with a help.
 pub fn tall(alloc: Global) -> Result<ParseFlag<bool>, AllocError> {
-    Ok(short(alloc, 't')?.help_str(alloc, "Print a tall page")?.switch())
+    Ok(
+        short(alloc, 't')?
+            .help_str(alloc, "Print a tall page")?
+            .switch(),
+    )
 }
 
 /// A word by itself.
