@@ -51,7 +51,10 @@ fn word_of(token: &str) -> Option<HeadWord> {
 
 /// Goes beyond the head.
 fn skip_head(tokens: &mut Tokens<'_>) -> Result<(), Fault> {
-    while let Some(word) = word_of(tokens.peek()) {
+    for _ in 0..u64::MAX {
+        let Some(word) = word_of(tokens.peek()) else {
+            break;
+        };
         tokens.skip();
         match word {
             HeadWord::Numbers | HeadWord::FallbackToUsage => (),
@@ -88,7 +91,10 @@ fn with_head<P: Described>(
     mut options: OptionParser<Value, P>,
     tokens: &mut Tokens<'_>,
 ) -> Result<OptionParser<Value, P>, Fault> {
-    while let Some(word) = word_of(tokens.peek()) {
+    for _ in 0..u64::MAX {
+        let Some(word) = word_of(tokens.peek()) else {
+            break;
+        };
         tokens.skip();
         options = match word {
             HeadWord::Numbers => options.numbers_as_words(),
