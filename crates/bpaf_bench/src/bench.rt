@@ -209,8 +209,12 @@ impl<P: Described> Bench<P> {
 
     /// What words are run with.
     fn surroundings(&self) -> Surroundings<'_> {
+        let name = match &self.name {
+            Some(name) => Some(name.as_str()),
+            None => None,
+        };
         Surroundings {
-            name: self.name.as_ref().map(String::as_str),
+            name,
             variables: &self.variables,
         }
     }
