@@ -78,6 +78,18 @@ pub struct Bench<P> {
     counts: Counts,
 }
 
+/// What words are run with.
+fn surroundings<'a>(
+    name: &'a Option<String>,
+    variables: &'a BTreeMap<String, String>,
+) -> Surroundings<'a> {
+    let name = match name {
+        Some(name) => Some(name.as_str()),
+        None => None,
+    };
+    Surroundings { name, variables }
+}
+
 /// The words of a row; nothing where a quote isn't closed.
 fn words_of(alloc: Global, text: &str) -> Result<Option<Vec<String>>, AllocError> {
     if is_separated(text) {
@@ -207,18 +219,6 @@ impl<P: Described> Bench<P> {
         self.describe(2, line.strip_prefix('#').unwrap_or(""), line, out)
     }
 
-    /// What words are run with.
-    fn surroundings(&self) -> Surroundings<'_> {
-        let name = match &self.name {
-            Some(name) => Some(name.as_str()),
-            None => None,
-        };
-        Surroundings {
-            name,
-            variables: &self.variables,
-        }
-    }
-
     /// Sets a variable of the environment.
     fn set<W: Write>(&mut self, setting: &str, out: &mut W) -> io::Result<LineEnd> {
         let Some((name, value)) = setting.split_once('=') else {
@@ -290,9 +290,11 @@ impl<P: Described> Bench<P> {
             Standing::Made(parser) => {
                 let words = words.as_slice();
                 let most = self.beginnings;
-                let ran = run_beginnings(self.alloc, parser, self.surroundings(), words, most)?;
+                let with = surroundings(&self.name, &self.variables);
+                let ran = run_beginnings(self.alloc, parser, with, words, most)?;
                 self.counts.beginnings = self.counts.beginnings.saturating_add(ran);
-                answer(self.alloc, parser, self.surroundings(), words)?
+                let with = surroundings(&self.name, &self.variables);
+                answer(self.alloc, parser, with, words)?
             }
         };
         if self.all || wanted.is_none() {
@@ -333,7 +335,8 @@ impl<P: Described> Bench<P> {
     /// answer.
     fn again<W: Write>(&self, words: &[String], out: &mut W) -> io::Result<()> {
         if let Standing::Made(parser) = &self.parser {
-            let got = answer(self.alloc, parser, self.surroundings(), words)?;
+            let with = surroundings(&self.name, &self.variables);
+            let got = answer(self.alloc, parser, with, words)?;
             writeln!(out, "    again   {got}")?;
         }
         Ok(())
