@@ -300,15 +300,26 @@ impl<P: Described> Bench<P> {
         if self.all || wanted.is_none() {
             writeln!(out, "{text}\t{got}")?;
         }
-        let Some(wanted) = wanted else {
-            return Ok(LineEnd::Run);
-        };
-        if is_wanted(wanted, got.as_str()) {
+        match wanted {
+            Some(wanted) => self.compare(words.as_slice(), wanted, got.as_str(), out),
+            None => Ok(LineEnd::Run),
+        }
+    }
+
+    /// Compares the answer of a row with the wanted one, and prints the row where they differ.
+    fn compare<W: Write>(
+        &self,
+        words: &[String],
+        wanted: &str,
+        got: &str,
+        out: &mut W,
+    ) -> io::Result<LineEnd> {
+        if is_wanted(wanted, got) {
             return Ok(LineEnd::Run);
         }
-        self.differ(words.as_slice(), wanted, got.as_str(), out)?;
-        if got.as_str() == "memory" {
-            self.again(words.as_slice(), out)?;
+        self.differ(words, wanted, got, out)?;
+        if got == "memory" {
+            self.again(words, out)?;
         }
         Ok(LineEnd::Differs)
     }
