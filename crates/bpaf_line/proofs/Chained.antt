@@ -1,29 +1,25 @@
 -- Chains: how a line's places are linked, and how a walk along the links goes.
-use Rattle.std.proofs.Common.{◌≡◌, ◌≢◌, ℕ, zero, suc, refl, ◌+◌, ◌-◌, ◌%◌, ◌<◌, ◌≤◌, true, false}
-use Rattle.std.proofs.Common.{Bool, List, [], ◌∷◌}
-use Rattle.std.proofs.Common.{Option, Some, None, not, ◌||◌, slice_get, replicate}
-use Rattle.std.specs.Option.{option_map_or}
-use Rattle.std.proofs.lemmas.Slice.Eq.{bytes_eq-Decides}
+use Rattle.std.proofs.Common.{◌≡◌, ◌≢◌, ℕ, zero, suc, refl, ◌+◌, ◌<◌, ◌≤◌, true, false}
+use Rattle.std.proofs.Common.{Bool, List, [], ◌∷◌, ◌||◌}
 use Rattle.std.proofs.Common.{length, map, take, ap, sym, ◌∙◌, subst, arith, ⊎_elim, get_or}
 use Rattle.std.proofs.Common.{slice_index, slice_index_or, slice_set, nat_lt, if◌then◌else◌}
 use Rattle.std.proofs.Common.{length-set, get_or-set_same, get_or-set_other}
+use Rattle.std.specs.Char.{encode_utf8}
+use Rattle.std.specs.Option.{option_map_or}
 use Rattle.std.specs.Rc.{rc_slice_items}
 use Rattle.std.specs.Vec.{with_item}
-use Rattle.std.proofs.Math.Nat.{mod-lt}
-use Rattle.std.proofs.lemmas.Bool.{cases_lt, cases_eq, ltb-true, eq-eqb, eqb-true, or_left}
+use Rattle.std.proofs.lemmas.Slice.Eq.{bytes_eq-Decides}
+use Rattle.std.proofs.lemmas.Bool.{cases_lt, cases_eq, ltb-true, eqb-true}
 use Rattle.std.proofs.lemmas.List.{get_or_read, length-map, length-take, length-take-le}
-use Rattle.std.proofs.lemmas.List.{get_or-replicate}
 use Rattle.std.proofs.lemmas.Option.{slice_get_past, slice_get_read}
 use Rattle.bpaf_doc.specs.Names.{Names}
 use Rattle.bpaf_words.specs.declared.arg.Arg.{Arg}
 use Rattle.bpaf_words.specs.declared.arg.Arg.TheVariants.{Short, Long, ArgWord, Word, PosWord}
 use Rattle.bpaf_words.specs.Items.{is_key_of}
 use Rattle.bpaf_line.specs.declared.chains.Chains.TheInside.{Inside}
-use Rattle.bpaf_line.specs.Chained.{Chained, IsNextOf, IsPlaceOf, IsWalkStart, HasWalked, AreBehind}
-use Rattle.bpaf_line.specs.Chained.{name_number, class_in, class_of, head_of, owner_of, cursor_of}
-use Rattle.bpaf_line.specs.Chained.{text_number}
-use Rattle.bpaf_line.specs.Chained.{names_of, names_in, named_at, shares_name, is_key}
-use Rattle.bpaf_line.specs.Chained.{HasNoKeyFrom}
+use Rattle.bpaf_line.specs.Chained.{Chained, IsNextOf, IsPlaceOf, IsChainStart, HasWalked}
+use Rattle.bpaf_line.specs.Chained.{AreBehind, ClassNames, class_of_text, class_of_short, class_in, head_of}
+use Rattle.bpaf_line.specs.Chained.{names_of, named_at, is_key, HasNoKeyFrom}
 use Rattle.bpaf_line.specs.InsideChains.{chained_of, IsLinked}
 
 -- the places from one on are linked, and each class to its first place from there on
@@ -59,22 +55,38 @@ walked_more classes passes from p next walked below set link = record {
       (cases_lt q p);
 }
 
--- the class of a number is one of so many
-pub class_of_below : (count number : ℕ) → 128 < count → class_of count number < count
-class_of_below count number some = by_test (nat_lt number 128) refl
-  where
-    by_test : (b : Bool) → nat_lt number 128 ≡ b
-        → (if b then number else 128 + number % (count - 128)) < count
-    by_test true e = let own : number < 128 = ltb-true number 128 e in omega arith
-    by_test false e =
-        let low : number % (count - 128) < count - 128 = mod-lt number (omega arith) in omega arith
+-- the class of a text is one of so many
+text_below : (count : ℕ) (names : ClassNames) (text : List ℕ) → 0 < count
+    → class_of_text count names text < count
+text_below count names text some = omega arith
 
--- and so is that of an item
-pub class_below : (items : List Arg) (count : ℕ) → 128 < count → (p : ℕ) → p < length items
-    → slice_index (map (class_in count) items) p < count
-class_below [] count some p within = absurd (omega arith)
-class_below (item ∷ items) count some zero within = class_of_below count (name_number item) some
-class_below (item ∷ items) count some (suc p) within = class_below items count some p (omega arith)
+-- and so is that of a short name
+short_below : (count : ℕ) (names : ClassNames) (name : ℕ) → 128 < count
+    → class_of_short count names name < count
+short_below count names name some = by_test (nat_lt name 128) refl
+  where
+    by_test : (b : Bool) → nat_lt name 128 ≡ b
+        → (if b then name else class_of_text count names (encode_utf8 name)) < count
+    by_test true e = let own : name < 128 = ltb-true name 128 e in omega arith
+    by_test false e = text_below count names (encode_utf8 name) (omega arith)
+
+-- and that of an item
+item_below : (count : ℕ) (names : ClassNames) (item : Arg) → 128 < count
+    → class_in count names item < count
+item_below count names (Short c _ _) some = short_below count names c some
+item_below count names (Long name _ _) some = text_below count names name (omega arith)
+item_below count names (ArgWord _) some = omega arith
+item_below count names (Word _) some = omega arith
+item_below count names (PosWord _) some = omega arith
+
+-- and those of all items
+pub class_below : (items : List Arg) (count : ℕ) (names : ClassNames)
+    → 128 < count → (p : ℕ) → p < length items
+    → slice_index (map (class_in count names) items) p < count
+class_below [] count names some p within = absurd (omega arith)
+class_below (item ∷ items) count names some zero within = item_below count names item some
+class_below (item ∷ items) count names some (suc p) within =
+    class_below items count names some p (omega arith)
 
 -- a beginning that is written is a place of its class, where the new one is
 headed_set : (classes heads : List ℕ) (class head : ℕ)
@@ -112,9 +124,6 @@ linked_passed s classes place from head h same within read walked =
       headed = headed_set (rc_slice_items s.classes) s.heads.items class head h.headed inside
           (walked class (subst (IsPlaceOf (rc_slice_items s.classes) class) (sym begins)
           (h.headed class inside)));
-      owned = omega (arith, h.owned, size);
-      cursors = omega (arith, h.cursors, size);
-      placed = λ k below. h.placed k (omega (arith, size));
     }
 
 -- the class of a place is one of them
@@ -124,51 +133,22 @@ pub class_inside : (s : Inside) (classes : List ℕ) (place : ℕ) → IsLinked 
 class_inside s classes place h same within =
     subst (λ xs. slice_index xs place < length s.heads.items) (sym same) (h.numbered place within)
 
--- and where the class has another owner, and its cursor stands at another of its places
-pub linked_owned : (s : Inside) (class place cursor : ℕ) → IsLinked s → class < length s.heads.items
-    → IsPlaceOf (rc_slice_items s.classes) class cursor
-    → IsLinked (record s {
-      owners = with_item s.owners class place;
-      cursors = with_item s.cursors class cursor;
-    })
-linked_owned s class place cursor h inside there =
-    let size = length-set s.cursors.items class cursor in
-    record {
-      some = h.some;
-      whole = h.whole;
-      linked = h.linked;
-      numbered = h.numbered;
-      headed = h.headed;
-      owned = omega (arith, h.owned, length-set s.owners.items class place);
-      cursors = omega (arith, h.cursors, size);
-      placed = λ k below. headed_set (rc_slice_items s.classes) s.cursors.items class cursor
-          (λ j short. h.placed j (omega (arith, h.cursors))) (omega (arith, h.cursors)) there k
-          (omega (arith, h.cursors, size));
-    }
-
--- the links are right where they are those of a line's places, each chain begins at its first
--- place, and no class has an owner
+-- the links are right where they are those of a line's places, and each chain begins at its first
+-- place
 pub linked_first : (s : Inside) (classes next heads : List ℕ) → rc_slice_items s.classes ≡ classes
     → rc_slice_items s.next ≡ next → s.heads.items ≡ heads → 128 < length heads → length next
     ≡ length classes
     → ((p : ℕ) → p < length classes → slice_index classes p < length heads)
     → ((p : ℕ) → p < length classes → IsNextOf classes (slice_index classes p) (p + 1)
     (slice_index next p))
-    → ((k : ℕ) → k < length heads → IsNextOf classes k 0 (slice_index heads k))
-    → length s.owners.items ≡ length heads → length s.cursors.items ≡ length heads
-    → ((k : ℕ) → k < length heads → slice_index s.cursors.items k ≡ length classes) → IsLinked s
-linked_first s classes next heads same follow begin some whole numbered linked first owned cursors
-    past = record {
-      some = omega (arith, ap length begin);
-      whole = omega (arith, ap length same, ap length follow);
-      linked = λ p within. rw (same, follow) (linked p (omega (arith, ap length same)));
-      numbered = λ p within. rw (same, begin) (numbered p (omega (arith, ap length same)));
-      headed = λ k within. rw (same, begin) (first k (omega (arith, ap length begin))).same;
-      owned = omega (arith, owned, ap length begin);
-      cursors = omega (arith, cursors, ap length begin);
-      placed = λ k within below. absurd (let at = past k (omega (arith, ap length begin)) in
-          omega (arith, ap length same));
-    }
+    → ((k : ℕ) → k < length heads → IsNextOf classes k 0 (slice_index heads k)) → IsLinked s
+linked_first s classes next heads same follow begin some whole numbered linked first = record {
+  some = omega (arith, ap length begin);
+  whole = omega (arith, ap length same, ap length follow);
+  linked = λ p within. rw (same, follow) (linked p (omega (arith, ap length same)));
+  numbered = λ p within. rw (same, begin) (numbered p (omega (arith, ap length same)));
+  headed = λ k within. rw (same, begin) (first k (omega (arith, ap length begin))).same;
+}
 
 -- a chain that begins at its first place begins at no place behind one of its own
 pub first_not_behind : (classes heads : List ℕ) (p : ℕ)
@@ -181,25 +161,27 @@ first_not_behind classes heads p first = ⊎_elim
     (cases_lt p (slice_index heads (slice_index classes p)))
 
 -- the classes of a line's items are as many as those
-pub classes_size : (items : List Arg) (classes : List ℕ) (count : ℕ) → classes
-    ≡ map (class_in count) items → length classes ≡ length items
-classes_size items classes count are = ap length are ∙ length-map items (class_in count)
+pub classes_size : (items : List Arg) (classes : List ℕ) (count : ℕ)
+    (names : ClassNames) → classes ≡ map (class_in count names) items
+    → length classes ≡ length items
+classes_size items classes count names are =
+    ap length are ∙ length-map items (class_in count names)
 
 -- and below their number
-pub classes_below : (items : List Arg) (classes : List ℕ) (count : ℕ) → classes
-    ≡ map (class_in count) items → 128 < count → (p : ℕ) → p < length classes
-    → slice_index classes p
-    < count
-classes_below items classes count are some p within =
+pub classes_below : (items : List Arg) (classes : List ℕ) (count : ℕ)
+    (names : ClassNames) → classes ≡ map (class_in count names) items
+    → 128 < count → (p : ℕ) → p < length classes → slice_index classes p < count
+classes_below items classes count names are some p within =
     subst (λ xs. slice_index xs p < count) (sym are)
-    (class_below items count some p (omega (arith, classes_size items classes count are)))
+    (class_below items count names some p
+    (omega (arith, classes_size items classes count names are)))
 
 -- the chains have no more places than the line
 pub behind_within : (line : List Arg) (set : ℕ → Bool) (chains : Chained)
     → AreBehind line set chains → length chains.classes ≤ length line
 behind_within line set chains h =
     let size = classes_size (take (length chains.classes) line) chains.classes
-    (length chains.heads) h.classes in
+    (length chains.heads) chains.names h.classes in
     let cut = length-take (length chains.classes) line in
     omega (arith, size, cut)
 
@@ -244,65 +226,25 @@ nameless (ArgWord _) e = cc
 nameless (Word _) e = cc
 nameless (PosWord _) e = cc
 
--- what has the name of an item has that of each other with that name
-pub same_name : (key : Option Arg) (a b : Arg) → is_key_of (names_of key) a ≡ true
-    → is_key_of (names_of key) b ≡ true → is_key_of (names_of (Some a)) b ≡ true
-same_name None a b e f = absurd (nameless a e)
-same_name (Some (Short d _ _)) (Short c _ _) (Short x _ _) e f =
-    or_left _ _ (eq-eqb c x (sym (eqb-true d c (one_of _ e)) ∙ eqb-true d x (one_of _ f)))
-same_name (Some (Short d _ _)) (Short c _ _) (Long x _ _) e f = cc
-same_name (Some (Short d _ _)) (Short c _ _) (ArgWord _) e f = cc
-same_name (Some (Short d _ _)) (Short c _ _) (Word _) e f = cc
-same_name (Some (Short d _ _)) (Short c _ _) (PosWord _) e f = cc
-same_name (Some (Short d _ _)) (Long name _ _) b e f = cc
-same_name (Some (Short d _ _)) (ArgWord _) b e f = cc
-same_name (Some (Short d _ _)) (Word _) b e f = cc
-same_name (Some (Short d _ _)) (PosWord _) b e f = cc
-same_name (Some (Long text _ _)) (Long name _ _) (Long x _ _) e f =
-    or_left _ _ ((bytes_eq-Decides name x).1 (sym ((bytes_eq-Decides text name).0 (one_of _ e))
-    ∙ (bytes_eq-Decides text x).0 (one_of _ f)))
-same_name (Some (Long text _ _)) (Long name _ _) (Short x _ _) e f = cc
-same_name (Some (Long text _ _)) (Long name _ _) (ArgWord _) e f = cc
-same_name (Some (Long text _ _)) (Long name _ _) (Word _) e f = cc
-same_name (Some (Long text _ _)) (Long name _ _) (PosWord _) e f = cc
-same_name (Some (Long text _ _)) (Short c _ _) b e f = cc
-same_name (Some (Long text _ _)) (ArgWord _) b e f = cc
-same_name (Some (Long text _ _)) (Word _) b e f = cc
-same_name (Some (Long text _ _)) (PosWord _) b e f = cc
-same_name (Some (ArgWord _)) a b e f = absurd (nameless a e)
-same_name (Some (Word _)) a b e f = absurd (nameless a e)
-same_name (Some (PosWord _)) a b e f = absurd (nameless a e)
-
--- and so at the places of a line
-pub shares_named : (line : List Arg) (key : Option Arg) (owner p : ℕ)
-    → named_at line (names_of key) owner ≡ true → named_at line (names_of key) p ≡ true
-    → shares_name line owner p ≡ true
-shares_named line key owner p = by_items (slice_get line owner) (slice_get line p)
-  where
-    by_items : (a b : Option Arg) → option_map_or (is_key_of (names_of key)) a false ≡ true
-        → option_map_or (is_key_of (names_of key)) b false ≡ true
-        → option_map_or (is_key_of (names_of a)) b false ≡ true
-    by_items None b e f = cc
-    by_items (Some a) None e f = f
-    by_items (Some a) (Some b) e f = same_name key a b e f
-
--- a key with the name of an item has its number
-pub same_number : (key item : Arg) → is_key_of (names_of (Some key)) item ≡ true
-    → name_number item ≡ name_number key
-same_number (Short d _ _) (Short c _ _) e = sym (eqb-true d c (one_of _ e))
-same_number (Short d _ _) (Long name _ _) e = cc
-same_number (Short d _ _) (ArgWord _) e = cc
-same_number (Short d _ _) (Word _) e = cc
-same_number (Short d _ _) (PosWord _) e = cc
-same_number (Long text _ _) (Long name _ _) e =
-    ap (text_number 0) (sym ((bytes_eq-Decides text name).0 (one_of _ e)))
-same_number (Long text _ _) (Short c _ _) e = cc
-same_number (Long text _ _) (ArgWord _) e = cc
-same_number (Long text _ _) (Word _) e = cc
-same_number (Long text _ _) (PosWord _) e = cc
-same_number (ArgWord _) item e = absurd (nameless item e)
-same_number (Word _) item e = absurd (nameless item e)
-same_number (PosWord _) item e = absurd (nameless item e)
+-- a key with the name of an item has its class
+pub same_class : (count : ℕ) (names : ClassNames) (key item : Arg)
+    → is_key_of (names_of key) item ≡ true
+    → class_in count names item ≡ class_in count names key
+same_class count names (Short d _ _) (Short c _ _) e =
+    ap (class_of_short count names) (sym (eqb-true d c (one_of _ e)))
+same_class count names (Short d _ _) (Long name _ _) e = cc
+same_class count names (Short d _ _) (ArgWord _) e = cc
+same_class count names (Short d _ _) (Word _) e = cc
+same_class count names (Short d _ _) (PosWord _) e = cc
+same_class count names (Long text _ _) (Long name _ _) e =
+    ap (class_of_text count names) (sym ((bytes_eq-Decides text name).0 (one_of _ e)))
+same_class count names (Long text _ _) (Short c _ _) e = cc
+same_class count names (Long text _ _) (ArgWord _) e = cc
+same_class count names (Long text _ _) (Word _) e = cc
+same_class count names (Long text _ _) (PosWord _) e = cc
+same_class count names (ArgWord _) item e = absurd (nameless item e)
+same_class count names (Word _) item e = absurd (nameless item e)
+same_class count names (PosWord _) item e = absurd (nameless item e)
 
 -- what is passed stays so, where the chain of a place's class begins behind places of the set
 pub behind_passed : (line : List Arg) (set : ℕ → Bool) (old : Chained) (place from head : ℕ)
@@ -316,7 +258,7 @@ behind_passed line set old place from head h within inside read headed walked =
     let class = slice_index old.classes place in
     let heads = slice_set old.heads class head in
     record {
-      classes = h.classes ∙ ap (λ n. map (class_in n) (take (length old.classes) line))
+      classes = h.classes ∙ ap (λ n. map (class_in n old.names) (take (length old.classes) line))
           (sym (length-set old.heads class head));
       keyless = h.keyless;
       passed = λ p below before. ⊎_elim
@@ -332,71 +274,16 @@ behind_passed line set old place from head h within inside read headed walked =
           (let same : slice_index heads (slice_index old.classes p) ≡ head_of old p =
           get_or-set_other old.heads class (slice_index old.classes p) head 0 other in omega arith))
           (cases_eq (slice_index old.classes p) class);
-      named = λ p below before shares. h.named p below before shares;
     }
 
--- what stands before the start of a name and has it is in the set
-pub early_set : (line : List Arg) (set : ℕ → Bool) (old : Chained) (key : Option Arg)
-    (class from p : ℕ) → AreBehind line set old → IsWalkStart line (names_of key) old class from
-    → p < length old.classes → slice_index old.classes p ≡ class → p < from
-    → named_at line (names_of key) p ≡ true → set p ≡ true
-early_set line set old key class from p h start below at early named = ⊎_elim
-    (λ (before : p < slice_index old.heads class). h.passed p below
-    (let begin : head_of old p ≡ slice_index old.heads class = ap (slice_index old.heads) at in
-    omega arith))
-    (λ (behind : slice_index old.heads class ≤ p). h.named p below
-    (let stand : cursor_of old p ≡ slice_index old.cursors class =
-    ap (slice_index old.cursors) at in
-    omega (arith, start.cursor p early behind))
-    (ap (λ k. shares_name line (slice_index old.owners k) p) at
-    ∙ shares_named line key (slice_index old.owners class) p (start.owner p early behind) named))
-    (cases_lt p (slice_index old.heads class))
-
--- of two that are true together the first is, where the second isn't
-in_set : (b shares : Bool) → (b || not shares) ≡ true → shares ≡ true → b ≡ true
-in_set true shares e f = refl
-in_set false true e f = e
-in_set false false e f = f
-
--- and where the class has that place for its owner, and its cursor stands behind places of the set
--- and such of other names
-pub behind_owned : (line : List Arg) (set : ℕ → Bool) (old : Chained) (place class from cursor : ℕ)
-    → AreBehind line set old → class < length old.owners → class < length old.cursors
-    → IsWalkStart line (names_in line place) old class from
-    → HasWalked old.classes (λ p. set p || not (shares_name line place p)) from cursor
-    → AreBehind line set (record old {
-      owners = slice_set old.owners class place;
-      cursors = slice_set old.cursors class cursor;
-    })
-behind_owned line set old place class from cursor h owned inside start walked =
-    let owners = slice_set old.owners class place in
-    let cursors = slice_set old.cursors class cursor in
-    record {
-      classes = h.classes;
-      keyless = h.keyless;
-      passed = λ p below before. h.passed p below before;
-      named = λ p below before shares. ⊎_elim
-          (λ (at : slice_index old.classes p ≡ class).
-          let owner : slice_index owners (slice_index old.classes p) ≡ place =
-          ap (slice_index owners) at ∙ get_or-set_same old.owners class place 0 owned in
-          let now : slice_index cursors (slice_index old.classes p) ≡ cursor =
-          ap (slice_index cursors) at ∙ get_or-set_same old.cursors class cursor 0 inside in
-          let mine : shares_name line place p ≡ true =
-          ap (λ o. shares_name line o p) (sym owner) ∙ shares in ⊎_elim
-          (λ (early : p < from). early_set line set old
-          (slice_get line place) class from p h start below
-          at early mine)
-          (λ (behind : from ≤ p). in_set (set p) (shares_name line place p)
-          (walked.passed class p start.place behind (omega arith) at) mine)
-          (cases_lt p from))
-          (λ (other : slice_index old.classes p ≢ class).
-          let owner : slice_index owners (slice_index old.classes p) ≡ owner_of old p =
-          get_or-set_other old.owners class (slice_index old.classes p) place 0 other in
-          let now : slice_index cursors (slice_index old.classes p) ≡ cursor_of old p =
-          get_or-set_other old.cursors class (slice_index old.classes p) cursor 0 other in
-          h.named p below (omega arith) (ap (λ o. shares_name line o p) (sym owner) ∙ shares))
-          (cases_eq (slice_index old.classes p) class);
-    }
+-- what stands before the beginning of its chain is in the set
+pub early_set : (line : List Arg) (set : ℕ → Bool) (chains : Chained) (class from p : ℕ)
+    → AreBehind line set chains → IsChainStart chains class from → p < length chains.classes
+    → slice_index chains.classes p ≡ class → p < from → set p ≡ true
+early_set line set chains class from p h start below at early = h.passed p below
+    (let begin : head_of chains p ≡ from =
+    ap (slice_index chains.heads) at ∙ sym start.begins in
+    omega arith)
 
 -- and so of what chains are kept as
 pub behind_passed_read : (s : Inside) (line : List Arg) (set : ℕ → Bool) (classes : List ℕ)
@@ -420,49 +307,33 @@ behind_passed_read s line set classes place from head h same within read behind 
     (ap (slice_index s.heads.items) at ∙ sym begins)
     (h.headed (slice_index (rc_slice_items s.classes) place) (h.numbered place within))) walked)
 
--- no item has the name of a place past the line
-past_nameless : (line : List Arg) (owner p : ℕ) → slice_get line owner ≡ None
-    → shares_name line owner p ≡ true → ⊥
-past_nameless line owner p past shares = by_item (slice_get line p)
-    (ap (λ found. option_map_or (is_key_of (names_of found)) (slice_get line p) false) (sym past)
-    ∙ shares)
-  where
-    by_item : (item : Option Arg) → option_map_or (is_key_of (names_of None)) item false ≡ true → ⊥
-    by_item None e = cc
-    by_item (Some item) e = nameless item e
-
--- chains that begin at their first places, and have no owners, stand behind nothing
+-- chains that begin at their first places stand behind nothing
 pub behind_nothing : (chains : Chained) (line : List Arg) (keys : ℕ) (classes heads : List ℕ)
-    (count : ℕ) → chains.classes ≡ classes → chains.heads ≡ heads → length heads ≡ count
-    → chains.owners ≡ replicate count (length line) → keys ≤ length line
-    → HasNoKeyFrom line keys → classes ≡ map (class_in count) (take keys line)
+    (count : ℕ) (names : ClassNames) → chains.classes ≡ classes
+    → chains.heads ≡ heads → chains.names ≡ names → length heads ≡ count → keys ≤ length line
+    → HasNoKeyFrom line keys → classes ≡ map (class_in count names) (take keys line)
     → 128 < count → ((k : ℕ) → k < length heads → IsNextOf classes k 0 (slice_index heads k))
     → AreBehind line (λ p. false) chains
-behind_nothing chains line keys classes heads count same begin size none short keyless are some
-    first =
+behind_nothing chains line keys classes heads count names same begin named size short keyless are
+    some first =
     let count_is : length chains.heads ≡ count = ap length begin ∙ size in
     let keys_is : length chains.classes ≡ keys = ap length same
-    ∙ (classes_size (take keys line) classes count are ∙ length-take-le keys line short) in
+    ∙ (classes_size (take keys line) classes count names are ∙ length-take-le keys line short) in
     record {
-      classes = same ∙ (are ∙ (ap (λ n. map (class_in n) (take keys line)) (sym count_is)
-          ∙ ap (λ k. map (class_in (length chains.heads)) (take k line)) (sym keys_is)));
+      classes = same ∙ (are ∙ (ap (λ n. map (class_in n names) (take keys line)) (sym count_is)
+          ∙ (ap (λ ns. map (class_in (length chains.heads) ns) (take keys line)) (sym named)
+          ∙ ap (λ k. map (class_in (length chains.heads) chains.names) (take k line))
+          (sym keys_is))));
       keyless = subst (HasNoKeyFrom line) (sym keys_is) keyless;
       passed = λ p within before.
           let inside : p < length classes = omega (arith, ap length same) in
           let low = first_not_behind classes heads p (first (slice_index classes p)
-          (omega (arith, classes_below (take keys line) classes count are some p inside))) in
+          (omega (
+            arith,
+            classes_below (take keys line) classes count names are some p inside,
+          ))) in
           let begins : head_of chains p ≡ slice_index heads (slice_index classes p) =
           ap (λ xs. slice_index xs (slice_index chains.classes p)) begin
           ∙ ap (λ xs. slice_index heads (slice_index xs p)) same in
           absurd (omega arith);
-      named = λ p within before shares.
-          let inside : p < length classes = omega (arith, ap length same) in
-          let owner : owner_of chains p ≡ length line =
-          ap (λ xs. slice_index xs (slice_index chains.classes p)) none
-          ∙ (ap (λ xs. slice_index (replicate count (length line)) (slice_index xs p)) same
-          ∙ get_or-replicate count (slice_index classes p) (length line) 0
-          (classes_below (take keys line) classes count are some p inside)) in
-          absurd (past_nameless line (length line) p
-          (slice_get_past line (length line) (omega arith))
-          (ap (λ o. shares_name line o p) (sym owner) ∙ shares));
     }

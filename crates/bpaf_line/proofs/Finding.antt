@@ -14,13 +14,13 @@ use Rattle.bpaf_doc.specs.Names.{Names}
 use Rattle.bpaf_words.specs.declared.arg.Arg.{Arg}
 use Rattle.bpaf_words.specs.declared.arg.Arg.TheVariants.{Short, Long, ArgWord, Word, PosWord}
 use Rattle.bpaf_words.specs.Items.{is_key_of, is_argument_key}
-use Rattle.bpaf_line.specs.Chained.{Chained, name_number, names_of, class_in, class_of, IsWalkStart}
-use Rattle.bpaf_line.specs.Chained.{HasWalked, AreChainsOf, HasNoKeyFrom}
+use Rattle.bpaf_line.specs.Chained.{Chained, names_of, class_in, IsChainStart, HasWalked}
+use Rattle.bpaf_line.specs.Chained.{AreChainsOf, HasNoKeyFrom}
 use Rattle.bpaf_line.specs.Finding.{IsFirstAmong, IsFirstAlong}
 use Rattle.bpaf_line.specs.Situation.{Situation, is_marker, in_scope, is_open, is_taken, item_at}
 use Rattle.bpaf_line.specs.Situation.{IsFirstPresent}
 use Rattle.bpaf_line.specs.Taking.{open_item, is_match, HasNone, IsFirst}
-use Rattle.bpaf_line.proofs.Chained.{behind_within, same_number, early_set}
+use Rattle.bpaf_line.proofs.Chained.{behind_within, same_class, early_set}
 use Rattle.bpaf_line.proofs.Matches.{open_item_there}
 use Rattle.bpaf_line.proofs.Places.{open_not_taken}
 
@@ -55,63 +55,60 @@ item_of_line s p item there = of_test (is_marker s.context.marker p) (slice_get 
     of_test false at e = e
     of_test true at e = cc
 
--- its class is that of its number
+-- its class is that of its name
 class_at : (s : Situation) (chains : Chained) (p : ℕ) (item : Arg) → AreChainsOf s chains
     → p < length chains.classes → open_item s p ≡ Some item
-    → slice_index chains.classes p ≡ class_in (length chains.heads) item
+    → slice_index chains.classes p ≡ class_in (length chains.heads) chains.names item
 class_at s chains p item h inside there =
+    let class = class_in (length chains.heads) chains.names in
     let at = item_of_line s p item there in
     let size = length-take-le (length chains.classes) s.context.line
     (behind_within s.context.line (is_taken s) chains h) in
     ap (λ xs. slice_index xs p) h.classes
-    ∙ (get_or-map (class_in (length chains.heads)) (take (length chains.classes) s.context.line) p
-    item 0 (omega (arith, size, inside)) ∙ ap (class_in (length chains.heads))
+    ∙ (get_or-map class (take (length chains.classes) s.context.line) p
+    item 0 (omega (arith, size, inside)) ∙ ap class
     (get_or-take (length chains.classes) s.context.line p item inside
     ∙ get_or_from_slice_get s.context.line p item item at))
 
--- the class of an open item with the name of a key is that of the key's number
+-- the class of an open item with the name of a key is that of the key
 class_named : (s : Situation) (chains : Chained) (key : Arg) (q : ℕ) (item : Arg)
     → AreChainsOf s chains → q < length chains.classes → open_item s q ≡ Some item
-    → is_key_of (names_of (Some key)) item ≡ true
-    → slice_index chains.classes q ≡ class_of (length chains.heads) (name_number key)
+    → is_key_of (names_of key) item ≡ true
+    → slice_index chains.classes q ≡ class_in (length chains.heads) chains.names key
 class_named s chains key q item h inside there named = class_at s chains q item h inside there
-    ∙ ap (class_of (length chains.heads)) (same_number key item named)
+    ∙ same_class (length chains.heads) chains.names key item named
 
--- no open item with a name stands before the start of that name
+-- no open item with a name stands before the beginning of its chain
 none_before_start : (s : Situation) (chains : Chained) (key : Arg) (start q : ℕ) (item : Arg)
     → AreChainsOf s chains
-    → IsWalkStart s.context.line (names_of (Some key)) chains
-    (class_of (length chains.heads) (name_number key)) start
+    → IsChainStart chains (class_in (length chains.heads) chains.names key) start
     → q < length chains.classes → q < start → open_item s q ≡ Some item
-    → is_key_of (names_of (Some key)) item ≡ true → true ≡ false
+    → is_key_of (names_of key) item ≡ true → true ≡ false
 none_before_start s chains key start q item h begins inside before there named =
-    let at = item_of_line s q item there in
-    sym (early_set s.context.line (is_taken s) chains (Some key)
-    (class_of (length chains.heads) (name_number key)) start q h begins inside
-    (class_named s chains key q item h inside there named) before
-    (ap (λ found. option_map_or (is_key_of (names_of (Some key))) found false) at ∙ named))
+    sym (early_set s.context.line (is_taken s) chains
+    (class_in (length chains.heads) chains.names key) start q h begins inside
+    (class_named s chains key q item h inside there named) before)
     ∙ open_not_taken s q (open_item_there s q item there).0
 
 -- the first along the chain from that start on is the first with the name
 pub first_named : (test : Arg → Bool) (s : Situation) (chains : Chained) (key : Arg)
     (start end p : ℕ) → AreChainsOf s chains → end ≤ length chains.classes
-    → IsWalkStart s.context.line (names_of (Some key)) chains
-    (class_of (length chains.heads) (name_number key)) start
+    → IsChainStart chains (class_in (length chains.heads) chains.names key) start
     → IsFirstAlong test s chains.classes start end p
-    → IsFirstAmong test (names_of (Some key)) s end p
+    → IsFirstAmong test (names_of key) s end p
 first_named test s chains key start end p h inside begins along = record {
   within = along.within;
   matches = along.matches;
   none = λ q item before there passes. ⊎_elim
-      (λ (named : is_key_of (names_of (Some key)) item ≡ true). absurd (true≢false (⊎_elim
+      (λ (named : is_key_of (names_of key) item ≡ true). absurd (true≢false (⊎_elim
       (λ (early : q < start). none_before_start s chains key start q item h begins
       (omega (arith, along.within)) early there named)
       (λ (behind : start ≤ q). sym (ap (λ found. option_map_or test found false) there ∙ passes)
-      ∙ along.none (class_of (length chains.heads) (name_number key)) q begins.place behind before
+      ∙ along.none (class_in (length chains.heads) chains.names key) q begins.place behind before
       (class_named s chains key q item h (omega (arith, along.within)) there named))
       (cases_lt q start))))
-      (λ (other : is_key_of (names_of (Some key)) item ≡ false). other)
-      (cases_Bool (is_key_of (names_of (Some key)) item));
+      (λ (other : is_key_of (names_of key) item ≡ false). other)
+      (cases_Bool (is_key_of (names_of key) item));
 }
 
 -- a walk along a chain that passed what doesn't match found the first, where it ends at the end

@@ -20,7 +20,7 @@ use Rattle.bpaf_line.specs.declared.state.State.TheInside.{Inside}
 use Rattle.bpaf_line.specs.declared.aside.Aside.{Aside}
 use Rattle.bpaf_line.specs.Remembered.{no_aside, count_within, IsSurvey, IsRemembered}
 use Rattle.bpaf_line.specs.Bits.{has_bit, is_clear_from, count_clear, ChangesBit, IsFirstClear}
-use Rattle.bpaf_line.specs.Chained.{Chained, class_in, head_of, cursor_of, AreBehind, AreChainsOf}
+use Rattle.bpaf_line.specs.Chained.{Chained, class_in, head_of, AreBehind, AreChainsOf}
 use Rattle.bpaf_line.specs.Chained.{ReachBack, IfChained, HasNoKeyFrom}
 use Rattle.bpaf_line.specs.Inside.{situation_of, BitsOf, IsSound}
 use Rattle.bpaf_line.specs.Situation.{Situation, with_trail, with_scope, cut_to, is_open, is_marker}
@@ -69,7 +69,6 @@ behind_since line old new (Some chains) grown h =
       classes = h.classes;
       keyless = h.keyless;
       passed = λ q within before. grown q (omega arith) (h.passed q within before);
-      named = λ q within before shares. grown q (omega arith) (h.named q within before shares);
     }
 
 -- the bits of what chains passed are set, where one place more is taken
@@ -80,8 +79,7 @@ behind_bits s p words chains bits h =
     behind_since s.context.line (is_taken s) (has_bit words) chains
     (λ q within taken. bits q within ∙ put_stays s p q taken) h
 
--- and where the chains begin no later, nor their cursors stand later, also not behind the place
--- that is taken no more
+-- and where the chains begin no later, also not behind the place that is taken no more
 pub chains_untake : (s : Situation) (p : ℕ) (old new : Option Chained)
     → IfSome old (AreChainsOf (put s p)) → IfChained (ReachBack p) old new
     → IfSome new (AreChainsOf s)
@@ -90,9 +88,12 @@ chains_untake s p None (Some new) h back = absurd back
 chains_untake s p (Some old) None h back = tt
 chains_untake s p (Some old) (Some new) h back = record {
   classes = back.classes ∙ (h.classes
-      ∙ (ap (λ n. map (class_in n) (take (length old.classes) s.context.line)) (sym back.count)
-      ∙ ap (λ k. map (class_in (length new.heads)) (take k s.context.line))
-      (sym (ap length back.classes))));
+      ∙ (ap (λ n. map (class_in n old.names) (take (length old.classes) s.context.line))
+      (sym back.count)
+      ∙ (ap (λ ns. map (class_in (length new.heads) ns)
+      (take (length old.classes) s.context.line)) (sym back.names)
+      ∙ ap (λ k. map (class_in (length new.heads) new.names) (take k s.context.line))
+      (sym (ap length back.classes)))));
   keyless = subst (HasNoKeyFrom s.context.line) (sym (ap length back.classes)) h.keyless;
   passed = λ q within before. let inside : q < length old.classes = omega
       (arith, ap length back.classes) in ⊎_elim
@@ -100,14 +101,6 @@ chains_untake s p (Some old) (Some new) h back = record {
       (sym at) (back.here (omega (arith, at, inside))) in omega arith))
       (λ (other : q ≢ p). sym (put_other s p q other) ∙ h.passed q inside
       (omega (arith, back.earlier q inside)))
-      (cases_eq q p);
-  named = λ q within before shares. let inside : q < length old.classes = omega
-      (arith, ap length back.classes) in ⊎_elim
-      (λ (at : q ≡ p). absurd (let low : cursor_of new q ≤ q = subst (λ x. cursor_of new x ≤ x)
-      (sym at) (back.there (omega (arith, at, inside))) in omega arith))
-      (λ (other : q ≢ p). sym (put_other s p q other) ∙ h.named q inside
-      (omega (arith, back.nearer q inside))
-      (rw (sym back.owners, sym back.classes) shares))
       (cases_eq q p);
 }
 

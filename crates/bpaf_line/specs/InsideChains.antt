@@ -4,17 +4,16 @@ use Rattle.std.specs.Rc.{rc_slice_items}
 use Rattle.bpaf_line.specs.declared.chains.Chains.TheInside.{Inside}
 use Rattle.bpaf_line.specs.Chained.{Chained, IsNextOf, IsPlaceOf}
 
--- the classes, the beginnings, the owners and the cursors
+-- the classes, the beginnings and the names
 abbrev pub chained_of : Inside → Chained
 chained_of s = record {
   classes = rc_slice_items s.classes;
   heads = s.heads.items;
-  owners = s.owners.items;
-  cursors = s.cursors.items;
+  names = s.names.value.entries;
 }
 
--- each place has its next one, each class is one of them, each chain begins at one of its places,
--- and its cursor stands at one
+-- each place has its next one, each class is one of them, and each chain begins at one of its
+-- places
 pub record IsLinked (s : Inside) : Type 0 where
   pub some : 128 < length s.heads.items
   pub whole : length (rc_slice_items s.next) ≡ length (rc_slice_items s.classes)
@@ -25,7 +24,3 @@ pub record IsLinked (s : Inside) : Type 0 where
       → slice_index (rc_slice_items s.classes) p < length s.heads.items
   pub headed : (k : ℕ) → k < length s.heads.items → IsPlaceOf (rc_slice_items s.classes) k
       (slice_index s.heads.items k)
-  pub owned : length s.owners.items ≡ length s.heads.items
-  pub cursors : length s.cursors.items ≡ length s.heads.items
-  pub placed : (k : ℕ) → k < length s.heads.items → IsPlaceOf (rc_slice_items s.classes) k
-      (slice_index s.cursors.items k)

@@ -5,11 +5,10 @@ ghost use Rattle.bpaf_line.specs.Chained.{AreChainsOf};
 ghost use Rattle.bpaf_line.specs.Finding.{IsFirstAmong, IsFirstAlong};
 ghost use Rattle.bpaf_line.specs.Taking.{is_match, HasNone, IsFirst};
 
-use crate::chains::{Chains, text_number};
+use crate::chains::Chains;
 use crate::state::State;
 use bpaf_doc::Text;
 use bpaf_words::is_argument_key;
-use std::slice;
 
 /// A scope with no more places from the first present one on, up to the line's last key, is
 /// narrow: to look at all of them costs less than a walk along chains that begin in front of it.
@@ -86,10 +85,9 @@ impl State {
             (is_argument_key (record { shorts = shorts.now; longs = longs.now }) adjacent)
             (record { shorts = shorts.now; longs = [] }) self.now end result }
     {
-        let items = self.items.as_slice();
         let mut place = end;
         for short in shorts {
-            let start = chains.start(items, *short as usize, slice::from_ref(short), &[]);
+            let start = chains.first_short(*short);
             place = self.first_along(chains, start, place, shorts, longs, adjacent);
         }
         place
@@ -111,11 +109,9 @@ impl State {
             (is_argument_key (record { shorts = shorts.now; longs = longs.now }) adjacent)
             (record { shorts = []; longs = longs.now }) self.now end result }
     {
-        let items = self.items.as_slice();
         let mut place = end;
         for long in longs {
-            let number = text_number(long.as_str());
-            let start = chains.start(items, number, &[], slice::from_ref(long));
+            let start = chains.first_long(long);
             place = self.first_along(chains, start, place, shorts, longs, adjacent);
         }
         place

@@ -32,6 +32,7 @@ mod adjacent;
 mod aside;
 mod bits;
 mod chains;
+mod classes;
 mod conflict;
 mod construct;
 mod error;

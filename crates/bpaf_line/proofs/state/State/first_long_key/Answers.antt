@@ -1,8 +1,7 @@
-use Rattle.std.proofs.Common.{◌++◌, ◌∷◌, [], ◌∙◌, ap, sym, subst, take, false, length, arith}
+use Rattle.std.proofs.Common.{◌++◌, ◌∷◌, [], ◌∙◌, ap, sym, subst, take, false, arith}
 use Rattle.std.proofs.lemmas.List.{take_more}
 use Rattle.bpaf_words.specs.declared.arg.Arg.TheVariants.{Long}
 use Rattle.bpaf_words.specs.Items.{is_argument_key}
-use Rattle.bpaf_line.specs.Chained.{text_number, name_number, class_of, IsWalkStart}
 use Rattle.bpaf_line.specs.Finding.{IsFirstAmong}
 use Rattle.bpaf_line.proofs.Finding.{among_more, first_named}
 use Rattle.bpaf_line.proofs.state.State.first_long_key.Goals as goal
@@ -20,25 +19,13 @@ loop-long-preserved c =
     let key = Long name false [] in
     let s = c.args.self.now in
     let chains = c.args.chains.now in
-    let class = class_of (length chains.heads) (name_number key) in
-    let line = c.as_slice-items.ensures.value ∙ ap (λ t. t.context.line) c.self.view_is in
-    let begins = subst (λ ns. IsWalkStart s.context.line
-    (record { shorts = []; longs = ns }) chains class c.start-start.result)
-    c.from_ref.ensures.value (subst
-    (λ items. IsWalkStart items (record { shorts = []; longs = c.from_ref.result.now }) chains
-    class
-    c.start-start.result) line (subst (λ number. IsWalkStart c.as_slice-items.result.now
-    (record { shorts = []; longs = c.from_ref.result.now }) chains
-    (class_of (length chains.heads) number) c.start-start.result)
-    (c.text_number-number.ensures ∙ ap (text_number 0) (c.as_str.ensures))
-    c.start-start.ensures)) in
     subst (λ ns. IsFirstAmong test (record { shorts = []; longs = ns }) s c.args.end
     c.first_along-place.result) (sym (take_more longs i name c.loop-long-test.true
     ∙ ap (λ n. take i longs ++ n ∷ []) (sym c.long-item.is)))
     (among_more test (record { shorts = []; longs = take i longs })
     (record { shorts = []; longs = name ∷ [] }) s c.args.end c.loop-long.place
     c.first_along-place.result c.loop-long.invariant
-    (first_named test s chains key c.start-start.result
+    (first_named test s chains key c.first_long-start.result
     c.loop-long.place c.first_along-place.result c.requires.chains
-    (omega (arith, c.loop-long.invariant.within, c.requires.inside)) begins
+    (omega (arith, c.loop-long.invariant.within, c.requires.inside)) c.first_long-start.ensures
     c.first_along-place.ensures))

@@ -1,8 +1,7 @@
-use Rattle.std.proofs.Common.{◌++◌, ◌∷◌, [], ◌∙◌, ap, sym, subst, take, false, length, arith}
+use Rattle.std.proofs.Common.{◌++◌, ◌∷◌, [], ◌∙◌, ap, sym, subst, take, false, arith}
 use Rattle.std.proofs.lemmas.List.{take_more}
 use Rattle.bpaf_words.specs.declared.arg.Arg.TheVariants.{Short}
 use Rattle.bpaf_words.specs.Items.{is_argument_key}
-use Rattle.bpaf_line.specs.Chained.{name_number, class_of, IsWalkStart}
 use Rattle.bpaf_line.specs.Finding.{IsFirstAmong}
 use Rattle.bpaf_line.proofs.Finding.{among_more, first_named}
 use Rattle.bpaf_line.proofs.state.State.first_short_key.Goals as goal
@@ -20,21 +19,13 @@ loop-short-preserved c =
     let key = Short name false [] in
     let s = c.args.self.now in
     let chains = c.args.chains.now in
-    let class = class_of (length chains.heads) (name_number key) in
-    let line = c.as_slice-items.ensures.value ∙ ap (λ t. t.context.line) c.self.view_is in
-    let begins = subst (λ ns. IsWalkStart s.context.line
-    (record { shorts = ns; longs = [] }) chains class c.start-start.result)
-    c.from_ref.ensures.value (subst
-    (λ items. IsWalkStart items (record { shorts = c.from_ref.result.now; longs = [] }) chains
-    class
-    c.start-start.result) line c.start-start.ensures) in
     subst (λ ns. IsFirstAmong test (record { shorts = ns; longs = [] }) s c.args.end
     c.first_along-place.result) (sym (take_more shorts i name c.loop-short-test.true
     ∙ ap (λ n. take i shorts ++ n ∷ []) (sym c.short-item.is)))
     (among_more test (record { shorts = take i shorts; longs = [] })
     (record { shorts = name ∷ []; longs = [] }) s c.args.end c.loop-short.place
     c.first_along-place.result c.loop-short.invariant
-    (first_named test s chains key c.start-start.result
+    (first_named test s chains key c.first_short-start.result
     c.loop-short.place c.first_along-place.result c.requires.chains
-    (omega (arith, c.loop-short.invariant.within, c.requires.inside)) begins
+    (omega (arith, c.loop-short.invariant.within, c.requires.inside)) c.first_short-start.ensures
     c.first_along-place.ensures))

@@ -2,7 +2,7 @@ use Rattle.std.proofs.Common.{ap, sym, subst, arith, length}
 use Rattle.bpaf_line.specs.Bits.{has_bit}
 use Rattle.bpaf_line.specs.Chained.{IsPlaceOf, HasWalked, AreBehind}
 use Rattle.bpaf_line.proofs.Chained.{linked_passed, behind_passed_read}
-use Rattle.bpaf_line.proofs.chains.Chains.pass_taken.Goals as goal
+use Rattle.bpaf_line.proofs.chains.Chains.pass.Goals as goal
 
 pub invariant_of-self : goal.invariant_of-self
 invariant_of-self c =
@@ -12,14 +12,15 @@ invariant_of-self c =
       arith,
       ap (λ t.
           length t.classes) c.self.view_is,
-      c.requires.within,
+      c.len.ensures,
+      c.if-place-len.true,
     )) c.index-head.ensures
     (λ k. subst (λ t. IsPlaceOf t.classes k c.index-head.result.now
     → IsPlaceOf t.classes k c.first_clear-first.result) (sym c.self.view_is)
     (c.first_clear-first.ensures.same k))
 
-pub returns-clause-behind : goal.returns-clause-behind
-returns-clause-behind c =
+pub returns-then-place-len : goal.returns-then-place-len
+returns-then-place-len c =
     behind_passed_read c.self.inside c.args.items.now (has_bit c.args.words.now)
     c.as_slice.result.now c.args.place c.index-head.result.now c.first_clear-first.result
     c.self.invariant
@@ -28,7 +29,8 @@ returns-clause-behind c =
       arith,
       ap (λ t.
           length t.classes) c.self.view_is,
-      c.requires.within,
+      c.len.ensures,
+      c.if-place-len.true,
     )) c.index-head.ensures
     (subst (AreBehind c.args.items.now (has_bit c.args.words.now)) (sym c.self.view_is)
     c.requires.behind)
