@@ -7,7 +7,7 @@ use std::alloc::{AllocError, Global};
 
 /// A text of a run.
 #[derive(Clone, Copy)]
-enum Named {
+enum RunText {
     Descr,
     Version,
     Header,
@@ -29,7 +29,7 @@ enum HeadWord {
     /// The number that stands behind it is the width of a page.
     MaxWidth,
     /// This text stands behind it.
-    Text(Named),
+    Text(RunText),
 }
 
 /// The word of a head that a token is, if it is one.
@@ -40,11 +40,11 @@ fn word_of(token: &str) -> Option<HeadWord> {
         "help_parser" => Some(HeadWord::HelpParser),
         "version_parser" => Some(HeadWord::VersionParser),
         "max_width" => Some(HeadWord::MaxWidth),
-        "descr" => Some(HeadWord::Text(Named::Descr)),
-        "version" => Some(HeadWord::Text(Named::Version)),
-        "header" => Some(HeadWord::Text(Named::Header)),
-        "footer" => Some(HeadWord::Text(Named::Footer)),
-        "usage" => Some(HeadWord::Text(Named::Usage)),
+        "descr" => Some(HeadWord::Text(RunText::Descr)),
+        "version" => Some(HeadWord::Text(RunText::Version)),
+        "header" => Some(HeadWord::Text(RunText::Header)),
+        "footer" => Some(HeadWord::Text(RunText::Footer)),
+        "usage" => Some(HeadWord::Text(RunText::Usage)),
         _ => None,
     }
 }
@@ -69,15 +69,15 @@ fn skip_head(tokens: &mut Tokens<'_>) -> Result<(), Fault> {
 /// The run with this text; refused only for want of memory.
 fn with_text<P: Described>(
     options: OptionParser<Value, P>,
-    named: Named,
+    named: RunText,
     text: &str,
 ) -> Result<OptionParser<Value, P>, AllocError> {
     match named {
-        Named::Descr => options.descr_str(text),
-        Named::Version => options.version_str(text),
-        Named::Header => options.header_str(text),
-        Named::Footer => options.footer_str(text),
-        Named::Usage => options.usage_str(text),
+        RunText::Descr => options.descr_str(text),
+        RunText::Version => options.version_str(text),
+        RunText::Header => options.header_str(text),
+        RunText::Footer => options.footer_str(text),
+        RunText::Usage => options.usage_str(text),
     }
 }
 
