@@ -1,11 +1,11 @@
 -- Chains: how a line's places are linked, and how a walk along the links goes.
-use Rattle.std.proofs.Common.{◌≡◌, ◌≢◌, ℕ, zero, suc, refl, ◌+◌, ◌<◌, ◌≤◌, true, false}
+use Rattle.std.proofs.Common.{◌-◌, ◌≡◌, ◌≢◌, ℕ, zero, suc, refl, ◌+◌, ◌<◌, ◌≤◌, true, false}
 use Rattle.std.proofs.Common.{Bool, List, [], ◌∷◌, ◌||◌}
 use Rattle.std.proofs.Common.{length, map, take, ap, sym, ◌∙◌, subst, arith, ⊎_elim, get_or}
-use Rattle.std.proofs.Common.{slice_index, slice_index_or, slice_set, nat_lt, if◌then◌else◌}
+use Rattle.std.proofs.Common.{slice_index, slice_index_or, slice_set, nat_lt, if◌then◌else◌, min}
 use Rattle.std.proofs.Common.{length-set, get_or-set_same, get_or-set_other}
 use Rattle.std.specs.Char.{encode_utf8}
-use Rattle.std.specs.Option.{option_map_or}
+use Rattle.std.specs.Option.{option_map_or, unwrap_or}
 use Rattle.std.specs.Rc.{rc_slice_items}
 use Rattle.std.specs.Vec.{with_item}
 use Rattle.std.proofs.lemmas.Slice.Eq.{bytes_eq-Decides}
@@ -18,7 +18,9 @@ use Rattle.bpaf_words.specs.declared.arg.Arg.TheVariants.{Short, Long, ArgWord, 
 use Rattle.bpaf_words.specs.Items.{is_key_of}
 use Rattle.bpaf_line.specs.declared.chains.Chains.TheInside.{Inside}
 use Rattle.bpaf_line.specs.Chained.{Chained, IsNextOf, IsPlaceOf, IsChainStart, HasWalked}
-use Rattle.bpaf_line.specs.Chained.{AreBehind, ClassNames, class_of_text, class_of_short, class_in, head_of}
+use Rattle.bpaf_line.specs.Chained.{AreBehind, Naming, class_among, class_of_number}
+use Rattle.bpaf_line.specs.Chained.{class_of_name, class_of_short, class_of_long, class_in, head_of}
+use Rattle.bpaf_line.specs.Chained.{text_number}
 use Rattle.bpaf_line.specs.Chained.{names_of, named_at, is_key, HasNoKeyFrom}
 use Rattle.bpaf_line.specs.InsideChains.{chained_of, IsLinked}
 
@@ -55,38 +57,45 @@ walked_more classes passes from p next walked below set link = record {
       (cases_lt q p);
 }
 
--- the class of a text is one of so many
-text_below : (count : ℕ) (names : ClassNames) (text : List ℕ) → 0 < count
-    → class_of_text count names text < count
-text_below count names text some = omega arith
-
--- and so is that of a short name
-short_below : (count : ℕ) (names : ClassNames) (name : ℕ) → 128 < count
-    → class_of_short count names name < count
-short_below count names name some = by_test (nat_lt name 128) refl
+-- the class of a name is one of so many
+name_below : (line : List Arg) (naming : Naming) (count : ℕ) (names : Names) (number : ℕ)
+    (text : List ℕ) → 0 < count → class_of_name line naming count names number text < count
+name_below line naming count names number text some =
+    by_test (named_at line names (slice_index naming.owners class))
   where
-    by_test : (b : Bool) → nat_lt name 128 ≡ b
-        → (if b then name else class_of_text count names (encode_utf8 name)) < count
-    by_test true e = let own : name < 128 = ltb-true name 128 e in omega arith
-    by_test false e = text_below count names (encode_utf8 name) (omega arith)
+    class : ℕ
+    class = class_of_number (length naming.owners) number
 
--- and that of an item
-item_below : (count : ℕ) (names : ClassNames) (item : Arg) → 128 < count
-    → class_in count names item < count
-item_below count names (Short c _ _) some = short_below count names c some
-item_below count names (Long name _ _) some = text_below count names name (omega arith)
-item_below count names (ArgWord _) some = omega arith
-item_below count names (Word _) some = omega arith
-item_below count names (PosWord _) some = omega arith
+    by_test : (b : Bool) → (if b then min class (count - 1)
+        else min (unwrap_or (class_among naming.others text) (count - 1)) (count - 1)) < count
+    by_test true = omega arith
+    by_test false = omega arith
+
+-- and so is that of an item
+item_below : (line : List Arg) (naming : Naming) (count : ℕ) (item : Arg) → 128 < count
+    → class_in line naming count item < count
+item_below line naming count (Short c _ _) some = by_test (nat_lt c 128) refl
+  where
+    by_test : (b : Bool) → nat_lt c 128 ≡ b → (if b then c else class_of_name line naming count
+        (record { shorts = c ∷ []; longs = [] }) c (encode_utf8 c)) < count
+    by_test true e = let own : c < 128 = ltb-true c 128 e in omega arith
+    by_test false e = name_below line naming count (record { shorts = c ∷ []; longs = [] }) c
+        (encode_utf8 c) (omega arith)
+item_below line naming count (Long name _ _) some =
+    name_below line naming count (record { shorts = []; longs = name ∷ [] }) (text_number 0 name)
+    name (omega arith)
+item_below line naming count (ArgWord _) some = omega arith
+item_below line naming count (Word _) some = omega arith
+item_below line naming count (PosWord _) some = omega arith
 
 -- and those of all items
-pub class_below : (items : List Arg) (count : ℕ) (names : ClassNames)
-    → 128 < count → (p : ℕ) → p < length items
-    → slice_index (map (class_in count names) items) p < count
-class_below [] count names some p within = absurd (omega arith)
-class_below (item ∷ items) count names some zero within = item_below count names item some
-class_below (item ∷ items) count names some (suc p) within =
-    class_below items count names some p (omega arith)
+pub class_below : (line items : List Arg) (naming : Naming) (count : ℕ) → 128 < count → (p : ℕ)
+    → p < length items → slice_index (map (class_in line naming count) items) p < count
+class_below line [] naming count some p within = absurd (omega arith)
+class_below line (item ∷ items) naming count some zero within =
+    item_below line naming count item some
+class_below line (item ∷ items) naming count some (suc p) within =
+    class_below line items naming count some p (omega arith)
 
 -- a beginning that is written is a place of its class, where the new one is
 headed_set : (classes heads : List ℕ) (class head : ℕ)
@@ -161,27 +170,26 @@ first_not_behind classes heads p first = ⊎_elim
     (cases_lt p (slice_index heads (slice_index classes p)))
 
 -- the classes of a line's items are as many as those
-pub classes_size : (items : List Arg) (classes : List ℕ) (count : ℕ)
-    (names : ClassNames) → classes ≡ map (class_in count names) items
-    → length classes ≡ length items
-classes_size items classes count names are =
-    ap length are ∙ length-map items (class_in count names)
+pub classes_size : (line items : List Arg) (classes : List ℕ) (naming : Naming) (count : ℕ)
+    → classes ≡ map (class_in line naming count) items → length classes ≡ length items
+classes_size line items classes naming count are =
+    ap length are ∙ length-map items (class_in line naming count)
 
 -- and below their number
-pub classes_below : (items : List Arg) (classes : List ℕ) (count : ℕ)
-    (names : ClassNames) → classes ≡ map (class_in count names) items
+pub classes_below : (line items : List Arg) (classes : List ℕ) (naming : Naming) (count : ℕ)
+    → classes ≡ map (class_in line naming count) items
     → 128 < count → (p : ℕ) → p < length classes → slice_index classes p < count
-classes_below items classes count names are some p within =
+classes_below line items classes naming count are some p within =
     subst (λ xs. slice_index xs p < count) (sym are)
-    (class_below items count names some p
-    (omega (arith, classes_size items classes count names are)))
+    (class_below line items naming count some p
+    (omega (arith, classes_size line items classes naming count are)))
 
 -- the chains have no more places than the line
 pub behind_within : (line : List Arg) (set : ℕ → Bool) (chains : Chained)
     → AreBehind line set chains → length chains.classes ≤ length line
 behind_within line set chains h =
-    let size = classes_size (take (length chains.classes) line) chains.classes
-    (length chains.heads) chains.names h.classes in
+    let size = classes_size line (take (length chains.classes) line) chains.classes chains.names
+    (length chains.heads) h.classes in
     let cut = length-take (length chains.classes) line in
     omega (arith, size, cut)
 
@@ -227,24 +235,24 @@ nameless (Word _) e = cc
 nameless (PosWord _) e = cc
 
 -- a key with the name of an item has its class
-pub same_class : (count : ℕ) (names : ClassNames) (key item : Arg)
+pub same_class : (line : List Arg) (naming : Naming) (count : ℕ) (key item : Arg)
     → is_key_of (names_of key) item ≡ true
-    → class_in count names item ≡ class_in count names key
-same_class count names (Short d _ _) (Short c _ _) e =
-    ap (class_of_short count names) (sym (eqb-true d c (one_of _ e)))
-same_class count names (Short d _ _) (Long name _ _) e = cc
-same_class count names (Short d _ _) (ArgWord _) e = cc
-same_class count names (Short d _ _) (Word _) e = cc
-same_class count names (Short d _ _) (PosWord _) e = cc
-same_class count names (Long text _ _) (Long name _ _) e =
-    ap (class_of_text count names) (sym ((bytes_eq-Decides text name).0 (one_of _ e)))
-same_class count names (Long text _ _) (Short c _ _) e = cc
-same_class count names (Long text _ _) (ArgWord _) e = cc
-same_class count names (Long text _ _) (Word _) e = cc
-same_class count names (Long text _ _) (PosWord _) e = cc
-same_class count names (ArgWord _) item e = absurd (nameless item e)
-same_class count names (Word _) item e = absurd (nameless item e)
-same_class count names (PosWord _) item e = absurd (nameless item e)
+    → class_in line naming count item ≡ class_in line naming count key
+same_class line naming count (Short d _ _) (Short c _ _) e =
+    ap (class_of_short line naming count) (sym (eqb-true d c (one_of _ e)))
+same_class line naming count (Short d _ _) (Long name _ _) e = cc
+same_class line naming count (Short d _ _) (ArgWord _) e = cc
+same_class line naming count (Short d _ _) (Word _) e = cc
+same_class line naming count (Short d _ _) (PosWord _) e = cc
+same_class line naming count (Long text _ _) (Long name _ _) e =
+    ap (class_of_long line naming count) (sym ((bytes_eq-Decides text name).0 (one_of _ e)))
+same_class line naming count (Long text _ _) (Short c _ _) e = cc
+same_class line naming count (Long text _ _) (ArgWord _) e = cc
+same_class line naming count (Long text _ _) (Word _) e = cc
+same_class line naming count (Long text _ _) (PosWord _) e = cc
+same_class line naming count (ArgWord _) item e = absurd (nameless item e)
+same_class line naming count (Word _) item e = absurd (nameless item e)
+same_class line naming count (PosWord _) item e = absurd (nameless item e)
 
 -- what is passed stays so, where the chain of a place's class begins behind places of the set
 pub behind_passed : (line : List Arg) (set : ℕ → Bool) (old : Chained) (place from head : ℕ)
@@ -258,7 +266,8 @@ behind_passed line set old place from head h within inside read headed walked =
     let class = slice_index old.classes place in
     let heads = slice_set old.heads class head in
     record {
-      classes = h.classes ∙ ap (λ n. map (class_in n old.names) (take (length old.classes) line))
+      classes = h.classes
+          ∙ ap (λ n. map (class_in line old.names n) (take (length old.classes) line))
           (sym (length-set old.heads class head));
       keyless = h.keyless;
       passed = λ p below before. ⊎_elim
@@ -309,20 +318,22 @@ behind_passed_read s line set classes place from head h same within read behind 
 
 -- chains that begin at their first places stand behind nothing
 pub behind_nothing : (chains : Chained) (line : List Arg) (keys : ℕ) (classes heads : List ℕ)
-    (count : ℕ) (names : ClassNames) → chains.classes ≡ classes
-    → chains.heads ≡ heads → chains.names ≡ names → length heads ≡ count → keys ≤ length line
-    → HasNoKeyFrom line keys → classes ≡ map (class_in count names) (take keys line)
+    (naming : Naming) (count : ℕ) → chains.classes ≡ classes
+    → chains.heads ≡ heads → chains.names ≡ naming → length heads ≡ count → keys ≤ length line
+    → HasNoKeyFrom line keys → classes ≡ map (class_in line naming count) (take keys line)
     → 128 < count → ((k : ℕ) → k < length heads → IsNextOf classes k 0 (slice_index heads k))
     → AreBehind line (λ p. false) chains
-behind_nothing chains line keys classes heads count names same begin named size short keyless are
+behind_nothing chains line keys classes heads naming count same begin named size short keyless are
     some first =
     let count_is : length chains.heads ≡ count = ap length begin ∙ size in
     let keys_is : length chains.classes ≡ keys = ap length same
-    ∙ (classes_size (take keys line) classes count names are ∙ length-take-le keys line short) in
+    ∙ (classes_size line (take keys line) classes naming count are
+    ∙ length-take-le keys line short) in
     record {
-      classes = same ∙ (are ∙ (ap (λ n. map (class_in n names) (take keys line)) (sym count_is)
-          ∙ (ap (λ ns. map (class_in (length chains.heads) ns) (take keys line)) (sym named)
-          ∙ ap (λ k. map (class_in (length chains.heads) chains.names) (take k line))
+      classes = same ∙ (are
+          ∙ (ap (λ n. map (class_in line naming n) (take keys line)) (sym count_is)
+          ∙ (ap (λ ns. map (class_in line ns (length chains.heads)) (take keys line)) (sym named)
+          ∙ ap (λ k. map (class_in line chains.names (length chains.heads)) (take k line))
           (sym keys_is))));
       keyless = subst (HasNoKeyFrom line) (sym keys_is) keyless;
       passed = λ p within before.
@@ -330,7 +341,7 @@ behind_nothing chains line keys classes heads count names same begin named size 
           let low = first_not_behind classes heads p (first (slice_index classes p)
           (omega (
             arith,
-            classes_below (take keys line) classes count names are some p inside,
+            classes_below line (take keys line) classes naming count are some p inside,
           ))) in
           let begins : head_of chains p ≡ slice_index heads (slice_index classes p) =
           ap (λ xs. slice_index xs (slice_index chains.classes p)) begin

@@ -58,9 +58,9 @@ item_of_line s p item there = of_test (is_marker s.context.marker p) (slice_get 
 -- its class is that of its name
 class_at : (s : Situation) (chains : Chained) (p : ℕ) (item : Arg) → AreChainsOf s chains
     → p < length chains.classes → open_item s p ≡ Some item
-    → slice_index chains.classes p ≡ class_in (length chains.heads) chains.names item
+    → slice_index chains.classes p ≡ class_in s.context.line chains.names (length chains.heads) item
 class_at s chains p item h inside there =
-    let class = class_in (length chains.heads) chains.names in
+    let class = class_in s.context.line chains.names (length chains.heads) in
     let at = item_of_line s p item there in
     let size = length-take-le (length chains.classes) s.context.line
     (behind_within s.context.line (is_taken s) chains h) in
@@ -74,26 +74,26 @@ class_at s chains p item h inside there =
 class_named : (s : Situation) (chains : Chained) (key : Arg) (q : ℕ) (item : Arg)
     → AreChainsOf s chains → q < length chains.classes → open_item s q ≡ Some item
     → is_key_of (names_of key) item ≡ true
-    → slice_index chains.classes q ≡ class_in (length chains.heads) chains.names key
+    → slice_index chains.classes q ≡ class_in s.context.line chains.names (length chains.heads) key
 class_named s chains key q item h inside there named = class_at s chains q item h inside there
-    ∙ same_class (length chains.heads) chains.names key item named
+    ∙ same_class s.context.line chains.names (length chains.heads) key item named
 
 -- no open item with a name stands before the beginning of its chain
 none_before_start : (s : Situation) (chains : Chained) (key : Arg) (start q : ℕ) (item : Arg)
     → AreChainsOf s chains
-    → IsChainStart chains (class_in (length chains.heads) chains.names key) start
+    → IsChainStart chains (class_in s.context.line chains.names (length chains.heads) key) start
     → q < length chains.classes → q < start → open_item s q ≡ Some item
     → is_key_of (names_of key) item ≡ true → true ≡ false
 none_before_start s chains key start q item h begins inside before there named =
     sym (early_set s.context.line (is_taken s) chains
-    (class_in (length chains.heads) chains.names key) start q h begins inside
+    (class_in s.context.line chains.names (length chains.heads) key) start q h begins inside
     (class_named s chains key q item h inside there named) before)
     ∙ open_not_taken s q (open_item_there s q item there).0
 
 -- the first along the chain from that start on is the first with the name
 pub first_named : (test : Arg → Bool) (s : Situation) (chains : Chained) (key : Arg)
     (start end p : ℕ) → AreChainsOf s chains → end ≤ length chains.classes
-    → IsChainStart chains (class_in (length chains.heads) chains.names key) start
+    → IsChainStart chains (class_in s.context.line chains.names (length chains.heads) key) start
     → IsFirstAlong test s chains.classes start end p
     → IsFirstAmong test (names_of key) s end p
 first_named test s chains key start end p h inside begins along = record {
@@ -104,7 +104,7 @@ first_named test s chains key start end p h inside begins along = record {
       (λ (early : q < start). none_before_start s chains key start q item h begins
       (omega (arith, along.within)) early there named)
       (λ (behind : start ≤ q). sym (ap (λ found. option_map_or test found false) there ∙ passes)
-      ∙ along.none (class_in (length chains.heads) chains.names key) q begins.place behind before
+      ∙ along.none (class_in s.context.line chains.names (length chains.heads) key) q begins.place behind before
       (class_named s chains key q item h (omega (arith, along.within)) there named))
       (cases_lt q start))))
       (λ (other : is_key_of (names_of key) item ≡ false). other)

@@ -88,12 +88,12 @@ chains_untake s p None (Some new) h back = absurd back
 chains_untake s p (Some old) None h back = tt
 chains_untake s p (Some old) (Some new) h back = record {
   classes = back.classes ∙ (h.classes
-      ∙ (ap (λ n. map (class_in n old.names) (take (length old.classes) s.context.line))
-      (sym back.count)
-      ∙ (ap (λ ns. map (class_in (length new.heads) ns)
+      ∙ (ap (λ n. map (class_in s.context.line old.names n)
+      (take (length old.classes) s.context.line)) (sym back.count)
+      ∙ (ap (λ ns. map (class_in s.context.line ns (length new.heads))
       (take (length old.classes) s.context.line)) (sym back.names)
-      ∙ ap (λ k. map (class_in (length new.heads) new.names) (take k s.context.line))
-      (sym (ap length back.classes)))));
+      ∙ ap (λ k. map (class_in s.context.line new.names (length new.heads))
+      (take k s.context.line)) (sym (ap length back.classes)))));
   keyless = subst (HasNoKeyFrom s.context.line) (sym (ap length back.classes)) h.keyless;
   passed = λ q within before. let inside : q < length old.classes = omega
       (arith, ap length back.classes) in ⊎_elim

@@ -1,6 +1,7 @@
 -- The places of a line, chained by the names of their items. No contract above this crate speaks of
 -- them.
-use Rattle.std.specs.Prelude.{ℕ, ◌≡◌, ◌≢◌, ◌<◌, ◌≤◌, true, List, [], ◌∷◌}
+use Rattle.std.specs.Prelude.{ℕ, ◌+◌, ◌*◌, ◌%◌, ◌^◌, ◌≡◌, ◌≢◌, ◌<◌, ◌≤◌, true, List, []}
+use Rattle.std.specs.Prelude.{◌∷◌}
 use Rattle.std.specs.Prelude.{length, map, take, slice_index, slice_get, Option, Some, None, ⊤}
 use Rattle.std.specs.Prelude.{nat_lt, ◌-◌, Bool, false, if◌then◌else◌, min, string_bytes}
 use Rattle.std.specs.Prelude.{String as StringIn}
@@ -25,22 +26,53 @@ ClassNames = List (StringIn Global × ℕ)
 abbrev pub class_among : ClassNames → List ℕ → Option ℕ
 class_among names text = lookup (is_at (λ name. slice_cmp nat_cmp text (string_bytes name))) names
 
--- the class of a text, of so many: that which it has among the names, and else the last one
-abbrev pub class_of_text : ℕ → ClassNames → List ℕ → ℕ
-class_of_text count names text = min (unwrap_or (class_among names text) (count - 1)) (count - 1)
+-- which names have which classes: the place that owns each class of a number, and other names
+pub record Naming : Type 0 where
+  pub owners : List ℕ
+  pub others : ClassNames
+
+-- a number of a text, below 128 only of the empty one
+abbrev pub text_number : ℕ → List ℕ → ℕ
+text_number number [] = number
+text_number number (byte ∷ later) = text_number ((number * 31 + byte) % 2 ^ 32 + 128) later
+
+-- the class of a number, of so many
+abbrev pub class_of_number : ℕ → ℕ → ℕ
+class_of_number count number =
+    if nat_lt number 128 then number else 128 + number % (count - 128)
+
+-- the item at a place of a line is a key with one of the names
+abbrev pub named_at : List Arg → Names → ℕ → Bool
+named_at line names p = option_map_or (is_key_of names) (slice_get line p) false
+
+-- the class of a name, of so many: that of its number, where a place with the name owns it, and
+-- else that of its text among the other names; the last one, where it is none of these
+abbrev pub class_of_name : List Arg → Naming → ℕ → Names → ℕ → List ℕ → ℕ
+class_of_name line naming count names number text =
+    let class = class_of_number (length naming.owners) number in
+    if named_at line names (slice_index naming.owners class) then min class (count - 1)
+    else min (unwrap_or (class_among naming.others text) (count - 1)) (count - 1)
 
 -- the class of a short name, of so many; each of ASCII is alone in its own
-abbrev pub class_of_short : ℕ → ClassNames → ℕ → ℕ
-class_of_short count names name =
-    if nat_lt name 128 then name else class_of_text count names (encode_utf8 name)
+abbrev pub class_of_short : List Arg → Naming → ℕ → ℕ → ℕ
+class_of_short line naming count name =
+    if nat_lt name 128 then name
+    else class_of_name line naming count (record { shorts = name ∷ []; longs = [] }) name
+    (encode_utf8 name)
+
+-- the class of a long name, of so many
+abbrev pub class_of_long : List Arg → Naming → ℕ → List ℕ → ℕ
+class_of_long line naming count name =
+    class_of_name line naming count (record { shorts = []; longs = name ∷ [] })
+    (text_number 0 name) name
 
 -- the class of an item, of so many; the same for the same name
-abbrev pub class_in : ℕ → ClassNames → Arg → ℕ
-class_in count names (Short c attached word) = class_of_short count names c
-class_in count names (Long name attached word) = class_of_text count names name
-class_in count names (ArgWord text) = 0
-class_in count names (Word text) = 0
-class_in count names (PosWord text) = 0
+abbrev pub class_in : List Arg → Naming → ℕ → Arg → ℕ
+class_in line naming count (Short c attached word) = class_of_short line naming count c
+class_in line naming count (Long name attached word) = class_of_long line naming count name
+class_in line naming count (ArgWord text) = 0
+class_in line naming count (Word text) = 0
+class_in line naming count (PosWord text) = 0
 
 -- the name of an item alone, where it is a key
 abbrev pub names_of : Arg → Names
@@ -49,10 +81,6 @@ names_of (Long name attached word) = record { shorts = []; longs = name ∷ [] }
 names_of (ArgWord text) = record { shorts = []; longs = [] }
 names_of (Word text) = record { shorts = []; longs = [] }
 names_of (PosWord text) = record { shorts = []; longs = [] }
-
--- the item at a place of a line is a key with one of the names
-abbrev pub named_at : List Arg → Names → ℕ → Bool
-named_at line names p = option_map_or (is_key_of names) (slice_get line p) false
 
 -- an item is a key
 abbrev pub is_key : Arg → Bool
@@ -71,7 +99,7 @@ pub record HasNoKeyFrom (line : List Arg) (low : ℕ) : Type 0 where
 pub record Chained : Type 0 where
   pub classes : List ℕ
   pub heads : List ℕ
-  pub names : ClassNames
+  pub names : Naming
 
 -- the place at which the chain of a place's class begins
 abbrev pub head_of : Chained → ℕ → ℕ
@@ -105,7 +133,7 @@ pub record IsChainStart (chains : Chained) (class p : ℕ) : Type 0 where
 -- their beginnings is in a set
 pub record AreBehind (line : List Arg) (set : ℕ → Bool) (chains : Chained) : Type 0 where
   pub classes : chains.classes
-      ≡ map (class_in (length chains.heads) chains.names) (take (length chains.classes) line)
+      ≡ map (class_in line chains.names (length chains.heads)) (take (length chains.classes) line)
   pub keyless : HasNoKeyFrom line (length chains.classes)
   pub passed : (p : ℕ) → p < length chains.classes → p < head_of chains p → set p ≡ true
 

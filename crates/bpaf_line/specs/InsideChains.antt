@@ -9,7 +9,7 @@ abbrev pub chained_of : Inside → Chained
 chained_of s = record {
   classes = rc_slice_items s.classes;
   heads = s.heads.items;
-  names = s.names.value.entries;
+  names = s.names.value;
 }
 
 -- each place has its next one, each class is one of them, and each chain begins at one of its

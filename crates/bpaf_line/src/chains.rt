@@ -4,12 +4,12 @@ ghost use Rattle.std.specs.Prelude.{length, slice_get, slice_index, ◌-◌, fal
 ghost use Rattle.std.specs.Option.{option_map_or};
 ghost use Rattle.bpaf_words.specs.declared.arg.Arg.{Arg};
 ghost use Rattle.bpaf_line.specs.Bits.{has_bit};
-ghost use Rattle.bpaf_line.specs.Chained.{is_key, class_of_short, class_of_text};
+ghost use Rattle.bpaf_line.specs.Chained.{is_key, class_of_short, class_of_long};
 ghost use Rattle.bpaf_line.specs.Chained.{IsNextOf, IsChainStart, HasWalked, AreBehind};
 ghost use Rattle.bpaf_line.specs.Chained.{ReachBack, IfChained, HasNoKeyFrom};
 
 use crate::bits;
-use crate::classes::{self, ClassNames, OWN_CLASSES};
+use crate::classes::NameClasses;
 use bpaf_doc::Text;
 use bpaf_words::Arg;
 use std::alloc::{AllocError, Global};
@@ -28,7 +28,7 @@ const SHORT_LINE: usize = 32;
 pub(crate) struct Chains {
     classes: RcSlice<usize>,
     next: RcSlice<usize>,
-    names: Rc<ClassNames>,
+    names: Rc<NameClasses>,
     heads: Vec<usize>,
 }
 
@@ -46,7 +46,7 @@ impl Model for Chains {
 
 impl Chains {
     /// The chains of the first places of a line, behind which it has no key, where these aren't
-    /// few: a class for each of their names and each short one of ASCII, and one for all others.
+    /// few.
     ///
     /// Refused only for want of memory.
     pub(crate) fn of_line(
@@ -70,10 +70,9 @@ impl Chains {
         requires keyless { HasNoKeyFrom items.now keys }
         ensures { IfOk result (AreBehind items.now (λ p. false)) }
     {
-        let keyed = &items[..keys];
-        let names = classes::names_of(alloc, keyed)?;
-        let count = OWN_CLASSES + names.len() + 1;
-        let classes = classes::classes_of(alloc, keyed, &names, count)?;
+        let names = NameClasses::of_line(alloc, items, keys)?;
+        let count = names.count();
+        let classes = names.classes_of(alloc, items, &items[..keys], count)?;
         let mut next = vec![in alloc; keys; keys]?;
         let mut heads = vec![in alloc; keys; count]?;
         link(&classes, &mut next, &mut heads);
@@ -108,19 +107,19 @@ impl Chains {
     }
 
     /// The place at which to begin to look for a short name.
-    pub(crate) fn first_short(&self, name: char) -> usize
+    pub(crate) fn first_short(&self, items: &[Arg], name: char) -> usize
         ensures { IsChainStart self.now
-            (class_of_short (length self.now.heads) self.now.names name) result }
+            (class_of_short items.now self.now.names (length self.now.heads) name) result }
     {
-        self.heads[classes::class_of_short(&self.names, self.heads.len(), name)]
+        self.heads[self.names.class_of_short(items, name, self.heads.len())]
     }
 
     /// The place at which to begin to look for a long name.
-    pub(crate) fn first_long(&self, name: &Text) -> usize
+    pub(crate) fn first_long(&self, items: &[Arg], name: &Text) -> usize
         ensures { IsChainStart self.now
-            (class_of_text (length self.now.heads) self.now.names name.now) result }
+            (class_of_long items.now self.now.names (length self.now.heads) name.now) result }
     {
-        self.heads[classes::class_of_text(&self.names, self.heads.len(), name.as_str())]
+        self.heads[self.names.class_of_long(items, name, self.heads.len())]
     }
 
     /// The next place of a place's class.

@@ -1,99 +1,245 @@
 //! The classes of a line's names, by which its places are chained.
-ghost use Rattle.std.specs.Prelude.{◌≡◌, ◌<◌, IfOk, OnOk, IsSome, map};
-ghost use Rattle.bpaf_line.specs.Chained.{class_among, class_in, class_of_short, class_of_text};
+ghost use Rattle.std.specs.Prelude.{◌≡◌, ◌+◌, ◌<◌, ◌≤◌, IfOk, OnOk, IsSome, length, map};
+ghost use Rattle.bpaf_words.specs.declared.arg.Arg.{Arg};
+ghost use Rattle.bpaf_line.specs.Chained.{text_number, class_of_number, class_of_name, class_of_short};
+ghost use Rattle.bpaf_line.specs.Chained.{class_of_long, class_in, class_among, named_at};
 
-use bpaf_words::Arg;
+use bpaf_doc::Text;
+use bpaf_words::{Arg, is_key_of};
 use std::alloc::{AllocError, Global};
 use std::collections::BTreeMap;
+use std::marker::Model;
+use std::slice;
 
 /// So many classes hold one short name each, which are those of ASCII.
-pub(crate) const OWN_CLASSES: usize = 128;
+const OWN_CLASSES: usize = 128;
 
-/// Names with their classes, behind those of ASCII.
-pub(crate) type ClassNames = BTreeMap<String, usize>;
+/// Which class each name of a line has.
+///
+/// A name has the class of its number, where that is owned by a place with this name. Names that
+/// share a number with the owner of its class are kept in order, each with a class of its own.
+#[derive(Drop)]
+pub(crate) struct NameClasses {
+    owners: Vec<usize>,
+    others: BTreeMap<String, usize>,
+}
 
-/// The names of some items, each with a class of its own, but short ones of ASCII; refused only for
-/// want of memory.
-pub(crate) fn names_of(alloc: Global, items: &[Arg]) -> Result<ClassNames, AllocError> {
-    let mut names = BTreeMap::new(alloc);
-    for item in items {
-        match item {
-            Arg::Short(c, _, _) => note_short(alloc, &mut names, *c)?,
-            Arg::Long(name, _, _) => note(alloc, &mut names, name.as_str())?,
-            Arg::ArgWord(_) | Arg::Word(_) | Arg::PosWord(_) => {}
+impl Model for NameClasses {
+    ghost use Rattle.bpaf_line.specs.Chained.{Naming};
+
+    ghost Value = { Naming };
+
+    ghost view = { λ names. record { owners = names.owners.items; others = names.others.entries } };
+
+    ghost use Rattle.std.specs.Prelude.{◌<◌, length};
+
+    ghost invariant = { λ names. 128 < length names.owners.items };
+}
+
+impl NameClasses {
+    /// The classes of the names of the first places of a line; refused only for want of memory.
+    pub(crate) fn of_line(
+        alloc: Global,
+        items: &[Arg],
+        keys: usize,
+    ) -> Result<NameClasses, AllocError>
+        requires { keys ≤ length items.now }
+    {
+        let nowhere = items.len();
+        let mut names = NameClasses {
+            owners: vec![in alloc; nowhere; OWN_CLASSES + keys + 1]?,
+            others: BTreeMap::new(alloc),
+        };
+        let mut last = nowhere;
+        for place in 0..keys {
+            if !is_of_name(items, last, place) {
+                names.note(alloc, items, place)?;
+                last = place;
+            }
+        }
+        Ok(names)
+    }
+
+    /// Notes the name of a place, but a short one of ASCII; refused only for want of memory.
+    fn note(&mut self, alloc: Global, items: &[Arg], place: usize) -> Result<(), AllocError> {
+        match items.get(place) {
+            Some(Arg::Short(c, _, _)) if *c as usize >= OWN_CLASSES => {
+                let mut bytes = [0; 4];
+                let number = *c as usize;
+                self.note_name(alloc, items, place, number, c.encode_utf8(&mut bytes))
+            }
+            Some(Arg::Long(name, _, _)) => {
+                let text = name.as_str();
+                self.note_name(alloc, items, place, text_number(text), text)
+            }
+            _ => Ok(()),
         }
     }
-    Ok(names)
-}
 
-/// Notes a short name that isn't of ASCII; refused only for want of memory.
-fn note_short(alloc: Global, names: &mut ClassNames, name: char) -> Result<(), AllocError> {
-    if (name as usize) < OWN_CLASSES {
-        return Ok(());
+    /// Notes the name of a place, which has this number and text: as the owner of its class, where
+    /// that has none, and else among the others; refused only for want of memory.
+    fn note_name(
+        &mut self,
+        alloc: Global,
+        items: &[Arg],
+        place: usize,
+        number: usize,
+        text: &str,
+    ) -> Result<(), AllocError> {
+        let class = class_of_number(number, self.owners.len());
+        let owner = self.owners[class];
+        if owner >= items.len() {
+            self.owners[class] = place;
+            return Ok(());
+        }
+        if !is_of_name(items, owner, place) {
+            self.note_other(alloc, text)?;
+        }
+        Ok(())
     }
-    let mut bytes = [0; 4];
-    note(alloc, names, name.encode_utf8(&mut bytes))
+
+    /// Notes a name among the others, where it isn't one; refused only for want of memory.
+    fn note_other(&mut self, alloc: Global, text: &str) -> Result<(), AllocError>
+        ensures { OnOk result (IsSome (class_among self.new.others text.now)) }
+    {
+        if self.others.get(text).is_none() {
+            let class = self.owners.len() + self.others.len();
+            self.others.insert(String::from_str(alloc, text)?, class)?;
+        }
+        Ok(())
+    }
+
+    /// How many classes there are: those of numbers, those of the other names, and a last one for
+    /// what is no name of the line.
+    pub(crate) fn count(&self) -> usize
+        ensures { 128 < result }
+    {
+        self.owners.len() + self.others.len() + 1
+    }
+
+    /// The class of each item of a line, of so many; refused only for want of memory.
+    pub(crate) fn classes_of(
+        &self,
+        alloc: Global,
+        line: &[Arg],
+        items: &[Arg],
+        count: usize,
+    ) -> Result<Vec<usize>, AllocError>
+        requires { 128 < count }
+        ensures { IfOk result (λ classes.
+            classes.items ≡ map (class_in line.now self.now count) items.now) }
+    {
+        let mut classes = Vec::with_capacity(alloc, items.len())?;
+        for item in items {
+            classes.push(self.class_of(line, item, count))?;
+        }
+        Ok(classes)
+    }
+
+    /// The class of an item of a line, of so many.
+    fn class_of(&self, line: &[Arg], item: &Arg, count: usize) -> usize
+        requires { 128 < count }
+        ensures { result ≡ class_in line.now self.now count item.now }
+    {
+        match item {
+            Arg::Short(c, _, _) => self.class_of_short(line, *c, count),
+            Arg::Long(name, _, _) => self.class_of_long(line, name, count),
+            Arg::ArgWord(_) | Arg::Word(_) | Arg::PosWord(_) => 0,
+        }
+    }
+
+    /// The class of a short name, of so many.
+    pub(crate) fn class_of_short(&self, line: &[Arg], name: char, count: usize) -> usize
+        requires { 128 < count }
+        ensures { result ≡ class_of_short line.now self.now count name }
+    {
+        let number = name as usize;
+        if number < OWN_CLASSES {
+            return number;
+        }
+        let mut bytes = [0; 4];
+        let text = name.encode_utf8(&mut bytes);
+        self.class_of_name(line, slice::from_ref(&name), &[], number, text, count)
+    }
+
+    /// The class of a long name, of so many.
+    pub(crate) fn class_of_long(&self, line: &[Arg], name: &Text, count: usize) -> usize
+        requires { 128 < count }
+        ensures { result ≡ class_of_long line.now self.now count name.now }
+    {
+        let text = name.as_str();
+        self.class_of_name(
+            line,
+            &[],
+            slice::from_ref(name),
+            text_number(text),
+            text,
+            count,
+        )
+    }
+
+    /// The class of a name, of so many, which has this number and text.
+    fn class_of_name(
+        &self,
+        line: &[Arg],
+        shorts: &[char],
+        longs: &[Text],
+        number: usize,
+        text: &str,
+        count: usize,
+    ) -> usize
+        requires { 128 < count }
+        ensures { result ≡ class_of_name line.now self.now count
+            (record { shorts = shorts.now; longs = longs.now }) number text.now }
+    {
+        let last = count - 1;
+        let class = class_of_number(number, self.owners.len());
+        if is_named_at(line, self.owners[class], shorts, longs) {
+            return class.min(last);
+        }
+        self.others.get(text).copied().unwrap_or(last).min(last)
+    }
 }
 
-/// Notes a name with the next class, where it has none; refused only for want of memory.
-fn note(alloc: Global, names: &mut ClassNames, name: &str) -> Result<(), AllocError>
-    ensures { OnOk result (IsSome (class_among names.new.entries name.now)) }
+/// Whether the item at a place is a key with one of the names.
+fn is_named_at(items: &[Arg], place: usize, shorts: &[char], longs: &[Text]) -> bool
+    ensures { result ≡ named_at items.now
+        (record { shorts = shorts.now; longs = longs.now }) place }
 {
-    if names.get(name).is_none() {
-        let class = OWN_CLASSES + names.len();
-        names.insert(String::from_str(alloc, name)?, class)?;
+    match items.get(place) {
+        Some(item) => is_key_of(item, shorts, longs),
+        None => false,
     }
-    Ok(())
 }
 
-/// The class of each item, of so many; refused only for want of memory.
-pub(crate) fn classes_of(
-    alloc: Global,
-    items: &[Arg],
-    names: &ClassNames,
-    count: usize,
-) -> Result<Vec<usize>, AllocError>
+/// Whether the item at a place is a key with the name of that at another.
+fn is_of_name(items: &[Arg], owner: usize, place: usize) -> bool {
+    match items.get(owner) {
+        Some(Arg::Short(c, _, _)) => is_named_at(items, place, slice::from_ref(c), &[]),
+        Some(Arg::Long(name, _, _)) => is_named_at(items, place, &[], slice::from_ref(name)),
+        _ => false,
+    }
+}
+
+/// A number of a text, below the own classes only of the empty one.
+fn text_number(text: &str) -> usize
+    ensures { result ≡ text_number 0 text.now }
+{
+    let mut number = 0;
+    for byte in text.as_bytes() {
+        number = (number * 31 + usize::from(*byte)) % (1 << 32) + OWN_CLASSES;
+    }
+    number
+}
+
+/// The class of a number, of so many.
+fn class_of_number(number: usize, count: usize) -> usize
     requires { 128 < count }
-    ensures { IfOk result (λ classes.
-        classes.items ≡ map (class_in count names.now.entries) items.now) }
+    ensures class { result ≡ class_of_number count number }
+    ensures below { result < count }
 {
-    let mut classes = Vec::with_capacity(alloc, items.len())?;
-    for item in items {
-        classes.push(class_of(item, names, count))?;
-    }
-    Ok(classes)
-}
-
-/// The class of an item, of so many.
-fn class_of(item: &Arg, names: &ClassNames, count: usize) -> usize
-    requires { 128 < count }
-    ensures { result ≡ class_in count names.now.entries item.now }
-{
-    match item {
-        Arg::Short(c, _, _) => class_of_short(names, count, *c),
-        Arg::Long(name, _, _) => class_of_text(names, count, name.as_str()),
-        Arg::ArgWord(_) | Arg::Word(_) | Arg::PosWord(_) => 0,
-    }
-}
-
-/// The class of a short name, of so many.
-pub(crate) fn class_of_short(names: &ClassNames, count: usize, name: char) -> usize
-    requires { 128 < count }
-    ensures { result ≡ class_of_short count names.now.entries name }
-{
-    let number = name as usize;
     if number < OWN_CLASSES {
         return number;
     }
-    let mut bytes = [0; 4];
-    class_of_text(names, count, name.encode_utf8(&mut bytes))
-}
-
-/// The class of a text, of so many; the last one, where it is none of the names.
-pub(crate) fn class_of_text(names: &ClassNames, count: usize, text: &str) -> usize
-    requires { 0 < count }
-    ensures { result ≡ class_of_text count names.now.entries text.now }
-{
-    let last = count - 1;
-    names.get(text).copied().unwrap_or(last).min(last)
+    OWN_CLASSES + number % (count - OWN_CLASSES)
 }

@@ -85,9 +85,10 @@ impl State {
             (is_argument_key (record { shorts = shorts.now; longs = longs.now }) adjacent)
             (record { shorts = shorts.now; longs = [] }) self.now end result }
     {
+        let items = self.items.as_slice();
         let mut place = end;
         for short in shorts {
-            let start = chains.first_short(*short);
+            let start = chains.first_short(items, *short);
             place = self.first_along(chains, start, place, shorts, longs, adjacent);
         }
         place
@@ -109,9 +110,10 @@ impl State {
             (is_argument_key (record { shorts = shorts.now; longs = longs.now }) adjacent)
             (record { shorts = []; longs = longs.now }) self.now end result }
     {
+        let items = self.items.as_slice();
         let mut place = end;
         for long in longs {
-            let start = chains.first_long(long);
+            let start = chains.first_long(items, long);
             place = self.first_along(chains, start, place, shorts, longs, adjacent);
         }
         place

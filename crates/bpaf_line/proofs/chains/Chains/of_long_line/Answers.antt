@@ -1,4 +1,4 @@
-use Rattle.std.proofs.Common.{◌∙◌, ◌+◌, ap, sym, arith, take}
+use Rattle.std.proofs.Common.{◌∙◌, sym, arith, take}
 use Rattle.std.proofs.lemmas.List.{with_items_is, length-take-le}
 use Rattle.bpaf_line.proofs.Chained.{classes_size, classes_below, linked_first, behind_nothing}
 use Rattle.bpaf_line.proofs.chains.Chains.of_long_line.Goals as goal
@@ -6,15 +6,17 @@ use Rattle.bpaf_line.proofs.chains.Chains.of_long_line.Goals as goal
 pub link-requires-clause-numbered : goal.link-requires-clause-numbered
 link-requires-clause-numbered c p within =
     let keys = c.args.keys in
-    let below = classes_below (take keys c.args.items.now) c.deref.result.now
-    (128 + c.len.result + 1) c.in_ok-names.names.entries
-    (c.deref.ensures.value ∙ c.in_ok-classes.ensures) (omega arith) p within in
+    let below = classes_below c.args.items.now (take keys c.args.items.now) c.deref.result.now
+    c.in_ok-names.names c.count-count.result
+    (c.deref.ensures.value ∙ c.in_ok-classes.ensures) c.count-count.ensures p within in
     omega (arith, below, c.deref_mut-2.ensures.len, c.in_ok-heads.ensures.len)
 
 pub invariant_of-result : goal.invariant_of-result
 invariant_of-result c =
     let keys = c.args.keys in
-    let names = c.in_ok-names.names.entries in
+    let naming = c.in_ok-names.names in
+    let count = c.count-count.result in
+    let line = c.args.items.now in
     let items = take keys c.args.items.now in
     let next = c.link.new.next in
     let heads = c.link.new.heads in
@@ -26,6 +28,7 @@ invariant_of-result c =
     (with_items_is c.in_ok-heads.heads heads (c.link.auto.heads ∙ c.deref_mut-2.ensures.len))
     (omega (
       arith,
+      c.count-count.ensures,
       c.link.auto.heads,
       c.deref_mut-2.ensures.len,
       c.in_ok-heads.ensures.len,
@@ -35,13 +38,12 @@ invariant_of-result c =
       c.link.auto.next,
       c.deref_mut.ensures.len,
       c.in_ok-next.ensures.len,
-      classes_size items c.deref.result.now (128 + c.len.result + 1) names are,
+      classes_size line items c.deref.result.now naming count are,
       length-take-le keys c.args.items.now c.requires.within,
     ))
     (λ p within. omega (
       arith,
-      classes_below items c.deref.result.now (128 + c.len.result + 1) names are (omega arith) p
-          within,
+      classes_below line items c.deref.result.now naming count are c.count-count.ensures p within,
       c.link.auto.heads,
       c.deref_mut-2.ensures.len,
       c.in_ok-heads.ensures.len,
@@ -51,15 +53,15 @@ invariant_of-result c =
 pub returns : goal.returns
 returns c =
     let heads = c.link.new.heads in
-    behind_nothing _ c.args.items.now c.args.keys c.deref.result.now heads
-    (128 + c.len.result + 1) c.in_ok-names.names.entries
+    behind_nothing _ c.args.items.now c.args.keys c.deref.result.now heads c.in_ok-names.names
+    c.count-count.result
     (c.in_ok-from_vec.ensures ∙ sym c.deref.ensures.value)
     (with_items_is c.in_ok-heads.heads heads (c.link.auto.heads ∙ c.deref_mut-2.ensures.len))
-    (ap (λ names. names.entries) c.in_ok-new.ensures.ok)
+    c.in_ok-new.ensures.ok
     (omega (
       arith,
       c.link.auto.heads,
       c.deref_mut-2.ensures.len,
       c.in_ok-heads.ensures.len,
     )) c.requires.within c.requires.keyless (c.deref.ensures.value ∙ c.in_ok-classes.ensures)
-    (omega arith) (λ k within. c.link.ensures.first k (omega (arith, c.link.auto.heads)))
+    c.count-count.ensures (λ k within. c.link.ensures.first k (omega (arith, c.link.auto.heads)))
