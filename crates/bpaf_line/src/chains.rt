@@ -9,7 +9,7 @@ ghost use Rattle.bpaf_line.specs.Chained.{IsNextOf, IsChainStart, HasWalked, Are
 ghost use Rattle.bpaf_line.specs.Chained.{ReachBack, IfChained, HasNoKeyFrom};
 
 use crate::bits;
-use crate::classes::NameClasses;
+use crate::classes::{NameClasses, is_key};
 use bpaf_doc::Text;
 use bpaf_words::Arg;
 use std::alloc::{AllocError, Global};
@@ -213,16 +213,6 @@ pub(crate) fn count_to_last_key(items: &[Arg]) -> usize
         count -= 1;
     }
     count
-}
-
-/// Whether an item is a key.
-fn is_key(item: &Arg) -> bool
-    ensures { result ≡ is_key item.now }
-{
-    match item {
-        Arg::Short(..) | Arg::Long(..) => true,
-        Arg::ArgWord(_) | Arg::Word(_) | Arg::PosWord(_) => false,
-    }
 }
 
 /// Links each place to the next one of its class, and each class to its first place.

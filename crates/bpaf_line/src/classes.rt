@@ -2,7 +2,7 @@
 ghost use Rattle.std.specs.Prelude.{◌≡◌, ◌+◌, ◌<◌, ◌≤◌, IfOk, OnOk, IsSome, length, map};
 ghost use Rattle.bpaf_words.specs.declared.arg.Arg.{Arg};
 ghost use Rattle.bpaf_line.specs.Chained.{text_number, class_of_number, class_of_name, class_of_short};
-ghost use Rattle.bpaf_line.specs.Chained.{class_of_long, class_in, class_among, named_at};
+ghost use Rattle.bpaf_line.specs.Chained.{class_of_long, class_in, class_among, named_at, is_key};
 
 use bpaf_doc::Text;
 use bpaf_words::{Arg, is_key_of};
@@ -51,8 +51,8 @@ impl NameClasses {
             others: BTreeMap::new(alloc),
         };
         let mut last = nowhere;
-        for place in 0..keys {
-            if !is_of_name(items, last, place) {
+        for (place, item) in items[..keys].iter().enumerate() {
+            if is_key(item) && !is_of_name(items, last, place) {
                 names.note(alloc, items, place)?;
                 last = place;
             }
@@ -198,6 +198,16 @@ impl NameClasses {
             return class.min(last);
         }
         self.others.get(text).copied().unwrap_or(last).min(last)
+    }
+}
+
+/// Whether an item is a key.
+pub(crate) fn is_key(item: &Arg) -> bool
+    ensures { result ≡ is_key item.now }
+{
+    match item {
+        Arg::Short(..) | Arg::Long(..) => true,
+        Arg::ArgWord(_) | Arg::Word(_) | Arg::PosWord(_) => false,
     }
 }
 
