@@ -52,7 +52,7 @@ impl NameClasses {
         };
         let mut last = nowhere;
         for (place, item) in items[..keys].iter().enumerate() {
-            if is_key(item) && !is_of_name(items, last, place) {
+            if is_numbered(item) && !is_of_name(items, last, place) {
                 names.note(alloc, items, place)?;
                 last = place;
             }
@@ -60,10 +60,10 @@ impl NameClasses {
         Ok(names)
     }
 
-    /// Notes the name of a place, but a short one of ASCII; refused only for want of memory.
+    /// Notes the name of a place; refused only for want of memory.
     fn note(&mut self, alloc: Global, items: &[Arg], place: usize) -> Result<(), AllocError> {
         match items.get(place) {
-            Some(Arg::Short(c, _, _)) if *c as usize >= OWN_CLASSES => {
+            Some(Arg::Short(c, _, _)) => {
                 let mut bytes = [0; 4];
                 let number = *c as usize;
                 self.note_name(alloc, items, place, number, c.encode_utf8(&mut bytes))
@@ -198,6 +198,15 @@ impl NameClasses {
             return class.min(last);
         }
         self.others.get(text).copied().unwrap_or(last).min(last)
+    }
+}
+
+/// Whether an item is a key whose name isn't alone in the class of its number.
+fn is_numbered(item: &Arg) -> bool {
+    match item {
+        Arg::Short(c, _, _) => *c as usize >= OWN_CLASSES,
+        Arg::Long(..) => true,
+        Arg::ArgWord(_) | Arg::Word(_) | Arg::PosWord(_) => false,
     }
 }
 

@@ -1,5 +1,5 @@
 //! The parsers whose cost is counted.
-use bpaf::{Args, Doc, ParseFailure, Parser, construct, long, positional, short};
+use bpaf::{Args, Doc, ParseFailure, Parser, construct, positional, short};
 use std::alloc::Global;
 
 /// A record of options, as most programs have one.
@@ -53,22 +53,4 @@ pub fn last_number(alloc: Global, line: &[String]) -> Result<u64, ParseFailure> 
     let number = short(alloc, 'n')?.argument::<u64>("NUM");
     let options = number.take_last().to_options(alloc)?;
     options.run_once(Args::from(line))
-}
-
-/// How many numbers there are behind a long key.
-pub fn long_numbers(alloc: Global, line: &[String]) -> Result<u64, ParseFailure> {
-    let number = long(alloc, "number")?.argument::<u64>("NUM");
-    let options = number.many().to_options(alloc)?;
-    Ok(options.run_once(Args::from(line))?.len() as u64)
-}
-
-/// How many adjacent groups of a key and a word there are.
-pub fn groups(alloc: Global, line: &[String]) -> Result<u64, ParseFailure> {
-    let point = long(alloc, "point")?.req_flag(());
-    let x = positional::<u64>("X");
-    let Ok(group) = construct!(point, x).adjacent(alloc) else {
-        return Err(ParseFailure::Memory);
-    };
-    let options = group.many().to_options(alloc)?;
-    Ok(options.run_once(Args::from(line))?.len() as u64)
 }

@@ -1,5 +1,5 @@
 //! The works that are counted, and their words.
-use crate::parsers::{flags, groups, last_number, long_numbers, numbers, record, switches};
+use crate::parsers::{flags, last_number, numbers, record, switches};
 use std::alloc::{AllocError, Global};
 
 /// What is parsed.
@@ -21,10 +21,6 @@ pub enum Work {
     Numbers,
     /// A number of which the last one counts, on the same line.
     Last,
-    /// A number behind a long key, repeated: so many times `--number 1`.
-    Longs,
-    /// An adjacent group, repeated: so many times `--point 1`.
-    Groups,
 }
 
 impl Work {
@@ -39,8 +35,6 @@ impl Work {
             "keys" => Some(Work::Keys),
             "numbers" => Some(Work::Numbers),
             "last" => Some(Work::Last),
-            "longs" => Some(Work::Longs),
-            "groups" => Some(Work::Groups),
             _ => None,
         }
     }
@@ -59,9 +53,7 @@ impl Work {
             Work::Switches => times(alloc, Vec::new(alloc), size, "-v"),
             Work::Joined => joined(alloc, size),
             Work::Keys => keys(alloc, size),
-            Work::Numbers | Work::Last => pairs(alloc, size, "-n"),
-            Work::Longs => pairs(alloc, size, "--number"),
-            Work::Groups => pairs(alloc, size, "--point"),
+            Work::Numbers | Work::Last => pairs(alloc, size),
         }
     }
 
@@ -73,8 +65,6 @@ impl Work {
             Work::Switches | Work::Joined | Work::Keys => switches(alloc, line).unwrap_or(0),
             Work::Numbers => numbers(alloc, line).unwrap_or(0),
             Work::Last => last_number(alloc, line).unwrap_or(0),
-            Work::Longs => long_numbers(alloc, line).unwrap_or(0),
-            Work::Groups => groups(alloc, line).unwrap_or(0),
         }
     }
 }
@@ -122,11 +112,11 @@ fn keys(alloc: Global, size: u32) -> Result<Vec<String>, AllocError> {
     Ok(line)
 }
 
-/// So many times a key and a number.
-fn pairs(alloc: Global, size: u32, key: &str) -> Result<Vec<String>, AllocError> {
+/// So many times a key and its number.
+fn pairs(alloc: Global, size: u32) -> Result<Vec<String>, AllocError> {
     let mut line = Vec::new(alloc);
     for _ in 0..size {
-        line.push(String::from_str(alloc, key)?)?;
+        line.push(String::from_str(alloc, "-n")?)?;
         line.push(String::from_str(alloc, "1")?)?;
     }
     Ok(line)
