@@ -82,7 +82,7 @@ item_below line naming count (Short c _ _) some = by_test (nat_lt c 128) refl
     by_test false e = name_below line naming count (record { shorts = c ∷ []; longs = [] }) c
         (encode_utf8 c) (omega arith)
 item_below line naming count (Long name _ _) some =
-    name_below line naming count (record { shorts = []; longs = name ∷ [] }) (text_number 0 name)
+    name_below line naming count (record { shorts = []; longs = name ∷ [] }) (text_number name)
     name (omega arith)
 item_below line naming count (ArgWord _) some = omega arith
 item_below line naming count (Word _) some = omega arith

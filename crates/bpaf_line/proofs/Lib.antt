@@ -2,6 +2,7 @@ pub mod Counts
 pub mod WordBits
 pub mod BitLemmas
 pub mod Chained
+pub mod Noted
 pub mod Places
 pub mod Matches
 pub mod Finding

@@ -1,6 +1,6 @@
 -- The places of a line, chained by the names of their items. No contract above this crate speaks of
 -- them.
-use Rattle.std.specs.Prelude.{ℕ, ◌+◌, ◌*◌, ◌%◌, ◌^◌, ◌≡◌, ◌≢◌, ◌<◌, ◌≤◌, true, List, []}
+use Rattle.std.specs.Prelude.{ℕ, ◌+◌, ◌*◌, ◌/◌, ◌%◌, ◌^◌, ◌≡◌, ◌≢◌, ◌<◌, ◌≤◌, true, List, []}
 use Rattle.std.specs.Prelude.{◌∷◌}
 use Rattle.std.specs.Prelude.{length, map, take, slice_index, slice_get, Option, Some, None, ⊤}
 use Rattle.std.specs.Prelude.{nat_lt, ◌-◌, Bool, false, if◌then◌else◌, min, string_bytes}
@@ -31,15 +31,16 @@ pub record Naming : Type 0 where
   pub owners : List ℕ
   pub others : ClassNames
 
--- a number of a text, below 128 only of the empty one
-abbrev pub text_number : ℕ → List ℕ → ℕ
-text_number number [] = number
-text_number number (byte ∷ later) = text_number ((number * 31 + byte) % 2 ^ 32 + 128) later
+-- a number of a text: of its length, and of its first byte, one in the middle and the last two
+abbrev pub text_number : List ℕ → ℕ
+text_number text =
+    let size = length text in
+    let front = (size % 2 ^ 16 * 31 + slice_index text 0) * 31 + slice_index text (size / 2) in
+    front * 961 + (slice_index text (size - 2) * 31 + slice_index text (size - 1))
 
--- the class of a number, of so many
+-- the class of a number of a name that has no class of its own, of so many
 abbrev pub class_of_number : ℕ → ℕ → ℕ
-class_of_number count number =
-    if nat_lt number 128 then number else 128 + number % (count - 128)
+class_of_number count number = 128 + number % (count - 128)
 
 -- the item at a place of a line is a key with one of the names
 abbrev pub named_at : List Arg → Names → ℕ → Bool
@@ -64,7 +65,7 @@ class_of_short line naming count name =
 abbrev pub class_of_long : List Arg → Naming → ℕ → List ℕ → ℕ
 class_of_long line naming count name =
     class_of_name line naming count (record { shorts = []; longs = name ∷ [] })
-    (text_number 0 name) name
+    (text_number name) name
 
 -- the class of an item, of so many; the same for the same name
 abbrev pub class_in : List Arg → Naming → ℕ → Arg → ℕ

@@ -9,7 +9,7 @@ ghost use Rattle.bpaf_line.specs.Chained.{IsNextOf, IsChainStart, HasWalked, Are
 ghost use Rattle.bpaf_line.specs.Chained.{ReachBack, IfChained, HasNoKeyFrom};
 
 use crate::bits;
-use crate::classes::{NameClasses, is_key};
+use crate::classes::{NameClasses, PlaceClasses, is_key};
 use bpaf_doc::Text;
 use bpaf_words::Arg;
 use std::alloc::{AllocError, Global};
@@ -70,9 +70,7 @@ impl Chains {
         requires keyless { HasNoKeyFrom items.now keys }
         ensures { IfOk result (AreBehind items.now (λ p. false)) }
     {
-        let names = NameClasses::of_line(alloc, items, keys)?;
-        let count = names.count();
-        let classes = names.classes_of(alloc, items, &items[..keys], count)?;
+        let PlaceClasses { names, count, classes } = NameClasses::of_line(alloc, items, keys)?;
         let mut next = vec![in alloc; keys; keys]?;
         let mut heads = vec![in alloc; keys; count]?;
         link(&classes, &mut next, &mut heads);

@@ -1,8 +1,13 @@
 //! The classes of a line's names, by which its places are chained.
-ghost use Rattle.std.specs.Prelude.{◌≡◌, ◌+◌, ◌<◌, ◌≤◌, IfOk, OnOk, IsSome, length, map};
+ghost use Rattle.std.specs.Prelude.{◌≡◌, ◌+◌, ◌-◌, ◌<◌, ◌≤◌, [], ◌∷◌, IfOk, OnOk, IsSome, length};
+ghost use Rattle.std.specs.Prelude.{map, drop, take, min, slice_index};
+ghost use Rattle.std.specs.Char.{encode_utf8};
+ghost use Rattle.std.specs.Option.{unwrap_or};
 ghost use Rattle.bpaf_words.specs.declared.arg.Arg.{Arg};
-ghost use Rattle.bpaf_line.specs.Chained.{text_number, class_of_number, class_of_name, class_of_short};
-ghost use Rattle.bpaf_line.specs.Chained.{class_of_long, class_in, class_among, named_at, is_key};
+ghost use Rattle.bpaf_words.specs.Items.{is_key_of};
+ghost use Rattle.bpaf_line.specs.Chained.{text_number, class_of_number, class_of_name};
+ghost use Rattle.bpaf_line.specs.Chained.{class_of_short, class_of_long, class_in, class_among};
+ghost use Rattle.bpaf_line.specs.Chained.{named_at, is_key};
 
 use bpaf_doc::Text;
 use bpaf_words::{Arg, is_key_of};
@@ -13,6 +18,9 @@ use std::slice;
 
 /// So many classes hold one short name each, which are those of ASCII.
 const OWN_CLASSES: usize = 128;
+
+/// So many classes there are beside those and one for each place, so that few names share one.
+const SPARE_CLASSES: usize = 256;
 
 /// Which class each name of a line has.
 ///
@@ -36,31 +44,84 @@ impl Model for NameClasses {
     ghost invariant = { λ names. 128 < length names.owners.items };
 }
 
+/// The classes of a line's names, how many there are, and the classes of the line's first places.
+#[derive(Drop)]
+pub(crate) struct PlaceClasses {
+    pub(crate) names: NameClasses,
+    pub(crate) count: usize,
+    pub(crate) classes: Vec<usize>,
+}
+
+/// The classes of the places from one on, of so many.
+#[derive(Drop)]
+struct ClassesBehind {
+    from: usize,
+    count: usize,
+    classes: Vec<usize>,
+}
+
 impl NameClasses {
-    /// The classes of the names of the first places of a line; refused only for want of memory.
+    /// The classes of the names of the first places of a line, and those of these places; refused
+    /// only for want of memory.
     pub(crate) fn of_line(
         alloc: Global,
         items: &[Arg],
         keys: usize,
-    ) -> Result<NameClasses, AllocError>
+    ) -> Result<PlaceClasses, AllocError>
         requires { keys ≤ length items.now }
+        ensures some { IfOk result (λ found. 128 < found.count) }
+        ensures classes { IfOk result (λ found. found.classes.items
+            ≡ map (class_in items.now found.names found.count) (take keys items.now)) }
     {
-        let nowhere = items.len();
         let mut names = NameClasses {
-            owners: vec![in alloc; nowhere; OWN_CLASSES + keys + 1]?,
+            owners: vec![in alloc; items.len(); OWN_CLASSES + keys + SPARE_CLASSES]?,
             others: BTreeMap::new(alloc),
         };
-        let mut last = nowhere;
-        for (place, item) in items[..keys].iter().enumerate() {
-            if is_numbered(item) && !is_of_name(items, last, place) {
-                names.note(alloc, items, place)?;
-                last = place;
-            }
-        }
-        Ok(names)
+        let behind = names.note_all(alloc, items, keys)?;
+        let front = &items[..behind.from];
+        let mut classes = names.classes_of(alloc, items, front, keys, behind.count)?;
+        classes.extend_from_slice(&behind.classes)?;
+        Ok(PlaceClasses { names, count: behind.count, classes })
     }
 
-    /// Notes the name of a place; refused only for want of memory.
+    /// Notes the names of the first places of a line: the classes of those behind the last new
+    /// name. Refused only for want of memory.
+    fn note_all(
+        &mut self,
+        alloc: Global,
+        items: &[Arg],
+        keys: usize,
+    ) -> Result<ClassesBehind, AllocError>
+        requires { keys ≤ length items.now }
+        ensures some { IfOk result (λ behind. 128 < behind.count) }
+        ensures within { IfOk result (λ behind. behind.from ≤ keys) }
+        ensures classes { IfOk result (λ behind. behind.classes.items
+            ≡ map (class_in items.now self.new behind.count)
+            (drop behind.from (take keys items.now))) }
+    {
+        let mut from = 0;
+        let mut count = self.count();
+        let mut classes = Vec::with_capacity(alloc, keys)?;
+        for (place, item) in items[..keys].iter().enumerate() {
+            let class = self.class_of(items, item, count);
+            classes.push(class)?;
+            if class == count - 1 {
+                self.note(alloc, items, place)?;
+                from = place + 1;
+                count = self.count();
+                classes.clear();
+            }
+        }
+        Ok(ClassesBehind {
+            from,
+            count,
+            classes,
+        })
+    }
+
+    /// Notes the name of a place; refused only for want of memory. It is called once for a name,
+    /// so it stays out of the loop.
+    #[inline(never)]
     fn note(&mut self, alloc: Global, items: &[Arg], place: usize) -> Result<(), AllocError> {
         match items.get(place) {
             Some(Arg::Short(c, _, _)) => {
@@ -76,8 +137,8 @@ impl NameClasses {
         }
     }
 
-    /// Notes the name of a place, which has this number and text: as the owner of its class, where
-    /// that has none, and else among the others; refused only for want of memory.
+    /// Notes a new name, which a place has: the place owns the class of its number, where that has
+    /// no owner, and else the name is one of the others. Refused only for want of memory.
     fn note_name(
         &mut self,
         alloc: Global,
@@ -87,49 +148,45 @@ impl NameClasses {
         text: &str,
     ) -> Result<(), AllocError> {
         let class = class_of_number(number, self.owners.len());
-        let owner = self.owners[class];
-        if owner >= items.len() {
+        if self.owners[class] >= items.len() {
             self.owners[class] = place;
             return Ok(());
         }
-        if !is_of_name(items, owner, place) {
-            self.note_other(alloc, text)?;
-        }
-        Ok(())
+        self.note_other(alloc, text)
     }
 
-    /// Notes a name among the others, where it isn't one; refused only for want of memory.
+    /// Notes a name among the others, with a class of its own; refused only for want of memory.
     fn note_other(&mut self, alloc: Global, text: &str) -> Result<(), AllocError>
         ensures { OnOk result (IsSome (class_among self.new.others text.now)) }
     {
-        if self.others.get(text).is_none() {
-            let class = self.owners.len() + self.others.len();
-            self.others.insert(String::from_str(alloc, text)?, class)?;
-        }
+        let class = self.owners.len() + self.others.len();
+        self.others.insert(String::from_str(alloc, text)?, class)?;
         Ok(())
     }
 
     /// How many classes there are: those of numbers, those of the other names, and a last one for
     /// what is no name of the line.
-    pub(crate) fn count(&self) -> usize
+    fn count(&self) -> usize
         ensures { 128 < result }
     {
         self.owners.len() + self.others.len() + 1
     }
 
-    /// The class of each item of a line, of so many; refused only for want of memory.
-    pub(crate) fn classes_of(
+    /// The class of each of these items of a line, of so many, with room for those of so many
+    /// places; refused only for want of memory.
+    fn classes_of(
         &self,
         alloc: Global,
         line: &[Arg],
         items: &[Arg],
+        places: usize,
         count: usize,
     ) -> Result<Vec<usize>, AllocError>
         requires { 128 < count }
         ensures { IfOk result (λ classes.
             classes.items ≡ map (class_in line.now self.now count) items.now) }
     {
-        let mut classes = Vec::with_capacity(alloc, items.len())?;
+        let mut classes = Vec::with_capacity(alloc, places)?;
         for item in items {
             classes.push(self.class_of(line, item, count))?;
         }
@@ -137,6 +194,7 @@ impl NameClasses {
     }
 
     /// The class of an item of a line, of so many.
+    #[inline(always)]
     fn class_of(&self, line: &[Arg], item: &Arg, count: usize) -> usize
         requires { 128 < count }
         ensures { result ≡ class_in line.now self.now count item.now }
@@ -153,60 +211,62 @@ impl NameClasses {
         requires { 128 < count }
         ensures { result ≡ class_of_short line.now self.now count name }
     {
-        let number = name as usize;
-        if number < OWN_CLASSES {
-            return number;
+        if (name as usize) < OWN_CLASSES {
+            return name as usize;
+        }
+        self.class_of_wide(line, name, count)
+    }
+
+    /// The class of a short name beyond ASCII, of so many. Few lines have one, so it stays out of
+    /// the loop.
+    #[inline(never)]
+    fn class_of_wide(&self, line: &[Arg], name: char, count: usize) -> usize
+        requires { 128 < count }
+        ensures { result ≡ class_of_name line.now self.now count
+            (record { shorts = name ∷ []; longs = [] }) name (encode_utf8 name) }
+    {
+        let class = class_of_number(name as usize, self.owners.len());
+        if is_named_at(line, self.owners[class], slice::from_ref(&name), &[]) {
+            return class.min(count - 1);
         }
         let mut bytes = [0; 4];
-        let text = name.encode_utf8(&mut bytes);
-        self.class_of_name(line, slice::from_ref(&name), &[], number, text, count)
+        self.class_of_other(name.encode_utf8(&mut bytes), count)
     }
 
     /// The class of a long name, of so many.
+    #[inline(always)]
     pub(crate) fn class_of_long(&self, line: &[Arg], name: &Text, count: usize) -> usize
         requires { 128 < count }
         ensures { result ≡ class_of_long line.now self.now count name.now }
     {
         let text = name.as_str();
-        self.class_of_name(
-            line,
-            &[],
-            slice::from_ref(name),
-            text_number(text),
-            text,
-            count,
-        )
-    }
-
-    /// The class of a name, of so many, which has this number and text.
-    fn class_of_name(
-        &self,
-        line: &[Arg],
-        shorts: &[char],
-        longs: &[Text],
-        number: usize,
-        text: &str,
-        count: usize,
-    ) -> usize
-        requires { 128 < count }
-        ensures { result ≡ class_of_name line.now self.now count
-            (record { shorts = shorts.now; longs = longs.now }) number text.now }
-    {
-        let last = count - 1;
-        let class = class_of_number(number, self.owners.len());
-        if is_named_at(line, self.owners[class], shorts, longs) {
-            return class.min(last);
+        let class = class_of_number(text_number(text), self.owners.len());
+        if is_long_at(line, self.owners[class], text) {
+            return class.min(count - 1);
         }
-        self.others.get(text).copied().unwrap_or(last).min(last)
+        self.class_of_other(text, count)
     }
-}
 
-/// Whether an item is a key whose name isn't alone in the class of its number.
-fn is_numbered(item: &Arg) -> bool {
-    match item {
-        Arg::Short(c, _, _) => *c as usize >= OWN_CLASSES,
-        Arg::Long(..) => true,
-        Arg::ArgWord(_) | Arg::Word(_) | Arg::PosWord(_) => false,
+    /// The class of another name, of so many; the last one, where it isn't one of them.
+    #[inline(always)]
+    fn class_of_other(&self, text: &str, count: usize) -> usize
+        requires { 128 < count }
+        ensures { result ≡ min (unwrap_or (class_among self.now.others text.now) (count - 1))
+            (count - 1) }
+    {
+        if self.others.is_empty() {
+            return count - 1;
+        }
+        self.class_among(text, count - 1)
+    }
+
+    /// The class of a name among the others, but none above the last one, and that one, where it
+    /// isn't one of them. Few lines have others, so it stays out of the loop.
+    #[inline(never)]
+    fn class_among(&self, text: &str, last: usize) -> usize
+        ensures { result ≡ min (unwrap_or (class_among self.now.others text.now) last) last }
+    {
+        self.others.get(text).copied().unwrap_or(last).min(last)
     }
 }
 
@@ -231,34 +291,57 @@ fn is_named_at(items: &[Arg], place: usize, shorts: &[char], longs: &[Text]) -> 
     }
 }
 
-/// Whether the item at a place is a key with the name of that at another.
-fn is_of_name(items: &[Arg], owner: usize, place: usize) -> bool {
-    match items.get(owner) {
-        Some(Arg::Short(c, _, _)) => is_named_at(items, place, slice::from_ref(c), &[]),
-        Some(Arg::Long(name, _, _)) => is_named_at(items, place, &[], slice::from_ref(name)),
-        _ => false,
-    }
-}
-
-/// A number of a text, below the own classes only of the empty one.
-fn text_number(text: &str) -> usize
-    ensures { result ≡ text_number 0 text.now }
+/// Whether the item at a place is a key with this long name.
+#[inline(always)]
+fn is_long_at(items: &[Arg], place: usize, name: &str) -> bool
+    ensures { result ≡ named_at items.now (record { shorts = []; longs = name.now ∷ [] }) place }
 {
-    let mut number = 0;
-    for byte in text.as_bytes() {
-        number = (number * 31 + usize::from(*byte)) % (1 << 32) + OWN_CLASSES;
+    match items.get(place) {
+        Some(item) => is_long(item, name),
+        None => false,
     }
-    number
 }
 
-/// The class of a number, of so many.
+/// Whether an item is a key with this long name.
+#[inline(always)]
+fn is_long(item: &Arg, name: &str) -> bool
+    ensures { result ≡ is_key_of (record { shorts = []; longs = name.now ∷ [] }) item.now }
+{
+    match item {
+        Arg::Long(text, _, _) => name == text.as_str(),
+        Arg::Short(..) | Arg::ArgWord(_) | Arg::Word(_) | Arg::PosWord(_) => false,
+    }
+}
+
+/// A number of a text: of its length, and of its first byte, one in the middle and the last two.
+#[inline(always)]
+fn text_number(text: &str) -> usize
+    ensures { result ≡ text_number text.now }
+{
+    let bytes = text.as_bytes();
+    let len = bytes.len();
+    let front = (len % (1 << 16) * 31 + byte_at(bytes, 0)) * 31 + byte_at(bytes, len / 2);
+    let back = byte_at(bytes, len.saturating_sub(2)) * 31 + byte_at(bytes, len.saturating_sub(1));
+    front * 961 + back
+}
+
+/// The byte at a place; 0 behind the last one.
+#[inline(always)]
+fn byte_at(bytes: &[u8], place: usize) -> usize
+    ensures byte { result ≡ slice_index bytes.now place }
+    ensures small { result < 256 }
+{
+    match bytes.get(place) {
+        Some(byte) => usize::from(*byte),
+        None => 0,
+    }
+}
+
+/// The class of a number of a name that has no class of its own, of so many.
 fn class_of_number(number: usize, count: usize) -> usize
     requires { 128 < count }
     ensures class { result ≡ class_of_number count number }
     ensures below { result < count }
 {
-    if number < OWN_CLASSES {
-        return number;
-    }
     OWN_CLASSES + number % (count - OWN_CLASSES)
 }

@@ -7,20 +7,20 @@ pub link-requires-clause-numbered : goal.link-requires-clause-numbered
 link-requires-clause-numbered c p within =
     let keys = c.args.keys in
     let below = classes_below c.args.items.now (take keys c.args.items.now) c.deref.result.now
-    c.in_ok-names.names c.count-count.result
-    (c.deref.ensures.value ∙ c.in_ok-classes.ensures) c.count-count.ensures p within in
+    c.in_ok-names.field-0.names c.in_ok-names.field-0.count
+    (c.deref.ensures.value ∙ c.in_ok-names.ensures.classes) c.in_ok-names.ensures.some p within in
     omega (arith, below, c.deref_mut-2.ensures.len, c.in_ok-heads.ensures.len)
 
 pub invariant_of-result : goal.invariant_of-result
 invariant_of-result c =
     let keys = c.args.keys in
-    let naming = c.in_ok-names.names in
-    let count = c.count-count.result in
+    let naming = c.in_ok-names.field-0.names in
+    let count = c.in_ok-names.field-0.count in
     let line = c.args.items.now in
     let items = take keys c.args.items.now in
     let next = c.link.new.next in
     let heads = c.link.new.heads in
-    let are = c.deref.ensures.value ∙ c.in_ok-classes.ensures in
+    let are = c.deref.ensures.value ∙ c.in_ok-names.ensures.classes in
     linked_first _ c.deref.result.now next heads
     (c.in_ok-from_vec.ensures ∙ sym c.deref.ensures.value)
     (c.in_ok-from_vec-2.ensures ∙ with_items_is c.in_ok-next.next next
@@ -28,7 +28,7 @@ invariant_of-result c =
     (with_items_is c.in_ok-heads.heads heads (c.link.auto.heads ∙ c.deref_mut-2.ensures.len))
     (omega (
       arith,
-      c.count-count.ensures,
+      c.in_ok-names.ensures.some,
       c.link.auto.heads,
       c.deref_mut-2.ensures.len,
       c.in_ok-heads.ensures.len,
@@ -43,7 +43,7 @@ invariant_of-result c =
     ))
     (λ p within. omega (
       arith,
-      classes_below line items c.deref.result.now naming count are c.count-count.ensures p within,
+      classes_below line items c.deref.result.now naming count are c.in_ok-names.ensures.some p within,
       c.link.auto.heads,
       c.deref_mut-2.ensures.len,
       c.in_ok-heads.ensures.len,
@@ -53,8 +53,8 @@ invariant_of-result c =
 pub returns : goal.returns
 returns c =
     let heads = c.link.new.heads in
-    behind_nothing _ c.args.items.now c.args.keys c.deref.result.now heads c.in_ok-names.names
-    c.count-count.result
+    behind_nothing _ c.args.items.now c.args.keys c.deref.result.now heads c.in_ok-names.field-0.names
+    c.in_ok-names.field-0.count
     (c.in_ok-from_vec.ensures ∙ sym c.deref.ensures.value)
     (with_items_is c.in_ok-heads.heads heads (c.link.auto.heads ∙ c.deref_mut-2.ensures.len))
     c.in_ok-new.ensures.ok
@@ -63,5 +63,5 @@ returns c =
       c.link.auto.heads,
       c.deref_mut-2.ensures.len,
       c.in_ok-heads.ensures.len,
-    )) c.requires.within c.requires.keyless (c.deref.ensures.value ∙ c.in_ok-classes.ensures)
-    c.count-count.ensures (λ k within. c.link.ensures.first k (omega (arith, c.link.auto.heads)))
+    )) c.requires.within c.requires.keyless (c.deref.ensures.value ∙ c.in_ok-names.ensures.classes)
+    c.in_ok-names.ensures.some (λ k within. c.link.ensures.first k (omega (arith, c.link.auto.heads)))
