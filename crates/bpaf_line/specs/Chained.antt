@@ -2,7 +2,7 @@
 -- them.
 use Rattle.std.specs.Prelude.{ℕ, ◌+◌, ◌*◌, ◌/◌, ◌%◌, ◌^◌, ◌≡◌, ◌≢◌, ◌<◌, ◌≤◌, true, List, []}
 use Rattle.std.specs.Prelude.{◌∷◌}
-use Rattle.std.specs.Prelude.{length, map, take, slice_index, slice_get, Option, Some, None, ⊤}
+use Rattle.std.specs.Prelude.{length, map, take, slice_index, slice_set, slice_get, Option, Some, None, ⊤}
 use Rattle.std.specs.Prelude.{nat_lt, ◌-◌, Bool, false, if◌then◌else◌, min, string_bytes}
 use Rattle.std.specs.Prelude.{String as StringIn}
 use Rattle.std.specs.BTreeMap.{is_at}
@@ -74,6 +74,24 @@ class_in line naming count (Long name attached word) = class_of_long line naming
 class_in line naming count (ArgWord text) = 0
 class_in line naming count (Word text) = 0
 class_in line naming count (PosWord text) = 0
+
+-- what had a class below the last one, of so many, has it still
+pub record KeepsKnown (line : List Arg) (count : ℕ) (old new : Naming) : Type 0 where
+  pub kept : (item : Arg) → class_in line old count item ≢ count - 1
+      → class_in line new count item ≡ class_in line old count item
+
+-- a class had no owner, and a place owns it now, whose item has it
+pub record OwnsNow (line : List Arg) (place : ℕ) (item : Arg) (old new : Naming) (class : ℕ)
+    : Type 0 where
+  pub inside : class < length old.owners
+  pub free : length line ≤ slice_index old.owners class
+  pub owned : new ≡ record old { owners = slice_set old.owners class place }
+  pub gives : (count : ℕ) → class < count → class_in line new count item ≡ class
+
+-- a place came to own a class, or nothing changed
+abbrev pub Owns : List Arg → ℕ → Arg → Naming → Naming → Option ℕ → Type 0
+Owns line place item old new None = new ≡ old
+Owns line place item old new (Some class) = OwnsNow line place item old new class
 
 -- the name of an item alone, where it is a key
 abbrev pub names_of : Arg → Names

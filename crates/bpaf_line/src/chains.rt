@@ -70,7 +70,11 @@ impl Chains {
         requires keyless { HasNoKeyFrom items.now keys }
         ensures { IfOk result (AreBehind items.now (λ p. false)) }
     {
-        let PlaceClasses { names, count, classes } = NameClasses::of_line(alloc, items, keys)?;
+        let PlaceClasses {
+            names,
+            count,
+            classes,
+        } = NameClasses::of_line(alloc, items, keys)?;
         let mut next = vec![in alloc; keys; keys]?;
         let mut heads = vec![in alloc; keys; count]?;
         link(&classes, &mut next, &mut heads);

@@ -1,13 +1,13 @@
 //! The classes of a line's names, by which its places are chained.
 ghost use Rattle.std.specs.Prelude.{◌≡◌, ◌+◌, ◌-◌, ◌<◌, ◌≤◌, [], ◌∷◌, IfOk, OnOk, IsSome, length};
-ghost use Rattle.std.specs.Prelude.{map, drop, take, min, slice_index};
+ghost use Rattle.std.specs.Prelude.{map, drop, take, min, slice_index, slice_get, ◌≢◌, Some, IfSome};
 ghost use Rattle.std.specs.Char.{encode_utf8};
 ghost use Rattle.std.specs.Option.{unwrap_or};
 ghost use Rattle.bpaf_words.specs.declared.arg.Arg.{Arg};
 ghost use Rattle.bpaf_words.specs.Items.{is_key_of};
 ghost use Rattle.bpaf_line.specs.Chained.{text_number, class_of_number, class_of_name};
 ghost use Rattle.bpaf_line.specs.Chained.{class_of_short, class_of_long, class_in, class_among};
-ghost use Rattle.bpaf_line.specs.Chained.{named_at, is_key};
+ghost use Rattle.bpaf_line.specs.Chained.{named_at, is_key, KeepsKnown, Owns};
 
 use bpaf_doc::Text;
 use bpaf_words::{Arg, is_key_of};
@@ -24,8 +24,8 @@ const SPARE_CLASSES: usize = 256;
 
 /// Which class each name of a line has.
 ///
-/// A name has the class of its number, where that is owned by a place with this name. Names that
-/// share a number with the owner of its class are kept in order, each with a class of its own.
+/// A short name of ASCII has one of its own. A long name has the class of its number, where a place
+/// with this name owns that. All other names are kept in order, each with a class of its own.
 #[derive(Drop)]
 pub(crate) struct NameClasses {
     owners: Vec<usize>,
@@ -81,11 +81,15 @@ impl NameClasses {
         let front = &items[..behind.from];
         let mut classes = names.classes_of(alloc, items, front, keys, behind.count)?;
         classes.extend_from_slice(&behind.classes)?;
-        Ok(PlaceClasses { names, count: behind.count, classes })
+        Ok(PlaceClasses {
+            names,
+            count: behind.count,
+            classes,
+        })
     }
 
-    /// Notes the names of the first places of a line: the classes of those behind the last new
-    /// name. Refused only for want of memory.
+    /// Notes the names of the first places of a line: the classes of the places behind the last one
+    /// whose name was noted among the others. Refused only for want of memory.
     fn note_all(
         &mut self,
         alloc: Global,
@@ -103,13 +107,14 @@ impl NameClasses {
         let mut count = self.count();
         let mut classes = Vec::with_capacity(alloc, keys)?;
         for (place, item) in items[..keys].iter().enumerate() {
-            let class = self.class_of(items, item, count);
-            classes.push(class)?;
-            if class == count - 1 {
-                self.note(alloc, items, place)?;
-                from = place + 1;
-                count = self.count();
-                classes.clear();
+            match self.class_or_own(items, place, item, count) {
+                Some(class) => classes.push(class)?,
+                None => {
+                    self.note(alloc, items, place)?;
+                    from = place + 1;
+                    count = self.count();
+                    classes.clear();
+                }
             }
         }
         Ok(ClassesBehind {
@@ -119,40 +124,63 @@ impl NameClasses {
         })
     }
 
-    /// Notes the name of a place; refused only for want of memory. It is called once for a name,
-    /// so it stays out of the loop.
+    /// The class of a place's item, of so many: the class that it has, or that of its number, which
+    /// the place owns now. None, and nothing changes, where it has no class, and its number's has an
+    /// owner.
+    #[inline(always)]
+    fn class_or_own(
+        &mut self,
+        items: &[Arg],
+        place: usize,
+        item: &Arg,
+        count: usize,
+    ) -> Option<usize>
+        requires some { 128 < count }
+        requires owners { length self.old.owners < count }
+        requires at { slice_get items.now place ≡ Some item.now }
+        ensures owners { length self.new.owners ≡ length self.old.owners }
+        ensures kept { KeepsKnown items.now count self.old self.new }
+        ensures class { IfSome result (λ class. class ≡ class_in items.now self.new count item.now) }
+        ensures known { IfSome result (λ class. class ≢ count - 1) }
+    {
+        let class = self.class_of(items, item, count);
+        if class != count - 1 {
+            return Some(class);
+        }
+        self.own(items, place, item)
+    }
+
+    /// Makes a place the owner of the class of its item's number, which this is; None, and nothing
+    /// changes, where that has one, or the item has no long name. It is called once for a name, so
+    /// it stays out of the loop.
+    #[inline(never)]
+    fn own(&mut self, items: &[Arg], place: usize, item: &Arg) -> Option<usize>
+        requires { slice_get items.now place ≡ Some item.now }
+        ensures { Owns items.now place item.now self.old self.new result }
+    {
+        let Arg::Long(name, _, _) = item else {
+            return None;
+        };
+        let class = class_of_number(text_number(name.as_str()), self.owners.len());
+        if self.owners[class] < items.len() {
+            return None;
+        }
+        self.owners[class] = place;
+        Some(class)
+    }
+
+    /// Notes the name of a place among the others; refused only for want of memory. Few lines have
+    /// such a name, so it stays out of the loop.
     #[inline(never)]
     fn note(&mut self, alloc: Global, items: &[Arg], place: usize) -> Result<(), AllocError> {
         match items.get(place) {
             Some(Arg::Short(c, _, _)) => {
                 let mut bytes = [0; 4];
-                let number = *c as usize;
-                self.note_name(alloc, items, place, number, c.encode_utf8(&mut bytes))
+                self.note_other(alloc, c.encode_utf8(&mut bytes))
             }
-            Some(Arg::Long(name, _, _)) => {
-                let text = name.as_str();
-                self.note_name(alloc, items, place, text_number(text), text)
-            }
+            Some(Arg::Long(name, _, _)) => self.note_other(alloc, name.as_str()),
             _ => Ok(()),
         }
-    }
-
-    /// Notes a new name, which a place has: the place owns the class of its number, where that has
-    /// no owner, and else the name is one of the others. Refused only for want of memory.
-    fn note_name(
-        &mut self,
-        alloc: Global,
-        items: &[Arg],
-        place: usize,
-        number: usize,
-        text: &str,
-    ) -> Result<(), AllocError> {
-        let class = class_of_number(number, self.owners.len());
-        if self.owners[class] >= items.len() {
-            self.owners[class] = place;
-            return Ok(());
-        }
-        self.note_other(alloc, text)
     }
 
     /// Notes a name among the others, with a class of its own; refused only for want of memory.
@@ -167,7 +195,8 @@ impl NameClasses {
     /// How many classes there are: those of numbers, those of the other names, and a last one for
     /// what is no name of the line.
     fn count(&self) -> usize
-        ensures { 128 < result }
+        ensures some { 128 < result }
+        ensures owners { length self.now.owners < result }
     {
         self.owners.len() + self.others.len() + 1
     }

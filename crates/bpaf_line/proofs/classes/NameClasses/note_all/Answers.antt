@@ -1,21 +1,21 @@
 use Rattle.std.proofs.Common.{take}
 use Rattle.bpaf_line.proofs.Noted.{noted_more, noted_anew}
 use Rattle.bpaf_line.proofs.classes.NameClasses.note_all.Goals as goal
-use Rattle.bpaf_line.proofs.classes.NameClasses.note_all.Goals.{then-class-count+in_ok-note, else-class-count}
+use Rattle.bpaf_line.proofs.classes.NameClasses.note_all.Goals.{in-Some+in_ok-push-in-Some, in-None+in_ok-note-in-None}
 
 pub loop-place-preserved : goal.loop-place-preserved
 loop-place-preserved c =
-    let line = c.args.items.now in
-    let items = take c.args.keys line in
+    let items = take c.args.keys c.args.items.now in
     let place = c.loop-place.place in
-    elim c.if-class-count.branch [
-      | then-class-count+in_ok-note w ↦
+    elim c.match-class_or_own.branch [
+      | in-Some+in_ok-push-in-Some w ↦
           rw (w.self-is, w.from-is, w.count-is, w.classes-is)
-          (noted_anew line items _ _ place _ w.count-count-then-class-count.ensures
-          c.loop-place-test.true w.clear.ensures.items)
-      | else-class-count w ↦
+          (noted_more c.args.items.now items c.loop-place.self c.class_or_own.new.self _ _ place
+          w.in-Some.class c.loop-place.classes.items _ c.item-item.result c.loop-place.invariant
+          c.loop-place-test.true c.item-item.is c.class_or_own.ensures.kept
+          c.class_or_own.ensures.owners w.in-Some.ensures.class w.in-Some.ensures.known w.in_ok-push-in-Some.ensures.items)
+      | in-None+in_ok-note-in-None w ↦
           rw (w.self-is, w.from-is, w.count-is, w.classes-is)
-          (noted_more line items _ _ _ place c.class_of-class.result c.loop-place.classes.items _
-          c.item-item.result c.loop-place.invariant c.loop-place-test.true c.item-item.is
-          c.class_of-class.ensures c.in_ok-push.ensures.items)
+          (noted_anew c.args.items.now items _ _ place _ w.count-count-in-None.ensures.some
+          w.count-count-in-None.ensures.owners c.loop-place-test.true w.clear.ensures.items)
     ]
