@@ -301,6 +301,18 @@ switch_of clones same names key present absent is s of field context v value =
     switch_said clones same names (line_cells context) (of v)
     (field_value s (flag_roles names) _ of (flag_named names) off context v value)
 
+-- the field of a required flag
+pub required_of : {V T : Type 0} (clones : T → T → Type 0) (key : Key) (present : T)
+    → key.envs ≡ [] → (s : FlatForm V) (of : V → T)
+    → IsFieldOf (flat_field (flag_field clones key present None)) s of → (context : Context) (v : V)
+    → RecordValue (product_roles s) (product_reading s).value context v
+    → (k : Arg) × (keys_on key.names (line_cells context) ≡ k ∷ []) × clones present (of v)
+required_of {T = T} clones key present no_envs s of field context v value =
+    let plain = subst (λ z. IsFieldOf (flat_field (flag_by clones key.names present z None)) s of)
+    no_envs field in
+    required_said T (clones present) key.names (line_cells context) (of v)
+    (field_value s (flag_roles key.names) _ of (flag_named key.names) plain context v value)
+
 -- An argument may be read so as a field by itself, under `optional`, a fallback or `many`, which
 -- make a field of its form.
 module _ {V T A : Type 0} (means : List ℕ → T → Type 0) (argument : KeyWithValue)

@@ -11,14 +11,17 @@ use Rattle.bpaf_exact.specs.Pieces.{is_own_role, others, either, either_role, no
 use Rattle.bpaf_exact.specs.Flat.{FieldKind, ByName, OneWord, EachWord, BothValue, both_reading}
 use Rattle.bpaf_exact.specs.Flat.{keys}
 use Rattle.bpaf_exact.specs.Flat.{front, back, FieldsReading}
-use Rattle.bpaf_exact.specs.Leaves.{WordValue}
+use Rattle.bpaf_exact.specs.Leaves.{WordValue, word_field}
 use Rattle.bpaf_exact.specs.Names.{Owns}
 use Rattle.bpaf_exact.specs.Single.{FrontOf, Own, own_none, own_more, OwnList, listed}
 use Rattle.bpaf_exact.specs.Single.{listed_and_absent, only_absent, SingleValue, of_group, of_gap}
 use Rattle.bpaf_exact.specs.Single.{no_gap}
 use Rattle.bpaf_exact.specs.FlatForm.{FlatForm, not_flat, alternative, single, complete, product}
 use Rattle.bpaf_exact.specs.FlatForm.{flat_both, flat_alone, flat_con, may_follow, only_if}
-use Rattle.bpaf_exact.specs.FlatForm.{flat_record}
+use Rattle.bpaf_exact.specs.FlatForm.{flat_record, flat_field, flat_many, product_roles}
+use Rattle.bpaf_exact.specs.FlatForm.{product_reading}
+use Rattle.bpaf_exact.specs.Record.{RecordValue}
+use Rattle.bpaf_line.specs.Situation.{Context}
 use Rattle.bpaf_exact.specs.Wrappers.{Closure, ClosedValue}
 use Rattle.bpaf_exact.specs.Derived.{list_closure}
 use Rattle.bpaf_exact.specs.Fields.{words_behind_field, ReadsWords, OfWords, WordsBy, IsWordsOf}
@@ -294,3 +297,52 @@ module _ (T : Type 0) (means : List ℕ → T → Type 0) where
       → AllZip means (word_texts os) v.items
   words_said os v h =
       subst (AllZip means (word_texts os)) (sym h.made) (words_by os h.from h.read)
+
+-- The same of a positional field that a record has: its words are those of no key that the fields
+-- before it leave, where the line is cut for the record's value.
+module _ {V : Type 0} (s : FlatForm V) (rest : List LinePiece → List LinePiece) (context : Context)
+    (v : V) (value : RecordValue (product_roles s) (product_reading s).value context v) where
+  -- the words that are left to the field
+  abbrev pub words_left : List LinePiece
+  words_left = rest (others (product_roles s) value.cut_into)
+
+  -- one word's
+  one_left : {A : Type 0} (q : Roles) (own : List LinePiece → A → Type 0) (of : V → A)
+      → IsWordsOf (complete OneWord q own) rest s of → own (front OneWord words_left) (of v)
+  one_left q own of field = by_form s value field
+    where
+      by_form : (s : FlatForm V)
+          (i : RecordValue (product_roles s) (product_reading s).value context v)
+          → IsWordsOf (complete OneWord q own) rest s of
+          → own (front OneWord (rest (others (product_roles s) i.cut_into))) (of v)
+      by_form not_flat i h = absurd i.read
+      by_form (alternative r other) i h = absurd i.read
+      by_form (single k r group gap) i h = absurd i.read
+      by_form (complete k r other) i h = absurd i.read
+      by_form (product r fields) i h = h.by.read i.cut_into v i.read
+
+  -- or all
+  all_left : {A : Type 0} (q : Roles) (own : List LinePiece → A → Type 0) (of : V → A)
+      → IsWordsOf (complete EachWord q own) rest s of → own words_left (of v)
+  all_left q own of field = by_form s value field
+    where
+      by_form : (s : FlatForm V)
+          (i : RecordValue (product_roles s) (product_reading s).value context v)
+          → IsWordsOf (complete EachWord q own) rest s of
+          → own (rest (others (product_roles s) i.cut_into)) (of v)
+      by_form not_flat i h = absurd i.read
+      by_form (alternative r other) i h = absurd i.read
+      by_form (single k r group gap) i h = absurd i.read
+      by_form (complete k r other) i h = absurd i.read
+      by_form (product r fields) i h = h.by.read i.cut_into v i.read
+
+  module _ {T : Type 0} (means : List ℕ → T → Type 0) where
+    -- a positional word
+    pub word_of : (of : V → T) → IsWordsOf (flat_field (word_field means)) rest s of
+        → IsFirstWord T means words_left (of v)
+    word_of of field = word_said T means words_left (of v) (one_left _ _ of field)
+
+    -- positional words under `many`
+    pub words_of : (of : V → Vec T) → IsWordsOf (flat_field (flat_many (word_field means))) rest s of
+        → AllZip means (word_texts words_left) (of v).items
+    words_of of field = words_said T means words_left (of v) (all_left _ _ of field)
