@@ -77,14 +77,24 @@ impl NameClasses {
             owners: vec![in alloc; items.len(); OWN_CLASSES + keys + SPARE_CLASSES]?,
             others: BTreeMap::new(alloc),
         };
-        let behind = names.note_all(alloc, items, keys)?;
-        let front = &items[..behind.from];
-        let mut classes = names.classes_of(alloc, items, front, keys, behind.count)?;
-        classes.extend_from_slice(&behind.classes)?;
+        let ClassesBehind {
+            from,
+            count,
+            classes,
+        } = names.note_all(alloc, items, keys)?;
+        if from == 0 {
+            return Ok(PlaceClasses {
+                names,
+                count,
+                classes,
+            });
+        }
+        let mut whole = names.classes_of(alloc, items, &items[..from], keys, count)?;
+        whole.extend_from_slice(&classes)?;
         Ok(PlaceClasses {
             names,
-            count: behind.count,
-            classes,
+            count,
+            classes: whole,
         })
     }
 

@@ -7,12 +7,11 @@ use Rattle.bpaf_line.proofs.classes.NameClasses.of_line.Goals as goal
 pub returns-clause-classes : goal.returns-clause-classes
 returns-clause-classes c =
     let items = c.args.items.now in
-    let behind = c.in_ok-behind.behind in
-    noted_whole items (take c.args.keys items) c.note_all.new.self
-    behind.count behind.from c.in_ok-classes.classes.items
-    behind.classes.items c.extend_from_slice.new.self.items
-    (c.in_ok-classes.ensures ∙ ap (map (class_in items c.note_all.new.self behind.count))
-    (sym (take-take behind.from c.args.keys items c.in_ok-behind.ensures.within)))
-    c.in_ok-behind.ensures.classes
+    let behind = c.in_ok-from.field-0 in
+    noted_whole items (take c.args.keys items) c.note_all.new.self behind.count behind.from
+    c.in_ok-whole.whole.items behind.classes.items c.extend_from_slice.new.self.items
+    (c.in_ok-whole.ensures ∙ ap (map (class_in items c.note_all.new.self behind.count))
+    (sym (take-take behind.from c.args.keys items c.in_ok-from.ensures.within)))
+    c.in_ok-from.ensures.classes
     (c.in_ok-extend_from_slice.ensures.items
-    ∙ ap (λ xs. c.in_ok-classes.classes.items ++ xs) c.deref.ensures.value)
+    ∙ ap (λ xs. c.in_ok-whole.whole.items ++ xs) c.deref.ensures.value)
