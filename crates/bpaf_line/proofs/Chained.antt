@@ -4,8 +4,10 @@ use Rattle.std.proofs.Common.{Bool, List, [], ◌∷◌, ◌||◌}
 use Rattle.std.proofs.Common.{length, map, take, ap, sym, ◌∙◌, subst, arith, ⊎_elim, get_or}
 use Rattle.std.proofs.Common.{slice_index, slice_index_or, slice_set, nat_lt, if◌then◌else◌, min}
 use Rattle.std.proofs.Common.{length-set, get_or-set_same, get_or-set_other}
-use Rattle.std.specs.Char.{encode_utf8}
+use Rattle.std.specs.BTreeMap.{is_at}
+use Rattle.std.specs.Map.{lookup}
 use Rattle.std.specs.Option.{option_map_or, unwrap_or}
+use Rattle.std.specs.Ordering.{nat_cmp}
 use Rattle.std.specs.Rc.{rc_slice_items}
 use Rattle.std.specs.Vec.{with_item}
 use Rattle.std.proofs.lemmas.Slice.Eq.{bytes_eq-Decides}
@@ -17,10 +19,11 @@ use Rattle.bpaf_words.specs.declared.arg.Arg.{Arg}
 use Rattle.bpaf_words.specs.declared.arg.Arg.TheVariants.{Short, Long, ArgWord, Word, PosWord}
 use Rattle.bpaf_words.specs.Items.{is_key_of}
 use Rattle.bpaf_line.specs.declared.chains.Chains.TheInside.{Inside}
+use Rattle.bpaf_line.specs.declared.classes.Slot.{Slot}
+use Rattle.bpaf_line.specs.declared.classes.Slot.TheVariants.{Own, Free, Other}
 use Rattle.bpaf_line.specs.Chained.{Chained, IsNextOf, IsPlaceOf, IsChainStart, HasWalked}
-use Rattle.bpaf_line.specs.Chained.{AreBehind, Naming, class_among, class_of_number}
-use Rattle.bpaf_line.specs.Chained.{class_of_name, class_of_short, class_of_long, class_in, head_of}
-use Rattle.bpaf_line.specs.Chained.{text_number}
+use Rattle.bpaf_line.specs.Chained.{AreBehind, Naming, class_by, slot_of}
+use Rattle.bpaf_line.specs.Chained.{class_of_short, class_of_long, class_in, head_of}
 use Rattle.bpaf_line.specs.Chained.{names_of, named_at, is_key, HasNoKeyFrom}
 use Rattle.bpaf_line.specs.InsideChains.{chained_of, IsLinked}
 
@@ -57,33 +60,30 @@ walked_more classes passes from p next walked below set link = record {
       (cases_lt q p);
 }
 
--- the class of a name is one of so many
-name_below : (line : List Arg) (naming : Naming) (count : ℕ) (names : Names) (number : ℕ)
-    (text : List ℕ) → 0 < count → class_of_name line naming count names number text < count
-name_below line naming count names number text some =
-    by_test (named_at line names (slice_index naming.owners class))
-  where
-    class : ℕ
-    class = class_of_number (length naming.owners) number
+-- the class of a long name is one of so many
+long_below : (naming : Naming) (count : ℕ) (name : List ℕ) (slot : Slot) → 0 < count
+    → class_by naming count name slot < count
+long_below naming count name (Own class) some = omega arith
+long_below naming count name (Free class) some = omega arith
+long_below naming count name Other some = omega arith
 
-    by_test : (b : Bool) → (if b then min class (count - 1)
-        else min (unwrap_or (class_among naming.others text) (count - 1)) (count - 1)) < count
-    by_test true = omega arith
-    by_test false = omega arith
+-- that of a short name
+short_below : (naming : Naming) (count name : ℕ) → 128 < count
+    → class_of_short naming count name < count
+short_below naming count name some = by_test (nat_lt name 128) refl
+  where
+    by_test : (b : Bool) → nat_lt name 128 ≡ b → (if b then name
+        else min (unwrap_or (lookup (is_at (nat_cmp name)) naming.wide) (count - 1)) (count - 1))
+        < count
+    by_test true e = let own : name < 128 = ltb-true name 128 e in omega arith
+    by_test false e = omega arith
 
 -- and so is that of an item
 item_below : (line : List Arg) (naming : Naming) (count : ℕ) (item : Arg) → 128 < count
     → class_in line naming count item < count
-item_below line naming count (Short c _ _) some = by_test (nat_lt c 128) refl
-  where
-    by_test : (b : Bool) → nat_lt c 128 ≡ b → (if b then c else class_of_name line naming count
-        (record { shorts = c ∷ []; longs = [] }) c (encode_utf8 c)) < count
-    by_test true e = let own : c < 128 = ltb-true c 128 e in omega arith
-    by_test false e = name_below line naming count (record { shorts = c ∷ []; longs = [] }) c
-        (encode_utf8 c) (omega arith)
+item_below line naming count (Short c _ _) some = short_below naming count c some
 item_below line naming count (Long name _ _) some =
-    name_below line naming count (record { shorts = []; longs = name ∷ [] }) (text_number name)
-    name (omega arith)
+    long_below naming count name (slot_of line naming.owners name) (omega arith)
 item_below line naming count (ArgWord _) some = omega arith
 item_below line naming count (Word _) some = omega arith
 item_below line naming count (PosWord _) some = omega arith
@@ -239,7 +239,7 @@ pub same_class : (line : List Arg) (naming : Naming) (count : ℕ) (key item : A
     → is_key_of (names_of key) item ≡ true
     → class_in line naming count item ≡ class_in line naming count key
 same_class line naming count (Short d _ _) (Short c _ _) e =
-    ap (class_of_short line naming count) (sym (eqb-true d c (one_of _ e)))
+    ap (class_of_short naming count) (sym (eqb-true d c (one_of _ e)))
 same_class line naming count (Short d _ _) (Long name _ _) e = cc
 same_class line naming count (Short d _ _) (ArgWord _) e = cc
 same_class line naming count (Short d _ _) (Word _) e = cc

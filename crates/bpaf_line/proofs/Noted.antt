@@ -1,25 +1,23 @@
 -- Noted names: which places have the classes that the names so far give.
 use Rattle.std.proofs.Common.{◌≡◌, ◌≢◌, ℕ, ◌+◌, ◌-◌, ◌<◌, ◌≤◌, List, [], ◌∷◌, ◌++◌, Bool, true}
 use Rattle.std.proofs.Common.{length, map, take, drop, ap, sym, refl, ◌∙◌, subst, arith, get_or}
-use Rattle.std.proofs.Common.{Some, None, Option, false, ◌||◌, min, nat_lt, if◌then◌else◌, ⊎_elim}
+use Rattle.std.proofs.Common.{Some, None, Option, false, ◌||◌, ◌*◌, if◌then◌else◌, ⊎_elim}
 use Rattle.std.proofs.Common.{slice_get, slice_index, slice_set, length-set, get_or-set_same}
 use Rattle.std.proofs.Common.{get_or-set_other}
 use Rattle.std.specs.Bool.{⊤}
-use Rattle.std.specs.Char.{encode_utf8}
-use Rattle.std.specs.Option.{option_map_or, unwrap_or}
 use Rattle.std.proofs.lemmas.Bool.{cases_eq}
 use Rattle.std.proofs.lemmas.List.{take_more, drop-append-le, map-append, length-take-le, drop_all}
 use Rattle.std.proofs.lemmas.List.{take-append-drop}
-use Rattle.std.proofs.lemmas.Option.{slice_get_past}
 use Rattle.std.proofs.lemmas.Slice.Eq.{bytes_eq-Decides}
 use Rattle.bpaf_doc.specs.Names.{Names}
 use Rattle.bpaf_words.specs.declared.arg.Arg.{Arg}
 use Rattle.bpaf_words.specs.declared.arg.Arg.TheVariants.{Short, Long, ArgWord, Word, PosWord}
 use Rattle.bpaf_words.specs.Items.{is_key_of}
-use Rattle.bpaf_line.specs.Chained.{Naming, KeepsKnown, Owns, OwnsNow, class_in, class_among, named_at}
-use Rattle.bpaf_line.specs.Chained.{class_of_number, class_of_name, class_of_long, text_number}
-use Rattle.bpaf_line.specs.Chained.{names_of}
-use Rattle.bpaf_line.proofs.Chained.{same_class}
+use Rattle.bpaf_line.specs.declared.classes.Slot.{Slot}
+use Rattle.bpaf_line.specs.declared.classes.Slot.TheVariants.{Own, Free, Other}
+use Rattle.bpaf_line.specs.Chained.{Naming, KeepsKnown, Owns, OwnsNow, class_in, class_by}
+use Rattle.bpaf_line.specs.Chained.{class_of_number, class_of_long, text_number, whole_number}
+use Rattle.bpaf_line.specs.Chained.{slot_by, slot_at, slot_of, unless_other}
 
 -- each of the items has a class below the last one
 abbrev pub AllKnown : List Arg → Naming → ℕ → List Arg → Type 0
@@ -108,56 +106,125 @@ noted_anew line items naming count place classes some owners inside none =
       are = none ∙ sym (ap (map (class_in line naming count)) past);
     }
 
--- whether the owner of a class has a name is as it was, where a place with another name owns a
--- class that had no owner
-owner_kept : (line : List Arg) (owners : List ℕ) (class place k : ℕ) (names : Names)
-    → class < length owners → length line ≤ slice_index owners class
-    → named_at line names place ≡ false
-    → named_at line names (slice_index (slice_set owners class place) k)
-    ≡ named_at line names (slice_index owners k)
-owner_kept line owners class place k names inside free other = ⊎_elim
-    (λ (at : k ≡ class). subst (λ x. named_at line names
-    (slice_index (slice_set owners class place) x) ≡ named_at line names (slice_index owners x))
-    (sym at) (ap (named_at line names) (get_or-set_same owners class place 0 inside)
-    ∙ (other ∙ sym (ap (λ found. option_map_or (is_key_of names) found false)
-    (slice_get_past line (slice_index owners class) free)))))
-    (λ (behind : k ≢ class). ap (named_at line names) (get_or-set_other owners class k place 0 behind))
-    (cases_eq k class)
+-- how a slot changes, where a place comes to own a class that had no owner: it is as it was, but
+-- that the class, if it was free, is the place's own for the name that this has
+record Follows (has : Bool) (class : ℕ) (old new : Slot) : Type 0 where
+  own : (k : ℕ) → old ≡ Own k → new ≡ Own k
+  other : old ≡ Other → new ≡ Other
+  gained : has ≡ true → old ≡ Free class → new ≡ Own class
 
--- and so the class of the name
-name_kept : (line : List Arg) (old : Naming) (count class place number : ℕ) (names : Names)
-    (text : List ℕ) → class < length old.owners → length line ≤ slice_index old.owners class
-    → named_at line names place ≡ false
-    → class_of_name line (record old { owners = slice_set old.owners class place }) count names
-    number text ≡ class_of_name line old count names number text
-name_kept line old count class place number names text inside free other =
-    let among = min (unwrap_or (class_among old.others text) (count - 1)) (count - 1) in
-    let owners = slice_set old.owners class place in
-    ap (λ n. if named_at line names (slice_index owners (class_of_number n number))
-    then min (class_of_number n number) (count - 1) else among)
-    (length-set old.owners class place)
-    ∙ ap (λ b. if b then min (class_of_number (length old.owners) number) (count - 1) else among)
-    (owner_kept line old.owners class place (class_of_number (length old.owners) number) names
-    inside free other)
+-- so changes the first of two, where both do
+follows_unless : (has : Bool) (class : ℕ) (first later first_new later_new : Slot)
+    → Follows has class first first_new → Follows has class later later_new
+    → Follows has class (unless_other first later) (unless_other first_new later_new)
+follows_unless has class (Own k) later first_new later_new f g =
+    subst (λ x. Follows has class (Own k) (unless_other x later_new)) (sym (f.own k refl))
+    (record { own = λ j e. e; other = λ e. cc; gained = λ has_it e. cc })
+follows_unless has class (Free k) later first_new later_new f g = record {
+  own = λ j e. cc;
+  other = λ e. cc;
+  gained = λ has_it e. ap (λ x. unless_other x later_new) (f.gained has_it e);
+}
+follows_unless has class Other later first_new later_new f g =
+    subst (λ x. Follows has class later (unless_other x later_new)) (sym (f.other refl)) g
 
--- a name that has a class isn't that of a place whose item has none
-other_name : (line : List Arg) (old : Naming) (count place : ℕ) (new key : Arg)
-    → slice_get line place ≡ Some new → class_in line old count new ≡ count - 1
-    → class_in line old count key ≢ count - 1
-    → named_at line (names_of key) place ≡ false
-other_name line old count place new key found none known =
-    ap (λ x. option_map_or (is_key_of (names_of key)) x false) found
-    ∙ by_test (is_key_of (names_of key) new) refl
+-- so changes the slot of a class, by the item of its owner
+follows_owner : (names : Names) (class : ℕ) (item : Arg) (found : Option Arg)
+    → found ≡ Some item → Follows (is_key_of names item) class (slot_by names class None)
+    (slot_by names class found)
+follows_owner names class item found is = record {
+  own = λ k e. cc;
+  other = λ e. cc;
+  gained = λ has e. ap (slot_by names class) is
+      ∙ ap (λ b. if b then Own class else Other) has;
+}
+
+-- a class that isn't the one that is owned now stays as it was
+follows_same : (names : Names) (has : Bool) (class k : ℕ) (found : Option Arg) → (k ≡ class → ⊥)
+    → Follows has class (slot_by names k found) (slot_by names k found)
+follows_same names has class k None apart = record {
+  own = λ j e. e;
+  other = λ e. e;
+  gained = λ has_it e. absurd (apart (free_same k class e));
+}
   where
-    by_test : (b : Bool) → is_key_of (names_of key) new ≡ b → b ≡ false
-    by_test true e = absurd (known (sym (same_class line old count key new e) ∙ none))
-    by_test false e = refl
+    free_same : (j k : ℕ) → Free j ≡ Free k → j ≡ k
+    free_same j k e = cc
+follows_same names has class k (Some item) apart = record {
+  own = λ j e. e;
+  other = λ e. e;
+  gained = λ has_it e. absurd (no_free (is_key_of names item) e);
+}
+  where
+    no_free : (b : Bool) → (if b then Own k else Other) ≡ Free class → ⊥
+    no_free true e = cc
+    no_free false e = cc
 
--- what has a class keeps it, where a place whose item has none owns a class that had no owner
+-- so changes the slot of a number
+follows_at : (line : List Arg) (owners : List ℕ) (name : List ℕ) (class place number : ℕ)
+    (item : Arg) → class < length owners → slice_get line (slice_index owners class) ≡ None
+    → slice_get line place ≡ Some item
+    → Follows (is_key_of (record { shorts = []; longs = name ∷ [] }) item) class
+    (slot_at line owners name number) (slot_at line (slice_set owners class place) name number)
+follows_at line owners name class place number item inside free found =
+    subst (λ size. Follows has class (slot_at line owners name number) (slot_by names
+    (class_of_number size number) (slice_get line (slice_index
+    (slice_set owners class place) (class_of_number size number)))))
+    (sym (length-set owners class place))
+    (⊎_elim
+    (λ (at : k ≡ class). subst (λ j. Follows has class
+    (slot_by names j (slice_get line (slice_index owners j)))
+    (slot_by names j (slice_get line (slice_index (slice_set owners class place) j)))) (sym at)
+    (subst (λ x. Follows has class (slot_by names class x) (slot_by names class
+    (slice_get line (slice_index (slice_set owners class place) class)))) (sym free)
+    (follows_owner names class item _
+    (ap (slice_get line) (get_or-set_same owners class place 0 inside) ∙ found))))
+    (λ (apart : k ≢ class). subst (λ owner. Follows has class
+    (slot_by names k (slice_get line (slice_index owners k)))
+    (slot_by names k (slice_get line owner)))
+    (sym (get_or-set_other owners class k place 0 apart))
+    (follows_same names has class k (slice_get line (slice_index owners k)) apart))
+    (cases_eq k class))
+  where
+    names : Names
+    names = record { shorts = []; longs = name ∷ [] }
+
+    has : Bool
+    has = is_key_of names item
+
+    k : ℕ
+    k = class_of_number (length owners) number
+
+-- and that of a long name
+follows_name : (line : List Arg) (owners : List ℕ) (name : List ℕ) (class place : ℕ) (item : Arg)
+    → class < length owners → slice_get line (slice_index owners class) ≡ None
+    → slice_get line place ≡ Some item
+    → Follows (is_key_of (record { shorts = []; longs = name ∷ [] }) item) class
+    (slot_of line owners name) (slot_of line (slice_set owners class place) name)
+unfolding slot_of
+follows_name line owners name class place item inside free found =
+    let number = text_number name in
+    let step = whole_number name in
+    let at = λ (number : ℕ). follows_at line owners name class place number item inside free found in
+    follows_unless _ class _ _ _ _ (at number)
+    (follows_unless _ class _ _ _ _ (at (number + step))
+    (follows_unless _ class _ _ _ _ (at (number + 2 * step)) (at (number + 3 * step))))
+
+-- what has a class keeps it, where its slot changes so
+kept_slot : (naming : Naming) (owners : List ℕ) (count class : ℕ) (has : Bool) (name : List ℕ)
+    (old new : Slot) → Follows has class old new → class_by naming count name old ≢ count - 1
+    → class_by (record naming { owners = owners }) count name new ≡ class_by naming count name old
+kept_slot naming owners count class has name (Own k) new follows known =
+    ap (class_by naming count name) (follows.own k refl)
+kept_slot naming owners count class has name (Free k) new follows known = absurd (known refl)
+kept_slot naming owners count class has name Other new follows known =
+    ap (class_by naming count name) (follows.other refl)
+
+-- what has a class keeps it, where a place owns a class that had no owner
 pub kept_owned : (line : List Arg) (old new : Naming) (count class place : ℕ) (item : Arg)
     → OwnsNow line place item old new class → slice_get line place ≡ Some item
-    → class_in line old count item ≡ count - 1 → KeepsKnown line count old new
-kept_owned line old new count class place item owns found none = record {
+    → KeepsKnown line count old new
+kept_owned line old new count class place item owns found = record {
   kept = λ key known. subst (λ naming. class_in line naming count key ≡ class_in line old count key)
       (sym owns.owned) (by_item key known);
 }
@@ -165,14 +232,10 @@ kept_owned line old new count class place item owns found none = record {
     by_item : (key : Arg) → class_in line old count key ≢ count - 1
         → class_in line (record old { owners = slice_set old.owners class place }) count key
         ≡ class_in line old count key
-    by_item (Short c attached word) known =
-        ap (λ k. if nat_lt c 128 then c else k) (name_kept line old count class place c
-        (record { shorts = c ∷ []; longs = [] }) (encode_utf8 c) owns.inside owns.free
-        (other_name line old count place item (Short c attached word) found none known))
+    by_item (Short c attached word) known = refl
     by_item (Long name attached word) known =
-        name_kept line old count class place (text_number name)
-        (record { shorts = []; longs = name ∷ [] }) name owns.inside owns.free
-        (other_name line old count place item (Long name attached word) found none known)
+        kept_slot old (slice_set old.owners class place) count class _ name _ _
+        (follows_name line old.owners name class place item owns.inside owns.free found) known
     by_item (ArgWord text) known = refl
     by_item (Word text) known = refl
     by_item (PosWord text) known = refl
@@ -180,35 +243,83 @@ kept_owned line old new count class place item owns found none = record {
 -- and so it does, whether the place owns a class now or not
 pub kept_by : (line : List Arg) (old new : Naming) (count place : ℕ) (item : Arg)
     (result : Option ℕ) → Owns line place item old new result → slice_get line place ≡ Some item
-    → class_in line old count item ≡ count - 1 → KeepsKnown line count old new
-kept_by line old new count place item None same found none = record {
+    → KeepsKnown line count old new
+kept_by line old new count place item None same found = record {
   kept = λ key known. ap (λ naming. class_in line naming count key) same;
 }
-kept_by line old new count place item (Some class) owns found none =
-    kept_owned line old new count class place item owns found none
+kept_by line old new count place item (Some class) owns found =
+    kept_owned line old new count class place item owns found
 
--- a place that owns the class of its long name's number gives the name this class
+-- a place that owns the free class of its long name gives the name this class
 pub owned_class : (line : List Arg) (old : Naming) (count place class : ℕ) (name word : List ℕ)
-    (attached : Bool) → class ≡ class_of_number (length old.owners) (text_number name)
-    → class < length old.owners → slice_get line place ≡ Some (Long name attached word)
-    → class < count
+    (attached : Bool) → slot_of line old.owners name ≡ Free class
+    → class < length old.owners → slice_get line (slice_index old.owners class) ≡ None
+    → slice_get line place ≡ Some (Long name attached word) → class < count
     → class_of_long line (record old { owners = slice_set old.owners class place }) count name
     ≡ class
-owned_class line old count place class name word attached is inside found below =
-    let names : Names = record { shorts = []; longs = name ∷ [] } in
-    let among = min (unwrap_or (class_among old.others name) (count - 1)) (count - 1) in
-    let owners = slice_set old.owners class place in
+owned_class line old count place class name word attached is inside free found below =
+    let follows = follows_name line old.owners name class place (Long name attached word) inside
+    free found in
+    ap (class_by old count name)
+    (follows.gained (ap (λ b. b || false) ((bytes_eq-Decides name name).1 refl)) is)
+    ∙ omega (arith, below)
+
+-- a slot that is free is that of a class without an owner
+free_slot : (names : Names) (k class : ℕ) (found : Option Arg)
+    → slot_by names k found ≡ Free class → (k ≡ class) × (found ≡ None)
+free_slot names k class None e = (cc, refl)
+free_slot names k class (Some item) e = absurd (no_free (is_key_of names item) e)
+  where
+    no_free : (b : Bool) → (if b then Own k else Other) ≡ Free class → ⊥
+    no_free true e = cc
+    no_free false e = cc
+
+-- so is that of a number
+free_at : (line : List Arg) (owners : List ℕ) (name : List ℕ) (class number : ℕ)
+    → slot_at line owners name number ≡ Free class
+    → slice_get line (slice_index owners class) ≡ None
+free_at line owners name class number e =
+    let free = free_slot (record { shorts = []; longs = name ∷ [] })
+    (class_of_number (length owners) number) class _ e in
+    ap (λ k. slice_get line (slice_index owners k)) (sym free.0) ∙ free.1
+
+-- the first of two is free only where one of them is
+free_unless : (first later : Slot) (class : ℕ) (Goal : Type 0) → (first ≡ Free class → Goal)
+    → (later ≡ Free class → Goal) → unless_other first later ≡ Free class → Goal
+free_unless (Own k) later class Goal left right e = left e
+free_unless (Free k) later class Goal left right e = left e
+free_unless Other later class Goal left right e = right e
+
+-- and so is that of a long name
+pub free_name : (line : List Arg) (owners : List ℕ) (name : List ℕ) (class : ℕ)
+    → slot_of line owners name ≡ Free class → slice_get line (slice_index owners class) ≡ None
+unfolding slot_of
+free_name line owners name class =
+    let at = λ (number : ℕ). free_at line owners name class number in
     let number = text_number name in
-    let own : named_at line names (slice_index owners class) ≡ true =
-    ap (named_at line names) (get_or-set_same old.owners class place 0 inside)
-    ∙ (ap (λ x. option_map_or (is_key_of names) x false) found
-    ∙ ap (λ b. b || false) ((bytes_eq-Decides name name).1 refl)) in
-    ap (λ n. if named_at line names (slice_index owners (class_of_number n number))
-    then min (class_of_number n number) (count - 1) else among)
-    (length-set old.owners class place)
-    ∙ (ap (λ k. if named_at line names (slice_index owners k) then min k (count - 1) else among)
-    (sym is)
-    ∙ (ap (λ b. if b then min class (count - 1) else among) own ∙ omega (arith, below)))
+    let step = whole_number name in
+    free_unless _ _ class _ (at number)
+    (free_unless _ _ class _ (at (number + step))
+    (free_unless _ _ class _ (at (number + 2 * step)) (at (number + 3 * step))))
+
+-- so a place comes to own the class of its long name, where that is free
+pub owns_free : (line : List Arg) (old new : Naming) (place class : ℕ) (item : Arg)
+    (name word : List ℕ) (attached : Bool) → item ≡ Long name attached word
+    → slice_get line place ≡ Some item → slot_of line old.owners name ≡ Free class
+    → class < length old.owners → new ≡ record old { owners = slice_set old.owners class place }
+    → OwnsNow line place item old new class
+owns_free line old new place class item name word attached long found is inside owned =
+    let free = free_name line old.owners name class is in
+    record {
+      inside = inside;
+      free = free;
+      owned = owned;
+      gives = λ count below.
+          ap (λ naming. class_in line naming count item) owned
+          ∙ ap (class_in line (record old { owners = slice_set old.owners class place }) count) long
+          ∙ owned_class line old count place class name word attached is inside free
+          (found ∙ ap Some long) below;
+    }
 
 -- the classes in front of a place, joined with those from there on, are those of all
 pub noted_whole : (line items : List Arg) (naming : Naming) (count from : ℕ)

@@ -6,8 +6,8 @@ use Rattle.std.specs.Prelude.{length, map, take, slice_index, slice_set, slice_g
 use Rattle.std.specs.Prelude.{nat_lt, ◌-◌, Bool, false, if◌then◌else◌, min, string_bytes}
 use Rattle.std.specs.Prelude.{String as StringIn}
 use Rattle.std.specs.BTreeMap.{is_at}
-use Rattle.std.specs.Char.{encode_utf8}
 use Rattle.std.specs.Cmp.Lexicographic.{slice_cmp}
+use Rattle.std.specs.List.{fold}
 use Rattle.std.specs.Map.{lookup}
 use Rattle.std.specs.Ordering.{nat_cmp}
 use Rattle.std.specs.Option.{option_map_or, unwrap_or}
@@ -16,6 +16,8 @@ use Rattle.bpaf_doc.specs.Names.{Names}
 use Rattle.bpaf_words.specs.declared.arg.Arg.{Arg}
 use Rattle.bpaf_words.specs.declared.arg.Arg.TheVariants.{Short, Long, ArgWord, Word, PosWord}
 use Rattle.bpaf_words.specs.Items.{is_key_of}
+use Rattle.bpaf_line.specs.declared.classes.Slot.{Slot}
+use Rattle.bpaf_line.specs.declared.classes.Slot.TheVariants.{Own, Free, Other}
 use Rattle.bpaf_line.specs.Situation.{Situation, is_taken}
 
 -- names with their classes
@@ -26,9 +28,11 @@ ClassNames = List (StringIn Global × ℕ)
 abbrev pub class_among : ClassNames → List ℕ → Option ℕ
 class_among names text = lookup (is_at (λ name. slice_cmp nat_cmp text (string_bytes name))) names
 
--- which names have which classes: the place that owns each class of a number, and other names
+-- which names have which classes: the place that owns each class of a number, short names beyond
+-- ASCII, and other long names
 pub record Naming : Type 0 where
   pub owners : List ℕ
+  pub wide : List (ℕ × ℕ)
   pub others : ClassNames
 
 -- a number of a text: of its length, and of its first byte, one in the middle and the last two
@@ -38,6 +42,10 @@ text_number text =
     let front = (size % 2 ^ 16 * 31 + slice_index text 0) * 31 + slice_index text (size / 2) in
     front * 961 + (slice_index text (size - 2) * 31 + slice_index text (size - 1))
 
+-- a number of all bytes of a text
+abbrev pub whole_number : List ℕ → ℕ
+whole_number text = fold (λ number byte. (number * 31 + byte) % 2 ^ 32) 0 text
+
 -- the class of a number of a name that has no class of its own, of so many
 abbrev pub class_of_number : ℕ → ℕ → ℕ
 class_of_number count number = 128 + number % (count - 128)
@@ -46,30 +54,63 @@ class_of_number count number = 128 + number % (count - 128)
 abbrev pub named_at : List Arg → Names → ℕ → Bool
 named_at line names p = option_map_or (is_key_of names) (slice_get line p) false
 
--- the class of a name, of so many: that of its number, where a place with the name owns it, and
--- else that of its text among the other names; the last one, where it is none of these
-abbrev pub class_of_name : List Arg → Naming → ℕ → Names → ℕ → List ℕ → ℕ
-class_of_name line naming count names number text =
-    let class = class_of_number (length naming.owners) number in
-    if named_at line names (slice_index naming.owners class) then min class (count - 1)
-    else min (unwrap_or (class_among naming.others text) (count - 1)) (count - 1)
+-- who owns a class, by the item of its owner: one with the name, none, or one with another
+abbrev pub slot_by : Names → ℕ → Option Arg → Slot
+slot_by names class None = Free class
+slot_by names class (Some item) = if is_key_of names item then Own class else Other
 
--- the class of a short name, of so many; each of ASCII is alone in its own
-abbrev pub class_of_short : List Arg → Naming → ℕ → ℕ → ℕ
-class_of_short line naming count name =
-    if nat_lt name 128 then name
-    else class_of_name line naming count (record { shorts = name ∷ []; longs = [] }) name
-    (encode_utf8 name)
+-- the same of the class of a number, for a long name
+abbrev pub slot_at : List Arg → List ℕ → List ℕ → ℕ → Slot
+slot_at line owners name number =
+    let class = class_of_number (length owners) number in
+    slot_by (record { shorts = []; longs = name ∷ [] }) class
+    (slice_get line (slice_index owners class))
+
+-- the first of two, but the second where that is another name's
+abbrev pub unless_other : Slot → Slot → Slot
+unless_other (Own class) later = Own class
+unless_other (Free class) later = Free class
+unless_other Other later = later
+
+-- the class of a slot, where it has one, is one of so many
+abbrev pub IsInside : ℕ → Slot → Type 0
+IsInside count (Own class) = class < count
+IsInside count (Free class) = class < count
+IsInside count Other = ⊤
+
+-- of four numbers of a long name, each as much more as a number of all its bytes: the first whose
+-- class isn't another name's
+unfoldable pub slot_of : List Arg → List ℕ → List ℕ → Slot
+slot_of line owners name =
+    let number = text_number name in
+    let step = whole_number name in
+    unless_other (slot_at line owners name number)
+    (unless_other (slot_at line owners name (number + step))
+    (unless_other (slot_at line owners name (number + 2 * step))
+    (slot_at line owners name (number + 3 * step))))
+
+-- the class of a name by that, of so many: the last one, where nobody owns it, and that of its text
+-- among the others, where all are those of other names
+abbrev pub class_by : Naming → ℕ → List ℕ → Slot → ℕ
+class_by naming count text (Own class) = min class (count - 1)
+class_by naming count text (Free class) = count - 1
+class_by naming count text Other =
+    min (unwrap_or (class_among naming.others text) (count - 1)) (count - 1)
 
 -- the class of a long name, of so many
 abbrev pub class_of_long : List Arg → Naming → ℕ → List ℕ → ℕ
 class_of_long line naming count name =
-    class_of_name line naming count (record { shorts = []; longs = name ∷ [] })
-    (text_number name) name
+    class_by naming count name (slot_of line naming.owners name)
+
+-- the class of a short name, of so many; each of ASCII is alone in its own
+abbrev pub class_of_short : Naming → ℕ → ℕ → ℕ
+class_of_short naming count name =
+    if nat_lt name 128 then name
+    else min (unwrap_or (lookup (is_at (nat_cmp name)) naming.wide) (count - 1)) (count - 1)
 
 -- the class of an item, of so many; the same for the same name
 abbrev pub class_in : List Arg → Naming → ℕ → Arg → ℕ
-class_in line naming count (Short c attached word) = class_of_short line naming count c
+class_in line naming count (Short c attached word) = class_of_short naming count c
 class_in line naming count (Long name attached word) = class_of_long line naming count name
 class_in line naming count (ArgWord text) = 0
 class_in line naming count (Word text) = 0
@@ -84,7 +125,7 @@ pub record KeepsKnown (line : List Arg) (count : ℕ) (old new : Naming) : Type 
 pub record OwnsNow (line : List Arg) (place : ℕ) (item : Arg) (old new : Naming) (class : ℕ)
     : Type 0 where
   pub inside : class < length old.owners
-  pub free : length line ≤ slice_index old.owners class
+  pub free : slice_get line (slice_index old.owners class) ≡ None
   pub owned : new ≡ record old { owners = slice_set old.owners class place }
   pub gives : (count : ℕ) → class < count → class_in line new count item ≡ class
 

@@ -109,11 +109,11 @@ impl Chains {
     }
 
     /// The place at which to begin to look for a short name.
-    pub(crate) fn first_short(&self, items: &[Arg], name: char) -> usize
+    pub(crate) fn first_short(&self, name: char) -> usize
         ensures { IsChainStart self.now
-            (class_of_short items.now self.now.names (length self.now.heads) name) result }
+            (class_of_short self.now.names (length self.now.heads) name) result }
     {
-        self.heads[self.names.class_of_short(items, name, self.heads.len())]
+        self.heads[self.names.class_of_short(name, self.heads.len())]
     }
 
     /// The place at which to begin to look for a long name.

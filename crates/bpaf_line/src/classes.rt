@@ -1,35 +1,49 @@
 //! The classes of a line's names, by which its places are chained.
-ghost use Rattle.std.specs.Prelude.{◌≡◌, ◌+◌, ◌-◌, ◌<◌, ◌≤◌, [], ◌∷◌, IfOk, OnOk, IsSome, length};
+ghost use Rattle.std.specs.Prelude.{◌≡◌, ◌+◌, ◌-◌, ◌*◌, ◌<◌, ◌≤◌, [], ◌∷◌, IfOk, OnOk, IsSome, length};
 ghost use Rattle.std.specs.Prelude.{map, drop, take, min, slice_index, slice_get, ◌≢◌, Some, IfSome};
-ghost use Rattle.std.specs.Char.{encode_utf8};
+ghost use Rattle.std.specs.Prelude.{◌^◌};
+ghost use Rattle.std.specs.BTreeMap.{is_at};
+ghost use Rattle.std.specs.Map.{lookup};
 ghost use Rattle.std.specs.Option.{unwrap_or};
+ghost use Rattle.std.specs.Ordering.{nat_cmp};
 ghost use Rattle.bpaf_words.specs.declared.arg.Arg.{Arg};
 ghost use Rattle.bpaf_words.specs.Items.{is_key_of};
-ghost use Rattle.bpaf_line.specs.Chained.{text_number, class_of_number, class_of_name};
+ghost use Rattle.bpaf_line.specs.Chained.{text_number, whole_number, class_of_number};
 ghost use Rattle.bpaf_line.specs.Chained.{class_of_short, class_of_long, class_in, class_among};
-ghost use Rattle.bpaf_line.specs.Chained.{named_at, is_key, KeepsKnown, Owns};
+ghost use Rattle.bpaf_line.specs.Chained.{slot_at, slot_of, unless_other, IsInside};
+ghost use Rattle.bpaf_line.specs.Chained.{is_key, KeepsKnown, Owns};
 
 use bpaf_doc::Text;
 use bpaf_words::{Arg, is_key_of};
 use std::alloc::{AllocError, Global};
 use std::collections::BTreeMap;
 use std::marker::Model;
-use std::slice;
 
 /// So many classes hold one short name each, which are those of ASCII.
 const OWN_CLASSES: usize = 128;
 
-/// So many classes there are beside those and one for each place, so that few names share one.
+/// So many classes there are beside those and two for each place, so that few names want the same.
 const SPARE_CLASSES: usize = 256;
 
 /// Which class each name of a line has.
 ///
-/// A short name of ASCII has one of its own. A long name has the class of its number, where a place
-/// with this name owns that. All other names are kept in order, each with a class of its own.
+/// A short name of ASCII has one of its own, and so has each other one. A long name has the first
+/// class of its numbers that a place with this name owns; where all are those of other names, it is
+/// kept in order, with a class of its own.
 #[derive(Drop)]
 pub(crate) struct NameClasses {
     owners: Vec<usize>,
+    wide: BTreeMap<char, usize>,
     others: BTreeMap<String, usize>,
+}
+
+/// Who owns the class of a number, for a name: a place with this name, no place, or one with another
+/// name.
+#[derive(Clone, Copy)]
+enum Slot {
+    Own(usize),
+    Free(usize),
+    Other,
 }
 
 impl Model for NameClasses {
@@ -37,7 +51,11 @@ impl Model for NameClasses {
 
     ghost Value = { Naming };
 
-    ghost view = { λ names. record { owners = names.owners.items; others = names.others.entries } };
+    ghost view = { λ names. record {
+        owners = names.owners.items;
+        wide = names.wide.entries;
+        others = names.others.entries;
+      } };
 
     ghost use Rattle.std.specs.Prelude.{◌<◌, length};
 
@@ -74,7 +92,8 @@ impl NameClasses {
             ≡ map (class_in items.now found.names found.count) (take keys items.now)) }
     {
         let mut names = NameClasses {
-            owners: vec![in alloc; items.len(); OWN_CLASSES + keys + SPARE_CLASSES]?,
+            owners: vec![in alloc; items.len(); OWN_CLASSES + 2 * keys + SPARE_CLASSES]?,
+            wide: BTreeMap::new(alloc),
             others: BTreeMap::new(alloc),
         };
         let ClassesBehind {
@@ -134,9 +153,9 @@ impl NameClasses {
         })
     }
 
-    /// The class of a place's item, of so many: the class that it has, or that of its number, which
-    /// the place owns now. None, and nothing changes, where it has no class, and its number's has an
-    /// owner.
+    /// The class of a place's item, of so many: the class that it has, or one of its numbers', which
+    /// the place owns now. None, and nothing changes, where it has no class, and all of its numbers'
+    /// have owners.
     #[inline(always)]
     fn class_or_own(
         &mut self,
@@ -160,9 +179,9 @@ impl NameClasses {
         self.own(items, place, item)
     }
 
-    /// Makes a place the owner of the class of its item's number, which this is; None, and nothing
-    /// changes, where that has one, or the item has no long name. It is called once for a name, so
-    /// it stays out of the loop.
+    /// Makes a place the owner of the first class of its long name's numbers, which this is; None,
+    /// and nothing changes, where each has an owner, or the item has no long name. It is called once
+    /// for a name, so it stays out of the loop.
     #[inline(never)]
     fn own(&mut self, items: &[Arg], place: usize, item: &Arg) -> Option<usize>
         requires { slice_get items.now place ≡ Some item.now }
@@ -171,44 +190,40 @@ impl NameClasses {
         let Arg::Long(name, _, _) = item else {
             return None;
         };
-        let class = class_of_number(text_number(name.as_str()), self.owners.len());
-        if self.owners[class] < items.len() {
-            return None;
+        match self.slot_of(items, name.as_str()) {
+            Slot::Free(class) => {
+                self.owners[class] = place;
+                Some(class)
+            }
+            Slot::Own(_) | Slot::Other => None,
         }
-        self.owners[class] = place;
-        Some(class)
     }
 
-    /// Notes the name of a place among the others; refused only for want of memory. Few lines have
-    /// such a name, so it stays out of the loop.
+    /// Notes the name of a place among the wide or the other ones, with a class of its own; refused
+    /// only for want of memory. Few lines have such a name, so it stays out of the loop.
     #[inline(never)]
     fn note(&mut self, alloc: Global, items: &[Arg], place: usize) -> Result<(), AllocError> {
+        let class = self.count() - 1;
         match items.get(place) {
             Some(Arg::Short(c, _, _)) => {
-                let mut bytes = [0; 4];
-                self.note_other(alloc, c.encode_utf8(&mut bytes))
+                self.wide.insert(*c, class)?;
             }
-            Some(Arg::Long(name, _, _)) => self.note_other(alloc, name.as_str()),
-            _ => Ok(()),
+            Some(Arg::Long(name, _, _)) => {
+                self.others.insert(String::from_str(alloc, name.as_str())?, class)?;
+            }
+            _ => {}
         }
-    }
-
-    /// Notes a name among the others, with a class of its own; refused only for want of memory.
-    fn note_other(&mut self, alloc: Global, text: &str) -> Result<(), AllocError>
-        ensures { OnOk result (IsSome (class_among self.new.others text.now)) }
-    {
-        let class = self.owners.len() + self.others.len();
-        self.others.insert(String::from_str(alloc, text)?, class)?;
         Ok(())
     }
 
-    /// How many classes there are: those of numbers, those of the other names, and a last one for
-    /// what is no name of the line.
+    /// How many classes there are: those of numbers, those of the wide and the other names, and a
+    /// last one for what is no name of the line.
     fn count(&self) -> usize
         ensures some { 128 < result }
         ensures owners { length self.now.owners < result }
     {
-        self.owners.len() + self.others.len() + 1
+        let names = self.wide.len() + self.others.len();
+        self.owners.len().saturating_add(names + 1)
     }
 
     /// The class of each of these items of a line, of so many, with room for those of so many
@@ -239,64 +254,95 @@ impl NameClasses {
         ensures { result ≡ class_in line.now self.now count item.now }
     {
         match item {
-            Arg::Short(c, _, _) => self.class_of_short(line, *c, count),
+            Arg::Short(c, _, _) => self.class_of_short(*c, count),
             Arg::Long(name, _, _) => self.class_of_long(line, name, count),
             Arg::ArgWord(_) | Arg::Word(_) | Arg::PosWord(_) => 0,
         }
     }
 
     /// The class of a short name, of so many.
-    pub(crate) fn class_of_short(&self, line: &[Arg], name: char, count: usize) -> usize
+    pub(crate) fn class_of_short(&self, name: char, count: usize) -> usize
         requires { 128 < count }
-        ensures { result ≡ class_of_short line.now self.now count name }
+        ensures { result ≡ class_of_short self.now count name }
     {
         if (name as usize) < OWN_CLASSES {
             return name as usize;
         }
-        self.class_of_wide(line, name, count)
+        self.class_of_wide(name, count - 1)
     }
 
-    /// The class of a short name beyond ASCII, of so many. Few lines have one, so it stays out of
-    /// the loop.
+    /// The class of a short name beyond ASCII, but none above the last one, and that one, where it
+    /// has none. Few lines have such a name, so it stays out of the loop.
     #[inline(never)]
-    fn class_of_wide(&self, line: &[Arg], name: char, count: usize) -> usize
-        requires { 128 < count }
-        ensures { result ≡ class_of_name line.now self.now count
-            (record { shorts = name ∷ []; longs = [] }) name (encode_utf8 name) }
+    fn class_of_wide(&self, name: char, last: usize) -> usize
+        ensures { result ≡ min (unwrap_or (lookup (is_at (nat_cmp name)) self.now.wide) last) last }
     {
-        let class = class_of_number(name as usize, self.owners.len());
-        if is_named_at(line, self.owners[class], slice::from_ref(&name), &[]) {
-            return class.min(count - 1);
-        }
-        let mut bytes = [0; 4];
-        self.class_of_other(name.encode_utf8(&mut bytes), count)
+        self.wide.get(&name).copied().unwrap_or(last).min(last)
     }
 
     /// The class of a long name, of so many.
     #[inline(always)]
     pub(crate) fn class_of_long(&self, line: &[Arg], name: &Text, count: usize) -> usize
         requires { 128 < count }
-        ensures { result ≡ class_of_long line.now self.now count name.now }
+        ensures class { result ≡ class_of_long line.now self.now count name.now }
+        ensures below { result < count }
     {
         let text = name.as_str();
-        let class = class_of_number(text_number(text), self.owners.len());
-        if is_long_at(line, self.owners[class], text) {
-            return class.min(count - 1);
+        match self.slot_of(line, text) {
+            Slot::Own(class) => class.min(count - 1),
+            Slot::Free(_) => count - 1,
+            Slot::Other => self.class_among(text, count - 1),
         }
-        self.class_of_other(text, count)
     }
 
-    /// The class of another name, of so many; the last one, where it isn't one of them.
+    /// The first of a long name's numbers whose class isn't another name's.
     #[inline(always)]
-    fn class_of_other(&self, text: &str, count: usize) -> usize
-        requires { 128 < count }
-        ensures { result ≡ min (unwrap_or (class_among self.now.others text.now) (count - 1))
-            (count - 1) }
+    #[tactic(auto, unfolding(crate::specs::Chained::slot_of))]
+    fn slot_of(&self, line: &[Arg], name: &str) -> Slot
+        ensures slot { result ≡ slot_of line.now self.now.owners name.now }
+        ensures inside { IsInside (length self.now.owners) result }
     {
-        if self.others.is_empty() {
-            return count - 1;
+        let number = text_number(name);
+        match self.slot_at(line, name, number) {
+            Slot::Other => self.later_slot(line, name, number),
+            slot => slot,
         }
-        self.class_among(text, count - 1)
+    }
+
+    /// The same of the numbers behind the first. Few names share the class of that, so it stays out
+    /// of the loop.
+    #[inline(never)]
+    fn later_slot(&self, line: &[Arg], name: &str, number: usize) -> Slot
+        requires { number < 2 ^ 40 }
+        ensures slot { result ≡ unless_other
+            (slot_at line.now self.now.owners name.now (number + whole_number name.now))
+            (unless_other
+            (slot_at line.now self.now.owners name.now (number + 2 * whole_number name.now))
+            (slot_at line.now self.now.owners name.now (number + 3 * whole_number name.now))) }
+        ensures inside { IsInside (length self.now.owners) result }
+    {
+        let step = whole_number(name);
+        match self.slot_at(line, name, number + step) {
+            Slot::Other => match self.slot_at(line, name, number + 2 * step) {
+                Slot::Other => self.slot_at(line, name, number + 3 * step),
+                slot => slot,
+            },
+            slot => slot,
+        }
+    }
+
+    /// Who owns the class of a number, for a long name.
+    #[inline(always)]
+    fn slot_at(&self, line: &[Arg], name: &str, number: usize) -> Slot
+        ensures slot { result ≡ slot_at line.now self.now.owners name.now number }
+        ensures inside { IsInside (length self.now.owners) result }
+    {
+        let class = class_of_number(number, self.owners.len());
+        match line.get(self.owners[class]) {
+            None => Slot::Free(class),
+            Some(item) if is_long(item, name) => Slot::Own(class),
+            Some(_) => Slot::Other,
+        }
     }
 
     /// The class of a name among the others, but none above the last one, and that one, where it
@@ -319,28 +365,6 @@ pub(crate) fn is_key(item: &Arg) -> bool
     }
 }
 
-/// Whether the item at a place is a key with one of the names.
-fn is_named_at(items: &[Arg], place: usize, shorts: &[char], longs: &[Text]) -> bool
-    ensures { result ≡ named_at items.now
-        (record { shorts = shorts.now; longs = longs.now }) place }
-{
-    match items.get(place) {
-        Some(item) => is_key_of(item, shorts, longs),
-        None => false,
-    }
-}
-
-/// Whether the item at a place is a key with this long name.
-#[inline(always)]
-fn is_long_at(items: &[Arg], place: usize, name: &str) -> bool
-    ensures { result ≡ named_at items.now (record { shorts = []; longs = name.now ∷ [] }) place }
-{
-    match items.get(place) {
-        Some(item) => is_long(item, name),
-        None => false,
-    }
-}
-
 /// Whether an item is a key with this long name.
 #[inline(always)]
 fn is_long(item: &Arg, name: &str) -> bool
@@ -355,13 +379,26 @@ fn is_long(item: &Arg, name: &str) -> bool
 /// A number of a text: of its length, and of its first byte, one in the middle and the last two.
 #[inline(always)]
 fn text_number(text: &str) -> usize
-    ensures { result ≡ text_number text.now }
+    ensures number { result ≡ text_number text.now }
+    ensures small { result < 2 ^ 40 }
 {
     let bytes = text.as_bytes();
     let len = bytes.len();
     let front = (len % (1 << 16) * 31 + byte_at(bytes, 0)) * 31 + byte_at(bytes, len / 2);
     let back = byte_at(bytes, len.saturating_sub(2)) * 31 + byte_at(bytes, len.saturating_sub(1));
     front * 961 + back
+}
+
+/// A number of all bytes of a text.
+fn whole_number(text: &str) -> usize
+    ensures number { result ≡ whole_number text.now }
+    ensures small { result < 2 ^ 32 }
+{
+    let mut number = 0;
+    for byte in text.as_bytes() {
+        number = (number * 31 + usize::from(*byte)) % (1 << 32);
+    }
+    number
 }
 
 /// The byte at a place; 0 behind the last one.

@@ -85,10 +85,9 @@ impl State {
             (is_argument_key (record { shorts = shorts.now; longs = longs.now }) adjacent)
             (record { shorts = shorts.now; longs = [] }) self.now end result }
     {
-        let items = self.items.as_slice();
         let mut place = end;
         for short in shorts {
-            let start = chains.first_short(items, *short);
+            let start = chains.first_short(*short);
             place = self.first_along(chains, start, place, shorts, longs, adjacent);
         }
         place

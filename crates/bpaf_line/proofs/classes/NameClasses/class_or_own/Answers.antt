@@ -1,4 +1,3 @@
-use Rattle.std.proofs.Common.{◌∙◌, sym}
 use Rattle.bpaf_line.proofs.Noted.{kept_by}
 use Rattle.bpaf_line.proofs.classes.NameClasses.class_or_own.Goals as goal
 
@@ -6,4 +5,3 @@ pub returns-clause-kept : goal.returns-clause-kept
 returns-clause-kept c =
     kept_by c.args.items.now c.args.self.now c.own.new.self c.args.count c.args.place
     c.args.item.now c.own.result c.own.ensures c.requires.at
-    (sym c.class_of-class.ensures ∙ c.if-class-count.false)

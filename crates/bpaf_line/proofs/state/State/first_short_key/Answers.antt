@@ -1,8 +1,7 @@
-use Rattle.std.proofs.Common.{◌++◌, ◌∷◌, [], ◌∙◌, ap, sym, subst, take, false, arith, length}
+use Rattle.std.proofs.Common.{◌++◌, ◌∷◌, [], ◌∙◌, ap, sym, subst, take, false, arith}
 use Rattle.std.proofs.lemmas.List.{take_more}
 use Rattle.bpaf_words.specs.declared.arg.Arg.TheVariants.{Short}
 use Rattle.bpaf_words.specs.Items.{is_argument_key}
-use Rattle.bpaf_line.specs.Chained.{class_of_short, IsChainStart}
 use Rattle.bpaf_line.specs.Finding.{IsFirstAmong}
 use Rattle.bpaf_line.proofs.Finding.{among_more, first_named}
 use Rattle.bpaf_line.proofs.state.State.first_short_key.Goals as goal
@@ -20,10 +19,6 @@ loop-short-preserved c =
     let key = Short name false [] in
     let s = c.args.self.now in
     let chains = c.args.chains.now in
-    let line = c.as_slice-items.ensures.value ∙ ap (λ t. t.context.line) c.self.view_is in
-    let begins = subst (λ items. IsChainStart chains
-    (class_of_short items chains.names (length chains.heads) name) c.first_short-start.result) line
-    c.first_short-start.ensures in
     subst (λ ns. IsFirstAmong test (record { shorts = ns; longs = [] }) s c.args.end
     c.first_along-place.result) (sym (take_more shorts i name c.loop-short-test.true
     ∙ ap (λ n. take i shorts ++ n ∷ []) (sym c.short-item.is)))
@@ -32,5 +27,5 @@ loop-short-preserved c =
     c.first_along-place.result c.loop-short.invariant
     (first_named test s chains key c.first_short-start.result
     c.loop-short.place c.first_along-place.result c.requires.chains
-    (omega (arith, c.loop-short.invariant.within, c.requires.inside)) begins
+    (omega (arith, c.loop-short.invariant.within, c.requires.inside)) c.first_short-start.ensures
     c.first_along-place.ensures))
