@@ -52,10 +52,10 @@ impl Model for NameClasses {
     ghost Value = { Naming };
 
     ghost view = { λ names. record {
-        owners = names.owners.items;
-        wide = names.wide.entries;
-        others = names.others.entries;
-      } };
+      owners = names.owners.items;
+      wide = names.wide.entries;
+      others = names.others.entries;
+    } };
 
     ghost use Rattle.std.specs.Prelude.{◌<◌, length};
 
@@ -209,7 +209,8 @@ impl NameClasses {
                 self.wide.insert(*c, class)?;
             }
             Some(Arg::Long(name, _, _)) => {
-                self.others.insert(String::from_str(alloc, name.as_str())?, class)?;
+                self.others
+                    .insert(String::from_str(alloc, name.as_str())?, class)?;
             }
             _ => {}
         }
