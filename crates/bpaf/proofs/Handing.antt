@@ -32,21 +32,21 @@ use Rattle.bpaf_parts.specs.Info.{RunInfo}
 use Rattle.bpaf.specs.Asked.{BehindWord, CameTo, HandsOn, RunShows, Showing, inner_answer}
 use Rattle.bpaf.proofs.Asking.{IsAlsoShown, came_also, came_from, run_shows}
 
--- of two refusals combined one is the answer that both are
-spared_shows : (first second both answer : Message) → CombinesSpared first second both
-    → both ≡ answer → (doc : List Piece) (full : Bool) → answer ≡ inner_answer doc full
-    → (first ≡ answer) ⊎ (second ≡ answer)
-spared_shows (ParseFailure f) second both answer o is doc full shown = inl (sym o ∙ is)
-spared_shows first (ParseFailure f) both answer o is doc full shown = inr (sym o ∙ is)
-spared_shows (Missing items) (Missing others) both answer o is doc full shown =
+-- one of two, by a test
+of_either : (caught : Bool) (first second both : Message) (f : Failure)
+    → both ≡ (if caught then second else first) → both ≡ ParseFailure f
+    → (first ≡ ParseFailure f) ⊎ (second ≡ ParseFailure f)
+of_either true first second both f same is = inr (sym same ∙ is)
+of_either false first second both f same is = inl (sym same ∙ is)
+
+-- of two refusals combined one is the inner run's answer that both are
+spared_shows : (first second both : Message) (f : Failure) → CombinesSpared first second both
+    → both ≡ ParseFailure f → (first ≡ ParseFailure f) ⊎ (second ≡ ParseFailure f)
+spared_shows (ParseFailure g) second both f o is = inl (sym o ∙ is)
+spared_shows first (ParseFailure g) both f o is = inr (sym o ∙ is)
+spared_shows (Missing items) (Missing others) both f o is =
     ⊎_elim (λ all. absurd cc) (λ want. absurd cc) o
-spared_shows first second both answer o is doc full shown =
-    of_either (can_catch first) first second (sym o ∙ is)
-  where
-    of_either : (caught : Bool) (one other : Message)
-        → (if caught then other else one) ≡ answer → (one ≡ answer) ⊎ (other ≡ answer)
-    of_either true one other same = inr same
-    of_either false one other same = inl same
+spared_shows first second both f o is = of_either (can_catch first) first second both f o is
 
 -- so it is where one may be want of memory
 combined_shows : (first second both : Message) (doc : List Piece) (full : Bool)
@@ -54,7 +54,7 @@ combined_shows : (first second both : Message) (doc : List Piece) (full : Bool)
     → (first ≡ inner_answer doc full) ⊎ (second ≡ inner_answer doc full)
 combined_shows first second both doc full o is =
     ⊎_elim (λ want. absurd cc)
-    (λ spared. spared_shows first second both (inner_answer doc full) spared.1 is doc full refl) o
+    (λ spared. spared_shows first second both (failure.Stdout doc full) spared.1 is) o
 
 module _ (showing : Showing) {T : Type 0} {first second : Outcome T}
     (one : HandsOn showing first) (other : HandsOn showing second) where

@@ -148,7 +148,7 @@ impl<T: Drop, P: Parser<T>> Run<'_, T, P> {
             (IsHelp (P.describes self.now.inner.now) self.now.info.now state.now) }
     {
         let meta = self.inner.meta(self.alloc)?;
-        Ok(self.info.page(self.alloc, state.path(), &meta)?)
+        self.info.page(self.alloc, state.path(), &meta)
     }
 }
 

@@ -1,10 +1,11 @@
 //! What the options print.
-ghost use Rattle.std.specs.Prelude.{◌≡◌, ◌++◌, IfOk, OnOk, map, string_bytes};
-ghost use Rattle.bpaf_demo.specs.Lines.{lines, file_lines};
+ghost use Rattle.std.specs.Prelude.{◌≡◌, IfOk, map, string_bytes};
+ghost use Rattle.bpaf_demo.specs.Lines.{lines};
 ghost use Rattle.bpaf_demo.specs.Running.{AnswersLines};
 
 use crate::options::{Options, read_options};
 use bpaf::ParseFailure;
+use bpaf_program::push_lines;
 use std::alloc::{AllocError, Global};
 
 /// The lines that the words ask for: those of the options that they give; refused where these are.
@@ -24,17 +25,6 @@ fn text_of(alloc: Global, options: &Options) -> Result<String, AllocError>
     let mut text = String::new(alloc);
     writeln!(text, "verbose: {verbose}")?;
     writeln!(text, "num: {num}")?;
-    push_files(&mut text, options.files.as_slice())?;
+    push_lines(&mut text, "file: ", options.files.as_slice())?;
     Ok(text)
-}
-
-/// Appends a line for each file; refused only for want of memory.
-fn push_files(text: &mut String, files: &[String]) -> Result<(), AllocError>
-    ensures { OnOk result (string_bytes text.new
-        ≡ string_bytes text.old ++ file_lines (map string_bytes files.now)) }
-{
-    for file in files {
-        writeln!(text, "file: {file}")?;
-    }
-    Ok(())
 }

@@ -102,3 +102,13 @@ first_names (c ∷ shorts) (text ∷ longs) = Some (Both c text)
 -- the names that a key shows
 abbrev pub shown_name : Names → Option Name
 shown_name names = first_names names.shorts names.longs
+
+-- the members of an And or an Or, as a list
+abbrev pub shapes_of : Shapes → List Shape
+shapes_of none = []
+shapes_of (shape then rest) = shape ∷ shapes_of rest
+
+-- what a shape adds to a choice: the members of an Or, and else itself
+abbrev pub alternatives : Shape → List Shape
+alternatives (Or all) = shapes_of all
+alternatives shape = shape ∷ []

@@ -52,9 +52,16 @@ impl Piece {
 /// A document: the list of the pieces that its calls appended (bpaf's `Doc`, in `buffer.rs`).
 ///
 /// A call that is refused for want of memory leaves it as it was.
-#[derive(Debug, Drop)]
+#[derive(Debug)]
 pub struct Doc {
     pieces: Vec<Piece>,
+}
+
+/// One call, as of a `Text`.
+impl Drop for Doc {
+    fn drop(self) {
+        let Doc { pieces: _pieces } = self;
+    }
 }
 
 impl Model for Doc {

@@ -25,7 +25,7 @@ pub enum ShortLong {
 /// `shorts` are all its short names, hidden aliases too; `env` is the environment variable that
 /// stands for it, and `help` what is said of it.
 #[cycle(meta)]
-#[derive(Debug, Drop)]
+#[derive(Debug)]
 pub enum Item {
     /// A word that a test of the program's own accepts; `anywhere` where it may stand behind
     /// others.
@@ -61,4 +61,41 @@ pub enum Item {
         env: Option<Text>,
         help: Option<Doc>,
     },
+}
+
+/// One call, so that a function that drops an item isn't checked for each kind of it.
+impl Drop for Item {
+    #[cycle(meta)]
+    fn drop(self) {
+        match self {
+            Item::Any {
+                metavar: _metavar,
+                help: _help,
+                anywhere: _,
+            } => {}
+            Item::Positional {
+                metavar: _metavar,
+                help: _help,
+            } => {}
+            Item::Command {
+                name: _name,
+                short: _,
+                help: _help,
+                meta: _meta,
+            } => {}
+            Item::Flag {
+                name: _name,
+                shorts: _shorts,
+                env: _env,
+                help: _help,
+            } => {}
+            Item::Argument {
+                name: _name,
+                shorts: _shorts,
+                metavar: _metavar,
+                env: _env,
+                help: _help,
+            } => {}
+        }
+    }
 }

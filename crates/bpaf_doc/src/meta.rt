@@ -1,12 +1,14 @@
 //! The tree of what a parser shows.
-ghost use Rattle.std.specs.Prelude.{◌≡◌};
+ghost use Rattle.std.specs.Prelude.{◌≡◌, IfOk, map};
+ghost use Rattle.bpaf_doc.specs.Shape.{alternatives, shape_of};
 
 use crate::doc::Doc;
 use crate::item::Item;
+use std::alloc::{AllocError, Global};
 
 /// What a parser shows of itself: a tree of items (bpaf's `Meta`).
 #[cycle(meta)]
-#[derive(Debug, Drop)]
+#[derive(Debug)]
 pub enum Meta {
     /// All members, in order.
     And(Vec<Meta>),
@@ -32,6 +34,39 @@ pub enum Meta {
     Item(Item),
     /// Nothing is shown.
     Skip,
+}
+
+impl Meta {
+    /// What it adds to a choice: the members of an `Or`, and else itself (bpaf's `Meta::or`, in
+    /// `meta.rs`). Refused only for want of memory.
+    pub fn alternatives(self, alloc: Global) -> Result<Vec<Meta>, AllocError>
+        ensures { IfOk result (λ all. map shape_of all.items ≡ alternatives (shape_of self)) }
+    {
+        match self {
+            Meta::Or(all) => Ok(all),
+            other => Ok(vec![in alloc; other]?),
+        }
+    }
+}
+
+/// One call, so that a function that drops a tree isn't checked for each kind of it.
+impl Drop for Meta {
+    #[cycle(meta)]
+    fn drop(self) {
+        match self {
+            Meta::And(_all) | Meta::Or(_all) => {}
+            Meta::Optional(_inner)
+            | Meta::Required(_inner)
+            | Meta::Adjacent(_inner)
+            | Meta::Many(_inner)
+            | Meta::Strict(_inner) => {}
+            Meta::Subsection(_inner, _text)
+            | Meta::Suffix(_inner, _text)
+            | Meta::CustomUsage(_inner, _text) => {}
+            Meta::Item(_item) => {}
+            Meta::Skip => {}
+        }
+    }
 }
 
 /// What a parser shows of itself, lent to a closure that writes of it (bpaf's `MetaInfo`, in

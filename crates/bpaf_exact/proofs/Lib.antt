@@ -29,7 +29,6 @@ pub mod WorkedRows
 pub mod OneView
 pub mod Accepted
 pub mod Surplus
-pub mod Fields
-pub mod Owning
-pub mod Positions
-pub mod OneField
+pub mod Sharing
+pub mod Says
+pub mod Told

@@ -4,8 +4,9 @@ use Rattle.std.proofs.Common.{refl, sym, ap, ◌∙◌, append_assoc, append-nil
 use Rattle.bpaf_doc.specs.declared.doc.Piece.{Piece}
 use Rattle.bpaf_doc.specs.Shape.{Shape, Shapes, Or, Optional, Required, Many, Suffix}
 use Rattle.bpaf_doc.specs.Shape.{Subsection, CustomUsage, Skip, none, ◌then◌, members}
+use Rattle.bpaf_doc.specs.Shape.{alternatives, shapes_of}
 use Rattle.bpaf_doc.specs.Walks.{parts, parts_of_all}
-use Rattle.bpaf_laws.specs.Choice.{ChoiceDescribes, alternatives, either_shape, shapes_of}
+use Rattle.bpaf_laws.specs.Choice.{ChoiceDescribes, either_shape}
 use Rattle.bpaf_laws.specs.Choices.{ChoicesDescribes, Nested}
 use Rattle.bpaf_laws.specs.Default.{DefaultDescribes, OptionalDescribes}
 use Rattle.bpaf_laws.specs.Hide.{SectionDescribes, UsageDescribes, usage_pieces}

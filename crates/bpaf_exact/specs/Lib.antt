@@ -12,4 +12,4 @@ pub mod Theorem
 pub mod SameParts
 pub mod OneView
 pub mod Accepted
-pub mod Fields
+pub mod Says

@@ -88,21 +88,13 @@ fn show_backup(rt: &HostRuntime) -> io::Result<()> {
     }
 }
 
-/// Tells what a removal reads off words of its own.
+/// Runs the remover on words of its own.
 fn show_removal(rt: &HostRuntime) -> io::Result<()> {
     let file = String::from_str(rt.alloc(), "a")?;
     let key = String::from_str(rt.alloc(), "-f")?;
-    match remove::read_removal(rt.alloc(), &[file, key]) {
-        Ok(removal) => {
-            let forced = removal.force;
-            let files = removal.files.len();
-            println!(rt; "removal: forced {forced}, {files} file")
-        }
-        Err(failure) => {
-            drop(failure);
-            Ok(())
-        }
-    }
+    let words = [file, key];
+    let status = remove::run(rt.alloc(), &words, &mut rt.stdout(), &mut rt.stderr());
+    println!(rt; "removal: status {status}")
 }
 
 /// Tells what a sum reads off words of its own.

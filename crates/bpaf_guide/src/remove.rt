@@ -1,11 +1,15 @@
-//! A remover, of which it is proved that it is forced only where its key is spelled.
+//! A remover, of which it is proved, from its words to its bytes, that it tells of no file as
+//! removed unless its key was spelled.
 ghost use Rattle.std.specs.Prelude.{◌≡◌, true, IfOk, map, string_bytes};
+ghost use Rattle.bpaf_program.specs.Running.{AnswersText, RunsTo};
 ghost use Rattle.bpaf_record.specs.Spelled.{WasSpelled};
-ghost use Rattle.bpaf_guide.specs.Remove.{force_names};
+ghost use Rattle.bpaf_guide.specs.Remove.{IsRemovalText, force_names, front};
 
 use bpaf::{Args, ParseFailure, Parser, construct, positional, short};
+use bpaf_program::{print, push_lines};
 use bpaf_record::Record;
 use std::alloc::Global;
+use std::io::Write;
 
 /// What a removal is told.
 #[derive(Drop)]
@@ -31,4 +35,30 @@ pub fn read_removal(alloc: Global, words: &[String]) -> Result<Removal, ParseFai
     })
     .to_options(alloc)?;
     options.run_record(Args::from(words))
+}
+
+/// Runs the remover on its words and gives its status. Its files are printed a line each, as
+/// `removed: FILE` only where `-f` or `--force` was spelled, else as `kept: FILE`.
+pub fn run<W: Write, E: Write>(alloc: Global, words: &[String], out: &mut W, err: &mut E) -> u8
+    ensures { RunsTo (IsRemovalText (map string_bytes words.now)) result (W.contents out.old)
+        (W.contents out.new) (E.contents err.old) (E.contents err.new) }
+{
+    print(lines_of(alloc, words), out, err)
+}
+
+/// The lines of the removal that the words tell; refused where they tell none.
+fn lines_of(alloc: Global, words: &[String]) -> Result<String, ParseFailure>
+    ensures { AnswersText (IsRemovalText (map string_bytes words.now)) result }
+{
+    let removal = read_removal(alloc, words)?;
+    let mut text = String::new(alloc);
+    push_lines(&mut text, told(removal.force), removal.files.as_slice())?;
+    Ok(text)
+}
+
+/// What is told of each file.
+fn told(force: bool) -> &'static str
+    ensures { result.now ≡ front force }
+{
+    if force { "removed: " } else { "kept: " }
 }

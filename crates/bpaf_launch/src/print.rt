@@ -1,11 +1,12 @@
 //! What the launcher prints.
-ghost use Rattle.std.specs.Prelude.{◌≡◌, ◌++◌, IfOk, OnOk, map, string_bytes};
+ghost use Rattle.std.specs.Prelude.{◌≡◌, IfOk, map, string_bytes};
 ghost use Rattle.bpaf_program.specs.Running.{AnswersText};
-ghost use Rattle.bpaf_launch.specs.Lines.{lines, word_lines};
+ghost use Rattle.bpaf_launch.specs.Lines.{lines};
 ghost use Rattle.bpaf_launch.specs.Running.{Answers};
 
 use crate::options::{Launch, read_launch};
 use bpaf::ParseFailure;
+use bpaf_program::push_lines;
 use std::alloc::{AllocError, Global};
 
 /// The lines that the words ask for: those of their launch; refused where they ask for none.
@@ -27,17 +28,6 @@ fn text_of(alloc: Global, launch: &Launch) -> Result<String, AllocError>
     writeln!(text, "verbose: {verbose}")?;
     writeln!(text, "dry run: {dry_run}")?;
     writeln!(text, "name: {name}")?;
-    push_word_lines(&mut text, launch.words.as_slice())?;
+    push_lines(&mut text, "word: ", launch.words.as_slice())?;
     Ok(text)
-}
-
-/// Appends a line for each word; refused only for want of memory.
-fn push_word_lines(text: &mut String, words: &[String]) -> Result<(), AllocError>
-    ensures { OnOk result (string_bytes text.new
-        ≡ string_bytes text.old ++ word_lines (map string_bytes words.now)) }
-{
-    for word in words {
-        writeln!(text, "word: {word}")?;
-    }
-    Ok(())
 }

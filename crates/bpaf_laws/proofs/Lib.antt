@@ -12,7 +12,6 @@ pub mod Sparing
 pub mod Repeating
 pub mod RepeatSparing
 pub mod Bounded
-pub mod Members
 pub mod ChoiceLaws
 pub mod Choosing
 pub mod Leftmost

@@ -2,7 +2,7 @@
 use Rattle.std.specs.Prelude.{◌≡◌, ◌⊎◌, ◌<◌, ℕ, Bool, true, false, ◌&&◌, List, [], ◌∷◌, ◌++◌}
 use Rattle.std.specs.Prelude.{length, Result, Ok, Err, Option, Some, None}
 use Rattle.std.specs.Result.{IsOk}
-use Rattle.bpaf_doc.specs.Shape.{Shape, Shapes, Or, none, ◌then◌, members}
+use Rattle.bpaf_doc.specs.Shape.{Shape, Or, alternatives, members}
 use Rattle.bpaf_line.specs.Messages.{is_memory, is_wrong_input}
 use Rattle.bpaf_line.specs.Combining.{Combines}
 use Rattle.bpaf_line.specs.Conflicts.{IsLeftmost, TakeTheSame, IsWinner, ConflictsSaved}
@@ -119,16 +119,6 @@ ChoiceOutcome first second s (Err e) t =
 -- a reading of one branch
 abbrev pub ChoiceReads : {T : Type 0} → Readings T → Readings T → Readings T
 ChoiceReads first second context share v = first context share v ⊎ second context share v
-
--- the members of an And or an Or, as a list
-abbrev pub shapes_of : Shapes → List Shape
-shapes_of none = []
-shapes_of (shape then rest) = shape ∷ shapes_of rest
-
--- what a shape adds to a choice: the members of an Or, and else itself
-abbrev pub alternatives : Shape → List Shape
-alternatives (Or all) = shapes_of all
-alternatives shape = shape ∷ []
 
 -- the choice of two shapes
 abbrev pub either_shape : Shape → Shape → Shape

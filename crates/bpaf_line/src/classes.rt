@@ -1,6 +1,7 @@
 //! The classes of a line's names, by which its places are chained.
-ghost use Rattle.std.specs.Prelude.{◌≡◌, ◌+◌, ◌-◌, ◌*◌, ◌<◌, ◌≤◌, [], ◌∷◌, IfOk, OnOk, IsSome, length};
-ghost use Rattle.std.specs.Prelude.{map, drop, take, min, slice_index, slice_get, ◌≢◌, Some, IfSome};
+ghost use Rattle.std.specs.Prelude.{◌≡◌, ◌≢◌, ◌+◌, ◌-◌, ◌*◌, ◌<◌, ◌≤◌, [], ◌∷◌, IfOk, IfSome};
+ghost use Rattle.std.specs.Prelude.{OnOk, IsSome, Some, length, map, drop, take, min, slice_index};
+ghost use Rattle.std.specs.Prelude.{slice_get};
 ghost use Rattle.std.specs.Prelude.{◌^◌};
 ghost use Rattle.std.specs.BTreeMap.{is_at};
 ghost use Rattle.std.specs.Map.{lookup};
@@ -37,8 +38,8 @@ pub(crate) struct NameClasses {
     others: BTreeMap<String, usize>,
 }
 
-/// Who owns the class of a number, for a name: a place with this name, no place, or one with another
-/// name.
+/// Who owns the class of a number, for a name: a place with this name, no place, or one with
+/// another name.
 #[derive(Clone, Copy)]
 enum Slot {
     Own(usize),
@@ -153,9 +154,9 @@ impl NameClasses {
         })
     }
 
-    /// The class of a place's item, of so many: the class that it has, or one of its numbers', which
-    /// the place owns now. None, and nothing changes, where it has no class, and all of its numbers'
-    /// have owners.
+    /// The class of a place's item, of so many: the class that it has, or one of its numbers',
+    /// which the place owns now. None, and nothing changes, where it has no class, and all of its
+    /// numbers' have owners.
     #[inline(always)]
     fn class_or_own(
         &mut self,
@@ -169,7 +170,8 @@ impl NameClasses {
         requires at { slice_get items.now place ≡ Some item.now }
         ensures owners { length self.new.owners ≡ length self.old.owners }
         ensures kept { KeepsKnown items.now count self.old self.new }
-        ensures class { IfSome result (λ class. class ≡ class_in items.now self.new count item.now) }
+        ensures class { IfSome result (λ class.
+            class ≡ class_in items.now self.new count item.now) }
         ensures known { IfSome result (λ class. class ≢ count - 1) }
     {
         let class = self.class_of(items, item, count);
@@ -180,8 +182,8 @@ impl NameClasses {
     }
 
     /// Makes a place the owner of the first class of its long name's numbers, which this is; None,
-    /// and nothing changes, where each has an owner, or the item has no long name. It is called once
-    /// for a name, so it stays out of the loop.
+    /// and nothing changes, where each has an owner, or the item has no long name. It is called
+    /// once for a name, so it stays out of the loop.
     #[inline(never)]
     fn own(&mut self, items: &[Arg], place: usize, item: &Arg) -> Option<usize>
         requires { slice_get items.now place ≡ Some item.now }

@@ -26,7 +26,7 @@ use std::marker::Model;
 /// where no version is set.
 ///
 /// It is a parser too, of what a run may be asked for beside its value.
-#[derive(Debug, Drop)]
+#[derive(Debug)]
 pub struct Info {
     /// The version; where none is set its key isn't looked for.
     pub version: Option<Doc>,
@@ -48,6 +48,24 @@ pub struct Info {
     pub max_width: usize,
     /// Whether a negative number is a word: one of `-` and digits alone.
     pub numbers: bool,
+}
+
+/// One call, so that a function that drops options isn't checked for each way to keep these.
+impl Drop for Info {
+    fn drop(self) {
+        let Info {
+            version: _version,
+            descr: _descr,
+            header: _header,
+            footer: _footer,
+            usage: _usage,
+            help_arg: _help_arg,
+            version_arg: _version_arg,
+            help_if_no_args: _,
+            max_width: _,
+            numbers: _,
+        } = self;
+    }
 }
 
 impl Model for Info {
@@ -150,10 +168,7 @@ fn both_metas(alloc: Global, first: Meta, second: Meta) -> Result<Meta, AllocErr
     ensures { IfOk result (λ meta.
         shape_of meta ≡ And (members (shape_of first ∷ shape_of second ∷ []))) }
 {
-    let mut all = Vec::new(alloc);
-    all.push(first)?;
-    all.push(second)?;
-    Ok(Meta::And(all))
+    Ok(Meta::And(vec![in alloc; first, second]?))
 }
 
 /// The text of a version, as a run shows it; or want of memory for that.
@@ -313,11 +328,25 @@ impl Info {
     pub fn keys_meta(&self, alloc: Global) -> Result<Meta, AllocError>
         ensures { IfOk result (λ meta. shape_of meta ≡ extra_shape self.now) }
     {
-        let help = key_meta(alloc, &self.help_key(alloc)?)?;
+        let help = self.help_meta(alloc)?;
         match &self.version {
-            Some(_) => both_metas(alloc, help, key_meta(alloc, &self.version_key(alloc)?)?),
+            Some(_) => both_metas(alloc, help, self.version_meta(alloc)?),
             None => Ok(help),
         }
+    }
+
+    /// What is shown of the key for help; refused only for want of memory.
+    fn help_meta(&self, alloc: Global) -> Result<Meta, AllocError>
+        ensures { IfOk result (λ meta. shape_of meta ≡ key_shape self.now.help_arg) }
+    {
+        key_meta(alloc, &self.help_key(alloc)?)
+    }
+
+    /// What is shown of the key for the version; refused only for want of memory.
+    fn version_meta(&self, alloc: Global) -> Result<Meta, AllocError>
+        ensures { IfOk result (λ meta. shape_of meta ≡ key_shape self.now.version_arg) }
+    {
+        key_meta(alloc, &self.version_key(alloc)?)
     }
 }
 

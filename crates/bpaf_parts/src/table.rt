@@ -3,7 +3,7 @@ ghost use Rattle.std.specs.Prelude.{◌≡◌, ◌⊎◌, IfOk, OnErr, Ok, map};
 ghost use Rattle.bpaf_doc.specs.Shape.{shape_of};
 ghost use Rattle.bpaf_line.specs.Marks.{Fits, CanRedo, undone, redone};
 ghost use Rattle.bpaf_laws.specs.Choice.{Chosen, BothOk, ValueOfWinner, OneOk, IsWant, is_want};
-ghost use Rattle.bpaf_laws.specs.Choice.{alternatives, branch_of, either_shape};
+ghost use Rattle.bpaf_laws.specs.Choice.{branch_of, either_shape};
 ghost use Rattle.bpaf_parts.specs.Branches.{IsStart, IsBranch, start_of, end_of};
 
 use crate::branch::{Branch, Start, resume};
@@ -169,20 +169,6 @@ fn value_of_winner<T: Drop>(
     Ok(x)
 }
 
-/// What a shape adds to a choice: the members of an Or, and else itself.
-fn alternatives(alloc: Global, meta: Meta) -> Result<Vec<Meta>, AllocError>
-    ensures { IfOk result (λ all. map shape_of all.items ≡ alternatives (shape_of meta)) }
-{
-    match meta {
-        Meta::Or(all) => Ok(all),
-        other => {
-            let mut all = Vec::new(alloc);
-            all.push(other)?;
-            Ok(all)
-        }
-    }
-}
-
 /// What a choice of two shows: a member that is an Or itself is opened into it (bpaf's `Meta::or`,
 /// in `meta.rs`). Refused only for want of memory.
 ///
@@ -191,8 +177,8 @@ pub fn or_meta(alloc: Global, first: Meta, second: Meta) -> Result<Meta, AllocEr
     ensures { IfOk result (λ meta.
         shape_of meta ≡ either_shape (shape_of first) (shape_of second)) }
 {
-    let mut all = alternatives(alloc, first)?;
-    let mut others = alternatives(alloc, second)?;
+    let mut all = first.alternatives(alloc)?;
+    let mut others = second.alternatives(alloc)?;
     all.append(&mut others)?;
     Ok(Meta::Or(all))
 }

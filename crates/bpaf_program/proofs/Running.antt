@@ -38,6 +38,15 @@ refusal_answers answers asked help (Stdout doc full) is = help doc full is
 refusal_answers answers asked help (Stderr doc) is = tt
 refusal_answers answers asked help Memory is = tt
 
+-- each refusal that a step hands on does, where every page does
+pub page_answers : {F : ParseFailure → Type 0} (answers : List ℕ → Type 0)
+    → ((doc : List Piece) (full : Bool) → answers (printed full doc))
+    → (r : Result (String Global) ParseFailure) → IsErr r × IsErrAnd r F → AnswersText answers r
+page_answers answers page (Ok text) is = let no = is.0 in absurd cc
+page_answers answers page (Err (Stdout doc full)) is = page doc full
+page_answers answers page (Err (Stderr doc)) is = tt
+page_answers answers page (Err Memory) is = tt
+
 module _ (answers : List ℕ → Type 0) (out out_after err err_after : Option (List ℕ)) where
   -- the status of what is told is 0 or 1
   told_by : (f : ParseFailure) (status : ℕ) → IsTold out out_after err err_after f status

@@ -10,6 +10,7 @@
 //! - [`end`] does so with the answer of any run, and [`print`] prints the text of an answer and
 //!   gives the status (`IsPrinted`). [`write_text`] writes a text of which, where a write fails, a
 //!   beginning stands there and nothing behind it.
+//! - [`push_lines`] appends a line for each of some texts.
 //! - [`words`] are the words of the process.
 //!
 //! ```text
@@ -27,11 +28,13 @@
 #![tactic(auto)]
 
 mod ending;
+mod lines;
 mod options;
 mod process;
 mod writing;
 
 pub use ending::{end, print};
+pub use lines::push_lines;
 pub use options::{Program, run_record};
 pub use process::words;
 pub use writing::write_text;

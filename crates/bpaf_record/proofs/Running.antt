@@ -20,7 +20,7 @@ use Rattle.bpaf_parts.specs.Info.{RunInfo}
 use Rattle.bpaf_core.specs.Known.{IsLineContext}
 use Rattle.bpaf_core.specs.Run.{Runs, value, leftover, refused, ran, no_line as none_there}
 use Rattle.bpaf_core.specs.Run.{no_memory as wanted}
-use Rattle.bpaf_exact.specs.Flat.{FieldsLaw, FieldsReading}
+use Rattle.bpaf_exact.specs.Flat.{FieldKind, FieldsLaw, FieldsReading}
 use Rattle.bpaf_exact.specs.Pieces.{Cut, Roles}
 use Rattle.bpaf_exact.specs.Record.{RunRan, run_value, run_leftover, run_memory, run_refusal}
 use Rattle.bpaf_exact.specs.Record.{IsNoValue}
@@ -31,9 +31,12 @@ use Rattle.bpaf_exact.proofs.Classes.{memory_class, not_memory}
 use Rattle.bpaf_exact.proofs.Accepted.{cut_holds_together}
 use Rattle.bpaf_exact.proofs.Exact.{runs_exactly}
 use Rattle.bpaf_exact.proofs.FlatForm.{record_law}
+use Rattle.bpaf_exact.proofs.Says.{record_says}
 use Rattle.bpaf_exact.specs.SameParts.{ShowsTheSame}
-use Rattle.bpaf_record.specs.Record.{is_flat_record, answer_of, RunsWordsExactly}
+use Rattle.bpaf_exact.specs.Says.{Said, Says}
+use Rattle.bpaf_record.specs.Record.{is_flat_record, answer_of, AnswersExactly, RunsWordsExactly}
 use Rattle.bpaf_record.specs.Record.{IsValueOf, IsValueOrWant, HasWholeLine, PiecesOf}
+use Rattle.bpaf_record.specs.Record.{SaysOfWords}
 use Rattle.bpaf_record.proofs.OneLine.{never_without, one_context}
 
 -- an open place is counted
@@ -188,3 +191,14 @@ module _ (T : Type 0) (outcome : Outcome T) (describes : Shape → Type 0) (info
 pub is_flat_form : {T : Type 0} (form : FlatForm T) (names : List Names) (info : RunInfo)
     → is_flat_record form names info ≡ true → is_record form ≡ true
 is_flat_form form names info e = (and_parts (is_record form) _ e).0
+
+-- a value of an exact answer says what its parser says
+pub says_of_words : {T : Type 0} {describes : Shape → Type 0} {info : RunInfo} {form : FlatForm T}
+    {kind : FieldKind} {said : Said T} → Says form kind said → {given : Given}
+    (r : Result T ParseFailure)
+    → AnswersExactly T describes info form given r
+    → IfOk r (SaysOfWords describes info form said given)
+says_of_words {form = form} says (Ok v) exact =
+    let value = exact.sound.is_value in
+    record { is_value = value; told = record_says form says value.read.cut_into v value.read.read }
+says_of_words says (Err f) exact = tt

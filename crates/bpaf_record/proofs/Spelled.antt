@@ -1,7 +1,7 @@
 -- A key that stands on the line of words is spelled by one of those before the first `--`.
 use Rattle.std.proofs.Common.{◌≡◌, ℕ, zero, suc, Bool, true, false, List, [], ◌∷◌, ◌++◌, Option}
 use Rattle.std.proofs.Common.{Some, None, length, codes, map, refl, sym, ap, ◌∙◌, subst, arith}
-use Rattle.std.proofs.Common.{if◌then◌else◌, ⊎_elim, slice_get}
+use Rattle.std.proofs.Common.{if◌then◌else◌, ⊎_elim, slice_get, ◌||◌}
 use Rattle.std.specs.Prelude.{flat_map}
 use Rattle.std.specs.List.{AllZip, Contains, AllByRecursion}
 use Rattle.bpaf_doc.specs.Names.{Names}
@@ -19,9 +19,12 @@ use Rattle.bpaf_core.specs.Known.{IsLineContext, known_names}
 use Rattle.bpaf.specs.Marker.{words_before}
 use Rattle.bpaf.proofs.Sides.{each_at, each_append, each_then, before_with_marker}
 use Rattle.bpaf.proofs.Sides.{before_without_marker}
-use Rattle.bpaf_exact.specs.Fields.{keys_on}
 use Rattle.bpaf_exact.specs.Flat.{first_cells}
+use Rattle.bpaf_exact.specs.Pieces.{Cells, Roles, LinePiece, Cut, at_end, passed, flag, argument}
+use Rattle.bpaf_exact.specs.Pieces.{One, Two}
+use Rattle.bpaf_exact.specs.Pieces as piece
 use Rattle.bpaf_exact.specs.Record.{line_cells}
+use Rattle.bpaf_exact.specs.Says.{keyed}
 use Rattle.bpaf_record.specs.Spelled.{SpellsKey, IsSpelled, WasSpelled}
 
 -- each item of a list is in it
@@ -32,6 +35,69 @@ each_itself (x ∷ xs) = (
   each_then (Contains xs) (Contains (x ∷ xs)) xs
       (λ y there. (suc there.0, omega arith, there.2)) (each_itself xs),
 )
+
+-- the keys with one of these names that stand on a line, in line order
+abbrev keys_on : Names → Cells → List Arg
+keys_on names [] = []
+keys_on names (None ∷ cs) = keys_on names cs
+keys_on names (Some k ∷ cs) = if is_key_of names k then (k ∷ keys_on names cs) else keys_on names cs
+
+-- there is one
+record HasKey (names : Names) (cs : Cells) : Type 0 where
+  key : Arg
+  more : List Arg
+  keys : keys_on names cs ≡ key ∷ more
+
+-- one more item takes none away
+one_more : (names : Names) (k : Arg) (cs : Cells) → HasKey names cs → HasKey names (Some k ∷ cs)
+one_more names k cs h = by_key (is_key_of names k) refl
+  where
+    by_key : (b : Bool) → is_key_of names k ≡ b → HasKey names (Some k ∷ cs)
+    by_key true e = record {
+      key = k;
+      more = keys_on names cs;
+      keys = ap (λ c. if c then (k ∷ keys_on names cs) else keys_on names cs) e;
+    }
+    by_key false e = record {
+      key = h.key;
+      more = h.more;
+      keys = ap (λ c. if c then (k ∷ keys_on names cs) else keys_on names cs) e ∙ h.keys;
+    }
+
+-- it is the first item of a piece, or one behind it
+by_test : (names : Names) (k : Arg) (cs : Cells) (piece : LinePiece) (os : List LinePiece)
+    (o : LinePiece) (more : List LinePiece)
+    → (if is_key_of names k || false then (piece ∷ keyed (names ∷ []) os) else
+    keyed (names ∷ []) os)
+    ≡ o ∷ more
+    → (keyed (names ∷ []) os ≡ o ∷ more → HasKey names cs) → HasKey names (Some k ∷ cs)
+by_test names k cs piece os o more e later = by_key (is_key_of names k) refl e
+  where
+    by_key : (b : Bool) → is_key_of names k ≡ b
+        → (if b || false then (piece ∷ keyed (names ∷ []) os) else keyed (names ∷ []) os)
+        ≡ o ∷ more
+        → HasKey names (Some k ∷ cs)
+    by_key true is f = record {
+      key = k;
+      more = keys_on names cs;
+      keys = ap (λ c. if c then (k ∷ keys_on names cs) else keys_on names cs) is;
+    }
+    by_key false is f = one_more names k cs (later f)
+
+-- a piece that begins with such a key has its key on the line
+cut_key : (r : Roles) (names : Names) {cs : Cells} {os : List LinePiece} → Cut r cs os
+    → (o : LinePiece) (more : List LinePiece) → keyed (names ∷ []) os ≡ o ∷ more → HasKey names cs
+cut_key r names at_end o more e = absurd cc
+cut_key r names (passed {cs = cs} c) o more e =
+    let there = cut_key r names c o more e in
+    record { key = there.key; more = there.more; keys = there.keys }
+cut_key r names (flag {k = k} {cs = cs} {os = os} is c) o more e =
+    by_test names k cs (One k) os o more e (cut_key r names c o more)
+cut_key r names (argument {k = k} {w = w} {cs = cs} {os = os} is v c) o more e =
+    by_test names k (Some w ∷ cs) (Two k w) os o more e
+    (λ f. one_more names w cs (cut_key r names c o more f))
+cut_key r names (piece.word {w = w} {cs = cs} {os = os} is c) o more e =
+    by_test names w cs (One w) os o more e (cut_key r names c o more)
 
 module _ (known : Known) (names : Names) where
   -- an item that, if it is such a key, is spelled by one of these words
@@ -131,7 +197,7 @@ module _ (known : Known) (names : Names) where
       by_test false at e = e
 
   -- A key that stands on the line of words is spelled by one of those before the first `--`.
-  pub key_spelled : (given : Given) (context : Context) → IsContext known given context
+  key_spelled : (given : Given) (context : Context) → IsContext known given context
       → (k : Arg) (ks : List Arg) → keys_on names (line_cells context) ≡ k ∷ ks
       → IsSpelled known names given.words
   key_spelled given context is k ks e =
@@ -142,7 +208,7 @@ module _ (known : Known) (names : Names) where
       record { word = by.0; before = by.1; spells = by.2 }
 
 -- So it is on the line by which a run reads the words.
-pub key_was_spelled : {describes : Shape → Type 0} (info : RunInfo) (given : Given)
+key_was_spelled : {describes : Shape → Type 0} (info : RunInfo) (given : Given)
     (context : Context) → IsLineContext describes info given context → (names : Names) (k : Arg)
     (ks : List Arg) → keys_on names (line_cells context) ≡ k ∷ ks → WasSpelled names given.words
 key_was_spelled info given context is names k ks e = ⊎_elim
@@ -153,3 +219,13 @@ key_was_spelled info given context is names k ks e = ⊎_elim
     (λ any. let nothing : Known = known_at info.numbers (record { flags = []; arguments = [] }) in
     (nothing, key_spelled nothing names given context (any nothing.names) k ks e))
     is
+
+-- A piece that begins with such a key is spelled by one of the words before the first `--`.
+pub piece_was_spelled : {describes : Shape → Type 0} (info : RunInfo) (given : Given)
+    (context : Context) → IsLineContext describes info given context → (r : Roles) (names : Names)
+    (os : List LinePiece) → Cut r (line_cells context) os → (o : LinePiece) (more : List LinePiece)
+    → keyed (names ∷ []) os ≡ o ∷ more
+    → WasSpelled names given.words
+piece_was_spelled info given context is r names os cut o more e =
+    let there = cut_key r names cut o more e in
+    key_was_spelled info given context is names there.key there.more there.keys

@@ -6,10 +6,12 @@ use Rattle.bpaf_line.specs.declared.error.Message.{Message}
 use Rattle.bpaf_line.specs.declared.error.Message.TheVariants.{Memory, Missing, ParseFailed}
 use Rattle.bpaf_line.specs.declared.error.Message.TheVariants.{StrictPos, NonStrictPos}
 use Rattle.bpaf_line.specs.Situation.{Situation}
-use Rattle.bpaf_exact.specs.Flat.{class, class_of}
+use Rattle.bpaf_exact.specs.Flat.{OneWord, class, class_of}
 use Rattle.bpaf_exact.specs.Leaves.{word_field, WordEval, word_read, word_fault, word_missing}
 use Rattle.bpaf_exact.specs.Leaves.{word_memory}
 use Rattle.bpaf_exact.specs.FlatForm.{FlatForm, FormLaw, not_flat}
+use Rattle.bpaf_exact.specs.Says.{Says, WordSays}
+use Rattle.bpaf_exact.proofs.Says.{word_says}
 use Rattle.bpaf_exact.proofs.Narrow.{AllowsNoMore, narrower_form}
 use Rattle.bpaf_exact.proofs.Positionals.{word_field_law}
 use Rattle.bpaf.specs.declared.leaves.positional.Position.{Position}
@@ -55,3 +57,10 @@ positional_field_law T means Unrestricted metavar =
     (word_within T means metavar) [] (word_field means) (word_field_law T means)
 positional_field_law T means Strict metavar = tt
 positional_field_law T means NonStrict metavar = tt
+
+-- its value says what its word's text means
+pub positional_says : {T : Type 0} (means : List ℕ → T → Type 0) (position : Position)
+    → Says (positional_field means position) OneWord (WordSays means)
+positional_says means Unrestricted = word_says means
+positional_says means Strict = record { by = tt }
+positional_says means NonStrict = record { by = tt }

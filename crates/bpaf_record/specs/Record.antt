@@ -18,6 +18,7 @@ use Rattle.bpaf_exact.specs.Record.{RunAnswer, Accepted, NoMemory, Refusal, Reco
 use Rattle.bpaf_exact.specs.Record.{line_cells}
 use Rattle.bpaf_exact.specs.FlatForm.{FlatForm, is_record, product_roles, product_reading}
 use Rattle.bpaf_exact.specs.FlatForm.{flat_record}
+use Rattle.bpaf_exact.specs.Says.{Said}
 
 -- a flat record none of whose keys shares a name with those of help and version
 abbrev pub is_flat_record : {T : Type 0} → FlatForm T → List Names → RunInfo → Bool
@@ -40,6 +41,12 @@ pub record IsValueOf {T : Type 0} (describes : Shape → Type 0) (info : RunInfo
   pub on_line : IsLineContext describes info given context
   pub read : RecordValue (product_roles (flat_record form))
       (product_reading (flat_record form)).value context v
+
+-- v is a value of the record on words, and says so of the pieces that their line is cut into
+pub record SaysOfWords {T : Type 0} (describes : Shape → Type 0) (info : RunInfo)
+    (form : FlatForm T) (said : Said T) (given : Given) (v : T) : Type 0 where
+  pub is_value : IsValueOf describes info form given v
+  pub told : said is_value.read.cut_into v
 
 -- v is a value of the record on words whose line, as it is cut for v, holds together
 pub record HasWholeLine {T : Type 0} (describes : Shape → Type 0) (info : RunInfo)

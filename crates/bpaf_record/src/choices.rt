@@ -24,12 +24,19 @@ impl<A: HasKeys, B: HasKeys> HasKeys for ParseOrElse<A, B> {
 
 /// Of required flags and arguments alone, whose names are apart.
 impl<T: Drop, A: FlatField<T>, B: FlatField<T>> FlatField<T> for ParseOrElse<A, B> {
+    ghost use Rattle.bpaf_exact.specs.Flat.{ByName};
+    ghost use Rattle.bpaf_exact.specs.Says.{EitherSays};
+    ghost use Rattle.bpaf_exact.proofs.Says.{choice_says};
     ghost use Rattle.bpaf_exact.specs.FlatForm.{flat_choice};
     ghost use Rattle.bpaf_exact.proofs.FlatForm.{flat_choice_law};
     ghost use Rattle.bpaf_exact.proofs.SameParts.{choice_shows};
 
     ghost flat_form = { λ p.
         flat_choice (A.keys p.this) (B.keys p.that) (A.flat_form p.this) (B.flat_form p.that) };
+
+    ghost kind = { λ p. ByName };
+
+    ghost says = { λ p. EitherSays (A.says p.this) (B.says p.that) };
 
     ghost agrees = { λ p. A.agrees p.this × B.agrees p.that };
 
@@ -44,6 +51,9 @@ impl<T: Drop, A: FlatField<T>, B: FlatField<T>> FlatField<T> for ParseOrElse<A, 
         (A.flat p.this a.0) (B.flat p.that a.1) };
 
     ghost shows = { λ p. choice_shows (A.shows p.this) (B.shows p.that) };
+
+    ghost said = { λ p a. choice_says (A.keys p.this) (B.keys p.that)
+        (A.said p.this a.0) (B.said p.that a.1) };
 }
 
 /// Whether each key of each of these parsers passes a test.
@@ -96,11 +106,18 @@ impl<P: HasKeys> HasKeys for ParseChoice<P> {
 
 /// Of required flags and arguments alone, whose names are apart; a choice of none isn't flat.
 impl<T: Drop, P: FlatField<T> + Drop> FlatField<T> for ParseChoice<P> {
+    ghost use Rattle.bpaf_exact.specs.Flat.{ByName};
+    ghost use Rattle.bpaf_exact.specs.Says.{OneOfSays};
+    ghost use Rattle.bpaf_exact.proofs.Says.{choices_says};
     ghost use Rattle.bpaf_exact.specs.FlatForm.{EachAgrees};
     ghost use Rattle.bpaf_exact.proofs.FlatForm.{flat_choices_law};
     ghost use Rattle.bpaf_exact.proofs.SameParts.{choices_show};
 
     ghost flat_form = { λ p. flat_choices P.keys P.flat_form p.parsers.items };
+
+    ghost kind = { λ p. ByName };
+
+    ghost says = { λ p. OneOfSays P.says p.parsers.items };
 
     ghost agrees = { λ p. EachAgrees P.agrees p.parsers.items };
 
@@ -112,4 +129,7 @@ impl<T: Drop, P: FlatField<T> + Drop> FlatField<T> for ParseChoice<P> {
         p.parsers.items a };
 
     ghost shows = { λ p. choices_show P.describes P.shows p.parsers.items };
+
+    ghost said = { λ p a. choices_says P.keys P.flat_form P.kind P.says P.agrees P.said
+        p.parsers.items a };
 }

@@ -17,12 +17,18 @@ impl<T, R, P: HasKeys, F> HasKeys for ParseMap<T, P, F, R> {
 
 /// A closure that never refuses needs no premise.
 impl<T: Drop, R: Drop, P: FlatField<T>, F: Fn(T) -> R> FlatField<R> for ParseMap<T, P, F, R> {
+    ghost use Rattle.bpaf_exact.specs.Says.{MadeSays};
+    ghost use Rattle.bpaf_exact.proofs.Says.{closed_says};
     ghost use Rattle.bpaf_exact.specs.FlatForm.{flat_closed};
     ghost use Rattle.bpaf_exact.specs.Wrappers.{map_closure};
     ghost use Rattle.bpaf_exact.proofs.Twins.{map_field_law};
 
     ghost flat_form = { λ p.
         flat_closed (map_closure (λ x y. F.post p.map_fn x y)) (P.flat_form p.inner) };
+
+    ghost kind = { λ p. P.kind p.inner };
+
+    ghost says = { λ p. MadeSays (P.says p.inner) (map_closure (λ x y. F.post p.map_fn x y)) };
 
     ghost agrees = { λ p. P.agrees p.inner };
 
@@ -35,6 +41,8 @@ impl<T: Drop, R: Drop, P: FlatField<T>, F: Fn(T) -> R> FlatField<R> for ParseMap
         (P.keys p.inner) (P.flat_form p.inner) (P.flat p.inner a) };
 
     ghost shows = { λ p. P.shows p.inner };
+
+    ghost said = { λ p a. closed_says (map_closure (λ x y. F.post p.map_fn x y)) (P.said p.inner a) };
 }
 
 impl<T, P: HasKeys, F, E, R> HasKeys for ParseWith<T, P, F, E, R> {
@@ -48,12 +56,18 @@ impl<T, P: HasKeys, F, E, R> HasKeys for ParseWith<T, P, F, E, R> {
 /// Whether the closure accepts has to depend on the pieces alone.
 impl<T: Drop, R: Drop, E: Display + Drop, P: FlatField<T>, F: Fn(T) -> Result<R, E>> FlatField<R>
     for ParseWith<T, P, F, E, R> {
+    ghost use Rattle.bpaf_exact.specs.Says.{MadeSays};
+    ghost use Rattle.bpaf_exact.proofs.Says.{closed_says};
     ghost use Rattle.bpaf_exact.specs.FlatForm.{Agrees, flat_closed};
     ghost use Rattle.bpaf_exact.specs.Wrappers.{parse_closure};
     ghost use Rattle.bpaf_exact.proofs.Twins.{parse_field_law};
 
     ghost flat_form = { λ p.
         flat_closed (parse_closure (λ x y. F.post p.parse_fn x y)) (P.flat_form p.inner) };
+
+    ghost kind = { λ p. P.kind p.inner };
+
+    ghost says = { λ p. MadeSays (P.says p.inner) (parse_closure (λ x y. F.post p.parse_fn x y)) };
 
     ghost agrees = { λ p. P.agrees p.inner
         × Agrees (parse_closure (λ x y. F.post p.parse_fn x y)) (P.flat_form p.inner) };
@@ -67,6 +81,8 @@ impl<T: Drop, R: Drop, E: Display + Drop, P: FlatField<T>, F: Fn(T) -> Result<R,
         E.output (P.keys p.inner) (P.flat_form p.inner) a.1 (P.flat p.inner a.0) };
 
     ghost shows = { λ p. P.shows p.inner };
+
+    ghost said = { λ p a. closed_says (parse_closure (λ x y. F.post p.parse_fn x y)) (P.said p.inner a.0) };
 }
 
 impl<'m, P: HasKeys, F> HasKeys for ParseGuard<'m, P, F> {
@@ -79,6 +95,8 @@ impl<'m, P: HasKeys, F> HasKeys for ParseGuard<'m, P, F> {
 
 /// Whether the check is true has to depend on the pieces alone.
 impl<'m, T: Drop, P: FlatField<T>, F: Fn(&T) -> bool> FlatField<T> for ParseGuard<'m, P, F> {
+    ghost use Rattle.bpaf_exact.specs.Says.{MadeSays};
+    ghost use Rattle.bpaf_exact.proofs.Says.{closed_says};
     ghost use Rattle.std.specs.Fn.{FnReturnsAt};
     ghost use Rattle.bpaf_exact.specs.FlatForm.{Agrees, flat_closed};
     ghost use Rattle.bpaf_exact.specs.Wrappers.{guard_closure};
@@ -86,6 +104,10 @@ impl<'m, T: Drop, P: FlatField<T>, F: Fn(&T) -> bool> FlatField<T> for ParseGuar
 
     ghost flat_form = { λ p.
         flat_closed (guard_closure (FnReturnsAt F.Fn p.check)) (P.flat_form p.inner) };
+
+    ghost kind = { λ p. P.kind p.inner };
+
+    ghost says = { λ p. MadeSays (P.says p.inner) (guard_closure (FnReturnsAt F.Fn p.check)) };
 
     ghost agrees = { λ p. P.agrees p.inner
         × Agrees (guard_closure (FnReturnsAt F.Fn p.check)) (P.flat_form p.inner) };
@@ -99,4 +121,6 @@ impl<'m, T: Drop, P: FlatField<T>, F: Fn(&T) -> bool> FlatField<T> for ParseGuar
         p.message.now (P.keys p.inner) (P.flat_form p.inner) a.1 (P.flat p.inner a.0) };
 
     ghost shows = { λ p. P.shows p.inner };
+
+    ghost said = { λ p a. closed_says (guard_closure (FnReturnsAt F.Fn p.check)) (P.said p.inner a.0) };
 }

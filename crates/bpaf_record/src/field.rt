@@ -8,11 +8,19 @@ use bpaf::{Fields, Parser};
 /// A parser that may be a field of a flat record, or a flat record itself.
 pub trait FlatField<T>: Parser<T> + HasKeys {
     ghost use Rattle.bpaf_exact.specs.SameParts.{ShowsTheSame};
+    ghost use Rattle.bpaf_exact.specs.Flat.{FieldKind};
     ghost use Rattle.bpaf_exact.specs.FlatForm.{FlatForm, FormLaw};
+    ghost use Rattle.bpaf_exact.specs.Says.{Said, Says};
     ghost use Rattle.bpaf_record.specs.Form.{form_of};
 
     /// What it is to a flat record, and how it reads its pieces.
     ghost flat_form: { Self → FlatForm T };
+
+    /// Whether its pieces are keys or words, and how many of the words it takes.
+    ghost kind: { Self → FieldKind };
+
+    /// What its value says of the pieces that are its own, or of all where it is a record.
+    ghost says: { Self → Said T };
 
     /// The premise of exactness: whether its closures accept depends on the pieces alone.
     ghost agrees: { Self → Type 0 };
@@ -27,16 +35,23 @@ pub trait FlatField<T>: Parser<T> + HasKeys {
 
     /// It shows the same parts, whichever shape it shows, so that words have one line.
     ghost shows: { (p : Self) → ShowsTheSame (Self.Parser.describes p) };
+
+    /// Its value says so of the pieces that it is read off.
+    ghost said: { (p : Self) → agrees p → Says (flat_form p) (kind p) (says p) };
 }
 
 /// The fields of a flat record.
 pub trait FlatFields<V>: Fields<V> + HasKeys {
     ghost use Rattle.bpaf_exact.specs.SameParts.{FieldsShowTheSame};
     ghost use Rattle.bpaf_exact.specs.FlatForm.{FlatForm, FormLaw};
+    ghost use Rattle.bpaf_exact.specs.Says.{FieldsSaid, FieldsSay};
     ghost use Rattle.bpaf_record.specs.Form.{form_of};
 
     /// What they are to a flat record, and how they share out the pieces.
     ghost flat_form: { Self → FlatForm V };
+
+    /// What their values say of the pieces of a line, and of the words that are left to them.
+    ghost says: { Self → FieldsSaid V };
 
     /// The premise of exactness, for each of them.
     ghost agrees: { Self → Type 0 };
@@ -51,4 +66,7 @@ pub trait FlatFields<V>: Fields<V> + HasKeys {
 
     /// They show the same parts, whichever shapes they show.
     ghost shows: { (p : Self) → FieldsShowTheSame (Self.Fields.describes p) };
+
+    /// Their values say so.
+    ghost said: { (p : Self) → agrees p → FieldsSay (flat_form p) (says p) };
 }

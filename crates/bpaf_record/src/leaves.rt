@@ -20,12 +20,19 @@ impl<T> HasKeys for ParseFlag<T> {
 
 /// With a name in the environment it is no flat field.
 impl<T: Clone + Drop> FlatField<T> for ParseFlag<T> {
+    ghost use Rattle.bpaf_exact.specs.Flat.{ByName};
+    ghost use Rattle.bpaf_exact.specs.Says.{FlagSays};
+    ghost use Rattle.bpaf_exact.proofs.Says.{flag_says};
     ghost use Rattle.bpaf_exact.specs.Leaves.{flag_field};
     ghost use Rattle.bpaf_exact.proofs.Flags.{flag_field_law};
     ghost use Rattle.bpaf_exact.proofs.SameParts.{one_shape};
     ghost use Rattle.bpaf_laws.specs.Flag.{flag_shape};
 
     ghost flat_form = { λ p. flag_field T.is_clone p.named p.present p.absent };
+
+    ghost kind = { λ p. ByName };
+
+    ghost says = { λ p. FlagSays T.is_clone p.present p.absent };
 
     ghost agrees = { λ p. Unit {0} };
 
@@ -40,6 +47,8 @@ impl<T: Clone + Drop> FlatField<T> for ParseFlag<T> {
     ghost flat = { λ p a. flag_field_law T T.is_clone p.named p.present p.absent };
 
     ghost shows = { λ p. one_shape (flag_shape p.named p.absent) };
+
+    ghost said = { λ p a. flag_says T.is_clone p.named p.present p.absent };
 }
 
 impl<T> HasKeys for ParseArgument<T> {
@@ -56,12 +65,19 @@ impl<T> HasKeys for ParseArgument<T> {
 /// With a name in the environment, or with `adjacent`, it is no flat field. With `take_last` it is
 /// a field by itself, and no alternative of a choice.
 impl<T: FromText + Drop> FlatField<T> for ParseArgument<T> {
+    ghost use Rattle.bpaf_exact.specs.Flat.{ByName};
+    ghost use Rattle.bpaf_exact.specs.Says.{ArgumentSays};
+    ghost use Rattle.bpaf_exact.proofs.Says.{argument_says};
     ghost use Rattle.bpaf_exact.specs.Leaves.{argument_field};
     ghost use Rattle.bpaf_exact.proofs.Arguments.{argument_field_law};
     ghost use Rattle.bpaf_exact.proofs.SameParts.{one_shape};
     ghost use Rattle.bpaf_laws.specs.Argument.{argument_shape};
 
     ghost flat_form = { λ p. argument_field T.means p };
+
+    ghost kind = { λ p. ByName };
+
+    ghost says = { λ p. ArgumentSays T.means p.last };
 
     ghost agrees = { λ p. Unit {0} };
 
@@ -76,6 +92,8 @@ impl<T: FromText + Drop> FlatField<T> for ParseArgument<T> {
     ghost flat = { λ p a. argument_field_law T T.means p };
 
     ghost shows = { λ p. one_shape (argument_shape p) };
+
+    ghost said = { λ p a. argument_says T.means p };
 }
 
 /// It has no key.
@@ -91,11 +109,18 @@ impl<T> HasKeys for ParsePositional<T> {
 
 /// With `strict` or `non_strict` it is no flat field.
 impl<T: FromText + Drop> FlatField<T> for ParsePositional<T> {
+    ghost use Rattle.bpaf_exact.specs.Flat.{OneWord};
+    ghost use Rattle.bpaf_exact.specs.Says.{WordSays};
+    ghost use Rattle.bpaf_record.specs.Positional.{positional_says};
     ghost use Rattle.bpaf_record.specs.Positional.{positional_field, positional_field_law};
     ghost use Rattle.bpaf_exact.proofs.SameParts.{one_shape};
     ghost use Rattle.bpaf.specs.Positional.{positional_shape};
 
     ghost flat_form = { λ p. positional_field T.means p.position };
+
+    ghost kind = { λ p. OneWord };
+
+    ghost says = { λ p. WordSays T.means };
 
     ghost agrees = { λ p. Unit {0} };
 
@@ -109,4 +134,6 @@ impl<T: FromText + Drop> FlatField<T> for ParsePositional<T> {
     ghost flat = { λ p a. positional_field_law T T.means p.position p.metavar.0.now };
 
     ghost shows = { λ p. one_shape (positional_shape p.position p.metavar.0.now p.help) };
+
+    ghost said = { λ p a. positional_says T.means p.position };
 }

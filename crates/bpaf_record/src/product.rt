@@ -16,11 +16,16 @@ impl<A: HasKeys> HasKeys for Last<A> {
 }
 
 impl<T: Drop, A: FlatField<T>> FlatFields<T> for Last<A> {
+    ghost use Rattle.bpaf_exact.specs.Says.{its_pieces};
+    ghost use Rattle.bpaf_exact.proofs.Says.{alone_says, field_owned, field_says};
     ghost use Rattle.bpaf_exact.specs.FlatForm.{flat_alone, flat_field};
     ghost use Rattle.bpaf_exact.proofs.FlatForm.{flat_alone_law, flat_field_law};
     ghost use Rattle.bpaf_exact.proofs.SameParts.{last_shows};
 
     ghost flat_form = { λ p. flat_alone (flat_field (A.flat_form p.last)) };
+
+    ghost says = { λ p os words v.
+        A.says p.last (its_pieces (A.kind p.last) (A.keys p.last) os words) v };
 
     ghost agrees = { λ p. A.agrees p.last };
 
@@ -35,6 +40,10 @@ impl<T: Drop, A: FlatField<T>> FlatFields<T> for Last<A> {
         (A.flat p.last a)) };
 
     ghost shows = { λ p. last_shows (A.shows p.last) };
+
+    ghost said = { λ p a. alone_says
+        (field_owned (A.outcome p.last) (A.keys p.last) (A.flat_form p.last) (A.flat p.last a))
+        (field_says (A.said p.last a)) };
 }
 
 impl<A: HasKeys, R: HasKeys> HasKeys for Both<A, R> {
@@ -52,6 +61,8 @@ impl<A: HasKeys, R: HasKeys> HasKeys for Both<A, R> {
 
 /// Where a named field stands behind a positional one, or two share a name, they aren't flat.
 impl<T: Drop, V: Drop, A: FlatField<T>, R: FlatFields<V>> FlatFields<(T, V)> for Both<A, R> {
+    ghost use Rattle.bpaf_exact.specs.Says.{its_pieces, words_after};
+    ghost use Rattle.bpaf_exact.proofs.Says.{both_say, field_owned, field_says, owned};
     ghost use Rattle.bpaf_exact.specs.FlatForm.{flat_both, flat_field};
     ghost use Rattle.bpaf_exact.proofs.FlatForm.{flat_both_law, flat_field_law};
     ghost use Rattle.bpaf_exact.proofs.SameParts.{both_show};
@@ -59,6 +70,10 @@ impl<T: Drop, V: Drop, A: FlatField<T>, R: FlatFields<V>> FlatFields<(T, V)> for
     ghost flat_form = { λ p.
         flat_both (A.keys p.first) (R.keys p.rest) (flat_field (A.flat_form p.first))
         (R.flat_form p.rest) };
+
+    ghost says = { λ p os words v.
+        A.says p.first (its_pieces (A.kind p.first) (A.keys p.first) os words) v.0
+        × R.says p.rest os (words_after (A.kind p.first) words) v.1 };
 
     ghost agrees = { λ p. A.agrees p.first × R.agrees p.rest };
 
@@ -76,6 +91,12 @@ impl<T: Drop, V: Drop, A: FlatField<T>, R: FlatFields<V>> FlatFields<(T, V)> for
         (A.flat p.first a.0)) (R.flat p.rest a.1) };
 
     ghost shows = { λ p. both_show (A.shows p.first) (R.shows p.rest) };
+
+    ghost said = { λ p a. both_say
+        (field_owned (A.outcome p.first) (A.keys p.first) (A.flat_form p.first)
+        (A.flat p.first a.0))
+        (owned (R.outcome p.rest) (R.keys p.rest) (R.flat_form p.rest) (R.flat p.rest a.1))
+        (field_says (A.said p.first a.0)) (R.said p.rest a.1) };
 }
 
 impl<V, P: HasKeys, F> HasKeys for ParseCon<V, P, F> {
@@ -87,6 +108,9 @@ impl<V, P: HasKeys, F> HasKeys for ParseCon<V, P, F> {
 }
 
 impl<V: Drop, T: Drop, P: FlatFields<V>, F: Fn(V) -> T> FlatField<T> for ParseCon<V, P, F> {
+    ghost use Rattle.bpaf_exact.specs.Flat.{ByName};
+    ghost use Rattle.bpaf_exact.specs.Says.{RecordSays};
+    ghost use Rattle.bpaf_exact.proofs.Says.{con_says, owned};
     ghost use Rattle.bpaf_exact.specs.FlatForm.{flat_con};
     ghost use Rattle.bpaf_exact.specs.Wrappers.{map_closure};
     ghost use Rattle.bpaf_exact.proofs.FlatForm.{flat_con_law};
@@ -94,6 +118,11 @@ impl<V: Drop, T: Drop, P: FlatFields<V>, F: Fn(V) -> T> FlatField<T> for ParseCo
 
     ghost flat_form = { λ p.
         flat_con (map_closure (λ x y. F.post p.make x y)) (P.flat_form p.fields) };
+
+    ghost kind = { λ p. ByName };
+
+    ghost says = { λ p. RecordSays (P.says p.fields) (P.keys p.fields)
+        (map_closure (λ x y. F.post p.make x y)) };
 
     ghost agrees = { λ p. P.agrees p.fields };
 
@@ -106,4 +135,8 @@ impl<V: Drop, T: Drop, P: FlatFields<V>, F: Fn(V) -> T> FlatField<T> for ParseCo
         (P.keys p.fields) (P.flat_form p.fields) (P.flat p.fields a) };
 
     ghost shows = { λ p. product_shows (P.shows p.fields) };
+
+    ghost said = { λ p a. con_says (map_closure (λ x y. F.post p.make x y))
+        (owned (P.outcome p.fields) (P.keys p.fields) (P.flat_form p.fields)
+        (P.flat p.fields a)) (P.said p.fields a) };
 }

@@ -40,6 +40,9 @@ pub trait Record<T> {
     /// Which values are dealt out of words.
     ghost deals: { Self → Given → T → Type 0 };
 
+    /// What a value says of words, field by field.
+    ghost says: { Self → Given → T → Type 0 };
+
     /// What a run may answer to words where the parser wanted no memory.
     ghost answers_spared: { Self → Given → Result T ParseFailure → Type 0 };
 
@@ -76,6 +79,8 @@ pub trait Record<T> {
         ensures dealt { IfOk result (deals self.now (given_of args.entry)) }
         ensures memory_is_never_caught { IsNotWant result →
             answers_spared self.now (given_of args.entry) result }
+        ensures fields { agrees self.now →
+            IfOk result (says self.now (given_of args.entry)) }
         ensures exact { agrees self.now → answers_exactly self.now (given_of args.entry) result }
         ensures each_exact { agrees self.now → (r : Result T ParseFailure)
             → answers self.now (given_of args.entry) r
@@ -109,7 +114,7 @@ fn apart_from_version<P: HasKeys>(parser: &P, info: &Info) -> bool
 }
 
 impl<T: Drop, P: FlatField<T>> Record<T> for OptionParser<T, P> {
-    ghost use Rattle.bpaf_record.specs.Record.{is_flat_record, AnswersExactly};
+    ghost use Rattle.bpaf_record.specs.Record.{is_flat_record, AnswersExactly, SaysOfWords};
     ghost use Rattle.bpaf_core.specs.Dealt.{IsDealtOut};
     ghost use Rattle.bpaf_core.specs.Refusals.{IsOneOfTwelve};
     ghost use Rattle.bpaf_core.specs.Run.{RunsWords};
@@ -140,6 +145,9 @@ impl<T: Drop, P: FlatField<T>> Record<T> for OptionParser<T, P> {
 
     ghost deals = { λ p given.
         IsDealtOut T (P.reads p.inner) (P.describes p.inner) p.info given };
+
+    ghost says = { λ p given.
+        SaysOfWords (P.describes p.inner) p.info (P.flat_form p.inner) (P.says p.inner) given };
 
     ghost answers_exactly = { λ p given.
         AnswersExactly T (P.describes p.inner) p.info (P.flat_form p.inner) given };

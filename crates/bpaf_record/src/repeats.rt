@@ -17,11 +17,19 @@ impl<P: HasKeys> HasKeys for ParseMany<P> {
 
 /// With `catch` it is no flat field, nor round another repeat or a default.
 impl<T: Drop, P: FlatField<T>> FlatField<Vec<T>> for ParseMany<P> {
+    ghost use Rattle.bpaf_exact.specs.Single.{repeated};
+    ghost use Rattle.bpaf_exact.specs.Derived.{list_closure};
+    ghost use Rattle.bpaf_exact.specs.Says.{MadeSays, RepeatSays};
+    ghost use Rattle.bpaf_exact.proofs.Says.{listed_says, unless_says};
     ghost use Rattle.bpaf_exact.specs.FlatForm.{flat_many, unless};
     ghost use Rattle.bpaf_exact.proofs.Twins.{many_field_law};
     ghost use Rattle.bpaf_exact.proofs.SameParts.{many_shows};
 
     ghost flat_form = { λ p. unless p.catch (flat_many (P.flat_form p.inner)) };
+
+    ghost kind = { λ p. repeated (P.kind p.inner) };
+
+    ghost says = { λ p. MadeSays (RepeatSays (P.says p.inner)) (list_closure T) };
 
     ghost agrees = { λ p. P.agrees p.inner };
 
@@ -34,6 +42,8 @@ impl<T: Drop, P: FlatField<T>> FlatField<Vec<T>> for ParseMany<P> {
         (P.flat_form p.inner) (P.flat p.inner a) };
 
     ghost shows = { λ p. many_shows (P.shows p.inner) };
+
+    ghost said = { λ p a. unless_says p.catch (listed_says (list_closure T) (P.said p.inner a)) };
 }
 
 impl<'m, P: HasKeys> HasKeys for ParseSome<'m, P> {
@@ -46,11 +56,19 @@ impl<'m, P: HasKeys> HasKeys for ParseSome<'m, P> {
 
 /// As `many`.
 impl<'m, T: Drop, P: FlatField<T>> FlatField<Vec<T>> for ParseSome<'m, P> {
+    ghost use Rattle.bpaf_exact.specs.Single.{repeated};
+    ghost use Rattle.bpaf_exact.specs.Derived.{some_closure};
+    ghost use Rattle.bpaf_exact.specs.Says.{MadeSays, RepeatSays};
+    ghost use Rattle.bpaf_exact.proofs.Says.{listed_says, unless_says};
     ghost use Rattle.bpaf_exact.specs.FlatForm.{flat_some, unless};
     ghost use Rattle.bpaf_exact.proofs.Twins.{some_field_law};
     ghost use Rattle.bpaf_exact.proofs.SameParts.{some_shows};
 
     ghost flat_form = { λ p. unless p.catch (flat_some (P.flat_form p.inner)) };
+
+    ghost kind = { λ p. repeated (P.kind p.inner) };
+
+    ghost says = { λ p. MadeSays (RepeatSays (P.says p.inner)) (some_closure T) };
 
     ghost agrees = { λ p. P.agrees p.inner };
 
@@ -63,6 +81,8 @@ impl<'m, T: Drop, P: FlatField<T>> FlatField<Vec<T>> for ParseSome<'m, P> {
         (P.keys p.inner) (P.flat_form p.inner) (P.flat p.inner a) };
 
     ghost shows = { λ p. some_shows (P.shows p.inner) };
+
+    ghost said = { λ p a. unless_says p.catch (listed_says (some_closure T) (P.said p.inner a)) };
 }
 
 impl<P: HasKeys, C, T> HasKeys for ParseCollect<P, C, T> {
@@ -75,11 +95,19 @@ impl<P: HasKeys, C, T> HasKeys for ParseCollect<P, C, T> {
 
 /// As `many`.
 impl<T: Drop, C: FromList<T> + Drop, P: FlatField<T>> FlatField<C> for ParseCollect<P, C, T> {
+    ghost use Rattle.bpaf_exact.specs.Single.{repeated};
+    ghost use Rattle.bpaf_exact.specs.Derived.{collect_closure};
+    ghost use Rattle.bpaf_exact.specs.Says.{MadeSays, RepeatSays};
+    ghost use Rattle.bpaf_exact.proofs.Says.{listed_says, unless_says};
     ghost use Rattle.bpaf_exact.specs.FlatForm.{flat_collect, unless};
     ghost use Rattle.bpaf_exact.proofs.Twins.{collect_field_law};
     ghost use Rattle.bpaf_exact.proofs.SameParts.{many_shows};
 
     ghost flat_form = { λ p. unless p.catch (flat_collect C.fills (P.flat_form p.inner)) };
+
+    ghost kind = { λ p. repeated (P.kind p.inner) };
+
+    ghost says = { λ p. MadeSays (RepeatSays (P.says p.inner)) (collect_closure C.fills) };
 
     ghost agrees = { λ p. P.agrees p.inner };
 
@@ -92,6 +120,8 @@ impl<T: Drop, C: FromList<T> + Drop, P: FlatField<T>> FlatField<C> for ParseColl
         (P.keys p.inner) (P.flat_form p.inner) (P.flat p.inner a) };
 
     ghost shows = { λ p. many_shows (P.shows p.inner) };
+
+    ghost said = { λ p a. unless_says p.catch (listed_says (collect_closure C.fills) (P.said p.inner a)) };
 }
 
 impl<P: HasKeys, T> HasKeys for ParseCount<P, T> {
@@ -103,11 +133,19 @@ impl<P: HasKeys, T> HasKeys for ParseCount<P, T> {
 }
 
 impl<T: Drop, P: FlatField<T>> FlatField<usize> for ParseCount<P, T> {
+    ghost use Rattle.bpaf_exact.specs.Single.{repeated};
+    ghost use Rattle.bpaf_exact.specs.Derived.{count_closure};
+    ghost use Rattle.bpaf_exact.specs.Says.{MadeSays, RepeatSays};
+    ghost use Rattle.bpaf_exact.proofs.Says.{listed_says};
     ghost use Rattle.bpaf_exact.specs.FlatForm.{flat_count};
     ghost use Rattle.bpaf_exact.proofs.Twins.{count_field_law};
     ghost use Rattle.bpaf_exact.proofs.SameParts.{many_shows};
 
     ghost flat_form = { λ p. flat_count (P.flat_form p.inner) };
+
+    ghost kind = { λ p. repeated (P.kind p.inner) };
+
+    ghost says = { λ p. MadeSays (RepeatSays (P.says p.inner)) (count_closure T) };
 
     ghost agrees = { λ p. P.agrees p.inner };
 
@@ -121,6 +159,8 @@ impl<T: Drop, P: FlatField<T>> FlatField<usize> for ParseCount<P, T> {
         (P.flat p.inner a) };
 
     ghost shows = { λ p. many_shows (P.shows p.inner) };
+
+    ghost said = { λ p a. listed_says (count_closure T) (P.said p.inner a) };
 }
 
 impl<P: HasKeys> HasKeys for ParseLast<P> {
@@ -132,11 +172,18 @@ impl<P: HasKeys> HasKeys for ParseLast<P> {
 }
 
 impl<T: Drop, P: FlatField<T>> FlatField<T> for ParseLast<P> {
+    ghost use Rattle.bpaf_exact.specs.Single.{repeated};
+    ghost use Rattle.bpaf_exact.specs.Says.{LastSays};
+    ghost use Rattle.bpaf_exact.proofs.Says.{last_says};
     ghost use Rattle.bpaf_exact.specs.FlatForm.{flat_last};
     ghost use Rattle.bpaf_exact.proofs.Twins.{last_field_law};
     ghost use Rattle.bpaf_exact.proofs.SameParts.{some_shows};
 
     ghost flat_form = { λ p. flat_last (P.flat_form p.inner) };
+
+    ghost kind = { λ p. repeated (P.kind p.inner) };
+
+    ghost says = { λ p. LastSays (P.says p.inner) };
 
     ghost agrees = { λ p. P.agrees p.inner };
 
@@ -150,4 +197,6 @@ impl<T: Drop, P: FlatField<T>> FlatField<T> for ParseLast<P> {
         (P.flat p.inner a) };
 
     ghost shows = { λ p. some_shows (P.shows p.inner) };
+
+    ghost said = { λ p a. last_says (P.said p.inner a) };
 }

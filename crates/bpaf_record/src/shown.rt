@@ -16,11 +16,16 @@ impl<P: HasKeys> HasKeys for ParseUsage<P> {
 }
 
 impl<T, P: FlatField<T>> FlatField<T> for ParseUsage<P> {
+    ghost use Rattle.bpaf_exact.proofs.Says.{dressed_says};
     ghost use Rattle.bpaf_exact.specs.FlatForm.{flat_dressed};
     ghost use Rattle.bpaf_exact.proofs.SameParts.{usage_shows};
     ghost use Rattle.bpaf_exact.proofs.FlatForm.{flat_dressed_law};
 
     ghost flat_form = { λ p. flat_dressed (P.flat_form p.inner) };
+
+    ghost kind = { λ p. P.kind p.inner };
+
+    ghost says = { λ p. P.says p.inner };
 
     ghost agrees = { λ p. P.agrees p.inner };
 
@@ -34,6 +39,8 @@ impl<T, P: FlatField<T>> FlatField<T> for ParseUsage<P> {
         (P.flat p.inner a) };
 
     ghost shows = { λ p. usage_shows (P.shows p.inner) p.usage };
+
+    ghost said = { λ p a. dressed_says (P.said p.inner a) };
 }
 
 impl<P: HasKeys> HasKeys for ParseGroupHelp<P> {
@@ -45,11 +52,16 @@ impl<P: HasKeys> HasKeys for ParseGroupHelp<P> {
 }
 
 impl<T, P: FlatField<T>> FlatField<T> for ParseGroupHelp<P> {
+    ghost use Rattle.bpaf_exact.proofs.Says.{dressed_says};
     ghost use Rattle.bpaf_exact.specs.FlatForm.{flat_dressed};
     ghost use Rattle.bpaf_exact.proofs.SameParts.{section_shows};
     ghost use Rattle.bpaf_exact.proofs.FlatForm.{flat_dressed_law};
 
     ghost flat_form = { λ p. flat_dressed (P.flat_form p.inner) };
+
+    ghost kind = { λ p. P.kind p.inner };
+
+    ghost says = { λ p. P.says p.inner };
 
     ghost agrees = { λ p. P.agrees p.inner };
 
@@ -63,4 +75,6 @@ impl<T, P: FlatField<T>> FlatField<T> for ParseGroupHelp<P> {
         (P.flat p.inner a) };
 
     ghost shows = { λ p. section_shows (P.shows p.inner) p.message };
+
+    ghost said = { λ p a. dressed_says (P.said p.inner a) };
 }

@@ -1,0 +1,633 @@
+-- The value of each flat field says of its pieces what its parser says.
+use Rattle.std.proofs.Common.{◌≡◌, ℕ, zero, suc, Bool, true, false, List, [], ◌∷◌, ◌++◌, Option}
+use Rattle.std.proofs.Common.{Some, None, refl, sym, ap, ◌∙◌, subst, append-nil, arith}
+use Rattle.std.specs.List.{Contains}
+use Rattle.bpaf_doc.specs.Names.{Names}
+use Rattle.bpaf_text.specs.Named.{Named as Key, KeyWithValue}
+use Rattle.bpaf_words.specs.declared.arg.Arg.{Arg}
+use Rattle.bpaf_laws.specs.Reading.{Outcome}
+use Rattle.bpaf_exact.specs.Pieces.{Roles, LinePiece, One, Two, is_own, is_own_role, mine, others}
+use Rattle.bpaf_exact.specs.Pieces.{either, no_roles}
+use Rattle.bpaf_exact.specs.Flat.{FieldKind, ByName, OneWord, EachWord, FieldsReading, keys, front}
+use Rattle.bpaf_exact.specs.Flat.{back, share, left, both_reading}
+use Rattle.bpaf_exact.specs.Names.{Owns, are_all_apart}
+use Rattle.bpaf_exact.specs.Single.{Groups, Gap, FrontOf, Own, own_none, own_more, OwnList, listed}
+use Rattle.bpaf_exact.specs.Single.{listed_and_absent, only_absent, SingleValue, of_group, of_gap}
+use Rattle.bpaf_exact.specs.Single.{no_gap, repeated}
+use Rattle.bpaf_exact.specs.Wrappers.{Closure, ClosedValue, OptionalValue, some_value, no_value}
+use Rattle.bpaf_exact.specs.Wrappers.{FallbackValue, own_value, kept_value}
+use Rattle.bpaf_exact.specs.Derived.{LastOf}
+use Rattle.bpaf_exact.specs.Alternative.{either_value, pick_type}
+use Rattle.bpaf_exact.specs.Leaves.{flag_field, flag_by, flag_roles, FlagValue, argument_field}
+use Rattle.bpaf_exact.specs.Leaves.{argument_by, argument_roles, ArgumentValue, LastGroup}
+use Rattle.bpaf_exact.specs.Leaves.{word_field, WordValue, last_argument}
+use Rattle.bpaf_exact.specs.Record.{LastValue, last_reading}
+use Rattle.bpaf_exact.specs.FlatForm.{FlatForm, FormLaw, not_flat, alternative, single, complete}
+use Rattle.bpaf_exact.specs.FlatForm.{product, only_if, flat_closed, flat_dressed, flat_either}
+use Rattle.bpaf_exact.specs.FlatForm.{flat_choice, choices_rest, alternative_only, flat_choices}
+use Rattle.bpaf_exact.specs.FlatForm.{EachAgrees, flat_repeat, flat_last, flat_optional}
+use Rattle.bpaf_exact.specs.FlatForm.{flat_fallback, unless, flat_field, may_follow, flat_both}
+use Rattle.bpaf_exact.specs.FlatForm.{flat_alone, flat_con, flat_record, product_reading}
+use Rattle.bpaf_exact.specs.Says.{Said, FlagSays, says_present, says_absent, ArgumentSays}
+use Rattle.bpaf_exact.specs.Says.{says_text, says_last_text, WordSays, EitherSays, says_this}
+use Rattle.bpaf_exact.specs.Says.{says_that, OneOfSays, MadeSays, OptionalSays, says_some}
+use Rattle.bpaf_exact.specs.Says.{says_none, FallbackSays, says_own, says_kept, FrontSays}
+use Rattle.bpaf_exact.specs.Says.{RepeatSays, says_in_turn, says_alone, LastSays, FieldsSaid}
+use Rattle.bpaf_exact.specs.Says.{RecordSays, FormSays, Says, FieldsFormSays, FieldsSay, keyed}
+use Rattle.bpaf_exact.specs.Says.{unkeyed, its_pieces, words_after}
+use Rattle.bpaf_exact.proofs.Names.{apart_of_names}
+use Rattle.bpaf_exact.proofs.Sharing.{mine_keyed, others_unkeyed, mine_within, first_within}
+use Rattle.bpaf_exact.proofs.Sharing.{second_within, mine_of_others, mine_none, others_none}
+use Rattle.bpaf_exact.proofs.Sharing.{all_mine, others_both, none_behind}
+
+-- Leaves.
+
+-- what each piece alone says the front says
+front_says : {T : Type 0} (value : LinePiece → T → Type 0) (said : Said T)
+    → ((o : LinePiece) (v : T) → value o v → said (o ∷ []) v)
+    → (os rest : List LinePiece) (v : T) → FrontOf T value os v rest → FrontSays said os v rest
+front_says value said each os rest v h = record {
+  part = h.piece ∷ [];
+  is = h.is;
+  some = λ e. cc;
+  told = each h.piece v h.means;
+}
+
+-- a flag
+pub flag_says : {T : Type 0} (clones : T → T → Type 0) (key : Key) (present : T) (absent : Option T)
+    → Says (flag_field clones key present absent) ByName (FlagSays clones present absent)
+flag_says {T} clones key present absent = record { by = by_envs key.envs absent }
+  where
+    piece : (absent : Option T) (o : LinePiece) (v : T) → FlagValue (clones present) o v
+        → FlagSays clones present absent (o ∷ []) v
+    piece absent (One k) v m = says_present k refl m
+    piece absent (Two k w) v m = absurd m
+
+    by_envs : (envs : List (List ℕ)) (absent : Option T)
+        → FormSays (flag_by clones key.names present envs absent) ByName
+        (FlagSays clones present absent)
+    by_envs (env ∷ envs) absent = tt
+    by_envs [] None = (refl, piece None)
+    by_envs [] (Some a) = (
+      refl,
+      front_says (FlagValue (clones present)) (FlagSays clones present (Some a)) (piece (Some a)),
+      λ v m. says_absent a refl refl m,
+    )
+
+-- an argument
+pub argument_says : {T : Type 0} (means : List ℕ → T → Type 0) (argument : KeyWithValue)
+    → Says (argument_field means argument) ByName (ArgumentSays means argument.last)
+argument_says {T} means argument =
+    record { by = by_envs argument.named.envs argument.adjacent argument.last }
+  where
+    piece : (last : Bool) (o : LinePiece) (v : T) → ArgumentValue means o v
+        → ArgumentSays means last (o ∷ []) v
+    piece last (One k) v m = absurd m
+    piece last (Two k w) v m = says_text k w refl m
+
+    not_none : (before : List LinePiece) (o : LinePiece) → before ++ o ∷ [] ≡ [] → ⊥
+    not_none [] o e = cc
+    not_none (p ∷ before) o e = cc
+
+    all_at_once : (os rest : List LinePiece) (v : T) → LastGroup T means os v rest
+        → FrontSays (ArgumentSays means true) os v rest
+    all_at_once os rest v g = record {
+      part = os;
+      is = sym (ap (λ z. os ++ z) g.none_left ∙ append-nil os);
+      some = λ e. not_none g.before (Two g.key g.word) (sym g.is ∙ e);
+      told = says_last_text g.before g.key g.word refl g.have_values g.is g.meant;
+    }
+
+    by_envs : (envs : List (List ℕ)) (adjacent last : Bool)
+        → FormSays (argument_by means argument.named.names envs adjacent last) ByName
+        (ArgumentSays means last)
+    by_envs (env ∷ envs) adjacent last = tt
+    by_envs [] true last = tt
+    by_envs [] false false = (refl, piece false)
+    by_envs [] false true = (refl, all_at_once, λ v none. absurd none)
+
+-- a positional word
+pub word_says : {T : Type 0} (means : List ℕ → T → Type 0)
+    → Says (word_field means) OneWord (WordSays means)
+word_says {T} means = record {
+  by = (refl, front_says (WordValue means) (WordSays means) piece, λ v none. absurd none);
+}
+  where
+    piece : (o : LinePiece) (v : T) → WordValue means o v → WordSays means (o ∷ []) v
+    piece (One w) v m = record { word = w; is = refl; meant = m }
+    piece (Two k w) v m = absurd m
+
+-- Closures, and what changes only what is shown.
+
+-- with a closure round it
+pub closed_says : {A B : Type 0} (f : Closure A B) {s : FlatForm A} {kind : FieldKind}
+    {said : Said A} → Says s kind said → Says (flat_closed f s) kind (MadeSays said f)
+closed_says {A} {B} f {s} {kind} {said} h = record { by = by_form s h.by }
+  where
+    made : (os : List LinePiece) (x : A) (v : B) → said os x → f.yes x v → MadeSays said f os v
+    made os x v m answer = record { from = x; told = m; made = answer }
+
+    by_form : (s : FlatForm A) → FormSays s kind said
+        → FormSays (flat_closed f s) kind (MadeSays said f)
+    by_form not_flat h = tt
+    by_form (alternative q value) h =
+        (h.0, λ o v m. made (o ∷ []) m.from v (h.1 o m.from m.read) m.made)
+    by_form (single k q group gap) h = (
+      h.0,
+      λ os rest v g. let there = h.1 os rest g.from g.read in
+          record {
+            part = there.part;
+            is = there.is;
+            some = there.some;
+            told = made there.part g.from v there.told g.made;
+          },
+      λ v m. made [] m.0 v (h.2 m.0 m.1) m.2,
+    )
+    by_form (complete k q value) h =
+        (h.0, λ os v m. made os m.from v (h.1 os m.from m.read) m.made)
+    by_form (product q fields) h = tt
+
+-- with another look
+pub dressed_says : {T : Type 0} {s : FlatForm T} {kind : FieldKind} {said : Said T}
+    → Says s kind said → Says (flat_dressed s) kind said
+dressed_says {T} {s} {kind} {said} h = record { by = by_form s h.by }
+  where
+    by_form : (s : FlatForm T) → FormSays s kind said → FormSays (flat_dressed s) kind said
+    by_form not_flat h = tt
+    by_form (alternative q value) h = h
+    by_form (single k q group gap) h = h
+    by_form (complete k q value) h = h
+    by_form (product q fields) h = tt
+
+-- Choices.
+
+-- of two, into what each says more of
+choice_into : {T : Type 0} (own others : List Names) (kind : FieldKind) (said this that : Said T)
+    → ((os : List LinePiece) (v : T) → this os v → said os v)
+    → ((os : List LinePiece) (v : T) → that os v → said os v)
+    → (a b : FlatForm T) → FormSays a ByName this → FormSays b kind that
+    → FormSays (flat_choice own others a b) ByName said
+choice_into {T} own others kind said this that from_this from_that a b g h =
+    by_names (are_all_apart own others) a b g h
+  where
+    piece : (q : Roles) (first second : LinePiece → T → Type 0)
+        → ((o : LinePiece) (v : T) → first o v → this (o ∷ []) v)
+        → ((o : LinePiece) (v : T) → second o v → that (o ∷ []) v)
+        → (o : LinePiece) (v : T) → (b : Bool) → pick_type b (first o v) (second o v)
+        → said (o ∷ []) v
+    piece q first second g h o v true m = from_this (o ∷ []) v (g o v m)
+    piece q first second g h o v false m = from_that (o ∷ []) v (h o v m)
+
+    by_names : (apart : Bool) (a b : FlatForm T) → FormSays a ByName this → FormSays b kind that
+        → FormSays (only_if apart (flat_either a b)) ByName said
+    by_names false a b g h = tt
+    by_names true not_flat b g h = tt
+    by_names true (single k q group gap) b g h = tt
+    by_names true (complete k q value) b g h = tt
+    by_names true (product q fields) b g h = tt
+    by_names true (alternative q first) not_flat g h = tt
+    by_names true (alternative q first) (single k r group gap) g h = tt
+    by_names true (alternative q first) (complete k r value) g h = tt
+    by_names true (alternative q first) (product r fields) g h = tt
+    by_names true (alternative q first) (alternative r second) g h =
+        (refl, λ o v m. piece q first second g.1 h.1 o v (is_own q o) m)
+
+-- a parser that says so by whichever kind is an alternative or says nothing
+by_name : {T : Type 0} (s : FlatForm T) (kind : FieldKind) (said : Said T) → FormSays s kind said
+    → FormSays (alternative_only s) ByName said
+by_name not_flat kind said h = tt
+by_name (alternative q value) kind said h = (refl, h.1)
+by_name (single k q group gap) kind said h = tt
+by_name (complete k q value) kind said h = tt
+by_name (product q fields) kind said h = tt
+
+-- a choice is of alternatives alone
+only_alternatives : {T : Type 0} (own others : List Names) (said : Said T) (a b : FlatForm T)
+    → FormSays (flat_choice own others (alternative_only a) b) ByName said
+    → FormSays (flat_choice own others a b) ByName said
+only_alternatives {T} own others said a b h = by_names (are_all_apart own others) a h
+  where
+    by_names : (apart : Bool) (a : FlatForm T)
+        → FormSays (only_if apart (flat_either (alternative_only a) b)) ByName said
+        → FormSays (only_if apart (flat_either a b)) ByName said
+    by_names false a h = tt
+    by_names true not_flat h = tt
+    by_names true (alternative q value) h = h
+    by_names true (single k q group gap) h = tt
+    by_names true (complete k q value) h = tt
+    by_names true (product q fields) h = tt
+
+-- of two
+pub choice_says : {T : Type 0} (own others : List Names) {a b : FlatForm T} {j k : FieldKind}
+    {this that : Said T} → Says a j this → Says b k that
+    → Says (flat_choice own others a b) ByName (EitherSays this that)
+choice_says own others {a} {b} {j} {k} {this} {that} g h = record {
+  by = only_alternatives own others (EitherSays this that) a b
+      (choice_into own others k (EitherSays this that) this that (λ os v m. says_this m)
+      (λ os v m. says_that m) (alternative_only a) b (by_name a j this g.by) h.by);
+}
+
+-- of any number
+module _ {P T : Type 0} (names : P → List Names) (form : P → FlatForm T) (kind : P → FieldKind)
+    (says : P → Said T) (agrees : P → Type 0)
+    (each : (p : P) → agrees p → Says (form p) (kind p) (says p)) where
+  -- of what stands before and of more
+  rest_says : (said : Said T) (own : List Names) (before : FlatForm T) (ps : List P)
+      → FormSays before ByName said → EachAgrees agrees ps
+      → ((p : P) → Contains ps p → (os : List LinePiece) (v : T) → says p os v → said os v)
+      → FormSays (choices_rest names form own before ps) ByName said
+  rest_says said own before [] h agree into = h
+  rest_says said own before (p ∷ ps) h agree into =
+      rest_says said (own ++ names p) (flat_choice own (names p) before (form p)) ps
+      (choice_into own (names p) (kind p) said said (says p) (λ os v m. m)
+      (into p (zero, omega arith, refl)) before (form p) h (each p agree.0).by) agree.1
+      (λ q there. into q (suc there.0, omega arith, there.2))
+
+  -- of all
+  pub choices_says : (ps : List P) → EachAgrees agrees ps
+      → Says (flat_choices names form ps) ByName (OneOfSays says ps)
+  choices_says [] agree = record { by = tt }
+  choices_says (p ∷ ps) agree = record {
+    by = rest_says (OneOfSays says (p ∷ ps)) (names p) (alternative_only (form p)) ps
+        (first (form p) (by_name (form p) (kind p) (says p) (each p agree.0).by)) agree.1
+        (λ q there os v m.
+        record { parser = q; among = (suc there.0, omega arith, there.2); told = m });
+  }
+    where
+      into : (os : List LinePiece) (v : T) → says p os v → OneOfSays says (p ∷ ps) os v
+      into os v m = record { parser = p; among = (zero, omega arith, refl); told = m }
+
+      first : (s : FlatForm T) → FormSays (alternative_only s) ByName (says p)
+          → FormSays (alternative_only s) ByName (OneOfSays says (p ∷ ps))
+      first not_flat h = tt
+      first (alternative q value) h = (refl, λ o v m. into (o ∷ []) v (h.1 o v m))
+      first (single k q group gap) h = tt
+      first (complete k q value) h = tt
+      first (product q fields) h = tt
+
+-- Repeats and defaults.
+
+module _ {T : Type 0} (said : Said T) (group : Groups T) (gap : Gap T)
+    (fronts : (os rest : List LinePiece) (v : T) → group os v rest → FrontSays said os v rest)
+    (absent : (v : T) → gap.absent v → said [] v) where
+  -- a value of all pieces at once
+  whole_says : (os : List LinePiece) (v : T) → SingleValue T group gap os v → said os v
+  whole_says os v (of_group g) = let there = fronts os [] v g in
+      subst (λ z. said z v) (sym (there.is ∙ append-nil there.part)) there.told
+  whole_says [] v (of_gap a) = absent v a
+
+  -- values in turn
+  turns_say : (os : List LinePiece) (vs : List T) → Own T group os vs
+      → Own T (FrontSays said) os vs
+  turns_say [] [] own_none = own_none
+  turns_say (o ∷ os) [] h = elim h [ ]
+  turns_say os (v ∷ vs) (own_more {rest = rest} g more) =
+      own_more (fronts os rest v g) (turns_say rest vs more)
+
+  -- the values of a repeat
+  list_says : (os : List LinePiece) (vs : List T) → OwnList T group gap os vs
+      → RepeatSays said os vs
+  list_says os vs (listed h o) = says_in_turn (turns_say os vs o)
+  list_says os (v ∷ vs) (listed_and_absent h a o) = says_in_turn (turns_say os (v ∷ vs) o)
+  list_says [] (v ∷ []) (only_absent h a) = says_alone v refl refl (absent v a)
+
+  -- Some of one, or None
+  optional_by : (os : List LinePiece) (r : Option T) → OptionalValue T group gap os r
+      → OptionalSays said os r
+  optional_by os (Some v) (some_value h) = says_some v refl (whole_says os v h)
+  optional_by [] None (no_value h) = says_none refl refl
+  optional_by (o ∷ os) None h = elim h [ ]
+
+  -- one, or what stands in its place
+  fallback_by : (f : Closure (Unit {0}) T) (os : List LinePiece) (v : T)
+      → FallbackValue T group gap f os v → FallbackSays said (f.yes tt) os v
+  fallback_by f os v (own_value h) = says_own (whole_says os v h)
+  fallback_by f [] v (kept_value h m) = says_kept refl m
+
+-- an alternative's pieces are read one by one
+module _ {T : Type 0} (said : Said T) (value : LinePiece → T → Type 0)
+    (each : (o : LinePiece) (v : T) → value o v → said (o ∷ []) v) where
+  -- its front
+  abbrev piece_fronts : (os rest : List LinePiece) (v : T) → FrontOf T value os v rest
+      → FrontSays said os v rest
+  piece_fronts = front_says value said each
+
+  -- and it has no absent value
+  no_absent : (v : T) → (no_gap T).absent v → said [] v
+  no_absent v none = absurd none
+
+-- as a field
+pub field_says : {T : Type 0} {s : FlatForm T} {kind : FieldKind} {said : Said T}
+    → Says s kind said → Says (flat_field s) kind said
+field_says {T} {s} {kind} {said} h = record { by = by_form s h.by }
+  where
+    by_form : (s : FlatForm T) → FormSays s kind said → FormSays (flat_field s) kind said
+    by_form not_flat h = tt
+    by_form (alternative q value) h = (
+      h.0,
+      whole_says said (FrontOf T value) (no_gap T) (piece_fronts said value h.1)
+          (no_absent said value h.1),
+    )
+    by_form (single k q group gap) h = (h.0, whole_says said group gap h.1 h.2)
+    by_form (complete k q value) h = h
+    by_form (product q fields) h = tt
+
+-- under `optional`
+pub optional_says : {T : Type 0} {s : FlatForm T} {kind : FieldKind} {said : Said T}
+    → Says s kind said → Says (flat_optional s) kind (OptionalSays said)
+optional_says {T} {s} {kind} {said} h = record { by = by_form s h.by }
+  where
+    by_form : (s : FlatForm T) → FormSays s kind said
+        → FormSays (flat_optional s) kind (OptionalSays said)
+    by_form not_flat h = tt
+    by_form (alternative q value) h = (
+      h.0,
+      optional_by said (FrontOf T value) (no_gap T) (piece_fronts said value h.1)
+          (no_absent said value h.1),
+    )
+    by_form (single k q group gap) h = (h.0, optional_by said group gap h.1 h.2)
+    by_form (complete k q value) h = tt
+    by_form (product q fields) h = tt
+
+-- under a fallback
+pub fallback_says : {T : Type 0} (f : Closure (Unit {0}) T) {s : FlatForm T} {kind : FieldKind}
+    {said : Said T} → Says s kind said → Says (flat_fallback f s) kind (FallbackSays said (f.yes tt))
+fallback_says {T} f {s} {kind} {said} h = record { by = by_form s h.by }
+  where
+    by_form : (s : FlatForm T) → FormSays s kind said
+        → FormSays (flat_fallback f s) kind (FallbackSays said (f.yes tt))
+    by_form not_flat h = tt
+    by_form (alternative q value) h = (
+      h.0,
+      fallback_by said (FrontOf T value) (no_gap T) (piece_fronts said value h.1)
+          (no_absent said value h.1) f,
+    )
+    by_form (single k q group gap) h = (h.0, fallback_by said group gap h.1 h.2 f)
+    by_form (complete k q value) h = tt
+    by_form (product q fields) h = tt
+
+-- under a repeat, as a list
+repeat_says : {T : Type 0} {s : FlatForm T} {kind : FieldKind} {said : Said T}
+    → Says s kind said → Says (flat_repeat s) (repeated kind) (RepeatSays said)
+repeat_says {T} {s} {kind} {said} h = record { by = by_form s h.by }
+  where
+    by_form : (s : FlatForm T) → FormSays s kind said
+        → FormSays (flat_repeat s) (repeated kind) (RepeatSays said)
+    by_form not_flat h = tt
+    by_form (alternative q value) h = (
+      ap repeated h.0,
+      list_says said (FrontOf T value) (no_gap T) (piece_fronts said value h.1)
+          (no_absent said value h.1),
+    )
+    by_form (single k q group gap) h = (ap repeated h.0, list_says said group gap h.1 h.2)
+    by_form (complete k q value) h = tt
+    by_form (product q fields) h = tt
+
+-- under `many`, `some`, `collect` or `count`
+pub listed_says : {T B : Type 0} (f : Closure (List T) B) {s : FlatForm T} {kind : FieldKind}
+    {said : Said T} → Says s kind said
+    → Says (flat_closed f (flat_repeat s)) (repeated kind) (MadeSays (RepeatSays said) f)
+listed_says f h = closed_says f (repeat_says h)
+
+-- under `last`
+pub last_says : {T : Type 0} {s : FlatForm T} {kind : FieldKind} {said : Said T}
+    → Says s kind said → Says (flat_last s) (repeated kind) (LastSays said)
+last_says {T} {s} {kind} {said} h = record { by = by_form s h.by }
+  where
+    last_by : (group : Groups T) (gap : Gap T)
+        → ((os rest : List LinePiece) (v : T) → group os v rest → FrontSays said os v rest)
+        → ((v : T) → gap.absent v → said [] v) → (os : List LinePiece) (v : T)
+        → LastOf T group gap os v → LastSays said os v
+    last_by group gap fronts absent os v m = record {
+      values = m.list;
+      told = list_says said group gap fronts absent os m.list m.own;
+      is = m.is;
+    }
+
+    by_form : (s : FlatForm T) → FormSays s kind said
+        → FormSays (flat_last s) (repeated kind) (LastSays said)
+    by_form not_flat h = tt
+    by_form (alternative q value) h = (
+      ap repeated h.0,
+      last_by (FrontOf T value) (no_gap T) (piece_fronts said value h.1)
+          (no_absent said value h.1),
+    )
+    by_form (single k q group gap) h = (ap repeated h.0, last_by group gap h.1 h.2)
+    by_form (complete k q value) h = tt
+    by_form (product q fields) h = tt
+
+-- without `catch`
+pub unless_says : {T : Type 0} (catch : Bool) {s : FlatForm T} {kind : FieldKind} {said : Said T}
+    → Says s kind said → Says (unless catch s) kind said
+unless_says true h = record { by = tt }
+unless_says false h = h
+
+-- Products.
+
+-- own items are those with one of these names
+abbrev FormOwns : {T : Type 0} → List Names → FlatForm T → Type 0
+FormOwns names (complete k q value) = Owns (keys k q) names
+FormOwns names (product q fields) = Owns q names
+FormOwns names _ = Unit {0}
+
+-- so it is with a form
+pub record OwnsKeys {T : Type 0} (names : List Names) (s : FlatForm T) : Type 0 where
+  pub by : FormOwns names s
+
+-- of what keeps to its law,
+pub owned : {T : Type 0} (outcome : Outcome T) (names : List Names) (s : FlatForm T)
+    → FormLaw outcome names s → OwnsKeys names s
+owned outcome names not_flat law = record { by = tt }
+owned outcome names (alternative q value) law = record { by = tt }
+owned outcome names (single k q group gap) law = record { by = tt }
+owned outcome names (complete k q value) law = record { by = law.1 }
+owned outcome names (product q fields) law = record { by = law.1 }
+
+-- also as a field
+pub field_owned : {T : Type 0} (outcome : Outcome T) (names : List Names) (s : FlatForm T)
+    → FormLaw outcome names s → OwnsKeys names (flat_field s)
+field_owned outcome names not_flat law = record { by = tt }
+field_owned outcome names (alternative q value) law = record { by = law.1 }
+field_owned outcome names (single k q group gap) law = record { by = law.1 }
+field_owned outcome names (complete k q value) law = record { by = law.1 }
+field_owned outcome names (product q fields) law = record { by = tt }
+
+-- the last field
+pub alone_says : {T : Type 0} {names : List Names} {s : FlatForm T} {kind : FieldKind}
+    {said : Said T} → OwnsKeys names s → Says s kind said
+    → FieldsSay (flat_alone s) (λ os words v. said (its_pieces kind names os words) v)
+alone_says {T} {names} {s} {kind} {said} own_keys h =
+    record { by = by_form s own_keys.by h.by }
+  where
+    own : (k : FieldKind) (q : Roles) (value : List LinePiece → T → Type 0)
+        → Owns (keys k q) names → ((os : List LinePiece) (v : T) → value os v → said os v)
+        → (whole os : List LinePiece) (v : T) → LastValue T k q value os v
+        → mine (either (keys k q) no_roles) whole ≡ mine (either (keys k q) no_roles) os
+        → said (its_pieces k names whole (others (either (keys k q) no_roles) os)) v
+    own ByName q value owned each whole os v m same =
+        subst (λ z. said z v)
+        (sym (mine_within q (either q no_roles) (first_within q no_roles) os)
+        ∙ (ap (mine q) (sym same)
+        ∙ (mine_within q (either q no_roles) (first_within q no_roles) whole
+        ∙ mine_keyed q names owned whole)))
+        (each (mine q os) v m.read)
+    own OneWord q value owned each whole os v m same =
+        subst (λ z. said (front OneWord z) v)
+        (sym (others_none (either no_roles no_roles) (λ k. refl) os))
+        (each (front OneWord os) v m.read)
+    own EachWord q value owned each whole os v m same =
+        subst (λ z. said z v) (sym (others_none (either no_roles no_roles) (λ k. refl) os))
+        (each os v m.read)
+
+    by_form : (s : FlatForm T) → FormOwns names s → FormSays s kind said
+        → FieldsFormSays (flat_alone s) (λ os words v. said (its_pieces kind names os words) v)
+    by_form not_flat law h = tt
+    by_form (alternative q value) law h = tt
+    by_form (single k q group gap) law h = tt
+    by_form (product q fields) law h = tt
+    by_form (complete k q value) law h = λ whole os v m same.
+        subst (λ j. said (its_pieces j names whole (others (either (keys k q) no_roles) os)) v)
+        (sym h.0)
+        (own k q value law h.1 whole os v m same)
+
+-- a field before others, by its kind
+module _ {A B : Type 0} (own behind : List Names) (said : Said A) (rest_said : FieldsSaid B)
+    (q r : Roles) (first : List LinePiece → A → Type 0) (fields : FieldsReading B)
+    (owned_behind : Owns r behind)
+    (each : (os : List LinePiece) (v : A) → first os v → said os v)
+    (rest_each : FieldsFormSays (product r fields) rest_said) where
+  -- what a field of a kind and those behind it say
+  abbrev KindSays : FieldKind → Type 0
+  KindSays k =
+      (whole os : List LinePiece) (v : A × B) → (both_reading k q first fields).value os v
+      → mine (either (keys k q) r) whole ≡ mine (either (keys k q) r) os
+      → said (its_pieces k own whole (others (either (keys k q) r) os)) v.0
+      × rest_said whole (words_after k (others (either (keys k q) r) os)) v.1
+
+  kind_says : (k : FieldKind) → Owns (keys k q) own → may_follow k own behind ≡ true → KindSays k
+  kind_says ByName owned may whole os v m same =
+      let apart = apart_of_names q r own behind owned owned_behind may in
+      let both = either q r in (
+        subst (λ z. said z v.0)
+            (sym (mine_within q both (first_within q r) os)
+            ∙ (ap (mine q) (sym same)
+            ∙ (mine_within q both (first_within q r) whole ∙ mine_keyed q own owned whole)))
+            (each (mine q os) v.0 m.0),
+        subst (λ z. rest_said whole z v.1) (others_both q r os)
+            (rest_each whole (others q os) v.1 m.1
+            (sym (mine_within r both (second_within q r) whole)
+            ∙ (ap (mine r) same
+            ∙ (mine_within r both (second_within q r) os
+            ∙ sym (mine_of_others q r (λ k e. apart.right k e) os))))),
+      )
+  kind_says OneWord owned may whole os v m same =
+      let none = none_behind r own behind owned_behind may in
+      let left_to = others_none r none os in (
+        subst (λ z. said (front OneWord z) v.0) (sym left_to) (each (front OneWord os) v.0 m.0),
+        subst (λ z. rest_said whole z v.1)
+            (others_none r none (back OneWord os) ∙ ap (back OneWord) (sym left_to))
+            (rest_each whole (back OneWord os) v.1 m.1
+            (mine_none r none whole ∙ sym (mine_none r none (back OneWord os)))),
+      )
+  kind_says EachWord owned may whole os v m same =
+      let none = none_behind r own behind owned_behind may in (
+        subst (λ z. said z v.0) (sym (others_none r none os)) (each os v.0 m.0),
+        rest_each whole [] v.1 m.1 (mine_none r none whole),
+      )
+
+-- what a field and those behind it say
+abbrev BothSaid : {A B : Type 0} → List Names → FieldKind → Said A → FieldsSaid B
+    → FieldsSaid (A × B)
+BothSaid own kind said rest_said os words v =
+    said (its_pieces kind own os words) v.0 × rest_said os (words_after kind words) v.1
+
+-- a field before others
+pub both_say : {A B : Type 0} {own behind : List Names} {a : FlatForm A} {s : FlatForm B}
+    {kind : FieldKind} {said : Said A} {rest_said : FieldsSaid B} → OwnsKeys own a
+    → OwnsKeys behind s → Says a kind said → FieldsSay s rest_said
+    → FieldsSay (flat_both own behind a s)
+    (λ os words v.
+    said (its_pieces kind own os words) v.0 × rest_said os (words_after kind words) v.1)
+both_say {A} {B} {own} {behind} {a} {s} {kind} {said} {rest_said} own_keys behind_keys h g =
+    record { by = by_form a s own_keys.by behind_keys.by h.by g.by }
+  where
+    by_test : (k : FieldKind) (q r : Roles) (first : List LinePiece → A → Type 0)
+        (fields : FieldsReading B) → Owns (keys k q) own → Owns r behind → kind ≡ k
+        → ((os : List LinePiece) (v : A) → first os v → said os v)
+        → FieldsFormSays (product r fields) rest_said
+        → (may : Bool) → may_follow k own behind ≡ may
+        → FieldsFormSays (only_if may (product (either (keys k q) r)
+        (both_reading k q first fields))) (BothSaid own kind said rest_said)
+    by_test k q r first fields owned owned_behind is each rest_each false may = tt
+    by_test k q r first fields owned owned_behind is each rest_each true may = λ whole os v m same.
+        subst
+        (λ j. said (its_pieces j own whole (others (either (keys k q) r) os)) v.0
+        × rest_said whole (words_after j (others (either (keys k q) r) os)) v.1)
+        (sym is)
+        (kind_says own behind said rest_said q r first fields owned_behind each rest_each k owned may whole os v m
+        same)
+
+    by_form : (a : FlatForm A) (s : FlatForm B) → FormOwns own a
+        → FormOwns behind s → FormSays a kind said → FieldsFormSays s rest_said
+        → FieldsFormSays (flat_both own behind a s) (BothSaid own kind said rest_said)
+    by_form not_flat s law rest_law h g = tt
+    by_form (alternative q value) s law rest_law h g = tt
+    by_form (single k q group gap) s law rest_law h g = tt
+    by_form (product q fields) s law rest_law h g = tt
+    by_form (complete k q first) not_flat law rest_law h g = tt
+    by_form (complete k q first) (alternative r value) law rest_law h g = tt
+    by_form (complete k q first) (single j r group gap) law rest_law h g = tt
+    by_form (complete k q first) (complete j r value) law rest_law h g = tt
+    by_form (complete k q first) (product r fields) law rest_law h g =
+        by_test k q r first fields law rest_law h.0 h.1 g (may_follow k own behind) refl
+
+-- what a constructor makes of the values of fields
+pub con_says : {A B : Type 0} {names : List Names} {s : FlatForm A} {said : FieldsSaid A}
+    (f : Closure A B) {kind : FieldKind} → OwnsKeys names s → FieldsSay s said
+    → Says (flat_con f s) kind (RecordSays said names f)
+con_says {A} {B} {names} {s} {said} f {kind} own_keys g =
+    record { by = by_form s own_keys.by g.by }
+  where
+    by_form : (s : FlatForm A) → FormOwns names s → FieldsFormSays s said
+        → FormSays (flat_con f s) kind (RecordSays said names f)
+    by_form not_flat law g = tt
+    by_form (alternative q value) law g = tt
+    by_form (single k q group gap) law g = tt
+    by_form (complete k q value) law g = tt
+    by_form (product q fields) law g = λ os v m. record {
+      from = m.from;
+      fields = subst (λ z. said os z m.from) (others_unkeyed q names law os)
+          (g os os m.from m.read refl);
+      made = m.made;
+    }
+
+-- A value of a flat record says what its parser says of all pieces of the line.
+pub record_says : {T : Type 0} (s : FlatForm T) {kind : FieldKind} {said : Said T}
+    → Says s kind said
+    → (os : List LinePiece) (v : T) → (product_reading (flat_record s)).value os v → said os v
+record_says {T} s {kind} {said} h = by_form s h.by
+  where
+    one_word : (os : List LinePiece) → back OneWord os ≡ [] → front OneWord os ≡ os
+    one_word [] e = refl
+    one_word (o ∷ []) e = refl
+    one_word (o ∷ (p ∷ os)) e = cc
+
+    all_own : (k : FieldKind) (q : Roles) (value : List LinePiece → T → Type 0)
+        → ((os : List LinePiece) (v : T) → value os v → said os v)
+        → (os : List LinePiece) (v : T) → LastValue T k q value os v → said os v
+    all_own ByName q value each os v m =
+        subst (λ z. said z v) (all_mine q os m.none_left) (each (mine q os) v m.read)
+    all_own OneWord q value each os v m =
+        subst (λ z. said z v) (one_word os m.none_left) (each (front OneWord os) v m.read)
+    all_own EachWord q value each os v m = each os v m.read
+
+    by_form : (s : FlatForm T) → FormSays s kind said
+        → (os : List LinePiece) (v : T) → (product_reading (flat_record s)).value os v → said os v
+    by_form not_flat h os v m = absurd m
+    by_form (alternative q value) h os v m = all_own ByName q _
+        (whole_says said (FrontOf T value) (no_gap T) (piece_fronts said value h.1)
+        (no_absent said value h.1)) os v m
+    by_form (single k q group gap) h os v m =
+        all_own k q _ (whole_says said group gap h.1 h.2) os v m
+    by_form (complete k q value) h os v m = all_own k q value h.1 os v m
+    by_form (product q fields) h os v m = h os v m

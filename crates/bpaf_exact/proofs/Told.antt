@@ -1,0 +1,64 @@
+-- What a repeat's values say, piece by piece.
+use Rattle.std.proofs.Common.{◌≡◌, ℕ, Bool, true, false, List, [], ◌∷◌, ◌++◌, Option, Some, None}
+use Rattle.std.proofs.Common.{refl, sym, ap, ◌∙◌, subst, true≢false}
+use Rattle.std.specs.List.{AllZip}
+use Rattle.bpaf_exact.specs.Pieces.{LinePiece, One, Two}
+use Rattle.bpaf_exact.specs.Leaves.{FlagValue, ArgumentValue, WordValue}
+use Rattle.bpaf_exact.specs.Single.{Own, own_none, own_more}
+use Rattle.bpaf_exact.specs.Says.{Said, FlagSays, says_present, says_absent, ArgumentSays}
+use Rattle.bpaf_exact.specs.Says.{says_text, says_last_text, WordSays, FrontSays, RepeatSays}
+use Rattle.bpaf_exact.specs.Says.{says_in_turn, says_alone}
+
+-- a value that is said of one piece
+record OfOnePiece {T : Type 0} (one : LinePiece → T → Type 0) (os : List LinePiece)
+    (v : T) : Type 0 where
+  piece : LinePiece
+  is : os ≡ piece ∷ []
+  said : one piece v
+
+-- values that are each said of one piece are said of the pieces in line order, one for each
+module _ {T : Type 0} (said : Said T) (one : LinePiece → T → Type 0)
+    (of_one : (os : List LinePiece) (v : T) → said os v → OfOnePiece one os v) where
+  in_turn : (os : List LinePiece) (vs : List T) → Own T (FrontSays said) os vs → AllZip one os vs
+  in_turn [] [] own_none = tt
+  in_turn (o ∷ os) [] h = elim h [ ]
+  in_turn os (v ∷ vs) (own_more {rest = rest} front more) =
+      let first = of_one front.part v front.told in
+      subst (λ z. AllZip one z (v ∷ vs)) (sym (front.is ∙ ap (λ part. part ++ rest) first.is))
+      (first.said, in_turn rest vs more)
+
+  one_by_one : (os : List LinePiece) (vs : List T) → RepeatSays said os vs → AllZip one os vs
+  one_by_one os vs (says_in_turn turns) = in_turn os vs turns
+  one_by_one os vs (says_alone a none is told) = let first = of_one [] a told in absurd cc
+
+-- Of a repeated argument: what the texts behind its keys mean, in line order, one for each key.
+pub argument_values : {T : Type 0} {means : List ℕ → T → Type 0} {last : Bool}
+    {os : List LinePiece} {vs : List T} → last ≡ false → RepeatSays (ArgumentSays means last) os vs
+    → AllZip (ArgumentValue means) os vs
+argument_values {T} {means} {last} {os} {vs} once told =
+    one_by_one (ArgumentSays means last) (ArgumentValue means) of_one os vs told
+  where
+    of_one : (os : List LinePiece) (v : T) → ArgumentSays means last os v
+        → OfOnePiece (ArgumentValue means) os v
+    of_one os v (says_text k w e m) = record { piece = Two k w; is = e; said = m }
+    of_one os v (says_last_text before k w all each e m) = absurd (true≢false (sym all ∙ once))
+
+-- Of a repeated required flag: its present value, once for each key.
+pub flag_values : {T : Type 0} {clones : T → T → Type 0} {present : T} {absent : Option T}
+    {os : List LinePiece} {vs : List T} → absent ≡ None
+    → RepeatSays (FlagSays clones present absent) os vs
+    → AllZip (FlagValue (clones present)) os vs
+flag_values {T} {clones} {present} {absent} {os} {vs} required told =
+    one_by_one (FlagSays clones present absent) (FlagValue (clones present)) of_one os vs told
+  where
+    of_one : (os : List LinePiece) (v : T) → FlagSays clones present absent os v
+        → OfOnePiece (FlagValue (clones present)) os v
+    of_one os v (says_present k e m) = record { piece = One k; is = e; said = m }
+    of_one os v (says_absent a e some m) = absurd cc
+
+-- Of repeated words: what their texts mean, in line order.
+pub word_values : {T : Type 0} {means : List ℕ → T → Type 0} {os : List LinePiece} {vs : List T}
+    → RepeatSays (WordSays means) os vs → AllZip (WordValue means) os vs
+word_values {T} {means} {os} {vs} told =
+    one_by_one (WordSays means) (WordValue means)
+    (λ os v said. record { piece = One said.word; is = said.is; said = said.meant }) os vs told

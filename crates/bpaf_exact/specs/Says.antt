@@ -1,0 +1,170 @@
+-- What the value of a field says of the pieces of a line that are its own, and what the values of a
+-- record say of the line, field by field.
+use Rattle.std.specs.Prelude.{◌≡◌, ℕ, Bool, true, List, [], ◌∷◌, ◌++◌, Option, Some, None}
+use Rattle.std.specs.Prelude.{if◌then◌else◌}
+use Rattle.std.specs.List.{Contains}
+use Rattle.bpaf_doc.specs.Names.{Names}
+use Rattle.bpaf_words.specs.Items.{item_text}
+use Rattle.bpaf_words.specs.declared.arg.Arg.{Arg}
+use Rattle.bpaf_exact.specs.Pieces.{LinePiece, One, Two, mine, others}
+use Rattle.bpaf_exact.specs.Names.{is_key_of_any}
+use Rattle.bpaf_exact.specs.Flat.{FieldKind, ByName, OneWord, EachWord, front, back}
+use Rattle.bpaf_exact.specs.Single.{Own}
+use Rattle.bpaf_exact.specs.Leaves.{HaveValues}
+use Rattle.bpaf_exact.specs.Wrappers.{Closure}
+use Rattle.bpaf_exact.specs.Derived.{IsLast}
+use Rattle.bpaf_exact.specs.FlatForm.{FlatForm, not_flat, alternative, single, complete, product}
+
+-- The pieces of a field's own.
+
+-- the item with which a piece begins
+abbrev pub first_item : LinePiece → Arg
+first_item (One k) = k
+first_item (Two k w) = k
+
+-- the pieces that begin with a key with one of these names, in line order
+abbrev pub keyed : List Names → List LinePiece → List LinePiece
+keyed names [] = []
+keyed names (o ∷ os) =
+    if is_key_of_any names (first_item o) then (o ∷ keyed names os) else keyed names os
+
+-- the pieces that begin with none
+abbrev pub unkeyed : List Names → List LinePiece → List LinePiece
+unkeyed names [] = []
+unkeyed names (o ∷ os) =
+    if is_key_of_any names (first_item o) then unkeyed names os else (o ∷ unkeyed names os)
+
+-- a field's own of the pieces of a line, and of the words that the fields before it leave
+abbrev pub its_pieces : FieldKind → List Names → List LinePiece → List LinePiece → List LinePiece
+its_pieces ByName names os words = keyed names os
+its_pieces OneWord names os words = front OneWord words
+its_pieces EachWord names os words = words
+
+-- the words that it leaves to the fields behind it
+abbrev pub words_after : FieldKind → List LinePiece → List LinePiece
+words_after ByName words = words
+words_after OneWord words = back OneWord words
+words_after EachWord words = []
+
+-- What values say.
+
+-- what a value says of pieces
+abbrev pub Said : Type 0 → Type 1
+Said T = List LinePiece → T → Type 0
+
+-- a flag: one key and the present value, or none and the absent one
+pub data FlagSays {T : Type 0} (clones : T → T → Type 0) (present : T) (absent : Option T)
+    (os : List LinePiece) (v : T) : Type 0 where
+  says_present : (k : Arg) → os ≡ One k ∷ [] → clones present v
+      → FlagSays clones present absent os v
+  says_absent : (a : T) → os ≡ [] → absent ≡ Some a → clones a v
+      → FlagSays clones present absent os v
+
+-- an argument: what the text behind its one key means; or, where the last value counts, what the
+-- text behind the last of its keys means, each of which has one
+pub data ArgumentSays {T : Type 0} (means : List ℕ → T → Type 0) (last : Bool)
+    (os : List LinePiece) (v : T) : Type 0 where
+  says_text : (k w : Arg) → os ≡ Two k w ∷ [] → means (item_text w) v
+      → ArgumentSays means last os v
+  says_last_text : (before : List LinePiece) (k w : Arg) → last ≡ true → HaveValues before
+      → os ≡ before ++ Two k w ∷ [] → means (item_text w) v → ArgumentSays means last os v
+
+-- a positional word: what its text means
+pub record WordSays {T : Type 0} (means : List ℕ → T → Type 0) (os : List LinePiece)
+    (v : T) : Type 0 where
+  pub word : Arg
+  pub is : os ≡ One word ∷ []
+  pub meant : means (item_text word) v
+
+-- a choice: what one of its branches says
+pub data EitherSays {T : Type 0} (this that : Said T) (os : List LinePiece) (v : T) : Type 0 where
+  says_this : this os v → EitherSays this that os v
+  says_that : that os v → EitherSays this that os v
+
+-- a choice of any number of parsers: what one of them says
+pub record OneOfSays {P T : Type 0} (says : P → Said T) (ps : List P) (os : List LinePiece)
+    (v : T) : Type 0 where
+  pub parser : P
+  pub among : Contains ps parser
+  pub told : says parser os v
+
+-- with a closure round it: what a value says from which the closure makes this one
+pub record MadeSays {A B : Type 0} (said : Said A) (f : Closure A B) (os : List LinePiece)
+    (v : B) : Type 0 where
+  pub from : A
+  pub told : said os from
+  pub made : f.yes from v
+
+-- under `optional`: Some of what its value says, or None and no piece
+pub data OptionalSays {T : Type 0} (said : Said T) (os : List LinePiece) (v : Option T) : Type 0
+  where
+    says_some : (x : T) → v ≡ Some x → said os x → OptionalSays said os v
+    says_none : v ≡ None → os ≡ [] → OptionalSays said os v
+
+-- under a fallback: what its value says, or no piece and what stands in its place
+pub data FallbackSays {T : Type 0} (said : Said T) (kept : T → Type 0) (os : List LinePiece)
+    (v : T) : Type 0 where
+  says_own : said os v → FallbackSays said kept os v
+  says_kept : os ≡ [] → kept v → FallbackSays said kept os v
+
+-- the first pieces, at least one, have the value
+pub record FrontSays {T : Type 0} (said : Said T) (os : List LinePiece) (v : T)
+    (rest : List LinePiece) : Type 0 where
+  pub part : List LinePiece
+  pub is : os ≡ part ++ rest
+  pub some : part ≡ [] → ⊥
+  pub told : said part v
+
+-- the values of a repeat, in line order; or, where no piece is there, the one that stands for that
+pub data RepeatSays {T : Type 0} (said : Said T) (os : List LinePiece) (vs : List T) : Type 0 where
+  says_in_turn : Own T (FrontSays said) os vs → RepeatSays said os vs
+  says_alone : (a : T) → os ≡ [] → vs ≡ a ∷ [] → said [] a → RepeatSays said os vs
+
+-- the last value of a repeat
+pub record LastSays {T : Type 0} (said : Said T) (os : List LinePiece) (v : T) : Type 0 where
+  pub values : List T
+  pub told : RepeatSays said os values
+  pub is : IsLast T values v
+
+-- what the values of fields say of the pieces of a line, and of the words that are left to them
+abbrev pub FieldsSaid : Type 0 → Type 1
+FieldsSaid V = List LinePiece → List LinePiece → V → Type 0
+
+-- a record: what the values of its fields say from which its constructor makes it; the words are
+-- the pieces that begin with none of its keys
+pub record RecordSays {V T : Type 0} (said : FieldsSaid V) (names : List Names) (f : Closure V T)
+    (os : List LinePiece) (v : T) : Type 0 where
+  pub from : V
+  pub fields : said os (unkeyed names os) from
+  pub made : f.yes from v
+
+-- That a value says so.
+
+-- a value of this form says so of the pieces that it is read off
+abbrev pub FormSays : {T : Type 0} → FlatForm T → FieldKind → Said T → Type 0
+FormSays not_flat kind said = Unit {0}
+FormSays {T = T} (alternative q value) kind said =
+    (kind ≡ ByName) × ((o : LinePiece) (v : T) → value o v → said (o ∷ []) v)
+FormSays {T = T} (single k q group gap) kind said =
+    (kind ≡ k) × ((os rest : List LinePiece) (v : T) → group os v rest → FrontSays said os v rest)
+    × ((v : T) → gap.absent v → said [] v)
+FormSays {T = T} (complete k q value) kind said =
+    (kind ≡ k) × ((os : List LinePiece) (v : T) → value os v → said os v)
+FormSays {T = T} (product r fields) kind said =
+    (os : List LinePiece) (v : T) → fields.value os v → said os v
+
+-- a value of such a parser does
+pub record Says {T : Type 0} (form : FlatForm T) (kind : FieldKind) (said : Said T) : Type 0 where
+  pub by : FormSays form kind said
+
+-- values of such fields say so of all pieces of a line, of which those that they are read off are
+-- all that begin with their keys
+abbrev pub FieldsFormSays : {V : Type 0} → FlatForm V → FieldsSaid V → Type 0
+FieldsFormSays {V = V} (product r fields) said =
+    (whole os : List LinePiece) (v : V) → fields.value os v → mine r whole ≡ mine r os
+    → said whole (others r os) v
+FieldsFormSays _ said = Unit {0}
+
+-- the values of fields do
+pub record FieldsSay {V : Type 0} (form : FlatForm V) (said : FieldsSaid V) : Type 0 where
+  pub by : FieldsFormSays form said

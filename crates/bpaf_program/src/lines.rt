@@ -1,0 +1,20 @@
+//! Lines of a text that a program prints.
+ghost use Rattle.std.specs.Prelude.{◌≡◌, ◌++◌, OnOk, map, string_bytes};
+ghost use Rattle.bpaf_program.specs.Lines.{line_each};
+
+use std::alloc::AllocError;
+
+/// Appends a line for each text, with this in front of it; refused only for want of memory.
+///
+/// ```text
+/// push_lines(&mut text, "file: ", files.as_slice())?;      file: a, file: b, a line each
+/// ```
+pub fn push_lines(text: &mut String, front: &str, texts: &[String]) -> Result<(), AllocError>
+    ensures { OnOk result (string_bytes text.new
+        ≡ string_bytes text.old ++ line_each front.now (map string_bytes texts.now)) }
+{
+    for line in texts {
+        writeln!(text, "{front}{line}")?;
+    }
+    Ok(())
+}
