@@ -1,9 +1,9 @@
 //! A remover, of which it is proved, from its words to its bytes, that it tells of no file as
 //! removed unless its key was spelled.
-ghost use Rattle.std.specs.Prelude.{◌≡◌, true, IfOk, map, string_bytes};
-ghost use Rattle.bpaf_program.specs.Running.{AnswersText, RunsTo};
+ghost use Rattle.std.specs.Prelude.{◌≡◌, true, IfOk, codes, map, string_bytes};
+ghost use Rattle.bpaf_program.specs.Running.{OrPage, RunsTo};
 ghost use Rattle.bpaf_record.specs.Spelled.{WasSpelled};
-ghost use Rattle.bpaf_guide.specs.Remove.{IsRemovalText, force_names, front};
+ghost use Rattle.bpaf_guide.specs.Remove.{IsRemovalText, force_names};
 
 use bpaf::{Args, ParseFailure, Parser, construct, positional, short};
 use bpaf_program::{print, push_lines};
@@ -22,7 +22,7 @@ pub struct Removal {
 /// The removal that the words tell. It is forced only where one of the words before the first `--`
 /// spells `-f` or `--force`, alone or among joined letters.
 pub fn read_removal(alloc: Global, words: &[String]) -> Result<Removal, ParseFailure>
-    ensures forced { IfOk result (λ removal.
+    ensures { IfOk result (λ removal.
         removal.force ≡ true → WasSpelled force_names (map string_bytes words.now)) }
 {
     let depth = short(alloc, 'd')?.argument::<u64>("N").optional();
@@ -40,15 +40,16 @@ pub fn read_removal(alloc: Global, words: &[String]) -> Result<Removal, ParseFai
 /// Runs the remover on its words and gives its status. Its files are printed a line each, as
 /// `removed: FILE` only where `-f` or `--force` was spelled, else as `kept: FILE`.
 pub fn run<W: Write, E: Write>(alloc: Global, words: &[String], out: &mut W, err: &mut E) -> u8
-    ensures { RunsTo (IsRemovalText (map string_bytes words.now)) result (W.contents out.old)
-        (W.contents out.new) (E.contents err.old) (E.contents err.new) }
+    ensures { RunsTo (OrPage (IsRemovalText (map string_bytes words.now))) result
+        (W.contents out.old) (W.contents out.new) (E.contents err.old) (E.contents err.new) }
 {
     print(lines_of(alloc, words), out, err)
 }
 
 /// The lines of the removal that the words tell; refused where they tell none.
 fn lines_of(alloc: Global, words: &[String]) -> Result<String, ParseFailure>
-    ensures { AnswersText (IsRemovalText (map string_bytes words.now)) result }
+    ensures { IfOk result (λ text.
+        IsRemovalText (map string_bytes words.now) (string_bytes text)) }
 {
     let removal = read_removal(alloc, words)?;
     let mut text = String::new(alloc);
@@ -58,7 +59,7 @@ fn lines_of(alloc: Global, words: &[String]) -> Result<String, ParseFailure>
 
 /// What is told of each file.
 fn told(force: bool) -> &'static str
-    ensures { result.now ≡ front force }
+    ensures { result.now ≡ codes "removed: " → force ≡ true }
 {
     if force { "removed: " } else { "kept: " }
 }

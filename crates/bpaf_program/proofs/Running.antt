@@ -1,6 +1,6 @@
 -- A program that prints its answer runs to the texts that answer its words.
 use Rattle.std.proofs.Common.{Ok, ◌≡◌, ◌⊎◌, ℕ, Bool, List, Option, Result, Err, string_bytes, codes}
-use Rattle.std.proofs.Common.{All, IsUtf8, inl, inr, map, refl, slice_index_or, subst, ◌∙◌}
+use Rattle.std.proofs.Common.{All, IfOk, IsUtf8, inl, inr, map, refl, slice_index_or, subst, ◌∙◌}
 use Rattle.std.specs.declared.alloc.Global.{Global}
 use Rattle.std.specs.Prelude.{String}
 use Rattle.std.specs.Io.KnownBytes.{Appends}
@@ -15,7 +15,7 @@ use Rattle.bpaf.specs.Asked.{IfShown}
 use Rattle.bpaf_program.specs.Ending.{AppendsPart, IsPrinted, IsTold, no_memory, printed_in_part}
 use Rattle.bpaf_program.specs.Ending.{printed_whole, refused, shown, shown_in_part, told}
 use Rattle.bpaf_program.specs.Running.{AnswersText, AnswersTextOf, FailsToWrite, IsTextOrWant}
-use Rattle.bpaf_program.specs.Running.{Prints, PrintsTextOf, RunsTo, WritesText, in_part}
+use Rattle.bpaf_program.specs.Running.{OrPage, Prints, PrintsTextOf, RunsTo, WritesText, in_part}
 use Rattle.bpaf_program.specs.Running.{memory_wanted, message, write_failed, written}
 
 -- texts are in UTF-8
@@ -37,15 +37,6 @@ pub refusal_answers : (answers : List ℕ → Type 0) (asked : List Piece → Bo
 refusal_answers answers asked help (Stdout doc full) is = help doc full is
 refusal_answers answers asked help (Stderr doc) is = tt
 refusal_answers answers asked help Memory is = tt
-
--- each refusal that a step hands on does, where every page does
-pub page_answers : {F : ParseFailure → Type 0} (answers : List ℕ → Type 0)
-    → ((doc : List Piece) (full : Bool) → answers (printed full doc))
-    → (r : Result (String Global) ParseFailure) → IsErr r × IsErrAnd r F → AnswersText answers r
-page_answers answers page (Ok text) is = let no = is.0 in absurd cc
-page_answers answers page (Err (Stdout doc full)) is = page doc full
-page_answers answers page (Err (Stderr doc)) is = tt
-page_answers answers page (Err Memory) is = tt
 
 module _ (answers : List ℕ → Type 0) (out out_after err err_after : Option (List ℕ)) where
   -- the status of what is told is 0 or 1
@@ -92,6 +83,23 @@ module _ (answers : List ℕ → Type 0) (out out_after err err_after : Option (
     succeeds = told_text f n is answer;
     fails = told_none f n is answer;
   }
+
+-- where texts of this kind are given, an answer gives one or shows a page
+gives_or_shows : (said : List ℕ → Type 0) (r : Result (String Global) ParseFailure)
+    → IfOk r (λ text. said (string_bytes text)) → AnswersText (OrPage said) r
+gives_or_shows said (Ok text) is = inl is
+gives_or_shows said (Err (Stdout doc full)) is = inr (doc, full, refl)
+gives_or_shows said (Err (Stderr doc)) is = tt
+gives_or_shows said (Err Memory) is = tt
+
+-- So it is with what is printed, whatever the page is.
+pub runs_to_said : (said : List ℕ → Type 0) {out out_after err err_after : Option (List ℕ)}
+    {r : Result (String Global) ParseFailure} {status : ℕ}
+    → IsPrinted out out_after err err_after string_bytes r status
+    → IfOk r (λ text. said (string_bytes text))
+    → RunsTo (OrPage said) status out out_after err err_after
+runs_to_said said {out} {out_after} {err} {err_after} {r} {status} printed is =
+    runs_to (OrPage said) out out_after err err_after r status printed (gives_or_shows said r is)
 
 module _ (out out_after err err_after : Option (List ℕ)) where
   -- where memory was wanted, that alone is told

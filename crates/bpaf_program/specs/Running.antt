@@ -1,7 +1,9 @@
 -- What a program writes that answers its words with a text.
-use Rattle.std.specs.Prelude.{◌≡◌, ◌⊎◌, ℕ, List, Option, Result, Ok, Err, String, string_bytes}
+use Rattle.std.specs.Prelude.{◌≡◌, ◌⊎◌, ℕ, Bool, List, Option, Result, Ok, Err, String}
+use Rattle.std.specs.Prelude.{string_bytes}
 use Rattle.std.specs.declared.alloc.Global.{Global}
 use Rattle.std.specs.Io.KnownBytes.{Keeps, Appends}
+use Rattle.bpaf_doc.specs.declared.doc.Piece.{Piece}
 use Rattle.bpaf_doc.specs.Print.{printed}
 use Rattle.bpaf_line.specs.declared.failure.ParseFailure.{ParseFailure}
 use Rattle.bpaf_line.specs.declared.failure.ParseFailure.TheVariants.{Stdout, Stderr, Memory}
@@ -13,6 +15,10 @@ AnswersText answers (Ok text) = answers (string_bytes text)
 AnswersText answers (Err (Stdout doc full)) = answers (printed full doc)
 AnswersText answers (Err (Stderr doc)) = Unit {0}
 AnswersText answers (Err Memory) = Unit {0}
+
+-- a text of this kind, or a page that is shown
+abbrev pub OrPage : (List ℕ → Type 0) → List ℕ → Type 0
+OrPage said text = said text ⊎ ((doc : List Piece) × (full : Bool) × (text ≡ printed full doc))
 
 -- exactly one of these texts is written, and nothing on the error writer
 pub record WritesText (answers : List ℕ → Type 0) (out out_after err err_after : Option (List ℕ))

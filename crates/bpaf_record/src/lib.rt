@@ -24,6 +24,11 @@
 //!   of nobody or a value behind a flag's key is refused, and no positional field gets a value that
 //!   belongs to a key.
 //!
+//! - The same run says of each value what its fields say, each of the pieces of the line that are
+//!   its own, whatever the others are (clause `fields`, `SaysOfWords`): by the ghost member `says`
+//!   of each field's type, over that of the parser inside. Lemmas of proofs/Answered.antt tell it
+//!   of the words.
+//!
 //! bpaf has no such calls.
 #![tactic(auto)]
 

@@ -4,8 +4,7 @@ use Rattle.bpaf_guide.specs.Remove.{force_names}
 use Rattle.bpaf_guide.proofs.remove.read_removal.Goals as goal
 
 pub returns : goal.returns
-returns c = record {
-  forced = answer_says c.run_record.result (c.run_record.ensures.fields (tt, (tt, tt))) (λ removal told.
-      switch_spelled told told.told.fields.1.0 (search rules) force_names (search rules)
-      (map string_bytes c.args.words.now) (search rules) removal.force (search rules));
-}
+returns c = answer_says c.run_record.result (c.run_record.ensures.fields (tt, (tt, tt)))
+    (λ removal told. switch_spelled told told.told.fields.1.0 (search rules)
+    force_names (search rules) (map string_bytes c.args.words.now) (search rules)
+    removal.force (search rules))
