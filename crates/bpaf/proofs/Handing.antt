@@ -7,7 +7,7 @@ use Rattle.bpaf_doc.specs.declared.doc.Piece.{Piece}
 use Rattle.bpaf_doc.specs.Shape.{Part, Shape}
 use Rattle.bpaf_line.specs.declared.error.Error.{Error}
 use Rattle.bpaf_line.specs.declared.error.Message.{Message}
-use Rattle.bpaf_line.specs.declared.error.Message.TheVariants.{Missing, ParseFailure}
+use Rattle.bpaf_line.specs.declared.error.Message.TheVariants.{Memory, Missing, ParseFailure}
 use Rattle.bpaf_line.specs.declared.failure.ParseFailure.{ParseFailure as Failure}
 use Rattle.bpaf_line.specs.declared.failure.ParseFailure.TheVariants as failure
 use Rattle.bpaf_line.specs.Combining.{Combines, CombinesSpared}
@@ -136,6 +136,17 @@ missing_shows_nothing shows s m doc full lacks is =
     ⊎_elim (λ want. absurd cc)
     (λ part. let other : m ≡ Missing part.1 = part.3 in absurd cc) lacks
 
+-- want of memory shows nothing
+want_shows_nothing : {A : Type 0} (m : Message) (doc : List Piece) (full : Bool) → m ≡ Memory
+    → m ≡ inner_answer doc full
+    → A
+want_shows_nothing m doc full want is = cc
+
+-- nor is it a page at the end of a run
+want_is_no_page : {A : Type 0} (doc : List Piece) (full : Bool)
+    → failure.Memory ≡ failure.Stdout doc full → A
+want_is_no_page doc full is = cc
+
 module _ (describes : Shape → Type 0) (info : RunInfo) {T : Type 0} {inner : Outcome T}
     {reads : Readings T} (law : Lawful T inner reads) (showing : Showing)
     (handed : HandsOn showing inner) (plain : info.help_if_no_args ≡ false) where
@@ -166,7 +177,7 @@ module _ (describes : Shape → Type 0) (info : RunInfo) {T : Type 0} {inner : O
         attempt_shows end f t run ran is
     retry_shows end f g t u run ran (second_fails h stop w told left again other) is =
         attempt_shows end f t run ran is
-    retry_shows end f g t u run ran wants_memory is = cc
+    retry_shows end f g t u run ran wants_memory is = want_is_no_page doc full is
 
     -- so do attempts
     attempts_show : (g : Failure) (u : Situation) → Attempts T inner Ends s from (Err g) u
@@ -195,7 +206,8 @@ module _ (describes : Shape → Type 0) (info : RunInfo) {T : Type 0} {inner : O
         (end_is_shown f doc full (sym same ∙ is)))
     plain_shows s e t doc full (missing told none same) is =
         absurd (missing_shows_nothing shows s e.0 doc full same is)
-    plain_shows s e t doc full (no_memory told p at same) is = cc
+    plain_shows s e t doc full (no_memory told p at same) is =
+        want_shows_nothing e.0 doc full same is
 
     -- so does an adjacent one
     adjacent_shows : (s : Situation) (e : Error) (t : Situation) (doc : List Piece) (full : Bool)
@@ -207,7 +219,8 @@ module _ (describes : Shape → Type 0) (info : RunInfo) {T : Type 0} {inner : O
         (end_is_shown f doc full (sym same ∙ is)))
     adjacent_shows s e t doc full (unnamed told none same) is =
         absurd (missing_shows_nothing shows s e.0 doc full same is)
-    adjacent_shows s e t doc full (no_path told p at same) is = cc
+    adjacent_shows s e t doc full (no_path told p at same) is =
+        want_shows_nothing e.0 doc full same is
 
     -- so does each command
     pub command_hands_on : (adjacent : Bool)
