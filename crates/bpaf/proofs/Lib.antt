@@ -11,3 +11,4 @@ pub mod Trying
 pub mod Seeking
 pub mod LeafSparing
 pub mod StretchEnds
+pub mod WithoutValue

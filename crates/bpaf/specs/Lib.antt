@@ -6,3 +6,4 @@ pub mod Marker
 pub mod Remembering
 pub mod PlaceTried
 pub mod Leaves
+pub mod WithoutValue

@@ -42,8 +42,7 @@ struct FailFast<'p, P> {
     product: &'p P,
 }
 
-impl<'p, V: Drop, T: Drop, P: Fields<V>, F: Fn(V) -> T> Parser<T>
-    for FailFast<'p, ParseCon<V, P, F>> {
+impl<'p, V, T: Drop, P: Fields<V>, F: Fn(V) -> T> Parser<T> for FailFast<'p, ParseCon<V, P, F>> {
     ghost use Rattle.bpaf_laws.specs.Product.{ProductOutcome, ProductReads, ProductDescribes};
     ghost use Rattle.bpaf_laws.proofs.ProductLaws.{product_lawful};
 
@@ -103,7 +102,6 @@ impl<V, P, F> ParseCon<V, P, F> {
     /// ```
     pub fn adjacent<T>(self, alloc: Global) -> Result<ParseAdjacent<Self>, AdjacentError>
     where
-        V: Drop,
         T: Drop,
         P: Fields<V> + Drop,
         F: Fn(V) -> T + Drop,
@@ -137,7 +135,7 @@ impl<V, P, F> ParseCon<V, P, F> {
 /// Without a value the answer is the failure that took most places, the earlier one of equals, with
 /// the state that it left; where none took a place the first item is missing. Want of memory is
 /// refused at once.
-impl<V: Drop, T: Drop, P: Fields<V>, F: Fn(V) -> T> Parser<T> for ParseAdjacent<ParseCon<V, P, F>> {
+impl<V, T: Drop, P: Fields<V>, F: Fn(V) -> T> Parser<T> for ParseAdjacent<ParseCon<V, P, F>> {
     ghost use Rattle.std.specs.Prelude.{IfOk};
     ghost use Rattle.bpaf_doc.specs.Shape.{part_of};
     ghost use Rattle.bpaf_laws.specs.Laws.{newly};

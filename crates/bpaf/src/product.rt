@@ -2,6 +2,7 @@
 ghost use Rattle.std.specs.Prelude.{◌≡◌, OnOk, map};
 ghost use Rattle.bpaf_doc.specs.Shape.{shape_of};
 ghost use Rattle.bpaf_laws.specs.Product.{AppendsShapes};
+ghost use Rattle.bpaf.specs.WithoutValue.{IsErrorBefore};
 
 use bpaf_core::Parser;
 use bpaf_doc::Meta;
@@ -17,6 +18,7 @@ pub trait Fields<V>: Sized {
     ghost use Rattle.bpaf_laws.specs.Reading.{Outcome, Readings};
     ghost use Rattle.bpaf_laws.specs.Laws.{Lawful};
     ghost use Rattle.bpaf_laws.specs.Spared.{Spares};
+    ghost use Rattle.bpaf.specs.WithoutValue.{WithoutValue};
 
     /// Whether each field may be evaluated.
     ghost can_eval: { Self → Type 0 };
@@ -38,6 +40,12 @@ pub trait Fields<V>: Sized {
     fn eval_fields(&self, state: &mut State) -> Result<V, Error>
         requires { can_eval self.now }
         ensures { outcome self.now state.old result state.new };
+
+    /// The same, each value dropped where it was read: fields behind one that has failed are
+    /// evaluated for want of memory alone.
+    fn eval_without_value(&self, state: &mut State) -> Result<(), Error>
+        requires { can_eval self.now }
+        ensures { WithoutValue (outcome self.now) state.old result state.new };
 
     /// Appends what each field shows; refused only for want of memory.
     fn push_metas(&self, alloc: Global, metas: &mut Vec<Meta>) -> Result<(), AllocError>
@@ -95,6 +103,13 @@ impl<T: Drop, A: Parser<T>> Fields<T> for Last<A> {
         self.last.eval(state)
     }
 
+    fn eval_without_value(&self, state: &mut State) -> Result<(), Error> {
+        match self.last.eval(state) {
+            Ok(_) => Ok(()),
+            Err(error) => Err(error),
+        }
+    }
+
     fn push_metas(&self, alloc: Global, metas: &mut Vec<Meta>) -> Result<(), AllocError> {
         metas.push(self.last.meta(alloc)?)?;
         Ok(())
@@ -128,7 +143,7 @@ pub struct Both<A, R> {
     pub rest: R,
 }
 
-impl<T: Drop, V: Drop, A: Parser<T>, R: Fields<V>> Fields<(T, V)> for Both<A, R> {
+impl<T: Drop, V, A: Parser<T>, R: Fields<V>> Fields<(T, V)> for Both<A, R> {
     ghost use Rattle.bpaf_laws.specs.Spared.{WithoutMemory};
     ghost use Rattle.bpaf_laws.specs.Product.{BothOutcome, BothReads, BothDescribes};
     ghost use Rattle.bpaf_laws.specs.Product.{FailFastOutcome};
@@ -149,21 +164,15 @@ impl<T: Drop, V: Drop, A: Parser<T>, R: Fields<V>> Fields<(T, V)> for Both<A, R>
                 Ok(rest) => Ok((first, rest)),
                 Err(error) => Err(error),
             },
-            Err(error) => {
-                if error.0.is_memory() {
-                    return Err(error);
-                }
-                match self.rest.eval_fields(state) {
-                    Ok(_) => Err(error),
-                    Err(later) => {
-                        if later.0.is_memory() {
-                            Err(later)
-                        } else {
-                            Err(error)
-                        }
-                    }
-                }
-            }
+            Err(error) => Err(error_before(error, &self.rest, state)),
+        }
+    }
+
+    #[tactic(auto, using(crate::proofs::WithoutValue::rest_told))]
+    fn eval_without_value(&self, state: &mut State) -> Result<(), Error> {
+        match self.first.eval(state) {
+            Ok(_) => self.rest.eval_without_value(state),
+            Err(error) => Err(error_before(error, &self.rest, state)),
         }
     }
 
@@ -201,6 +210,29 @@ impl<T: Drop, V: Drop, A: Parser<T>, R: Fields<V>> Fields<(T, V)> for Both<A, R>
         (R.outcome p.rest) (R.spared_outcome p.rest) (R.memory_is_never_caught p.rest) };
 }
 
+/// The error of a product whose first field has failed: the fields behind it are evaluated too,
+/// unless it wanted memory, and theirs is told where they do.
+fn error_before<V, R: Fields<V>>(error: Error, rest: &R, state: &mut State) -> Error
+    requires { R.can_eval rest.now }
+    ensures { IsErrorBefore (R.outcome rest.now) error state.old result state.new }
+{
+    if error.0.is_memory() {
+        return error;
+    }
+    match rest.eval_without_value(state) {
+        Ok(()) => error,
+        Err(later) => {
+            if later.0.is_memory() {
+                drop(error);
+                later
+            } else {
+                drop(later);
+                error
+            }
+        }
+    }
+}
+
 /// A product: what a constructor makes of the values of fields (bpaf's `ParseCon`, in
 /// `structs.rs`).
 ///
@@ -233,7 +265,7 @@ impl<V, P, F> ParseCon<V, P, F> {
     }
 }
 
-impl<V: Drop, T: Drop, P: Fields<V>, F: Fn(V) -> T> Parser<T> for ParseCon<V, P, F> {
+impl<V, T: Drop, P: Fields<V>, F: Fn(V) -> T> Parser<T> for ParseCon<V, P, F> {
     ghost use Rattle.bpaf_laws.specs.Spared.{IsNotMemory};
     ghost use Rattle.bpaf_laws.specs.Product.{ProductOutcome, ProductReads, ProductDescribes};
     ghost use Rattle.bpaf_laws.proofs.ProductLaws.{product_lawful};

@@ -46,9 +46,16 @@ impl<T: Drop, A: Parser<T>, B: Parser<T>> Parser<T> for ParseOrElse<A, B> {
             state.undo(start.mark);
             return first;
         }
-        let this = Branch::leave(state, start)?;
+        let this = match Branch::leave(state, start) {
+            Ok(this) => this,
+            Err(error) => {
+                drop(first);
+                return Err(Error::from(error));
+            }
+        };
         let second = self.that.eval(state);
         if is_want(&second) {
+            drop(first);
             state.undo(start.mark);
             return second;
         }

@@ -8,9 +8,9 @@ ghost use Rattle.bpaf_laws.specs.Default.{ShowsFormatted};
 
 use crate::optional::optional_meta;
 use crate::parser::Parser;
-use bpaf_doc::{Doc, Meta, Text};
-use bpaf_line::{Error, Message, State};
-use bpaf_parts::{debugged, displayed, formatted};
+use bpaf_doc::{Doc, Meta};
+use bpaf_line::{Error, State};
+use bpaf_parts::{debugged, displayed, formatted, given_by};
 use std::alloc::{AllocError, Global};
 use std::fmt::{Debug, Display};
 use std::marker::PhantomData;
@@ -27,6 +27,7 @@ fn attempt<T: Drop, P: Parser<T>>(parser: &P, state: &mut State) -> Result<Optio
         Err(error) => {
             state.undo(mark);
             if error.can_catch() {
+                drop(error);
                 Ok(None)
             } else {
                 Err(error)
@@ -281,15 +282,9 @@ impl<T: Drop, E: Display + Drop, P: Parser<T>, F: Fn() -> Result<T, E>> Parser<T
             (GivesAnswer (λ r. F.post self.now.fallback r) E.output)
             state.old result state.new }
     {
-        if let Some(value) = attempt(&self.inner, state)? {
-            return Ok(value);
-        }
-        match (self.fallback)() {
-            Ok(value) => Ok(value),
-            Err(fault) => {
-                let text = Text::from(fault.to_string(state.alloc())?);
-                Err(Error(Message::PureFailed(text)))
-            }
+        match attempt(&self.inner, state)? {
+            Some(value) => Ok(value),
+            None => given_by(state.alloc(), &self.fallback),
         }
     }
 

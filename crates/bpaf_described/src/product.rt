@@ -23,6 +23,10 @@ impl<'p, V, P: Fields<V>> Fields<V> for LentFields<'p, P> {
         self.inner.eval_fields(state)
     }
 
+    fn eval_without_value(&self, state: &mut State) -> Result<(), Error> {
+        self.inner.eval_without_value(state)
+    }
+
     fn push_metas(&self, alloc: Global, metas: &mut Vec<Meta>) -> Result<(), AllocError> {
         self.inner.push_metas(alloc, metas)
     }

@@ -12,7 +12,8 @@
 //!   [`or_meta`] what a choice shows.
 //! - [`is_present`] is the one test for flags; [`take_argument`] takes the text of an argument;
 //!   [`first_set`] and [`absence`] tell of names in the environment; [`read_text`] reads the value
-//!   of a taken text; [`displayed`], [`debugged`] and [`formatted`] write a default.
+//!   of a taken text; [`displayed`], [`debugged`] and [`formatted`] write a default, and
+//!   [`given_by`] is the value of a closure that takes nothing.
 //! - [`end_message`] makes the end of an inner run a refusal (specs/Failures.antt), [`hide`] names
 //!   no missing item in one, [`guard_failed`] tells a check, and [`stops_step`] at which a turn
 //!   stops.
@@ -21,6 +22,7 @@
 #![tactic(auto)]
 
 mod branch;
+mod closure;
 mod environment;
 mod failures;
 mod given;
@@ -32,6 +34,7 @@ mod table;
 mod value;
 
 pub use branch::{Branch, Start, resume};
+pub use closure::given_by;
 pub use environment::{absence, first_set, is_present, take_argument};
 pub use failures::{end_message, guard_failed, hide, stops_step, wants_memory};
 pub use given::renamed;

@@ -49,10 +49,11 @@ pub fn this_or_that<T: Drop>(
         ⊎ IsWant (start_of start state.old) result state.new }
 {
     if this.depth > state.depth() {
-        resume(state, start.mark, this.steps)?;
-        return first;
+        drop(second);
+        return resume_with(state, start.mark, this.steps, first);
     }
     if this.depth < state.depth() {
+        drop(first);
         return second;
     }
     match (first, second) {
@@ -62,6 +63,28 @@ pub fn this_or_that<T: Drop>(
         (Err(error), Err(other)) => {
             state.undo(start.mark);
             Err(error.combine_with(other))
+        }
+    }
+}
+
+/// Goes back to a mark, does the steps since it and hands on what was answered there; where memory
+/// is refused the state is that of the mark.
+fn resume_with<T: Drop>(
+    state: &mut State,
+    mark: Mark,
+    steps: Steps,
+    answer: Result<T, Error>,
+) -> Result<T, Error>
+    requires fits { Fits mark state.old }
+    requires steps { CanRedo steps (undone mark state.old) }
+    ensures { ((result ≡ answer) × (state.new ≡ redone steps (undone mark state.old)))
+        ⊎ IsWant (undone mark state.old) result state.new }
+{
+    match resume(state, mark, steps) {
+        Ok(()) => answer,
+        Err(error) => {
+            drop(answer);
+            Err(Error::from(error))
         }
     }
 }
@@ -85,8 +108,8 @@ fn value_of_first<T: Drop>(
         state.undo(start.mark);
         return Err(error);
     }
-    resume(state, start.mark, this.steps)?;
-    Ok(value)
+    drop(error);
+    resume_with(state, start.mark, this.steps, Ok(value))
 }
 
 /// The value of the second branch, where the state is; the other's error, where that is wrong input
@@ -105,6 +128,7 @@ fn value_of_second<T: Drop>(
         state.undo(start.mark);
         return Err(error);
     }
+    drop(error);
     Ok(value)
 }
 
@@ -124,8 +148,8 @@ fn value_of_both<T: Drop>(
         ⊎ IsWant (start_of start state.old) result state.new }
 {
     if this.left == start.left && state.len() == start.left {
-        resume(state, start.mark, this.steps)?;
-        return Ok(x);
+        drop(y);
+        return resume_with(state, start.mark, this.steps, Ok(x));
     }
     match value_of_winner(state, start.mark, x, this.steps, y) {
         Ok(value) => Ok(value),

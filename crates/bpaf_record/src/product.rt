@@ -60,7 +60,7 @@ impl<A: HasKeys, R: HasKeys> HasKeys for Both<A, R> {
 }
 
 /// Where a named field stands behind a positional one, or two share a name, they aren't flat.
-impl<T: Drop, V: Drop, A: FlatField<T>, R: FlatFields<V>> FlatFields<(T, V)> for Both<A, R> {
+impl<T: Drop, V, A: FlatField<T>, R: FlatFields<V>> FlatFields<(T, V)> for Both<A, R> {
     ghost use Rattle.bpaf_exact.specs.Says.{its_pieces, words_after};
     ghost use Rattle.bpaf_exact.proofs.Says.{both_say, field_owned, field_says, owned};
     ghost use Rattle.bpaf_exact.specs.FlatForm.{flat_both, flat_field};
@@ -107,7 +107,7 @@ impl<V, P: HasKeys, F> HasKeys for ParseCon<V, P, F> {
     }
 }
 
-impl<V: Drop, T: Drop, P: FlatFields<V>, F: Fn(V) -> T> FlatField<T> for ParseCon<V, P, F> {
+impl<V, T: Drop, P: FlatFields<V>, F: Fn(V) -> T> FlatField<T> for ParseCon<V, P, F> {
     ghost use Rattle.bpaf_exact.specs.Flat.{ByName};
     ghost use Rattle.bpaf_exact.specs.Says.{RecordSays};
     ghost use Rattle.bpaf_exact.proofs.Says.{con_says, owned};

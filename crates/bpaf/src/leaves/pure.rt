@@ -4,6 +4,7 @@ ghost use Rattle.std.specs.Prelude.{◌≡◌};
 use bpaf_core::Parser;
 use bpaf_doc::{Meta, Text};
 use bpaf_line::{Error, Message, State};
+use bpaf_parts::given_by;
 use std::alloc::{AllocError, Global};
 use std::fmt::Display;
 use std::marker::PhantomData;
@@ -119,13 +120,7 @@ impl<T: Drop, F: Fn() -> Result<T, E>, E: Display + Drop> Parser<T> for ParsePur
             (TellsAnswer (λ r. F.post self.now.f r) E.output) }
     {
         state.set_current(None);
-        match (self.f)() {
-            Ok(value) => Ok(value),
-            Err(fault) => {
-                let text = Text::from(fault.to_string(state.alloc())?);
-                Err(Error(Message::PureFailed(text)))
-            }
-        }
+        given_by(state.alloc(), &self.f)
     }
 
     fn meta(&self, _alloc: Global) -> Result<Meta, AllocError> {

@@ -80,9 +80,9 @@ this_or_that-requires-clause-this g c =
     (g.met.B.Parser.lawful c.args.self.now.that) c.eval-first.result c.eval-first.new.state
     c.leave.new.state c.eval-second.result c.eval-second.new.state c.eval-first.ensures
     c.leave.ensures.back c.eval-second.ensures in
-    let led = subst (λ o. LedTo c.in_ok-this.this o c.eval-first.new.state) both.0
-    c.in_ok-this.ensures.left in
-    branch_kept s start begins back c.in_ok-this.this c.eval-first.new.state
+    let led = subst (λ o. LedTo c.in-Ok.this o c.eval-first.new.state) both.0
+    c.in-Ok.ensures.left in
+    branch_kept s start begins back c.in-Ok.this c.eval-first.new.state
     c.eval-second.new.state led both.1
 
 -- both branches ran, and the table's answer is the answer
@@ -100,8 +100,8 @@ ran g c =
     (g.met.B.Parser.lawful c.args.self.now.that) c.eval-first.result c.eval-first.new.state
     c.leave.new.state c.eval-second.result c.eval-second.new.state c.eval-first.ensures
     c.leave.ensures.back c.eval-second.ensures in
-    let led = subst (λ o. LedTo c.in_ok-this.this o c.eval-first.new.state) both.0
-    c.in_ok-this.ensures.left in
+    let led = subst (λ o. LedTo c.in-Ok.this o c.eval-first.new.state) both.0
+    c.in-Ok.ensures.left in
     ran_outcome (g.A.Parser.outcome c.args.self.now.this) (g.B.Parser.outcome c.args.self.now.that)
     s c.eval-first.result c.eval-first.new.state c.eval-second.result c.eval-second.new.state
     c.this_or_that.result c.this_or_that.new.state c.eval-first.ensures
@@ -109,7 +109,7 @@ ran g c =
     c.eval-second.new.state) both.0 c.eval-second.ensures)
     (sym c.is_want.ensures ∙ c.if-is_want.false)
     (sym c.is_want-2.ensures ∙ c.if-is_want-2.false)
-    (chosen_kept s start begins back c.in_ok-this.this c.eval-first.new.state
+    (chosen_kept s start begins back c.in-Ok.this c.eval-first.new.state
     c.eval-second.new.state led both.1 c.eval-first.result c.eval-second.result
     c.this_or_that.result c.this_or_that.new.state c.this_or_that.ensures)
 
