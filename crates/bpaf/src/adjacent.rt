@@ -42,7 +42,7 @@ struct FailFast<'p, P> {
     product: &'p P,
 }
 
-impl<'p, V, T: Drop, P: Fields<V>, F: Fn(V) -> T> Parser<T> for FailFast<'p, ParseCon<V, P, F>> {
+impl<'p, V, T, P: Fields<V>, F: Fn(V) -> T> Parser<T> for FailFast<'p, ParseCon<V, P, F>> {
     ghost use Rattle.bpaf_laws.specs.Product.{ProductOutcome, ProductReads, ProductDescribes};
     ghost use Rattle.bpaf_laws.proofs.ProductLaws.{product_lawful};
 

@@ -265,7 +265,7 @@ impl<V, P, F> ParseCon<V, P, F> {
     }
 }
 
-impl<V, T: Drop, P: Fields<V>, F: Fn(V) -> T> Parser<T> for ParseCon<V, P, F> {
+impl<V, T, P: Fields<V>, F: Fn(V) -> T> Parser<T> for ParseCon<V, P, F> {
     ghost use Rattle.bpaf_laws.specs.Spared.{IsNotMemory};
     ghost use Rattle.bpaf_laws.specs.Product.{ProductOutcome, ProductReads, ProductDescribes};
     ghost use Rattle.bpaf_laws.proofs.ProductLaws.{product_lawful};

@@ -15,7 +15,7 @@ use std::alloc::{AllocError, Global};
 /// alone; with NoArgument where no text stands behind a key, those before it taken; with
 /// ParseFailed, its places taken, where the text that counts means no value; or for want of memory.
 /// A text of the environment leaves no place current.
-impl<T: FromText + Drop> Parser<T> for ParseArgument<T> {
+impl<T: FromText> Parser<T> for ParseArgument<T> {
     ghost use Rattle.std.specs.Prelude.{◌≡◌};
     ghost use Rattle.bpaf_laws.specs.Argument.{ArgumentOutcome, ArgumentReads, argument_shape};
     ghost use Rattle.bpaf_laws.proofs.ArgumentLaws.{argument_lawful};

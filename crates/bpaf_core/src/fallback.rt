@@ -17,7 +17,7 @@ use std::marker::PhantomData;
 
 /// Some of the parser's value; None where the parser answers an error that can be caught. After all
 /// but a value the state is as before.
-fn attempt<T: Drop, P: Parser<T>>(parser: &P, state: &mut State) -> Result<Option<T>, Error>
+fn attempt<T, P: Parser<T>>(parser: &P, state: &mut State) -> Result<Option<T>, Error>
     requires { P.can_eval parser.now }
     ensures { AttemptOutcome (P.outcome parser.now) state.old result state.new }
 {
@@ -121,7 +121,7 @@ impl<T: Drop, P: Drop> ParseFallback<P, T> {
 /// The inner value; or a clone of the kept one where the inner parser answers an error that can be
 /// caught. Every other error is refused; so is want of memory. After all but an inner value the
 /// state is as before.
-impl<T: Clone + Drop, P: Parser<T>> Parser<T> for ParseFallback<P, T> {
+impl<T: Clone, P: Parser<T>> Parser<T> for ParseFallback<P, T> {
     ghost use Rattle.bpaf_laws.specs.Default.{FallbackOutcome, FallbackReads, GivesClone};
     ghost use Rattle.bpaf_laws.specs.Default.{DefaultDescribes};
     ghost use Rattle.bpaf_laws.proofs.DefaultLaws.{fallback_lawful};
@@ -252,7 +252,7 @@ impl<T: Drop, P: Drop, F: Fn() -> Result<T, E> + Drop, E: Drop> ParseFallbackWit
 /// The inner value; or the closure's where the inner parser answers an error that can be caught.
 /// The closure's fault is refused with PureFailed, every other error as it is; so is want of
 /// memory. After all but an inner value the state is as before.
-impl<T: Drop, E: Display + Drop, P: Parser<T>, F: Fn() -> Result<T, E>> Parser<T>
+impl<T, E: Display + Drop, P: Parser<T>, F: Fn() -> Result<T, E>> Parser<T>
     for ParseFallbackWith<T, P, F, E> {
     ghost use Rattle.bpaf_laws.specs.Default.{FallbackOutcome, FallbackReads, GivesAnswer};
     ghost use Rattle.bpaf_laws.specs.Default.{DefaultDescribes};

@@ -12,7 +12,7 @@ use std::alloc::{AllocError, Global};
 /// A required flag, which has no absent value, answers Missing where it is absent, or NoEnv where
 /// it has names in the environment alone. The value is a clone of the kept one, which may be
 /// refused for memory; that is told as nothing else.
-impl<T: Clone + Drop> Parser<T> for ParseFlag<T> {
+impl<T: Clone> Parser<T> for ParseFlag<T> {
     ghost use Rattle.std.specs.Prelude.{◌≡◌};
     ghost use Rattle.std.specs.Result.{IfErr};
     ghost use Rattle.bpaf_core.specs.Leaves.{ClonesNothing};

@@ -12,7 +12,7 @@ pub struct ParseHide<P> {
 }
 
 /// The inner answer, with the state that it left; but a refusal with Missing names no item.
-impl<T: Drop, P: Parser<T>> Parser<T> for ParseHide<P> {
+impl<T, P: Parser<T>> Parser<T> for ParseHide<P> {
     ghost use Rattle.std.specs.Prelude.{◌≡◌};
     ghost use Rattle.bpaf_doc.specs.Shape.{Skip};
     ghost use Rattle.bpaf_laws.specs.Hide.{HideOutcome};

@@ -17,7 +17,7 @@ pub struct ParseMap<T, P, F, R> {
 }
 
 /// The state stays as the inner parser left it, and what that refuses is refused.
-impl<T: Drop, R: Drop, P: Parser<T>, F: Fn(T) -> R> Parser<R> for ParseMap<T, P, F, R> {
+impl<T, R, P: Parser<T>, F: Fn(T) -> R> Parser<R> for ParseMap<T, P, F, R> {
     ghost use Rattle.bpaf_laws.specs.Spared.{IsNotMemory, WithoutMemory};
     ghost use Rattle.bpaf_laws.specs.Transform.{MapOutcome, MapReads};
     ghost use Rattle.bpaf_laws.proofs.TransformLaws.{map_lawful};
@@ -63,7 +63,7 @@ pub struct ParseWith<T, P, F, E, R> {
 
 /// The state stays as the inner parser left it. Beside what that refuses it refuses the closure's
 /// fault, with ParseFailed, which names the current place; or for want of memory.
-impl<T: Drop, R: Drop, E: Display + Drop, P: Parser<T>, F: Fn(T) -> Result<R, E>> Parser<R>
+impl<T, R, E: Display + Drop, P: Parser<T>, F: Fn(T) -> Result<R, E>> Parser<R>
     for ParseWith<T, P, F, E, R> {
     ghost use Rattle.std.specs.Prelude.{Ok};
     ghost use Rattle.bpaf_laws.specs.Spared.{IsNotMemory, WithoutMemory};

@@ -16,7 +16,7 @@ impl<T, R, P: HasKeys, F> HasKeys for ParseMap<T, P, F, R> {
 }
 
 /// A closure that never refuses needs no premise.
-impl<T: Drop, R: Drop, P: FlatField<T>, F: Fn(T) -> R> FlatField<R> for ParseMap<T, P, F, R> {
+impl<T, R, P: FlatField<T>, F: Fn(T) -> R> FlatField<R> for ParseMap<T, P, F, R> {
     ghost use Rattle.bpaf_exact.specs.Says.{MadeSays};
     ghost use Rattle.bpaf_exact.proofs.Says.{closed_says};
     ghost use Rattle.bpaf_exact.specs.FlatForm.{flat_closed};
@@ -54,7 +54,7 @@ impl<T, P: HasKeys, F, E, R> HasKeys for ParseWith<T, P, F, E, R> {
 }
 
 /// Whether the closure accepts has to depend on the pieces alone.
-impl<T: Drop, R: Drop, E: Display + Drop, P: FlatField<T>, F: Fn(T) -> Result<R, E>> FlatField<R>
+impl<T, R, E: Display + Drop, P: FlatField<T>, F: Fn(T) -> Result<R, E>> FlatField<R>
     for ParseWith<T, P, F, E, R> {
     ghost use Rattle.bpaf_exact.specs.Says.{MadeSays};
     ghost use Rattle.bpaf_exact.proofs.Says.{closed_says};

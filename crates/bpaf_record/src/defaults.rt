@@ -52,7 +52,7 @@ impl<P: HasKeys, T> HasKeys for ParseFallback<P, T> {
     }
 }
 
-impl<T: Clone + Drop, P: FlatField<T>> FlatField<T> for ParseFallback<P, T> {
+impl<T: Clone, P: FlatField<T>> FlatField<T> for ParseFallback<P, T> {
     ghost use Rattle.bpaf_exact.specs.Says.{FallbackSays};
     ghost use Rattle.bpaf_exact.proofs.Says.{fallback_says};
     ghost use Rattle.bpaf_exact.specs.FlatForm.{flat_fallback};
@@ -91,7 +91,7 @@ impl<T, P: HasKeys, F, E> HasKeys for ParseFallbackWith<T, P, F, E> {
 }
 
 /// The closure must not refuse where it may give a value.
-impl<T: Drop, E: Display + Drop, P: FlatField<T>, F: Fn() -> Result<T, E>> FlatField<T>
+impl<T, E: Display + Drop, P: FlatField<T>, F: Fn() -> Result<T, E>> FlatField<T>
     for ParseFallbackWith<T, P, F, E> {
     ghost use Rattle.std.specs.Prelude.{Ok};
     ghost use Rattle.bpaf_exact.specs.Says.{FallbackSays};

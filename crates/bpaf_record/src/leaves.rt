@@ -19,7 +19,7 @@ impl<T> HasKeys for ParseFlag<T> {
 }
 
 /// With a name in the environment it is no flat field.
-impl<T: Clone + Drop> FlatField<T> for ParseFlag<T> {
+impl<T: Clone> FlatField<T> for ParseFlag<T> {
     ghost use Rattle.bpaf_exact.specs.Flat.{ByName};
     ghost use Rattle.bpaf_exact.specs.Says.{FlagSays};
     ghost use Rattle.bpaf_exact.proofs.Says.{flag_says};
@@ -64,7 +64,7 @@ impl<T> HasKeys for ParseArgument<T> {
 
 /// With a name in the environment, or with `adjacent`, it is no flat field. With `take_last` it is
 /// a field by itself, and no alternative of a choice.
-impl<T: FromText + Drop> FlatField<T> for ParseArgument<T> {
+impl<T: FromText> FlatField<T> for ParseArgument<T> {
     ghost use Rattle.bpaf_exact.specs.Flat.{ByName};
     ghost use Rattle.bpaf_exact.specs.Says.{ArgumentSays};
     ghost use Rattle.bpaf_exact.proofs.Says.{argument_says};
@@ -108,7 +108,7 @@ impl<T> HasKeys for ParsePositional<T> {
 }
 
 /// With `strict` or `non_strict` it is no flat field.
-impl<T: FromText + Drop> FlatField<T> for ParsePositional<T> {
+impl<T: FromText> FlatField<T> for ParsePositional<T> {
     ghost use Rattle.bpaf_exact.specs.Flat.{OneWord};
     ghost use Rattle.bpaf_exact.specs.Says.{WordSays};
     ghost use Rattle.bpaf_record.specs.Positional.{positional_says};

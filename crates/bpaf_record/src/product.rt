@@ -107,7 +107,7 @@ impl<V, P: HasKeys, F> HasKeys for ParseCon<V, P, F> {
     }
 }
 
-impl<V, T: Drop, P: FlatFields<V>, F: Fn(V) -> T> FlatField<T> for ParseCon<V, P, F> {
+impl<V, T, P: FlatFields<V>, F: Fn(V) -> T> FlatField<T> for ParseCon<V, P, F> {
     ghost use Rattle.bpaf_exact.specs.Flat.{ByName};
     ghost use Rattle.bpaf_exact.specs.Says.{RecordSays};
     ghost use Rattle.bpaf_exact.proofs.Says.{con_says, owned};

@@ -150,7 +150,7 @@ fn misplaced(
 /// Refused with Missing where there is none, with StrictPos or NonStrictPos where it stands on the
 /// wrong side of `--`, with ParseFailed where its text means no value (in these three the word is
 /// taken); or for want of memory.
-impl<T: FromText + Drop> Parser<T> for ParsePositional<T> {
+impl<T: FromText> Parser<T> for ParsePositional<T> {
     ghost use Rattle.std.specs.Prelude.{◌≡◌};
     ghost use Rattle.std.specs.Result.{IfErr};
     ghost use Rattle.bpaf.specs.Leaves.{FaultsWordAlone};

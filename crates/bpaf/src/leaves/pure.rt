@@ -30,7 +30,7 @@ pub fn pure<T>(value: T) -> ParsePure<T>
 }
 
 /// A clone of the kept value, refused only for want of memory. No place is current then.
-impl<T: Clone + Drop> Parser<T> for ParsePure<T> {
+impl<T: Clone> Parser<T> for ParsePure<T> {
     ghost use Rattle.std.specs.Prelude.{◌≡◌};
     ghost use Rattle.bpaf_doc.specs.Shape.{Skip};
     ghost use Rattle.std.specs.Prelude.{true};
@@ -94,7 +94,7 @@ pub fn pure_with<T, F: Fn() -> Result<T, E>, E: Display>(f: F) -> ParsePureWith<
 
 /// The closure's value; its fault is refused with PureFailed, and so is want of memory for the text
 /// of that. No place is current then.
-impl<T: Drop, F: Fn() -> Result<T, E>, E: Display + Drop> Parser<T> for ParsePureWith<T, F, E> {
+impl<T, F: Fn() -> Result<T, E>, E: Display + Drop> Parser<T> for ParsePureWith<T, F, E> {
     ghost use Rattle.std.specs.Prelude.{◌≡◌};
     ghost use Rattle.bpaf_doc.specs.Shape.{Skip};
     ghost use Rattle.std.specs.Result.{IfErr};
@@ -154,7 +154,7 @@ pub fn fail<T>(message: &'static str) -> ParseFail<T>
 }
 
 /// Refused with ParseFail, or for want of memory for the message. No place is current then.
-impl<T: Drop> Parser<T> for ParseFail<T> {
+impl<T> Parser<T> for ParseFail<T> {
     ghost use Rattle.std.specs.Prelude.{◌≡◌};
     ghost use Rattle.bpaf_doc.specs.Shape.{Skip};
     ghost use Rattle.std.specs.Result.{IfErr};
