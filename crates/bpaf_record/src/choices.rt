@@ -6,30 +6,21 @@ ghost use Rattle.bpaf_record.specs.Form.{form_of, forms_rest};
 
 use crate::field::FlatField;
 use crate::form::Form;
-use crate::keys::{ApartFromAll, HasKeys, KeyTest};
+use crate::keys::{ApartFromField, KeyTest};
 use bpaf::parsers::{ParseChoice, ParseOrElse};
-
-impl<A: HasKeys, B: HasKeys> HasKeys for ParseOrElse<A, B> {
-    ghost use Rattle.std.specs.Prelude.{◌++◌};
-
-    ghost keys = { λ p. A.keys p.this ++ B.keys p.that };
-
-    #[tactic(auto, using(crate::proofs::Products::all_joined))]
-    fn all_keys<N: KeyTest>(&self, test: &N) -> bool {
-        let this = self.this.all_keys(test);
-        let that = self.that.all_keys(test);
-        this && that
-    }
-}
+use std::marker::PhantomData;
 
 /// Of required flags and arguments alone, whose names are apart.
 impl<T: Drop, A: FlatField<T>, B: FlatField<T>> FlatField<T> for ParseOrElse<A, B> {
+    ghost use Rattle.std.specs.Prelude.{◌++◌};
     ghost use Rattle.bpaf_exact.specs.Flat.{ByName};
     ghost use Rattle.bpaf_exact.specs.Says.{EitherSays};
     ghost use Rattle.bpaf_exact.proofs.Says.{choice_says};
     ghost use Rattle.bpaf_exact.specs.FlatForm.{flat_choice};
     ghost use Rattle.bpaf_exact.proofs.FlatForm.{flat_choice_law};
     ghost use Rattle.bpaf_exact.proofs.SameParts.{choice_shows};
+
+    ghost keys = { λ p. A.keys p.this ++ B.keys p.that };
 
     ghost flat_form = { λ p.
         flat_choice (A.keys p.this) (B.keys p.that) (A.flat_form p.this) (B.flat_form p.that) };
@@ -42,8 +33,18 @@ impl<T: Drop, A: FlatField<T>, B: FlatField<T>> FlatField<T> for ParseOrElse<A, 
 
     #[tactic(auto, using(crate::proofs::Products::choice_is))]
     fn form(&self) -> Form {
-        let apart = self.this.all_keys(&ApartFromAll { others: &self.that });
+        let apart = self.this.all_keys(&ApartFromField {
+            other: &self.that,
+            value: PhantomData::<T>,
+        });
         self.this.form().or_else(self.that.form(), apart)
+    }
+
+    #[tactic(auto, using(crate::proofs::Products::all_joined))]
+    fn all_keys<N: KeyTest>(&self, test: &N) -> bool {
+        let this = self.this.all_keys(test);
+        let that = self.that.all_keys(test);
+        this && that
     }
 
     ghost flat = { λ p a. flat_choice_law T (A.outcome p.this) (B.outcome p.that)
@@ -58,14 +59,14 @@ impl<T: Drop, A: FlatField<T>, B: FlatField<T>> FlatField<T> for ParseOrElse<A, 
 
 /// Whether each key of each of these parsers passes a test.
 #[tactic(auto, using(crate::proofs::Products::all_joined))]
-fn all_of<P: HasKeys, N: KeyTest>(parsers: &[P], test: &N) -> bool
+fn all_of<T, P: FlatField<T>, N: KeyTest>(parsers: &[P], test: &N) -> bool
     ensures { result ≡ list_all (N.accepts test.now) (flat_map P.keys parsers.now) }
 {
     match parsers {
         [] => true,
         [first, rest @ ..] => {
             let here = first.all_keys(test);
-            let behind = all_of(rest, test);
+            let behind = all_of::<T, P, N>(rest, test);
             here && behind
         }
     }
@@ -80,7 +81,11 @@ fn join_rest<T, P: FlatField<T>>(parsers: &[P], first: Form) -> Form
     let mut form = first;
     for index in 1..parsers.len() {
         let parser = &parsers[index];
-        let apart = all_of(&parsers[..index], &ApartFromAll { others: parser });
+        let test = ApartFromField {
+            other: parser,
+            value: PhantomData::<T>,
+        };
+        let apart = all_of::<T, P, _>(&parsers[..index], &test);
         form = form.or_else(parser.form(), apart);
     }
     form
@@ -96,14 +101,6 @@ fn join_all<T, P: FlatField<T>>(parsers: &[P]) -> Form
     }
 }
 
-impl<P: HasKeys> HasKeys for ParseChoice<P> {
-    ghost keys = { λ p. flat_map P.keys p.parsers.items };
-
-    fn all_keys<N: KeyTest>(&self, test: &N) -> bool {
-        all_of(self.parsers.as_slice(), test)
-    }
-}
-
 /// Of required flags and arguments alone, whose names are apart; a choice of none isn't flat.
 impl<T: Drop, P: FlatField<T> + Drop> FlatField<T> for ParseChoice<P> {
     ghost use Rattle.bpaf_exact.specs.Flat.{ByName};
@@ -112,6 +109,8 @@ impl<T: Drop, P: FlatField<T> + Drop> FlatField<T> for ParseChoice<P> {
     ghost use Rattle.bpaf_exact.specs.FlatForm.{EachAgrees};
     ghost use Rattle.bpaf_exact.proofs.FlatForm.{flat_choices_law};
     ghost use Rattle.bpaf_exact.proofs.SameParts.{choices_show};
+
+    ghost keys = { λ p. flat_map P.keys p.parsers.items };
 
     ghost flat_form = { λ p. flat_choices P.keys P.flat_form p.parsers.items };
 
@@ -123,6 +122,10 @@ impl<T: Drop, P: FlatField<T> + Drop> FlatField<T> for ParseChoice<P> {
 
     fn form(&self) -> Form {
         join_all(self.parsers.as_slice())
+    }
+
+    fn all_keys<N: KeyTest>(&self, test: &N) -> bool {
+        all_of::<T, P, N>(self.parsers.as_slice(), test)
     }
 
     ghost flat = { λ p a. flat_choices_law _ T P.outcome P.keys P.flat_form P.agrees P.flat

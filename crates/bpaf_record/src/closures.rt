@@ -3,17 +3,9 @@ ghost use Rattle.std.specs.Prelude.{◌≡◌};
 
 use crate::field::FlatField;
 use crate::form::Form;
-use crate::keys::{HasKeys, KeyTest};
+use crate::keys::KeyTest;
 use bpaf::parsers::{ParseGuard, ParseMap, ParseWith};
 use std::fmt::Display;
-
-impl<T, R, P: HasKeys, F> HasKeys for ParseMap<T, P, F, R> {
-    ghost keys = { λ p. P.keys p.inner };
-
-    fn all_keys<N: KeyTest>(&self, test: &N) -> bool {
-        self.inner.all_keys(test)
-    }
-}
 
 /// A closure that never refuses needs no premise.
 impl<T, R, P: FlatField<T>, F: Fn(T) -> R> FlatField<R> for ParseMap<T, P, F, R> {
@@ -22,6 +14,8 @@ impl<T, R, P: FlatField<T>, F: Fn(T) -> R> FlatField<R> for ParseMap<T, P, F, R>
     ghost use Rattle.bpaf_exact.specs.FlatForm.{flat_closed};
     ghost use Rattle.bpaf_exact.specs.Wrappers.{map_closure};
     ghost use Rattle.bpaf_exact.proofs.Twins.{map_field_law};
+
+    ghost keys = { λ p. P.keys p.inner };
 
     ghost flat_form = { λ p.
         flat_closed (map_closure (λ x y. F.post p.map_fn x y)) (P.flat_form p.inner) };
@@ -37,20 +31,16 @@ impl<T, R, P: FlatField<T>, F: Fn(T) -> R> FlatField<R> for ParseMap<T, P, F, R>
         self.inner.form().closed()
     }
 
+    fn all_keys<N: KeyTest>(&self, test: &N) -> bool {
+        self.inner.all_keys(test)
+    }
+
     ghost flat = { λ p a. map_field_law T R (P.outcome p.inner) (λ x y. F.post p.map_fn x y)
         (P.keys p.inner) (P.flat_form p.inner) (P.flat p.inner a) };
 
     ghost shows = { λ p. P.shows p.inner };
 
     ghost said = { λ p a. closed_says (map_closure (λ x y. F.post p.map_fn x y)) (P.said p.inner a) };
-}
-
-impl<T, P: HasKeys, F, E, R> HasKeys for ParseWith<T, P, F, E, R> {
-    ghost keys = { λ p. P.keys p.inner };
-
-    fn all_keys<N: KeyTest>(&self, test: &N) -> bool {
-        self.inner.all_keys(test)
-    }
 }
 
 /// Whether the closure accepts has to depend on the pieces alone.
@@ -61,6 +51,8 @@ impl<T, R, E: Display + Drop, P: FlatField<T>, F: Fn(T) -> Result<R, E>> FlatFie
     ghost use Rattle.bpaf_exact.specs.FlatForm.{Agrees, flat_closed};
     ghost use Rattle.bpaf_exact.specs.Wrappers.{parse_closure};
     ghost use Rattle.bpaf_exact.proofs.Twins.{parse_field_law};
+
+    ghost keys = { λ p. P.keys p.inner };
 
     ghost flat_form = { λ p.
         flat_closed (parse_closure (λ x y. F.post p.parse_fn x y)) (P.flat_form p.inner) };
@@ -77,20 +69,16 @@ impl<T, R, E: Display + Drop, P: FlatField<T>, F: Fn(T) -> Result<R, E>> FlatFie
         self.inner.form().closed()
     }
 
+    fn all_keys<N: KeyTest>(&self, test: &N) -> bool {
+        self.inner.all_keys(test)
+    }
+
     ghost flat = { λ p a. parse_field_law T R _ (P.outcome p.inner) (λ x y. F.post p.parse_fn x y)
         E.output (P.keys p.inner) (P.flat_form p.inner) a.1 (P.flat p.inner a.0) };
 
     ghost shows = { λ p. P.shows p.inner };
 
     ghost said = { λ p a. closed_says (parse_closure (λ x y. F.post p.parse_fn x y)) (P.said p.inner a.0) };
-}
-
-impl<'m, P: HasKeys, F> HasKeys for ParseGuard<'m, P, F> {
-    ghost keys = { λ p. P.keys p.inner };
-
-    fn all_keys<N: KeyTest>(&self, test: &N) -> bool {
-        self.inner.all_keys(test)
-    }
 }
 
 /// Whether the check is true has to depend on the pieces alone.
@@ -101,6 +89,8 @@ impl<'m, T: Drop, P: FlatField<T>, F: Fn(&T) -> bool> FlatField<T> for ParseGuar
     ghost use Rattle.bpaf_exact.specs.FlatForm.{Agrees, flat_closed};
     ghost use Rattle.bpaf_exact.specs.Wrappers.{guard_closure};
     ghost use Rattle.bpaf_exact.proofs.Twins.{guard_field_law};
+
+    ghost keys = { λ p. P.keys p.inner };
 
     ghost flat_form = { λ p.
         flat_closed (guard_closure (FnReturnsAt F.Fn p.check)) (P.flat_form p.inner) };
@@ -115,6 +105,10 @@ impl<'m, T: Drop, P: FlatField<T>, F: Fn(&T) -> bool> FlatField<T> for ParseGuar
     #[tactic(auto, using(crate::proofs::Forms::closed_is))]
     fn form(&self) -> Form {
         self.inner.form().closed()
+    }
+
+    fn all_keys<N: KeyTest>(&self, test: &N) -> bool {
+        self.inner.all_keys(test)
     }
 
     ghost flat = { λ p a. guard_field_law T (P.outcome p.inner) (FnReturnsAt F.Fn p.check)

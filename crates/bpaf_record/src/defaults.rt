@@ -3,17 +3,9 @@ ghost use Rattle.std.specs.Prelude.{◌≡◌};
 
 use crate::field::FlatField;
 use crate::form::Form;
-use crate::keys::{HasKeys, KeyTest};
+use crate::keys::KeyTest;
 use bpaf::parsers::{ParseFallback, ParseFallbackWith, ParseOptional};
 use std::fmt::Display;
-
-impl<P: HasKeys> HasKeys for ParseOptional<P> {
-    ghost keys = { λ p. P.keys p.inner };
-
-    fn all_keys<N: KeyTest>(&self, test: &N) -> bool {
-        self.inner.all_keys(test)
-    }
-}
 
 /// With `catch` it is no flat field.
 impl<T: Drop, P: FlatField<T>> FlatField<Option<T>> for ParseOptional<P> {
@@ -22,6 +14,8 @@ impl<T: Drop, P: FlatField<T>> FlatField<Option<T>> for ParseOptional<P> {
     ghost use Rattle.bpaf_exact.specs.FlatForm.{flat_optional, unless};
     ghost use Rattle.bpaf_exact.proofs.Twins.{optional_field_law};
     ghost use Rattle.bpaf_exact.proofs.SameParts.{optional_shows};
+
+    ghost keys = { λ p. P.keys p.inner };
 
     ghost flat_form = { λ p. unless p.catch (flat_optional (P.flat_form p.inner)) };
 
@@ -36,20 +30,16 @@ impl<T: Drop, P: FlatField<T>> FlatField<Option<T>> for ParseOptional<P> {
         self.inner.form().completed_unless(self.catch)
     }
 
+    fn all_keys<N: KeyTest>(&self, test: &N) -> bool {
+        self.inner.all_keys(test)
+    }
+
     ghost flat = { λ p a. optional_field_law T (P.outcome p.inner) p.catch (P.keys p.inner)
         (P.flat_form p.inner) (P.flat p.inner a) };
 
     ghost shows = { λ p. optional_shows (P.shows p.inner) };
 
     ghost said = { λ p a. unless_says p.catch (optional_says (P.said p.inner a)) };
-}
-
-impl<P: HasKeys, T> HasKeys for ParseFallback<P, T> {
-    ghost keys = { λ p. P.keys p.inner };
-
-    fn all_keys<N: KeyTest>(&self, test: &N) -> bool {
-        self.inner.all_keys(test)
-    }
 }
 
 impl<T: Clone, P: FlatField<T>> FlatField<T> for ParseFallback<P, T> {
@@ -59,6 +49,8 @@ impl<T: Clone, P: FlatField<T>> FlatField<T> for ParseFallback<P, T> {
     ghost use Rattle.bpaf_exact.specs.Wrappers.{kept_closure};
     ghost use Rattle.bpaf_exact.proofs.Twins.{fallback_field_law};
     ghost use Rattle.bpaf_exact.proofs.SameParts.{default_shows};
+
+    ghost keys = { λ p. P.keys p.inner };
 
     ghost flat_form = { λ p.
         flat_fallback (kept_closure (T.is_clone p.value)) (P.flat_form p.inner) };
@@ -74,20 +66,16 @@ impl<T: Clone, P: FlatField<T>> FlatField<T> for ParseFallback<P, T> {
         self.inner.form().completed()
     }
 
+    fn all_keys<N: KeyTest>(&self, test: &N) -> bool {
+        self.inner.all_keys(test)
+    }
+
     ghost flat = { λ p a. fallback_field_law T (P.outcome p.inner) T.is_clone p.value
         (P.keys p.inner) (P.flat_form p.inner) (P.flat p.inner a) };
 
     ghost shows = { λ p. default_shows (P.shows p.inner) p.shown };
 
     ghost said = { λ p a. fallback_says (kept_closure (T.is_clone p.value)) (P.said p.inner a) };
-}
-
-impl<T, P: HasKeys, F, E> HasKeys for ParseFallbackWith<T, P, F, E> {
-    ghost keys = { λ p. P.keys p.inner };
-
-    fn all_keys<N: KeyTest>(&self, test: &N) -> bool {
-        self.inner.all_keys(test)
-    }
 }
 
 /// The closure must not refuse where it may give a value.
@@ -101,6 +89,8 @@ impl<T, E: Display + Drop, P: FlatField<T>, F: Fn() -> Result<T, E>> FlatField<T
     ghost use Rattle.bpaf_exact.proofs.Twins.{fallback_with_field_law};
     ghost use Rattle.bpaf_exact.proofs.SameParts.{default_shows};
 
+    ghost keys = { λ p. P.keys p.inner };
+
     ghost flat_form = { λ p.
         flat_fallback (answer_closure (λ r. F.post p.fallback r)) (P.flat_form p.inner) };
 
@@ -113,6 +103,10 @@ impl<T, E: Display + Drop, P: FlatField<T>, F: Fn() -> Result<T, E>> FlatField<T
     #[tactic(auto, using(crate::proofs::Forms::fallback_is))]
     fn form(&self) -> Form {
         self.inner.form().completed()
+    }
+
+    fn all_keys<N: KeyTest>(&self, test: &N) -> bool {
+        self.inner.all_keys(test)
     }
 
     ghost flat = { λ p a.

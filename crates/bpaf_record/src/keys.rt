@@ -5,7 +5,9 @@ ghost use Rattle.bpaf_words.specs.Items.{is_among, is_text_among};
 ghost use Rattle.bpaf_exact.specs.Names.{are_apart};
 ghost use Rattle.bpaf_record.specs.Keys.{has_no_short, has_no_long};
 
+use crate::field::{FlatField, FlatFields};
 use bpaf::{NamedArg, Text};
+use std::marker::PhantomData;
 
 /// A test of the names of a key.
 pub trait KeyTest {
@@ -18,19 +20,6 @@ pub trait KeyTest {
     /// Whether the key passes. It takes no memory.
     fn test(&self, key: &NamedArg) -> bool
         ensures { result ≡ accepts self.now key.now.names };
-}
-
-/// A parser whose keys can be looked over.
-pub trait HasKeys: Sized {
-    ghost use Rattle.std.specs.Prelude.{List};
-    ghost use Rattle.bpaf_doc.specs.Names.{Names};
-
-    /// The names of its flags and arguments, one after the other.
-    ghost keys: { Self → List Names };
-
-    /// Whether each of its keys passes a test. It takes no memory.
-    fn all_keys<N: KeyTest>(&self, test: &N) -> bool
-        ensures { result ≡ list_all (N.accepts test.now) (keys self.now) };
 }
 
 /// Whether a short name is none of these.
@@ -82,14 +71,30 @@ impl KeyTest for ApartFrom<'_> {
     }
 }
 
-/// The test for no name of any key of another parser.
+/// The test for no name of any key of another field.
 #[derive(Drop)]
-pub(crate) struct ApartFromAll<'a, P> {
-    pub others: &'a P,
+pub(crate) struct ApartFromField<'a, T, P> {
+    pub other: &'a P,
+    pub value: PhantomData<T>,
 }
 
-impl<P: HasKeys> KeyTest for ApartFromAll<'_, P> {
-    ghost accepts = { λ t names. list_all (are_apart names) (P.keys t.others.now) };
+impl<T, P: FlatField<T>> KeyTest for ApartFromField<'_, T, P> {
+    ghost accepts = { λ t names. list_all (are_apart names) (P.keys t.other.now) };
+
+    fn test(&self, key: &NamedArg) -> bool {
+        self.other.all_keys(&ApartFrom { key })
+    }
+}
+
+/// The test for no name of any key of other fields.
+#[derive(Drop)]
+pub(crate) struct ApartFromFields<'a, V, R> {
+    pub others: &'a R,
+    pub values: PhantomData<V>,
+}
+
+impl<V, R: FlatFields<V>> KeyTest for ApartFromFields<'_, V, R> {
+    ghost accepts = { λ t names. list_all (are_apart names) (R.keys t.others.now) };
 
     fn test(&self, key: &NamedArg) -> bool {
         self.others.all_keys(&ApartFrom { key })

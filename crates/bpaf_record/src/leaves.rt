@@ -3,23 +3,13 @@ ghost use Rattle.std.specs.Prelude.{◌≡◌};
 
 use crate::field::FlatField;
 use crate::form::Form;
-use crate::keys::{HasKeys, KeyTest};
+use crate::keys::KeyTest;
 use bpaf::parsers::{ParseArgument, ParseFlag};
 use bpaf::{FromText, ParsePositional, Position};
 
-impl<T> HasKeys for ParseFlag<T> {
-    ghost use Rattle.std.specs.Prelude.{[], ◌∷◌};
-
-    ghost keys = { λ p. p.named.names ∷ [] };
-
-    #[tactic(auto, using(crate::proofs::Forms::and_true))]
-    fn all_keys<N: KeyTest>(&self, test: &N) -> bool {
-        test.test(&self.named)
-    }
-}
-
 /// With a name in the environment it is no flat field.
 impl<T: Clone> FlatField<T> for ParseFlag<T> {
+    ghost use Rattle.std.specs.Prelude.{[], ◌∷◌};
     ghost use Rattle.bpaf_exact.specs.Flat.{ByName};
     ghost use Rattle.bpaf_exact.specs.Says.{FlagSays};
     ghost use Rattle.bpaf_exact.proofs.Says.{flag_says};
@@ -27,6 +17,8 @@ impl<T: Clone> FlatField<T> for ParseFlag<T> {
     ghost use Rattle.bpaf_exact.proofs.Flags.{flag_field_law};
     ghost use Rattle.bpaf_exact.proofs.SameParts.{one_shape};
     ghost use Rattle.bpaf_laws.specs.Flag.{flag_shape};
+
+    ghost keys = { λ p. p.named.names ∷ [] };
 
     ghost flat_form = { λ p. flag_field T.is_clone p.named p.present p.absent };
 
@@ -44,6 +36,11 @@ impl<T: Clone> FlatField<T> for ParseFlag<T> {
         }
     }
 
+    #[tactic(auto, using(crate::proofs::Forms::and_true))]
+    fn all_keys<N: KeyTest>(&self, test: &N) -> bool {
+        test.test(&self.named)
+    }
+
     ghost flat = { λ p a. flag_field_law T T.is_clone p.named p.present p.absent };
 
     ghost shows = { λ p. one_shape (flag_shape p.named p.absent) };
@@ -51,20 +48,10 @@ impl<T: Clone> FlatField<T> for ParseFlag<T> {
     ghost said = { λ p a. flag_says T.is_clone p.named p.present p.absent };
 }
 
-impl<T> HasKeys for ParseArgument<T> {
-    ghost use Rattle.std.specs.Prelude.{[], ◌∷◌};
-
-    ghost keys = { λ p. p.named.names ∷ [] };
-
-    #[tactic(auto, using(crate::proofs::Forms::and_true))]
-    fn all_keys<N: KeyTest>(&self, test: &N) -> bool {
-        test.test(&self.named)
-    }
-}
-
 /// With a name in the environment, or with `adjacent`, it is no flat field. With `take_last` it is
 /// a field by itself, and no alternative of a choice.
 impl<T: FromText> FlatField<T> for ParseArgument<T> {
+    ghost use Rattle.std.specs.Prelude.{[], ◌∷◌};
     ghost use Rattle.bpaf_exact.specs.Flat.{ByName};
     ghost use Rattle.bpaf_exact.specs.Says.{ArgumentSays};
     ghost use Rattle.bpaf_exact.proofs.Says.{argument_says};
@@ -72,6 +59,8 @@ impl<T: FromText> FlatField<T> for ParseArgument<T> {
     ghost use Rattle.bpaf_exact.proofs.Arguments.{argument_field_law};
     ghost use Rattle.bpaf_exact.proofs.SameParts.{one_shape};
     ghost use Rattle.bpaf_laws.specs.Argument.{argument_shape};
+
+    ghost keys = { λ p. p.named.names ∷ [] };
 
     ghost flat_form = { λ p. argument_field T.means p };
 
@@ -89,6 +78,11 @@ impl<T: FromText> FlatField<T> for ParseArgument<T> {
         }
     }
 
+    #[tactic(auto, using(crate::proofs::Forms::and_true))]
+    fn all_keys<N: KeyTest>(&self, test: &N) -> bool {
+        test.test(&self.named)
+    }
+
     ghost flat = { λ p a. argument_field_law T T.means p };
 
     ghost shows = { λ p. one_shape (argument_shape p) };
@@ -96,25 +90,17 @@ impl<T: FromText> FlatField<T> for ParseArgument<T> {
     ghost said = { λ p a. argument_says T.means p };
 }
 
-/// It has no key.
-impl<T> HasKeys for ParsePositional<T> {
-    ghost use Rattle.std.specs.Prelude.{[]};
-
-    ghost keys = { λ p. [] };
-
-    fn all_keys<N: KeyTest>(&self, _test: &N) -> bool {
-        true
-    }
-}
-
 /// With `strict` or `non_strict` it is no flat field.
 impl<T: FromText> FlatField<T> for ParsePositional<T> {
+    ghost use Rattle.std.specs.Prelude.{[]};
     ghost use Rattle.bpaf_exact.specs.Flat.{OneWord};
     ghost use Rattle.bpaf_exact.specs.Says.{WordSays};
     ghost use Rattle.bpaf_record.specs.Positional.{positional_says};
     ghost use Rattle.bpaf_record.specs.Positional.{positional_field, positional_field_law};
     ghost use Rattle.bpaf_exact.proofs.SameParts.{one_shape};
     ghost use Rattle.bpaf.specs.Positional.{positional_shape};
+
+    ghost keys = { λ p. [] };
 
     ghost flat_form = { λ p. positional_field T.means p.position };
 
@@ -129,6 +115,10 @@ impl<T: FromText> FlatField<T> for ParsePositional<T> {
             Position::Unrestricted => Form::Word,
             Position::Strict | Position::NonStrict => Form::NotFlat,
         }
+    }
+
+    fn all_keys<N: KeyTest>(&self, _test: &N) -> bool {
+        true
     }
 
     ghost flat = { λ p a. positional_field_law T T.means p.position p.metavar.0.now };

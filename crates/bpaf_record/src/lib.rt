@@ -46,5 +46,5 @@ mod shown;
 
 pub use field::{FlatField, FlatFields};
 pub use form::Form;
-pub use keys::{HasKeys, KeyTest};
+pub use keys::KeyTest;
 pub use record::Record;

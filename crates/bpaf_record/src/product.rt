@@ -3,17 +3,10 @@ ghost use Rattle.std.specs.Prelude.{◌≡◌};
 
 use crate::field::{FlatField, FlatFields};
 use crate::form::Form;
-use crate::keys::{ApartFromAll, HasKeys, KeyTest, NoKey};
+use crate::keys::{ApartFromFields, KeyTest, NoKey};
 use bpaf::parsers::ParseCon;
 use bpaf::{Both, Last};
-
-impl<A: HasKeys> HasKeys for Last<A> {
-    ghost keys = { λ p. A.keys p.last };
-
-    fn all_keys<N: KeyTest>(&self, test: &N) -> bool {
-        self.last.all_keys(test)
-    }
-}
+use std::marker::PhantomData;
 
 impl<T: Drop, A: FlatField<T>> FlatFields<T> for Last<A> {
     ghost use Rattle.bpaf_exact.specs.Says.{its_pieces};
@@ -21,6 +14,8 @@ impl<T: Drop, A: FlatField<T>> FlatFields<T> for Last<A> {
     ghost use Rattle.bpaf_exact.specs.FlatForm.{flat_alone, flat_field};
     ghost use Rattle.bpaf_exact.proofs.FlatForm.{flat_alone_law, flat_field_law};
     ghost use Rattle.bpaf_exact.proofs.SameParts.{last_shows};
+
+    ghost keys = { λ p. A.keys p.last };
 
     ghost flat_form = { λ p. flat_alone (flat_field (A.flat_form p.last)) };
 
@@ -32,6 +27,10 @@ impl<T: Drop, A: FlatField<T>> FlatFields<T> for Last<A> {
     #[tactic(auto, using(crate::proofs::Products::alone_is))]
     fn fields_form(&self) -> Form {
         self.last.form().field().alone()
+    }
+
+    fn all_keys<N: KeyTest>(&self, test: &N) -> bool {
+        self.last.all_keys(test)
     }
 
     ghost flat = { λ p a. flat_alone_law T (A.outcome p.last) (A.keys p.last)
@@ -46,26 +45,16 @@ impl<T: Drop, A: FlatField<T>> FlatFields<T> for Last<A> {
         (field_says (A.said p.last a)) };
 }
 
-impl<A: HasKeys, R: HasKeys> HasKeys for Both<A, R> {
-    ghost use Rattle.std.specs.Prelude.{◌++◌};
-
-    ghost keys = { λ p. A.keys p.first ++ R.keys p.rest };
-
-    #[tactic(auto, using(crate::proofs::Products::all_joined))]
-    fn all_keys<N: KeyTest>(&self, test: &N) -> bool {
-        let first = self.first.all_keys(test);
-        let rest = self.rest.all_keys(test);
-        first && rest
-    }
-}
-
 /// Where a named field stands behind a positional one, or two share a name, they aren't flat.
 impl<T: Drop, V, A: FlatField<T>, R: FlatFields<V>> FlatFields<(T, V)> for Both<A, R> {
+    ghost use Rattle.std.specs.Prelude.{◌++◌};
     ghost use Rattle.bpaf_exact.specs.Says.{its_pieces, words_after};
     ghost use Rattle.bpaf_exact.proofs.Says.{both_say, field_owned, field_says, owned};
     ghost use Rattle.bpaf_exact.specs.FlatForm.{flat_both, flat_field};
     ghost use Rattle.bpaf_exact.proofs.FlatForm.{flat_both_law, flat_field_law};
     ghost use Rattle.bpaf_exact.proofs.SameParts.{both_show};
+
+    ghost keys = { λ p. A.keys p.first ++ R.keys p.rest };
 
     ghost flat_form = { λ p.
         flat_both (A.keys p.first) (R.keys p.rest) (flat_field (A.flat_form p.first))
@@ -79,10 +68,20 @@ impl<T: Drop, V, A: FlatField<T>, R: FlatFields<V>> FlatFields<(T, V)> for Both<
 
     #[tactic(auto, using(crate::proofs::Products::both_is))]
     fn fields_form(&self) -> Form {
-        let apart = self.first.all_keys(&ApartFromAll { others: &self.rest });
+        let apart = self.first.all_keys(&ApartFromFields {
+            others: &self.rest,
+            values: PhantomData::<V>,
+        });
         let no_key_behind = self.rest.all_keys(&NoKey {});
         let rest = self.rest.fields_form();
         self.first.form().field().before(rest, apart, no_key_behind)
+    }
+
+    #[tactic(auto, using(crate::proofs::Products::all_joined))]
+    fn all_keys<N: KeyTest>(&self, test: &N) -> bool {
+        let first = self.first.all_keys(test);
+        let rest = self.rest.all_keys(test);
+        first && rest
     }
 
     ghost flat = { λ p a. flat_both_law T V (A.outcome p.first) (R.outcome p.rest)
@@ -99,14 +98,6 @@ impl<T: Drop, V, A: FlatField<T>, R: FlatFields<V>> FlatFields<(T, V)> for Both<
         (field_says (A.said p.first a.0)) (R.said p.rest a.1) };
 }
 
-impl<V, P: HasKeys, F> HasKeys for ParseCon<V, P, F> {
-    ghost keys = { λ p. P.keys p.fields };
-
-    fn all_keys<N: KeyTest>(&self, test: &N) -> bool {
-        self.fields.all_keys(test)
-    }
-}
-
 impl<V, T, P: FlatFields<V>, F: Fn(V) -> T> FlatField<T> for ParseCon<V, P, F> {
     ghost use Rattle.bpaf_exact.specs.Flat.{ByName};
     ghost use Rattle.bpaf_exact.specs.Says.{RecordSays};
@@ -115,6 +106,8 @@ impl<V, T, P: FlatFields<V>, F: Fn(V) -> T> FlatField<T> for ParseCon<V, P, F> {
     ghost use Rattle.bpaf_exact.specs.Wrappers.{map_closure};
     ghost use Rattle.bpaf_exact.proofs.FlatForm.{flat_con_law};
     ghost use Rattle.bpaf_exact.proofs.SameParts.{product_shows};
+
+    ghost keys = { λ p. P.keys p.fields };
 
     ghost flat_form = { λ p.
         flat_con (map_closure (λ x y. F.post p.make x y)) (P.flat_form p.fields) };
@@ -129,6 +122,10 @@ impl<V, T, P: FlatFields<V>, F: Fn(V) -> T> FlatField<T> for ParseCon<V, P, F> {
     #[tactic(auto, using(crate::proofs::Products::con_is))]
     fn form(&self) -> Form {
         self.fields.fields_form().made()
+    }
+
+    fn all_keys<N: KeyTest>(&self, test: &N) -> bool {
+        self.fields.all_keys(test)
     }
 
     ghost flat = { λ p a. flat_con_law V T (P.outcome p.fields) (λ x y. F.post p.make x y)

@@ -5,7 +5,7 @@ ghost use Rattle.bpaf_words.specs.Arguments.{given_of};
 ghost use Rattle.bpaf_exact.specs.Names.{are_apart};
 
 use crate::field::FlatField;
-use crate::keys::{ApartFrom, ApartFromUsual, HasKeys};
+use crate::keys::{ApartFrom, ApartFromUsual};
 use bpaf::{Args, Info, OptionParser, ParseFailure};
 
 /// Options that are a flat record, where `is_record` says so.
@@ -88,7 +88,7 @@ pub trait Record<T> {
 }
 
 /// Whether all keys of a parser are apart from the key for help.
-fn apart_from_help<P: HasKeys>(parser: &P, info: &Info) -> bool
+fn apart_from_help<T, P: FlatField<T>>(parser: &P, info: &Info) -> bool
     ensures { result ≡ list_all (are_apart info.now.help_arg.names) (P.keys parser.now) }
 {
     match &info.help_arg {
@@ -101,7 +101,7 @@ fn apart_from_help<P: HasKeys>(parser: &P, info: &Info) -> bool
 }
 
 /// Whether they are apart from the key for the version.
-fn apart_from_version<P: HasKeys>(parser: &P, info: &Info) -> bool
+fn apart_from_version<T, P: FlatField<T>>(parser: &P, info: &Info) -> bool
     ensures { result ≡ list_all (are_apart info.now.version_arg.names) (P.keys parser.now) }
 {
     match &info.version_arg {
@@ -125,8 +125,8 @@ impl<T: Drop, P: FlatField<T>> Record<T> for OptionParser<T, P> {
     #[tactic(auto, using(crate::proofs::Forms::record_is))]
     fn is_record(&self) -> bool {
         let flat = self.inner.form().is_record();
-        let help = apart_from_help(&self.inner, &self.info);
-        let version = apart_from_version(&self.inner, &self.info);
+        let help = apart_from_help::<T, P>(&self.inner, &self.info);
+        let version = apart_from_version::<T, P>(&self.inner, &self.info);
         flat && (help && version)
     }
 

@@ -3,17 +3,9 @@ ghost use Rattle.std.specs.Prelude.{◌≡◌};
 
 use crate::field::FlatField;
 use crate::form::Form;
-use crate::keys::{HasKeys, KeyTest};
+use crate::keys::KeyTest;
 use bpaf::FromList;
 use bpaf::parsers::{ParseCollect, ParseCount, ParseLast, ParseMany, ParseSome};
-
-impl<P: HasKeys> HasKeys for ParseMany<P> {
-    ghost keys = { λ p. P.keys p.inner };
-
-    fn all_keys<N: KeyTest>(&self, test: &N) -> bool {
-        self.inner.all_keys(test)
-    }
-}
 
 /// With `catch` it is no flat field, nor round another repeat or a default.
 impl<T: Drop, P: FlatField<T>> FlatField<Vec<T>> for ParseMany<P> {
@@ -24,6 +16,8 @@ impl<T: Drop, P: FlatField<T>> FlatField<Vec<T>> for ParseMany<P> {
     ghost use Rattle.bpaf_exact.specs.FlatForm.{flat_many, unless};
     ghost use Rattle.bpaf_exact.proofs.Twins.{many_field_law};
     ghost use Rattle.bpaf_exact.proofs.SameParts.{many_shows};
+
+    ghost keys = { λ p. P.keys p.inner };
 
     ghost flat_form = { λ p. unless p.catch (flat_many (P.flat_form p.inner)) };
 
@@ -38,20 +32,16 @@ impl<T: Drop, P: FlatField<T>> FlatField<Vec<T>> for ParseMany<P> {
         self.inner.form().completed_unless(self.catch)
     }
 
+    fn all_keys<N: KeyTest>(&self, test: &N) -> bool {
+        self.inner.all_keys(test)
+    }
+
     ghost flat = { λ p a. many_field_law T (P.outcome p.inner) p.catch (P.keys p.inner)
         (P.flat_form p.inner) (P.flat p.inner a) };
 
     ghost shows = { λ p. many_shows (P.shows p.inner) };
 
     ghost said = { λ p a. unless_says p.catch (listed_says (list_closure T) (P.said p.inner a)) };
-}
-
-impl<'m, P: HasKeys> HasKeys for ParseSome<'m, P> {
-    ghost keys = { λ p. P.keys p.inner };
-
-    fn all_keys<N: KeyTest>(&self, test: &N) -> bool {
-        self.inner.all_keys(test)
-    }
 }
 
 /// As `many`.
@@ -63,6 +53,8 @@ impl<'m, T: Drop, P: FlatField<T>> FlatField<Vec<T>> for ParseSome<'m, P> {
     ghost use Rattle.bpaf_exact.specs.FlatForm.{flat_some, unless};
     ghost use Rattle.bpaf_exact.proofs.Twins.{some_field_law};
     ghost use Rattle.bpaf_exact.proofs.SameParts.{some_shows};
+
+    ghost keys = { λ p. P.keys p.inner };
 
     ghost flat_form = { λ p. unless p.catch (flat_some (P.flat_form p.inner)) };
 
@@ -77,20 +69,16 @@ impl<'m, T: Drop, P: FlatField<T>> FlatField<Vec<T>> for ParseSome<'m, P> {
         self.inner.form().completed_unless(self.catch)
     }
 
+    fn all_keys<N: KeyTest>(&self, test: &N) -> bool {
+        self.inner.all_keys(test)
+    }
+
     ghost flat = { λ p a. some_field_law T (P.outcome p.inner) p.catch p.message.now
         (P.keys p.inner) (P.flat_form p.inner) (P.flat p.inner a) };
 
     ghost shows = { λ p. some_shows (P.shows p.inner) };
 
     ghost said = { λ p a. unless_says p.catch (listed_says (some_closure T) (P.said p.inner a)) };
-}
-
-impl<P: HasKeys, C, T> HasKeys for ParseCollect<P, C, T> {
-    ghost keys = { λ p. P.keys p.inner };
-
-    fn all_keys<N: KeyTest>(&self, test: &N) -> bool {
-        self.inner.all_keys(test)
-    }
 }
 
 /// As `many`.
@@ -102,6 +90,8 @@ impl<T: Drop, C: FromList<T> + Drop, P: FlatField<T>> FlatField<C> for ParseColl
     ghost use Rattle.bpaf_exact.specs.FlatForm.{flat_collect, unless};
     ghost use Rattle.bpaf_exact.proofs.Twins.{collect_field_law};
     ghost use Rattle.bpaf_exact.proofs.SameParts.{many_shows};
+
+    ghost keys = { λ p. P.keys p.inner };
 
     ghost flat_form = { λ p. unless p.catch (flat_collect C.fills (P.flat_form p.inner)) };
 
@@ -116,20 +106,16 @@ impl<T: Drop, C: FromList<T> + Drop, P: FlatField<T>> FlatField<C> for ParseColl
         self.inner.form().completed_unless(self.catch)
     }
 
+    fn all_keys<N: KeyTest>(&self, test: &N) -> bool {
+        self.inner.all_keys(test)
+    }
+
     ghost flat = { λ p a. collect_field_law T C (P.outcome p.inner) p.catch C.fills
         (P.keys p.inner) (P.flat_form p.inner) (P.flat p.inner a) };
 
     ghost shows = { λ p. many_shows (P.shows p.inner) };
 
     ghost said = { λ p a. unless_says p.catch (listed_says (collect_closure C.fills) (P.said p.inner a)) };
-}
-
-impl<P: HasKeys, T> HasKeys for ParseCount<P, T> {
-    ghost keys = { λ p. P.keys p.inner };
-
-    fn all_keys<N: KeyTest>(&self, test: &N) -> bool {
-        self.inner.all_keys(test)
-    }
 }
 
 impl<T: Drop, P: FlatField<T>> FlatField<usize> for ParseCount<P, T> {
@@ -140,6 +126,8 @@ impl<T: Drop, P: FlatField<T>> FlatField<usize> for ParseCount<P, T> {
     ghost use Rattle.bpaf_exact.specs.FlatForm.{flat_count};
     ghost use Rattle.bpaf_exact.proofs.Twins.{count_field_law};
     ghost use Rattle.bpaf_exact.proofs.SameParts.{many_shows};
+
+    ghost keys = { λ p. P.keys p.inner };
 
     ghost flat_form = { λ p. flat_count (P.flat_form p.inner) };
 
@@ -154,6 +142,10 @@ impl<T: Drop, P: FlatField<T>> FlatField<usize> for ParseCount<P, T> {
         self.inner.form().completed()
     }
 
+    fn all_keys<N: KeyTest>(&self, test: &N) -> bool {
+        self.inner.all_keys(test)
+    }
+
     ghost flat = { λ p a.
         count_field_law T (P.outcome p.inner) (P.keys p.inner) (P.flat_form p.inner)
         (P.flat p.inner a) };
@@ -163,14 +155,6 @@ impl<T: Drop, P: FlatField<T>> FlatField<usize> for ParseCount<P, T> {
     ghost said = { λ p a. listed_says (count_closure T) (P.said p.inner a) };
 }
 
-impl<P: HasKeys> HasKeys for ParseLast<P> {
-    ghost keys = { λ p. P.keys p.inner };
-
-    fn all_keys<N: KeyTest>(&self, test: &N) -> bool {
-        self.inner.all_keys(test)
-    }
-}
-
 impl<T: Drop, P: FlatField<T>> FlatField<T> for ParseLast<P> {
     ghost use Rattle.bpaf_exact.specs.Single.{repeated};
     ghost use Rattle.bpaf_exact.specs.Says.{LastSays};
@@ -178,6 +162,8 @@ impl<T: Drop, P: FlatField<T>> FlatField<T> for ParseLast<P> {
     ghost use Rattle.bpaf_exact.specs.FlatForm.{flat_last};
     ghost use Rattle.bpaf_exact.proofs.Twins.{last_field_law};
     ghost use Rattle.bpaf_exact.proofs.SameParts.{some_shows};
+
+    ghost keys = { λ p. P.keys p.inner };
 
     ghost flat_form = { λ p. flat_last (P.flat_form p.inner) };
 
@@ -190,6 +176,10 @@ impl<T: Drop, P: FlatField<T>> FlatField<T> for ParseLast<P> {
     #[tactic(auto, using(crate::proofs::Forms::last_is))]
     fn form(&self) -> Form {
         self.inner.form().completed()
+    }
+
+    fn all_keys<N: KeyTest>(&self, test: &N) -> bool {
+        self.inner.all_keys(test)
     }
 
     ghost flat = { λ p a.

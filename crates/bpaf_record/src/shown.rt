@@ -4,22 +4,16 @@ ghost use Rattle.std.specs.Prelude.{◌≡◌};
 
 use crate::field::FlatField;
 use crate::form::Form;
-use crate::keys::{HasKeys, KeyTest};
+use crate::keys::KeyTest;
 use bpaf::parsers::{ParseGroupHelp, ParseUsage};
-
-impl<P: HasKeys> HasKeys for ParseUsage<P> {
-    ghost keys = { λ p. P.keys p.inner };
-
-    fn all_keys<N: KeyTest>(&self, test: &N) -> bool {
-        self.inner.all_keys(test)
-    }
-}
 
 impl<T, P: FlatField<T>> FlatField<T> for ParseUsage<P> {
     ghost use Rattle.bpaf_exact.proofs.Says.{dressed_says};
     ghost use Rattle.bpaf_exact.specs.FlatForm.{flat_dressed};
     ghost use Rattle.bpaf_exact.proofs.SameParts.{usage_shows};
     ghost use Rattle.bpaf_exact.proofs.FlatForm.{flat_dressed_law};
+
+    ghost keys = { λ p. P.keys p.inner };
 
     ghost flat_form = { λ p. flat_dressed (P.flat_form p.inner) };
 
@@ -32,6 +26,10 @@ impl<T, P: FlatField<T>> FlatField<T> for ParseUsage<P> {
     #[tactic(auto, using(crate::proofs::Forms::dressed_is))]
     fn form(&self) -> Form {
         self.inner.form().closed()
+    }
+
+    fn all_keys<N: KeyTest>(&self, test: &N) -> bool {
+        self.inner.all_keys(test)
     }
 
     ghost flat = { λ p a.
@@ -43,19 +41,13 @@ impl<T, P: FlatField<T>> FlatField<T> for ParseUsage<P> {
     ghost said = { λ p a. dressed_says (P.said p.inner a) };
 }
 
-impl<P: HasKeys> HasKeys for ParseGroupHelp<P> {
-    ghost keys = { λ p. P.keys p.inner };
-
-    fn all_keys<N: KeyTest>(&self, test: &N) -> bool {
-        self.inner.all_keys(test)
-    }
-}
-
 impl<T, P: FlatField<T>> FlatField<T> for ParseGroupHelp<P> {
     ghost use Rattle.bpaf_exact.proofs.Says.{dressed_says};
     ghost use Rattle.bpaf_exact.specs.FlatForm.{flat_dressed};
     ghost use Rattle.bpaf_exact.proofs.SameParts.{section_shows};
     ghost use Rattle.bpaf_exact.proofs.FlatForm.{flat_dressed_law};
+
+    ghost keys = { λ p. P.keys p.inner };
 
     ghost flat_form = { λ p. flat_dressed (P.flat_form p.inner) };
 
@@ -68,6 +60,10 @@ impl<T, P: FlatField<T>> FlatField<T> for ParseGroupHelp<P> {
     #[tactic(auto, using(crate::proofs::Forms::dressed_is))]
     fn form(&self) -> Form {
         self.inner.form().closed()
+    }
+
+    fn all_keys<N: KeyTest>(&self, test: &N) -> bool {
+        self.inner.all_keys(test)
     }
 
     ghost flat = { λ p a.
