@@ -31,14 +31,12 @@ pub(crate) fn parse_option<T: Drop, P: Parser<T>>(
             if first || state.len() < left {
                 Ok(Some(value))
             } else {
-                drop(value);
                 Ok(None)
             }
         }
         Err(error) => {
             let untouched = state.len() == left;
             if stops_step(catches, &error.0, untouched) {
-                drop(error);
                 state.undo(mark);
                 Ok(None)
             } else {
