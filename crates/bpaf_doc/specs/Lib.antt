@@ -1,9 +1,8 @@
+pub use Rattle.bpaf_base.specs.Names
 pub mod Print
 pub mod Prints
 pub mod Fold
-pub mod Names
 pub mod Order
 pub mod Shape
 pub mod PartText
 pub mod Walks
-pub mod InsideText

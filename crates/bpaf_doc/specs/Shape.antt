@@ -7,7 +7,7 @@ use Rattle.bpaf_doc.specs.declared.item.Item.{Item}
 use Rattle.bpaf_doc.specs.declared.item.Item.TheOpen.{Item-F, Meta-F}
 use Rattle.bpaf_doc.specs.declared.item.Item.TheFolds.{fold-Item, fold-Meta}
 use Rattle.bpaf_doc.specs.declared.meta.Meta.{Meta}
-use Rattle.bpaf_doc.specs.Names.{Names}
+use Rattle.bpaf_base.specs.Names.{Names}
 
 -- the names that are shown: a short one, a long one, or both
 pub data Name : Type 0 where

@@ -5,7 +5,7 @@ ghost use Rattle.bpaf_doc.specs.Shape.{shape_of, part_of, name_of, Any, Flag, Ar
 use crate::doc::Doc;
 use crate::item::{Item, ShortLong};
 use crate::meta::Meta;
-use crate::text::Text;
+use bpaf_base::Text;
 use std::alloc::AllocError;
 
 /// An equal Any of these parts; refused only for want of memory.

@@ -7,7 +7,7 @@ ghost use Rattle.bpaf_doc.specs.Print.{printed, shown_as, in_backticks, first_li
 ghost use Rattle.bpaf_doc.specs.Fold.{TextPieces, folded_whole};
 
 use crate::fold::text_pieces;
-use crate::text::Text;
+use bpaf_base::Text;
 use std::alloc::{AllocError, Global};
 use std::marker::Model;
 

@@ -4,7 +4,7 @@ ghost use Rattle.bpaf_doc.specs.Print.{shown_as};
 ghost use Rattle.bpaf_doc.specs.Fold.{folded, keeps_break, break_between, HasNoBreak, TextPieces};
 
 use crate::doc::{Piece, Style};
-use crate::text::Text;
+use bpaf_base::Text;
 use std::alloc::{AllocError, Global};
 
 /// What stands before the first line break, and what after it.

@@ -1,7 +1,7 @@
 //! What a parser of one item shows.
 use crate::doc::Doc;
 use crate::meta::Meta;
-use crate::text::Text;
+use bpaf_base::Text;
 
 /// What stands for a value in usage and messages, such as `NUM`.
 #[derive(Clone, Copy, Debug)]

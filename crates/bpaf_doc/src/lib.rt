@@ -1,9 +1,7 @@
 //! Documents and shapes: what a parser shows of itself, and what is printed.
 //!
-//! The lowest layer. It stands on std alone, and knows nothing of lines, values or runs.
+//! It stands on `bpaf_base`, whose [`Text`] it hands on, and knows nothing of lines, values or runs.
 //!
-//! - [`Text`] is a text that contracts see as its bytes, so that values that hold texts compare by
-//!   what they say and not by the room that they take.
 //! - [`Doc`] is a list of pieces, each a text with a [`Style`]. Its contract for the layers above:
 //!   a `Doc` is the list of the pieces that its calls appended, and `monochrome` is their text
 //!   (specs/Print.antt); what a text gives, with its line breaks folded, stands in specs/Fold.antt.
@@ -26,12 +24,10 @@ mod fold;
 mod item;
 mod meta;
 mod order;
-mod short;
-mod text;
 mod walks;
 mod written;
 
+pub use bpaf_base::Text;
 pub use doc::{Doc, Piece, Style};
 pub use item::{Item, Metavar, ShortLong};
 pub use meta::{Meta, MetaInfo};
-pub use text::Text;

@@ -6,7 +6,7 @@ use Rattle.bpaf_words.specs.declared.arg.Arg.{Arg}
 use Rattle.bpaf_words.specs.Items.{any_item}
 use Rattle.bpaf_line.specs.Situation.{Situation, open_count, count_below, is_open, item_at}
 use Rattle.bpaf_line.specs.Taking.{open_item}
-use Rattle.bpaf_line.proofs.Counts.{count_below-same}
+use Rattle.bpaf_index.proofs.Counts.{count_below-same}
 use Rattle.bpaf_line.proofs.Matches.{open_has_item}
 use Rattle.bpaf_exact.specs.Pieces.{Cells, Roles, LinePiece, TakesPiece, takes_one, takes_two}
 use Rattle.bpaf_exact.specs.Pieces.{takes_later}

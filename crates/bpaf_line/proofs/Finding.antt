@@ -14,13 +14,14 @@ use Rattle.bpaf_doc.specs.Names.{Names}
 use Rattle.bpaf_words.specs.declared.arg.Arg.{Arg}
 use Rattle.bpaf_words.specs.declared.arg.Arg.TheVariants.{Short, Long, ArgWord, Word, PosWord}
 use Rattle.bpaf_words.specs.Items.{is_key_of, is_argument_key}
-use Rattle.bpaf_line.specs.Chained.{Chained, names_of, class_in, IsChainStart, HasWalked}
-use Rattle.bpaf_line.specs.Chained.{AreChainsOf, HasNoKeyFrom}
+use Rattle.bpaf_index.specs.Chained.{Chained, names_of, class_in, IsChainStart, HasWalked}
+use Rattle.bpaf_index.specs.Chained.{HasNoKeyFrom}
+use Rattle.bpaf_line.specs.Chaining.{AreChainsOf}
 use Rattle.bpaf_line.specs.Finding.{IsFirstAmong, IsFirstAlong}
 use Rattle.bpaf_line.specs.Situation.{Situation, is_marker, in_scope, is_open, is_taken, item_at}
 use Rattle.bpaf_line.specs.Situation.{IsFirstPresent}
 use Rattle.bpaf_line.specs.Taking.{open_item, is_match, HasNone, IsFirst}
-use Rattle.bpaf_line.proofs.Chained.{behind_within, same_class, early_set}
+use Rattle.bpaf_index.proofs.Chained.{behind_within, same_class, early_set}
 use Rattle.bpaf_line.proofs.Matches.{open_item_there}
 use Rattle.bpaf_line.proofs.Places.{open_not_taken}
 

@@ -1,8 +1,3 @@
-pub mod Counts
-pub mod WordBits
-pub mod BitLemmas
-pub mod Chained
-pub mod Noted
 pub mod Places
 pub mod Matches
 pub mod Finding
@@ -14,5 +9,4 @@ pub mod Conflicts
 pub mod Commands
 pub mod Beginning
 pub mod Marks
-pub mod BitSets
 pub mod Winners

@@ -17,8 +17,9 @@ use Rattle.bpaf_line.specs.Situation.{Situation, is_on, is_taken, is_marker, in_
 use Rattle.bpaf_line.specs.Situation.{count_below, open_count, take_place, with_trail, with_scope}
 use Rattle.bpaf_line.specs.Situation.{with_path, with_current, item_at, cut_to, TakenInTurn}
 use Rattle.bpaf_line.specs.Situation.{IsFirstPresent}
-use Rattle.bpaf_line.proofs.Counts.{count_below-same, count_below-fewer, count_below-some}
-use Rattle.bpaf_line.proofs.Counts.{count_below-most, count_below-none}
+use Rattle.bpaf_index.proofs.Places.{is_on_push, on_others}
+use Rattle.bpaf_index.proofs.Counts.{count_below-same, count_below-fewer, count_below-some}
+use Rattle.bpaf_index.proofs.Counts.{count_below-most, count_below-none}
 
 -- a present place of the scope lies in the scope
 pub open_in_scope : (s : Situation) (p : ℕ) → is_open s p ≡ true → (s.start ≤ p) × (p < s.end)
@@ -36,25 +37,6 @@ open_not_taken s p there =
 -- the situation with one place more on the trail
 abbrev pub put : Situation → ℕ → Situation
 put s p = with_trail s (s.trail ++ p ∷ [])
-
--- a place is on a longer trail where it was on the old one, or is the last
-pub is_on_push : (trail : List ℕ) (p q : ℕ)
-    → is_on (trail ++ p ∷ []) q ≡ (is_on trail q || (p == q))
-is_on_push trail p q = list_any-append (λ x. x == q) trail (p ∷ [])
-    ∙ ap (λ b. is_on trail q || b) (or_none (p == q))
-  where
-    or_none : (b : Bool) → (b || false) ≡ b
-    or_none true = refl
-    or_none false = refl
-
--- the other places are on it where they were
-pub on_others : (trail : List ℕ) (p q : ℕ) → q ≢ p → is_on (trail ++ p ∷ []) q ≡ is_on trail q
-on_others trail p q other = is_on_push trail p q
-    ∙ (ap (λ b. is_on trail q || b) (ne_eqb p q (λ e. other (sym e))) ∙ or_none (is_on trail q))
-  where
-    or_none : (b : Bool) → (b || false) ≡ b
-    or_none true = refl
-    or_none false = refl
 
 -- a place that was put on the trail is taken
 pub put_here : (s : Situation) (p : ℕ) → is_taken (put s p) p ≡ true

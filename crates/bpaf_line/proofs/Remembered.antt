@@ -13,7 +13,7 @@ use Rattle.bpaf_line.specs.declared.aside.Aside.{Aside}
 use Rattle.bpaf_line.specs.Remembered.{no_aside, count_within, IsSurvey, IsRemembered}
 use Rattle.bpaf_line.specs.Situation.{Situation, cut_to, with_trail, with_scope, is_on, is_open}
 use Rattle.bpaf_line.specs.Situation.{is_taken, in_scope, open_count, TakenInTurn, IsFirstPresent}
-use Rattle.bpaf_line.proofs.Counts.{count_below-none, count_below-same}
+use Rattle.bpaf_index.proofs.Counts.{count_below-none, count_below-same}
 use Rattle.bpaf_line.proofs.Places.{put, open_count-put}
 
 -- of a scope of no places all is known

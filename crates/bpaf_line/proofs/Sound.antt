@@ -19,9 +19,10 @@ use Rattle.bpaf_words.specs.declared.arg.Arg.{Arg}
 use Rattle.bpaf_line.specs.declared.state.State.TheInside.{Inside}
 use Rattle.bpaf_line.specs.declared.aside.Aside.{Aside}
 use Rattle.bpaf_line.specs.Remembered.{no_aside, count_within, IsSurvey, IsRemembered}
-use Rattle.bpaf_line.specs.Bits.{has_bit, is_clear_from, count_clear, ChangesBit, IsFirstClear}
-use Rattle.bpaf_line.specs.Chained.{Chained, class_in, head_of, AreBehind, AreChainsOf}
-use Rattle.bpaf_line.specs.Chained.{ReachBack, IfChained, HasNoKeyFrom}
+use Rattle.bpaf_index.specs.Bits.{has_bit, is_clear_from, count_clear, ChangesBit, IsFirstClear}
+use Rattle.bpaf_index.specs.Chained.{Chained, class_in, head_of, AreBehind}
+use Rattle.bpaf_line.specs.Chaining.{AreChainsOf}
+use Rattle.bpaf_index.specs.Chained.{ReachBack, IfChained, HasNoKeyFrom}
 use Rattle.bpaf_line.specs.Inside.{situation_of, BitsOf, IsSound}
 use Rattle.bpaf_line.specs.Situation.{Situation, with_trail, with_scope, cut_to, is_open, is_marker}
 use Rattle.bpaf_line.specs.Situation.{is_taken, is_on, in_scope, open_count, TakenInTurn}
@@ -32,8 +33,8 @@ use Rattle.bpaf_line.proofs.Remembered.{remembers_cut}
 use Rattle.bpaf_line.proofs.Places.{put, put_here, put_other, put_stays, open_count-put}
 use Rattle.bpaf_line.proofs.Places.{in_turn_put, room_on_trail, last_put, in_turn_cut}
 use Rattle.bpaf_line.proofs.Places.{first_without, present_in_line, open_in_scope, open_not_taken}
-use Rattle.bpaf_line.proofs.Counts.{count_below-same, count_below-cut, count_below-most}
-use Rattle.bpaf_line.proofs.Chained.{behind_within}
+use Rattle.bpaf_index.proofs.Counts.{count_below-same, count_below-cut, count_below-most}
+use Rattle.bpaf_index.proofs.Chained.{behind_within}
 
 -- the bits of a situation with one place more
 pub bits_put : (s : Situation) (old new : List ℕ) (p : ℕ) → BitsOf s old

@@ -9,7 +9,7 @@ use Rattle.std.proofs.lemmas.List.{take_more, take_all, take-append-drop}
 use Rattle.std.proofs.lemmas.List.Folds.{list_any-append}
 use Rattle.bpaf_line.specs.declared.mark.Mark.{Mark}
 use Rattle.bpaf_line.specs.declared.state.State.TheInside.{Inside}
-use Rattle.bpaf_line.specs.Bits.{has_bit, is_in_first, AreWithin, IsLeastIn}
+use Rattle.bpaf_index.specs.Bits.{has_bit, is_in_first, AreWithin, IsLeastIn}
 use Rattle.bpaf_line.specs.Changes.{Changes}
 use Rattle.bpaf_line.specs.Conflicts.{IsWinner, leftmost_of}
 use Rattle.bpaf_line.specs.Marks.{HasReached, CanRedo, undone, redone}
@@ -18,7 +18,8 @@ use Rattle.bpaf_line.specs.Situation.{TakenInTurn, PresentInTurn}
 use Rattle.bpaf_line.proofs.Conflicts.{excluded_at, last_of_here, last_of_other}
 use Rattle.bpaf_line.specs.Inside.{situation_of, BitsOf, IsSound}
 use Rattle.bpaf_line.proofs.Marks.{can_redo}
-use Rattle.bpaf_line.proofs.Places.{is_on_push, on_others, present_in_line}
+use Rattle.bpaf_index.proofs.Places.{is_on_push, on_others}
+use Rattle.bpaf_line.proofs.Places.{present_in_line}
 
 -- what is taken with more places on the trail
 taken_with : (s : Situation) (more : List ℕ) (q : ℕ)

@@ -8,8 +8,9 @@ use Rattle.std.specs.Rc.{rc_slice_items}
 use Rattle.bpaf_line.specs.declared.state.State.TheInside.{Inside}
 use Rattle.bpaf_line.specs.declared.mark.Steps.TheInside.{Inside as InsideSteps}
 use Rattle.bpaf_line.specs.Remembered.{IsRemembered}
-use Rattle.bpaf_line.specs.Bits.{has_bit}
-use Rattle.bpaf_line.specs.Chained.{AreChainsOf, HasNoKeyFrom}
+use Rattle.bpaf_index.specs.Bits.{has_bit}
+use Rattle.bpaf_index.specs.Chained.{HasNoKeyFrom}
+use Rattle.bpaf_line.specs.Chaining.{AreChainsOf}
 use Rattle.bpaf_line.specs.Changes.{Changes}
 use Rattle.bpaf_line.specs.TakenPlaces.{places_of}
 use Rattle.bpaf_line.specs.Situation.{Situation, is_taken, open_count, TakenInTurn, IsFirstPresent}

@@ -3,11 +3,9 @@ pub mod Messages
 pub mod Combining
 pub mod Failure
 pub mod Situation
-pub mod Bits
+pub mod Chaining
 pub mod Changes
 pub mod Remembered
-pub mod Chained
-pub mod InsideChains
 pub mod Inside
 pub mod Marks
 pub mod MissingIn

@@ -8,6 +8,7 @@ use Rattle.std.specs.Prelude.{nat_le, if◌then◌else◌, slice_get, slice_inde
 use Rattle.std.specs.Prelude.{option_map, find, reverse}
 use Rattle.std.specs.List.{list_any}
 use Rattle.bpaf_words.specs.declared.arg.Arg.{Arg}
+pub use Rattle.bpaf_index.specs.Places.{is_on, count_below}
 
 -- what no evaluation changes: the line, the place of its first `--`, where one stands there, the
 -- environment and the set name
@@ -50,10 +51,6 @@ item_at s p = item_in s.context p
 abbrev pub is_dealt_place : Context → ℕ → Bool
 is_dealt_place context p = nat_lt p (length context.line) && not (is_marker context.marker p)
 
--- a place is one of these
-abbrev pub is_on : List ℕ → ℕ → Bool
-is_on trail p = list_any (λ q. q == p) trail
-
 -- a place is taken: it is past the line, or that of the marker, or was taken since
 abbrev pub is_taken : Situation → ℕ → Bool
 is_taken s p =
@@ -74,11 +71,6 @@ in_scope s p = nat_le s.start p && nat_lt p s.end
 -- a place is present, and in scope
 abbrev pub is_open : Situation → ℕ → Bool
 is_open s p = in_scope s p && not (is_taken s p)
-
--- how many numbers below n are in a set
-abbrev pub count_below : (ℕ → Bool) → ℕ → ℕ
-count_below set zero = 0
-count_below set (suc n) = if set n then (count_below set n + 1) else count_below set n
 
 -- how many places are present in scope
 abbrev pub open_count : Situation → ℕ

@@ -2,8 +2,8 @@
 ghost use Rattle.std.specs.Prelude.{◌≡◌, ◌≤◌, length, MatchOption};
 ghost use Rattle.bpaf_line.specs.Stretches.{IsStretchFrom, HasNoneInBoth, IsFirstInBoth};
 
-use crate::bits;
 use crate::state::State;
+use bpaf_index::bits;
 use std::ops::Range;
 
 impl State {

@@ -5,9 +5,9 @@ ghost use Rattle.bpaf_line.specs.Situation.{is_on, is_taken, conflict_at, last_o
 ghost use Rattle.bpaf_line.specs.Marks.{HasReached, CanRedo, KeepsMarks, undone, redone};
 ghost use Rattle.bpaf_line.specs.Conflicts.{IsWinner, ConflictsSaved, first_conflict, leftmost_of};
 
-use crate::bits;
 use crate::mark::{Mark, Steps};
 use crate::state::State;
+use bpaf_index::bits;
 use std::alloc::AllocError;
 use std::mem;
 

@@ -6,16 +6,16 @@ ghost use Rattle.bpaf_words.specs.Arguments.{words_of, given_of, name_of, env_of
 ghost use Rattle.bpaf_words.specs.Arguments.{env_entries};
 ghost use Rattle.bpaf_words.specs.Spelling.{knowing, known_at};
 ghost use Rattle.bpaf_line.specs.Constructing.{Constructs};
-ghost use Rattle.bpaf_line.specs.Bits.{has_bit};
+ghost use Rattle.bpaf_index.specs.Bits.{has_bit};
 ghost use Rattle.bpaf_line.specs.Inside.{shared_entries};
 ghost use Rattle.bpaf_line.specs.Situation.{is_marker, beginning};
 
 use crate::aside::Aside;
-use crate::bits;
-use crate::chains::{Chains, count_to_last_key};
 use crate::error::Message;
 use crate::state::State;
 use bpaf_doc::Text;
+use bpaf_index::bits;
+use bpaf_index::chains::{Chains, count_to_last_key};
 use bpaf_words::{Args, Line, line_of};
 use std::alloc::{AllocError, Global};
 use std::collections::BTreeMap;

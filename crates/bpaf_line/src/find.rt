@@ -1,13 +1,13 @@
 //! The first key with one of some names, found along the chains of those names.
 ghost use Rattle.std.specs.Prelude.{◌≡◌, ◌≤◌, [], IfSome, MatchOption, length};
 ghost use Rattle.bpaf_words.specs.Items.{is_argument_key};
-ghost use Rattle.bpaf_line.specs.Chained.{AreChainsOf};
+ghost use Rattle.bpaf_line.specs.Chaining.{AreChainsOf};
 ghost use Rattle.bpaf_line.specs.Finding.{IsFirstAmong, IsFirstAlong};
 ghost use Rattle.bpaf_line.specs.Taking.{is_match, HasNone, IsFirst};
 
-use crate::chains::Chains;
 use crate::state::State;
 use bpaf_doc::Text;
+use bpaf_index::chains::Chains;
 use bpaf_words::is_argument_key;
 
 /// A scope with no more places from the first present one on, up to the line's last key, is

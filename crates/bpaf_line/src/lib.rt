@@ -1,6 +1,7 @@
 //! The state of a parse: which items of a line are taken, and why a parser gives no value.
 //!
-//! It stands on `bpaf_doc` and `bpaf_words`, whose lines it holds. For the layers above:
+//! It stands on `bpaf_doc`, on `bpaf_words`, whose lines it holds, and on `bpaf_index`, by which it
+//! finds places. For the layers above:
 //!
 //! - [`State::construct`] begins a parse at the line of the words (specs/Constructing.antt), and
 //!   [`State::construct_numbers`] does so where negative numbers are words.
@@ -30,9 +31,6 @@
 
 mod adjacent;
 mod aside;
-mod bits;
-mod chains;
-mod classes;
 mod conflict;
 mod construct;
 mod error;

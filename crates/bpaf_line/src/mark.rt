@@ -10,7 +10,7 @@ use crate::aside::{Aside, count_within};
 use crate::construct::copy_path;
 use crate::state::{State, lies_within};
 use crate::taken::TakenPlaces;
-use crate::{bits, chains};
+use bpaf_index::{bits, chains};
 use std::alloc::AllocError;
 use std::marker::Model;
 

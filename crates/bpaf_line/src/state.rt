@@ -17,12 +17,12 @@ ghost use Rattle.bpaf_line.specs.Marks.{KeepsMarks};
 ghost use Rattle.bpaf_line.specs.Taking.{HasNone, IsFirst, value_after, open_item, entry_of};
 
 use crate::aside::Aside;
-use crate::bits;
-use crate::chains::{self, Chains};
 use crate::error::{Error, Message};
 use crate::iter::ArgsIter;
 use crate::missing::{MissingItem, MissingItems};
 use bpaf_doc::{Item, Text};
+use bpaf_index::bits;
+use bpaf_index::chains::{self, Chains};
 use bpaf_words::{Arg, is_positional, value_text};
 use std::alloc::{AllocError, Global};
 use std::marker::Model;

@@ -3,8 +3,8 @@ ghost use Rattle.std.specs.Prelude.{◌≡◌, ◌≤◌, length, option_copied}
 ghost use Rattle.bpaf_line.specs.Situation.{line_item, IsFirstPresentWithin};
 ghost use Rattle.bpaf_line.specs.Within.{first_present};
 
-use crate::bits;
 use crate::state::State;
+use bpaf_index::bits;
 use bpaf_words::Arg;
 
 impl State {

@@ -11,7 +11,7 @@ use Rattle.bpaf_line.specs.declared.failure.ParseFailure.{ParseFailure}
 use Rattle.bpaf_line.specs.declared.failure.ParseFailure.TheVariants as failure
 use Rattle.bpaf_messages.specs.Leftover.{IsLeftover, conflict, only_once, not_expected}
 use Rattle.bpaf_line.specs.Situation.{Context, Situation, beginning, is_open, open_count}
-use Rattle.bpaf_line.proofs.Counts.{count_below-some}
+use Rattle.bpaf_index.proofs.Counts.{count_below-some}
 use Rattle.bpaf_line.proofs.Places.{open_in_line}
 use Rattle.bpaf_laws.specs.Reading.{Outcome}
 use Rattle.bpaf_core.specs.Ending.{EndsRun, memory, usage, passed_on, refused as told_refusal}

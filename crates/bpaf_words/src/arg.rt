@@ -3,7 +3,7 @@ ghost use Rattle.std.specs.Prelude.{◌≡◌, option_copied};
 ghost use Rattle.bpaf_words.specs.Items.{is_text_among, is_key_of, is_argument_key, is_attached};
 ghost use Rattle.bpaf_words.specs.Items.{is_positional, value_text, item_text, is_command_word};
 
-use bpaf_doc::Text;
+use bpaf_base::Text;
 use std::fmt;
 
 /// One item of the line (bpaf's `Arg`).

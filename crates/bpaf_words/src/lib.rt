@@ -1,6 +1,7 @@
 //! Words and the items that they spell.
 //!
-//! It stands on `bpaf_doc`, whose texts it holds, and knows nothing of parsers or of what is taken.
+//! It stands on `bpaf_base`, whose texts it holds, and knows nothing of documents, of parsers or of
+//! what is taken.
 //! For the layers above:
 //!
 //! - [`Args`] lends the words, the name and the environment of a run (specs/Arguments.antt).

@@ -10,7 +10,7 @@ ghost use Rattle.bpaf_words.specs.Splitting.{SplitsWords, ReadsLine, AreTexts};
 use crate::arg::Arg;
 use crate::args::Words;
 use crate::split::{SplitFault, split_alone, split_word};
-use bpaf_doc::Text;
+use bpaf_base::Text;
 use std::alloc::{AllocError, Global};
 
 /// The line of words: its items, and the place of the first `--`, where one stands there.

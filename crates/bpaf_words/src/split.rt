@@ -9,7 +9,7 @@ ghost use Rattle.bpaf_words.specs.Splitting.{Splits, SplitsAlone, SplitsDashed, 
 ghost use Rattle.bpaf_words.specs.Splitting.{SpellsAs};
 
 use crate::arg::Arg;
-use bpaf_doc::Text;
+use bpaf_base::Text;
 use std::alloc::{AllocError, Global};
 
 /// Why a word gives no items.

@@ -1,8 +1,8 @@
 use Rattle.std.proofs.Common.{◌∙◌, ap, sym, subst, true}
 use Rattle.std.proofs.lemmas.List.{with_items_is}
-use Rattle.bpaf_line.specs.Bits.{has_bit, ChangesBit}
+use Rattle.bpaf_index.specs.Bits.{has_bit, ChangesBit}
 use Rattle.bpaf_line.specs.Situation.{is_marker}
-use Rattle.bpaf_line.proofs.BitLemmas.{has_bit_zero, has_bit_one}
+use Rattle.bpaf_index.proofs.BitLemmas.{has_bit_zero, has_bit_one}
 use Rattle.bpaf_line.proofs.construct.first_words.Goals as goal
 use Rattle.bpaf_line.proofs.construct.first_words.Goals.{in-Some, in_default}
 

@@ -2,8 +2,8 @@ use Rattle.std.proofs.Common.{◌∙◌, ◌-◌, ap, sym, subst, true, IfSome}
 use Rattle.std.specs.Int.{from_bool}
 use Rattle.std.proofs.lemmas.List.{with_items_is}
 use Rattle.std.specs.Rc.{rc_slice_items}
-use Rattle.bpaf_line.specs.Bits.{has_bit, ChangesBit, IsFirstClear}
-use Rattle.bpaf_line.specs.Chained.{AreBehind}
+use Rattle.bpaf_index.specs.Bits.{has_bit, ChangesBit, IsFirstClear}
+use Rattle.bpaf_index.specs.Chained.{AreBehind}
 use Rattle.bpaf_line.specs.Inside.{situation_of}
 use Rattle.bpaf_line.specs.Situation.{is_taken, with_trail}
 use Rattle.bpaf_line.proofs.Places.{put}

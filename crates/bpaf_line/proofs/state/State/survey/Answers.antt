@@ -1,7 +1,7 @@
 use Rattle.std.proofs.Common.{◌≤◌, ◌∙◌, ◌-◌, ap, sym, subst, arith, length, drop}
 use Rattle.std.proofs.lemmas.List.{take_rest}
 use Rattle.std.specs.Rc.{rc_slice_items}
-use Rattle.bpaf_line.specs.Bits.{count_clear, IsFirstClear}
+use Rattle.bpaf_index.specs.Bits.{count_clear, IsFirstClear}
 use Rattle.bpaf_line.specs.Inside.{situation_of}
 use Rattle.bpaf_line.specs.Remembered.{count_within, IsSurvey}
 use Rattle.bpaf_line.proofs.Remembered.{survey_narrowed}

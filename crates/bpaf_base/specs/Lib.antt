@@ -1,0 +1,2 @@
+pub mod Names
+pub mod InsideText

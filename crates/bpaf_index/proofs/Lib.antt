@@ -1,0 +1,7 @@
+pub mod Counts
+pub mod Places
+pub mod WordBits
+pub mod BitLemmas
+pub mod BitSets
+pub mod Chained
+pub mod Noted

@@ -1,0 +1,4 @@
+pub mod Places
+pub mod Bits
+pub mod Chained
+pub mod InsideChains

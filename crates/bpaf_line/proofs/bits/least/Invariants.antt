@@ -1,6 +1,0 @@
-use Rattle.std.proofs.Common.{take}
-use Rattle.bpaf_line.specs.Bits.{is_on_as, IsLeastIn}
-use Rattle.bpaf_line.proofs.bits.least.Given as goal
-
-abbrev pub invariant-loop-place : goal.invariant-loop-place
-invariant-loop-place l = IsLeastIn (is_on_as l.words (take l.place-index l.places) l.bit) l.least

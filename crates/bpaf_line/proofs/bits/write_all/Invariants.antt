@@ -1,6 +1,0 @@
-use Rattle.std.proofs.Common.{take}
-use Rattle.bpaf_line.specs.Bits.{ChangesBits}
-use Rattle.bpaf_line.proofs.bits.write_all.Given as goal
-
-abbrev pub invariant-loop-place : goal.invariant-loop-place
-invariant-loop-place l = ChangesBits l.fn.words l.words (take l.place-index l.places) l.bit
