@@ -32,5 +32,5 @@ pub fn read_options(alloc: Global, words: &[String]) -> Result<Options, ParseFai
     });
     options
         .to_options(alloc)?
-        .run_once(Args::from(words).set_name("bpaf_bench"))
+        .run_inner(Args::from(words).set_name("bpaf_bench"))
 }

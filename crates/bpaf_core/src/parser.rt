@@ -355,8 +355,6 @@ pub trait Parser<T>: Sized {
 
     /// A parser that can run over words; refused only for want of memory.
     final fn to_options(self, alloc: Global) -> Result<OptionParser<T, Self>, AllocError>
-    where
-        Self: Drop,
         ensures inner { IfOk result (λ options. options.inner ≡ self) }
         ensures info { IfOk result (λ options. options.info ≡ plain_info) }
     {

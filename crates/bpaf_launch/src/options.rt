@@ -48,5 +48,5 @@ pub fn read_launch(alloc: Global, words: &[String]) -> Result<Launch, ParseFailu
     });
     launch
         .to_options(alloc)?
-        .run_once(Args::from(words).set_name("launch"))
+        .run_inner(Args::from(words).set_name("launch"))
 }

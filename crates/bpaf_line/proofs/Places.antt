@@ -1,18 +1,17 @@
 -- Places: what a place changes that is put on the trail, or taken off it. The layers above cite the
 -- lemmas on a place that is taken.
-use Rattle.std.proofs.Common.{◌≡◌, ◌≢◌, ℕ, zero, suc, ◌+◌, ◌-◌, ◌<◌, ◌≤◌, ◌==◌, Bool, true, false}
+use Rattle.std.proofs.Common.{◌≡◌, ◌≢◌, ℕ, zero, suc, ◌+◌, ◌-◌, ◌<◌, ◌≤◌, Bool, true, false}
 use Rattle.std.proofs.Common.{not, ◌&&◌, ◌||◌, List, [], ◌∷◌, ◌++◌, Option, length, take, refl, ap}
 use Rattle.std.proofs.Common.{sym, ◌∙◌, subst, arith, if◌then◌else◌, ⊎_elim, nat_lt, nat_le}
 use Rattle.std.proofs.Common.{slice_index, add-one, min}
 use Rattle.std.specs.Int.{from_bool}
-use Rattle.std.proofs.lemmas.Bool.{cases_lt, cases_eq, eq-eqb, ne_eqb, or_right, and_left}
+use Rattle.std.proofs.lemmas.Bool.{cases_lt, cases_eq, eq-eqb, or_right, and_left}
 use Rattle.std.proofs.lemmas.Bool.{and_right, and_from, and_parts, not-true, cases_Bool, true≢false}
 use Rattle.std.proofs.lemmas.Bool.{le-leb, lt-ltb}
 use Rattle.std.proofs.lemmas.Bool.Decides.{nat_tests}
 use Rattle.std.proofs.lemmas.List.{take_at, take-take, take-append-le, get_or_push}
 use Rattle.std.proofs.lemmas.List.{get_or_append_left, get_or-take, length_push, length-take-le}
 use Rattle.std.proofs.lemmas.List.{take_more, take_all}
-use Rattle.std.proofs.lemmas.List.Folds.{list_any-append}
 use Rattle.bpaf_line.specs.Situation.{Situation, is_on, is_taken, is_marker, in_scope, is_open}
 use Rattle.bpaf_line.specs.Situation.{count_below, open_count, take_place, with_trail, with_scope}
 use Rattle.bpaf_line.specs.Situation.{with_path, with_current, item_at, cut_to, TakenInTurn}

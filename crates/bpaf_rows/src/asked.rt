@@ -6,8 +6,9 @@ use std::test::Fail;
 
 /// A run with a version.
 fn versioned(alloc: Global) -> Result<Info, AllocError> {
+    let version = Doc::from_text(alloc, "1.2")?;
     let mut info = Info::new();
-    info.version = Some(Doc::from_text(alloc, "1.2")?);
+    info.version = Some(version);
     Ok(info)
 }
 
@@ -28,8 +29,11 @@ fn asked(
 fn known(extra: Result<ExtraParams, Error>) -> Result<Option<ExtraParams>, AllocError> {
     match extra {
         Ok(extra) => Ok(Some(extra)),
-        Err(error) if error.is_memory() => Err(AllocError),
-        Err(_) => Ok(None),
+        Err(error) => {
+            let memory = error.is_memory();
+            drop(error);
+            if memory { Err(AllocError) } else { Ok(None) }
+        }
     }
 }
 

@@ -35,8 +35,8 @@ returns c =
     record {
       launch = launch_asked _ (λ x v e. search rules) fields.first fields.rest.first _ _ _ _ _
           (known_dealt (product_known (λ x v e. search rules) known) info given _
-          c.run_once.ensures.dealt)
-          (rw (name.position_is, passed.position_is, given) at c.run_once.ensures.outcome);
+          c.run_inner.ensures.dealt)
+          (rw (name.position_is, passed.position_is, given) at c.run_inner.ensures.outcome);
       asked = known_asked (product_known (λ x v e. e) known) info given IsProgramShape
           (record {
             verbose = c.in_ok-from_text.field-0;
@@ -49,5 +49,5 @@ returns c =
             words_help = passed.told;
             is = refl;
           })
-          _ c.run_once.ensures.outcome;
+          _ c.run_inner.ensures.outcome;
     }
