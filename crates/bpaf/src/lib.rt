@@ -26,13 +26,14 @@ mod cargo;
 mod choices;
 mod construct;
 pub mod doc;
+mod laws;
 mod leaves;
 pub mod params;
 pub mod parsers;
 mod product;
 
 pub use adjacent::{AdjacentError, ParseAdjacent};
-pub use bpaf_core::{ExtraParams, Info, OptionParser, Parser, command, count_falls, read_text};
+pub use bpaf_core::{ExtraParams, Info, OptionParser, Parser, command, read_text};
 pub use bpaf_doc::{Doc, Item, Meta, MetaInfo, Metavar, Piece, ShortLong, Style, Text};
 pub use bpaf_line::{
     ArgsIter, Error, Mark, Message, MissingItem, MissingItems, ParseFailure, State, Steps,
@@ -43,6 +44,7 @@ pub use bpaf_text::{FromList, FromText, NamedArg, TextFault, env, long, short};
 pub use bpaf_words::{Arg, Args, LentWord, Words, lines_are_unique, spellings_are_unique};
 pub use cargo::{CargoHelper, cargo_helper};
 pub use choices::{ParseChoice, choice};
+pub use laws::count_falls;
 pub use leaves::any::{ParseAny, any};
 pub use leaves::appname::appname;
 pub use leaves::literal::{ParseLiteral, literal};

@@ -8,3 +8,4 @@ pub mod CommandSparing
 pub mod Leaving
 pub mod RunSparing
 pub mod LeafSparing
+pub mod Shown

@@ -6,7 +6,6 @@ use Rattle.bpaf_line.specs.declared.error.Error.{Error}
 use Rattle.bpaf_line.specs.declared.error.Message.TheVariants as message
 use Rattle.bpaf_line.specs.declared.failure.ParseFailure.{ParseFailure}
 use Rattle.bpaf_line.specs.declared.failure.ParseFailure.TheVariants as failure
-use Rattle.bpaf_line.specs.Messages.{is_memory}
 use Rattle.bpaf_line.specs.Stretches.{IsStretchFrom}
 use Rattle.bpaf_line.specs.Situation.{Situation, with_current, with_scope}
 use Rattle.bpaf_laws.specs.AdjacentCommand.{AdjacentReads, AllTaken, IsFirstLeft}
@@ -15,13 +14,10 @@ use Rattle.bpaf_laws.specs.Command.{inside, opened, opening_words}
 use Rattle.bpaf_laws.specs.Reading.{Outcome, Readings}
 use Rattle.bpaf_core.specs.Command.{CommandOutcome, IsMissingPart}
 use Rattle.bpaf_parts.specs.Failures.{end_message}
+pub use Rattle.bpaf_parts.specs.Failures.{IsTold, GivesBack}
 use Rattle.bpaf_core.specs.Ending.{Ending, EndsRun}
 use Rattle.bpaf_core.specs.Run.{Runs}
 use Rattle.bpaf_core.specs.declared.commands.ParseCommand.{ParseCommand}
-
--- an end of a run that isn't want of memory
-abbrev pub IsTold : ParseFailure → Type 0
-IsTold f = is_memory (end_message f) ≡ false
 
 -- an attempt: a run over the places from one up to another
 abbrev pub Attempt : (T : Type 0) → Outcome T → Ending → Situation → ℕ → ℕ → Result T ParseFailure
@@ -41,13 +37,6 @@ pub data Retry (T : Type 0) (inner : Outcome T) (ending : Ending) (s : Situation
       → IsFirstLeft t from end stop → Attempt T inner ending s from stop (Err g) u → IsTold g
       → Retry T inner ending s from end f t (Err f) t
   wants_memory : Retry T inner ending s from end f t (Err failure.Memory) s
-
--- the failure that stands where the second attempt failed too: the first one, there where the first
--- attempt led; or want of memory, back where both began
-abbrev pub GivesBack : ParseFailure → ParseFailure → Situation → Situation → ParseFailure
-    → Situation → Type 0
-GivesBack first second back there f t =
-    (IsTold second × (f ≡ first) × (t ≡ there)) ⊎ ((f ≡ failure.Memory) × (t ≡ back))
 
 -- the attempts from a place on: one over the stretch of present places; where that fails, what
 -- follows

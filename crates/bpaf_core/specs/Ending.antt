@@ -18,6 +18,7 @@ use Rattle.bpaf_line.specs.Situation.{Context, Situation, beginning, open_count}
 use Rattle.bpaf_parts.specs.declared.info.ExtraParams.{ExtraParams}
 use Rattle.bpaf_parts.specs.declared.info.ExtraParams.TheVariants as extra
 use Rattle.bpaf_parts.specs.Extra.{ExtraOutcome, extra_shape}
+pub use Rattle.bpaf_parts.specs.Failures.{is_shown}
 use Rattle.bpaf_parts.specs.Info.{RunInfo, page_texts}
 use Rattle.bpaf_parts.specs.Version.{ShowsVersion}
 
@@ -56,11 +57,6 @@ pub data Tells (describes : Shape → Type 0) (info : RunInfo) (m : Message) (s 
       → is_memory e.0 ≡ false → Renders m t f → Tells describes info m s f t
   wanting : (e : Error) (t : Situation) → ExtraOutcome info s (Err e) t → is_memory e.0 ≡ true
       → Tells describes info m s failure.Memory t
-
--- the answer of an inner run that shows what was asked for
-abbrev pub is_shown : Message → Bool
-is_shown (message.ParseFailure (failure.Stdout doc full)) = true
-is_shown _ = false
 
 -- the answer of an inner run
 abbrev pub is_answer : Message → Bool

@@ -1,28 +1,20 @@
 -- The known short names of a run, by which joined words are read, and the order of what is shown.
-use Rattle.std.specs.Prelude.{◌≡◌, ◌⊎◌, ℕ, Bool, false, List, ◌++◌, Result, Ok, Err, ⊤}
+use Rattle.std.specs.Prelude.{◌≡◌, ◌⊎◌, ℕ, Bool, false, List, Result, Ok, Err, ⊤}
 use Rattle.bpaf_doc.specs.Order.{in_order}
 use Rattle.bpaf_doc.specs.Shape.{Shape}
-use Rattle.bpaf_doc.specs.Walks.{flag_shorts, argument_shorts}
 use Rattle.bpaf_words.specs.Arguments.{Given}
 use Rattle.bpaf_words.specs.Line.{HasNoLine, IsLine}
 use Rattle.bpaf_words.specs.Splitting.{IsLineByAny}
 use Rattle.bpaf_words.specs.declared.line.Line.{Line}
 use Rattle.bpaf_words.specs.declared.line.LineFault.{LineFault}
 use Rattle.bpaf_words.specs.declared.line.LineFault.TheVariants as fault
-use Rattle.bpaf_words.specs.Spelling.{ShortNames, Known, known_at}
+use Rattle.bpaf_words.specs.Spelling.{ShortNames, known_at}
 use Rattle.bpaf_line.specs.Constructing.{IsContext}
 use Rattle.bpaf_line.specs.Situation.{Situation, Context, beginning}
 use Rattle.bpaf_line.specs.declared.error.Message.{Message}
 use Rattle.bpaf_line.specs.declared.error.Message.TheVariants as message
 use Rattle.bpaf_parts.specs.Info.{RunInfo}
-
--- those of the flags and arguments that a parser shows, and as flags those of help and version; and
--- whether the setting makes a negative number a word
-abbrev pub known_names : RunInfo → Shape → Known
-known_names info shape = known_at info.numbers (record {
-  flags = flag_shorts shape ++ info.help_arg.names.shorts ++ info.version_arg.names.shorts;
-  arguments = argument_shorts shape;
-})
+pub use Rattle.bpaf_parts.specs.KnownNames.{known_names}
 
 -- short names that are the known ones of a shape that the parser may show
 pub record ShowsNames (describes : Shape → Type 0) (info : RunInfo)

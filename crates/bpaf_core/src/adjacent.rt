@@ -2,37 +2,12 @@
 ghost use Rattle.std.specs.Prelude.{◌≡◌, ◌<◌, ◌≤◌, length};
 ghost use Rattle.bpaf_line.specs.Marks.{CanRedo, Fits, KeepsMarks, redone, undone};
 ghost use Rattle.bpaf_core.specs.Ending.{EndsRun};
-ghost use Rattle.bpaf_core.specs.Adjacent.{AdjacentRuns, Attempt, Attempts, GivesBack, Retry};
+ghost use Rattle.bpaf_core.specs.Adjacent.{AdjacentRuns, Attempt, Attempts, Retry};
 
 use crate::parser::Parser;
 use crate::run::Run;
 use bpaf_line::{Mark, ParseFailure, State, Steps};
-use bpaf_parts::{first_left, resume, wants_memory};
-
-/// The failure of a first attempt, where its steps led, since a second one failed too; want of
-/// memory at the mark, where the second one ended so, or memory for doing the steps again is
-/// refused.
-fn first_failure(
-    state: &mut State,
-    mark: Mark,
-    steps: Steps,
-    first: ParseFailure,
-    second: ParseFailure,
-) -> ParseFailure
-    requires fits { Fits mark state.old }
-    requires steps { CanRedo steps (undone mark state.old) }
-    ensures { GivesBack first second (undone mark state.old)
-        (redone steps (undone mark state.old)) result state.new }
-{
-    if wants_memory(&second) {
-        state.undo(mark);
-        return second;
-    }
-    match resume(state, mark, steps) {
-        Ok(()) => first,
-        Err(refused) => ParseFailure::from(refused),
-    }
-}
+use bpaf_parts::{first_failure, first_left, wants_memory};
 
 impl<T: Drop, P: Parser<T>> Run<'_, T, P> {
     /// A run over the places from one up to another.

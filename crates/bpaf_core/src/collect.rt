@@ -3,9 +3,10 @@ ghost use Rattle.std.specs.Prelude.{◌≡◌, true};
 ghost use Rattle.bpaf_laws.specs.Repeat.{CollectOutcome};
 
 use crate::parser::Parser;
-use crate::repeat::{many_meta, values_until_stop};
+use crate::repeat::values_until_stop;
 use bpaf_doc::Meta;
 use bpaf_line::{Error, State};
+use bpaf_parts::many_meta;
 use bpaf_text::FromList;
 use std::alloc::{AllocError, Global};
 use std::marker::PhantomData;
@@ -79,7 +80,7 @@ impl<T: Drop, C: FromList<T> + Drop, P: Parser<T>> Parser<C> for ParseCollect<P,
     }
 
     fn meta(&self, alloc: Global) -> Result<Meta, AllocError> {
-        many_meta(&self.inner, alloc)
+        many_meta(alloc, self.inner.meta(alloc)?)
     }
 
     ghost lawful = { λ p. collect_lawful (P.lawful p.inner) p.catch C.fills };

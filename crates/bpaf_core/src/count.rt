@@ -3,9 +3,9 @@ ghost use Rattle.bpaf_laws.specs.Repeat.{CountOutcome, LastOutcome};
 
 use crate::optional::parse_option;
 use crate::parser::Parser;
-use crate::repeat::{many_meta, some_meta};
 use bpaf_doc::Meta;
 use bpaf_line::{Error, State};
+use bpaf_parts::{many_meta, some_meta};
 use std::alloc::{AllocError, Global};
 use std::marker::PhantomData;
 
@@ -80,7 +80,7 @@ impl<T: Drop, P: Parser<T>> Parser<usize> for ParseCount<P, T> {
     }
 
     fn meta(&self, alloc: Global) -> Result<Meta, AllocError> {
-        many_meta(&self.inner, alloc)
+        many_meta(alloc, self.inner.meta(alloc)?)
     }
 
     ghost lawful = { λ p. count_lawful (P.lawful p.inner) };
@@ -118,7 +118,7 @@ impl<T: Drop, P: Parser<T>> Parser<T> for ParseLast<P> {
     }
 
     fn meta(&self, alloc: Global) -> Result<Meta, AllocError> {
-        some_meta(&self.inner, alloc)
+        some_meta(alloc, self.inner.meta(alloc)?)
     }
 
     ghost lawful = { λ p. last_lawful (P.lawful p.inner) };

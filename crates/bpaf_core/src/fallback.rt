@@ -1,16 +1,14 @@
 //! A value that stands in where a parser gives none.
 ghost use Rattle.std.specs.Prelude.{◌≡◌, IfOk};
 ghost use Rattle.std.specs.Fn.{FnReturnsAt};
-ghost use Rattle.bpaf_doc.specs.Shape.{shape_of};
-ghost use Rattle.bpaf_laws.specs.Default.{AttemptOutcome, DefaultDescribes, ShowsAnswer};
+ghost use Rattle.bpaf_laws.specs.Default.{AttemptOutcome, ShowsAnswer};
 ghost use Rattle.bpaf_laws.specs.Default.{ShowsDefault};
 ghost use Rattle.bpaf_laws.specs.Default.{ShowsFormatted};
 
-use crate::optional::optional_meta;
 use crate::parser::Parser;
 use bpaf_doc::{Doc, Meta};
 use bpaf_line::{Error, State};
-use bpaf_parts::{debugged, displayed, formatted, given_by};
+use bpaf_parts::{debugged, default_meta, displayed, formatted, given_by};
 use std::alloc::{AllocError, Global};
 use std::fmt::{Debug, Display};
 use std::marker::PhantomData;
@@ -33,23 +31,6 @@ fn attempt<T, P: Parser<T>>(parser: &P, state: &mut State) -> Result<Option<T>, 
                 Err(error)
             }
         }
-    }
-}
-
-/// What a parser with a default shows; refused only for want of memory.
-fn default_meta<T, P: Parser<T>>(
-    parser: &P,
-    shown: &Option<Doc>,
-    alloc: Global,
-) -> Result<Meta, AllocError>
-    requires { P.can_eval parser.now }
-    ensures { IfOk result (λ meta.
-        DefaultDescribes (P.describes parser.now) shown.now (shape_of meta)) }
-{
-    let meta = optional_meta(parser, alloc)?;
-    match shown {
-        Some(shown) => Ok(Meta::Suffix(Box::new(alloc, meta)?, shown.copy()?)),
-        None => Ok(meta),
     }
 }
 
@@ -153,8 +134,9 @@ impl<T: Clone, P: Parser<T>> Parser<T> for ParseFallback<P, T> {
         }
     }
 
+    #[tactic(auto, using(crate::proofs::Shown::default_of))]
     fn meta(&self, alloc: Global) -> Result<Meta, AllocError> {
-        default_meta(&self.inner, &self.shown, alloc)
+        default_meta(alloc, self.inner.meta(alloc)?, &self.shown)
     }
 
     ghost lawful = { λ p. fallback_lawful (P.lawful p.inner) (GivesClone T.is_clone p.value) };
@@ -288,8 +270,9 @@ impl<T, E: Display + Drop, P: Parser<T>, F: Fn() -> Result<T, E>> Parser<T>
         }
     }
 
+    #[tactic(auto, using(crate::proofs::Shown::default_of))]
     fn meta(&self, alloc: Global) -> Result<Meta, AllocError> {
-        default_meta(&self.inner, &self.shown, alloc)
+        default_meta(alloc, self.inner.meta(alloc)?, &self.shown)
     }
 
     ghost lawful = { λ p.

@@ -1,13 +1,11 @@
 //! A value that may be missing.
-ghost use Rattle.std.specs.Prelude.{◌≡◌, IfOk, true};
-ghost use Rattle.bpaf_doc.specs.Shape.{shape_of};
-ghost use Rattle.bpaf_laws.specs.Default.{OptionalDescribes};
+ghost use Rattle.std.specs.Prelude.{◌≡◌, true};
 ghost use Rattle.bpaf_laws.specs.Turn.{TurnOutcome};
 
 use crate::parser::Parser;
 use bpaf_doc::Meta;
 use bpaf_line::{Error, State};
-use bpaf_parts::stops_step;
+use bpaf_parts::{optional_meta, stops_step};
 use std::alloc::{AllocError, Global};
 
 /// One turn of an optional value or a repeat (bpaf's `parse_option`, in `structs.rs`): Some of a
@@ -44,14 +42,6 @@ pub(crate) fn parse_option<T: Drop, P: Parser<T>>(
             }
         }
     }
-}
-
-/// What a parser shows, as what may be left out; refused only for want of memory.
-pub(crate) fn optional_meta<T, P: Parser<T>>(parser: &P, alloc: Global) -> Result<Meta, AllocError>
-    requires { P.can_eval parser.now }
-    ensures { IfOk result (λ meta. OptionalDescribes (P.describes parser.now) (shape_of meta)) }
-{
-    Ok(Meta::Optional(Box::new(alloc, parser.meta(alloc)?)?))
 }
 
 /// Some of the inner value, or None (bpaf's `ParseOptional`, in `structs.rs`).
@@ -107,7 +97,7 @@ impl<T: Drop, P: Parser<T>> Parser<Option<T>> for ParseOptional<P> {
     }
 
     fn meta(&self, alloc: Global) -> Result<Meta, AllocError> {
-        optional_meta(&self.inner, alloc)
+        optional_meta(alloc, self.inner.meta(alloc)?)
     }
 
     ghost lawful = { λ p. optional_lawful (P.lawful p.inner) p.catch };

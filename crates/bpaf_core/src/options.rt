@@ -243,18 +243,9 @@ impl<T: Drop, P: Parser<T>> OptionParser<T, P> {
             × F.post f shown (Ok usage)
             × (parser ≡ record self { info = record self.info { usage = Some usage } })) }
     {
-        let usage = f(self.shown_usage()?)?;
-        Ok(self.usage(usage))
-    }
-
-    /// The usage text of what the parser shows, without the path; refused only for want of memory.
-    fn shown_usage(&self) -> Result<Doc, AllocError>
-        requires { P.can_eval self.now.inner }
-        ensures { IfOk result (λ shown. (shape : Shape) × P.describes self.now.inner shape
-            × Prints (usage_text shape) shown) }
-    {
         let meta = self.inner.meta(self.alloc)?;
-        usage_of(self.alloc, &meta)
+        let usage = f(usage_of(self.alloc, &meta)?)?;
+        Ok(self.usage(usage))
     }
 
     /// Whether no key stands behind a word or a command in what the parser shows (bpaf's

@@ -1,21 +1,13 @@
 //! All values of a parser, in a list.
-ghost use Rattle.std.specs.Prelude.{◌≡◌, ◌++◌, ◌∷◌, [], IfOk, OnOk, true};
-ghost use Rattle.bpaf_doc.specs.Shape.{shape_of};
-ghost use Rattle.bpaf_laws.specs.Repeat.{ManyOutcome, SomeOutcome, ManyDescribes, SomeDescribes};
+ghost use Rattle.std.specs.Prelude.{◌≡◌, true};
+ghost use Rattle.bpaf_laws.specs.Repeat.{ManyOutcome, SomeOutcome};
 
 use crate::optional::parse_option;
 use crate::parser::Parser;
 use bpaf_doc::{Meta, Text};
 use bpaf_line::{Error, Message, State};
+use bpaf_parts::{many_meta, push_value, some_meta};
 use std::alloc::{AllocError, Global};
-
-/// Appends a value to a list; refused only for want of memory, and then the value is dropped.
-fn push_value<T: Drop>(values: &mut Vec<T>, value: T) -> Result<(), AllocError>
-    ensures { OnOk result (values.new.items ≡ values.old.items ++ value ∷ []) }
-{
-    values.push(value)?;
-    Ok(())
-}
 
 /// The values of turns, until one stops; an error of a turn is the answer.
 pub(crate) fn values_until_stop<T: Drop, P: Parser<T>>(
@@ -31,24 +23,6 @@ pub(crate) fn values_until_stop<T: Drop, P: Parser<T>>(
         push_value(&mut values, value)?;
     }
     Ok(values)
-}
-
-/// What a parser shows, as what may stand any number of times; refused only for want of memory.
-pub(crate) fn many_meta<T, P: Parser<T>>(parser: &P, alloc: Global) -> Result<Meta, AllocError>
-    requires { P.can_eval parser.now }
-    ensures { IfOk result (λ meta. ManyDescribes (P.describes parser.now) (shape_of meta)) }
-{
-    let optional = Meta::Optional(Box::new(alloc, parser.meta(alloc)?)?);
-    Ok(Meta::Many(Box::new(alloc, optional)?))
-}
-
-/// What a parser shows, as what has to stand once or more; refused only for want of memory.
-pub(crate) fn some_meta<T, P: Parser<T>>(parser: &P, alloc: Global) -> Result<Meta, AllocError>
-    requires { P.can_eval parser.now }
-    ensures { IfOk result (λ meta. SomeDescribes (P.describes parser.now) (shape_of meta)) }
-{
-    let required = Meta::Required(Box::new(alloc, parser.meta(alloc)?)?);
-    Ok(Meta::Many(Box::new(alloc, required)?))
 }
 
 /// All inner values (bpaf's `ParseMany`, in `structs.rs`).
@@ -105,7 +79,7 @@ impl<T: Drop, P: Parser<T>> Parser<Vec<T>> for ParseMany<P> {
     }
 
     fn meta(&self, alloc: Global) -> Result<Meta, AllocError> {
-        many_meta(&self.inner, alloc)
+        many_meta(alloc, self.inner.meta(alloc)?)
     }
 
     ghost lawful = { λ p. many_lawful (P.lawful p.inner) p.catch };
@@ -183,7 +157,7 @@ impl<'m, T: Drop, P: Parser<T>> Parser<Vec<T>> for ParseSome<'m, P> {
     }
 
     fn meta(&self, alloc: Global) -> Result<Meta, AllocError> {
-        some_meta(&self.inner, alloc)
+        some_meta(alloc, self.inner.meta(alloc)?)
     }
 
     ghost lawful = { λ p. some_lawful (P.lawful p.inner) p.catch p.message.now };

@@ -1,16 +1,15 @@
 //! A run of a parser from a state on: its value where nothing is left; else help, the version, or
 //! the message.
-ghost use Rattle.std.specs.Prelude.{◌≡◌, ◌==◌, ◌&&◌, not, IfOk};
-ghost use Rattle.bpaf_line.specs.Situation.{open_count};
+ghost use Rattle.std.specs.Prelude.{◌≡◌, IfOk};
 ghost use Rattle.bpaf_core.specs.Ending.{EndsRefused, EndsRun, IsHelp, PassesOrTells, ShowsHelp};
-ghost use Rattle.bpaf_core.specs.Ending.{Tells, is_shown};
+ghost use Rattle.bpaf_core.specs.Ending.{Tells};
 ghost use Rattle.bpaf_core.specs.Run.{Runs};
 
 use crate::parser::Parser;
 use bpaf_doc::Doc;
 use bpaf_line::{Message, ParseFailure, State};
 use bpaf_messages::{leftover, render};
-use bpaf_parts::{ExtraParams, Info, version_page};
+use bpaf_parts::{ExtraParams, Info, stands_in, version_page};
 use std::alloc::{AllocError, Global};
 use std::marker::PhantomData;
 
@@ -51,7 +50,7 @@ impl<T: Drop, P: Parser<T>> Run<'_, T, P> {
             (EndsRun (P.describes self.now.inner.now) self.now.info.now)
             state.old result state.new }
     {
-        let usage = self.wants_usage(state);
+        let usage = self.info.wants_usage(state);
         match self.inner.eval(state) {
             Ok(value) => {
                 let Some(message) = leftover(state) else {
@@ -62,15 +61,6 @@ impl<T: Drop, P: Parser<T>> Run<'_, T, P> {
             }
             Err(error) => Err(self.end_refused(usage, error.0, state)),
         }
-    }
-
-    /// Whether help is shown in place of a message: the program wants it so, and there is nothing
-    /// to read.
-    fn wants_usage(&self, state: &State) -> bool
-        ensures { result ≡ (self.now.info.now.help_if_no_args && (open_count state.now == 0)) }
-    {
-        let info = self.info;
-        info.help_if_no_args && state.is_empty()
     }
 
     /// How a run ends whose parser refused; the flag tells whether help is shown in place of a
@@ -150,19 +140,4 @@ impl<T: Drop, P: Parser<T>> Run<'_, T, P> {
         let meta = self.inner.meta(self.alloc)?;
         self.info.page(self.alloc, state.path(), &meta)
     }
-}
-
-/// Whether help, where it is wanted, stands in for a message: for each but one that shows
-/// something.
-fn stands_in(usage: bool, message: &Message) -> bool
-    ensures { result ≡ (usage && not (is_shown message.now)) }
-{
-    usage && !is_shown(message)
-}
-
-/// Whether it is the answer of an inner run that shows what was asked for.
-fn is_shown(message: &Message) -> bool
-    ensures { result ≡ is_shown message.now }
-{
-    matches!(message, Message::ParseFailure(ParseFailure::Stdout(..)))
 }

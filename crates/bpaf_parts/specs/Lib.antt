@@ -1,4 +1,5 @@
 pub mod Info
+pub mod KnownNames
 pub mod Extra
 pub mod Version
 pub mod Failures

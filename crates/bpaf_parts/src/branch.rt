@@ -1,9 +1,11 @@
 //! Branches of a choice, which begin at one place.
 ghost use Rattle.std.specs.Prelude.{◌≡◌, IfOk, OnOk, OnErr};
 ghost use Rattle.bpaf_line.specs.Marks.{Fits, HasReached, CanRedo, undone, redone};
+ghost use Rattle.bpaf_parts.specs.Failures.{GivesBack};
 ghost use Rattle.bpaf_parts.specs.Branches.{IsStart, LedTo};
 
-use bpaf_line::{Mark, State, Steps};
+use crate::failures::wants_memory;
+use bpaf_line::{Mark, ParseFailure, State, Steps};
 use std::alloc::AllocError;
 
 /// Where branches begin: the mark of that situation, and how many items are present in it.
@@ -77,4 +79,29 @@ pub fn resume(state: &mut State, mark: Mark, steps: Steps) -> Result<(), AllocEr
 {
     state.undo(mark);
     state.redo(steps)
+}
+
+/// The failure of a first attempt, where its steps led, since a second one failed too; want of
+/// memory at the mark, where the second one ended so, or memory for doing the steps again is
+/// refused.
+pub fn first_failure(
+    state: &mut State,
+    mark: Mark,
+    steps: Steps,
+    first: ParseFailure,
+    second: ParseFailure,
+) -> ParseFailure
+    requires fits { Fits mark state.old }
+    requires steps { CanRedo steps (undone mark state.old) }
+    ensures { GivesBack first second (undone mark state.old)
+        (redone steps (undone mark state.old)) result state.new }
+{
+    if wants_memory(&second) {
+        state.undo(mark);
+        return second;
+    }
+    match resume(state, mark, steps) {
+        Ok(()) => first,
+        Err(refused) => ParseFailure::from(refused),
+    }
 }

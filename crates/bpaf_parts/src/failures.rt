@@ -1,9 +1,9 @@
 //! How what went wrong inside is told to those around it.
-ghost use Rattle.std.specs.Prelude.{◌≡◌, ◌⊎◌};
+ghost use Rattle.std.specs.Prelude.{◌≡◌, ◌⊎◌, ◌&&◌, not};
 ghost use Rattle.bpaf_laws.specs.Hide.{hidden};
 ghost use Rattle.bpaf_laws.specs.Turn.{stops_step};
 ghost use Rattle.bpaf_line.specs.Messages.{is_memory};
-ghost use Rattle.bpaf_parts.specs.Failures.{end_message};
+ghost use Rattle.bpaf_parts.specs.Failures.{end_message, is_shown};
 
 use bpaf_doc::Text;
 use bpaf_line::{Error, Message, MissingItems, ParseFailure, State};
@@ -64,4 +64,19 @@ pub fn guard_failed(state: &State, message: &str) -> Error
         Ok(message) => Error(Message::GuardFailed(state.current(), message)),
         Err(_) => Error(Message::Memory),
     }
+}
+
+/// Whether help, where it is wanted, stands in for a message: for each but one that shows
+/// something. It takes no memory.
+pub fn stands_in(usage: bool, message: &Message) -> bool
+    ensures { result ≡ (usage && not (is_shown message.now)) }
+{
+    usage && !is_shown(message)
+}
+
+/// Whether it is the answer of an inner run that shows what was asked for.
+fn is_shown(message: &Message) -> bool
+    ensures { result ≡ is_shown message.now }
+{
+    matches!(message, Message::ParseFailure(ParseFailure::Stdout(..)))
 }

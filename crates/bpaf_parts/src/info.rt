@@ -1,5 +1,5 @@
 //! What a run knows beside its parser.
-ghost use Rattle.std.specs.Prelude.{◌≡◌, ◌++◌, ◌∷◌, [], IfOk, OnOk};
+ghost use Rattle.std.specs.Prelude.{◌≡◌, ◌==◌, ◌&&◌, ◌++◌, ◌∷◌, [], IfOk, OnOk};
 ghost use Rattle.bpaf_doc.specs.Prints.{Prints};
 ghost use Rattle.bpaf_text.specs.Named.{Named};
 ghost use Rattle.std.specs.Prelude.{map, string_bytes};
@@ -12,6 +12,8 @@ ghost use Rattle.bpaf_parts.specs.Version.{ShowsVersion, version_text};
 ghost use Rattle.bpaf_parts.specs.Info.{help_key, key_or, page_texts, plain_info, short_descr};
 ghost use Rattle.bpaf_parts.specs.Info.{usual_key};
 ghost use Rattle.bpaf_parts.specs.Info.{version_key};
+ghost use Rattle.bpaf_parts.specs.KnownNames.{known_names};
+ghost use Rattle.bpaf_line.specs.Situation.{open_count};
 
 use crate::environment::is_present;
 use bpaf_doc::{Doc, Meta, Style, Text};
@@ -238,6 +240,32 @@ impl Info {
             Some(descr) => descr.first_line(),
             None => Ok(None),
         }
+    }
+
+    /// Whether help is shown in place of a message: the program wants it so, and there is nothing
+    /// to read. It takes no memory.
+    pub fn wants_usage(&self, state: &State) -> bool
+        ensures { result ≡ (self.now.help_if_no_args && (open_count state.now == 0)) }
+    {
+        self.help_if_no_args && state.is_empty()
+    }
+
+    /// The short names by which joined words are read, of what a parser shows: those of its flags,
+    /// of help and of version as flags, and those of its arguments; refused only for want of
+    /// memory.
+    pub fn known_shorts(
+        &self,
+        alloc: Global,
+        meta: &Meta,
+    ) -> Result<(Vec<char>, Vec<char>), AllocError>
+        ensures { IfOk result (λ r. let names = (known_names self.now (shape_of meta.now)).names in
+            (r.0.items ≡ names.flags) × (r.1.items ≡ names.arguments)) }
+    {
+        let mut flags = Vec::new(alloc);
+        let mut arguments = Vec::new(alloc);
+        meta.collect_shorts(&mut flags, &mut arguments)?;
+        self.push_shorts(&mut flags)?;
+        Ok((flags, arguments))
     }
 
     /// Appends the short names of both keys, that for help first; refused for want of memory.

@@ -14,6 +14,8 @@
 //!   [`first_set`] and [`absence`] tell of names in the environment; [`read_text`] reads the value
 //!   of a taken text; [`displayed`], [`debugged`] and [`formatted`] write a default, and
 //!   [`given_by`] is the value of a closure that takes nothing.
+//! - [`optional_meta`], [`many_meta`], [`some_meta`] and [`default_meta`] are what a parser shows
+//!   that may be left out or repeated, of what the inner one shows.
 //! - [`end_message`] makes the end of an inner run a refusal (specs/Failures.antt), [`hide`] names
 //!   no missing item in one, [`guard_failed`] tells a check, and [`stops_step`] at which a turn
 //!   stops.
@@ -29,18 +31,20 @@ mod given;
 mod info;
 mod names;
 mod places;
+mod shown;
 mod shown_default;
 mod table;
 mod value;
 
-pub use branch::{Branch, Start, resume};
+pub use branch::{Branch, Start, first_failure, resume};
 pub use closure::given_by;
 pub use environment::{absence, first_set, is_present, take_argument};
-pub use failures::{end_message, guard_failed, hide, stops_step, wants_memory};
+pub use failures::{end_message, guard_failed, hide, stands_in, stops_step, wants_memory};
 pub use given::renamed;
 pub use info::{ExtraParams, Info, version_page};
 pub use names::CommandNames;
 pub use places::first_left;
+pub use shown::{default_meta, many_meta, optional_meta, some_meta};
 pub use shown_default::{debugged, displayed, formatted};
 pub use table::{is_want, or_meta, this_or_that};
-pub use value::{read_text, value_or_refusal};
+pub use value::{push_value, read_text, value_or_refusal};

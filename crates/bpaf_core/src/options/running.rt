@@ -1,10 +1,9 @@
 //! A run over words: their line is read, and the parser runs over it.
 ghost use Rattle.std.specs.Prelude.{◌≡◌, IfOk};
 ghost use Rattle.std.specs.Result.{IfErr};
-ghost use Rattle.bpaf_doc.specs.Shape.{shape_of};
 ghost use Rattle.bpaf_words.specs.Arguments.{given_of, name_of, words_in};
 ghost use Rattle.bpaf_laws.specs.Spared.{WithoutMemory};
-ghost use Rattle.bpaf_core.specs.Known.{ReadsLineOf, ShowsNames, Starts, known_names};
+ghost use Rattle.bpaf_core.specs.Known.{ReadsLineOf, ShowsNames, Starts};
 ghost use Rattle.bpaf_core.specs.Dealt.{IsDealtOut};
 ghost use Rattle.bpaf_core.specs.Run.{IsNotWant, RunsWords};
 ghost use Rattle.bpaf_core.specs.Ending.{TellsNoLine};
@@ -13,10 +12,9 @@ ghost use Rattle.bpaf_core.specs.Refusals.{IsOneOfTwelve};
 use crate::options::OptionParser;
 use crate::parser::Parser;
 use crate::run::Run;
-use bpaf_doc::Meta;
 use bpaf_line::{Message, ParseFailure, State};
 use bpaf_messages::render;
-use bpaf_parts::{Info, renamed};
+use bpaf_parts::renamed;
 use bpaf_words::{Args, Front, Line, LineFault, Words};
 use std::alloc::{AllocError, Global};
 
@@ -91,21 +89,8 @@ impl<T: Drop, P: Parser<T>> OptionParser<T, P> {
             r.0.items r.1.items) }
     {
         let meta = self.inner.meta(self.alloc)?;
-        shorts_of(self.alloc, &meta, &self.info)
+        self.info.known_shorts(self.alloc, &meta)
     }
-}
-
-/// The short names by which joined words are read, of what a parser shows: those of its flags, of
-/// help and of version as flags, and those of its arguments; refused only for want of memory.
-fn shorts_of(alloc: Global, meta: &Meta, info: &Info) -> Result<(Vec<char>, Vec<char>), AllocError>
-    ensures { IfOk result (λ r. let names = (known_names info.now (shape_of meta.now)).names in
-        (r.0.items ≡ names.flags) × (r.1.items ≡ names.arguments)) }
-{
-    let mut flags = Vec::new(alloc);
-    let mut arguments = Vec::new(alloc);
-    meta.collect_shorts(&mut flags, &mut arguments)?;
-    info.push_shorts(&mut flags)?;
-    Ok((flags, arguments))
 }
 
 /// What is told of words that have no line: there is no state, so one without words stands for it,

@@ -1,7 +1,7 @@
 //! What follows from the laws alone, for every parser: a contract of a function that does nothing.
 ghost use Rattle.bpaf_laws.specs.Counting.{CountFalls};
 
-use crate::parser::Parser;
+use bpaf_core::Parser;
 
 /// Whatever a parser's type: after an Ok the count of present items has fallen by the number of
 /// newly taken places.
