@@ -38,8 +38,9 @@
 ///
 /// bpaf's macro makes a closure over the parsers, and evaluates them in it. This one makes a
 /// product, [`ParseCon`](crate::ParseCon) over nested [`Both`](crate::Both) and
-/// [`Last`](crate::Last), and a closure for the constructor alone: so what the whole parses follows
-/// from what its fields do. The two have the same forms.
+/// [`Last`](crate::Last), of more than four fields [`Four`](crate::Four) at a time, and a closure
+/// for the constructor alone: so what the whole parses follows from what its fields do. The two
+/// have the same forms.
 #[macro_export]
 macro_rules! construct {
     // construct!(Name {}) and construct!(Name())
@@ -93,10 +94,30 @@ macro_rules! construct {
     };
 
     (@product $last:ident) => { $crate::Last { last: $last } };
+    (@product $a:ident $b:ident $c:ident $d:ident $($rest:ident)+) => {
+        $crate::Four {
+            fields: $crate::Both {
+                first: $a,
+                rest: $crate::Both {
+                    first: $b,
+                    rest: $crate::Both {
+                        first: $c,
+                        rest: $crate::Both {
+                            first: $d,
+                            rest: $crate::construct!(@product $($rest)+),
+                        },
+                    },
+                },
+            },
+        }
+    };
     (@product $first:ident $($rest:ident)+) => {
         $crate::Both { first: $first, rest: $crate::construct!(@product $($rest)+) }
     };
     (@pattern $last:ident) => { $last };
+    (@pattern $a:ident $b:ident $c:ident $d:ident $($rest:ident)+) => {
+        ($a, ($b, ($c, ($d, $crate::construct!(@pattern $($rest)+)))))
+    };
     (@pattern $first:ident $($rest:ident)+) => { ($first, $crate::construct!(@pattern $($rest)+)) };
 
     (@make [named [$($name:tt)+]] $($field:ident)+) => { $($name)+ { $($field),+ } };

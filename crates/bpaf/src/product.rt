@@ -81,10 +81,15 @@ pub trait Fields<V>: Sized {
 }
 
 /// The last field of a product.
-#[derive(Drop)]
 pub struct Last<A> {
     /// Its parser.
     pub last: A,
+}
+
+impl<A: Drop> Drop for Last<A> {
+    fn drop(self) {
+        let Last { last: _last } = self;
+    }
 }
 
 impl<T: Drop, A: Parser<T>> Fields<T> for Last<A> {
@@ -135,12 +140,20 @@ impl<T: Drop, A: Parser<T>> Fields<T> for Last<A> {
 }
 
 /// A field of a product, and the fields after it.
-#[derive(Drop)]
 pub struct Both<A, R> {
     /// The field's parser.
     pub first: A,
     /// The fields after it.
     pub rest: R,
+}
+
+impl<A: Drop, R: Drop> Drop for Both<A, R> {
+    fn drop(self) {
+        let Both {
+            first: _first,
+            rest: _rest,
+        } = self;
+    }
 }
 
 impl<T: Drop, V, A: Parser<T>, R: Fields<V>> Fields<(T, V)> for Both<A, R> {
@@ -237,7 +250,6 @@ fn error_before<V, R: Fields<V>>(error: Error, rest: &R, state: &mut State) -> E
 /// `structs.rs`).
 ///
 /// `V` is the type of the fields' values, nested pairs.
-#[derive(Drop)]
 pub struct ParseCon<V, P, F> {
     /// The fields, in order.
     pub fields: P,
@@ -247,11 +259,20 @@ pub struct ParseCon<V, P, F> {
     pub values: PhantomData<V>,
 }
 
+impl<V, P: Drop, F: Drop> Drop for ParseCon<V, P, F> {
+    fn drop(self) {
+        let ParseCon {
+            fields: _fields,
+            make: _make,
+            values: _,
+        } = self;
+    }
+}
+
 impl<V, P, F> ParseCon<V, P, F> {
     /// A product of these fields.
     pub fn new<T>(fields: P, make: F) -> ParseCon<V, P, F>
     where
-        P: Fields<V>,
         F: Fn(V) -> T,
         requires { F.IsAlwaysCallable make }
         ensures fields { result.fields ≡ fields }

@@ -26,10 +26,18 @@ pub(crate) fn values_until_stop<T: Drop, P: Parser<T>>(
 }
 
 /// All inner values (bpaf's `ParseMany`, in `structs.rs`).
-#[derive(Drop)]
 pub struct ParseMany<P> {
     pub inner: P,
     pub catch: bool,
+}
+
+impl<P: Drop> Drop for ParseMany<P> {
+    fn drop(self) {
+        let ParseMany {
+            inner: _inner,
+            catch: _,
+        } = self;
+    }
 }
 
 impl<P> ParseMany<P> {

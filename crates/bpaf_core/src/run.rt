@@ -27,21 +27,6 @@ pub(crate) struct Run<'p, T, P> {
     pub of: PhantomData<T>,
 }
 
-impl<'p, T, P> Run<'p, T, P> {
-    /// The run of a parser.
-    pub(crate) fn new(inner: &'p P, info: &'p Info, alloc: Global) -> Run<'p, T, P>
-        ensures inner { result.inner.now ≡ inner.now }
-        ensures info { result.info.now ≡ info.now }
-    {
-        Run {
-            inner,
-            info,
-            alloc,
-            of: PhantomData,
-        }
-    }
-}
-
 impl<T: Drop, P: Parser<T>> Run<'_, T, P> {
     /// A run from a state on.
     pub(crate) fn run_from(&self, state: &mut State) -> Result<T, ParseFailure>

@@ -31,4 +31,5 @@ pub mod Accepted
 pub mod Surplus
 pub mod Sharing
 pub mod Says
+pub mod Keeping
 pub mod Told

@@ -37,6 +37,7 @@ mod closures;
 mod defaults;
 mod field;
 mod form;
+mod four;
 mod keys;
 mod leaves;
 mod product;

@@ -53,7 +53,7 @@ fn helped(alloc: Global) -> Result<ParsePositional<String>, AllocError> {
 
 /// The help of a copy.
 fn copied_help(alloc: Global) -> Result<Option<Doc>, AllocError> {
-    Ok(helped(alloc)?.copy()?.help)
+    Doc::copy_of(&helped(alloc)?.copy()?.help)
 }
 
 /// How Rust's Debug prints it.

@@ -13,7 +13,6 @@ use std::marker::{Model, PhantomData};
 /// (bpaf's `ParseFlag`, in `params.rs`).
 ///
 /// Made by [`NamedArg::switch`], [`NamedArg::flag`] and [`NamedArg::req_flag`].
-#[derive(Drop)]
 pub struct ParseFlag<T> {
     /// The value where the key stands on the line.
     pub present: T,
@@ -23,10 +22,19 @@ pub struct ParseFlag<T> {
     pub named: NamedArg,
 }
 
+impl<T: Drop> Drop for ParseFlag<T> {
+    fn drop(self) {
+        let ParseFlag {
+            present: _present,
+            absent: _absent,
+            named: _named,
+        } = self;
+    }
+}
+
 /// A key with a value of the type `T` (bpaf's `ParseArgument`, in `params.rs`).
 ///
 /// Made by [`NamedArg::argument`].
-#[derive(Drop)]
 pub struct ParseArgument<T> {
     /// The names of the key.
     pub named: NamedArg,
@@ -38,6 +46,18 @@ pub struct ParseArgument<T> {
     pub last: bool,
     /// The type of the value.
     pub of: PhantomData<T>,
+}
+
+impl<T> Drop for ParseArgument<T> {
+    fn drop(self) {
+        let ParseArgument {
+            named: _named,
+            metavar: _,
+            adjacent: _,
+            last: _,
+            of: _,
+        } = self;
+    }
 }
 
 impl<T> Model for ParseArgument<T> {
@@ -57,11 +77,19 @@ impl<T> Model for ParseArgument<T> {
 impl<T> ParseFlag<T> {
     /// The flag with this help, in place of the one that it has (bpaf's `ParseFlag::help`). It
     /// takes no memory.
-    pub fn help(mut self, help: Doc) -> ParseFlag<T>
+    pub fn help(self, help: Doc) -> ParseFlag<T>
         ensures { result ≡ record self { named = with_help self.named help } }
     {
-        self.named = self.named.help(help);
-        self
+        let ParseFlag {
+            present,
+            absent,
+            named,
+        } = self;
+        ParseFlag {
+            present,
+            absent,
+            named: named.help(help),
+        }
     }
 }
 
@@ -101,11 +129,23 @@ impl<T: Clone + Drop> ParseFlag<T> {
 impl<T> ParseArgument<T> {
     /// The argument with this help, in place of the one that it has (bpaf's `ParseArgument::help`).
     /// It takes no memory.
-    pub fn help(mut self, help: Doc) -> ParseArgument<T>
+    pub fn help(self, help: Doc) -> ParseArgument<T>
         ensures { result ≡ record self { named = with_help self.named help } }
     {
-        self.named = self.named.help(help);
-        self
+        let ParseArgument {
+            named,
+            metavar,
+            adjacent,
+            last,
+            of,
+        } = self;
+        ParseArgument {
+            named: named.help(help),
+            metavar,
+            adjacent,
+            last,
+            of,
+        }
     }
 
     /// The same with a help of this text, as [`Doc::from_text`] makes it; refused only for want of

@@ -36,7 +36,7 @@ impl Position {
 }
 
 /// What the first word that is no option means (bpaf's `ParsePositional`, in `params.rs`).
-#[derive(Debug, Drop)]
+#[derive(Debug)]
 pub struct ParsePositional<T> {
     /// What stands for the word where it is shown.
     pub metavar: Metavar,
@@ -46,6 +46,17 @@ pub struct ParsePositional<T> {
     pub help: Option<Doc>,
     /// The type of the value.
     pub of: PhantomData<T>,
+}
+
+impl<T> Drop for ParsePositional<T> {
+    fn drop(self) {
+        let ParsePositional {
+            metavar: _,
+            position: _,
+            help: _help,
+            of: _,
+        } = self;
+    }
 }
 
 /// A word by itself, such as the name of a file (bpaf's `positional`).

@@ -14,6 +14,7 @@ use bpaf_doc::{Doc, Item, Meta, Text};
 use bpaf_line::{Error, ParseFailure, State};
 use bpaf_parts::end_message;
 use std::alloc::{AllocError, Global};
+use std::marker::PhantomData;
 
 impl<T: Drop, P: Parser<T>> ParseCommand<T, P> {
     /// What it shows; refused only for want of memory.
@@ -68,7 +69,12 @@ impl<T: Drop, P: Parser<T>> ParseCommand<T, P> {
             (EndsRun (P.describes self.now.inner) self.now.info)
             state.old result state.new }
     {
-        let run = Run::new(&self.inner, &self.info, self.alloc);
+        let run = Run {
+            inner: &self.inner,
+            info: &self.info,
+            alloc: self.alloc,
+            of: PhantomData,
+        };
         if self.adjacent {
             run.run_adjacent(state)
         } else {

@@ -17,6 +17,7 @@ use bpaf_messages::render;
 use bpaf_parts::renamed;
 use bpaf_words::{Args, Front, Line, LineFault, Words};
 use std::alloc::{AllocError, Global};
+use std::marker::PhantomData;
 
 impl<T: Drop, P: Parser<T>> OptionParser<T, P> {
     /// The value that the words give (bpaf's `run_inner`).
@@ -52,7 +53,15 @@ impl<T: Drop, P: Parser<T>> OptionParser<T, P> {
             self.now.info (given_of args.entry) result }
     {
         match self.construct(args) {
-            Ok(mut state) => Run::new(&self.inner, &self.info, self.alloc).run_from(&mut state),
+            Ok(mut state) => {
+                let run = Run {
+                    inner: &self.inner,
+                    info: &self.info,
+                    alloc: self.alloc,
+                    of: PhantomData,
+                };
+                run.run_from(&mut state)
+            }
             Err(message) => Err(tell_fault(self.alloc, args, message)),
         }
     }

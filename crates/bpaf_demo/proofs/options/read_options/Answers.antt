@@ -27,8 +27,8 @@ run_record-requires-clause-record c =
     let info : options.info ≡ plain_info = search rules in
     program_flat verbose num files catch _ info
 
-pub returns-clause-dealt : goal.returns-clause-dealt
-returns-clause-dealt c =
+pub returns : goal.returns
+returns c =
     let options = c.in_ok-options.options in
     let fields = options.inner.fields in
     let verbose : IsSwitch verbose_names (codes "Print more") c.in_ok-from_text.field-0
@@ -37,64 +37,29 @@ returns-clause-dealt c =
     fields.rest.first = search rules in
     let files : IsWord Unrestricted (codes "FILE") (codes "Files to read")
     c.in_ok-from_text-3.field-0 fields.rest.rest.last.inner = search rules in
-    let info : options.info ≡ plain_info = search rules in
-    let given : given_of c.set_name.result ≡ program_given (map string_bytes c.args.words.now) =
-    search rules in
-    known_dealt
-    (product_known (λ x v e. search rules)
-    (both_known (switch_known verbose)
-    (both_known (argument_known (SpellsUnsigned 64) num)
-    (last_known (many_known fields.rest.rest.last.catch (word_known MeansText files))))))
-    info given _ c.run_record.ensures.dealt
-
-pub returns-clause-asked : goal.returns-clause-asked
-returns-clause-asked c =
-    let options = c.in_ok-options.options in
-    let fields = options.inner.fields in
-    let verbose : IsSwitch verbose_names (codes "Print more") c.in_ok-from_text.field-0
-    fields.first = search rules in
-    let num : IsArgument number_key (codes "A number") c.in_ok-from_text-2.field-0
-    fields.rest.first = search rules in
-    let files : IsWord Unrestricted (codes "FILE") (codes "Files to read")
-    c.in_ok-from_text-3.field-0 fields.rest.rest.last.inner = search rules in
-    let info : options.info ≡ plain_info = search rules in
-    let given : given_of c.set_name.result ≡ program_given (map string_bytes c.args.words.now) =
-    search rules in
-    known_asked
-    (product_known (λ x v e. e)
-    (both_known (switch_known verbose)
-    (both_known (argument_known (SpellsUnsigned 64) num)
-    (last_known (many_known fields.rest.rest.last.catch (word_known MeansText files))))))
-    info given IsProgramShape
-    (record {
-      verbose = c.in_ok-from_text.field-0;
-      num = c.in_ok-from_text-2.field-0;
-      file = c.in_ok-from_text-3.field-0;
-      verbose_help = verbose.told;
-      num_help = num.told;
-      file_help = files.told;
-      is = refl;
-    })
-    _ c.run_record.ensures.outcome
-
-pub returns-clause-exact : goal.returns-clause-exact
-returns-clause-exact c =
-    let options = c.in_ok-options.options in
-    let fields = options.inner.fields in
-    let verbose : IsSwitch verbose_names (codes "Print more") c.in_ok-from_text.field-0
-    fields.first = search rules in
-    let num : IsArgument number_key (codes "A number") c.in_ok-from_text-2.field-0
-    fields.rest.first = search rules in
-    let files : IsWord Unrestricted (codes "FILE") (codes "Files to read")
-    c.in_ok-from_text-3.field-0 fields.rest.rest.last.inner = search rules in
-    let info : options.info ≡ plain_info = search rules in
-    let given : given_of c.set_name.result ≡ program_given (map string_bytes c.args.words.now) =
-    search rules in
     let catch : fields.rest.rest.last.catch ≡ false = search rules in
-    program_exact verbose num files catch _ info
-    (product_known (λ x v e. e)
-    (both_known (switch_known verbose)
+    let info : options.info ≡ plain_info = search rules in
+    let given : given_of c.set_name.result ≡ program_given (map string_bytes c.args.words.now) =
+    search rules in
+    let known =
+    both_known (switch_known verbose)
     (both_known (argument_known (SpellsUnsigned 64) num)
-    (last_known (many_known fields.rest.rest.last.catch (word_known MeansText files))))))
-    _ (are_texts c.args.words.now) given _ (c.run_record.ensures.exact (tt, (tt, tt)))
-    (λ x v e. search rules)
+    (last_known (many_known fields.rest.rest.last.catch (word_known MeansText files)))) in
+    record {
+      dealt = known_dealt (product_known (λ x v e. search rules) known) info given _
+          c.run_record.ensures.dealt;
+      asked = known_asked (product_known (λ x v e. e) known) info given IsProgramShape
+          (record {
+            verbose = c.in_ok-from_text.field-0;
+            num = c.in_ok-from_text-2.field-0;
+            file = c.in_ok-from_text-3.field-0;
+            verbose_help = verbose.told;
+            num_help = num.told;
+            file_help = files.told;
+            is = refl;
+          })
+          _ c.run_record.ensures.outcome;
+      exact = program_exact verbose num files catch _ info (product_known (λ x v e. e) known)
+          _ (are_texts c.args.words.now) given _ (c.run_record.ensures.exact (tt, (tt, tt)))
+          (λ x v e. search rules);
+    }

@@ -8,4 +8,4 @@ returns-else-self g c =
     runs_plain (g.P.Parser.outcome p.inner)
     (EndsRun (g.P.Parser.describes p.inner) p.info) p.adjacent c.args.state.now
     c.run_from.result c.run_from.new.state c.if-self.false
-    (rw (c.new-run.ensures.inner, c.new-run.ensures.info) at c.run_from.ensures)
+    c.run_from.ensures

@@ -8,7 +8,7 @@ use Rattle.bpaf_core.proofs.options.OptionParser.run_inner.Goals as goal
 pub returns-in-Ok-clause-outcome : goal.returns-in-Ok-clause-outcome
 returns-in-Ok-clause-outcome g c =
     started (given_of c.args.args) _ _ _ c.in-Ok.ensures
-    (rw (c.new.ensures.inner, c.new.ensures.info) at c.run_from.ensures)
+    c.run_from.ensures
 
 pub returns-in-Err-clause-outcome : goal.returns-in-Err-clause-outcome
 returns-in-Err-clause-outcome g c =
