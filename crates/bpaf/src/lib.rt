@@ -3,10 +3,10 @@
 //! It stands on the crates below it and hands on what a program needs of them: a program lists
 //! `bpaf` alone. Of its own it has positional words ([`positional`]), items by their text
 //! ([`literal`], [`any`]), leaves that look at no item ([`pure`], [`pure_with`], [`fail`],
-//! [`appname`]) and products: [`ParseCon`] over [`Both`] and [`Last`] evaluates fields in order and
-//! gives their values to a constructor; the macro [`construct!`] writes one down, or a choice.
-//! [`choice`] is one of any number of parsers of one type. [`cargo_helper`] is the product of a
-//! word that may stand in front and a parser.
+//! [`appname`]) and products: [`ParseCon`] over [`Both`], [`Four`] and [`Last`] evaluates fields in
+//! order and gives their values to a constructor; the macro [`construct!`] writes one down, or a
+//! choice. [`choice`] is one of any number of parsers of one type. [`cargo_helper`] is the product
+//! of a word that may stand in front and a parser.
 //!
 //! For the layers above: each type here proves the laws of `Parser` from the laws of its inner
 //! parsers alone, and its `outcome`, `reads` and `describes` are definitions over theirs
