@@ -14,7 +14,7 @@
 /// | `construct!([a])` | what `a` parses: it is that parser itself |
 ///
 /// A name may be a path, such as `self::One(a, b)`; a leading `::` is dropped. A trailing comma may
-/// stand. One call takes up to some fifty fields, where the compiler's own limit lies; a product
+/// stand. One call takes up to some forty fields, where the compiler's own limit lies; a product
 /// may itself be a field.
 ///
 /// A field is one of these, and they are evaluated in the order in which they are written:
