@@ -42,24 +42,14 @@ impl<
     }
 
     ghost flat = { λ p a.
-        (keep_before (A.outcome p.fields.first) (A.keys p.fields.first)
-        (A.flat_form p.fields.first) (A.kind p.fields.first) (A.says p.fields.first)
-        (A.flat p.fields.first a.0) (A.said p.fields.first a.0)
-        (keep_before (B.outcome p.fields.rest.first) (B.keys p.fields.rest.first)
-        (B.flat_form p.fields.rest.first) (B.kind p.fields.rest.first) (B.says p.fields.rest.first)
-        (B.flat p.fields.rest.first a.1.0) (B.said p.fields.rest.first a.1.0)
-        (keep_before (C.outcome p.fields.rest.rest.first) (C.keys p.fields.rest.rest.first)
-        (C.flat_form p.fields.rest.rest.first) (C.kind p.fields.rest.rest.first)
-        (C.says p.fields.rest.rest.first) (C.flat p.fields.rest.rest.first a.1.1.0)
+        (keep_before _ _ _ _ _ (A.flat p.fields.first a.0) (A.said p.fields.first a.0)
+        (keep_before _ _ _ _ _ (B.flat p.fields.rest.first a.1.0)
+        (B.said p.fields.rest.first a.1.0)
+        (keep_before _ _ _ _ _ (C.flat p.fields.rest.rest.first a.1.1.0)
         (C.said p.fields.rest.rest.first a.1.1.0)
-        (keep_before (D.outcome p.fields.rest.rest.rest.first)
-        (D.keys p.fields.rest.rest.rest.first) (D.flat_form p.fields.rest.rest.rest.first)
-        (D.kind p.fields.rest.rest.rest.first) (D.says p.fields.rest.rest.rest.first)
-        (D.flat p.fields.rest.rest.rest.first a.1.1.1.0)
+        (keep_before _ _ _ _ _ (D.flat p.fields.rest.rest.rest.first a.1.1.1.0)
         (D.said p.fields.rest.rest.rest.first a.1.1.1.0)
-        (keep (R.outcome p.fields.rest.rest.rest.rest) (R.keys p.fields.rest.rest.rest.rest)
-        (R.flat_form p.fields.rest.rest.rest.rest) (R.says p.fields.rest.rest.rest.rest)
-        (R.flat p.fields.rest.rest.rest.rest a.1.1.1.1)
+        (keep _ _ _ _ (R.flat p.fields.rest.rest.rest.rest a.1.1.1.1)
         (R.said p.fields.rest.rest.rest.rest a.1.1.1.1)))))).law };
 
     ghost shows = { λ p. both_show (A.shows p.fields.first)
@@ -69,23 +59,13 @@ impl<
         (R.shows p.fields.rest.rest.rest.rest)))) };
 
     ghost said = { λ p a.
-        (keep_before (A.outcome p.fields.first) (A.keys p.fields.first)
-        (A.flat_form p.fields.first) (A.kind p.fields.first) (A.says p.fields.first)
-        (A.flat p.fields.first a.0) (A.said p.fields.first a.0)
-        (keep_before (B.outcome p.fields.rest.first) (B.keys p.fields.rest.first)
-        (B.flat_form p.fields.rest.first) (B.kind p.fields.rest.first) (B.says p.fields.rest.first)
-        (B.flat p.fields.rest.first a.1.0) (B.said p.fields.rest.first a.1.0)
-        (keep_before (C.outcome p.fields.rest.rest.first) (C.keys p.fields.rest.rest.first)
-        (C.flat_form p.fields.rest.rest.first) (C.kind p.fields.rest.rest.first)
-        (C.says p.fields.rest.rest.first) (C.flat p.fields.rest.rest.first a.1.1.0)
+        (keep_before _ _ _ _ _ (A.flat p.fields.first a.0) (A.said p.fields.first a.0)
+        (keep_before _ _ _ _ _ (B.flat p.fields.rest.first a.1.0)
+        (B.said p.fields.rest.first a.1.0)
+        (keep_before _ _ _ _ _ (C.flat p.fields.rest.rest.first a.1.1.0)
         (C.said p.fields.rest.rest.first a.1.1.0)
-        (keep_before (D.outcome p.fields.rest.rest.rest.first)
-        (D.keys p.fields.rest.rest.rest.first) (D.flat_form p.fields.rest.rest.rest.first)
-        (D.kind p.fields.rest.rest.rest.first) (D.says p.fields.rest.rest.rest.first)
-        (D.flat p.fields.rest.rest.rest.first a.1.1.1.0)
+        (keep_before _ _ _ _ _ (D.flat p.fields.rest.rest.rest.first a.1.1.1.0)
         (D.said p.fields.rest.rest.rest.first a.1.1.1.0)
-        (keep (R.outcome p.fields.rest.rest.rest.rest) (R.keys p.fields.rest.rest.rest.rest)
-        (R.flat_form p.fields.rest.rest.rest.rest) (R.says p.fields.rest.rest.rest.rest)
-        (R.flat p.fields.rest.rest.rest.rest a.1.1.1.1)
+        (keep _ _ _ _ (R.flat p.fields.rest.rest.rest.rest a.1.1.1.1)
         (R.said p.fields.rest.rest.rest.rest a.1.1.1.1)))))).says };
 }
