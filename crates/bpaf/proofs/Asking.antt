@@ -13,9 +13,9 @@ use Rattle.bpaf_line.specs.declared.error.Message.{Message}
 use Rattle.bpaf_line.specs.declared.error.Message.TheVariants as message
 use Rattle.bpaf_line.specs.declared.failure.ParseFailure.{ParseFailure}
 use Rattle.bpaf_line.specs.declared.failure.ParseFailure.TheVariants as failure
-use Rattle.bpaf_messages.specs.Leftover.{IsLeftover, conflict, only_once, not_expected}
+use Rattle.bpaf_core.specs.Leftover.{IsLeftover, conflict, only_once, not_expected}
 use Rattle.bpaf_line.specs.Messages.{is_memory}
-use Rattle.bpaf_messages.specs.Rendering.{Renders}
+use Rattle.bpaf_core.specs.Rendering.{Renders}
 use Rattle.bpaf_line.specs.Situation.{Situation, beginning}
 use Rattle.bpaf_laws.specs.Argument.{ArgumentOutcome}
 use Rattle.bpaf_laws.specs.Environment.{IsAbsence}
@@ -25,11 +25,11 @@ use Rattle.bpaf_laws.specs.Product.{BothOutcome, ProductOutcome, joined}
 use Rattle.bpaf_laws.specs.Reading.{Readings, Outcome}
 use Rattle.bpaf_laws.specs.Repeat.{ManyOutcome, Turns}
 use Rattle.bpaf_laws.proofs.Keeping.{keeps_same, keeps_trans}
-use Rattle.bpaf_parts.specs.declared.info.ExtraParams.{ExtraParams}
-use Rattle.bpaf_parts.specs.declared.info.ExtraParams.TheVariants as extra
+use Rattle.bpaf_core.specs.ExtraParams.{ExtraParams}
+use Rattle.bpaf_core.specs.ExtraParams.TheVariants as extra
 use Rattle.bpaf_core.specs.Ending.{EndsRun, Tells, leftover, memory, passed_on, refused, shown}
 use Rattle.bpaf_core.specs.Ending.{told, usage, wanting, Shows, shows_usage, is_answer}
-use Rattle.bpaf_parts.specs.Info.{RunInfo}
+use Rattle.bpaf_core.specs.Info.{RunInfo}
 use Rattle.bpaf_core.specs.Run as run
 use Rattle.bpaf_core.specs.Run.{Runs, RunsWords}
 use Rattle.bpaf.specs.Asked.{CameTo, HandsOn, IfShown, IsAskedAt, RunShows, Showing, ShowsNothing}

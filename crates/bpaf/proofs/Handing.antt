@@ -26,9 +26,9 @@ use Rattle.bpaf_core.specs.Adjacent.{Retry}
 use Rattle.bpaf_core.specs.Adjacent.{failed, first_fails, no_path, nothing_left, second_fails}
 use Rattle.bpaf_core.specs.Adjacent.{unnamed, wants_memory}
 use Rattle.bpaf_core.specs.Command.{CommandOutcome, IsMissingPart, ended, missing, no_memory}
-use Rattle.bpaf_parts.specs.Failures.{end_message}
+use Rattle.bpaf_core.specs.Failures.{end_message}
 use Rattle.bpaf_core.specs.Ending.{Ending, EndsRun}
-use Rattle.bpaf_parts.specs.Info.{RunInfo}
+use Rattle.bpaf_core.specs.Info.{RunInfo}
 use Rattle.bpaf.specs.Asked.{BehindWord, CameTo, HandsOn, RunShows, Showing, inner_answer}
 use Rattle.bpaf.proofs.Asking.{IsAlsoShown, came_also, came_from, run_shows}
 

@@ -35,7 +35,7 @@ use Rattle.bpaf_laws.specs.Repeat.{Turns, ManyOutcome, is_nil}
 use Rattle.bpaf_laws.specs.Turn.{TurnOutcome}
 use Rattle.bpaf_laws.proofs.CountingLaws.{none_below, same_took_none}
 use Rattle.bpaf_core.specs.Ending.{Ending}
-use Rattle.bpaf_parts.specs.Info.{RunInfo}
+use Rattle.bpaf_core.specs.Info.{RunInfo}
 use Rattle.bpaf_core.specs.Run.{Runs, RunsWords, value, ran}
 use Rattle.bpaf.specs.declared.leaves.positional.Position.TheVariants.{Strict, NonStrict}
 use Rattle.bpaf.specs.Marker.{words_behind}

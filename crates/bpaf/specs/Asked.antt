@@ -12,10 +12,10 @@ use Rattle.bpaf_line.specs.Situation.{Context, Situation, beginning}
 use Rattle.bpaf_laws.specs.Command.{Called, IsOpenedAt, inside, opening_words}
 use Rattle.bpaf_laws.specs.Laws.{Keeps}
 use Rattle.bpaf_laws.specs.Reading.{Outcome}
-use Rattle.bpaf_parts.specs.declared.info.ExtraParams.{ExtraParams}
+use Rattle.bpaf_core.specs.ExtraParams.{ExtraParams}
 use Rattle.bpaf_core.specs.Ending.{Shows}
-use Rattle.bpaf_parts.specs.Extra.{ExtraOutcome}
-use Rattle.bpaf_parts.specs.Info.{RunInfo}
+use Rattle.bpaf_core.specs.Extra.{ExtraOutcome}
+use Rattle.bpaf_core.specs.Info.{RunInfo}
 use Rattle.bpaf_core.specs.Known.{IsLineContext}
 
 -- what may be shown in a situation, in full or not

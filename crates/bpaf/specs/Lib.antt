@@ -1,3 +1,13 @@
+pub use Rattle.bpaf_core.specs.Adjacent
+pub use Rattle.bpaf_core.specs.AdjacentLaws
+pub use Rattle.bpaf_core.specs.Dealt
+pub use Rattle.bpaf_core.specs.Ending
+pub use Rattle.bpaf_core.specs.EndingLaws
+pub use Rattle.bpaf_core.specs.Info
+pub use Rattle.bpaf_core.specs.Known
+pub use Rattle.bpaf_core.specs.Leftover
+pub use Rattle.bpaf_core.specs.Refusals
+pub use Rattle.bpaf_core.specs.Run
 pub mod Positional
 pub mod PositionalLaws
 pub mod Matching

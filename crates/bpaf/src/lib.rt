@@ -34,13 +34,14 @@ pub mod parsers;
 mod product;
 
 pub use adjacent::{AdjacentError, ParseAdjacent};
-pub use bpaf_core::{ExtraParams, Info, OptionParser, Parser, command, read_text};
+pub use bpaf_core::{
+    ExtraParams, HelpTexts, Info, OptionParser, Parser, command, earlier_key, leftover, read_text,
+    render, render_help, usage_of,
+};
 pub use bpaf_doc::{Doc, Item, Meta, MetaInfo, Metavar, Piece, ShortLong, Style, Text};
 pub use bpaf_line::{
     ArgsIter, Error, Mark, Message, MissingItem, MissingItems, ParseFailure, State, Steps,
 };
-pub use bpaf_messages::{earlier_key, leftover, render};
-pub use bpaf_pages::{HelpTexts, render_help, usage_of};
 pub use bpaf_text::{FromList, FromText, NamedArg, TextFault, env, long, short};
 pub use bpaf_words::{Arg, Args, LentWord, Words, lines_are_unique, spellings_are_unique};
 pub use cargo::{CargoHelper, cargo_helper};

@@ -1,3 +1,4 @@
+pub use Rattle.bpaf_parts.proofs.Branching
 pub mod Running
 pub mod Dealing
 pub mod Ending

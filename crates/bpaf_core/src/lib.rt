@@ -59,9 +59,11 @@ mod run;
 mod transform;
 mod usage;
 
+pub use bpaf_messages::{earlier_key, leftover, render};
+pub use bpaf_pages::{HelpTexts, render_help, usage_of};
 pub use bpaf_parts::{
-    Branch, CommandNames, ExtraParams, Info, Start, is_want, or_meta, read_text, this_or_that,
-    value_or_refusal,
+    Branch, CommandNames, ExtraParams, Info, Start, given_by, is_want, or_meta, read_text,
+    this_or_that, value_or_refusal,
 };
 pub use choice::ParseOrElse;
 pub use collect::ParseCollect;

@@ -22,10 +22,11 @@ use Rattle.bpaf_exact.specs.Leaves.{argument_field, flag_field}
 use Rattle.bpaf_exact.specs.Wrappers.{map_closure}
 use Rattle.bpaf_record.specs.Positional.{positional_field}
 use Rattle.bpaf_record.specs.Record.{AnswersExactly, is_flat_record}
+use Rattle.bpaf_program.specs.Fields.{IsArgument, IsSwitch, IsWord}
 use Rattle.bpaf_program.specs.ReadBy.{AnswersReadBy}
 use Rattle.bpaf_program.specs.Values.{IsKept, MeansText, String}
 use Rattle.bpaf_program.proofs.Exactly.{read_exactly}
-use Rattle.bpaf_program.proofs.Known.{IsArgument, IsKnown, IsSwitch, IsWord}
+use Rattle.bpaf_program.proofs.Known.{IsKnown}
 use Rattle.bpaf_demo.specs.declared.options.Options.{Options}
 use Rattle.bpaf_demo.specs.Exact.{options_form, values_form}
 use Rattle.bpaf_demo.specs.Record.{FieldValues, number_key, options_of, program_given, verbose_names}

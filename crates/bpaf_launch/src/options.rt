@@ -1,11 +1,15 @@
 //! The words of a launcher, and those that it passes on.
-ghost use Rattle.std.specs.Prelude.{IfOk, map, string_bytes};
+ghost use Rattle.std.specs.Prelude.{IfOk, codes, map, string_bytes};
 ghost use Rattle.std.specs.Result.{IfErr};
-ghost use Rattle.bpaf_launch.specs.Dealing.{IsLaunchOf};
+ghost use Rattle.bpaf.specs.declared.leaves.positional.Position.TheVariants.{NonStrict, Strict};
+ghost use Rattle.bpaf_program.specs.Fields.{HasSwitch, HasWord};
+ghost use Rattle.bpaf_launch.specs.Dealing.{IsLaunchOf, dry_run_names, verbose_names};
 ghost use Rattle.bpaf_launch.specs.Shown.{ShowsHelpAsked};
 
+use bpaf::params::{ParseFlag, ParsePositional};
+use bpaf::parsers::ParseMany;
 use bpaf::{Args, Doc, ParseFailure, Parser, construct, long, positional, short};
-use std::alloc::Global;
+use std::alloc::{AllocError, Global};
 
 /// What is to be started, and how.
 #[derive(Drop)]
@@ -26,20 +30,10 @@ pub fn read_launch(alloc: Global, words: &[String]) -> Result<Launch, ParseFailu
     ensures launch { IfOk result (λ launch. IsLaunchOf (map string_bytes words.now) launch) }
     ensures asked { IfErr result (λ f. ShowsHelpAsked (map string_bytes words.now) f) }
 {
-    let verbose = short(alloc, 'v')?
-        .long("verbose")?
-        .help(Doc::from_text(alloc, "Print more")?)
-        .switch();
-    let dry_run = long(alloc, "dry-run")?
-        .help(Doc::from_text(alloc, "Start nothing")?)
-        .switch();
-    let name = positional::<String>("NAME")
-        .non_strict()
-        .help(Doc::from_text(alloc, "Program to start")?);
-    let passed = positional::<String>("WORD")
-        .strict()
-        .help(Doc::from_text(alloc, "Words to pass on")?)
-        .many();
+    let verbose = verbose(alloc)?;
+    let dry_run = dry_run(alloc)?;
+    let name = name(alloc)?;
+    let passed = passed(alloc)?;
     let launch = construct!(Launch {
         verbose,
         dry_run,
@@ -49,4 +43,37 @@ pub fn read_launch(alloc: Global, words: &[String]) -> Result<Launch, ParseFailu
     launch
         .to_options(alloc)?
         .run_inner(Args::from(words).set_name("launch"))
+}
+
+/// The switch, `-v` or `--verbose`; refused only for want of memory.
+fn verbose(alloc: Global) -> Result<ParseFlag<bool>, AllocError>
+    ensures { IfOk result (HasSwitch verbose_names (codes "Print more")) }
+{
+    let help = Doc::from_text(alloc, "Print more")?;
+    Ok(short(alloc, 'v')?.long("verbose")?.help(help).switch())
+}
+
+/// The switch `--dry-run`; refused only for want of memory.
+fn dry_run(alloc: Global) -> Result<ParseFlag<bool>, AllocError>
+    ensures { IfOk result (HasSwitch dry_run_names (codes "Start nothing")) }
+{
+    let help = Doc::from_text(alloc, "Start nothing")?;
+    Ok(long(alloc, "dry-run")?.help(help).switch())
+}
+
+/// The program, a word before `--`; refused only for want of memory.
+fn name(alloc: Global) -> Result<ParsePositional<String>, AllocError>
+    ensures { IfOk result (HasWord NonStrict (codes "NAME") (codes "Program to start")) }
+{
+    let help = Doc::from_text(alloc, "Program to start")?;
+    Ok(positional::<String>("NAME").non_strict().help(help))
+}
+
+/// The words behind `--`; refused only for want of memory.
+fn passed(alloc: Global) -> Result<ParseMany<ParsePositional<String>>, AllocError>
+    ensures { IfOk result (λ words.
+        HasWord Strict (codes "WORD") (codes "Words to pass on") words.inner) }
+{
+    let help = Doc::from_text(alloc, "Words to pass on")?;
+    Ok(positional::<String>("WORD").strict().help(help).many())
 }

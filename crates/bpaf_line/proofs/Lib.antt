@@ -1,3 +1,4 @@
+pub use Rattle.bpaf_index.proofs.Counts
 pub mod Places
 pub mod Matches
 pub mod Finding

@@ -19,13 +19,13 @@ use Rattle.bpaf_laws.specs.Reading.{Outcome, Readings}
 use Rattle.bpaf_laws.specs.Repeat.{ManyDescribes, ManyOutcome, ManyReads}
 use Rattle.bpaf_laws.proofs.ChoiceLaws.{choice_lawful}
 use Rattle.bpaf_laws.proofs.RepeatLaws.{many_lawful}
-use Rattle.bpaf_parts.specs.Info.{RunInfo, plain_info}
-use Rattle.bpaf_core.specs.Adjacent.{EitherCommandOutcome, EitherCommandReads}
-use Rattle.bpaf_core.specs.AdjacentLaws.{either_lawful}
-use Rattle.bpaf_core.specs.Dealt.{IsDealtOut}
-use Rattle.bpaf_core.specs.Ending.{EndsRun}
-use Rattle.bpaf_core.specs.EndingLaws.{run_ending}
-use Rattle.bpaf_core.specs.Run.{RunsWords}
+use Rattle.bpaf.specs.Info.{RunInfo, plain_info}
+use Rattle.bpaf.specs.Adjacent.{EitherCommandOutcome, EitherCommandReads}
+use Rattle.bpaf.specs.AdjacentLaws.{either_lawful}
+use Rattle.bpaf.specs.Dealt.{IsDealtOut}
+use Rattle.bpaf.specs.Ending.{EndsRun}
+use Rattle.bpaf.specs.EndingLaws.{run_ending}
+use Rattle.bpaf.specs.Run.{RunsWords}
 use Rattle.bpaf.specs.Asked.{BehindWord, HandsOn, IfShown, IsAskedAt, RunShows, Showing}
 use Rattle.bpaf.specs.Asked.{ShowsNothing, WordsShow, nothing_shown}
 use Rattle.bpaf.proofs.Asking.{IsAlsoShown, answer_shows, asked_at_also, hands_also, many_hands_on}

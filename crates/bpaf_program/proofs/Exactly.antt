@@ -6,8 +6,8 @@ use Rattle.bpaf_words.specs.Arguments.{Given}
 use Rattle.bpaf_line.specs.declared.failure.ParseFailure.{ParseFailure}
 use Rattle.bpaf_laws.specs.Product.{ProductReads}
 use Rattle.bpaf_laws.specs.Reading.{Outcome, Readings}
-use Rattle.bpaf_parts.specs.Info.{RunInfo, plain_info}
-use Rattle.bpaf_core.specs.Known.{known_names}
+use Rattle.bpaf.specs.Info.{RunInfo, plain_info}
+use Rattle.bpaf.specs.Known.{known_names}
 use Rattle.bpaf_exact.specs.Flat.{FieldsReading}
 use Rattle.bpaf_exact.specs.FlatForm.{FlatForm, made_reading, product}
 use Rattle.bpaf_exact.specs.Pieces.{Roles}

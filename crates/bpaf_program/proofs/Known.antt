@@ -21,10 +21,10 @@ use Rattle.bpaf_laws.proofs.ArgumentLaws.{argument_lawful}
 use Rattle.bpaf_laws.proofs.FlagLaws.{flag_lawful}
 use Rattle.bpaf_laws.proofs.ProductLaws.{both_lawful, product_lawful}
 use Rattle.bpaf_laws.proofs.RepeatLaws.{many_lawful}
-use Rattle.bpaf_parts.specs.Info.{RunInfo, plain_info}
-use Rattle.bpaf_core.specs.Dealt.{IsDealtOut}
-use Rattle.bpaf_core.specs.Known.{IsLineContext, known_names}
-use Rattle.bpaf_core.specs.Run.{RunsWords}
+use Rattle.bpaf.specs.Info.{RunInfo, plain_info}
+use Rattle.bpaf.specs.Dealt.{IsDealtOut}
+use Rattle.bpaf.specs.Known.{IsLineContext, known_names}
+use Rattle.bpaf.specs.Run.{RunsWords}
 use Rattle.bpaf.specs.declared.leaves.positional.ParsePositional.{ParsePositional}
 use Rattle.bpaf.specs.declared.leaves.positional.Position.{Position}
 use Rattle.bpaf.specs.Asked.{IfShown, ShowsNothing, WasAsked, nothing_shown}
@@ -34,32 +34,11 @@ use Rattle.bpaf.proofs.Asking.{argument_hands_on, both_hands_on, flag_hands_on, 
 use Rattle.bpaf.proofs.Asking.{positional_hands_on, product_hands_on}
 use Rattle.bpaf.proofs.Helps.{argument_without_help, flag_without_help, key_with_help}
 use Rattle.bpaf_program.specs.Dealt.{IsDealtBy}
+use Rattle.bpaf_program.specs.Fields.{IsArgument, IsSwitch, IsWord}
 use Rattle.bpaf_program.specs.Values.{IsKept}
 use Rattle.bpaf_program.proofs.Also.{IsAlso, both_also, many_also, product_also, word_also}
 use Rattle.bpaf_program.proofs.Shown.{both_show, help_asked, last_shows}
 use Rattle.bpaf_program.proofs.Shown.{line_context, many_shows, product_shows}
-
--- a switch with these names, and this help of this text
-pub record IsSwitch (names : Names) (text : List ℕ) (help : List Piece) (switch : ParseFlag Bool)
-    : Type 0 where
-  pub told : TextPieces text help
-  pub named_is : switch.named ≡ with_help (key_named names) help
-  pub present_is : switch.present ≡ true
-  pub absent_is : switch.absent ≡ Some false
-
--- an argument of this key, and this help of this text
-pub record IsArgument (key : KeyWithValue) (text : List ℕ) (help : List Piece)
-    (argument : KeyWithValue) : Type 0 where
-  pub told : TextPieces text help
-  pub key_is : argument ≡ key_with_help key help
-
--- a word at this position, of this metavar, and this help of this text
-pub record IsWord {T : Type 0} (position : Position) (metavar text : List ℕ) (help : List Piece)
-    (word : ParsePositional T) : Type 0 where
-  pub told : TextPieces text help
-  pub position_is : word.position ≡ position
-  pub metavar_is : word.metavar.0.now ≡ metavar
-  pub help_is : word.help ≡ Some help
 
 -- a parser, or fields, keep to the laws, show nothing by themselves, read what is wanted, and show
 -- this alone

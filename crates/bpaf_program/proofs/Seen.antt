@@ -10,8 +10,8 @@ use Rattle.bpaf_laws.specs.Flag.{FlagOutcome}
 use Rattle.bpaf_laws.specs.Product.{BothOutcome, ProductOutcome}
 use Rattle.bpaf_laws.specs.Reading.{Outcome}
 use Rattle.bpaf_laws.specs.Repeat.{ManyOutcome}
-use Rattle.bpaf_parts.specs.Info.{plain_info}
-use Rattle.bpaf_core.specs.Known.{known_names}
+use Rattle.bpaf.specs.Info.{plain_info}
+use Rattle.bpaf.specs.Known.{known_names}
 use Rattle.bpaf_exact.specs.FlatForm.{FlatForm, FormLaw, flat_alone, flat_both, flat_con}
 use Rattle.bpaf_exact.specs.FlatForm.{flat_field}
 use Rattle.bpaf_exact.specs.FlatForm.{flat_many, flat_record, is_record, product_reading}

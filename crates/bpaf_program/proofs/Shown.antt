@@ -12,9 +12,9 @@ use Rattle.bpaf_laws.specs.Laws.{Lawful}
 use Rattle.bpaf_laws.specs.Product.{BothDescribes, LastDescribes, ProductDescribes}
 use Rattle.bpaf_laws.specs.Reading.{Outcome, Readings}
 use Rattle.bpaf_laws.specs.Repeat.{ManyDescribes}
-use Rattle.bpaf_parts.specs.Info.{RunInfo, plain_info}
-use Rattle.bpaf_core.specs.Known.{IsLineContext, known_names}
-use Rattle.bpaf_core.specs.Run.{RunsWords}
+use Rattle.bpaf.specs.Info.{RunInfo, plain_info}
+use Rattle.bpaf.specs.Known.{IsLineContext, known_names}
+use Rattle.bpaf.specs.Run.{RunsWords}
 use Rattle.bpaf.specs.Asked.{IfShown, ShowsNothing, WasAsked}
 use Rattle.bpaf.proofs.Asking.{answer_asked, asked_also}
 

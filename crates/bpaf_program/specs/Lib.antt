@@ -5,3 +5,4 @@ pub mod Dealt
 pub mod Lines
 pub mod ReadBy
 pub mod Values
+pub mod Fields

@@ -39,9 +39,9 @@ pub trait Program<T> {
 }
 
 impl<T: Drop, P: Parser<T>> Program<T> for OptionParser<T, P> {
-    ghost use Rattle.bpaf_core.specs.Dealt.{IsDealtOut};
-    ghost use Rattle.bpaf_core.specs.Refusals.{IsOneOfTwelve};
-    ghost use Rattle.bpaf_core.specs.Run.{RunsWords};
+    ghost use Rattle.bpaf.specs.Dealt.{IsDealtOut};
+    ghost use Rattle.bpaf.specs.Refusals.{IsOneOfTwelve};
+    ghost use Rattle.bpaf.specs.Run.{RunsWords};
 
     ghost can_run = { λ p. P.can_eval p.inner };
 

@@ -5,7 +5,7 @@ use Rattle.bpaf_doc.specs.Names.{Names}
 use Rattle.bpaf_doc.specs.Shape.{Shape}
 use Rattle.bpaf_words.specs.Arguments.{Given}
 use Rattle.bpaf_line.specs.declared.failure.ParseFailure.{ParseFailure}
-use Rattle.bpaf_parts.specs.Info.{RunInfo}
+use Rattle.bpaf.specs.Info.{RunInfo}
 use Rattle.bpaf_exact.specs.FlatForm.{FlatForm}
 use Rattle.bpaf_exact.specs.Pieces.{LinePiece}
 use Rattle.bpaf_exact.specs.Says.{Said, FlagSays, says_present, says_absent, keyed}

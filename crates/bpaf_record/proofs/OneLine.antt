@@ -10,8 +10,8 @@ use Rattle.bpaf_words.specs.Spelling.{ShortNames, Known, known_at}
 use Rattle.bpaf_words.proofs.OneLine.{one_lines}
 use Rattle.bpaf_line.specs.Constructing.{IsContext}
 use Rattle.bpaf_line.specs.Situation.{Context}
-use Rattle.bpaf_parts.specs.Info.{RunInfo}
-use Rattle.bpaf_core.specs.Known.{IsLineContext, known_names}
+use Rattle.bpaf.specs.Info.{RunInfo}
+use Rattle.bpaf.specs.Known.{IsLineContext, known_names}
 use Rattle.bpaf_exact.specs.SameParts.{ShowsTheSame}
 
 -- contexts of the same line, marker, environment and name are one

@@ -9,17 +9,17 @@ use Rattle.bpaf_line.specs.declared.error.Error.{Error}
 use Rattle.bpaf_line.specs.declared.error.Message.{Message}
 use Rattle.bpaf_line.specs.declared.failure.ParseFailure.{ParseFailure}
 use Rattle.bpaf_line.specs.declared.failure.ParseFailure.TheVariants as failure
-use Rattle.bpaf_messages.specs.Leftover.{IsLeftover, conflict, only_once, not_expected}
+use Rattle.bpaf.specs.Leftover.{IsLeftover, conflict, only_once, not_expected}
 use Rattle.bpaf_line.specs.Situation.{Context, Situation, beginning, is_open, open_count}
-use Rattle.bpaf_index.proofs.Counts.{count_below-some}
+use Rattle.bpaf_line.proofs.Counts.{count_below-some}
 use Rattle.bpaf_line.proofs.Places.{open_in_line}
 use Rattle.bpaf_laws.specs.Reading.{Outcome}
-use Rattle.bpaf_core.specs.Ending.{EndsRun, memory, usage, passed_on, refused as told_refusal}
-use Rattle.bpaf_core.specs.Ending.{leftover as told_leftover}
-use Rattle.bpaf_parts.specs.Info.{RunInfo}
-use Rattle.bpaf_core.specs.Known.{IsLineContext}
-use Rattle.bpaf_core.specs.Run.{Runs, value, leftover, refused, ran, no_line as none_there}
-use Rattle.bpaf_core.specs.Run.{no_memory as wanted}
+use Rattle.bpaf.specs.Ending.{EndsRun, memory, usage, passed_on, refused as told_refusal}
+use Rattle.bpaf.specs.Ending.{leftover as told_leftover}
+use Rattle.bpaf.specs.Info.{RunInfo}
+use Rattle.bpaf.specs.Known.{IsLineContext}
+use Rattle.bpaf.specs.Run.{Runs, value, leftover, refused, ran, no_line as none_there}
+use Rattle.bpaf.specs.Run.{no_memory as wanted}
 use Rattle.bpaf_exact.specs.Flat.{FieldKind, FieldsLaw, FieldsReading}
 use Rattle.bpaf_exact.specs.Pieces.{Cut, Roles}
 use Rattle.bpaf_exact.specs.Record.{RunRan, run_value, run_leftover, run_memory, run_refusal}

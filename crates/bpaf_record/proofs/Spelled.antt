@@ -14,8 +14,8 @@ use Rattle.bpaf_words.specs.declared.arg.Arg.{Arg}
 use Rattle.bpaf_words.specs.declared.arg.Arg.TheVariants.{PosWord}
 use Rattle.bpaf_line.specs.Constructing.{IsContext}
 use Rattle.bpaf_line.specs.Situation.{Context, item_in, is_marker}
-use Rattle.bpaf_parts.specs.Info.{RunInfo}
-use Rattle.bpaf_core.specs.Known.{IsLineContext, known_names}
+use Rattle.bpaf.specs.Info.{RunInfo}
+use Rattle.bpaf.specs.Known.{IsLineContext, known_names}
 use Rattle.bpaf.specs.Marker.{words_before}
 use Rattle.bpaf.proofs.Sides.{each_at, each_append, each_then, before_with_marker}
 use Rattle.bpaf.proofs.Sides.{before_without_marker}

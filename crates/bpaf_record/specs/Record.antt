@@ -8,9 +8,9 @@ use Rattle.bpaf_line.specs.declared.failure.ParseFailure.{ParseFailure}
 use Rattle.bpaf_line.specs.declared.failure.ParseFailure.TheVariants as failure
 use Rattle.bpaf_line.specs.Situation.{Context}
 use Rattle.bpaf_laws.specs.Reading.{Outcome}
-use Rattle.bpaf_parts.specs.Info.{RunInfo}
-use Rattle.bpaf_core.specs.Known.{IsLineContext}
-use Rattle.bpaf_core.specs.Run.{RunsWords}
+use Rattle.bpaf.specs.Info.{RunInfo}
+use Rattle.bpaf.specs.Known.{IsLineContext}
+use Rattle.bpaf.specs.Run.{RunsWords}
 use Rattle.bpaf_exact.specs.Accepted.{HoldsTogether}
 use Rattle.bpaf_exact.specs.Names.{are_apart}
 use Rattle.bpaf_exact.specs.Pieces.{LinePiece, Cut}

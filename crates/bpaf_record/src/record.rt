@@ -14,7 +14,7 @@ pub trait Record<T> {
     ghost use Rattle.std.specs.Result.{IfErr};
     ghost use Rattle.bpaf_line.specs.declared.failure.ParseFailure.{ParseFailure};
     ghost use Rattle.bpaf_words.specs.Arguments.{Given};
-    ghost use Rattle.bpaf_core.specs.Run.{IsNotWant};
+    ghost use Rattle.bpaf.specs.Run.{IsNotWant};
 
     /// Whether they are a flat record.
     ghost is_flat: { Self → Bool };
@@ -115,9 +115,9 @@ fn apart_from_version<T, P: FlatField<T>>(parser: &P, info: &Info) -> bool
 
 impl<T: Drop, P: FlatField<T>> Record<T> for OptionParser<T, P> {
     ghost use Rattle.bpaf_record.specs.Record.{is_flat_record, AnswersExactly, SaysOfWords};
-    ghost use Rattle.bpaf_core.specs.Dealt.{IsDealtOut};
-    ghost use Rattle.bpaf_core.specs.Refusals.{IsOneOfTwelve};
-    ghost use Rattle.bpaf_core.specs.Run.{RunsWords};
+    ghost use Rattle.bpaf.specs.Dealt.{IsDealtOut};
+    ghost use Rattle.bpaf.specs.Refusals.{IsOneOfTwelve};
+    ghost use Rattle.bpaf.specs.Run.{RunsWords};
     ghost use Rattle.bpaf_laws.specs.Spared.{WithoutMemory};
 
     ghost is_flat = { λ p. is_flat_record (P.flat_form p.inner) (P.keys p.inner) p.info };

@@ -1,10 +1,9 @@
 //! Parsers that look at no item: a value, a closure's value, a refusal.
 ghost use Rattle.std.specs.Prelude.{◌≡◌};
 
-use bpaf_core::Parser;
+use bpaf_core::{Parser, given_by};
 use bpaf_doc::{Meta, Text};
 use bpaf_line::{Error, Message, State};
-use bpaf_parts::given_by;
 use std::alloc::{AllocError, Global};
 use std::fmt::Display;
 use std::marker::PhantomData;

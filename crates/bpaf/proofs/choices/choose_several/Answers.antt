@@ -5,9 +5,9 @@ use Rattle.bpaf_laws.specs.Choices.{Nested}
 use Rattle.bpaf_laws.proofs.ChoicesLaws.{from_lawful}
 use Rattle.bpaf_laws.proofs.ChoosingAll.{one_more, wants, want_of}
 use Rattle.bpaf_laws.proofs.Keeping.{keeps_of}
-use Rattle.bpaf_parts.specs.Branches.{LedTo}
-use Rattle.bpaf_parts.proofs.Branching.{start_back, start_kept, second_keeps, branch_kept}
-use Rattle.bpaf_parts.proofs.Branching.{chosen_kept}
+use Rattle.bpaf_core.specs.Branches.{LedTo}
+use Rattle.bpaf_core.proofs.Branching.{start_back, start_kept, second_keeps, branch_kept}
+use Rattle.bpaf_core.proofs.Branching.{chosen_kept}
 use Rattle.bpaf.proofs.choices.choose_several.Goals as goal
 
 pub undo-requires : goal.undo-requires

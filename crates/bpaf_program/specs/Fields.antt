@@ -1,0 +1,44 @@
+-- The fields that a program makes: their names, and the texts of their helps.
+use Rattle.std.specs.Prelude.{◌≡◌, Bool, true, false, ℕ, List, Some}
+use Rattle.bpaf_doc.specs.declared.doc.Piece.{Piece}
+use Rattle.bpaf_doc.specs.Fold.{TextPieces}
+use Rattle.bpaf_doc.specs.Names.{Names}
+use Rattle.bpaf_text.specs.declared.params.ParseFlag.{ParseFlag}
+use Rattle.bpaf_text.specs.Named.{KeyWithValue, key_named, with_help}
+use Rattle.bpaf.specs.declared.leaves.positional.ParsePositional.{ParsePositional}
+use Rattle.bpaf.specs.declared.leaves.positional.Position.{Position}
+
+-- a switch with these names, and this help of this text
+pub record IsSwitch (names : Names) (text : List ℕ) (help : List Piece) (switch : ParseFlag Bool)
+    : Type 0 where
+  pub told : TextPieces text help
+  pub named_is : switch.named ≡ with_help (key_named names) help
+  pub present_is : switch.present ≡ true
+  pub absent_is : switch.absent ≡ Some false
+
+-- an argument of this key, and this help of this text
+pub record IsArgument (key : KeyWithValue) (text : List ℕ) (help : List Piece)
+    (argument : KeyWithValue) : Type 0 where
+  pub told : TextPieces text help
+  pub key_is : argument ≡ record key { named = with_help key.named help }
+
+-- a word at this position, of this metavar, and this help of this text
+pub record IsWord {T : Type 0} (position : Position) (metavar text : List ℕ) (help : List Piece)
+    (word : ParsePositional T) : Type 0 where
+  pub told : TextPieces text help
+  pub position_is : word.position ≡ position
+  pub metavar_is : word.metavar.0.now ≡ metavar
+  pub help_is : word.help ≡ Some help
+
+-- a switch with these names, and a help of this text
+abbrev pub HasSwitch : (names : Names) (text : List ℕ) → ParseFlag Bool → Type 0
+HasSwitch names text switch = (help : List Piece) × IsSwitch names text help switch
+
+-- an argument of this key, and a help of this text
+abbrev pub HasArgument : (key : KeyWithValue) (text : List ℕ) → KeyWithValue → Type 0
+HasArgument key text argument = (help : List Piece) × IsArgument key text help argument
+
+-- a word at this position, of this metavar, and a help of this text
+abbrev pub HasWord : {T : Type 0} (position : Position) (metavar text : List ℕ) → ParsePositional T
+    → Type 0
+HasWord position metavar text word = (help : List Piece) × IsWord position metavar text help word
