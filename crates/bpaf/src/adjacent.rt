@@ -17,7 +17,7 @@ use bpaf_line::{Error, State};
 use std::alloc::{AllocError, Global};
 
 /// Why a product makes no adjacent group; in bpaf such a group is never found.
-#[derive(Debug, Drop)]
+#[derive(Drop)]
 pub enum AdjacentError {
     /// The product's first field shows no item by which a group begins, as `pure` and a choice.
     NoFirstItem,

@@ -66,9 +66,16 @@ fn choose_several<T: Drop, P: Parser<T>>(
             state.undo(start.mark);
             return answer;
         }
-        let this = Branch::leave(state, start)?;
+        let this = match Branch::leave(state, start) {
+            Ok(this) => this,
+            Err(refused) => {
+                drop(answer);
+                return Err(Error::from(refused));
+            }
+        };
         let other = parser.eval(state);
         if is_want(&other) {
+            drop(answer);
             state.undo(start.mark);
             return other;
         }

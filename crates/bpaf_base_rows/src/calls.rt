@@ -73,14 +73,33 @@ fn answer(
     row: Row<'_>,
     answers: &mut String,
 ) -> Result<(), AllocError> {
-    match State::construct(alloc, args, row.flags, row.arguments) {
-        Ok(mut state) => play(alloc, &mut state, row.calls, answers),
-        Err(message) => refuse(&message, answers),
+    let line = State::construct(alloc, args, row.flags, row.arguments);
+    answer_of(alloc, line, row.calls, answers)
+}
+
+/// Makes calls on a state, if there is one.
+pub(crate) fn answer_of(
+    alloc: Global,
+    line: Result<State, Message>,
+    calls: &[Call<'_>],
+    answers: &mut String,
+) -> Result<(), AllocError> {
+    match line {
+        Ok(mut state) => {
+            let played = play(alloc, &mut state, calls, answers);
+            drop(state);
+            played
+        }
+        Err(message) => {
+            let told = refuse(&message, answers);
+            drop(message);
+            told
+        }
     }
 }
 
 /// Makes calls, one after another.
-pub(crate) fn play(
+fn play(
     alloc: Global,
     state: &mut State,
     calls: &[Call<'_>],
@@ -138,7 +157,12 @@ fn look(state: &State, call: Call<'_>, answers: &mut String) -> Result<(), Alloc
         Call::Env(name) => tell(state.env(name), answers),
         Call::Present(place) => tell(state.present(place), answers),
         Call::EarlierKey(place) => tell(earlier_key(state, place), answers),
-        Call::Leftover => tell(leftover(state), answers),
+        Call::Leftover => {
+            let left = leftover(state);
+            let told = tell_leftover(&left, answers);
+            drop(left);
+            told
+        }
         Call::Items => list(state, answers),
         _ => spell(state, answers),
     }
@@ -147,6 +171,21 @@ fn look(state: &State, call: Call<'_>, answers: &mut String) -> Result<(), Alloc
 /// An answer as Rust's Debug prints it.
 fn tell<T: Debug + Drop>(answer: T, answers: &mut String) -> Result<(), AllocError> {
     write!(answers, "{answer:?};")
+}
+
+/// What is told of what is left, by the places that it names.
+fn tell_leftover(message: &Option<Message>, answers: &mut String) -> Result<(), AllocError> {
+    match message {
+        None => answers.push_str("None;"),
+        Some(Message::Unconsumed(place)) => write!(answers, "Some(Unconsumed({place}));"),
+        Some(Message::OnlyOnce(earlier, place)) => {
+            write!(answers, "Some(OnlyOnce({earlier}, {place}));")
+        }
+        Some(Message::Conflict(taken, place)) => {
+            write!(answers, "Some(Conflict({taken}, {place}));")
+        }
+        Some(_) => answers.push_str("another message;"),
+    }
 }
 
 /// The names as texts.
@@ -165,12 +204,16 @@ fn tell_taken<T: Debug + Drop>(
 ) -> Result<(), AllocError> {
     match taken {
         Ok(taken) => tell(taken, answers),
-        Err(error) => refuse(&error.0, answers),
+        Err(error) => {
+            let told = refuse(&error.0, answers);
+            drop(error);
+            told
+        }
     }
 }
 
 /// A refusal in short.
-pub(crate) fn refuse(message: &Message, answers: &mut String) -> Result<(), AllocError> {
+fn refuse(message: &Message, answers: &mut String) -> Result<(), AllocError> {
     match message {
         Message::NoArgument(key, metavar) => write!(answers, "no argument {key} {metavar};"),
         Message::Ambiguity(word, number) => write!(answers, "ambiguity {word} {number};"),

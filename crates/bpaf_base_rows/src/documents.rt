@@ -1,4 +1,5 @@
 //! Documents, trees and texts.
+use crate::help_pages::page_with;
 use crate::trees::tree;
 use bpaf_doc::{Doc, Item, Meta, MetaInfo, Style, Text};
 use std::alloc::{AllocError, Global};
@@ -101,10 +102,10 @@ fn answers(alloc: Global, tree: &Meta) -> Result<String, AllocError> {
     format!(in alloc; "{flags:?} {arguments:?} {order} {first}")
 }
 
-// What the copy of a tree answers; nothing where it doesn't tell the same as the tree.
+// What the copy of a tree answers; nothing where its help page isn't that of the tree.
 fn answers_of_copy(alloc: Global, tree: &Meta, copy: &Meta) -> Result<String, AllocError> {
-    let wanted = format!(in alloc; "{tree:?}")?;
-    let told = format!(in alloc; "{copy:?}")?;
+    let wanted = page_with(alloc, tree, "skip", "app", "")?;
+    let told = page_with(alloc, copy, "skip", "app", "")?;
     if told.as_str() == wanted.as_str() {
         answers(alloc, copy)
     } else {

@@ -1,8 +1,8 @@
 //! The texts of failures, missing items, and refusals for want of memory.
-use crate::shared::prints;
+use crate::shared::{prints, reads};
 use bpaf_doc::{Doc, Item, Text};
+use bpaf_keys::{ExtraParams, Info};
 use bpaf_line::{Error, Message, MissingItem, MissingItems, ParseFailure};
-use bpaf_parts::{ExtraParams, Info};
 use std::alloc::{AllocError, Global};
 use std::test::Fail;
 
@@ -70,16 +70,44 @@ fn missing_both(alloc: Global) -> Result<Error, AllocError> {
     Ok(missing(alloc, "FILE")?.combine_with(missing(alloc, "DIR")?))
 }
 
-/// How Rust's Debug prints it.
-const MISSING: &str = "Error(Missing(MissingItems { items: [\
-    MissingItem { item: Positional { metavar: \"FILE\", help: None }, \
-    position: 1, scope: 1..3 }, \
-    MissingItem { item: Positional { metavar: \"DIR\", help: None }, \
-    position: 1, scope: 1..3 }] }))";
+/// An item that was looked for in vain: its metavar, from where and in which scope.
+fn push_missed(missed: &MissingItem, out: &mut String) -> Result<(), AllocError> {
+    let position = missed.position;
+    let scope = missed.scope.start..missed.scope.end;
+    match &missed.item {
+        Item::Positional {
+            metavar,
+            help: None,
+        } => write!(out, "{metavar} from {position} in {scope:?};"),
+        _ => out.push_str("another item;"),
+    }
+}
+
+/// What a refusal misses.
+fn missed_by(alloc: Global, error: &Error) -> Result<String, AllocError> {
+    let mut out = String::new(alloc);
+    let Message::Missing(items) = &error.0 else {
+        return String::from_str(alloc, "another refusal");
+    };
+    for missed in items.as_slice() {
+        push_missed(missed, &mut out)?;
+    }
+    Ok(out)
+}
+
+/// What two refusals together miss, in order.
+fn missed_by_both(alloc: Global) -> Result<String, AllocError> {
+    let both = missing_both(alloc)?;
+    missed_by(alloc, &both)
+}
 
 #[test]
 fn missing_items_are_joined(rt: HostRuntime) -> Result<(), Fail> {
-    prints(&rt, missing_both(rt.alloc()), MISSING)
+    reads(
+        &rt,
+        missed_by_both(rt.alloc()),
+        "FILE from 1 in 1..3;DIR from 1 in 1..3;",
+    )
 }
 
 /// How many values a list holds: a parser of a caller's own may push with `?`.
@@ -103,13 +131,38 @@ fn want_of_memory_is_known(rt: HostRuntime) -> Result<(), Fail> {
     Ok(())
 }
 
-/// How Rust's Debug prints a copy of what a run knows, where nothing is set.
-const KEYS: &str = "Info { version: None, descr: None, header: None, footer: None, \
-    usage: None, help_arg: None, version_arg: None, help_if_no_args: false, max_width: 100, \
-    numbers: false }";
+/// What a run knows, field by field.
+fn known(alloc: Global, info: &Info) -> Result<String, AllocError> {
+    let mut out = String::new(alloc);
+    for text in [
+        &info.version,
+        &info.descr,
+        &info.header,
+        &info.footer,
+        &info.usage,
+    ] {
+        write!(out, "{text:?} ")?;
+    }
+    for key in [&info.help_arg, &info.version_arg] {
+        write!(out, "{key:?} ")?;
+    }
+    let (usage, numbers) = (info.help_if_no_args, info.numbers);
+    write!(out, "{usage} {} {numbers}", info.max_width)?;
+    Ok(out)
+}
+
+/// A copy of what a run knows, where nothing is set.
+fn copy_known(alloc: Global) -> Result<String, AllocError> {
+    let copy = Info::new().copy()?;
+    known(alloc, &copy)
+}
 
 #[test]
 fn keys_of_a_run_are_copied(rt: HostRuntime) -> Result<(), Fail> {
-    prints(&rt, Info::new().copy(), KEYS)?;
+    reads(
+        &rt,
+        copy_known(rt.alloc()),
+        "None None None None None None None false 100 false",
+    )?;
     prints(&rt, ExtraParams::Help(true).copy(), "Help(true)")
 }

@@ -43,7 +43,7 @@ fn headed(
 }
 
 // The page of a tree and of a description of what stands behind it.
-fn page_with(
+pub(crate) fn page_with(
     alloc: Global,
     shown: &Meta,
     extra: &str,

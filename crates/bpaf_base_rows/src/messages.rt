@@ -223,9 +223,18 @@ fn text(alloc: Global, failure: ParseFailure) -> Result<String, AllocError> {
 
 /// What a row tells.
 fn rendered(alloc: Global, words: &[&str], told: Told<'_>) -> Result<String, AllocError> {
+    let message = message(alloc, told)?;
     match State::construct(alloc, Args::from(words), &[], &[]) {
-        Ok(state) => text(alloc, render(message(alloc, told)?, &state)),
-        Err(_refused) => Ok(String::new(alloc)),
+        Ok(state) => {
+            let told = render(message, &state);
+            drop(state);
+            text(alloc, told)
+        }
+        Err(refused) => {
+            drop(refused);
+            drop(message);
+            Ok(String::new(alloc))
+        }
     }
 }
 

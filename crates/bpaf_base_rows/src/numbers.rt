@@ -1,5 +1,5 @@
 //! The items of words by which negative numbers are words.
-use crate::calls::{Call, Row, play, refuse};
+use crate::calls::{Call, Row, answer_of};
 use crate::shared::reads;
 use bpaf_line::State;
 use bpaf_words::Args;
@@ -9,10 +9,8 @@ use std::test::Fail;
 /// The items of the line of a row's words, in which numbers are words, or why they have none.
 fn spelled(alloc: Global, row: Row<'_>) -> Result<String, AllocError> {
     let mut answers = String::new(alloc);
-    match State::construct_numbers(alloc, Args::from(row.words), row.flags, row.arguments) {
-        Ok(mut state) => play(alloc, &mut state, row.calls, &mut answers)?,
-        Err(message) => refuse(&message, &mut answers)?,
-    }
+    let line = State::construct_numbers(alloc, Args::from(row.words), row.flags, row.arguments);
+    answer_of(alloc, line, row.calls, &mut answers)?;
     Ok(answers)
 }
 

@@ -2,7 +2,7 @@
 ghost use Rattle.std.specs.Prelude.{◌≡◌, codes};
 ghost use Rattle.bpaf_text.specs.Meaning.{ReadsText};
 
-use bpaf_doc::{Doc, Item, Metavar};
+use bpaf_doc::{Doc, Item, Metavar, ShortLong};
 use bpaf_text::{
     FromList, FromText, NamedArg, ParseArgument, ParseFlag, TextFault, env, long, short,
 };
@@ -146,9 +146,43 @@ fn copy_printed(alloc: Global, named: &NamedArg) -> Result<String, AllocError> {
     printed(alloc, named.copy()?)
 }
 
-// How an item is printed.
+// The names by which a key is shown.
+fn names_printed(alloc: Global, name: &ShortLong) -> Result<String, AllocError> {
+    match name {
+        ShortLong::Short(short) => format!(in alloc; "{short}"),
+        ShortLong::Long(long) => format!(in alloc; "{long}"),
+        ShortLong::Both(short, long) => format!(in alloc; "{short} and {long}"),
+    }
+}
+
+// What a key shows: its names, all short ones, of an argument its metavar, its variable, its help.
 fn item_printed(alloc: Global, item: Option<Item>) -> Result<String, AllocError> {
-    format!(in alloc; "{item:?}")
+    match &item {
+        Some(
+            Item::Flag {
+                name,
+                shorts,
+                env,
+                help,
+            },
+        ) => {
+            let names = names_printed(alloc, name)?;
+            format!(in alloc; "flag {names} {shorts:?} {env:?} {help:?}")
+        }
+        Some(
+            Item::Argument {
+                name,
+                shorts,
+                metavar,
+                env,
+                help,
+            },
+        ) => {
+            let names = names_printed(alloc, name)?;
+            format!(in alloc; "argument {names} {shorts:?} {metavar} {env:?} {help:?}")
+        }
+        _ => String::from_str(alloc, "another item"),
+    }
 }
 
 // What a key shows as a flag.
@@ -173,7 +207,7 @@ fn argument_copy_printed(
     argument: &ParseArgument<u32>,
 ) -> Result<String, AllocError> {
     let copy = argument.copy()?;
-    format!(in alloc; "{:?} {:?} {:?}", copy.metavar, copy.adjacent, copy.named)
+    format!(in alloc; "{} {} {:?}", copy.metavar.0, copy.adjacent, copy.named)
 }
 
 // What the key of `SIZE` tells: its copy, or that of the flag or the argument that it becomes, or
@@ -212,18 +246,16 @@ const TOLD: &[(&str, &str, &str)] = &[
     ),
     ("key", "", SIZE),
     ("flag", "3 Some(4) ", SIZE),
-    ("argument", "Metavar(\"NUM\") false ", SIZE),
+    ("argument", "NUM false ", SIZE),
     (
         "flag item",
-        "Some(Flag { name: Both('s', \"size\"), shorts: ['s', 'n'], \
-        env: Some(\"SIZE\"), help: Some(",
-        "style: Text, detail: false }] }) })",
+        "flag s and size ['s', 'n'] Some(\"SIZE\") Some(",
+        "style: Text, detail: false }] })",
     ),
     (
         "argument item",
-        "Some(Argument { name: Both('s', \"size\"), shorts: ['s', 'n'], \
-        metavar: \"NUM\", env: Some(\"SIZE\"), help: Some(",
-        "style: Text, detail: false }] }) })",
+        "argument s and size ['s', 'n'] NUM Some(\"SIZE\") Some(",
+        "style: Text, detail: false }] })",
     ),
 ];
 

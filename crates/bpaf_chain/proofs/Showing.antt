@@ -3,7 +3,7 @@ use Rattle.std.proofs.Common.{◌≡◌, true, ap}
 use Rattle.bpaf_laws.specs.Command.{CommandDescribes, named_only, opening_words}
 use Rattle.bpaf_laws.specs.Laws.{Lawful}
 use Rattle.bpaf_laws.specs.Reading.{Outcome, Readings}
-use Rattle.bpaf_parts.specs.Info.{short_descr}
+use Rattle.bpaf_keys.specs.Info.{short_descr}
 use Rattle.bpaf_core.specs.Adjacent.{EitherCommandReads, OutcomeOfCommand}
 use Rattle.bpaf_core.specs.declared.commands.ParseCommand.{ParseCommand}
 use Rattle.bpaf.proofs.Asking.{hands_also}

@@ -11,7 +11,7 @@ use Rattle.bpaf_laws.specs.Flag.{flag_shape}
 use Rattle.bpaf_laws.specs.Product.{BothDescribes, LastDescribes, ProductDescribes}
 use Rattle.bpaf_laws.specs.Reading.{Outcome}
 use Rattle.bpaf_laws.specs.Repeat.{ManyDescribes}
-use Rattle.bpaf_parts.specs.Info.{RunInfo, plain_info, short_descr}
+use Rattle.bpaf_keys.specs.Info.{RunInfo, plain_info, short_descr}
 use Rattle.bpaf.specs.Asked.{BehindWord, IsAskedAt, ShowsNothing, WordsShow}
 use Rattle.bpaf.specs.declared.leaves.positional.Position.TheVariants.{Unrestricted}
 use Rattle.bpaf.specs.Positional.{positional_shape}

@@ -2,7 +2,7 @@
 ghost use Rattle.std.specs.Prelude.{◌≡◌, IfOk, map, string_bytes, true};
 ghost use Rattle.std.specs.Result.{IfErr};
 ghost use Rattle.bpaf_laws.specs.Command.{named_only};
-ghost use Rattle.bpaf_parts.specs.Info.{short_descr};
+ghost use Rattle.bpaf_keys.specs.Info.{short_descr};
 ghost use Rattle.bpaf.specs.Asked.{IfShown};
 ghost use Rattle.bpaf_chain.specs.Dealing.{AreDealt, AreDealtSteps};
 ghost use Rattle.bpaf_chain.specs.Shown.{IsDescribed, IsHelpAsked, IsMoveShape, IsRepeatShape};

@@ -5,7 +5,7 @@ use Rattle.std.proofs.lemmas.Bool.Decides.{nat_tests}
 use mathlib.Core.Path.{fun_ext}
 use Rattle.bpaf_line.specs.declared.failure.ParseFailure.{ParseFailure}
 use Rattle.bpaf_doc.specs.Shape.{Shape}
-use Rattle.bpaf_parts.specs.Info.{RunInfo}
+use Rattle.bpaf_keys.specs.Info.{RunInfo}
 use Rattle.bpaf_core.specs.Known.{IsLineContext}
 use Rattle.bpaf_words.specs.Arguments.{Given}
 use Rattle.bpaf_line.specs.Situation.{Situation, Context, beginning, is_taken, is_open, in_scope}

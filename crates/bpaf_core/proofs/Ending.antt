@@ -12,7 +12,7 @@ use Rattle.bpaf_line.specs.Situation.{Situation}
 use Rattle.bpaf_core.specs.Ending.{EndsRefused, PassesOrTells, ShowsHelp, Tells}
 use Rattle.bpaf_core.specs.Ending.{is_answer, is_shown}
 use Rattle.bpaf_core.specs.Ending.{memory, passed_on, refused, usage}
-use Rattle.bpaf_parts.specs.Info.{RunInfo}
+use Rattle.bpaf_keys.specs.Info.{RunInfo}
 
 module _ (describes : Shape → Type 0) (info : RunInfo) (t : Situation) where
   -- want of memory ends the run

@@ -16,9 +16,9 @@ use Rattle.bpaf_line.specs.Situation.{Situation}
 use Rattle.bpaf_text.specs.Named.{KeyWithValue, Named}
 use Rattle.bpaf_laws.specs.Argument.{ArgumentFails, ArgumentOutcome}
 use Rattle.bpaf_laws.specs.Flag.{FlagFails, FlagOutcome, IsFlagAbsent}
-use Rattle.bpaf_parts.specs.Extra.{ExtraOutcome, help, neither, no_memory, version}
-use Rattle.bpaf_parts.specs.Info.{RunInfo}
-use Rattle.bpaf_parts.specs.declared.info.ExtraParams.{ExtraParams}
+use Rattle.bpaf_keys.specs.Extra.{ExtraOutcome, help, neither, no_memory, version}
+use Rattle.bpaf_keys.specs.Info.{RunInfo}
+use Rattle.bpaf_keys.specs.declared.info.ExtraParams.{ExtraParams}
 use Rattle.bpaf_core.specs.Leaves.{AsksForNeither, ClonesNothing, FaultsTextAlone}
 
 module _ {T : Type 0} (named : Named) (absent : Option T) (s t : Situation) where

@@ -15,12 +15,12 @@ use Rattle.bpaf_messages.specs.Rendering.{Renders}
 use Rattle.bpaf_line.specs.Situation.{Context, Situation, beginning}
 use Rattle.bpaf_laws.specs.Reading.{Outcome}
 use Rattle.bpaf_words.specs.Arguments.{Given}
-use Rattle.bpaf_parts.specs.declared.info.ExtraParams.{ExtraParams}
-use Rattle.bpaf_parts.specs.declared.info.ExtraParams.TheVariants as extra
+use Rattle.bpaf_keys.specs.declared.info.ExtraParams.{ExtraParams}
+use Rattle.bpaf_keys.specs.declared.info.ExtraParams.TheVariants as extra
 use Rattle.bpaf_core.specs.Ending as ending
 use Rattle.bpaf_core.specs.Ending.{EndsRun, Shows, ShowsHelp, Tells, is_answer}
-use Rattle.bpaf_parts.specs.Extra.{ExtraOutcome}
-use Rattle.bpaf_parts.specs.Info.{RunInfo}
+use Rattle.bpaf_keys.specs.Extra.{ExtraOutcome}
+use Rattle.bpaf_keys.specs.Info.{RunInfo}
 use Rattle.bpaf_core.specs.Known.{IsLineContext}
 use Rattle.bpaf_core.specs.Refusals.{IsHandedOn, IsNamed, IsOneOfTwelve, IsToldOf, Refusal}
 use Rattle.bpaf_core.specs.Refusals.{refusal_of}

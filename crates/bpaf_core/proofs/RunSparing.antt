@@ -7,7 +7,7 @@ use Rattle.bpaf_line.specs.Situation.{beginning}
 use Rattle.bpaf_words.specs.Arguments.{Given}
 use Rattle.bpaf_laws.specs.Reading.{Outcome}
 use Rattle.bpaf_laws.specs.Spared.{WithoutMemory}
-use Rattle.bpaf_parts.specs.Info.{RunInfo}
+use Rattle.bpaf_keys.specs.Info.{RunInfo}
 use Rattle.bpaf_core.specs.EndingLaws.{run_ending}
 use Rattle.bpaf_core.specs.Run.{IsNotWant, RunsWords, ran, no_line, no_memory}
 use Rattle.bpaf_core.proofs.CommandSparing.{spared_run}

@@ -12,7 +12,7 @@ use Rattle.bpaf_line.specs.Situation.{Situation, Context, beginning}
 use Rattle.bpaf_line.specs.Constructing.{Constructs, message_of}
 use Rattle.bpaf_laws.specs.Reading.{Outcome}
 use Rattle.bpaf_doc.specs.Shape.{Shape}
-use Rattle.bpaf_parts.specs.Info.{RunInfo}
+use Rattle.bpaf_keys.specs.Info.{RunInfo}
 use Rattle.bpaf_core.specs.Known.{known_names, ReadsLineOf, ShowsNames, Starts}
 use Rattle.bpaf_words.specs.Arguments.{Given}
 use Rattle.bpaf_words.specs.declared.arg.Arg.{Arg}

@@ -3,7 +3,7 @@ use Rattle.bpaf_doc.specs.Shape.{Shape}
 use Rattle.bpaf_words.specs.Arguments.{Given}
 use Rattle.bpaf_line.specs.Situation.{Context, is_dealt_place}
 use Rattle.bpaf_laws.specs.Reading.{Readings}
-use Rattle.bpaf_parts.specs.Info.{RunInfo}
+use Rattle.bpaf_keys.specs.Info.{RunInfo}
 use Rattle.bpaf_core.specs.Known.{IsLineContext}
 
 -- v is read off all places of the words' line but that of the marker

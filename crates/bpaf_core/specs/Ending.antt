@@ -15,12 +15,12 @@ use Rattle.bpaf_messages.specs.Leftover.{IsLeftover}
 use Rattle.bpaf_line.specs.Messages.{is_memory}
 use Rattle.bpaf_messages.specs.Rendering.{Renders}
 use Rattle.bpaf_line.specs.Situation.{Context, Situation, beginning, open_count}
-use Rattle.bpaf_parts.specs.declared.info.ExtraParams.{ExtraParams}
-use Rattle.bpaf_parts.specs.declared.info.ExtraParams.TheVariants as extra
-use Rattle.bpaf_parts.specs.Extra.{ExtraOutcome, extra_shape}
+use Rattle.bpaf_keys.specs.declared.info.ExtraParams.{ExtraParams}
+use Rattle.bpaf_keys.specs.declared.info.ExtraParams.TheVariants as extra
+use Rattle.bpaf_keys.specs.Extra.{ExtraOutcome, extra_shape}
 pub use Rattle.bpaf_parts.specs.Failures.{is_shown}
-use Rattle.bpaf_parts.specs.Info.{RunInfo, page_texts}
-use Rattle.bpaf_parts.specs.Version.{ShowsVersion}
+use Rattle.bpaf_keys.specs.Info.{RunInfo, page_texts}
+use Rattle.bpaf_keys.specs.Version.{ShowsVersion}
 
 -- what a run ends with that has no value, and the situation that it leaves: the message of its
 -- parser, or none where that left items; the situation before the parser, and the one that it left

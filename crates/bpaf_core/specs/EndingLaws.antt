@@ -11,8 +11,8 @@ use Rattle.bpaf_laws.proofs.Keeping.{keeps_refl}
 use Rattle.bpaf_parts.specs.Failures.{end_message}
 use Rattle.bpaf_core.specs.Ending.{Ending, EndsRun, Tells, leftover, memory, passed_on, refused}
 use Rattle.bpaf_core.specs.Ending.{shown, told, usage, wanting}
-use Rattle.bpaf_parts.proofs.ExtraLaws.{extra_lawful}
-use Rattle.bpaf_parts.specs.Info.{RunInfo}
+use Rattle.bpaf_keys.proofs.ExtraLaws.{extra_lawful}
+use Rattle.bpaf_keys.specs.Info.{RunInfo}
 
 -- an ending keeps what each evaluation keeps, and tells want of memory as nothing else
 pub record LawfulEnding (ending : Ending) : Type 0 where

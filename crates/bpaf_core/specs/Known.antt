@@ -13,8 +13,8 @@ use Rattle.bpaf_line.specs.Constructing.{IsContext}
 use Rattle.bpaf_line.specs.Situation.{Situation, Context, beginning}
 use Rattle.bpaf_line.specs.declared.error.Message.{Message}
 use Rattle.bpaf_line.specs.declared.error.Message.TheVariants as message
-use Rattle.bpaf_parts.specs.Info.{RunInfo}
-pub use Rattle.bpaf_parts.specs.KnownNames.{known_names}
+use Rattle.bpaf_keys.specs.Info.{RunInfo}
+pub use Rattle.bpaf_keys.specs.KnownNames.{known_names}
 
 -- short names that are the known ones of a shape that the parser may show
 pub record ShowsNames (describes : Shape → Type 0) (info : RunInfo)

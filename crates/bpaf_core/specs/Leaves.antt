@@ -7,8 +7,8 @@ use Rattle.bpaf_line.specs.Situation.{Situation}
 use Rattle.bpaf_text.specs.Named.{KeyWithValue, Named}
 use Rattle.bpaf_laws.specs.Argument.{GetsText}
 use Rattle.bpaf_laws.specs.Flag.{IsFlagAbsent}
-use Rattle.bpaf_parts.specs.Extra.{IsNoVersion}
-use Rattle.bpaf_parts.specs.Info.{RunInfo}
+use Rattle.bpaf_keys.specs.Extra.{IsNoVersion}
+use Rattle.bpaf_keys.specs.Info.{RunInfo}
 
 -- a refusal of a flag that isn't want of memory is of one that is absent and has no absent value:
 -- no clone was to be made

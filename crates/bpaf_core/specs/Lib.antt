@@ -1,10 +1,10 @@
 pub use Rattle.bpaf_messages.specs.Leftover
 pub use Rattle.bpaf_messages.specs.Rendering
 pub use Rattle.bpaf_parts.specs.Branches
-pub use Rattle.bpaf_parts.specs.Extra
+pub use Rattle.bpaf_keys.specs.Extra
 pub use Rattle.bpaf_parts.specs.Failures
-pub use Rattle.bpaf_parts.specs.Info
-pub use Rattle.bpaf_parts.specs.declared.info.ExtraParams
+pub use Rattle.bpaf_keys.specs.Info
+pub use Rattle.bpaf_keys.specs.declared.info.ExtraParams
 pub mod Known
 pub mod Ending
 pub mod Run

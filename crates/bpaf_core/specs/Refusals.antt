@@ -13,8 +13,8 @@ use Rattle.bpaf_line.specs.Situation.{Context, Situation, beginning}
 use Rattle.bpaf_words.specs.Arguments.{Given}
 use Rattle.bpaf_words.specs.Line.{HasNoLine}
 use Rattle.bpaf_laws.specs.Reading.{Outcome}
-use Rattle.bpaf_parts.specs.Extra.{ExtraOutcome}
-use Rattle.bpaf_parts.specs.Info.{RunInfo}
+use Rattle.bpaf_keys.specs.Extra.{ExtraOutcome}
+use Rattle.bpaf_keys.specs.Info.{RunInfo}
 use Rattle.bpaf_core.specs.Known.{IsLineContext, known_names}
 
 -- the names

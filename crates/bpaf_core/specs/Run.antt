@@ -12,7 +12,7 @@ use Rattle.bpaf_line.specs.Situation.{Situation, Context, beginning, open_count}
 use Rattle.bpaf_doc.specs.Shape.{Shape}
 use Rattle.bpaf_core.specs.Ending.{Ending, EndsRun}
 use Rattle.bpaf_parts.specs.Failures.{end_message}
-use Rattle.bpaf_parts.specs.Info.{RunInfo}
+use Rattle.bpaf_keys.specs.Info.{RunInfo}
 use Rattle.bpaf_core.specs.Known.{known_names, IsLineContext}
 use Rattle.bpaf_laws.specs.Reading.{Outcome}
 

@@ -4,11 +4,11 @@ ghost use Rattle.std.specs.Prelude.{true, false};
 ghost use Rattle.bpaf_doc.specs.declared.doc.Piece.{Piece};
 ghost use Rattle.bpaf_doc.specs.Fold.{TextPieces};
 ghost use Rattle.bpaf_laws.specs.Command.{named_only, with_long_name, with_short_name};
-ghost use Rattle.bpaf_parts.specs.Info.{short_descr};
+ghost use Rattle.bpaf_keys.specs.Info.{short_descr};
 
 use crate::options::OptionParser;
 use bpaf_doc::Doc;
-use bpaf_parts::{CommandNames, Info};
+use bpaf_keys::{CommandNames, Info};
 use std::alloc::{AllocError, Global};
 use std::marker::PhantomData;
 

@@ -1,8 +1,8 @@
 //! What a run may be asked for beside its value, as a parser.
 use crate::parser::Parser;
 use bpaf_doc::Meta;
+use bpaf_keys::{ExtraParams, Info};
 use bpaf_line::{Error, State};
-use bpaf_parts::{ExtraParams, Info};
 use std::alloc::{AllocError, Global};
 
 /// What the run is asked for beside its value, as [`Info::look`] tells it (bpaf's `Info`, in
@@ -14,8 +14,8 @@ impl Parser<ExtraParams> for Info {
     ghost use Rattle.std.specs.Prelude.{◌≡◌};
     ghost use Rattle.std.specs.Result.{IfErr};
     ghost use Rattle.bpaf_core.specs.Leaves.{AsksForNeither};
-    ghost use Rattle.bpaf_parts.specs.Extra.{ExtraOutcome, ExtraReads, extra_shape};
-    ghost use Rattle.bpaf_parts.proofs.ExtraLaws.{extra_lawful};
+    ghost use Rattle.bpaf_keys.specs.Extra.{ExtraOutcome, ExtraReads, extra_shape};
+    ghost use Rattle.bpaf_keys.proofs.ExtraLaws.{extra_lawful};
 
     ghost can_eval = { λ info. Unit {0} };
 

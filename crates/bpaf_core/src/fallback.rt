@@ -134,7 +134,6 @@ impl<T: Clone, P: Parser<T>> Parser<T> for ParseFallback<P, T> {
         }
     }
 
-    #[tactic(auto, using(crate::proofs::Shown::default_of))]
     fn meta(&self, alloc: Global) -> Result<Meta, AllocError> {
         default_meta(alloc, self.inner.meta(alloc)?, &self.shown)
     }
@@ -173,10 +172,15 @@ impl<T: Display + Drop, P: Drop, F: Fn() -> Result<T, E> + Drop, E: Drop> ParseF
             (λ v. ShowsDefault (T.output v)) self.shown parser.shown) }
     {
         match (self.fallback)() {
-            Ok(value) => self.shown = Some(displayed(alloc, &value)?),
-            Err(fault) => drop(fault),
+            Ok(value) => {
+                self.shown = Some(displayed(alloc, &value)?);
+                Ok(self)
+            }
+            Err(fault) => {
+                drop(fault);
+                Ok(self)
+            }
         }
-        Ok(self)
     }
 }
 
@@ -200,10 +204,15 @@ impl<T: Debug + Drop, P: Drop, F: Fn() -> Result<T, E> + Drop, E: Drop> ParseFal
             (λ v. ShowsDefault (T.debug_output v)) self.shown parser.shown) }
     {
         match (self.fallback)() {
-            Ok(value) => self.shown = Some(debugged(alloc, &value)?),
-            Err(fault) => drop(fault),
+            Ok(value) => {
+                self.shown = Some(debugged(alloc, &value)?);
+                Ok(self)
+            }
+            Err(fault) => {
+                drop(fault);
+                Ok(self)
+            }
         }
-        Ok(self)
     }
 }
 
@@ -224,10 +233,15 @@ impl<T: Drop, P: Drop, F: Fn() -> Result<T, E> + Drop, E: Drop> ParseFallbackWit
             (ShowsFormatted (FnReturnsAt G.Fn format)) self.shown parser.shown) }
     {
         match (self.fallback)() {
-            Ok(value) => self.shown = Some(formatted(alloc, &format, &value)?),
-            Err(fault) => drop(fault),
+            Ok(value) => {
+                self.shown = Some(formatted(alloc, &format, &value)?);
+                Ok(self)
+            }
+            Err(fault) => {
+                drop(fault);
+                Ok(self)
+            }
         }
-        Ok(self)
     }
 }
 
@@ -270,7 +284,6 @@ impl<T, E: Display + Drop, P: Parser<T>, F: Fn() -> Result<T, E>> Parser<T>
         }
     }
 
-    #[tactic(auto, using(crate::proofs::Shown::default_of))]
     fn meta(&self, alloc: Global) -> Result<Meta, AllocError> {
         default_meta(alloc, self.inner.meta(alloc)?, &self.shown)
     }

@@ -1,8 +1,8 @@
 //! Flags.
 use crate::parser::Parser;
 use bpaf_doc::Meta;
+use bpaf_keys::{absence, is_present};
 use bpaf_line::{Error, State};
-use bpaf_parts::{absence, is_present};
 use bpaf_text::ParseFlag;
 use std::alloc::{AllocError, Global};
 

@@ -1,7 +1,7 @@
 //! Parsers: what reads a value off a line, and a run over a whole line.
 //!
-//! It stands on `bpaf_parts`, whose [`Info`], [`CommandNames`] and [`read_text`] it hands on, and
-//! on the crates below that. For the layers above:
+//! It stands on `bpaf_keys`, whose [`Info`] and [`CommandNames`] it hands on, on `bpaf_parts`, whose
+//! [`read_text`] it hands on, and on the crates below these. For the layers above:
 //!
 //! - [`Parser`] is the trait of every parser. By its ghost members an implementation says what it
 //!   means: `reads`, which values may be read off which places of a line; `outcome`, what one
@@ -59,11 +59,11 @@ mod run;
 mod transform;
 mod usage;
 
+pub use bpaf_keys::{CommandNames, ExtraParams, Info};
 pub use bpaf_messages::{earlier_key, leftover, render};
 pub use bpaf_pages::{HelpTexts, render_help, usage_of};
 pub use bpaf_parts::{
-    Branch, CommandNames, ExtraParams, Info, Start, given_by, is_want, or_meta, read_text,
-    this_or_that, value_or_refusal,
+    Branch, Start, given_by, is_want, or_meta, read_text, this_or_that, value_or_refusal,
 };
 pub use choice::ParseOrElse;
 pub use collect::ParseCollect;

@@ -9,8 +9,8 @@ ghost use Rattle.bpaf_core.specs.Known.{TellsOrder};
 
 use crate::parser::Parser;
 use bpaf_doc::Doc;
+use bpaf_keys::Info;
 use bpaf_pages::usage_of;
-use bpaf_parts::Info;
 use bpaf_text::NamedArg;
 use std::alloc::{AllocError, Global};
 use std::marker::PhantomData;

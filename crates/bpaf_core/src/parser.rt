@@ -1,7 +1,7 @@
 //! The trait of all parsers: what one answers, what it shows, and its laws.
 ghost use Rattle.std.specs.Prelude.{◌≡◌, IfOk, false, Some, None};
 ghost use Rattle.bpaf_doc.specs.Shape.{shape_of};
-ghost use Rattle.bpaf_parts.specs.Info.{plain_info};
+ghost use Rattle.bpaf_keys.specs.Info.{plain_info};
 
 use crate::choice::ParseOrElse;
 use crate::collect::ParseCollect;
@@ -14,8 +14,8 @@ use crate::repeat::{ParseMany, ParseSome};
 use crate::transform::{ParseGuard, ParseMap, ParseWith};
 use crate::usage::{ParseGroupHelp, ParseUsage, ParseWithGroupHelp};
 use bpaf_doc::{Doc, Meta, MetaInfo};
+use bpaf_keys::Info;
 use bpaf_line::{Error, State};
-use bpaf_parts::Info;
 use bpaf_text::FromList;
 use std::alloc::{AllocError, Global};
 use std::fmt::Display;

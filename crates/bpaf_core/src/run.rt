@@ -7,9 +7,10 @@ ghost use Rattle.bpaf_core.specs.Run.{Runs};
 
 use crate::parser::Parser;
 use bpaf_doc::Doc;
+use bpaf_keys::{ExtraParams, Info, version_page};
 use bpaf_line::{Message, ParseFailure, State};
 use bpaf_messages::{leftover, render};
-use bpaf_parts::{ExtraParams, Info, stands_in, version_page};
+use bpaf_parts::stands_in;
 use std::alloc::{AllocError, Global};
 use std::marker::PhantomData;
 

@@ -11,7 +11,7 @@ use Rattle.bpaf_words.specs.Arguments.{Given}
 use Rattle.bpaf_line.specs.declared.failure.ParseFailure.{ParseFailure}
 use Rattle.bpaf_laws.specs.Product.{ProductReads}
 use Rattle.bpaf_laws.specs.Reading.{Outcome, Readings}
-use Rattle.bpaf_parts.specs.Info.{RunInfo, plain_info}
+use Rattle.bpaf_keys.specs.Info.{RunInfo, plain_info}
 use Rattle.bpaf_core.specs.declared.repeat.ParseMany.{ParseMany}
 use Rattle.bpaf_core.specs.Known.{known_names}
 use Rattle.bpaf.specs.declared.leaves.positional.ParsePositional.{ParsePositional}

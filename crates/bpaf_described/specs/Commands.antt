@@ -11,7 +11,7 @@ use Rattle.bpaf_core.specs.Adjacent.{EitherCommandOutcome, EitherCommandReads}
 use Rattle.bpaf_core.specs.AdjacentLaws.{either_lawful}
 use Rattle.bpaf_core.specs.Ending.{Ending, EndsRun}
 use Rattle.bpaf_core.specs.EndingLaws.{run_ending}
-use Rattle.bpaf_parts.specs.Info.{plain_info}
+use Rattle.bpaf_keys.specs.Info.{plain_info}
 use Rattle.bpaf_described.specs.declared.value.Value.{Value}
 
 -- how the run of such a command ends: nothing is set beside its parser

@@ -4,13 +4,13 @@ use crate::meta::Meta;
 use bpaf_base::Text;
 
 /// What stands for a value in usage and messages, such as `NUM`.
-#[derive(Clone, Copy, Debug)]
+#[derive(Clone, Copy)]
 pub struct Metavar(pub &'static str);
 
 /// The names by which a key is shown: the first short one, the first long one, or both.
 ///
 /// Unlike in bpaf it holds its long name, so it is not `Copy`.
-#[derive(Debug, Drop)]
+#[derive(Drop)]
 pub enum ShortLong {
     /// A short name alone.
     Short(char),
@@ -25,7 +25,6 @@ pub enum ShortLong {
 /// `shorts` are all its short names, hidden aliases too; `env` is the environment variable that
 /// stands for it, and `help` what is said of it.
 #[cycle(meta)]
-#[derive(Debug)]
 pub enum Item {
     /// A word that a test of the program's own accepts; `anywhere` where it may stand behind
     /// others.

@@ -8,7 +8,6 @@ use std::alloc::{AllocError, Global};
 
 /// What a parser shows of itself: a tree of items (bpaf's `Meta`).
 #[cycle(meta)]
-#[derive(Debug)]
 pub enum Meta {
     /// All members, in order.
     And(Vec<Meta>),

@@ -24,12 +24,23 @@ const SHORT_LINE: usize = 32;
 /// name of the line has a class of its own.
 ///
 /// Contracts see the classes, the beginnings and the names (`Chained`).
-#[derive(Drop)]
 pub struct Chains {
     classes: RcSlice<usize>,
     next: RcSlice<usize>,
     names: Rc<NameClasses>,
     heads: Vec<usize>,
+}
+
+/// One call, so that a function that drops a state isn't checked for each part of it.
+impl Drop for Chains {
+    fn drop(self) {
+        let Chains {
+            classes: _classes,
+            next: _next,
+            names: _names,
+            heads: _heads,
+        } = self;
+    }
 }
 
 impl Model for Chains {

@@ -31,11 +31,21 @@ const SPARE_CLASSES: usize = 256;
 /// A short name of ASCII has one of its own, and so has each other one. A long name has the first
 /// class of its numbers that a place with this name owns; where all are those of other names, it is
 /// kept in order, with a class of its own.
-#[derive(Drop)]
 pub(crate) struct NameClasses {
     owners: Vec<usize>,
     wide: BTreeMap<char, usize>,
     others: BTreeMap<String, usize>,
+}
+
+/// One call, as of the chains.
+impl Drop for NameClasses {
+    fn drop(self) {
+        let NameClasses {
+            owners: _owners,
+            wide: _wide,
+            others: _others,
+        } = self;
+    }
 }
 
 /// Who owns the class of a number, for a name: a place with this name, no place, or one with

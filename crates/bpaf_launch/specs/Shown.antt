@@ -7,7 +7,7 @@ use Rattle.bpaf_doc.specs.Shape.{Shape, And, Many, Optional, members}
 use Rattle.bpaf_text.specs.Named.{key_named, with_help}
 use Rattle.bpaf_line.specs.declared.failure.ParseFailure.{ParseFailure}
 use Rattle.bpaf_laws.specs.Flag.{flag_shape}
-use Rattle.bpaf_parts.specs.Info.{plain_info}
+use Rattle.bpaf_keys.specs.Info.{plain_info}
 use Rattle.bpaf.specs.Asked.{IfShown, WasAsked}
 use Rattle.bpaf.specs.declared.leaves.positional.Position.TheVariants.{Strict, NonStrict}
 use Rattle.bpaf.specs.Positional.{positional_shape}

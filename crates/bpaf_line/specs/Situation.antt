@@ -2,7 +2,7 @@
 -- The layers above speak by `item_at`, `is_taken`, `conflict_at`, `in_scope`, `is_open`,
 -- `open_count` and the steps `take_place`, `with_scope`, `with_path`, `with_current`, `beginning`
 -- alone; how what is taken is kept is this crate's own affair.
-use Rattle.std.specs.Prelude.{ℕ, ◌≡◌, ◌+◌, ◌<◌, ◌≤◌, ◌==◌, Bool, true, false, not, ◌&&◌, ◌||◌, List}
+use Rattle.std.specs.Prelude.{ℕ, ◌≡◌, ◌<◌, ◌≤◌, ◌==◌, Bool, true, false, not, ◌&&◌, ◌||◌, List}
 use Rattle.std.specs.Prelude.{[], ◌∷◌, ◌++◌, length, take, Option, Some, None, nat_lt}
 use Rattle.std.specs.Prelude.{nat_le, if◌then◌else◌, slice_get, slice_index, option_to_list}
 use Rattle.std.specs.Prelude.{option_map, find, reverse}

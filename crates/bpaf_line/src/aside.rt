@@ -6,7 +6,7 @@ use crate::state::lies_within;
 
 /// The places of a scope, how many were present there and which first, when so many places were
 /// taken.
-#[derive(Clone, Copy, Debug)]
+#[derive(Clone, Copy)]
 pub(crate) struct Aside {
     pub(crate) start: usize,
     pub(crate) end: usize,

@@ -13,7 +13,7 @@ use std::alloc::{AllocError, AllocFailed};
 ///
 /// A place is that of an item in the line. bpaf keeps some of the texts as `&'static str`, here
 /// each is a [`Text`].
-#[derive(Debug, Drop)]
+#[derive(Drop)]
 pub enum Message {
     /// Memory was wanted and refused. bpaf has no such case.
     Memory,
@@ -61,7 +61,7 @@ pub enum Message {
 }
 
 /// A refusal of a parser (bpaf's `Error`).
-#[derive(Debug, Drop)]
+#[derive(Drop)]
 pub struct Error(pub Message);
 
 impl Message {

@@ -16,7 +16,7 @@ use std::marker::Model;
 
 /// How far a parse was: how many places were taken and how many conflicts and names were put down,
 /// with the scope and the current place.
-#[derive(Clone, Copy, Debug)]
+#[derive(Clone, Copy)]
 pub struct Mark {
     pub(crate) taken: usize,
     pub(crate) conflicts: usize,
@@ -29,7 +29,6 @@ pub struct Mark {
 /// What a parse did since a mark, in order, with the scope and the current place that it left.
 ///
 /// Contracts see it as `Changes`.
-#[derive(Drop)]
 pub struct Steps {
     pub(crate) taken: TakenPlaces,
     pub(crate) conflicts: Vec<(usize, usize)>,
@@ -37,6 +36,20 @@ pub struct Steps {
     pub(crate) start: usize,
     pub(crate) end: usize,
     pub(crate) current: Option<usize>,
+}
+
+/// One call, as of a tree of items.
+impl Drop for Steps {
+    fn drop(self) {
+        let Steps {
+            taken: _taken,
+            conflicts: _conflicts,
+            path: _path,
+            start: _,
+            end: _,
+            current: _,
+        } = self;
+    }
 }
 
 impl Model for Steps {
@@ -109,20 +122,13 @@ impl State {
         ensures marks { KeepsMarks self.old self.new }
         ensures err { OnErr result (self.new ≡ self.old) }
     {
-        let Steps {
-            taken,
-            mut conflicts,
-            mut path,
-            start,
-            end,
-            current,
-        } = steps;
-        self.conflicts.reserve(conflicts.len())?;
-        self.path.append(&mut path)?;
-        self.conflicts.append(&mut conflicts)?;
-        self.put_all(taken.as_slice());
-        self.restore_scope(start, end);
-        self.current = current;
+        let mut steps = steps;
+        self.conflicts.reserve(steps.conflicts.len())?;
+        self.path.append(&mut steps.path)?;
+        self.conflicts.append(&mut steps.conflicts)?;
+        self.put_all(steps.taken.as_slice());
+        self.restore_scope(steps.start, steps.end);
+        self.current = steps.current;
         Ok(())
     }
 

@@ -9,7 +9,7 @@ use std::ops::Range;
 
 /// An item that a parser looked for in vain, the place from which it looked, and the scope in which
 /// it looked (bpaf's `MissingItem`).
-#[derive(Debug, Drop)]
+#[derive(Drop)]
 pub struct MissingItem {
     pub item: Item,
     pub position: usize,
@@ -20,7 +20,7 @@ pub struct MissingItem {
 ///
 /// bpaf has a `Vec` in its place; contracts see this list without its room, and compare it by what
 /// its items are seen as (`missed_of`, specs/Missing.antt).
-#[derive(Debug, Drop)]
+#[derive(Drop)]
 pub struct MissingItems {
     items: Vec<MissingItem>,
 }

@@ -1,4 +1,1 @@
 pub mod Branching
-pub mod Looking
-pub mod Opening
-pub mod ExtraLaws

@@ -1,6 +1,2 @@
-pub mod Info
-pub mod KnownNames
-pub mod Extra
-pub mod Version
 pub mod Failures
 pub mod Branches

@@ -11,7 +11,7 @@ use std::alloc::AllocError;
 /// Where branches begin: the mark of that situation, and how many items are present in it.
 ///
 /// It is public for choices in the crates of this repository, not for callers.
-#[derive(Clone, Copy, Debug)]
+#[derive(Clone, Copy)]
 pub struct Start {
     pub mark: Mark,
     pub left: usize,

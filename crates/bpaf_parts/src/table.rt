@@ -53,14 +53,19 @@ pub fn this_or_that<T: Drop>(
         return resume_with(state, start.mark, this.steps, first);
     }
     if this.depth < state.depth() {
+        drop(this);
         drop(first);
         return second;
     }
     match (first, second) {
         (Ok(x), Ok(y)) => value_of_both(state, start, x, this, y),
         (Ok(x), Err(error)) => value_of_first(state, start, x, this, error),
-        (Err(error), Ok(y)) => value_of_second(state, start, y, error),
+        (Err(error), Ok(y)) => {
+            drop(this);
+            value_of_second(state, start, y, error)
+        }
         (Err(error), Err(other)) => {
+            drop(this);
             state.undo(start.mark);
             Err(error.combine_with(other))
         }

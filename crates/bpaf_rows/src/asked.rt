@@ -20,8 +20,15 @@ fn asked(
 ) -> Result<Option<ExtraParams>, AllocError> {
     let info = info?;
     match State::construct(alloc, Args::from(words), &['h', 'V'], &[]) {
-        Ok(mut state) => known(info.eval(&mut state)),
-        Err(_) => Ok(None),
+        Ok(mut state) => {
+            let extra = info.eval(&mut state);
+            drop(state);
+            known(extra)
+        }
+        Err(refused) => {
+            drop(refused);
+            Ok(None)
+        }
     }
 }
 

@@ -183,8 +183,15 @@ fn conflict(
     words: &[&str],
 ) -> Result<(Option<u64>, Option<(usize, usize)>), AllocError> {
     match State::construct(alloc, Args::from(words), &[], &['a', 'b']) {
-        Ok(mut state) => conflict_in(alloc, &mut state),
-        Err(_) => Ok((None, None)),
+        Ok(mut state) => {
+            let found = conflict_in(alloc, &mut state);
+            drop(state);
+            found
+        }
+        Err(refused) => {
+            drop(refused);
+            Ok((None, None))
+        }
     }
 }
 

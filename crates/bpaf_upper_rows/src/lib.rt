@@ -1,12 +1,9 @@
-//! The rows of what stands above `bpaf`, as tests: flat records, batteries and the ends of
-//! programs.
+//! The rows of flat records and of the ends of programs, as tests.
 //!
-//! It stands on `bpaf_program`, `bpaf_record`, `bpaf_batteries` and `bpaf`. Nothing stands on this
-//! crate: one with tests is proved twice. docs/ROWS.md names each row and its test.
+//! It stands on `bpaf_program`, `bpaf_record` and `bpaf`. Nothing stands on this crate: one with
+//! tests is proved twice. docs/ROWS.md names each row and its test.
 #![tactic(auto)]
 
-#[cfg(test)]
-mod batteries;
 #[cfg(test)]
 mod numbers;
 #[cfg(test)]

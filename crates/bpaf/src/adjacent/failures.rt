@@ -78,9 +78,16 @@ impl Remembered {
             drop(error);
             return Ok(());
         }
-        let steps = state.steps(mark)?;
-        self.replace(Failed { error, steps }, left);
-        Ok(())
+        match state.steps(mark) {
+            Ok(steps) => {
+                self.replace(Failed { error, steps }, left);
+                Ok(())
+            }
+            Err(refused) => {
+                drop(error);
+                Err(Error::from(refused))
+            }
+        }
     }
 
     /// The failure, and where it led; without one that the first item is missing.

@@ -94,8 +94,14 @@ pub(super) fn search<T: Drop, P: Parser<T>>(
         from = places.start + 1;
         match try_at(parser, state, places.start, places.end, &mut best) {
             Ok(None) => {}
-            Ok(Some(value)) => return Ok(value),
-            Err(error) => return Err(error),
+            Ok(Some(value)) => {
+                drop(best);
+                return Ok(value);
+            }
+            Err(error) => {
+                drop(best);
+                return Err(error);
+            }
         }
     }
     Err(best.end(state, first))

@@ -5,7 +5,7 @@ use bpaf_line::{Error, State};
 use std::alloc::{AllocError, Global};
 
 /// The name by which the program is called (bpaf's `ParseAppname`, in `lib.rs`).
-#[derive(Clone, Copy, Debug)]
+#[derive(Clone, Copy)]
 pub struct ParseAppname;
 
 /// A parser that looks at no item and answers the name by which the program is called (bpaf's

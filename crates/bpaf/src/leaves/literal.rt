@@ -11,7 +11,7 @@ use bpaf_line::{Error, State};
 use std::alloc::{AllocError, Global};
 
 /// An item of one text (bpaf's `ParseAny<()>` of `literal`).
-#[derive(Debug, Drop)]
+#[derive(Drop)]
 pub struct ParseLiteral {
     /// The text.
     pub text: Text,

@@ -12,7 +12,7 @@ use std::alloc::{AllocError, Global};
 use std::marker::PhantomData;
 
 /// On which side of `--` a positional word may stand (bpaf's `Position`, in `params.rs`).
-#[derive(Clone, Copy, Debug)]
+#[derive(Clone, Copy)]
 pub enum Position {
     /// On either side.
     Unrestricted,
@@ -36,7 +36,6 @@ impl Position {
 }
 
 /// What the first word that is no option means (bpaf's `ParsePositional`, in `params.rs`).
-#[derive(Debug)]
 pub struct ParsePositional<T> {
     /// What stands for the word where it is shown.
     pub metavar: Metavar,

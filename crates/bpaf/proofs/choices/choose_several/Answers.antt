@@ -1,9 +1,10 @@
-use Rattle.std.proofs.Common.{◌≡◌, ◌+◌, ◌++◌, ◌∷◌, [], take, sym, ◌∙◌, subst, refl}
+use Rattle.std.proofs.Common.{◌≡◌, ◌+◌, ◌++◌, ◌∷◌, [], take, Err, ap, sym, ◌∙◌, subst, refl}
 use Rattle.std.proofs.lemmas.List.{take_more}
+use Rattle.bpaf_line.specs.Messages.{is_memory}
 use Rattle.bpaf_laws.specs.Choice.{ChoiceOutcome}
 use Rattle.bpaf_laws.specs.Choices.{Nested}
 use Rattle.bpaf_laws.proofs.ChoicesLaws.{from_lawful}
-use Rattle.bpaf_laws.proofs.ChoosingAll.{one_more, wants, want_of}
+use Rattle.bpaf_laws.proofs.ChoosingAll.{one_more, wants}
 use Rattle.bpaf_laws.proofs.Keeping.{keeps_of}
 use Rattle.bpaf_core.specs.Branches.{LedTo}
 use Rattle.bpaf_core.proofs.Branching.{start_back, start_kept, second_keeps, branch_kept}
@@ -57,8 +58,8 @@ leave-requires g c =
     (keeps_of law s c.loop-parser.answer c.loop-parser.state c.loop-parser.invariant).marks in
     (start_kept s start begins back c.loop-parser.state keeps).fits
 
-pub returns-in_err-this : goal.returns-in_err-this
-returns-in_err-this g c =
+pub returns-in-Err : goal.returns-in-Err
+returns-in-Err g c =
     let s = c.args.state.now in
     let start = c.of-start.result in
     let begins = c.of-start.ensures.start in
@@ -70,11 +71,11 @@ returns-in_err-this g c =
     let keeps =
     (keeps_of law s c.loop-parser.answer c.loop-parser.state c.loop-parser.invariant).marks in
     subst (λ u. Nested ChoiceOutcome g.P.Parser.outcome (g.P.Parser.outcome c.args.first.now)
-    c.args.rest.now s c.from_residual.result u)
+    c.args.rest.now s (Err c.from.result) u)
     (sym (c.leave.ensures.back ∙ start_back s start begins back c.loop-parser.state keeps))
-    (wants g.P.Parser.outcome (g.P.Parser.outcome c.args.first.now) s c.from_residual.result
+    (wants g.P.Parser.outcome (g.P.Parser.outcome c.args.first.now) s (Err c.from.result)
     c.args.rest.now
-    c.requires.several (want_of c.from_residual.result c.from_residual.ensures.1))
+    c.requires.several (ap is_memory c.from.ensures))
 
 pub undo-requires-then-is_want-2 : goal.undo-requires-then-is_want-2
 undo-requires-then-is_want-2 g c =
@@ -144,9 +145,9 @@ this_or_that-answer-requires-clause-this g c =
     second_keeps s start begins back law (g.met.P.Parser.lawful c.parser-item.result)
     c.loop-parser.answer c.loop-parser.state c.leave.new.state c.eval-other.result
     c.eval-other.new.state c.loop-parser.invariant c.leave.ensures.back c.eval-other.ensures in
-    let led = subst (λ o. LedTo c.in_ok-this.this o c.loop-parser.state) both.0
-    c.in_ok-this.ensures.left in
-    branch_kept s start begins back c.in_ok-this.this c.loop-parser.state c.eval-other.new.state
+    let led = subst (λ o. LedTo c.in-Ok.this o c.loop-parser.state) both.0
+    c.in-Ok.ensures.left in
+    branch_kept s start begins back c.in-Ok.this c.loop-parser.state c.eval-other.new.state
     led both.1
 
 pub loop-parser-preserved : goal.loop-parser-preserved
@@ -163,8 +164,8 @@ loop-parser-preserved g c =
     second_keeps s start begins back law (g.met.P.Parser.lawful c.parser-item.result)
     c.loop-parser.answer c.loop-parser.state c.leave.new.state c.eval-other.result
     c.eval-other.new.state c.loop-parser.invariant c.leave.ensures.back c.eval-other.ensures in
-    let led = subst (λ o. LedTo c.in_ok-this.this o c.loop-parser.state) both.0
-    c.in_ok-this.ensures.left in
+    let led = subst (λ o. LedTo c.in-Ok.this o c.loop-parser.state) both.0
+    c.in-Ok.ensures.left in
     let i = c.loop-parser.parser-index in
     let more : take (i + 1) c.args.rest.now ≡ take i c.args.rest.now ++ c.parser-item.result ∷ [] =
     take_more c.args.rest.now i c.parser-item.result c.loop-parser-test.true
@@ -174,7 +175,7 @@ loop-parser-preserved g c =
     c.eval-other.new.state)
     both.0 c.eval-other.ensures in
     let chosen =
-    chosen_kept s start begins back c.in_ok-this.this c.loop-parser.state c.eval-other.new.state led
+    chosen_kept s start begins back c.in-Ok.this c.loop-parser.state c.eval-other.new.state led
     both.1 c.loop-parser.answer c.eval-other.result c.this_or_that-answer.result
     c.this_or_that-answer.new.state c.this_or_that-answer.ensures in
     let all =

@@ -1,5 +1,5 @@
 use Rattle.std.proofs.Common.{◌∙◌, Some, ap, sym}
-use Rattle.bpaf_parts.specs.Info.{RunInfo, short_descr}
+use Rattle.bpaf_keys.specs.Info.{RunInfo, short_descr}
 use Rattle.bpaf_chain.proofs.steps.chained.Goals as goal
 
 pub returns-clause-help : goal.returns-clause-help

@@ -1,6 +1,6 @@
 use Rattle.std.proofs.Common.{◌≡◌, map, rules, string_bytes}
 use Rattle.bpaf_words.specs.Arguments.{given_of}
-use Rattle.bpaf_parts.specs.Info.{plain_info}
+use Rattle.bpaf_keys.specs.Info.{plain_info}
 use Rattle.bpaf_program.proofs.Commands.{choice_hands, hands_as, hands_asked, hands_dealt}
 use Rattle.bpaf_program.proofs.Commands.{many_hands}
 use Rattle.bpaf_chain.specs.Dealing.{program_given}

@@ -1,7 +1,7 @@
 use Rattle.std.proofs.Common.{◌≡◌, codes, false, map, refl, rules, string_bytes}
 use Rattle.bpaf_words.specs.Arguments.{given_of}
 use Rattle.bpaf_text.specs.Meaning.{SpellsUnsigned}
-use Rattle.bpaf_parts.specs.Info.{plain_info}
+use Rattle.bpaf_keys.specs.Info.{plain_info}
 use Rattle.bpaf.specs.declared.leaves.positional.Position.TheVariants.{Unrestricted}
 use Rattle.bpaf_program.specs.Fields.{HasArgument, HasSwitch, HasWord}
 use Rattle.bpaf_program.specs.Values.{MeansText}

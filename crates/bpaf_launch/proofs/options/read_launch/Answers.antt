@@ -1,6 +1,6 @@
 use Rattle.std.proofs.Common.{◌≡◌, codes, map, refl, rules, string_bytes}
 use Rattle.bpaf_words.specs.Arguments.{given_of}
-use Rattle.bpaf_parts.specs.Info.{plain_info}
+use Rattle.bpaf_keys.specs.Info.{plain_info}
 use Rattle.bpaf.specs.declared.leaves.positional.Position.TheVariants.{Strict, NonStrict}
 use Rattle.bpaf_program.specs.Fields.{HasSwitch, HasWord}
 use Rattle.bpaf_program.specs.Values.{MeansText}

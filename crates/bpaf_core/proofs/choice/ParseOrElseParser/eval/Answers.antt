@@ -1,11 +1,66 @@
-use Rattle.std.proofs.Common.{sym, ◌∙◌, subst}
+use Rattle.std.proofs.Common.{◌≡◌, ap, inr, sym, ◌∙◌, subst}
+use Rattle.bpaf_line.specs.Marks.{KeepsMarks, undone}
+use Rattle.bpaf_line.specs.Messages.{is_memory}
 use Rattle.bpaf_laws.specs.Choice.{ChoiceOutcome}
 use Rattle.bpaf_laws.proofs.Choosing.{ran_outcome, choice_spared, want_outcome, want_leftmost}
+use Rattle.bpaf_laws.proofs.Keeping.{keeps_of}
 use Rattle.bpaf_laws.proofs.Leftmost.{leftmost_is_chosen}
 use Rattle.bpaf_parts.specs.Branches.{LedTo}
 use Rattle.bpaf_parts.proofs.Branching.{start_back, start_kept, second_keeps, branch_kept}
 use Rattle.bpaf_parts.proofs.Branching.{chosen_kept}
 use Rattle.bpaf_core.proofs.choice.ParseOrElseParser.eval.Goals as goal
+
+-- want of memory of the first branch is the answer, where all is as before
+pub returns-then-is_want-clause-outcome : goal.returns-then-is_want-clause-outcome
+returns-then-is_want-clause-outcome g c =
+    let s = c.args.state.now in
+    let kept = keeps_of (g.met.A.Parser.lawful c.args.self.now.this) s c.eval-first.result
+    c.eval-first.new.state c.eval-first.ensures in
+    want_outcome (g.A.Parser.outcome c.args.self.now.this) (g.B.Parser.outcome c.args.self.now.that)
+    s c.eval-first.result c.undo.new.self (sym c.is_want.ensures ∙ c.if-is_want.true)
+    (c.undo.ensures.undone ∙ start_back s c.of-start.result c.of-start.ensures.start
+    c.of-start.ensures.back c.eval-first.new.state kept.marks)
+
+pub returns-then-is_want-clause-leftmost_wins : goal.returns-then-is_want-clause-leftmost_wins
+returns-then-is_want-clause-leftmost_wins g c =
+    let s = c.args.state.now in
+    let kept = keeps_of (g.met.A.Parser.lawful c.args.self.now.this) s c.eval-first.result
+    c.eval-first.new.state c.eval-first.ensures in
+    want_leftmost (g.A.Parser.outcome c.args.self.now.this)
+    (g.B.Parser.outcome c.args.self.now.that)
+    s c.eval-first.result c.undo.new.self (sym c.is_want.ensures ∙ c.if-is_want.true)
+    (c.undo.ensures.undone ∙ start_back s c.of-start.result c.of-start.ensures.start
+    c.of-start.ensures.back c.eval-first.new.state kept.marks)
+
+pub returns-then-is_want-clause-memory_is_never_caught :
+    goal.returns-then-is_want-clause-memory_is_never_caught
+returns-then-is_want-clause-memory_is_never_caught g c =
+    choice_spared (g.A.Parser.outcome c.args.self.now.this)
+    (g.B.Parser.outcome c.args.self.now.that) c.args.state.now c.undo.new.self
+    c.eval-first.result (returns-then-is_want-clause-outcome g c)
+
+-- so is want of memory for the steps of the first branch
+pub returns-in-Err-clause-outcome : goal.returns-in-Err-clause-outcome
+returns-in-Err-clause-outcome g c =
+    let s = c.args.state.now in
+    let kept = keeps_of (g.met.A.Parser.lawful c.args.self.now.this) s c.eval-first.result
+    c.eval-first.new.state c.eval-first.ensures in
+    inr (
+      ap is_memory c.from.ensures,
+      c.leave.ensures.back ∙ start_back s c.of-start.result c.of-start.ensures.start
+          c.of-start.ensures.back c.eval-first.new.state kept.marks,
+    )
+
+pub returns-in-Err-clause-leftmost_wins : goal.returns-in-Err-clause-leftmost_wins
+returns-in-Err-clause-leftmost_wins g c =
+    let s = c.args.state.now in
+    let kept = keeps_of (g.met.A.Parser.lawful c.args.self.now.this) s c.eval-first.result
+    c.eval-first.new.state c.eval-first.ensures in
+    inr (
+      ap is_memory c.from.ensures,
+      c.leave.ensures.back ∙ start_back s c.of-start.result c.of-start.ensures.start
+          c.of-start.ensures.back c.eval-first.new.state kept.marks,
+    )
 
 pub undo-requires-then-is_want-2 : goal.undo-requires-then-is_want-2
 undo-requires-then-is_want-2 g c =
@@ -55,6 +110,13 @@ returns-then-is_want-2-clause-leftmost_wins g c =
     (sym c.is_want-2.ensures ∙ c.if-is_want-2.true)
     (c.undo-then-is_want-2.ensures.undone
     ∙ start_back s start begins back c.eval-second.new.state both.1)
+
+pub returns-then-is_want-2-clause-memory_is_never_caught :
+    goal.returns-then-is_want-2-clause-memory_is_never_caught
+returns-then-is_want-2-clause-memory_is_never_caught g c =
+    choice_spared (g.A.Parser.outcome c.args.self.now.this)
+    (g.B.Parser.outcome c.args.self.now.that) c.args.state.now c.undo-then-is_want-2.new.self
+    c.eval-second.result (returns-then-is_want-2-clause-outcome g c)
 
 pub this_or_that-requires-clause-start : goal.this_or_that-requires-clause-start
 this_or_that-requires-clause-start g c =

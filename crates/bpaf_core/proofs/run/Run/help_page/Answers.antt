@@ -2,8 +2,8 @@ use Rattle.std.proofs.Common.{Result, Ok, Err, IfOk, subst}
 use Rattle.bpaf_pages.specs.Help.{help_text}
 use Rattle.bpaf_doc.specs.Prints.{Prints}
 use Rattle.bpaf_doc.specs.Shape.{shape_of}
-use Rattle.bpaf_parts.specs.Extra.{extra_shape}
-use Rattle.bpaf_parts.specs.Info.{page_texts}
+use Rattle.bpaf_keys.specs.Extra.{extra_shape}
+use Rattle.bpaf_keys.specs.Info.{page_texts}
 use Rattle.bpaf_core.proofs.run.Run.help_page.Goals as goal
 
 -- what follows of a value is said of an answer

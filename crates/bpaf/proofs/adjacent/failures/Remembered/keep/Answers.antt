@@ -7,10 +7,10 @@ returns-then-self-left-clause-ok c =
     c.requires.sound c.args.start c.args.end c.count_present-left.result c.requires.start
     c.requires.end c.count_present-left.ensures.count c.if-self-left.true
 
-pub returns-clause-ok : goal.returns-clause-ok
-returns-clause-ok c =
+pub returns-in-Ok-clause-ok : goal.returns-in-Ok-clause-ok
+returns-in-Ok-clause-ok c =
     now_remembered c.args.mark.now c.args.state.now c.count_present-left.new.state
     c.count_present-left.ensures.same c.requires.keeps c.args.self.now c.args.error
     c.requires.sound c.args.start c.args.end c.count_present-left.result c.requires.start
-    c.requires.end c.count_present-left.ensures.count c.if-self-left.false c.in_ok-steps.steps
-    c.in_ok-steps.ensures.fit c.in_ok-steps.ensures.again c.replace.new.self c.replace.ensures
+    c.requires.end c.count_present-left.ensures.count c.if-self-left.false c.in-Ok.steps
+    c.in-Ok.ensures.fit c.in-Ok.ensures.again c.replace.new.self c.replace.ensures

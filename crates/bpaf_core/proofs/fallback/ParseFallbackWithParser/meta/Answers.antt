@@ -1,0 +1,7 @@
+use Rattle.bpaf_core.proofs.Shown.{default_shown}
+use Rattle.bpaf_core.proofs.fallback.ParseFallbackWithParser.meta.Goals as goal
+
+pub returns : goal.returns
+returns g c =
+    default_shown (g.P.Parser.describes c.args.self.now.inner) _ _ c.default_meta.result
+    c.in_ok-meta.ensures c.default_meta.ensures

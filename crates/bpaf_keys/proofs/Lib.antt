@@ -1,0 +1,3 @@
+pub mod Looking
+pub mod Opening
+pub mod ExtraLaws

@@ -1,0 +1,17 @@
+use Rattle.std.proofs.Common.{◌++◌, ◌∷◌, [], refl}
+use Rattle.bpaf_laws.proofs.KeysTaken.{pair_fewer, texts_more}
+use Rattle.bpaf_keys.proofs.environment.take_all_keys.Goals as goal
+
+pub loop-last-smaller : goal.loop-last-smaller
+loop-last-smaller g c =
+    pair_fewer c.args.argument.now c.loop-last.state c.in-Some.text
+    c.take_first_key.new.state (rw c.in-Some.is at c.in_ok-text.ensures)
+
+pub loop-last-preserved : goal.loop-last-preserved
+loop-last-preserved g c =
+    let run = c.loop-last.invariant in (
+      run.0 ++ c.in-Some.text ∷ [],
+      texts_more c.args.argument.now c.args.state.now c.loop-last.state c.take_first_key.new.state
+          run.0 c.in-Some.text run.1 (rw c.in-Some.is at c.in_ok-text.ensures),
+      (run.0, refl),
+    )

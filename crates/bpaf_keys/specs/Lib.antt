@@ -1,0 +1,4 @@
+pub mod Info
+pub mod KnownNames
+pub mod Extra
+pub mod Version

@@ -1,0 +1,26 @@
+//! Keys: what a run and a command are asked by, and how a key is taken.
+//!
+//! It stands on the definitions of `bpaf_laws`, on the pages of `bpaf_pages` and on what these
+//! speak of. It calls no parser, and nothing of `bpaf_parts`, which stands beside it. For the
+//! layer of parsers above, which hands on what programs need of it:
+//!
+//! - [`Info`] is what a run knows beside its parser: the keys that ask for help and for the
+//!   version, which [`Info::look`] looks for (specs/Extra.antt), and the texts of the help page
+//!   (specs/Info.antt, specs/Version.antt).
+//! - [`CommandNames`] are the names of a command; [`CommandNames::open`] takes its word.
+//! - [`is_present`] is the one test for flags; [`take_argument`] takes the text of an argument;
+//!   [`first_set`] and [`absence`] tell of names in the environment.
+//! - [`renamed`] is what a run is given, by another name.
+//!
+//! The source of the design is bpaf's `info.rs` and `params.rs`.
+#![tactic(auto)]
+
+mod environment;
+mod given;
+mod info;
+mod names;
+
+pub use environment::{absence, first_set, is_present, take_argument};
+pub use given::renamed;
+pub use info::{ExtraParams, Info, version_page};
+pub use names::CommandNames;
