@@ -36,7 +36,6 @@ pub(crate) fn parse_option<T: Drop, P: Parser<T>>(
             let untouched = state.len() == left;
             if stops_step(catches, &error.0, untouched) {
                 state.undo(mark);
-                drop(error);
                 Ok(None)
             } else {
                 Err(error)
