@@ -1,11 +1,10 @@
 -- Choices of any number of parsers: one parser after another.
-use Rattle.std.proofs.Common.{◌≡◌, true, false, List, [], ◌∷◌, ◌++◌, Result, Ok, Err, IsErrAnd}
-use Rattle.std.proofs.Common.{length, ◌==◌, ◌⊎◌, refl, sym, ap, subst, inl, inr, ⊎_elim, true≢false}
+use Rattle.std.proofs.Common.{◌≡◌, true, false, List, [], ◌∷◌, ◌++◌, Result, Ok, Err}
+use Rattle.std.proofs.Common.{length, ◌==◌, ◌⊎◌, refl, sym, subst, inl, inr, ⊎_elim, true≢false}
 use Rattle.bpaf_doc.specs.Shape.{Shape}
 use Rattle.bpaf_line.specs.Messages.{is_memory}
 use Rattle.bpaf_line.specs.Situation.{Situation}
 use Rattle.bpaf_line.specs.declared.error.Error.{Error}
-use Rattle.bpaf_line.specs.declared.error.Message.TheVariants.{Memory}
 use Rattle.bpaf_laws.specs.Reading.{Outcome}
 use Rattle.bpaf_laws.specs.Spared.{IsNotMemory, WithoutMemory}
 use Rattle.bpaf_laws.specs.Choice.{is_want, IsWant, Chosen, BranchesEval, ChoiceOutcome}
@@ -49,11 +48,6 @@ module _ {T P : Type 0} (outcome : P → Outcome T) where
   wants before s (Err e) [] some want = absurd (true≢false some)
   wants before s (Err e) (p ∷ ps) some want =
       want_of_later (ChoiceOutcome before (outcome p)) s e ps want (inr (want, refl))
-
--- a refused growth is want of memory
-pub want_of : {T : Type 0} (r : Result T Error) → IsErrAnd r (λ e. e.0 ≡ Memory) → is_want r ≡ true
-want_of (Ok v) refused = absurd refused
-want_of (Err e) refused = ap is_memory refused
 
 -- one more parser is shown
 pub one_more_shown : {P : Type 0} (describes : P → Shape → Type 0) (before : Shape → Type 0)
