@@ -1,17 +1,7 @@
 //! The options of the bench itself.
 use bpaf::{Args, Doc, ParseFailure, Parser, construct, long, positional};
+use bpaf_row_files::Options;
 use std::alloc::Global;
-
-/// What the program is asked for.
-#[derive(Drop)]
-pub struct Options {
-    /// Whether every answer is printed.
-    pub all: bool,
-    /// How many beginnings of each row are run too, from the empty one on.
-    pub beginnings: u64,
-    /// The files; without one standard input is read.
-    pub files: Vec<String>,
-}
 
 /// The options that the words give; refused where they give none, or for want of memory.
 pub fn read_options(alloc: Global, words: &[String]) -> Result<Options, ParseFailure> {

@@ -1,7 +1,8 @@
 -- How the answers of a run are put together.
 use Rattle.std.proofs.Common.{◌≡◌, ◌==◌, ℕ, ◌<◌, Bool, true, false, List, [], ◌∷◌, ◌++◌, Option}
 use Rattle.std.proofs.Common.{IfSome, length, ap, Result, Ok, Err, ⊎_elim, ◌∙◌, inl, inr, subst}
-use Rattle.std.proofs.Common.{sym, refl}
+use Rattle.std.proofs.Common.{sym, refl, IsErrAnd}
+use Rattle.std.specs.Result.{IfErr}
 use Rattle.std.proofs.lemmas.Bool.Decides.{nat_tests}
 use Rattle.std.proofs.Common.{arith}
 use Rattle.bpaf_line.specs.declared.error.Message.{Message}
@@ -28,6 +29,7 @@ use Rattle.bpaf_words.specs.declared.line.LineFault.TheVariants as fault
 use Rattle.bpaf_messages.specs.Rendering.{Renders}
 use Rattle.bpaf_core.specs.Ending.{EndsRun, TellsNoLine}
 use Rattle.bpaf_core.specs.Run.{Runs, RunsWords, ran, no_line, no_memory}
+use Rattle.bpaf_core.specs.Refusals.{IsOneOfTwelve, without_memory}
 
 -- a count that was tested for nothing
 pub nothing_left : (n : ℕ) (empty : Bool) → empty ≡ (n == 0) → empty ≡ true → n ≡ 0
@@ -198,3 +200,18 @@ module _ {T : Type 0} {inner : Outcome T} {describes : Shape → Type 0} {info :
         told_line (Ambiguity word number) f refuses context empty named told =
             no_line refuses.0 word number context f refuses.1 refuses.2 empty named told
         told_line other f refuses context empty named told = absurd refuses
+
+    -- want of memory before the run
+    pub want_runs : (r : Result T ParseFailure) → IsErrAnd r (λ f. f ≡ failure.Memory)
+        → RunsWords T inner describes info given r
+    want_runs (Ok v) wanted = absurd wanted
+    want_runs (Err f) wanted =
+        subst (λ x. RunsWords T inner describes info given (Err x)) (sym wanted) no_memory
+
+-- it is one of the twelve
+pub want_named : {T : Type 0} (inner : Outcome T) (describes : Shape → Type 0) (info : RunInfo)
+    (given : Given) (r : Result T ParseFailure) → IsErrAnd r (λ f. f ≡ failure.Memory)
+    → IfErr r (IsOneOfTwelve inner describes info given)
+want_named inner describes info given (Ok v) wanted = absurd wanted
+want_named inner describes info given (Err f) wanted =
+    subst (IsOneOfTwelve inner describes info given) (sym wanted) without_memory

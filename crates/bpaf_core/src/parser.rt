@@ -1,7 +1,13 @@
 //! The trait of all parsers: what one answers, what it shows, and its laws.
 ghost use Rattle.std.specs.Prelude.{◌≡◌, IfOk, false, Some, None};
+ghost use Rattle.std.specs.Result.{IfErr};
 ghost use Rattle.bpaf_doc.specs.Shape.{shape_of};
+ghost use Rattle.bpaf_words.specs.Arguments.{given_of};
+ghost use Rattle.bpaf_laws.specs.Spared.{WithoutMemory};
 ghost use Rattle.bpaf_keys.specs.Info.{plain_info};
+ghost use Rattle.bpaf_core.specs.Dealt.{IsDealtOut};
+ghost use Rattle.bpaf_core.specs.Refusals.{IsOneOfTwelve};
+ghost use Rattle.bpaf_core.specs.Run.{IsNotWant, RunsWords};
 
 use crate::choice::ParseOrElse;
 use crate::collect::ParseCollect;
@@ -15,8 +21,9 @@ use crate::transform::{ParseGuard, ParseMap, ParseWith};
 use crate::usage::{ParseGroupHelp, ParseUsage, ParseWithGroupHelp};
 use bpaf_doc::{Doc, Meta, MetaInfo};
 use bpaf_keys::Info;
-use bpaf_line::{Error, State};
+use bpaf_line::{Error, ParseFailure, State};
 use bpaf_text::FromList;
+use bpaf_words::Args;
 use std::alloc::{AllocError, Global};
 use std::fmt::Display;
 use std::marker::PhantomData;
@@ -364,6 +371,30 @@ pub trait Parser<T>: Sized {
             alloc,
             of: PhantomData,
         })
+    }
+
+    /// The value that the words give, by a run without texts of its own, and the end of the parser
+    /// (bpaf's `Parser::run`): [`Parser::to_options`] and [`OptionParser::run_once`] in one.
+    ///
+    /// ```text
+    /// construct!(Options { verbose, num }).run_once(alloc, Args::from(words))
+    /// ```
+    final fn run_once(self, alloc: Global, args: Args<'_>) -> Result<T, ParseFailure>
+    where
+        T: Drop,
+        Self: Drop,
+        requires { can_eval self }
+        ensures outcome { RunsWords T (outcome self) (describes self) plain_info
+            (given_of args.entry) result }
+        ensures named { IfErr result (IsOneOfTwelve (outcome self) (describes self) plain_info
+            (given_of args.entry)) }
+        ensures dealt { IfOk result (λ v. IsDealtOut T (reads self) (describes self) plain_info
+            (given_of args.entry) v) }
+        ensures memory_is_never_caught { IsNotWant result →
+            RunsWords T (WithoutMemory (outcome self)) (describes self) plain_info
+            (given_of args.entry) result }
+    {
+        self.to_options(alloc)?.run_once(args)
     }
 
     /// What each implementation keeps to, whatever it parses.

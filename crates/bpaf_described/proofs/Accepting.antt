@@ -13,7 +13,7 @@ use Rattle.bpaf_line.specs.declared.error.Message.{Message}
 use Rattle.bpaf_line.specs.declared.error.Message.TheVariants.{Memory, Missing}
 use Rattle.bpaf_laws.specs.Any.{Looks, AnyOutcome, AnyFails, ArePassed, ChecksText}
 use Rattle.bpaf_described.specs.OneText.{AcceptsText}
-use Rattle.bpaf_described.specs.declared.value.Value.{Value}
+use Rattle.bpaf_values.specs.declared.value.Value.{Value}
 
 module _ {T : Type 0} (looks more : Looks T)
     (allows : (text : List ℕ) (found : Option T) → looks text found → more text found)

@@ -10,8 +10,8 @@ use Rattle.bpaf_laws.specs.AdjacentGroup.{wanted, whole}
 use Rattle.bpaf_laws.specs.Product.{ProductOutcome}
 use Rattle.bpaf_laws.specs.Reading.{HasPlace, IsEmptyShare, Outcome, Share}
 use Rattle.bpaf_described.specs.Groups.{BegunOutcome}
-use Rattle.bpaf_described.specs.Told.{ToldOutcome}
-use Rattle.bpaf_described.specs.declared.value.Value.{Value}
+use Rattle.bpaf_values.specs.Told.{ToldOutcome}
+use Rattle.bpaf_values.specs.declared.value.Value.{Value}
 
 -- each answer of the one is one of the other
 abbrev pub Allows : {T : Type 0} → Outcome T → Outcome T → Type 0

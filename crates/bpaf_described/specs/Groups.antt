@@ -20,9 +20,9 @@ use Rattle.bpaf.specs.Remembering.{IsFirstOf, IsRefused}
 use Rattle.bpaf_doc.specs.declared.item.Item.{Item}
 use Rattle.bpaf_described.specs.Several.{Describes, ThreeDescribe, ThreeFields, TwoDescribe}
 use Rattle.bpaf_described.specs.Several.{TwoFields, wrong_number}
-use Rattle.bpaf_described.specs.Told.{ToldOutcome, told_lawful}
-use Rattle.bpaf_described.specs.Values.{ToldPair, ToldTriple}
-use Rattle.bpaf_described.specs.declared.value.Value.{Value}
+use Rattle.bpaf_values.specs.Told.{ToldOutcome, told_lawful}
+use Rattle.bpaf_values.specs.Values.{ToldPair, ToldTriple}
+use Rattle.bpaf_values.specs.declared.value.Value.{Value}
 
 -- the message of a group whose fields show no item first
 abbrev pub no_first_item : List ℕ

@@ -2,8 +2,8 @@
 use Rattle.std.specs.Prelude.{◌≡◌, ◌≢◌, ℕ, List, Some, None, String, string_bytes}
 use Rattle.std.specs.declared.alloc.Global.{Global}
 use Rattle.bpaf_laws.specs.Any.{Looks}
-use Rattle.bpaf_described.specs.declared.value.Value.{Value}
-use Rattle.bpaf_described.specs.declared.value.Value.TheVariants as value
+use Rattle.bpaf_values.specs.declared.value.Value.{Value}
+use Rattle.bpaf_values.specs.declared.value.Value.TheVariants as value
 
 -- the text as a value, where it is the wanted one
 abbrev pub AcceptsText : List ℕ → Looks Value

@@ -11,9 +11,9 @@ use Rattle.bpaf_laws.specs.Product.{ProductOutcome, ProductReads, ProductDescrib
 use Rattle.bpaf_laws.proofs.ProductLaws.{both_lawful, product_lawful}
 use Rattle.bpaf_laws.specs.Pure.{GivesRefusal, PureOutcome, PureReads}
 use Rattle.bpaf_laws.proofs.PureLaws.{pure_lawful}
-use Rattle.bpaf_described.specs.Told.{ToldOutcome, told_lawful}
-use Rattle.bpaf_described.specs.Values.{ToldPair, ToldTriple, ToldQuadruple}
-use Rattle.bpaf_described.specs.declared.value.Value.{Value}
+use Rattle.bpaf_values.specs.Told.{ToldOutcome, told_lawful}
+use Rattle.bpaf_values.specs.Values.{ToldPair, ToldTriple, ToldQuadruple}
+use Rattle.bpaf_values.specs.declared.value.Value.{Value}
 
 -- the message of any other number of parsers, which refuse every line
 abbrev pub wrong_number : List ℕ

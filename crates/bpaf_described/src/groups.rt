@@ -5,13 +5,12 @@ ghost use Rattle.bpaf_laws.specs.AdjacentGroup.{GroupDescribes};
 ghost use Rattle.bpaf_described.specs.Groups.{GroupedOutcome, ThreeGrouped, TogetherOutcome};
 ghost use Rattle.bpaf_described.specs.Groups.{TwoGrouped};
 ghost use Rattle.bpaf_described.specs.Several.{TupleDescribes};
-ghost use Rattle.bpaf_described.specs.Told.{ToldOutcome};
+ghost use Rattle.bpaf_values.specs.Told.{ToldOutcome};
 
-use crate::as_value::AsValue;
 use crate::several::{Three, ThreeFields, Two, TwoFields, product_meta, three_fields, two_fields};
-use crate::value::{Told, Value};
 use bpaf::parsers::ParseCon;
 use bpaf::{AdjacentError, Error, Fields, Meta, Parser, State, fail};
+use bpaf_values::{AsValue, Told, Value};
 use std::alloc::{AllocError, Global};
 use std::marker::PhantomData;
 

@@ -1,12 +1,9 @@
 //! The parsers of one item.
-use crate::as_value::AsValue;
-use crate::closures::give;
 use crate::one_text::OneText;
-use crate::refused::Refused;
-use crate::value::Value;
 use bpaf::params::{ParseArgument, ParseFlag, ParsePositional};
 use bpaf::parsers::{ParseAppname, ParseFail, ParseLiteral, ParsePure, ParsePureWith};
 use bpaf::{Error, Meta, Parser, State};
+use bpaf_values::{AsValue, Refused, Value, give};
 use std::alloc::{AllocError, Global};
 use std::marker::PhantomData;
 
@@ -22,7 +19,7 @@ impl Parser<Value> for Answer {
     ghost use Rattle.bpaf_doc.specs.Shape.{Skip};
     ghost use Rattle.bpaf_laws.specs.Pure.{PureOutcome, PureReads};
     ghost use Rattle.bpaf_laws.proofs.PureLaws.{pure_lawful};
-    ghost use Rattle.bpaf_described.specs.Levels.{GivesNumber};
+    ghost use Rattle.bpaf_values.specs.Modifiers.{GivesNumber};
 
     ghost can_eval = { λ p. Unit {0} };
 
@@ -96,7 +93,7 @@ impl Parser<Value> for Leaf {
     ghost use Rattle.bpaf_described.specs.declared.leaf.Leaf.TheVariants.{Fail};
     ghost use Rattle.bpaf_described.specs.declared.leaf.Leaf.TheVariants.{Literal, Any, Appname};
     ghost use Rattle.bpaf_described.specs.declared.leaf.Leaf.TheVariants.{Unread};
-    ghost use Rattle.bpaf_described.specs.Told.{told_lawful};
+    ghost use Rattle.bpaf_values.specs.Told.{told_lawful};
 
     ghost can_eval = { elim [
       | Switch p ↦ ⟦<AsValue<bool, ParseFlag<bool>> as Parser<Value>>⟧.can_eval p

@@ -1,9 +1,9 @@
 //! Parsers described as data: text is read to a parser that answers as the parsers of `bpaf` do.
 //!
-//! It stands on `bpaf`, and hands on `bpaf_tokens`: a description is a list of tokens
-//! ([`Description`]); docs/BENCH.md says how it is written. [`read_parser`] makes a parser of it,
-//! and [`read_options`] the run of one. That is a [`Level`] over levels over a [`Leaf`]: a leaf is
-//! one option or word, told as a [`Value`], and a level holds its inner parsers once, beside a
+//! It stands on `bpaf`, and hands on `bpaf_tokens` and `bpaf_values`: a description is a list of
+//! tokens ([`Description`]); docs/BENCH.md says how it is written. [`read_parser`] makes a parser of
+//! it, and [`read_options`] the run of one. That is a [`Level`] over levels over a [`Leaf`]: a leaf
+//! is one option or word, told as a [`Value`], and a level holds its inner parsers once, beside a
 //! [`Kind`], and makes the parser of that kind over lent ones at each evaluation. So a level more
 //! costs a proof nothing, and [`SixLevels`] is enough for the combinations of this repository's
 //! rows.
@@ -12,39 +12,25 @@
 //! laws alone, and so is any type that is [`Described`], which may always be evaluated. What a
 //! described parser answers is dealt out of the words as for any parser; a level's outcome is the
 //! one of the `bpaf` parser that its kind names (specs/Levels.antt, specs/Several.antt,
-//! specs/Groups.antt, specs/Commands.antt), but for what the checks of `guard` and `parse` answer
-//! and for the texts of faults, of which nothing is said. A [`Fault`] tells which token of a
-//! description stands at which place, and why it can't.
+//! specs/Groups.antt, and those of `bpaf_values`).
 #![tactic(auto)]
 
-mod as_value;
-mod closures;
-mod commands;
-mod described;
 mod groups;
-mod heads;
-mod kind;
 mod leaf;
-mod lent;
 mod level;
-mod modifiers;
 mod names;
 mod one_text;
 mod product;
-mod refused;
+mod reading;
 mod several;
-mod value;
 
-pub use as_value::AsValue;
 pub use bpaf_tokens::{Description, Fault, Place, Problem, Token, Tokens};
-pub use described::{Described, read_parser};
-pub use heads::read_options;
-pub use kind::{Kind, Modifier};
+pub use bpaf_values::{
+    AsValue, Described, Kind, Modifier, Refused, Told, Value, read_options, read_parser,
+};
 pub use leaf::{Answer, Leaf};
 pub use level::Level;
 pub use one_text::OneText;
-pub use refused::Refused;
-pub use value::{Told, Value};
 
 /// A described parser: six combinations may stand in one another over a leaf.
 pub type SixLevels = Level<Level<Level<Level<Level<Level<Leaf>>>>>>;

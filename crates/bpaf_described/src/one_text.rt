@@ -3,15 +3,25 @@ ghost use Rattle.std.specs.Prelude.{None, Option, String, string_bytes};
 ghost use Rattle.std.specs.declared.alloc.Global.{Global};
 ghost use Rattle.bpaf_doc.specs.Shape.{Any};
 ghost use Rattle.bpaf_laws.specs.Any.{AnyOutcome};
-ghost use Rattle.bpaf_described.specs.declared.value.Value.{Value};
+ghost use Rattle.bpaf_values.specs.declared.value.Value.{Value};
 ghost use Rattle.bpaf_described.specs.OneText.{AcceptsText};
 
-use crate::closures::accept_text;
-use crate::value::Value;
 use bpaf::parsers::ParseAny;
 use bpaf::{Doc, Error, Item, Meta, Parser, State, Style};
+use bpaf_values::Value;
 use std::alloc::{AllocError, Global};
 use std::marker::PhantomData;
+
+/// The text as a value, if it is the wanted one.
+fn accept_text(text: String, wanted: &str) -> Option<Value>
+    ensures { AcceptsText wanted.now (string_bytes text) result }
+{
+    if text.as_str() == wanted {
+        Some(Value::Text(text))
+    } else {
+        None
+    }
+}
 
 /// An item that a check of its text accepts: that of one text alone.
 #[derive(Drop)]
@@ -64,7 +74,7 @@ impl Parser<Value> for OneText {
     ghost use Rattle.bpaf_doc.specs.Shape.{Shown, Any};
     ghost use Rattle.bpaf_laws.specs.Any.{AnyOutcome, AnyReads};
     ghost use Rattle.bpaf_laws.proofs.AnyLaws.{any_lawful};
-    ghost use Rattle.bpaf_described.specs.declared.value.Value.{Value};
+    ghost use Rattle.bpaf_values.specs.declared.value.Value.{Value};
     ghost use Rattle.bpaf_described.specs.OneText.{AcceptsText};
 
     ghost can_eval = { λ p. Unit {0} };

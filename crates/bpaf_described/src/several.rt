@@ -7,12 +7,10 @@ ghost use Rattle.bpaf_described.specs.Several.{TwoOutcome};
 ghost use Rattle.bpaf_described.specs.Several.{OrElseDescribes, OrElseOutcome};
 ghost use Rattle.bpaf_described.specs.Several.{TupleDescribes, TupleOutcome};
 
-use crate::as_value::AsValue;
-use crate::lent::Lent;
 use crate::product::Product;
-use crate::value::{Told, Value};
 use bpaf::parsers::ParseOrElse;
 use bpaf::{Both, Error, Fields, Last, Meta, Parser, State, fail};
+use bpaf_values::{AsValue, Lent, Told, Value};
 use std::alloc::{AllocError, Global};
 use std::marker::PhantomData;
 

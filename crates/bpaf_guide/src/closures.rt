@@ -8,17 +8,14 @@ pub fn limited(alloc: Global, words: &[String]) -> Result<(bool, u64, char), Par
     let num = short(alloc, 'n')?.argument::<u64>("NUM");
     let num = num.guard(|n| *n < 10, "below 10");
     let mark = pure('+');
-    let options = construct!(verbose, num, mark).to_options(alloc)?;
-    options.run_once(Args::from(words))
+    construct!(verbose, num, mark).run_once(alloc, Args::from(words))
 }
 
 /// A number that is checked in a closure, and has a default.
 pub fn checked(alloc: Global, words: &[String]) -> Result<u64, ParseFailure> {
     let num = short(alloc, 'n')?.argument::<u64>("NUM");
     let num = num.parse(|n| if n < 10 { Ok(n) } else { Err("too big") });
-    num.fallback(7)
-        .to_options(alloc)?
-        .run_once(Args::from(words))
+    num.fallback(7).run_once(alloc, Args::from(words))
 }
 
 /// What any parser reads of the words.
@@ -29,5 +26,5 @@ pub fn value_of<T: Drop, P: Parser<T> + Drop>(
 ) -> Result<T, ParseFailure>
     requires { P.can_eval parser }
 {
-    parser.to_options(alloc)?.run_once(Args::from(words))
+    parser.run_once(alloc, Args::from(words))
 }

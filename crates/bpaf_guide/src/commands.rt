@@ -28,6 +28,5 @@ pub fn clean(alloc: Global) -> Result<ParseCommand<bool, ParseFlag<bool>>, Alloc
 pub fn read_task(alloc: Global, words: &[String]) -> Result<Task, ParseFailure> {
     let build = build(alloc)?.map(|jobs| Task::Build(jobs));
     let clean = clean(alloc)?.map(|tell| Task::Clean(tell));
-    let options = construct!([build, clean]).to_options(alloc)?;
-    options.run_once(Args::from(words))
+    construct!([build, clean]).run_once(alloc, Args::from(words))
 }

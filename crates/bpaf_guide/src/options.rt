@@ -37,5 +37,5 @@ pub fn read_options(
         numbers
     });
     let args = Args::from(words).set_name("bpaf_guide");
-    parser.to_options(alloc)?.run_once(args.set_env(variables))
+    parser.run_once(alloc, args.set_env(variables))
 }

@@ -17,8 +17,7 @@ pub(crate) fn value<T: Drop, P: Parser<T> + Drop>(
 ) -> Result<Option<T>, AllocError>
     requires { P.can_eval parser }
 {
-    let options = parser.to_options(alloc)?;
-    Ok(options.run_once(Args::from(words)).ok())
+    Ok(parser.run_once(alloc, Args::from(words)).ok())
 }
 
 /// The switch `-v`.

@@ -1,0 +1,8 @@
+//! The rows of the ends of programs, as tests.
+//!
+//! It stands on `bpaf_program`, `bpaf_record`, `bpaf` and `bpaf_trial`. Nothing stands on this
+//! crate: one with tests is proved twice. docs/ROWS.md names each row and its test.
+#![tactic(auto)]
+
+#[cfg(test)]
+mod programs;

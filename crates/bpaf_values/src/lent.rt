@@ -1,0 +1,31 @@
+//! A parser that is lent to another.
+use bpaf_core::Parser;
+use bpaf_doc::Meta;
+use bpaf_line::{Error, State};
+use std::alloc::{AllocError, Global};
+
+/// A parser that is lent: it reads what the other one does.
+#[derive(Drop)]
+pub struct Lent<'p, P> {
+    pub inner: &'p P,
+}
+
+impl<'p, T, P: Parser<T>> Parser<T> for Lent<'p, P> {
+    ghost can_eval = { λ p. P.can_eval p.inner.now };
+
+    ghost describes = { λ p. P.describes p.inner.now };
+
+    ghost reads = { λ p. P.reads p.inner.now };
+
+    ghost outcome = { λ p. P.outcome p.inner.now };
+
+    fn eval(&self, state: &mut State) -> Result<T, Error> {
+        self.inner.eval(state)
+    }
+
+    fn meta(&self, alloc: Global) -> Result<Meta, AllocError> {
+        self.inner.meta(alloc)
+    }
+
+    ghost lawful = { λ p. P.lawful p.inner.now };
+}
