@@ -1,5 +1,5 @@
 //! Defaults that a help page shows.
-use crate::shared::{answers, file, num, reads};
+use crate::shared::{answers, num, reads};
 use bpaf::Parser;
 use std::alloc::{AllocError, Global};
 use std::test::Fail;
@@ -7,20 +7,20 @@ use std::test::Fail;
 /// A number with a default as Display prints it.
 fn displayed(alloc: Global) -> Result<String, AllocError> {
     let n = num(alloc)?.fallback(7).display_fallback(alloc)?;
-    answers(alloc, n.to_options(alloc)?, &[&["--help"], &[]])
+    answers(alloc, n, &[&["--help"], &[]])
 }
 
 /// A number with a default as Debug prints it.
 fn debugged(alloc: Global) -> Result<String, AllocError> {
     let n = num(alloc)?.fallback(7).debug_fallback(alloc)?;
-    answers(alloc, n.to_options(alloc)?, &[&["--help"]])
+    answers(alloc, n, &[&["--help"]])
 }
 
 /// A number with a default as a closure writes it.
 fn formatted(alloc: Global) -> Result<String, AllocError> {
     let n = num(alloc)?.fallback(7);
     let n = n.format_fallback(alloc, |n| format!(in alloc; "{n} or so"))?;
-    answers(alloc, n.to_options(alloc)?, &[&["--help"]])
+    answers(alloc, n, &[&["--help"]])
 }
 
 /// The page of a number and its default.
@@ -56,21 +56,21 @@ fn defaults_are_shown(rt: HostRuntime) -> Result<(), Fail> {
 fn displayed_answer(alloc: Global) -> Result<String, AllocError> {
     let n = num(alloc)?.fallback_with(|| Ok::<u64, &str>(7));
     let n = n.display_fallback(alloc)?;
-    answers(alloc, n.to_options(alloc)?, &[&["--help"], &[]])
+    answers(alloc, n, &[&["--help"], &[]])
 }
 
 /// The same as Debug prints it.
 fn debugged_answer(alloc: Global) -> Result<String, AllocError> {
     let n = num(alloc)?.fallback_with(|| Ok::<u64, &str>(7));
     let n = n.debug_fallback(alloc)?;
-    answers(alloc, n.to_options(alloc)?, &[&["--help"]])
+    answers(alloc, n, &[&["--help"]])
 }
 
 /// The same as another closure writes it.
 fn formatted_answer(alloc: Global) -> Result<String, AllocError> {
     let n = num(alloc)?.fallback_with(|| Ok::<u64, &str>(7));
     let n = n.format_fallback(alloc, |n| format!(in alloc; "{n} or so"))?;
-    answers(alloc, n.to_options(alloc)?, &[&["--help"]])
+    answers(alloc, n, &[&["--help"]])
 }
 
 #[test]

@@ -1,5 +1,5 @@
 //! Help pages that no description can say.
-use crate::shared::{answers, file, num, reads, verbose};
+use crate::shared::{answers, answers_of, file, num, reads, verbose};
 use bpaf::{Doc, Parser, any, construct, literal};
 use std::alloc::{AllocError, Global};
 use std::test::Fail;
@@ -11,14 +11,12 @@ fn doc(alloc: Global, text: &str) -> Result<Doc, AllocError> {
 
 /// A word with a help.
 fn helped(alloc: Global) -> Result<String, AllocError> {
-    let options = file()
-        .help(doc(alloc, "File to process")?)
-        .to_options(alloc)?;
+    let file = file().help(doc(alloc, "File to process")?);
     let refused = ["a", "b"];
     let help: [&str; 1] = ["--help"];
     answers(
         alloc,
-        options,
+        file,
         &[&help, &["--", "--help"], &refused, &help, &["--", "--help"]],
     )
 }
@@ -50,7 +48,7 @@ fn own_usage(alloc: Global) -> Result<String, AllocError> {
         text.doc(&usage)?;
         Ok(text)
     })?;
-    answers(alloc, options, &[&["--help"]])
+    answers_of(alloc, options, &[&["--help"]])
 }
 
 /// The page with the usage of a closure.
@@ -74,8 +72,7 @@ fn leaves_with_helps(alloc: Global) -> Result<String, AllocError> {
         _ => None,
     })?;
     let word = word.help_str(alloc, "A word")?;
-    let options = construct!(verbose, num, go, word).to_options(alloc)?;
-    answers(alloc, options, &[&["--help"]])
+    answers(alloc, construct!(verbose, num, go, word), &[&["--help"]])
 }
 
 /// The page of them.

@@ -89,6 +89,17 @@ fn push_answer<T: Debug + Drop>(
 /// What a parser answers to lines of words, one after the other.
 pub(crate) fn answers<T: Debug + Drop, P: Parser<T> + Drop>(
     alloc: Global,
+    parser: P,
+    lines: &[&[&str]],
+) -> Result<String, AllocError>
+    requires { P.can_eval parser }
+{
+    answers_of(alloc, parser.to_options(alloc)?, lines)
+}
+
+/// The same of options.
+pub(crate) fn answers_of<T: Debug + Drop, P: Parser<T> + Drop>(
+    alloc: Global,
     options: OptionParser<T, P>,
     lines: &[&[&str]],
 ) -> Result<String, AllocError>

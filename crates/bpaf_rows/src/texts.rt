@@ -7,19 +7,15 @@ use std::test::Fail;
 
 /// A switch that must be set, any number of times.
 fn must_be_set(alloc: Global) -> Result<String, AllocError> {
-    let options = verbose(alloc)?
-        .guard(|set| *set, "must be set")
-        .many()
-        .to_options(alloc)?;
-    answers(alloc, options, &[&["-v"]])
+    let set = verbose(alloc)?.guard(|set| *set, "must be set").many();
+    answers(alloc, set, &[&["-v"]])
 }
 
 /// A flag, or a refusal in the author's words.
 fn must_accept(alloc: Global) -> Result<String, AllocError> {
     let accept = long(alloc, "accept")?.req_flag(());
     let refusal = fail::<()>("You must accept");
-    let options = construct!([accept, refusal]).to_options(alloc)?;
-    answers(alloc, options, &[&[], &["--accept"]])
+    answers(alloc, construct!([accept, refusal]), &[&[], &["--accept"]])
 }
 
 #[test]
@@ -33,11 +29,8 @@ fn authors_say_why(rt: HostRuntime) -> Result<(), Fail> {
 /// Numbers of which a check accepts the first alone.
 fn first_alone(alloc: Global) -> Result<String, AllocError> {
     let later = Cell::new(false);
-    let options = num(alloc)?
-        .guard(|_| !later.replace(true), "no")
-        .many()
-        .to_options(alloc)?;
-    answers(alloc, options, &[&["-n", "1", "-n", "2"]])
+    let first = num(alloc)?.guard(|_| !later.replace(true), "no").many();
+    answers(alloc, first, &[&["-n", "1", "-n", "2"]])
 }
 
 #[test]
