@@ -57,7 +57,7 @@ pub fn keyed_leaf(keyed: Keyed, key: NamedArg, number: u64) -> Leaf {
     }
 }
 
-/// A leaf of a token and a number.
+/// A leaf of a token that stands before a number (`is_numbered`), and that number.
 pub fn numbered_leaf(token: &str, number: u64) -> Leaf {
     match token {
         "pure" => Leaf::Pure(pure(Value::Number(number))),
@@ -67,7 +67,8 @@ pub fn numbered_leaf(token: &str, number: u64) -> Leaf {
     }
 }
 
-/// A leaf of a token and a text; refused only for want of memory.
+/// A leaf of a token that stands before a text (`is_texted`), and that text; refused only for want
+/// of memory.
 pub fn texted_leaf(alloc: Global, token: &str, text: &str) -> Result<Leaf, AllocError> {
     match token {
         "lit" | "literal" => Ok(Leaf::Literal(as_value(literal(alloc, text)?))),

@@ -6,8 +6,8 @@ use bpaf::choice;
 use bpaf::params::ParsePositional;
 use bpaf_tokens::{Fault, Problem, Tokens};
 use bpaf_values::{
-    AsValue, Described, Keyed, combination, is_combination, is_numbered, is_texted, kind_of_key,
-    read_key, several,
+    AsValue, Described, Keyed, is_combination, is_numbered, is_texted, kind_of_key,
+    read_combination, read_key, read_several,
 };
 
 /// A leaf of a key, of which the token was read.
@@ -127,8 +127,8 @@ impl<P: Described> Described for Level<P> {
 
     fn read(tokens: &mut Tokens<'_>) -> Result<Level<P>, Fault> {
         let opened = tokens.open();
-        let (kind, count) = combination(tokens)?;
-        let inner = choice(several(count, tokens)?);
+        let (kind, count) = read_combination(tokens)?;
+        let inner = choice(read_several(count, tokens)?);
         tokens.close(opened)?;
         Ok(Level { kind, inner })
     }

@@ -9,7 +9,9 @@ use std::marker::PhantomData;
 /// A parser whose value is told as a [`Value`].
 #[derive(Drop)]
 pub struct AsValue<T, P> {
+    /// The parser.
     pub inner: P,
+    /// The type of its value.
     pub of: PhantomData<T>,
 }
 

@@ -7,8 +7,9 @@ use crate::names::{
 };
 use bpaf_tokens::{Fault, Tokens};
 
-/// What stands before parsers, and before how many; where nothing does, one parser follows.
-pub fn combination(tokens: &mut Tokens<'_>) -> Result<(Kind, u64), Fault> {
+/// What stands before parsers, and before how many; where nothing does, one parser follows. Refused
+/// where a name or a number has to stand behind the token and doesn't, and for want of memory.
+pub fn read_combination(tokens: &mut Tokens<'_>) -> Result<(Kind, u64), Fault> {
     let token = tokens.peek();
     if !is_combination(token) {
         return Ok((Kind::Over(Modifier::Same), 1));
@@ -31,8 +32,8 @@ pub fn combination(tokens: &mut Tokens<'_>) -> Result<(Kind, u64), Fault> {
     }
 }
 
-/// So many parsers.
-pub fn several<P: Described>(count: u64, tokens: &mut Tokens<'_>) -> Result<Vec<P>, Fault> {
+/// So many parsers, one after the other; refused where one of them is.
+pub fn read_several<P: Described>(count: u64, tokens: &mut Tokens<'_>) -> Result<Vec<P>, Fault> {
     let mut parsers = Vec::new(tokens.alloc());
     for _ in 0..count {
         parsers.push(P::read(tokens)?)?;

@@ -58,7 +58,8 @@ fn key_of(alloc: Global, names: &str) -> Result<Option<NamedArg>, AllocError> {
     Ok(key)
 }
 
-/// The next token, a key, and its help where a text in quotes stands behind it.
+/// The next token, a key, and its help where a text in quotes stands behind it. Refused where a
+/// name of the key is empty, and for want of memory.
 pub fn read_key(tokens: &mut Tokens<'_>) -> Result<NamedArg, Fault> {
     let Some(key) = key_of(tokens.alloc(), tokens.peek())? else {
         return Err(tokens.fault(Problem::NoName));
@@ -94,7 +95,7 @@ fn names_of(alloc: Global, text: &str) -> Result<Option<CommandNames>, AllocErro
     Ok(names)
 }
 
-/// The next token, the names of a command.
+/// The next token, the names of a command; refused likewise.
 pub fn read_names(tokens: &mut Tokens<'_>) -> Result<CommandNames, Fault> {
     match names_of(tokens.alloc(), tokens.peek())? {
         Some(names) => {

@@ -7,6 +7,7 @@ use std::alloc::{AllocError, Global};
 /// A parser that is lent: it reads what the other one does.
 #[derive(Drop)]
 pub struct Lent<'p, P> {
+    /// The parser.
     pub inner: &'p P,
 }
 

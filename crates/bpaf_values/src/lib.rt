@@ -31,7 +31,7 @@ mod value;
 
 pub use as_value::AsValue;
 pub use closures::give;
-pub use combinations::{combination, several};
+pub use combinations::{read_combination, read_several};
 pub use commands::{called, called_meta};
 pub use described::{Described, read_parser};
 pub use heads::read_options;

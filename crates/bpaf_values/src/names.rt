@@ -4,19 +4,29 @@ use crate::kind::{Kind, Modifier};
 /// What is made of a key.
 #[derive(Clone, Copy)]
 pub enum Keyed {
+    /// A switch.
     Switch,
+    /// A flag of two numbers.
     Flag,
+    /// A required flag, whose number follows.
     RequiredFlag,
+    /// An argument that is a number.
     Number,
+    /// One whose value stands in the same word.
     AdjacentNumber,
+    /// An argument that takes its last number.
     LastNumber,
+    /// The same, whose value stands in the same word.
     LastAdjacentNumber,
+    /// An argument that is a number with a sign.
     Integer,
+    /// An argument that is a text.
     Text,
+    /// An argument whose text is read as nothing, since memory is wanted for it.
     Unread,
 }
 
-/// What stands before a key.
+/// What a token makes of the key behind it, if it stands before one.
 pub fn kind_of_key(token: &str) -> Option<Keyed> {
     match token {
         "sw" | "switch" => Some(Keyed::Switch),
