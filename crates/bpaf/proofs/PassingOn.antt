@@ -13,10 +13,10 @@ use Rattle.std.proofs.lemmas.Bool.{and_right, eq-eqb, ne_eqb, eqb-true, false_fr
 use Rattle.std.proofs.lemmas.Option.{slice_get_past, same_Some}
 use Rattle.bpaf_doc.specs.Shape.{Shape}
 use Rattle.bpaf_text.specs.Named.{Named}
-use Rattle.bpaf_words.specs.declared.arg.Arg.{Arg}
-use Rattle.bpaf_words.specs.declared.arg.Arg.TheVariants.{Short, Long, ArgWord, Word, PosWord}
+use Rattle.bpaf_items.specs.declared.arg.Arg.{Arg}
+use Rattle.bpaf_items.specs.declared.arg.Arg.TheVariants.{Short, Long, ArgWord, Word, PosWord}
 use Rattle.bpaf_words.specs.Arguments.{Given}
-use Rattle.bpaf_words.specs.Items.{is_key_of, is_positional, word_text}
+use Rattle.bpaf_items.specs.Items.{is_key_of, is_positional, word_text}
 use Rattle.bpaf_words.specs.Spelling.{Known}
 use Rattle.bpaf_words.specs.Line.{IsLine, without_marker, with_marker}
 use Rattle.bpaf_line.specs.declared.error.Error.{Error}

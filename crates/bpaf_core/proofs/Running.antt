@@ -1,5 +1,5 @@
 -- How the answers of a run are put together.
-use Rattle.std.proofs.Common.{◌≡◌, ◌==◌, ℕ, ◌<◌, Bool, true, false, List, [], ◌∷◌, ◌++◌, Option}
+use Rattle.std.proofs.Common.{◌≡◌, ◌==◌, ℕ, ◌<◌, Bool, true, false, List, []}
 use Rattle.std.proofs.Common.{IfSome, length, ap, Result, Ok, Err, ⊎_elim, ◌∙◌, inl, inr, subst}
 use Rattle.std.proofs.Common.{sym, refl, IsErrAnd}
 use Rattle.std.specs.Result.{IfErr}
@@ -10,17 +10,14 @@ use Rattle.bpaf_line.specs.declared.error.Message.TheVariants.{Memory, Ambiguity
 use Rattle.bpaf_line.specs.declared.failure.ParseFailure.{ParseFailure}
 use Rattle.bpaf_line.specs.declared.failure.ParseFailure.TheVariants as failure
 use Rattle.bpaf_line.specs.Situation.{Situation, Context, beginning}
-use Rattle.bpaf_line.specs.Constructing.{Constructs, message_of}
+use Rattle.bpaf_line.specs.Constructing.{message_of}
 use Rattle.bpaf_laws.specs.Reading.{Outcome}
 use Rattle.bpaf_doc.specs.Shape.{Shape}
 use Rattle.bpaf_keys.specs.Info.{RunInfo}
-use Rattle.bpaf_core.specs.Known.{known_names, ReadsLineOf, ShowsNames, Starts}
+use Rattle.bpaf_core.specs.Known.{known_names, ReadsLineOf, Starts}
 use Rattle.bpaf_words.specs.Arguments.{Given}
-use Rattle.bpaf_words.specs.declared.arg.Arg.{Arg}
-use Rattle.std.specs.List.{AllZip}
-use Rattle.std.specs.Prelude.{codes, flat_map}
-use Rattle.bpaf_words.specs.Line.{HasNoLine, IsLine, with_marker, without_marker}
-use Rattle.bpaf_words.specs.Spelling.{Items, Known, Spells, known_at}
+use Rattle.bpaf_words.specs.Line.{HasNoLine, IsLine}
+use Rattle.bpaf_words.specs.Spelling.{known_at}
 use Rattle.bpaf_words.proofs.Fronts.{marker_of_line}
 use Rattle.bpaf_words.specs.Splitting.{IsLineByAny, ReadsLine}
 use Rattle.bpaf_words.specs.declared.line.Line.{Line}
@@ -40,36 +37,39 @@ pub something_left : (n : ℕ) (empty : Bool) → empty ≡ (n == 0) → empty �
 something_left n empty is otherwise = grind (arith, nat_tests)
 
 -- known names as a whole
-known_are : (describes : Shape → Type 0) (info : RunInfo) (flags arguments : List ℕ)
-    (n : ShowsNames describes info flags arguments)
+known_are : (info : RunInfo) (flags arguments : List ℕ) (shape : Shape)
+    → flags ≡ (known_names info shape).names.flags
+    → arguments ≡ (known_names info shape).names.arguments
     → known_at info.numbers (record { flags = flags; arguments = arguments })
-    ≡ known_names info n.shape
-known_are describes info flags arguments n = rw (n.flags_are, n.arguments_are) refl
+    ≡ known_names info shape
+known_are info flags arguments shape flags_are arguments_are = rw (flags_are, arguments_are) refl
 
 -- what was read by names that are shown was read by the known ones
 pub read_by_shown : (describes : Shape → Type 0) (info : RunInfo) (words : List (List ℕ))
-    (numbers : Bool) (flags arguments : List ℕ) (result : Result Line LineFault)
-    → numbers ≡ info.numbers → ShowsNames describes info flags arguments
+    (numbers : Bool) (flags arguments : List ℕ) (shape : Shape) (result : Result Line LineFault)
+    → numbers ≡ info.numbers → describes shape
+    → flags ≡ (known_names info shape).names.flags
+    → arguments ≡ (known_names info shape).names.arguments
     → ReadsLine (known_at numbers (record { flags = flags; arguments = arguments })) words result
     → ReadsLineOf describes info words result
-read_by_shown describes info words numbers flags arguments (Ok line) setting shows is = inl (
-  shows.shape,
-  shows.shown,
-  subst (λ known. IsLine known words line.items.items line.marker)
-      (ap (λ n. known_at n (record { flags = flags; arguments = arguments })) setting
-      ∙ known_are describes info flags arguments shows) is,
-)
-read_by_shown describes info words numbers flags arguments
-    (Err (fault.Ambiguous word number)) setting
-    shows lacks = (
-      shows.shape,
-      shows.shown,
+read_by_shown describes info words numbers flags arguments shape (Ok line) setting shown flags_are
+    arguments_are is = inl (
+      shape,
+      shown,
+      subst (λ known. IsLine known words line.items.items line.marker)
+          (ap (λ n. known_at n (record { flags = flags; arguments = arguments })) setting
+          ∙ known_are info flags arguments shape flags_are arguments_are) is,
+    )
+read_by_shown describes info words numbers flags arguments shape
+    (Err (fault.Ambiguous word number)) setting shown flags_are arguments_are lacks = (
+      shape,
+      shown,
       subst (λ known. HasNoLine known words word number)
           (ap (λ n. known_at n (record { flags = flags; arguments = arguments })) setting
-          ∙ known_are describes info flags arguments shows) lacks,
+          ∙ known_are info flags arguments shape flags_are arguments_are) lacks,
     )
-read_by_shown describes info words numbers flags arguments (Err fault.Memory) setting shows none =
-    tt
+read_by_shown describes info words numbers flags arguments shape (Err fault.Memory) setting shown
+    flags_are arguments_are none = tt
 
 -- the line that was read whatever names are known is the words' line
 pub read_by_any : (describes : Shape → Type 0) (info : RunInfo) (words : List (List ℕ))
@@ -139,38 +139,6 @@ starts_not describes info given words (fault.Ambiguous word number) m same lacks
     )
 starts_not describes info given words fault.Memory m same none is =
     subst (λ x. Starts describes info given (Err x)) (sym is) tt
-
--- no words have the empty line
-no_words : (known : Known) (line : List Arg) (marker : Option ℕ) → IsLine known [] line marker
-    → line ≡ []
-no_words known line marker (without_marker items none spelled) =
-    no_items spelled.parts items spelled.spelled spelled.joined
-  where
-    -- no words have no items
-    no_items : (parts : List (List Arg)) (items : List Arg)
-        → AllZip (λ word xs. Spells known word (Items xs)) [] parts
-        → items ≡ flat_map (λ xs. xs) parts → items ≡ []
-    no_items [] items spelled is = is
-    no_items (part ∷ parts) items spelled is = absurd spelled
-no_words known line marker (with_marker before after items is none spelled) =
-    absurd (not_cut before is)
-  where
-    -- no words can't be cut at one
-    not_cut : (before : List (List ℕ)) → [] ≡ before ++ codes "--" ∷ after → ⊥
-    not_cut [] is = cc
-    not_cut (word ∷ words) is = cc
-
--- what is told where nothing is known but the set name
-pub fault_told : (known : Known) (given : Given) (name : Option (List ℕ)) (s : Situation)
-    → given.words ≡ [] → given.name ≡ name → Constructs known given (Ok s) → (m : Message)
-    (f : ParseFailure) → Renders m s f → TellsNoLine name m f
-fault_told known given name s none named made m f told = inr (
-  made.0,
-  no_words known made.0.line made.0.marker
-      (subst (λ words. IsLine known words made.0.line made.0.marker) none made.1.is_line),
-  made.1.name ∙ named,
-  subst (λ x. Renders m x f) made.2 told,
-)
 
 module _ {T : Type 0} {inner : Outcome T} {describes : Shape → Type 0} {info : RunInfo}
     (given : Given)

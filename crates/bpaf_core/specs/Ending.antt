@@ -1,5 +1,5 @@
 -- How a run ends that has no value.
-use Rattle.std.specs.Prelude.{◌≡◌, ◌⊎◌, ℕ, ◌==◌, Bool, true, false, not, ◌&&◌, List, [], Option}
+use Rattle.std.specs.Prelude.{◌≡◌, ◌==◌, Bool, true, false, not, ◌&&◌, List, Option}
 use Rattle.std.specs.Prelude.{Some}
 use Rattle.std.specs.Prelude.{None, Ok, Err, ⊤}
 use Rattle.bpaf_doc.specs.declared.doc.Piece.{Piece}
@@ -14,10 +14,11 @@ use Rattle.bpaf_line.specs.declared.failure.ParseFailure.TheVariants as failure
 use Rattle.bpaf_messages.specs.Leftover.{IsLeftover}
 use Rattle.bpaf_line.specs.Messages.{is_memory}
 use Rattle.bpaf_messages.specs.Rendering.{Renders}
-use Rattle.bpaf_line.specs.Situation.{Context, Situation, beginning, open_count}
+use Rattle.bpaf_line.specs.Situation.{Situation, open_count}
 use Rattle.bpaf_keys.specs.declared.info.ExtraParams.{ExtraParams}
 use Rattle.bpaf_keys.specs.declared.info.ExtraParams.TheVariants as extra
 use Rattle.bpaf_keys.specs.Extra.{ExtraOutcome, extra_shape}
+pub use Rattle.bpaf_messages.specs.Faults.{TellsNoLine}
 pub use Rattle.bpaf_parts.specs.Failures.{is_shown}
 use Rattle.bpaf_keys.specs.Info.{RunInfo, page_texts}
 use Rattle.bpaf_keys.specs.Version.{ShowsVersion}
@@ -98,11 +99,3 @@ abbrev pub PassesOrTells : (Shape → Type 0) → RunInfo → Message → Situat
     → Situation → Type 0
 PassesOrTells describes info (message.ParseFailure inner) s f t = (f ≡ inner) × (t ≡ s)
 PassesOrTells describes info m s f t = Tells describes info m s f t
-
--- what is told of words without a line: the message, where nothing is known but the set name; or
--- want of memory
-abbrev pub TellsNoLine : Option (List ℕ) → Message → ParseFailure → Type 0
-TellsNoLine name m f =
-    (f ≡ failure.Memory)
-    ⊎ ((context : Context) × (context.line ≡ []) × (context.name ≡ name)
-    × Renders m (beginning context) f)

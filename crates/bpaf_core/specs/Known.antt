@@ -16,15 +16,6 @@ use Rattle.bpaf_line.specs.declared.error.Message.TheVariants as message
 use Rattle.bpaf_keys.specs.Info.{RunInfo}
 pub use Rattle.bpaf_keys.specs.KnownNames.{known_names}
 
--- short names that are the known ones of a shape that the parser may show
-pub record ShowsNames (describes : Shape → Type 0) (info : RunInfo)
-    (flags arguments : List ℕ) : Type 0
-  where
-    pub shape : Shape
-    pub shown : describes shape
-    pub flags_are : flags ≡ (known_names info shape).names.flags
-    pub arguments_are : arguments ≡ (known_names info shape).names.arguments
-
 -- what is read of words: their line, by the known names of a shape that the parser may show, or
 -- whatever names are known; or they have none by such names; or memory is wanted
 abbrev pub ReadsLineOf : (Shape → Type 0) → RunInfo → List (List ℕ) → Result Line LineFault → Type 0

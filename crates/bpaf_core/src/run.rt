@@ -1,17 +1,15 @@
 //! A run of a parser from a state on: its value where nothing is left; else help, the version, or
 //! the message.
-ghost use Rattle.std.specs.Prelude.{◌≡◌, IfOk};
-ghost use Rattle.bpaf_core.specs.Ending.{EndsRefused, EndsRun, IsHelp, PassesOrTells, ShowsHelp};
-ghost use Rattle.bpaf_core.specs.Ending.{Tells};
+ghost use Rattle.std.specs.Prelude.{◌≡◌};
+ghost use Rattle.bpaf_core.specs.Ending.{EndsRefused, EndsRun, PassesOrTells, ShowsHelp, Tells};
 ghost use Rattle.bpaf_core.specs.Run.{Runs};
 
 use crate::parser::Parser;
-use bpaf_doc::Doc;
 use bpaf_keys::{ExtraParams, Info, version_page};
 use bpaf_line::{Message, ParseFailure, State};
 use bpaf_messages::{leftover, render};
 use bpaf_parts::stands_in;
-use std::alloc::{AllocError, Global};
+use std::alloc::Global;
 use std::marker::PhantomData;
 
 /// A parser that is run, and what a run of it knows beside it: that of the outermost parser, or of
@@ -105,25 +103,18 @@ impl<T: Drop, P: Parser<T>> Run<'_, T, P> {
         }
     }
 
-    /// The help page, in full or not; or want of memory for it.
+    /// The help page at the path of a state, in full or not; or want of memory for it.
     fn help(&self, state: &State, full: bool) -> ParseFailure
         requires { P.can_eval self.now.inner.now }
         ensures { ShowsHelp (P.describes self.now.inner.now) self.now.info.now full state.now
             result }
     {
-        match self.help_page(state) {
+        let Ok(meta) = self.inner.meta(self.alloc) else {
+            return ParseFailure::Memory;
+        };
+        match self.info.page(self.alloc, state.path(), &meta) {
             Ok(doc) => ParseFailure::Stdout(doc, full),
             Err(_) => ParseFailure::Memory,
         }
-    }
-
-    /// The help page at the path of a state; refused only for want of memory.
-    fn help_page(&self, state: &State) -> Result<Doc, AllocError>
-        requires { P.can_eval self.now.inner.now }
-        ensures { IfOk result
-            (IsHelp (P.describes self.now.inner.now) self.now.info.now state.now) }
-    {
-        let meta = self.inner.meta(self.alloc)?;
-        self.info.page(self.alloc, state.path(), &meta)
     }
 }

@@ -5,8 +5,8 @@ use Rattle.std.specs.declared.alloc.Global.{Global}
 use Rattle.std.proofs.lemmas.List.Elements.{All-weaker}
 use Rattle.bpaf_doc.specs.declared.doc.Piece.{Piece}
 use Rattle.bpaf_doc.specs.Shape.{Part, Any}
-use Rattle.bpaf_words.specs.declared.arg.Arg.{Arg}
-use Rattle.bpaf_words.specs.Items.{item_text}
+use Rattle.bpaf_items.specs.declared.arg.Arg.{Arg}
+use Rattle.bpaf_items.specs.Items.{item_text}
 use Rattle.bpaf_line.specs.Situation.{Situation}
 use Rattle.bpaf_line.specs.declared.error.Error.{Error}
 use Rattle.bpaf_line.specs.declared.error.Message.{Message}

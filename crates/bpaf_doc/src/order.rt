@@ -65,8 +65,7 @@ impl Item {
                 let mut inside = false;
                 meta.in_order(&mut inside)
             }
-            Item::Flag { .. } => !*seen,
-            Item::Argument { .. } => !*seen,
+            Item::Flag { .. } | Item::Argument { .. } => !*seen,
         }
     }
 }
@@ -85,17 +84,17 @@ impl Meta {
                 *seen = seen_in_any;
                 good
             }
-            Meta::Optional(inner) => inner.in_order(seen),
-            Meta::Required(inner) => inner.in_order(seen),
+            Meta::Optional(inner)
+            | Meta::Required(inner)
+            | Meta::Many(inner)
+            | Meta::Strict(inner)
+            | Meta::Subsection(inner, _)
+            | Meta::Suffix(inner, _)
+            | Meta::CustomUsage(inner, _) => inner.in_order(seen),
             Meta::Adjacent(inner) => {
                 let mut inside = false;
                 inner.in_order(&mut inside)
             }
-            Meta::Many(inner) => inner.in_order(seen),
-            Meta::Strict(inner) => inner.in_order(seen),
-            Meta::Subsection(inner, _) => inner.in_order(seen),
-            Meta::Suffix(inner, _) => inner.in_order(seen),
-            Meta::CustomUsage(inner, _) => inner.in_order(seen),
             Meta::Item(item) => item.in_order(seen),
             Meta::Skip => true,
         }

@@ -43,8 +43,7 @@ impl Item {
             Item::Flag { shorts, .. } => flags.extend_from_slice(shorts),
             Item::Argument { shorts, .. } => arguments.extend_from_slice(shorts),
             Item::Command { meta, .. } => meta.collect_shorts(flags, arguments),
-            Item::Any { .. } => Ok(()),
-            Item::Positional { .. } => Ok(()),
+            Item::Any { .. } | Item::Positional { .. } => Ok(()),
         }
     }
 }
@@ -66,16 +65,15 @@ impl Meta {
             ≡ arguments.old.items ++ argument_shorts (shape_of self.now)) }
     {
         match self {
-            Meta::And(all) => collect_all(all, flags, arguments),
-            Meta::Or(all) => collect_all(all, flags, arguments),
-            Meta::Optional(inner) => inner.collect_shorts(flags, arguments),
-            Meta::Required(inner) => inner.collect_shorts(flags, arguments),
-            Meta::Adjacent(inner) => inner.collect_shorts(flags, arguments),
-            Meta::Many(inner) => inner.collect_shorts(flags, arguments),
-            Meta::Strict(inner) => inner.collect_shorts(flags, arguments),
-            Meta::Subsection(inner, _) => inner.collect_shorts(flags, arguments),
-            Meta::Suffix(inner, _) => inner.collect_shorts(flags, arguments),
-            Meta::CustomUsage(inner, _) => inner.collect_shorts(flags, arguments),
+            Meta::And(all) | Meta::Or(all) => collect_all(all, flags, arguments),
+            Meta::Optional(inner)
+            | Meta::Required(inner)
+            | Meta::Adjacent(inner)
+            | Meta::Many(inner)
+            | Meta::Strict(inner)
+            | Meta::Subsection(inner, _)
+            | Meta::Suffix(inner, _)
+            | Meta::CustomUsage(inner, _) => inner.collect_shorts(flags, arguments),
             Meta::Item(item) => item.collect_shorts(flags, arguments),
             Meta::Skip => Ok(()),
         }
@@ -93,17 +91,16 @@ impl Meta {
                 None => None,
                 Some(first) => first.first_item(),
             },
-            Meta::Or(_) => None,
-            Meta::Optional(inner) => inner.first_item(),
-            Meta::Required(inner) => inner.first_item(),
-            Meta::Adjacent(inner) => inner.first_item(),
-            Meta::Many(inner) => inner.first_item(),
-            Meta::Strict(inner) => inner.first_item(),
-            Meta::Subsection(inner, _) => inner.first_item(),
-            Meta::Suffix(inner, _) => inner.first_item(),
-            Meta::CustomUsage(inner, _) => inner.first_item(),
+            Meta::Or(_) | Meta::Skip => None,
+            Meta::Optional(inner)
+            | Meta::Required(inner)
+            | Meta::Adjacent(inner)
+            | Meta::Many(inner)
+            | Meta::Strict(inner)
+            | Meta::Subsection(inner, _)
+            | Meta::Suffix(inner, _)
+            | Meta::CustomUsage(inner, _) => inner.first_item(),
             Meta::Item(item) => Some(item),
-            Meta::Skip => None,
         }
     }
 }

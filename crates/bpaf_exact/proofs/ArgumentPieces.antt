@@ -3,8 +3,8 @@ use Rattle.std.proofs.Common.{◌≡◌, ℕ, Bool, true, false, not, ◌&&◌, 
 use Rattle.std.proofs.Common.{◌∙◌}
 use Rattle.std.proofs.Common.{subst}
 use Rattle.bpaf_text.specs.Named.{KeyWithValue}
-use Rattle.bpaf_words.specs.declared.arg.Arg.{Arg}
-use Rattle.bpaf_words.specs.Items.{is_key_of, is_attached, item_text}
+use Rattle.bpaf_items.specs.declared.arg.Arg.{Arg}
+use Rattle.bpaf_items.specs.Items.{is_key_of, is_attached, item_text}
 use Rattle.bpaf_line.specs.Situation.{Situation}
 use Rattle.bpaf_laws.specs.Argument.{TakesKeyWithText, IsVariable, is_key_with_value}
 use Rattle.bpaf_laws.specs.Environment.{first_set}

@@ -2,7 +2,7 @@
 use Rattle.std.proofs.Common.{◌≡◌, ℕ, true, List, [], ◌∷◌, Option, Some, None, Ok, refl, sym, ap}
 use Rattle.std.proofs.Common.{◌∙◌, subst, ⊎_elim, true≢false}
 use Rattle.bpaf_text.specs.Named.{Named as Key, flag_part}
-use Rattle.bpaf_words.specs.Items.{is_key_of}
+use Rattle.bpaf_items.specs.Items.{is_key_of}
 use Rattle.bpaf_line.specs.declared.error.Error.{Error}
 use Rattle.bpaf_line.specs.declared.error.Message.{Message}
 use Rattle.bpaf_line.specs.declared.error.Message.TheVariants.{Memory}

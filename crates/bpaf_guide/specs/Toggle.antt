@@ -1,7 +1,7 @@
 -- A pair of keys of which one turns something on and the other turns it off.
 use Rattle.std.specs.Prelude.{◌≡◌, ℕ, Bool, true, false, Ok, Err, Option, Some, None}
 use Rattle.bpaf_doc.specs.Names.{Names}
-use Rattle.bpaf_words.specs.Items.{is_key_of}
+use Rattle.bpaf_items.specs.Items.{is_key_of}
 use Rattle.bpaf_line.specs.Situation.{Situation, Context, is_open}
 use Rattle.bpaf_line.specs.Taking.{TakesFlag}
 use Rattle.bpaf_line.proofs.Matches.{match_is_open, match_has_item}

@@ -10,17 +10,14 @@
 //! - [`CommandNames`] are the names of a command; [`CommandNames::open`] takes its word.
 //! - [`is_present`] is the one test for flags; [`take_argument`] takes the text of an argument;
 //!   [`first_set`] and [`absence`] tell of names in the environment.
-//! - [`renamed`] is what a run is given, by another name.
 //!
 //! The source of the design is bpaf's `info.rs` and `params.rs`.
 #![tactic(auto)]
 
 mod environment;
-mod given;
 mod info;
 mod names;
 
 pub use environment::{absence, first_set, is_present, take_argument};
-pub use given::renamed;
 pub use info::{ExtraParams, Info, version_page};
 pub use names::CommandNames;

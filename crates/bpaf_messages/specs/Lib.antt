@@ -3,3 +3,4 @@ pub mod EarlierKey
 pub mod Leftover
 pub mod MissingText
 pub mod Rendering
+pub mod Faults

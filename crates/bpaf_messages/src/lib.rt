@@ -8,17 +8,20 @@
 //! - [`leftover`] is the message of the first item that is left (specs/Leftover.antt): what
 //!   excludes it; else the last earlier key of its kind and name, which [`earlier_key`] finds
 //!   (specs/EarlierKey.antt); else that it isn't expected.
+//! - [`tell_fault`] tells a message of words that have no line (specs/Faults.antt).
 //!
 //! The source of the design is bpaf's `error.rs`.
 #![tactic(auto)]
 
 mod ambiguity;
 mod earlier;
+mod faults;
 mod leftovers;
 mod missing;
 mod rendering;
 mod shown;
 
 pub use earlier::earlier_key;
+pub use faults::tell_fault;
 pub use leftovers::leftover;
 pub use rendering::render;

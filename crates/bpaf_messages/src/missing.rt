@@ -36,8 +36,8 @@ fn is_command(item: &Item) -> bool
 {
     match item {
         Item::Command { .. } => true,
-        Item::Any { .. } | Item::Positional { .. } => false,
-        Item::Flag { .. } | Item::Argument { .. } => false,
+        Item::Any { .. } | Item::Positional { .. } | Item::Flag { .. } | Item::Argument { .. } =>
+            false,
     }
 }
 

@@ -199,13 +199,12 @@ fn message_doc(message: &Message, state: &State) -> Result<Doc, AllocError>
 {
     let alloc = state.alloc();
     match message {
-        Message::Memory => Ok(Doc::new(alloc)),
+        Message::Memory | Message::ParseFailure(_) => Ok(Doc::new(alloc)),
         Message::NoEnv(name) => no_env(state, name),
-        Message::ParseSome(text) => told(alloc, text.as_str()),
-        Message::ParseFail(text) => told(alloc, text.as_str()),
-        Message::PureFailed(text) => told(alloc, text.as_str()),
+        Message::ParseSome(text) | Message::ParseFail(text) | Message::PureFailed(text) => {
+            told(alloc, text.as_str())
+        }
         Message::Missing(items) => missing(state, items.as_slice()),
-        Message::ParseFailure(_) => Ok(Doc::new(alloc)),
         Message::StrictPos(_, metavar) => other_side(alloc, metavar, "right"),
         Message::NonStrictPos(_, metavar) => other_side(alloc, metavar, "left"),
         Message::ParseFailed(place, why) => unread(state, *place, why),

@@ -69,8 +69,7 @@ fn list_of(item: &Item) -> ListPlace
         }
         Item::Positional { .. } => ListPlace::Positionals,
         Item::Command { .. } => ListPlace::Commands,
-        Item::Flag { .. } => ListPlace::Options,
-        Item::Argument { .. } => ListPlace::Options,
+        Item::Flag { .. } | Item::Argument { .. } => ListPlace::Options,
     }
 }
 
@@ -196,16 +195,15 @@ impl<'a> Lines<'a> {
             ≡ self.old.titles.items ++ titles (shape_of meta.now)) }
     {
         match meta {
-            Meta::And(all) => self.collect_all(all, home),
-            Meta::Or(all) => self.collect_all(all, home),
-            Meta::Optional(inner) => self.collect(inner, home),
-            Meta::Required(inner) => self.collect(inner, home),
-            Meta::Adjacent(inner) => self.collect(inner, home),
-            Meta::Many(inner) => self.collect(inner, home),
-            Meta::Strict(inner) => self.collect(inner, home),
+            Meta::And(all) | Meta::Or(all) => self.collect_all(all, home),
+            Meta::Optional(inner)
+            | Meta::Required(inner)
+            | Meta::Adjacent(inner)
+            | Meta::Many(inner)
+            | Meta::Strict(inner)
+            | Meta::CustomUsage(inner, _) => self.collect(inner, home),
             Meta::Subsection(inner, title) => self.collect_section(inner, title, home),
             Meta::Suffix(inner, text) => self.collect_above(inner, text, home),
-            Meta::CustomUsage(inner, _) => self.collect(inner, home),
             Meta::Item(item) => self.push_item(item, home),
             Meta::Skip => Ok(()),
         }

@@ -127,11 +127,11 @@ fn help_of(item: &Item) -> Option<&Doc>
         (λ help. help_of (part_of item.now) ≡ Some help.now) }
 {
     match item {
-        Item::Any { help, .. } => help.as_ref(),
-        Item::Positional { help, .. } => help.as_ref(),
-        Item::Command { help, .. } => help.as_ref(),
-        Item::Flag { help, .. } => help.as_ref(),
-        Item::Argument { help, .. } => help.as_ref(),
+        Item::Any { help, .. }
+        | Item::Positional { help, .. }
+        | Item::Command { help, .. }
+        | Item::Flag { help, .. }
+        | Item::Argument { help, .. } => help.as_ref(),
     }
 }
 

@@ -70,8 +70,10 @@ pub fn usage_of(alloc: Global, meta: &Meta) -> Result<Doc, AllocError>
             let doc = usage_of(alloc, inner)?;
             around(alloc, "[", &doc, "]")
         }
-        Meta::Required(inner) => usage_of(alloc, inner),
-        Meta::Adjacent(inner) => usage_of(alloc, inner),
+        Meta::Required(inner)
+        | Meta::Adjacent(inner)
+        | Meta::Subsection(inner, _)
+        | Meta::Suffix(inner, _) => usage_of(alloc, inner),
         Meta::Many(inner) => {
             let doc = usage_of(alloc, inner)?;
             around(alloc, "", &doc, "...")
@@ -80,8 +82,6 @@ pub fn usage_of(alloc: Global, meta: &Meta) -> Result<Doc, AllocError>
             let doc = usage_of(alloc, inner)?;
             behind_marker(alloc, &doc)
         }
-        Meta::Subsection(inner, _) => usage_of(alloc, inner),
-        Meta::Suffix(inner, _) => usage_of(alloc, inner),
         Meta::CustomUsage(_, text) => text.copy(),
         Meta::Item(item) => {
             let mut doc = Doc::new(alloc);

@@ -3,7 +3,7 @@ use Rattle.std.proofs.Common.{◌≡◌, ℕ, [], ◌++◌, All, IsUtf8, List, O
 use Rattle.std.proofs.Common.{subst, ◌∙◌}
 use Rattle.bpaf_doc.specs.Shape.{Part, Shape}
 use Rattle.bpaf_doc.specs.Walks.{shorts_of_arguments, shorts_of_flags}
-use Rattle.bpaf_words.specs.declared.arg.Arg.{Arg}
+use Rattle.bpaf_items.specs.declared.arg.Arg.{Arg}
 use Rattle.bpaf_words.specs.Arguments.{Given}
 use Rattle.bpaf_words.specs.Line.{HasNoLine}
 use Rattle.bpaf_words.specs.Spelling.{ShortNames, Known, known_at}

@@ -7,11 +7,11 @@ use Rattle.std.specs.List.{AllZip, Contains, AllByRecursion}
 use Rattle.bpaf_doc.specs.Names.{Names}
 use Rattle.bpaf_doc.specs.Shape.{Shape}
 use Rattle.bpaf_words.specs.Arguments.{Given}
-use Rattle.bpaf_words.specs.Items.{is_key_of}
+use Rattle.bpaf_items.specs.Items.{is_key_of}
 use Rattle.bpaf_words.specs.Line.{IsLine, without_marker, with_marker, SpellAll}
 use Rattle.bpaf_words.specs.Spelling.{Known, Items, Spells, known_at}
-use Rattle.bpaf_words.specs.declared.arg.Arg.{Arg}
-use Rattle.bpaf_words.specs.declared.arg.Arg.TheVariants.{PosWord}
+use Rattle.bpaf_items.specs.declared.arg.Arg.{Arg}
+use Rattle.bpaf_items.specs.declared.arg.Arg.TheVariants.{PosWord}
 use Rattle.bpaf_line.specs.Constructing.{IsContext}
 use Rattle.bpaf_line.specs.Situation.{Context, item_in, is_marker}
 use Rattle.bpaf.specs.Info.{RunInfo}

@@ -2,9 +2,9 @@
 use Rattle.std.specs.Prelude.{◌≡◌, true, ℕ, List}
 use Rattle.std.specs.List.{Contains}
 use Rattle.bpaf_doc.specs.Names.{Names}
-use Rattle.bpaf_words.specs.Items.{is_key_of}
+use Rattle.bpaf_items.specs.Items.{is_key_of}
 use Rattle.bpaf_words.specs.Spelling.{Known, Items, Spells}
-use Rattle.bpaf_words.specs.declared.arg.Arg.{Arg}
+use Rattle.bpaf_items.specs.declared.arg.Arg.{Arg}
 use Rattle.bpaf.specs.Marker.{words_before}
 
 -- a key with one of these names is one of the items that a word spells

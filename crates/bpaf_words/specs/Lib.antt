@@ -1,5 +1,4 @@
 pub mod Arguments
-pub mod Items
 pub mod Spelling
 pub mod Splitting
 pub mod Line

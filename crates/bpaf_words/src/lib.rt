@@ -1,12 +1,9 @@
 //! Words and the items that they spell.
 //!
-//! It stands on `bpaf_base`, whose texts it holds, and knows nothing of documents, of parsers or of
-//! what is taken.
-//! For the layers above:
+//! It stands on `bpaf_items`, whose [`Arg`] and tests on one it hands on, and on `bpaf_base`. It
+//! knows nothing of documents, of parsers or of what is taken. For the layers above:
 //!
 //! - [`Args`] lends the words, the name and the environment of a run (specs/Arguments.antt).
-//! - [`Arg`] is one item of a line: a key, the value in a key's own word, or a word. What a test on
-//!   an item computes stands in specs/Items.antt.
 //! - [`split_word`] answers the items of one word. Contracts say which by `Spells`
 //!   (specs/Spelling.antt), by the ways in which a word falls into parts and not by a walk over it;
 //!   what a spelling depends on is one record, `Known`: the known short names, and whether a
@@ -21,17 +18,16 @@
 //! The source of the design is bpaf's `arg.rs` and `args.rs`.
 #![tactic(auto)]
 
-mod arg;
 mod args;
 mod laws;
 mod line;
 mod split;
 
-pub use arg::{
+pub use args::{Args, LentWord, Words};
+pub use bpaf_items::{
     Arg, is_argument_key, is_attached, is_command_word, is_key_of, is_positional, item_text,
     value_text,
 };
-pub use args::{Args, LentWord, Words};
 pub use laws::{lines_are_unique, spellings_are_unique};
 pub use line::{Front, Line, LineFault, line_of};
 pub use split::{SplitFault, split_word};

@@ -7,10 +7,10 @@ ghost use Rattle.bpaf_words.specs.Spelling.{known_at};
 ghost use Rattle.bpaf_words.specs.Splitting.{Begins, BeginsByAny, EndsFront, IsFront, IsLineByAny};
 ghost use Rattle.bpaf_words.specs.Splitting.{SplitsWords, ReadsLine, AreTexts};
 
-use crate::arg::Arg;
 use crate::args::Words;
 use crate::split::{SplitFault, split_alone, split_word};
 use bpaf_base::Text;
+use bpaf_items::Arg;
 use std::alloc::{AllocError, Global};
 
 /// The line of words: its items, and the place of the first `--`, where one stands there.

@@ -1,20 +1,18 @@
 //! A run over words: their line is read, and the parser runs over it.
 ghost use Rattle.std.specs.Prelude.{◌≡◌, IfOk};
 ghost use Rattle.std.specs.Result.{IfErr};
-ghost use Rattle.bpaf_words.specs.Arguments.{given_of, name_of, words_in};
+ghost use Rattle.bpaf_words.specs.Arguments.{given_of, words_in};
 ghost use Rattle.bpaf_laws.specs.Spared.{WithoutMemory};
-ghost use Rattle.bpaf_core.specs.Known.{ReadsLineOf, ShowsNames, Starts};
+ghost use Rattle.bpaf_core.specs.Known.{ReadsLineOf, Starts};
 ghost use Rattle.bpaf_core.specs.Dealt.{IsDealtOut};
 ghost use Rattle.bpaf_core.specs.Run.{IsNotWant, RunsWords};
-ghost use Rattle.bpaf_core.specs.Ending.{TellsNoLine};
 ghost use Rattle.bpaf_core.specs.Refusals.{IsOneOfTwelve};
 
 use crate::options::OptionParser;
 use crate::parser::Parser;
 use crate::run::Run;
-use bpaf_keys::renamed;
 use bpaf_line::{Message, ParseFailure, State};
-use bpaf_messages::render;
+use bpaf_messages::tell_fault;
 use bpaf_words::{Args, Front, Line, LineFault, Words};
 use std::alloc::{AllocError, Global};
 use std::marker::PhantomData;
@@ -86,35 +84,9 @@ impl<T: Drop, P: Parser<T>> OptionParser<T, P> {
         if front.is_whole(words) {
             return Ok(front.line(self.alloc, words)?);
         }
-        let (flags, arguments) = self.known_shorts()?;
-        front.line_by(self.alloc, words, &flags, &arguments)
-    }
-
-    /// The known short names, by which joined words are read: those of the shown flags, of help and
-    /// of version as flags, and those of the shown arguments.
-    fn known_shorts(&self) -> Result<(Vec<char>, Vec<char>), AllocError>
-        requires { P.can_eval self.now.inner }
-        ensures { IfOk result (λ r. ShowsNames (P.describes self.now.inner) self.now.info
-            r.0.items r.1.items) }
-    {
         let meta = self.inner.meta(self.alloc)?;
-        self.info.known_shorts(self.alloc, &meta)
-    }
-}
-
-/// What is told of words that have no line: there is no state, so one without words stands for it,
-/// of the same set name. Or want of memory for that.
-fn tell_fault(alloc: Global, args: Args<'_>, message: Message) -> ParseFailure
-    ensures { TellsNoLine (name_of args.entry) message result }
-{
-    let words: [&str; 0] = [];
-    match State::construct(alloc, renamed(Args::from(&words), args.name()), &[], &[]) {
-        Ok(state) => render(message, &state),
-        Err(fault) => {
-            drop(fault);
-            drop(message);
-            ParseFailure::Memory
-        }
+        let (flags, arguments) = self.info.known_shorts(self.alloc, &meta)?;
+        front.line_by(self.alloc, words, &flags, &arguments)
     }
 }
 

@@ -1,5 +1,4 @@
-use Rattle.std.proofs.Common.{◌≡◌, ap, inr, sym, ◌∙◌, subst}
-use Rattle.bpaf_line.specs.Marks.{KeepsMarks, undone}
+use Rattle.std.proofs.Common.{ap, inr, sym, ◌∙◌, subst}
 use Rattle.bpaf_line.specs.Messages.{is_memory}
 use Rattle.bpaf_laws.specs.Choice.{ChoiceOutcome}
 use Rattle.bpaf_laws.proofs.Choosing.{ran_outcome, choice_spared, want_outcome, want_leftmost}

@@ -1,5 +1,5 @@
-use Rattle.std.proofs.Common.{ℕ, ◌∙◌, ◌++◌, ◌∷◌, [], ap, sym, subst, get_or, append_assoc}
-use Rattle.std.proofs.lemmas.List.{take_more}
+use Rattle.std.proofs.Common.{ℕ, ◌∙◌, ◌++◌, ◌∷◌, [], ap, sym, subst, get_or, append_assoc, arith}
+use Rattle.std.proofs.lemmas.List.{take_all, take_more}
 use Rattle.bpaf_line.proofs.Winners.{PairsOf, pairs_more, pairs_not}
 use Rattle.bpaf_line.proofs.state.State.exclude.Goals as goal
 
@@ -27,4 +27,14 @@ loop-place-preserved c =
       subst (λ places. PairsOf c.args.self.now c.args.winner places (so_far.0 ++ pair ∷ []))
           (sym more) (pairs_more c.args.self.now c.args.winner _ so_far.0 place so_far.2
           (sym c.is_taken.ensures ∙ c.if-is_taken.false)),
+    )
+
+pub returns-clause-ok : goal.returns-clause-ok
+returns-clause-ok c =
+    let so_far = c.loop-place.invariant in
+    let whole = take_all c.loop-place.place-index c.args.taken.now
+    (omega (arith, c.loop-place-test.false)) in (
+      so_far.0,
+      so_far.1,
+      subst (λ places. PairsOf c.args.self.now c.args.winner places so_far.0) whole so_far.2,
     )

@@ -1,7 +1,7 @@
 //! The items of a line, and tests on one.
 ghost use Rattle.std.specs.Prelude.{◌≡◌, option_copied};
-ghost use Rattle.bpaf_words.specs.Items.{is_text_among, is_key_of, is_argument_key, is_attached};
-ghost use Rattle.bpaf_words.specs.Items.{is_positional, value_text, item_text, is_command_word};
+ghost use Rattle.bpaf_items.specs.Items.{is_text_among, is_key_of, is_argument_key, is_attached};
+ghost use Rattle.bpaf_items.specs.Items.{is_positional, value_text, item_text, is_command_word};
 
 use bpaf_base::Text;
 use std::fmt;
@@ -28,7 +28,7 @@ pub enum Arg {
 /// Prints a key as `-c` or `--name`, without its value, and every other item as its text.
 impl fmt::Display for Arg {
     ghost use Rattle.std.specs.Prelude.{Some};
-    ghost use Rattle.bpaf_words.specs.Items.{display};
+    ghost use Rattle.bpaf_items.specs.Items.{display};
 
     ghost output = { λ item. Some (display item) };
 
@@ -36,9 +36,7 @@ impl fmt::Display for Arg {
         match self {
             Arg::Short(c, _, _) => write!(f, "-{c}"),
             Arg::Long(name, _, _) => write!(f, "--{name}"),
-            Arg::ArgWord(text) => write!(f, "{text}"),
-            Arg::Word(text) => write!(f, "{text}"),
-            Arg::PosWord(text) => write!(f, "{text}"),
+            Arg::ArgWord(text) | Arg::Word(text) | Arg::PosWord(text) => write!(f, "{text}"),
         }
     }
 }
@@ -91,8 +89,7 @@ pub fn value_text(item: &Arg) -> Option<&Text>
     ensures { option_copied result ≡ value_text item.now }
 {
     match item {
-        Arg::Word(text) => Some(text),
-        Arg::ArgWord(text) => Some(text),
+        Arg::Word(text) | Arg::ArgWord(text) => Some(text),
         Arg::Short(..) | Arg::Long(..) | Arg::PosWord(_) => None,
     }
 }

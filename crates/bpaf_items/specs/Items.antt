@@ -4,8 +4,8 @@ use Rattle.std.specs.Prelude.{bytes_eq, codes, encode_utf8}
 use Rattle.std.specs.List.{list_any}
 use Rattle.std.specs.Option.{option_map_or}
 use Rattle.bpaf_base.specs.Names.{Names}
-use Rattle.bpaf_words.specs.declared.arg.Arg.{Arg}
-use Rattle.bpaf_words.specs.declared.arg.Arg.TheVariants.{Short, Long, ArgWord, Word, PosWord}
+use Rattle.bpaf_items.specs.declared.arg.Arg.{Arg}
+use Rattle.bpaf_items.specs.declared.arg.Arg.TheVariants.{Short, Long, ArgWord, Word, PosWord}
 
 -- c is among cs
 abbrev pub is_among : List ℕ → ℕ → Bool

@@ -1,0 +1,26 @@
+//! What is told of words that have no line.
+ghost use Rattle.bpaf_words.specs.Arguments.{name_of};
+ghost use Rattle.bpaf_messages.specs.Faults.{TellsNoLine};
+
+use crate::rendering::render;
+use bpaf_line::{Message, ParseFailure, State};
+use bpaf_words::{Args, Line};
+use std::alloc::Global;
+
+/// What is told of words that have no line: there is no state, so that of a line without items
+/// stands for it, of the same set name. Or want of memory for that.
+pub fn tell_fault(alloc: Global, args: Args<'_>, message: Message) -> ParseFailure
+    ensures { TellsNoLine (name_of args.entry) message result }
+{
+    let line = Line {
+        items: Vec::new(alloc),
+        marker: None,
+    };
+    match State::of_line(alloc, args, line) {
+        Ok(state) => render(message, &state),
+        Err(_refused) => {
+            drop(message);
+            ParseFailure::Memory
+        }
+    }
+}
