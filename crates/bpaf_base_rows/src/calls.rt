@@ -4,14 +4,13 @@
 //! them, and what these are to answer. So one function alone owns a state.
 ghost use Rattle.std.specs.Prelude.{◌≡◌, ◌≤◌, true, length};
 
-use crate::shared::reads;
 use bpaf_doc::{Metavar, Text};
 use bpaf_line::{Error, Message, State};
 use bpaf_messages::{earlier_key, leftover};
+use bpaf_trial::reads;
 use bpaf_words::{Arg, Args};
 use std::alloc::{AllocError, Global};
 use std::fmt::Debug;
-use std::process::Abort;
 use std::test::Fail;
 
 /// A call of a state, with its arguments.
@@ -51,10 +50,10 @@ pub(crate) struct Row<'a> {
 }
 
 /// Compares what the calls of each row answer with what is wanted; the name of the run is `app`.
-pub(crate) fn walk(rt: &(impl Abort + AllocGlobal), rows: &[Row<'_>]) -> Result<(), Fail> {
+pub(crate) fn walk(alloc: Global, rows: &[Row<'_>]) -> Result<(), Fail> {
     for row in rows {
         let args = Args::from(row.words).set_name("app");
-        reads(rt, played(rt.alloc(), args, *row), row.wanted)?;
+        reads(played(alloc, args, *row), row.wanted)?;
     }
     Ok(())
 }

@@ -1,8 +1,8 @@
 //! The texts of failures, missing items, and refusals for want of memory.
-use crate::shared::{prints, reads};
 use bpaf_doc::{Doc, Item, Text};
 use bpaf_keys::{ExtraParams, Info};
 use bpaf_line::{Error, Message, MissingItem, MissingItems, ParseFailure};
+use bpaf_trial::{prints, reads};
 use std::alloc::{AllocError, Global};
 use std::test::Fail;
 
@@ -37,14 +37,14 @@ fn texts(
 fn failures_give_their_texts(rt: HostRuntime) -> Result<(), Fail> {
     let a = rt.alloc();
     prints(
-        &rt,
+        a,
         texts(asked(a, "help", true)),
         "(Some(\"help\"), None, 0)",
     )?;
-    prints(&rt, texts(asked(a, "", false)), "(Some(\"\"), None, 0)")?;
-    prints(&rt, texts(told(a, "no")), "(None, Some(\"no\"), 1)")?;
+    prints(a, texts(asked(a, "", false)), "(Some(\"\"), None, 0)")?;
+    prints(a, texts(told(a, "no")), "(None, Some(\"no\"), 1)")?;
     prints(
-        &rt,
+        a,
         texts(Ok(ParseFailure::from(AllocError))),
         "(None, None, 1)",
     )
@@ -104,7 +104,6 @@ fn missed_by_both(alloc: Global) -> Result<String, AllocError> {
 #[test]
 fn missing_items_are_joined(rt: HostRuntime) -> Result<(), Fail> {
     reads(
-        &rt,
         missed_by_both(rt.alloc()),
         "FILE from 1 in 1..3;DIR from 1 in 1..3;",
     )
@@ -159,10 +158,10 @@ fn copy_known(alloc: Global) -> Result<String, AllocError> {
 
 #[test]
 fn keys_of_a_run_are_copied(rt: HostRuntime) -> Result<(), Fail> {
+    let a = rt.alloc();
     reads(
-        &rt,
-        copy_known(rt.alloc()),
+        copy_known(a),
         "None None None None None None None false 100 false",
     )?;
-    prints(&rt, ExtraParams::Help(true).copy(), "Help(true)")
+    prints(a, ExtraParams::Help(true).copy(), "Help(true)")
 }

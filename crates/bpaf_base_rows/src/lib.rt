@@ -21,8 +21,6 @@ mod messages;
 #[cfg(test)]
 mod numbers;
 #[cfg(test)]
-mod shared;
-#[cfg(test)]
 mod sources;
 #[cfg(test)]
 mod trees;

@@ -134,7 +134,7 @@ const SPELLED: &[Row<'static>] = &[
 
 #[test]
 fn words_spell_items(rt: HostRuntime) -> Result<(), Fail> {
-    walk(&rt, SPELLED)
+    walk(rt.alloc(), SPELLED)
 }
 
 /// Flags, arguments and words that are taken.
@@ -351,7 +351,7 @@ const TAKEN: &[Row<'static>] = &[
 
 #[test]
 fn items_are_taken(rt: HostRuntime) -> Result<(), Fail> {
-    walk(&rt, TAKEN)
+    walk(rt.alloc(), TAKEN)
 }
 
 /// The names of commands.
@@ -435,7 +435,7 @@ const COMMANDS: &[Row<'static>] = &[
 
 #[test]
 fn commands_are_taken(rt: HostRuntime) -> Result<(), Fail> {
-    walk(&rt, COMMANDS)
+    walk(rt.alloc(), COMMANDS)
 }
 
 /// Scope, places and path.
@@ -547,10 +547,10 @@ const LEFT: &[Row<'static>] = &[
 
 #[test]
 fn leftovers_are_told(rt: HostRuntime) -> Result<(), Fail> {
-    walk(&rt, LEFT)
+    walk(rt.alloc(), LEFT)
 }
 
 #[test]
 fn scope_and_path_are_changed(rt: HostRuntime) -> Result<(), Fail> {
-    walk(&rt, SCOPED)
+    walk(rt.alloc(), SCOPED)
 }

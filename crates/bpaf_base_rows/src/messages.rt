@@ -1,8 +1,8 @@
 //! The texts of messages on states of given words.
-use crate::shared::reads;
 use bpaf_doc::{Item, Meta, ShortLong, Text};
 use bpaf_line::{Message, MissingItem, MissingItems, ParseFailure, State};
 use bpaf_messages::render;
+use bpaf_trial::reads;
 use bpaf_words::Args;
 use std::alloc::{AllocError, Global};
 use std::test::Fail;
@@ -241,7 +241,7 @@ fn rendered(alloc: Global, words: &[&str], told: Told<'_>) -> Result<String, All
 #[test]
 fn messages_have_their_texts(rt: HostRuntime) -> Result<(), Fail> {
     for (words, told, wanted) in ROWS {
-        reads(&rt, rendered(rt.alloc(), *words, *told), *wanted)?;
+        reads(rendered(rt.alloc(), *words, *told), *wanted)?;
     }
     Ok(())
 }

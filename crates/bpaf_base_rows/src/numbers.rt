@@ -1,7 +1,7 @@
 //! The items of words by which negative numbers are words.
 use crate::calls::{Call, Row, answer_of};
-use crate::shared::reads;
 use bpaf_line::State;
+use bpaf_trial::reads;
 use bpaf_words::Args;
 use std::alloc::{AllocError, Global};
 use std::test::Fail;
@@ -37,7 +37,7 @@ fn numbers_spell_words(rt: HostRuntime) -> Result<(), Fail> {
             calls: &[Call::Spelled],
             wanted: *wanted,
         };
-        reads(&rt, spelled(rt.alloc(), row), row.wanted)?;
+        reads(spelled(rt.alloc(), row), row.wanted)?;
     }
     Ok(())
 }
@@ -79,7 +79,7 @@ const KNOWN: &[Row<'static>] = &[
 #[test]
 fn numbers_spell_words_whatever_is_known(rt: HostRuntime) -> Result<(), Fail> {
     for row in KNOWN {
-        reads(&rt, spelled(rt.alloc(), *row), row.wanted)?;
+        reads(spelled(rt.alloc(), *row), row.wanted)?;
     }
     Ok(())
 }

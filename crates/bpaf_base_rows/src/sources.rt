@@ -2,7 +2,7 @@
 ghost use Rattle.std.specs.Prelude.{◌≢◌, codes};
 
 use crate::calls::{Call, Row, played};
-use crate::shared::{prints, reads};
+use bpaf_trial::{prints, reads};
 use bpaf_words::{Args, SplitFault, split_word};
 use std::alloc::{AllocError, Global};
 use std::collections::BTreeMap;
@@ -48,9 +48,10 @@ fn lent(alloc: Global) -> Result<String, AllocError> {
 
 #[test]
 fn words_name_and_environment_are_lent(rt: HostRuntime) -> Result<(), Fail> {
+    let a = rt.alloc();
     let wanted = r#"("Some(\"5\");None;1;[\"app\"];0 x,;", "None;None;0;[];0 x,;")"#;
-    prints(&rt, both_owned(rt.alloc()), wanted)?;
-    reads(&rt, lent(rt.alloc()), "None;None;0;[];0 x,1 y,;")
+    prints(a, both_owned(a), wanted)?;
+    reads(lent(a), "None;None;0;[];0 x,1 y,;")
 }
 
 /// How many items a word spells that isn't `--`, or the number of its ambiguous character.

@@ -5,9 +5,9 @@ use bpaf::{Args, Doc, Parser, construct, long, positional, short};
 use bpaf_batteries::{
     cargo_helper, get_usage, toggle_flag, verbose_and_quiet_by_number, verbose_by_slice,
 };
+use bpaf_trial::reads;
 use std::alloc::{AllocError, Global};
 use std::fmt::Debug;
-use std::process::Abort;
 use std::test::Fail;
 
 /// Levels of verbosity.
@@ -48,13 +48,6 @@ fn values<T: Debug + Drop, P: Parser<T> + Drop>(
     Ok(out)
 }
 
-/// Compares a text with the wanted one.
-fn reads(rt: &impl Abort, found: Result<String, AllocError>, wanted: &str) -> Result<(), Fail> {
-    let found = found?;
-    assert_eq!(rt; found.as_str(), wanted);
-    Ok(())
-}
-
 /// Levels as numbers, on a line of one word.
 fn number(
     alloc: Global,
@@ -76,12 +69,10 @@ fn number(
 fn a_level_stays_within_its_bounds(rt: HostRuntime) -> Result<(), Fail> {
     let a = rt.alloc();
     reads(
-        &rt,
         number(a, isize::MAX, 0, isize::MAX, "-v"),
         "Some(9223372036854775807) ",
     )?;
     reads(
-        &rt,
         number(a, isize::MIN, isize::MIN, 0, "-q"),
         "Some(-9223372036854775808) ",
     )
@@ -113,11 +104,10 @@ fn a_level_picks_its_item(rt: HostRuntime) -> Result<(), Fail> {
     let a = rt.alloc();
     let found = items(a, &[&[], &["-q"], &["-qqq"], &["-qqqq"], &["-vvvvq"]]);
     reads(
-        &rt,
         found,
         "Some(Info) Some(Warning) Some(Error) Some(Error) Some(Trace) ",
     )?;
-    reads(&rt, last_item(a), "Some('B') ")
+    reads(last_item(a), "Some('B') ")
 }
 
 /// What two keys select.
@@ -136,11 +126,7 @@ fn the_last_toggle_counts(rt: HostRuntime) -> Result<(), Fail> {
     let words: [&str; 4] = ["--banana", "--no-banana", "--banana", "--banana"];
     let off: [&str; 2] = ["--banana", "--no-banana"];
     let found = selected(rt.alloc(), &[&words, &off, &[]]);
-    reads(
-        &rt,
-        found,
-        "Some(Some(Banana)) Some(Some(NoBanana)) Some(None) ",
-    )
+    reads(found, "Some(Some(Banana)) Some(Some(NoBanana)) Some(None) ")
 }
 
 /// A number, perhaps behind the name of a subcommand.
@@ -155,7 +141,7 @@ fn a_word_in_front_is_passed_over(rt: HostRuntime) -> Result<(), Fail> {
         rt.alloc(),
         &[&["asm", "-n", "3"], &["-n", "3"], &["x", "-n", "3"]],
     );
-    reads(&rt, found, "Some(3) Some(3) None ")
+    reads(found, "Some(3) Some(3) None ")
 }
 
 /// The help page of a parser, or nothing.
@@ -198,9 +184,9 @@ const LEVEL_PAGE: &str = "Usage: [--verbose]... [--quiet]...\n\n\
 #[test]
 fn usage_is_told_where_help_is_shown(rt: HostRuntime) -> Result<(), Fail> {
     let a = rt.alloc();
-    reads(&rt, help_of_word(a), PAGE)?;
-    reads(&rt, help_of_switch(a), "")?;
-    reads(&rt, help_of_level(a), LEVEL_PAGE)
+    reads(help_of_word(a), PAGE)?;
+    reads(help_of_switch(a), "")?;
+    reads(help_of_level(a), LEVEL_PAGE)
 }
 
 /// Whether no key stands behind a word in what a parser shows.

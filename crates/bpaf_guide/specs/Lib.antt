@@ -1,2 +1,1 @@
 pub mod Toggle
-pub mod Remove

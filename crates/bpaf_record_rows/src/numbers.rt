@@ -2,20 +2,33 @@
 use crate::record_rows::{Row, compare_options};
 use bpaf::{Parser, construct, positional, short};
 use bpaf_record::FlatField;
+use std::alloc::Global;
 use std::fmt::Debug;
-use std::process::Abort;
 use std::test::Fail;
 
 /// Runs a flat record by which negative numbers are words on each row, and compares the answers.
 fn compare_numbers<T: Debug + Drop, P: FlatField<T> + Drop>(
-    rt: &(impl Abort + AllocGlobal),
+    alloc: Global,
     parser: P,
     rows: &[Row<'_>],
 ) -> Result<(), Fail>
     requires { P.can_eval parser }
 {
-    let options = parser.to_options(rt.alloc())?;
-    compare_options(rt, options.numbers_as_words(), rows)
+    let options = parser.to_options(alloc)?;
+    compare_options(alloc, options.numbers_as_words(), rows)
+}
+
+/// The same of a product of two fields.
+fn compare_pair<A: Debug + Drop, B: Debug + Drop, P: FlatField<A> + Drop, Q: FlatField<B> + Drop>(
+    alloc: Global,
+    first: P,
+    second: Q,
+    rows: &[Row<'_>],
+) -> Result<(), Fail>
+    requires first { P.can_eval first }
+    requires second { Q.can_eval second }
+{
+    compare_numbers(alloc, construct!(first, second), rows)
 }
 
 /// Rows of a number behind a key.
@@ -47,13 +60,15 @@ const BESIDE_WORDS: &[Row<'static>] = &[
 
 #[test]
 fn negative_numbers_behind_a_key_run_as_records(rt: HostRuntime) -> Result<(), Fail> {
-    let num = short(rt.alloc(), 'n')?.argument::<i64>("NUM");
-    compare_numbers(&rt, num, BEHIND_KEY)
+    let a = rt.alloc();
+    let num = short(a, 'n')?.argument::<i64>("NUM");
+    compare_numbers(a, num, BEHIND_KEY)
 }
 
 #[test]
 fn negative_numbers_as_words_run_as_records(rt: HostRuntime) -> Result<(), Fail> {
-    let num = short(rt.alloc(), 'n')?.argument::<i64>("NUM");
+    let a = rt.alloc();
+    let num = short(a, 'n')?.argument::<i64>("NUM");
     let words = positional::<i64>("X").many();
-    compare_numbers(&rt, construct!(num, words), BESIDE_WORDS)
+    compare_pair(a, num, words, BESIDE_WORDS)
 }

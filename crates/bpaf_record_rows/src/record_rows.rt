@@ -4,10 +4,10 @@ use crate::records::{number, switch, word};
 use bpaf::params::ParseArgument;
 use bpaf::{Args, Doc, OptionParser, ParseFailure, Parser, choice, construct};
 use bpaf_record::{FlatField, Record};
+use bpaf_trial::reads;
 use std::alloc::{AllocError, Global};
 use std::collections::BTreeSet;
 use std::fmt::Debug;
-use std::process::Abort;
 use std::test::Fail;
 
 /// Words, parted by spaces, and the answer: `ok` and the value as Rust's Debug prints it, `err`
@@ -35,29 +35,30 @@ fn told<T: Debug + Drop>(
 
 /// Runs a flat record on the words of each row, and compares the answers.
 fn compare<T: Debug + Drop, P: FlatField<T> + Drop>(
-    rt: &(impl Abort + AllocGlobal),
+    alloc: Global,
     parser: P,
     rows: &[Row<'_>],
 ) -> Result<(), Fail>
     requires { P.can_eval parser }
 {
-    compare_options(rt, parser.to_options(rt.alloc())?, rows)
+    compare_options(alloc, parser.to_options(alloc)?, rows)
 }
 
 /// The same of options.
 pub(crate) fn compare_options<T: Debug + Drop, P: FlatField<T> + Drop>(
-    rt: &(impl Abort + AllocGlobal),
+    alloc: Global,
     options: OptionParser<T, P>,
     rows: &[Row<'_>],
 ) -> Result<(), Fail>
     requires { P.can_eval options.inner }
 {
-    let alloc = rt.alloc();
-    assert!(rt; options.is_record());
+    if !options.is_record() {
+        return Err(Fail::new("no flat record"));
+    }
     for (words, wanted) in rows {
         let line: Vec<&str> = words.split_whitespace().collect(alloc)?;
-        let found = told(alloc, options.run_record(Args::from(line.as_slice())))?;
-        assert_eq!(rt; found.as_str(), *wanted, "on `{words}`");
+        let answer = options.run_record(Args::from(line.as_slice()));
+        reads(told(alloc, answer), wanted)?;
     }
     Ok(())
 }
@@ -70,18 +71,12 @@ fn compare_triple<
     P: FlatField<A> + Drop,
     Q: FlatField<B> + Drop,
     R: FlatField<C> + Drop,
->(
-    rt: &(impl Abort + AllocGlobal),
-    first: P,
-    second: Q,
-    third: R,
-    rows: &[Row<'_>],
-) -> Result<(), Fail>
+>(alloc: Global, first: P, second: Q, third: R, rows: &[Row<'_>]) -> Result<(), Fail>
     requires first { P.can_eval first }
     requires second { Q.can_eval second }
     requires third { R.can_eval third }
 {
-    compare(rt, construct!(first, second, third), rows)
+    compare(alloc, construct!(first, second, third), rows)
 }
 
 const NUMBER: &[Row<'static>] = &[
@@ -109,7 +104,8 @@ const NUMBER: &[Row<'static>] = &[
 
 #[test]
 fn numbers_run_as_records(rt: HostRuntime) -> Result<(), Fail> {
-    compare(&rt, number(rt.alloc(), 'n')?, NUMBER)
+    let a = rt.alloc();
+    compare(a, number(a, 'n')?, NUMBER)
 }
 
 const LAST_NUMBER_ALONE: &[Row<'static>] = &[
@@ -123,7 +119,8 @@ const LAST_NUMBER_ALONE: &[Row<'static>] = &[
 
 #[test]
 fn last_numbers_run_as_records(rt: HostRuntime) -> Result<(), Fail> {
-    compare(&rt, number(rt.alloc(), 'n')?.take_last(), LAST_NUMBER_ALONE)
+    let a = rt.alloc();
+    compare(a, number(a, 'n')?.take_last(), LAST_NUMBER_ALONE)
 }
 
 const OPTIONS_AND_WORDS: &[Row<'static>] = &[
@@ -140,9 +137,10 @@ const OPTIONS_AND_WORDS: &[Row<'static>] = &[
 
 #[test]
 fn products_of_three_run_as_records(rt: HostRuntime) -> Result<(), Fail> {
-    let verbose = switch(rt.alloc(), 'v')?;
-    let num = number(rt.alloc(), 'n')?;
-    compare_triple(&rt, verbose, num, word().many(), OPTIONS_AND_WORDS)
+    let a = rt.alloc();
+    let verbose = switch(a, 'v')?;
+    let num = number(a, 'n')?;
+    compare_triple(a, verbose, num, word().many(), OPTIONS_AND_WORDS)
 }
 
 const ANY_ORDER: &[Row<'static>] = &[
@@ -153,9 +151,10 @@ const ANY_ORDER: &[Row<'static>] = &[
 
 #[test]
 fn fields_in_any_order_run_as_records(rt: HostRuntime) -> Result<(), Fail> {
-    let nums = number(rt.alloc(), 'n')?.many();
-    let verbose = switch(rt.alloc(), 'v')?;
-    compare_triple(&rt, nums, verbose, word().optional(), ANY_ORDER)
+    let a = rt.alloc();
+    let nums = number(a, 'n')?.many();
+    let verbose = switch(a, 'v')?;
+    compare_triple(a, nums, verbose, word().optional(), ANY_ORDER)
 }
 
 const CLOSED: &[Row<'static>] = &[
@@ -169,20 +168,32 @@ const CLOSED: &[Row<'static>] = &[
     ),
 ];
 
+/// Compares the answers of a number that isn't 5, twice, with a default.
+fn compare_doubled<P: FlatField<u64> + Drop>(
+    alloc: Global,
+    parser: P,
+    rows: &[Row<'_>],
+) -> Result<(), Fail>
+    requires { P.can_eval parser }
+{
+    let even = parser.parse(|n: u64| if n == 5 { Err("odd") } else { Ok(n) });
+    compare(alloc, even.map(|n| n.saturating_add(n)).fallback(7), rows)
+}
+
 #[test]
 fn closures_run_as_records(rt: HostRuntime) -> Result<(), Fail> {
-    let num = number(rt.alloc(), 'n')?.guard(|n| *n < 10, "below 10");
-    let even = num.parse(|n: u64| if n == 5 { Err("odd") } else { Ok(n) });
-    let doubled = even.map(|n| n.saturating_add(n));
-    compare(&rt, doubled.fallback(7), CLOSED)
+    let a = rt.alloc();
+    let num = number(a, 'n')?.guard(|n| *n < 10, "below 10");
+    compare_doubled(a, num, CLOSED)
 }
 
 const FAILED_FALLBACK: &[Row<'static>] = &[("", "err no disk"), ("-n 3", "ok 3")];
 
 #[test]
 fn defaults_run_as_records(rt: HostRuntime) -> Result<(), Fail> {
-    let failed = number(rt.alloc(), 'n')?.fallback_with(|| Err::<u64, &str>("no disk"));
-    compare(&rt, failed, FAILED_FALLBACK)
+    let a = rt.alloc();
+    let failed = number(a, 'n')?.fallback_with(|| Err::<u64, &str>("no disk"));
+    compare(a, failed, FAILED_FALLBACK)
 }
 
 const COUNTED_SWITCHES: &[Row<'static>] = &[
@@ -201,16 +212,17 @@ const SOME_WORDS: &[Row<'static>] = &[
 
 #[test]
 fn repeats_run_as_records(rt: HostRuntime) -> Result<(), Fail> {
-    compare(&rt, switch(rt.alloc(), 'v')?.count(), COUNTED_SWITCHES)?;
-    compare(&rt, number(rt.alloc(), 'n')?.last(), LAST_NUMBER)?;
-    let numbers = number(rt.alloc(), 'n')?.collect::<BTreeSet<u64>>();
-    compare(&rt, numbers, NUMBER_SET)?;
-    compare(&rt, word().some("need one"), SOME_WORDS)
+    let a = rt.alloc();
+    compare(a, switch(a, 'v')?.count(), COUNTED_SWITCHES)?;
+    compare(a, number(a, 'n')?.last(), LAST_NUMBER)?;
+    let numbers = number(a, 'n')?.collect::<BTreeSet<u64>>();
+    compare(a, numbers, NUMBER_SET)?;
+    compare(a, word().some("need one"), SOME_WORDS)
 }
 
 /// Compares the answers of the repeat of a choice.
 fn compare_choices<T: Debug + Drop, P: FlatField<T> + Drop, Q: FlatField<T> + Drop>(
-    rt: &(impl Abort + AllocGlobal),
+    alloc: Global,
     first: P,
     second: Q,
     rows: &[Row<'_>],
@@ -218,7 +230,7 @@ fn compare_choices<T: Debug + Drop, P: FlatField<T> + Drop, Q: FlatField<T> + Dr
     requires first { P.can_eval first }
     requires second { Q.can_eval second }
 {
-    compare(rt, first.or_else(second).many(), rows)
+    compare(alloc, first.or_else(second).many(), rows)
 }
 
 const REPEATED_CHOICE: &[Row<'static>] = &[
@@ -233,8 +245,9 @@ const REPEATED_CHOICE: &[Row<'static>] = &[
 
 #[test]
 fn repeated_choices_run_as_records(rt: HostRuntime) -> Result<(), Fail> {
-    let a = number(rt.alloc(), 'a')?;
-    compare_choices(&rt, a, number(rt.alloc(), 'b')?, REPEATED_CHOICE)
+    let alloc = rt.alloc();
+    let a = number(alloc, 'a')?;
+    compare_choices(alloc, a, number(alloc, 'b')?, REPEATED_CHOICE)
 }
 
 const THREE_NUMBERS: &[Row<'static>] = &[
@@ -261,7 +274,8 @@ fn three(alloc: Global) -> Result<Vec<ParseArgument<u64>>, AllocError> {
 
 #[test]
 fn choices_of_three_run_as_records(rt: HostRuntime) -> Result<(), Fail> {
-    compare(&rt, choice(three(rt.alloc())?), THREE_NUMBERS)
+    let a = rt.alloc();
+    compare(a, choice(three(a)?), THREE_NUMBERS)
 }
 
 const NUMBER_IN_A_SECTION: &[Row<'static>] = &[
@@ -271,20 +285,17 @@ const NUMBER_IN_A_SECTION: &[Row<'static>] = &[
 
 /// Compares the answers of a number in a section, without a usage.
 fn compare_shown<P: FlatField<u64> + Drop>(
-    rt: &(impl Abort + AllocGlobal),
+    alloc: Global,
     parser: P,
     rows: &[Row<'_>],
 ) -> Result<(), Fail>
     requires { P.can_eval parser }
 {
-    compare(
-        rt,
-        parser.hide_usage().group_help(Doc::new(rt.alloc())),
-        rows,
-    )
+    compare(alloc, parser.hide_usage().group_help(Doc::new(alloc)), rows)
 }
 
 #[test]
 fn shown_numbers_run_as_records(rt: HostRuntime) -> Result<(), Fail> {
-    compare_shown(&rt, number(rt.alloc(), 'n')?, NUMBER_IN_A_SECTION)
+    let a = rt.alloc();
+    compare_shown(a, number(a, 'n')?, NUMBER_IN_A_SECTION)
 }

@@ -1,8 +1,10 @@
 //! What a caller gives to a parser: closures over what they hold, texts to keep, values of types of
 //! its own and what these fill.
-use crate::shared::{file, num, prints, value};
+use crate::shared::file;
 use bpaf::params::ParsePositional;
 use bpaf::{Doc, FromList, Parser, fail, positional, pure_with};
+use bpaf_answers::{num, value};
+use bpaf_trial::prints;
 use std::alloc::{AllocError, Global};
 use std::collections::BTreeSet;
 use std::test::Fail;
@@ -31,12 +33,12 @@ fn answered(alloc: Global, number: u64) -> Result<Option<u64>, AllocError> {
 #[test]
 fn closures_hold_what_they_need(rt: HostRuntime) -> Result<(), Fail> {
     let a = rt.alloc();
-    prints(&rt, doubled(a, 100, 8, &["-n3"]), "Some(6)")?;
-    prints(&rt, doubled(a, 100, 8, &["-n", "50"]), "None")?;
-    prints(&rt, doubled(a, 100, 8, &["-n", "4"]), "None")?;
-    prints(&rt, doubled(a, 100, 8, &["-n", "x"]), "None")?;
-    prints(&rt, doubled(a, 100, 8, &[]), "Some(100)")?;
-    prints(&rt, answered(a, 6), "Some(6)")
+    prints(a, doubled(a, 100, 8, &["-n3"]), "Some(6)")?;
+    prints(a, doubled(a, 100, 8, &["-n", "50"]), "None")?;
+    prints(a, doubled(a, 100, 8, &["-n", "4"]), "None")?;
+    prints(a, doubled(a, 100, 8, &["-n", "x"]), "None")?;
+    prints(a, doubled(a, 100, 8, &[]), "Some(100)")?;
+    prints(a, answered(a, 6), "Some(6)")
 }
 
 /// A file, or one by the name `none`.
@@ -62,9 +64,10 @@ const HELP: &str = "Some(Doc { pieces: [Piece { text: \"File to process\", \
 
 #[test]
 fn texts_are_kept(rt: HostRuntime) -> Result<(), Fail> {
-    prints(&rt, or_none(rt.alloc(), &[]), "Some(\"none\")")?;
-    prints(&rt, or_none(rt.alloc(), &["x"]), "Some(\"x\")")?;
-    prints(&rt, copied_help(rt.alloc()), HELP)
+    let a = rt.alloc();
+    prints(a, or_none(a, &[]), "Some(\"none\")")?;
+    prints(a, or_none(a, &["x"]), "Some(\"x\")")?;
+    prints(a, copied_help(a), HELP)
 }
 
 /// The greatest of all.
@@ -92,6 +95,6 @@ fn filled<C: FromList<u64> + Drop>(alloc: Global) -> Result<Option<C>, AllocErro
 #[test]
 fn collections_are_filled(rt: HostRuntime) -> Result<(), Fail> {
     let a = rt.alloc();
-    prints(&rt, filled::<BTreeSet<u64>>(a), "Some({1, 2})")?;
-    prints(&rt, filled::<Greatest>(a), "Some(Greatest(Some(2)))")
+    prints(a, filled::<BTreeSet<u64>>(a), "Some({1, 2})")?;
+    prints(a, filled::<Greatest>(a), "Some(Greatest(Some(2)))")
 }

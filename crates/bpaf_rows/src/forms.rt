@@ -1,10 +1,11 @@
 //! Every form of `construct!`, as a program writes it.
 ghost use Rattle.std.specs.Prelude.{Ok};
 
-use crate::shared::{num, prints, value, verbose};
 use bpaf::params::ParseArgument;
 use bpaf::parsers::ParseOrElse;
 use bpaf::{Args, Parser, State, construct, positional, pure, short};
+use bpaf_answers::{num, value, verbose};
+use bpaf_trial::prints;
 use std::alloc::{AllocError, Global};
 use std::test::Fail;
 
@@ -72,17 +73,10 @@ fn answered<F: FnOnce(Global) -> Result<P, AllocError>, P: Parser<u64> + Drop>(
 
 #[test]
 fn fields_are_named_in_place(rt: HostRuntime) -> Result<(), Fail> {
-    prints(&rt, in_place(rt.alloc(), &[]), "Some((false, false))")?;
-    prints(
-        &rt,
-        in_place(rt.alloc(), &["-a", "-b"]),
-        "Some((true, true))",
-    )?;
-    prints(
-        &rt,
-        answered(rt.alloc(), num, &["-n", "3"]),
-        "Some((false, 3))",
-    )
+    let a = rt.alloc();
+    prints(a, in_place(a, &[]), "Some((false, false))")?;
+    prints(a, in_place(a, &["-a", "-b"]), "Some((true, true))")?;
+    prints(a, answered(a, num, &["-n", "3"]), "Some((false, 3))")
 }
 
 /// A struct by the names of its fields.
@@ -130,12 +124,12 @@ fn without_fields(
 fn values_are_made_by_name_and_number(rt: HostRuntime) -> Result<(), Fail> {
     let a = rt.alloc();
     let settings = "Some(Settings { verbose: true, num: 3, level: Normal })";
-    prints(&rt, named_fields(a, &["-n", "3", "-v"]), settings)?;
+    prints(a, named_fields(a, &["-n", "3", "-v"]), settings)?;
     let product_of = "Some((Build { verbose: true, num: 3 }, Run(4, false), Single(7), 5))";
-    prints(&rt, product(a, &["3", "4", "5"]), product_of)?;
+    prints(a, product(a, &["3", "4", "5"]), product_of)?;
     let nothing = "Some((Named, Unnamed, Named, Unnamed))";
-    prints(&rt, without_fields(a, &[]), nothing)?;
-    prints(&rt, without_fields(a, &["x"]), "None")
+    prints(a, without_fields(a, &[]), nothing)?;
+    prints(a, without_fields(a, &["x"]), "None")
 }
 
 /// A number behind a short name.
@@ -155,9 +149,10 @@ fn branches(alloc: Global, words: &[&str]) -> Result<Option<u64>, AllocError> {
 
 #[test]
 fn branches_of_each_form(rt: HostRuntime) -> Result<(), Fail> {
-    prints(&rt, branches(rt.alloc(), &["-a", "1"]), "Some(1)")?;
-    prints(&rt, branches(rt.alloc(), &["2"]), "Some(2)")?;
-    prints(&rt, branches(rt.alloc(), &[]), "Some(4)")
+    let a = rt.alloc();
+    prints(a, branches(a, &["-a", "1"]), "Some(1)")?;
+    prints(a, branches(a, &["2"]), "Some(2)")?;
+    prints(a, branches(a, &[]), "Some(4)")
 }
 
 /// A number behind one of two keys.
@@ -197,6 +192,7 @@ fn conflict(
 
 #[test]
 fn other_branch_is_in_conflict(rt: HostRuntime) -> Result<(), Fail> {
-    let answer = conflict(rt.alloc(), &["-a", "12", "-b", "3"]);
-    prints(&rt, answer, "(Some(12), Some((2, 0)))")
+    let a = rt.alloc();
+    let answer = conflict(a, &["-a", "12", "-b", "3"]);
+    prints(a, answer, "(Some(12), Some((2, 0)))")
 }

@@ -1,6 +1,6 @@
 //! Adjacent groups: how often one is evaluated.
-use crate::shared::value;
 use bpaf::{Parser, construct, long, positional};
+use bpaf_answers::value;
 use std::alloc::{AllocError, Global};
 use std::cell::Cell;
 use std::test::Fail;

@@ -1,6 +1,6 @@
 //! The laws that hold of every line and of every parser, each called once.
-use crate::shared::num;
 use bpaf::{count_falls, lines_are_unique, spellings_are_unique};
+use bpaf_answers::num;
 use std::test::Fail;
 
 #[test]

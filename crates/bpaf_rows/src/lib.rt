@@ -7,21 +7,17 @@
 #![tactic(auto)]
 
 #[cfg(test)]
-mod asked;
-#[cfg(test)]
 mod combinators;
-#[cfg(test)]
-mod commands;
-#[cfg(test)]
-mod counting;
-#[cfg(test)]
-mod defaults;
 #[cfg(test)]
 mod forms;
 #[cfg(test)]
 mod groups;
 #[cfg(test)]
+mod items;
+#[cfg(test)]
 mod laws;
+#[cfg(test)]
+mod names;
 #[cfg(test)]
 mod numbers;
 #[cfg(test)]
@@ -30,5 +26,3 @@ mod pages;
 mod shared;
 #[cfg(test)]
 mod texts;
-#[cfg(test)]
-mod wrappers;

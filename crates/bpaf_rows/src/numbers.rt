@@ -1,7 +1,7 @@
 //! Negative numbers as words, by the setting of the parser that runs.
-use crate::shared::prints;
 use bpaf::params::ParseArgument;
 use bpaf::{Args, OptionParser, Parser, positional, short};
+use bpaf_trial::prints;
 use std::alloc::{AllocError, Global};
 use std::test::Fail;
 
@@ -23,10 +23,10 @@ fn integers(alloc: Global, words: &[&str]) -> Result<Option<Vec<i64>>, AllocErro
 #[test]
 fn negative_numbers_are_words(rt: HostRuntime) -> Result<(), Fail> {
     let a = rt.alloc();
-    prints(&rt, integers(a, &["-1", "-22", "3"]), "Some([-1, -22, 3])")?;
-    prints(&rt, integers(a, &["-1", "--", "-22"]), "Some([-1, -22])")?;
-    prints(&rt, integers(a, &["-1="]), "None")?;
-    prints(&rt, integers(a, &["-1a"]), "None")
+    prints(a, integers(a, &["-1", "-22", "3"]), "Some([-1, -22, 3])")?;
+    prints(a, integers(a, &["-1", "--", "-22"]), "Some([-1, -22])")?;
+    prints(a, integers(a, &["-1="]), "None")?;
+    prints(a, integers(a, &["-1a"]), "None")
 }
 
 /// A signed number behind `-n`.
@@ -50,7 +50,7 @@ fn by_outer(alloc: Global, words: &[&str]) -> Result<Option<i64>, AllocError> {
 #[test]
 fn setting_of_the_outermost_parser_counts(rt: HostRuntime) -> Result<(), Fail> {
     let a = rt.alloc();
-    prints(&rt, by_inner(a, &["a", "-n", "-5"]), "None")?;
-    prints(&rt, by_inner(a, &["a", "-n=-5"]), "Some(-5)")?;
-    prints(&rt, by_outer(a, &["a", "-n", "-5"]), "Some(-5)")
+    prints(a, by_inner(a, &["a", "-n", "-5"]), "None")?;
+    prints(a, by_inner(a, &["a", "-n=-5"]), "Some(-5)")?;
+    prints(a, by_outer(a, &["a", "-n", "-5"]), "Some(-5)")
 }

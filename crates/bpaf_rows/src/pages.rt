@@ -1,6 +1,8 @@
 //! Help pages that no description can say.
-use crate::shared::{answers, answers_of, file, num, reads, verbose};
+use crate::shared::file;
 use bpaf::{Doc, Parser, any, construct, literal};
+use bpaf_answers::{answers, answers_of, num, verbose};
+use bpaf_trial::reads;
 use std::alloc::{AllocError, Global};
 use std::test::Fail;
 
@@ -38,7 +40,7 @@ const HELP_OF_FILE: &str = "out Usage: FILE\n\n\
 
 #[test]
 fn help_of_a_word(rt: HostRuntime) -> Result<(), Fail> {
-    reads(&rt, helped(rt.alloc()), HELP_OF_FILE)
+    reads(helped(rt.alloc()), HELP_OF_FILE)
 }
 
 /// The page with a usage of which a closure makes another.
@@ -59,7 +61,7 @@ const OWN_USAGE: &str = "out Use it so: [-v]\n\n\
 
 #[test]
 fn a_closure_makes_the_usage(rt: HostRuntime) -> Result<(), Fail> {
-    reads(&rt, own_usage(rt.alloc()), OWN_USAGE)
+    reads(own_usage(rt.alloc()), OWN_USAGE)
 }
 
 /// Leaves with helps that are texts.
@@ -87,5 +89,5 @@ const HELPS: &str = "out Usage: [-v] -n=NUM go ANY\n\n\
 
 #[test]
 fn helps_are_texts(rt: HostRuntime) -> Result<(), Fail> {
-    reads(&rt, leaves_with_helps(rt.alloc()), HELPS)
+    reads(leaves_with_helps(rt.alloc()), HELPS)
 }

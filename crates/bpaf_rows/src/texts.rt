@@ -1,6 +1,7 @@
 //! The messages of refusals, where a row needs a text or a metavar that no description has.
-use crate::shared::{answers, num, reads, verbose};
 use bpaf::{Parser, construct, fail, long};
+use bpaf_answers::{answers, num, verbose};
+use bpaf_trial::reads;
 use std::alloc::{AllocError, Global};
 use std::cell::Cell;
 use std::test::Fail;
@@ -21,9 +22,9 @@ fn must_accept(alloc: Global) -> Result<String, AllocError> {
 #[test]
 fn authors_say_why(rt: HostRuntime) -> Result<(), Fail> {
     let set = "err check failed: must be set\n";
-    reads(&rt, must_be_set(rt.alloc()), set)?;
+    reads(must_be_set(rt.alloc()), set)?;
     let accept = "err You must accept\nok ()\n";
-    reads(&rt, must_accept(rt.alloc()), accept)
+    reads(must_accept(rt.alloc()), accept)
 }
 
 /// Numbers of which a check accepts the first alone.
@@ -35,5 +36,5 @@ fn first_alone(alloc: Global) -> Result<String, AllocError> {
 
 #[test]
 fn check_that_changes_tells_the_word(rt: HostRuntime) -> Result<(), Fail> {
-    reads(&rt, first_alone(rt.alloc()), "err `2`: no\n")
+    reads(first_alone(rt.alloc()), "err `2`: no\n")
 }

@@ -1,9 +1,11 @@
-//! Runs a program on words, over writers that can be made to fail: what a program's own tests need.
+//! What tests need: comparisons, and runs of a program over writers that can be made to fail.
 //!
-//! It stands on `std` alone, and no library or program stands on it but for tests. A program gives
-//! its `run` by [`Tried`]; then `ran` tells what stands on its two writers, and
-//! `stops_where_a_write_fails` tries each of its writes in turn. It has no contract but that each
-//! call returns: what it tells is compared by tests.
+//! It stands on `std` alone, and no library or program stands on it but for tests. It has no
+//! contract but that each call returns: what it tells is compared by tests.
+//!
+//! - [`reads`] compares a text with the wanted one, and [`prints`] what Rust's Debug prints.
+//! - A program gives its `run` by [`Tried`]; then [`ran`] tells what stands on its two writers, and
+//!   [`stops_where_a_write_fails`] tries each of its writes in turn.
 //!
 //! ```text
 //! struct Program;
@@ -24,8 +26,10 @@
 //! ```
 #![tactic(auto)]
 
+mod compared;
 mod narrow;
 mod outcome;
 
+pub use compared::{prints, reads};
 pub use narrow::Narrow;
 pub use outcome::{Tried, Written, ran, ran_in, stops_where_a_write_fails};

@@ -1,26 +1,20 @@
-//! The program of docs/USERS.md: each piece of code in that guide stands here, and is checked.
+//! The programs of docs/USERS.md, a backup and a remover, and one that runs them and the parsers of
+//! `bpaf_guide`.
 //!
-//! It stands on `bpaf`, `bpaf_record` and `bpaf_program`, and its definitions also cite those of
-//! the crates below.
+//! It stands on `bpaf_guide`, `bpaf`, `bpaf_record` and `bpaf_program`.
 //!
 //! ```text
-//! bpaf_guide -s 3 --level=high --no-color -n 1 -n 2
+//! bpaf_guide_programs -s 3 --level=high --no-color -n 1 -n 2
 //! ```
 #![tactic(auto)]
 
 mod backup;
-mod closures;
-mod commands;
-mod keys;
-mod options;
 mod remove;
-mod sum;
-mod toggle;
-mod types;
 
 use bpaf::ParseFailure;
+use bpaf_guide::options::{Options, read_options};
+use bpaf_guide::sum::read_sum;
 use bpaf_program::{end, words};
-use options::{Options, read_options};
 use std::collections::BTreeMap;
 use std::process::ExitCode;
 use std::{env, io};
@@ -99,7 +93,7 @@ fn show_removal(rt: &HostRuntime) -> io::Result<()> {
 
 /// Tells what a sum reads off words of its own.
 fn show_sum(rt: &HostRuntime) -> io::Result<()> {
-    match sum::read_sum(rt.alloc(), &["-n", "-2", "-5", "3"]) {
+    match read_sum(rt.alloc(), &["-n", "-2", "-5", "3"]) {
         Ok(sum) => {
             let times = sum.times;
             let terms = sum.terms.len();

@@ -1,6 +1,7 @@
 //! Defaults that a help page shows.
-use crate::shared::{answers, num, reads};
-use bpaf::Parser;
+use bpaf_answers::{answers, num};
+use bpaf_core::Parser;
+use bpaf_trial::reads;
 use std::alloc::{AllocError, Global};
 use std::test::Fail;
 
@@ -47,9 +48,9 @@ const FORMATTED: &str = "out Usage: [-n=NUM]\n\n\
 
 #[test]
 fn defaults_are_shown(rt: HostRuntime) -> Result<(), Fail> {
-    reads(&rt, displayed(rt.alloc()), PAGE_AND_VALUE)?;
-    reads(&rt, debugged(rt.alloc()), PAGE)?;
-    reads(&rt, formatted(rt.alloc()), FORMATTED)
+    reads(displayed(rt.alloc()), PAGE_AND_VALUE)?;
+    reads(debugged(rt.alloc()), PAGE)?;
+    reads(formatted(rt.alloc()), FORMATTED)
 }
 
 /// A number with the answer of a closure as its default, as Display prints it.
@@ -75,9 +76,9 @@ fn formatted_answer(alloc: Global) -> Result<String, AllocError> {
 
 #[test]
 fn answers_of_closures_are_shown(rt: HostRuntime) -> Result<(), Fail> {
-    reads(&rt, displayed_answer(rt.alloc()), PAGE_AND_VALUE)?;
-    reads(&rt, debugged_answer(rt.alloc()), PAGE)?;
-    reads(&rt, formatted_answer(rt.alloc()), FORMATTED)
+    reads(displayed_answer(rt.alloc()), PAGE_AND_VALUE)?;
+    reads(debugged_answer(rt.alloc()), PAGE)?;
+    reads(formatted_answer(rt.alloc()), FORMATTED)
 }
 
 /// Whether a default is made whose closure refuses for want of memory.

@@ -1,6 +1,6 @@
 use Rattle.std.proofs.Common.{rules, map, string_bytes}
-use Rattle.bpaf_guide.specs.Remove.{lines}
-use Rattle.bpaf_guide.proofs.remove.lines_of.Goals as goal
+use Rattle.bpaf_guide_programs.specs.Remove.{lines}
+use Rattle.bpaf_guide_programs.proofs.remove.lines_of.Goals as goal
 
 pub returns : goal.returns
 returns c =

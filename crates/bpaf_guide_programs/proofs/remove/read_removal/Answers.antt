@@ -1,7 +1,7 @@
 use Rattle.std.proofs.Common.{rules, map, string_bytes}
 use Rattle.bpaf_record.proofs.Answered.{answer_says, switch_spelled}
-use Rattle.bpaf_guide.specs.Remove.{force_names}
-use Rattle.bpaf_guide.proofs.remove.read_removal.Goals as goal
+use Rattle.bpaf_guide_programs.specs.Remove.{force_names}
+use Rattle.bpaf_guide_programs.proofs.remove.read_removal.Goals as goal
 
 pub returns : goal.returns
 returns c = answer_says c.run_record.result (c.run_record.ensures.fields (tt, (tt, tt)))

@@ -1,6 +1,10 @@
 //! What a run is asked for beside its value.
-use crate::shared::{prints, verbose};
-use bpaf::{Args, Doc, Error, ExtraParams, Info, ParseFailure, Parser, State};
+use bpaf_answers::verbose;
+use bpaf_core::{ExtraParams, Info, Parser};
+use bpaf_doc::Doc;
+use bpaf_line::{Error, ParseFailure, State};
+use bpaf_trial::prints;
+use bpaf_words::Args;
 use std::alloc::{AllocError, Global};
 use std::test::Fail;
 
@@ -52,12 +56,12 @@ const VERSION: &str =
 fn keys_of_a_run_are_read(rt: HostRuntime) -> Result<(), Fail> {
     let a = rt.alloc();
     let one = "Some(Help(false))";
-    prints(&rt, asked(a, Ok(Info::new()), &["x", "-h"]), one)?;
+    prints(a, asked(a, Ok(Info::new()), &["x", "-h"]), one)?;
     let two = "Some(Help(true))";
-    prints(&rt, asked(a, Ok(Info::new()), &["--help", "-h"]), two)?;
-    prints(&rt, asked(a, Ok(Info::new()), &["--version"]), "None")?;
-    prints(&rt, asked(a, versioned(a), &["--version", "x"]), VERSION)?;
-    prints(&rt, asked(a, versioned(a), &["-Vh"]), one)
+    prints(a, asked(a, Ok(Info::new()), &["--help", "-h"]), two)?;
+    prints(a, asked(a, Ok(Info::new()), &["--version"]), "None")?;
+    prints(a, asked(a, versioned(a), &["--version", "x"]), VERSION)?;
+    prints(a, asked(a, versioned(a), &["-Vh"]), one)
 }
 
 /// The texts that a switch tells on standard output, where it is asked for help and where not.
@@ -81,5 +85,6 @@ const OUTPUTS: &str = "(Some(\"Usage: [-v]\\n\\nAvailable options:\\n    -v\\n  
 
 #[test]
 fn help_goes_to_standard_output(rt: HostRuntime) -> Result<(), Fail> {
-    prints(&rt, outputs(rt.alloc()), OUTPUTS)
+    let a = rt.alloc();
+    prints(a, outputs(a), OUTPUTS)
 }

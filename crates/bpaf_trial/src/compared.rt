@@ -1,18 +1,16 @@
-//! What the tests share: what is compared.
+//! Comparisons of what a test found with what it wants.
 use std::alloc::{AllocError, Global};
 use std::fmt::Debug;
-use std::process::Abort;
 use std::test::Fail;
 
-/// Compares a text with the wanted one.
-pub(crate) fn reads(
-    rt: &impl Abort,
-    found: Result<String, AllocError>,
-    wanted: &str,
-) -> Result<(), Fail> {
+/// Compares a text with the wanted one; where they differ the failure is the text that was found.
+pub fn reads(found: Result<String, AllocError>, wanted: &str) -> Result<(), Fail> {
     let found = found?;
-    assert_eq!(rt; found.as_str(), wanted);
-    Ok(())
+    if found.as_str() == wanted {
+        Ok(())
+    } else {
+        Err(Fail::new(found))
+    }
 }
 
 /// An answer as Rust's Debug prints it.
@@ -25,10 +23,10 @@ fn printed<T: Debug + Drop>(
 }
 
 /// Compares an answer, as Rust's Debug prints it, with the wanted text.
-pub(crate) fn prints<T: Debug + Drop>(
-    rt: &(impl Abort + AllocGlobal),
+pub fn prints<T: Debug + Drop>(
+    alloc: Global,
     found: Result<T, AllocError>,
     wanted: &str,
 ) -> Result<(), Fail> {
-    reads(rt, printed(rt.alloc(), found), wanted)
+    reads(printed(alloc, found), wanted)
 }

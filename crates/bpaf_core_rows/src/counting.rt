@@ -1,7 +1,8 @@
 //! How often closures are called: once in each evaluation of their parser, also where the parse
 //! goes back and does again what is kept.
-use crate::shared::value;
-use bpaf::{Parser, short};
+use bpaf_answers::value;
+use bpaf_core::Parser;
+use bpaf_text::short;
 use std::alloc::{AllocError, Global};
 use std::cell::Cell;
 use std::test::Fail;

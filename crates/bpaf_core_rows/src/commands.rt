@@ -1,8 +1,9 @@
-//! Commands as a program writes them, and the name by which it is called.
-use crate::shared::{num, prints, value};
-use bpaf::params::ParseArgument;
-use bpaf::parsers::ParseCommand;
-use bpaf::{Args, Doc, Parser, appname, command};
+//! Commands as a program writes them.
+use bpaf_answers::{num, value};
+use bpaf_core::{ParseCommand, Parser, command};
+use bpaf_doc::Doc;
+use bpaf_text::ParseArgument;
+use bpaf_trial::prints;
 use std::alloc::{AllocError, Global};
 use std::test::Fail;
 
@@ -38,23 +39,11 @@ fn help_of(
 #[test]
 fn commands_are_called(rt: HostRuntime) -> Result<(), Fail> {
     let a = rt.alloc();
-    prints(&rt, either(a, &["build", "-n", "3"]), "Some(3)")?;
-    prints(&rt, either(a, &["b", "-n", "3"]), "Some(3)")?;
-    prints(&rt, either(a, &["make", "-n", "3"]), "Some(3)")?;
-    prints(&rt, either(a, &["run", "-n", "4"]), "Some(4)")?;
-    prints(&rt, either(a, &["-b", "-n", "3"]), "None")?;
-    prints(&rt, help_of(build(a)), "Some(\"Builds it\")")?;
-    prints(&rt, help_of(run(a)), "Some(\"Runs it\")")
-}
-
-/// The name of a program.
-fn name_of(alloc: Global, args: Args<'_>) -> Result<Option<String>, AllocError> {
-    Ok(appname().to_options(alloc)?.run_once(args).ok())
-}
-
-#[test]
-fn appname_with_name(rt: HostRuntime) -> Result<(), Fail> {
-    let words: [&str; 0] = [];
-    let named = Args::from(&words).set_name("x");
-    prints(&rt, name_of(rt.alloc(), named), "Some(\"x\")")
+    prints(a, either(a, &["build", "-n", "3"]), "Some(3)")?;
+    prints(a, either(a, &["b", "-n", "3"]), "Some(3)")?;
+    prints(a, either(a, &["make", "-n", "3"]), "Some(3)")?;
+    prints(a, either(a, &["run", "-n", "4"]), "Some(4)")?;
+    prints(a, either(a, &["-b", "-n", "3"]), "None")?;
+    prints(a, help_of(build(a)), "Some(\"Builds it\")")?;
+    prints(a, help_of(run(a)), "Some(\"Runs it\")")
 }

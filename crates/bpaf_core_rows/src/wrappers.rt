@@ -1,6 +1,8 @@
-//! Parsers that are shown otherwise, and items by their text at types that no description has.
-use crate::shared::{file, num, prints, reads, value};
-use bpaf::{Doc, Item, Meta, MetaInfo, Parser, Style, any, construct, literal};
+//! Parsers that are shown otherwise.
+use bpaf_answers::{num, value};
+use bpaf_core::Parser;
+use bpaf_doc::{Doc, Meta, MetaInfo};
+use bpaf_trial::reads;
 use std::alloc::{AllocError, Global};
 use std::test::Fail;
 
@@ -10,31 +12,11 @@ fn tagged(alloc: Global, kind: &str, text: &Doc) -> Result<String, AllocError> {
     format!(in alloc; "{kind} `{text}`")
 }
 
-/// What an item by its text shows: its metavar, whether it has a help, and whether it may stand
-/// anywhere.
-fn told_item(
-    alloc: Global,
-    metavar: &Doc,
-    helped: bool,
-    anywhere: bool,
-) -> Result<String, AllocError> {
-    let item = tagged(alloc, "item", metavar)?;
-    format!(in alloc; "{item} {helped} {anywhere}")
-}
-
-/// What a wrapper shows: its text in the usage, the title of its section, or nothing; and what an
-/// item by its text does.
+/// What a wrapper shows: its text in the usage, the title of its section, or nothing.
 fn told(alloc: Global, meta: &Meta) -> Result<String, AllocError> {
     match meta {
         Meta::CustomUsage(_, usage) => tagged(alloc, "usage", usage),
         Meta::Subsection(_, title) => tagged(alloc, "section", title),
-        Meta::Item(
-            Item::Any {
-                metavar,
-                help,
-                anywhere,
-            },
-        ) => told_item(alloc, metavar, help.is_some(), *anywhere),
         Meta::Skip => String::from_str(alloc, "nothing"),
         _ => String::from_str(alloc, "another"),
     }
@@ -96,42 +78,9 @@ fn in_titled_section(alloc: Global) -> Result<String, AllocError> {
 #[test]
 fn wrappers_show_their_texts(rt: HostRuntime) -> Result<(), Fail> {
     let alloc = rt.alloc();
-    reads(&rt, hidden(alloc), "nothing Some(3)")?;
-    reads(&rt, without_usage(alloc), "usage `` Some(3)")?;
-    reads(&rt, with_usage(alloc), "usage `a number` Some(3)")?;
-    reads(&rt, in_section(alloc), "section `Numbers` Some(3)")?;
-    reads(
-        &rt,
-        in_titled_section(alloc),
-        "section `0 1 true true` Some(3)",
-    )
-}
-
-/// The first small number among words, and the other words.
-fn small_number(alloc: Global, words: &[&str]) -> Result<Option<(u64, Vec<String>)>, AllocError> {
-    let small = any::<u64, u64, _>(alloc, "N", |n| if n < 10 { Some(n) } else { None })?;
-    let metavar = Doc::from_text(alloc, "SMALL")?;
-    let small = small.metavar(metavar).help(Doc::new(alloc)).anywhere();
-    value(alloc, construct!(small, files(file().many())), words)
-}
-
-#[test]
-fn any_reads_its_type(rt: HostRuntime) -> Result<(), Fail> {
-    let small = small_number(rt.alloc(), &["x", "12", "3"]);
-    prints(&rt, small, "Some((3, [\"x\", \"12\"]))")?;
-    prints(&rt, small_number(rt.alloc(), &["x", "12"]), "None")
-}
-
-/// A literal with another metavar and a help.
-fn shown_literal(alloc: Global) -> Result<String, AllocError> {
-    let metavar = Doc::from_pieces(alloc, &[("GO", Style::Metavar)])?;
-    let help = Doc::from_text(alloc, "starts")?;
-    let go = literal(alloc, "go")?.metavar(metavar).help(help);
-    let meta = go.anywhere().meta(alloc)?;
-    told(alloc, &meta)
-}
-
-#[test]
-fn literal_shows_its_metavar(rt: HostRuntime) -> Result<(), Fail> {
-    reads(&rt, shown_literal(rt.alloc()), "item `GO` true true")
+    reads(hidden(alloc), "nothing Some(3)")?;
+    reads(without_usage(alloc), "usage `` Some(3)")?;
+    reads(with_usage(alloc), "usage `a number` Some(3)")?;
+    reads(in_section(alloc), "section `Numbers` Some(3)")?;
+    reads(in_titled_section(alloc), "section `0 1 true true` Some(3)")
 }

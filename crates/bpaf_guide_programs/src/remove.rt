@@ -3,7 +3,7 @@
 ghost use Rattle.std.specs.Prelude.{◌≡◌, true, IfOk, codes, map, string_bytes};
 ghost use Rattle.bpaf_program.specs.Running.{OrPage, RunsTo};
 ghost use Rattle.bpaf_record.specs.Spelled.{WasSpelled};
-ghost use Rattle.bpaf_guide.specs.Remove.{IsRemovalText, force_names};
+ghost use Rattle.bpaf_guide_programs.specs.Remove.{IsRemovalText, force_names};
 
 use bpaf::{Args, ParseFailure, Parser, construct, positional, short};
 use bpaf_program::{print, push_lines};
