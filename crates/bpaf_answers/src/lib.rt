@@ -1,8 +1,8 @@
 //! What parsers answer to lines of words, as tests compare it.
 //!
 //! It stands on `bpaf_core` and what is below, and no library or program stands on it but for tests.
-//! It has no contract but that each call returns. Its parsers, a switch and a number, are those that
-//! most rows are of.
+//! It has no contract but that each call returns. Its parsers, switches and numbers, are those that most
+//! rows are of.
 #![tactic(auto)]
 
 use bpaf_core::{OptionParser, Parser};
@@ -24,14 +24,24 @@ pub fn value<T: Drop, P: Parser<T> + Drop>(
     Ok(parser.run_once(alloc, Args::from(words)).ok())
 }
 
+/// A switch of this name.
+pub fn switch(alloc: Global, name: char) -> Result<ParseFlag<bool>, AllocError> {
+    Ok(short(alloc, name)?.switch())
+}
+
+/// A number behind this name.
+pub fn number(alloc: Global, name: char) -> Result<ParseArgument<u64>, AllocError> {
+    Ok(short(alloc, name)?.argument("NUM"))
+}
+
 /// The switch `-v`.
 pub fn verbose(alloc: Global) -> Result<ParseFlag<bool>, AllocError> {
-    Ok(short(alloc, 'v')?.switch())
+    switch(alloc, 'v')
 }
 
 /// The number behind `-n`.
 pub fn num(alloc: Global) -> Result<ParseArgument<u64>, AllocError> {
-    Ok(short(alloc, 'n')?.argument("NUM"))
+    number(alloc, 'n')
 }
 
 /// A kind of answer and its text, as a line.

@@ -8,5 +8,3 @@
 mod numbers;
 #[cfg(test)]
 mod record_rows;
-#[cfg(test)]
-mod records;

@@ -1,8 +1,8 @@
 //! Worked rows through `run_record`: each field of a flat record once, on lines of words, each with
 //! its whole answer. `run_record` runs as `run_inner` does, on which rows.txt has them all.
-use crate::records::{number, switch, word};
-use bpaf::params::ParseArgument;
-use bpaf::{Args, Doc, OptionParser, ParseFailure, Parser, choice, construct};
+use bpaf::params::{ParseArgument, ParsePositional};
+use bpaf::{Args, Doc, OptionParser, ParseFailure, Parser, choice, construct, positional};
+use bpaf_answers::{number, switch};
 use bpaf_record::{FlatField, Record};
 use bpaf_trial::reads;
 use std::alloc::{AllocError, Global};
@@ -13,6 +13,11 @@ use std::test::Fail;
 /// Words, parted by spaces, and the answer: `ok` and the value as Rust's Debug prints it, `err`
 /// and the whole message, or `shown` where a text is shown that was asked for.
 pub(crate) type Row<'a> = (&'a str, &'a str);
+
+/// A word.
+fn word() -> ParsePositional<String> {
+    positional("FILE")
+}
 
 /// A refusal as a row tells it.
 fn refused(alloc: Global, failure: ParseFailure) -> Result<String, AllocError> {

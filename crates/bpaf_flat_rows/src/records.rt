@@ -1,7 +1,7 @@
-//! Which options are no flat record, of switches, numbers and words. What runs as one in
-//! `record_rows` is one.
+//! Which options are no flat record, of switches, numbers and words.
 use bpaf::params::{ParseArgument, ParseFlag, ParsePositional};
 use bpaf::{Doc, Parser, choice, construct, positional, short};
+use bpaf_answers::{number, switch};
 use bpaf_record::{FlatField, Record};
 use std::alloc::{AllocError, Global};
 use std::test::Fail;
@@ -11,18 +11,8 @@ fn is_flat<T: Drop, P: FlatField<T> + Drop>(alloc: Global, parser: P) -> Result<
     Ok(parser.to_options(alloc)?.is_record())
 }
 
-/// A switch of this name.
-pub(crate) fn switch(alloc: Global, name: char) -> Result<ParseFlag<bool>, AllocError> {
-    Ok(short(alloc, name)?.switch())
-}
-
-/// A number behind this name.
-pub(crate) fn number(alloc: Global, name: char) -> Result<ParseArgument<u64>, AllocError> {
-    Ok(short(alloc, name)?.argument("NUM"))
-}
-
 /// A word.
-pub(crate) fn word() -> ParsePositional<String> {
+fn word() -> ParsePositional<String> {
     positional("FILE")
 }
 
