@@ -1,0 +1,3 @@
+pub mod Several
+pub mod Groups
+pub mod Levels
