@@ -17,8 +17,8 @@ pub struct Answer {
 impl Parser<Value> for Answer {
     ghost use Rattle.std.specs.Prelude.{◌≡◌};
     ghost use Rattle.bpaf_doc.specs.Shape.{Skip};
-    ghost use Rattle.bpaf_laws.specs.Pure.{PureOutcome, PureReads};
-    ghost use Rattle.bpaf_laws.proofs.PureLaws.{pure_lawful};
+    ghost use Rattle.bpaf_laws.specs.Pure.{PureReads, PureWithOutcome};
+    ghost use Rattle.bpaf_laws.proofs.PureLaws.{pure_with_lawful};
     ghost use Rattle.bpaf_values.specs.Modifiers.{GivesNumber};
 
     ghost can_eval = { λ p. Unit {0} };
@@ -27,7 +27,7 @@ impl Parser<Value> for Answer {
 
     ghost reads = { λ p. PureReads (GivesNumber p.number) };
 
-    ghost outcome = { λ p. PureOutcome (GivesNumber p.number) };
+    ghost outcome = { λ p. PureWithOutcome (GivesNumber p.number) };
 
     fn eval(&self, state: &mut State) -> Result<Value, Error> {
         let number = self.number;
@@ -43,7 +43,7 @@ impl Parser<Value> for Answer {
         Ok(Meta::Skip)
     }
 
-    ghost lawful = { λ p. pure_lawful (GivesNumber p.number) };
+    ghost lawful = { λ p. pure_with_lawful (GivesNumber p.number) };
 }
 
 /// A parser without inner parsers.
@@ -84,7 +84,7 @@ impl Parser<Value> for Leaf {
     ghost use Rattle.bpaf_laws.proofs.ArgumentLaws.{argument_lawful};
     ghost use Rattle.bpaf.specs.PositionalLaws.{positional_lawful};
     ghost use Rattle.bpaf_laws.proofs.AppnameLaws.{appname_lawful};
-    ghost use Rattle.bpaf_laws.proofs.PureLaws.{pure_lawful};
+    ghost use Rattle.bpaf_laws.proofs.PureLaws.{pure_lawful, pure_with_lawful};
     ghost use Rattle.bpaf_laws.proofs.AnyLaws.{any_lawful};
     ghost use Rattle.bpaf_described_leaves.specs.declared.leaf.Leaf.TheVariants.{Switch, Flag, Number};
     ghost use Rattle.bpaf_described_leaves.specs.declared.leaf.Leaf.TheVariants.{Integer, Text};
@@ -214,7 +214,7 @@ impl Parser<Value> for Leaf {
       | Any p ↦ any_lawful _ _ _ _
       | Appname p ↦ told_lawful _ appname_lawful
       | Pure p ↦ pure_lawful _
-      | PureWith p ↦ pure_lawful _
+      | PureWith p ↦ pure_with_lawful _
       | Fail p ↦ pure_lawful _
     ] };
 }

@@ -17,3 +17,7 @@ PureReads gives context share v = IsEmptyShare share × gives (Ok v)
 -- what is given; no place is current then, and all else is as before
 abbrev pub PureOutcome : {T : Type 0} → Gives T → Outcome T
 PureOutcome gives s r t = gives r × (t ≡ with_current s None)
+
+-- what a closure gives; nothing changes, so the place that was current is so still
+abbrev pub PureWithOutcome : {T : Type 0} → Gives T → Outcome T
+PureWithOutcome gives s r t = gives r × (t ≡ s)

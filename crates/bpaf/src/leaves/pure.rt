@@ -92,14 +92,14 @@ pub fn pure_with<T, F: Fn() -> Result<T, E>, E: Display>(f: F) -> ParsePureWith<
 }
 
 /// The closure's value; its fault is refused with PureFailed, and so is want of memory for the text
-/// of that. No place is current then.
+/// of that. Nothing changes, the current place neither: a check round it names the word before it.
 impl<T, F: Fn() -> Result<T, E>, E: Display + Drop> Parser<T> for ParsePureWith<T, F, E> {
     ghost use Rattle.std.specs.Prelude.{◌≡◌};
     ghost use Rattle.bpaf_doc.specs.Shape.{Skip};
     ghost use Rattle.std.specs.Result.{IfErr};
     ghost use Rattle.bpaf_laws.specs.Default.{GivesAnswer};
-    ghost use Rattle.bpaf_laws.specs.Pure.{PureOutcome, PureReads};
-    ghost use Rattle.bpaf_laws.proofs.PureLaws.{pure_lawful};
+    ghost use Rattle.bpaf_laws.specs.Pure.{PureReads, PureWithOutcome};
+    ghost use Rattle.bpaf_laws.proofs.PureLaws.{pure_with_lawful};
     ghost use Rattle.bpaf.specs.Leaves.{TellsAnswer};
 
     ghost can_eval = { λ p. F.IsAlwaysCallable p.f };
@@ -108,17 +108,16 @@ impl<T, F: Fn() -> Result<T, E>, E: Display + Drop> Parser<T> for ParsePureWith<
 
     ghost reads = { λ p. PureReads (GivesAnswer (λ r. F.post p.f r) E.output) };
 
-    ghost outcome = { λ p. PureOutcome (GivesAnswer (λ r. F.post p.f r) E.output) };
+    ghost outcome = { λ p. PureWithOutcome (GivesAnswer (λ r. F.post p.f r) E.output) };
 
     #[tactic(auto, using(crate::proofs::LeafSparing::answer_told))]
     fn eval(&self, state: &mut State) -> Result<T, Error>
         requires { F.IsAlwaysCallable self.now.f }
-        ensures outcome { PureOutcome (GivesAnswer (λ r. F.post self.now.f r) E.output)
+        ensures outcome { PureWithOutcome (GivesAnswer (λ r. F.post self.now.f r) E.output)
             state.old result state.new }
         ensures memory_is_never_caught { IfErr result
             (TellsAnswer (λ r. F.post self.now.f r) E.output) }
     {
-        state.set_current(None);
         given_by(state.alloc(), &self.f)
     }
 
@@ -126,7 +125,7 @@ impl<T, F: Fn() -> Result<T, E>, E: Display + Drop> Parser<T> for ParsePureWith<
         Ok(Meta::Skip)
     }
 
-    ghost lawful = { λ p. pure_lawful (GivesAnswer (λ r. F.post p.f r) E.output) };
+    ghost lawful = { λ p. pure_with_lawful (GivesAnswer (λ r. F.post p.f r) E.output) };
 }
 
 /// A refusal (bpaf's `ParseFail`, in `structs.rs`).
