@@ -33,3 +33,4 @@ pub mod Sharing
 pub mod Says
 pub mod Keeping
 pub mod Told
+pub mod Needed

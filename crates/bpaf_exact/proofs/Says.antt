@@ -4,24 +4,23 @@ use Rattle.std.proofs.Common.{Some, None, refl, sym, ap, ◌∙◌, subst, appen
 use Rattle.std.specs.List.{Contains}
 use Rattle.bpaf_doc.specs.Names.{Names}
 use Rattle.bpaf_text.specs.Named.{Named as Key, KeyWithValue}
-use Rattle.bpaf_items.specs.declared.arg.Arg.{Arg}
 use Rattle.bpaf_laws.specs.Reading.{Outcome}
-use Rattle.bpaf_exact.specs.Pieces.{Roles, LinePiece, One, Two, is_own, is_own_role, mine, others}
+use Rattle.bpaf_exact.specs.Pieces.{Roles, LinePiece, One, Two, is_own, mine, others}
 use Rattle.bpaf_exact.specs.Pieces.{either, no_roles}
 use Rattle.bpaf_exact.specs.Flat.{FieldKind, ByName, OneWord, EachWord, FieldsReading, keys, front}
-use Rattle.bpaf_exact.specs.Flat.{back, share, left, both_reading}
+use Rattle.bpaf_exact.specs.Flat.{back, both_reading}
 use Rattle.bpaf_exact.specs.Names.{Owns, are_all_apart}
 use Rattle.bpaf_exact.specs.Single.{Groups, Gap, FrontOf, Own, own_none, own_more, OwnList, listed}
 use Rattle.bpaf_exact.specs.Single.{listed_and_absent, only_absent, SingleValue, of_group, of_gap}
 use Rattle.bpaf_exact.specs.Single.{no_gap, repeated}
-use Rattle.bpaf_exact.specs.Wrappers.{Closure, ClosedValue, OptionalValue, some_value, no_value}
+use Rattle.bpaf_exact.specs.Wrappers.{Closure, OptionalValue, some_value, no_value}
 use Rattle.bpaf_exact.specs.Wrappers.{FallbackValue, own_value, kept_value}
 use Rattle.bpaf_exact.specs.Derived.{LastOf}
-use Rattle.bpaf_exact.specs.Alternative.{either_value, pick_type}
-use Rattle.bpaf_exact.specs.Leaves.{flag_field, flag_by, flag_roles, FlagValue, argument_field}
-use Rattle.bpaf_exact.specs.Leaves.{argument_by, argument_roles, ArgumentValue, LastGroup}
-use Rattle.bpaf_exact.specs.Leaves.{word_field, WordValue, last_argument}
-use Rattle.bpaf_exact.specs.Record.{LastValue, last_reading}
+use Rattle.bpaf_exact.specs.Alternative.{pick_type}
+use Rattle.bpaf_exact.specs.Leaves.{flag_field, flag_by, FlagValue, argument_field}
+use Rattle.bpaf_exact.specs.Leaves.{argument_by, ArgumentValue, LastGroup}
+use Rattle.bpaf_exact.specs.Leaves.{word_field, WordValue}
+use Rattle.bpaf_exact.specs.Record.{LastValue}
 use Rattle.bpaf_exact.specs.FlatForm.{FlatForm, FormLaw, not_flat, alternative, single, complete}
 use Rattle.bpaf_exact.specs.FlatForm.{product, only_if, flat_closed, flat_dressed, flat_either}
 use Rattle.bpaf_exact.specs.FlatForm.{flat_choice, choices_rest, alternative_only, flat_choices}
@@ -33,8 +32,8 @@ use Rattle.bpaf_exact.specs.Says.{says_text, says_last_text, WordSays, EitherSay
 use Rattle.bpaf_exact.specs.Says.{says_that, OneOfSays, MadeSays, OptionalSays, says_some}
 use Rattle.bpaf_exact.specs.Says.{says_none, FallbackSays, says_own, says_kept, FrontSays}
 use Rattle.bpaf_exact.specs.Says.{RepeatSays, says_in_turn, says_alone, LastSays, FieldsSaid}
-use Rattle.bpaf_exact.specs.Says.{RecordSays, FormSays, Says, FieldsFormSays, FieldsSay, keyed}
-use Rattle.bpaf_exact.specs.Says.{unkeyed, its_pieces, words_after}
+use Rattle.bpaf_exact.specs.Says.{RecordSays, FormSays, Says, FieldsFormSays, FieldsSay}
+use Rattle.bpaf_exact.specs.Says.{its_pieces, words_after}
 use Rattle.bpaf_exact.proofs.Names.{apart_of_names}
 use Rattle.bpaf_exact.proofs.Sharing.{mine_keyed, others_unkeyed, mine_within, first_within}
 use Rattle.bpaf_exact.proofs.Sharing.{second_within, mine_of_others, mine_none, others_none}

@@ -1,4 +1,4 @@
--- The fields that a program makes: their names, and the texts of their helps.
+-- All that a field is which a function of a program makes: without a help, or with one of some text.
 use Rattle.std.specs.Prelude.{◌≡◌, Bool, true, false, ℕ, List, Some}
 use Rattle.bpaf_doc.specs.declared.doc.Piece.{Piece}
 use Rattle.bpaf_doc.specs.Fold.{TextPieces}
@@ -7,6 +7,19 @@ use Rattle.bpaf_text.specs.declared.params.ParseFlag.{ParseFlag}
 use Rattle.bpaf_text.specs.Named.{KeyWithValue, key_named, with_help}
 use Rattle.bpaf.specs.declared.leaves.positional.ParsePositional.{ParsePositional}
 use Rattle.bpaf.specs.declared.leaves.positional.Position.{Position}
+
+-- a switch with these names, and no help
+abbrev pub plain_switch : Names → ParseFlag Bool
+plain_switch names = record { named = key_named names; present = true; absent = Some false }
+
+-- an argument with these names and this metavar, and no help
+abbrev pub plain_argument : Names → List ℕ → KeyWithValue
+plain_argument names metavar = record {
+  named = key_named names;
+  metavar = metavar;
+  adjacent = false;
+  last = false;
+}
 
 -- a switch with these names, and this help of this text
 pub record IsSwitch (names : Names) (text : List ℕ) (help : List Piece) (switch : ParseFlag Bool)

@@ -1,6 +1,6 @@
 -- What an answer to words says of one field, by the words.
-use Rattle.std.proofs.Common.{◌≡◌, ℕ, Bool, true, false, List, [], ◌∷◌, None, Some, Option}
-use Rattle.std.proofs.Common.{Result, Ok, Err, IfOk, sym, ◌∙◌, subst}
+use Rattle.std.proofs.Common.{◌≡◌, ◌≢◌, ℕ, Bool, true, false, List, [], ◌∷◌, None, Some, Option}
+use Rattle.std.proofs.Common.{IsSome, Result, Ok, Err, IfOk, All, IsUtf8, sym, ◌∙◌, subst, refl}
 use Rattle.bpaf_doc.specs.Names.{Names}
 use Rattle.bpaf_doc.specs.Shape.{Shape}
 use Rattle.bpaf_words.specs.Arguments.{Given}
@@ -8,10 +8,13 @@ use Rattle.bpaf_line.specs.declared.failure.ParseFailure.{ParseFailure}
 use Rattle.bpaf.specs.Info.{RunInfo}
 use Rattle.bpaf_exact.specs.FlatForm.{FlatForm}
 use Rattle.bpaf_exact.specs.Pieces.{LinePiece}
-use Rattle.bpaf_exact.specs.Says.{Said, FlagSays, says_present, says_absent, keyed}
+use Rattle.bpaf_exact.specs.Says.{Said, FlagSays, says_present, says_absent, ArgumentSays, keyed}
+use Rattle.bpaf_exact.specs.Says.{OptionalSays, says_some, says_none, FallbackSays, says_own}
+use Rattle.bpaf_exact.specs.Says.{says_kept, RepeatSays}
+use Rattle.bpaf_exact.proofs.Needed.{NeedsPiece, argument_needs, no_values, repeat_needs}
 use Rattle.bpaf_record.specs.Record.{SaysOfWords}
-use Rattle.bpaf_record.specs.Spelled.{WasSpelled}
-use Rattle.bpaf_record.proofs.Spelled.{piece_was_spelled}
+use Rattle.bpaf_record.specs.Spelled.{IsSpelledByAny, WasSpelled}
+use Rattle.bpaf_record.proofs.Spelled.{piece_was_spelled, spelled_has_piece}
 
 -- what follows of a value that says so is said of the answer
 pub answer_says : {T : Type 0} {P Q : T → Type 0} (r : Result T ParseFailure) → IfOk r P
@@ -20,35 +23,118 @@ answer_says (Ok v) holds so = so v holds
 answer_says (Err f) holds so = tt
 
 module _ {T : Type 0} {describes : Shape → Type 0} {info : RunInfo} {form : FlatForm T}
-    {said : Said T} {given : Given} {v : T} (told : SaysOfWords describes info form said given v)
-    {key : Names} where
-  -- A field with a piece of its own has its key spelled by one of the words before the first `--`.
-  pub key_spelled : {o : LinePiece} {more : List LinePiece}
-      → keyed (key ∷ []) told.is_value.read.cut_into ≡ o ∷ more → (names : Names) → key ≡ names → (words : List (List ℕ)) → given.words ≡ words
+    {said : Said T} {given : Given} {v : T}
+    (told : SaysOfWords describes info form said given v) where
+  -- the pieces of the line that begin with a key
+  abbrev own : Names → List LinePiece
+  own key = keyed (key ∷ []) told.is_value.read.cut_into
+
+  -- one of the words before the first `--` spells the key, by its names and the words of a caller
+  abbrev IsKeySpelled : Names → Type 0
+  IsKeySpelled key =
+      (names : Names) → key ≡ names → (words : List (List ℕ)) → given.words ≡ words
       → WasSpelled names words
-  key_spelled {o} {more} e names same words are =
+
+  -- A key with a piece of its own was spelled.
+  pub key_spelled : {key : Names} → own key ≢ [] → IsKeySpelled key
+  key_spelled {key} some names same words are =
       let value = told.is_value in
       subst (WasSpelled names) are
       (subst (λ z. WasSpelled z given.words) same
       (piece_was_spelled info given value.context value.on_line _ key value.read.cut_into
-      value.read.cut o more e))
+      value.read.cut some))
 
-  -- So has a switch that is true,
-  pub switch_spelled : {present : Bool} {absent : Option Bool} {b : Bool}
-      → FlagSays (λ kept x. x ≡ kept) present absent
-      (keyed (key ∷ []) told.is_value.read.cut_into) b → absent ≡ Some false
+  -- So was that of a value that needs a piece,
+  pub value_spelled : {key : Names} {A : Type 0} {inside : Said A} {x : A} → NeedsPiece inside
+      → inside (own key) x → IsKeySpelled key
+  value_spelled {key} {A} {inside} {x} needs so =
+      key_spelled (λ none. needs.some x (subst (λ os. inside os x) none so))
+
+  -- of an argument's value,
+  pub argument_spelled : {key : Names} {A : Type 0} {means : List ℕ → A → Type 0} {last : Bool}
+      {x : A} → ArgumentSays means last (own key) x → IsKeySpelled key
+  argument_spelled {key} {A} {means} {last} {x} so =
+      value_spelled {x = x} (argument_needs {means = means} {last = last}) so
+
+  -- of a switch that is true,
+  pub switch_spelled : {key : Names} {present : Bool} {absent : Option Bool} {b : Bool}
+      → FlagSays (λ kept x. x ≡ kept) present absent (own key) b → absent ≡ Some false
       → (names : Names) → key ≡ names → (words : List (List ℕ)) → given.words ≡ words
       → (switch : Bool) → switch ≡ b → switch ≡ true → WasSpelled names words
   switch_spelled (says_present k one is) off names same words are switch value on =
-      key_spelled one names same words are
+      key_spelled (λ none. cc) names same words are
   switch_spelled (says_absent a none kept is) off names same words are switch value on = absurd cc
 
-  -- and a required flag that has its value.
-  pub flag_spelled : {A : Type 0} {clones : A → A → Type 0} {present : A} {absent : Option A}
-      {x : A} → FlagSays clones present absent (keyed (key ∷ []) told.is_value.read.cut_into) x
-      → absent ≡ None
+  -- of a required flag that has its value,
+  pub flag_spelled : {key : Names} {A : Type 0} {clones : A → A → Type 0} {present : A}
+      {absent : Option A} {x : A} → FlagSays clones present absent (own key) x → absent ≡ None
       → (names : Names) → key ≡ names → (words : List (List ℕ)) → given.words ≡ words
       → clones present x × WasSpelled names words
   flag_spelled (says_present k one is) required names same words are =
-      (is, key_spelled one names same words are)
+      (is, key_spelled (λ none. cc) names same words are)
   flag_spelled (says_absent a none kept is) required names same words are = absurd cc
+
+  -- of an optional value that is Some,
+  pub optional_spelled : {key : Names} {A : Type 0} {inside : Said A} {o : Option A}
+      → NeedsPiece inside → OptionalSays inside (own key) o → (value : Option A) → value ≡ o
+      → IsSome value → IsKeySpelled key
+  optional_spelled needs (says_some x is so) value same some = value_spelled {x = x} needs so
+  optional_spelled needs (says_none is none) value same some =
+      let wrong : false ≡ true = subst IsSome (same ∙ is) some in
+      absurd cc
+
+  -- of a value under a fallback that isn't what stands in its place,
+  pub fallback_spelled : {key : Names} {A : Type 0} {inside : Said A} {kept : A → Type 0} {x : A}
+      → NeedsPiece inside → FallbackSays inside kept (own key) x → ¬ (kept x) → IsKeySpelled key
+  fallback_spelled {key} {A} {inside} {kept} {x} needs (says_own so) other =
+      value_spelled {x = x} needs so
+  fallback_spelled needs (says_kept none is) other = absurd (other is)
+
+  -- and of a repeat that isn't empty.
+  pub repeat_spelled : {key : Names} {A : Type 0} {inside : Said A} {xs : List A}
+      → NeedsPiece inside → RepeatSays inside (own key) xs → (values : List A) → values ≡ xs
+      → values ≢ [] → IsKeySpelled key
+  repeat_spelled {key} {A} {inside} {xs} needs so values same some =
+      key_spelled (λ none. repeat_needs needs xs (λ empty. some (same ∙ empty))
+      (subst (λ os. RepeatSays inside os xs) none so))
+
+  -- what follows where one of the words before the first `--` spells the key, whatever names are
+  -- known
+  abbrev IfKeySpelled : Names → Type 0 → Type 0
+  IfKeySpelled key A =
+      (names : Names) → key ≡ names → (words : List (List ℕ)) → given.words ≡ words
+      → All IsUtf8 words → IsSpelledByAny info.numbers names words → A
+
+  -- A key that was spelled has a piece of its own,
+  pub spelled_key : {key : Names} → IfKeySpelled key (own key ≢ [])
+  spelled_key {key} names same words are texts spelled =
+      let value = told.is_value in
+      spelled_has_piece info given value.context value.on_line _ key value.read.cut_into
+      value.read.cut (subst (All IsUtf8) (sym are) texts)
+      (subst (λ ws. IsSpelledByAny info.numbers key ws) (sym are)
+      (subst (λ z. IsSpelledByAny info.numbers z words) (sym same) spelled))
+
+  -- so its switch is true,
+  pub spelled_switch : {key : Names} {present : Bool} {absent : Option Bool} {b : Bool}
+      → FlagSays (λ kept x. x ≡ kept) present absent (own key) b → present ≡ true
+      → (switch : Bool) → switch ≡ b → IfKeySpelled key (switch ≡ true)
+  spelled_switch (says_present k one is) on switch value names same words are texts spelled = cc
+  spelled_switch (says_absent a none kept is) on switch value names same words are texts spelled =
+      absurd (spelled_key names same words are texts spelled none)
+
+  -- an optional value Some,
+  pub spelled_optional : {key : Names} {A : Type 0} {inside : Said A} {o : Option A}
+      → OptionalSays inside (own key) o → (value : Option A) → value ≡ o
+      → IfKeySpelled key (IsSome value)
+  spelled_optional (says_some x is so) value e names same words are texts spelled =
+      subst IsSome (sym (e ∙ is)) refl
+  spelled_optional (says_none is none) value e names same words are texts spelled =
+      absurd (spelled_key names same words are texts spelled none)
+
+  -- and a repeat not empty.
+  pub spelled_repeat : {key : Names} {A : Type 0} {inside : Said A} {xs : List A}
+      → RepeatSays inside (own key) xs → (values : List A) → values ≡ xs
+      → IfKeySpelled key (values ≢ [])
+  spelled_repeat {key} {A} {inside} {xs} so values e names same words are texts spelled =
+      λ none. spelled_key names same words are texts spelled
+      (no_values (subst (RepeatSays inside (own key)) (sym e ∙ none) so))

@@ -3,4 +3,5 @@ pub mod Products
 pub mod OneLine
 pub mod Running
 pub mod Spelled
+pub mod OwnWords
 pub mod Answered

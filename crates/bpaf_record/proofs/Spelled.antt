@@ -1,231 +1,353 @@
--- A key that stands on the line of words is spelled by one of those before the first `--`.
-use Rattle.std.proofs.Common.{◌≡◌, ℕ, zero, suc, Bool, true, false, List, [], ◌∷◌, ◌++◌, Option}
-use Rattle.std.proofs.Common.{Some, None, length, codes, map, refl, sym, ap, ◌∙◌, subst, arith}
-use Rattle.std.proofs.Common.{if◌then◌else◌, ⊎_elim, slice_get, ◌||◌}
+-- A key stands on the line of words where one of those before the first `--` spells it, and nowhere
+-- else.
+use Rattle.std.proofs.Common.{◌≡◌, ◌≢◌, ℕ, zero, suc, ◌<◌, Bool, true, false, List, [], ◌∷◌, ◌++◌}
+use Rattle.std.proofs.Common.{Option, Some, None, length, codes, map, refl, sym, ap, ◌∙◌, subst}
+use Rattle.std.proofs.Common.{if◌then◌else◌, ⊎_elim, slice_get, slice_index_or, ◌||◌, arith}
+use Rattle.std.proofs.Common.{All, IsUtf8, length-append}
 use Rattle.std.specs.Prelude.{flat_map}
-use Rattle.std.specs.List.{AllZip, Contains, AllByRecursion}
+use Rattle.std.specs.List.{AllZip, Contains}
+use Rattle.std.proofs.lemmas.Bool.{ne_eqb}
+use Rattle.std.proofs.lemmas.List.{get_or_append_left}
+use Rattle.std.proofs.lemmas.List.Elements.{Contains-append_cases, Contains-append_left}
+use Rattle.std.proofs.lemmas.List.Elements.{Contains-append_right}
+use Rattle.std.proofs.lemmas.Option.{get_or_from_slice_get, slice_get_read, slice_get_within}
 use Rattle.bpaf_doc.specs.Names.{Names}
 use Rattle.bpaf_doc.specs.Shape.{Shape}
 use Rattle.bpaf_words.specs.Arguments.{Given}
 use Rattle.bpaf_items.specs.Items.{is_key_of}
-use Rattle.bpaf_words.specs.Line.{IsLine, without_marker, with_marker, SpellAll}
+use Rattle.bpaf_words.specs.Line.{HasNoMarker, IsLine, without_marker, with_marker}
 use Rattle.bpaf_words.specs.Spelling.{Known, Items, Spells, known_at}
+use Rattle.bpaf_words.proofs.OneSpelling.{one_spelling}
 use Rattle.bpaf_items.specs.declared.arg.Arg.{Arg}
-use Rattle.bpaf_items.specs.declared.arg.Arg.TheVariants.{PosWord}
+use Rattle.bpaf_items.specs.declared.arg.Arg.TheVariants.{Short, Long, ArgWord, Word, PosWord}
 use Rattle.bpaf_line.specs.Constructing.{IsContext}
 use Rattle.bpaf_line.specs.Situation.{Context, item_in, is_marker}
 use Rattle.bpaf.specs.Info.{RunInfo}
 use Rattle.bpaf.specs.Known.{IsLineContext, known_names}
 use Rattle.bpaf.specs.Marker.{words_before}
-use Rattle.bpaf.proofs.Sides.{each_at, each_append, each_then, before_with_marker}
-use Rattle.bpaf.proofs.Sides.{before_without_marker}
+use Rattle.bpaf.proofs.Sides.{before_with_marker, before_without_marker}
 use Rattle.bpaf_exact.specs.Flat.{first_cells}
 use Rattle.bpaf_exact.specs.Pieces.{Cells, Roles, LinePiece, Cut, at_end, passed, flag, argument}
-use Rattle.bpaf_exact.specs.Pieces.{One, Two}
+use Rattle.bpaf_exact.specs.Pieces.{One, Two, is_value}
 use Rattle.bpaf_exact.specs.Pieces as piece
 use Rattle.bpaf_exact.specs.Record.{line_cells}
-use Rattle.bpaf_exact.specs.Says.{keyed}
-use Rattle.bpaf_record.specs.Spelled.{SpellsKey, IsSpelled, WasSpelled}
+use Rattle.bpaf_exact.specs.Says.{first_item, keyed}
+use Rattle.bpaf_record.specs.Spelled.{IsSpelled, IsSpelledByAny, SpellsKey, WasSpelled}
 
--- each item of a list is in it
-each_itself : {X : Type 0} (xs : List X) → AllByRecursion (Contains xs) xs
-each_itself [] = tt
-each_itself (x ∷ xs) = (
-  (0, omega arith, refl),
-  each_then (Contains xs) (Contains (x ∷ xs)) xs
-      (λ y there. (suc there.0, omega arith, there.2)) (each_itself xs),
-)
+-- what holds of all members holds of the first ones
+all_before : {X : Type 0} (P : X → Type 0) (xs ys : List X) → All P (xs ++ ys) → All P xs
+all_before P xs ys all k d within =
+    let size = length-append xs ys in
+    subst P (get_or_append_left xs ys d k within) (all k d (omega arith))
 
--- the keys with one of these names that stand on a line, in line order
-abbrev keys_on : Names → Cells → List Arg
-keys_on names [] = []
-keys_on names (None ∷ cs) = keys_on names cs
-keys_on names (Some k ∷ cs) = if is_key_of names k then (k ∷ keys_on names cs) else keys_on names cs
+module _ (names : Names) where
+  -- the keys with one of these names that stand on a line, in line order
+  abbrev keys_on : Cells → List Arg
+  keys_on [] = []
+  keys_on (None ∷ cs) = keys_on cs
+  keys_on (Some k ∷ cs) = if is_key_of names k then (k ∷ keys_on cs) else keys_on cs
 
--- there is one
-record HasKey (names : Names) (cs : Cells) : Type 0 where
-  key : Arg
-  more : List Arg
-  keys : keys_on names cs ≡ key ∷ more
+  -- the value of a key is none
+  value_is_no_key : (w : Arg) → is_value w ≡ true → is_key_of names w ≡ false
+  value_is_no_key (Short c attached text) value = absurd cc
+  value_is_no_key (Long name attached text) value = absurd cc
+  value_is_no_key (ArgWord text) value = refl
+  value_is_no_key (Word text) value = refl
+  value_is_no_key (PosWord text) value = refl
 
--- one more item takes none away
-one_more : (names : Names) (k : Arg) (cs : Cells) → HasKey names cs → HasKey names (Some k ∷ cs)
-one_more names k cs h = by_key (is_key_of names k) refl
-  where
-    by_key : (b : Bool) → is_key_of names k ≡ b → HasKey names (Some k ∷ cs)
-    by_key true e = record {
-      key = k;
-      more = keys_on names cs;
-      keys = ap (λ c. if c then (k ∷ keys_on names cs) else keys_on names cs) e;
-    }
-    by_key false e = record {
-      key = h.key;
-      more = h.more;
-      keys = ap (λ c. if c then (k ∷ keys_on names cs) else keys_on names cs) e ∙ h.keys;
-    }
+  -- one more piece, which begins with one or not
+  one_more : (b : Bool) (o : LinePiece) (ks : List Arg) (os : List LinePiece)
+      → ks ≡ map first_item os
+      → (if b then (first_item o ∷ ks) else ks)
+      ≡ map first_item (if b || false then (o ∷ os) else os)
+  one_more true o ks os e = ap (λ z. first_item o ∷ z) e
+  one_more false o ks os e = e
 
--- it is the first item of a piece, or one behind it
-by_test : (names : Names) (k : Arg) (cs : Cells) (piece : LinePiece) (os : List LinePiece)
-    (o : LinePiece) (more : List LinePiece)
-    → (if is_key_of names k || false then (piece ∷ keyed (names ∷ []) os) else
-    keyed (names ∷ []) os)
-    ≡ o ∷ more
-    → (keyed (names ∷ []) os ≡ o ∷ more → HasKey names cs) → HasKey names (Some k ∷ cs)
-by_test names k cs piece os o more e later = by_key (is_key_of names k) refl e
-  where
-    by_key : (b : Bool) → is_key_of names k ≡ b
-        → (if b || false then (piece ∷ keyed (names ∷ []) os) else keyed (names ∷ []) os)
-        ≡ o ∷ more
-        → HasKey names (Some k ∷ cs)
-    by_key true is f = record {
-      key = k;
-      more = keys_on names cs;
-      keys = ap (λ c. if c then (k ∷ keys_on names cs) else keys_on names cs) is;
-    }
-    by_key false is f = one_more names k cs (later f)
+  -- They are the first items of the pieces that begin with them.
+  cut_keys : (r : Roles) {cs : Cells} {os : List LinePiece} → Cut r cs os
+      → keys_on cs ≡ map first_item (keyed (names ∷ []) os)
+  cut_keys r at_end = refl
+  cut_keys r (passed c) = cut_keys r c
+  cut_keys r (flag {k = k} {cs = cs} {os = os} is c) =
+      one_more (is_key_of names k) (One k) (keys_on cs) (keyed (names ∷ []) os) (cut_keys r c)
+  cut_keys r (argument {k = k} {w = w} {cs = cs} {os = os} is v c) =
+      one_more (is_key_of names k) (Two k w) (keys_on (Some w ∷ cs)) (keyed (names ∷ []) os)
+      (ap (λ b. if b then (w ∷ keys_on cs) else keys_on cs) (value_is_no_key w v) ∙ cut_keys r c)
+  cut_keys r (piece.word {w = w} {cs = cs} {os = os} is c) =
+      one_more (is_key_of names w) (One w) (keys_on cs) (keyed (names ∷ []) os) (cut_keys r c)
 
--- a piece that begins with such a key has its key on the line
-cut_key : (r : Roles) (names : Names) {cs : Cells} {os : List LinePiece} → Cut r cs os
-    → (o : LinePiece) (more : List LinePiece) → keyed (names ∷ []) os ≡ o ∷ more → HasKey names cs
-cut_key r names at_end o more e = absurd cc
-cut_key r names (passed {cs = cs} c) o more e =
-    let there = cut_key r names c o more e in
-    record { key = there.key; more = there.more; keys = there.keys }
-cut_key r names (flag {k = k} {cs = cs} {os = os} is c) o more e =
-    by_test names k cs (One k) os o more e (cut_key r names c o more)
-cut_key r names (argument {k = k} {w = w} {cs = cs} {os = os} is v c) o more e =
-    by_test names k (Some w ∷ cs) (Two k w) os o more e
-    (λ f. one_more names w cs (cut_key r names c o more f))
-cut_key r names (piece.word {w = w} {cs = cs} {os = os} is c) o more e =
-    by_test names w cs (One w) os o more e (cut_key r names c o more)
-
-module _ (known : Known) (names : Names) where
-  -- an item that, if it is such a key, is spelled by one of these words
-  abbrev IsSpelledBy : List (List ℕ) → Arg → Type 0
-  IsSpelledBy words item =
-      is_key_of names item ≡ true → (word : List ℕ) × Contains words word
-      × SpellsKey known names word
-
-  -- each item that words spell is
-  parts_spelled : (words : List (List ℕ)) (parts : List (List Arg))
-      → AllZip (λ word items. Spells known word (Items items)) words parts
-      → AllByRecursion (IsSpelledBy words) (flat_map (λ items. items) parts)
-  parts_spelled [] [] spelled = tt
-  parts_spelled [] (items ∷ parts) spelled = absurd spelled
-  parts_spelled (word ∷ words) [] spelled = absurd spelled
-  parts_spelled (word ∷ words) (items ∷ parts) spelled =
-      each_append (IsSpelledBy (word ∷ words)) items (flat_map (λ xs. xs) parts)
-      (each_then (Contains items) (IsSpelledBy (word ∷ words)) items
-      (λ item among is. (
-        word,
-        (0, omega arith, refl),
-        record { items = items; spells = spelled.0; key = item; among = among; is_key = is },
-      ))
-      (each_itself items))
-      (each_then (IsSpelledBy words) (IsSpelledBy (word ∷ words)) (flat_map (λ xs. xs) parts)
-      (λ item by is. let found = by is in
-      (found.0, (suc found.1.0, omega arith, found.1.2), found.2))
-      (parts_spelled words parts spelled.1))
-
-  -- so is each of all items
-  all_spelled : (words : List (List ℕ)) (items : List Arg) → SpellAll known words items
-      → AllByRecursion (IsSpelledBy words) items
-  all_spelled words items spells =
-      subst (AllByRecursion (IsSpelledBy words)) (sym spells.joined)
-      (parts_spelled words spells.parts spells.spelled)
-
-  -- no key stands behind the marker
-  behind_spelled : (words after : List (List ℕ))
-      → AllByRecursion (IsSpelledBy words) (map PosWord after)
-  behind_spelled words [] = tt
-  behind_spelled words (text ∷ after) = ((λ is. cc), behind_spelled words after)
-
-  -- each item of a line is spelled by the words before the first `--`
-  line_spelled : (words : List (List ℕ)) (line : List Arg) (marker : Option ℕ)
-      → IsLine known words line marker
-      → AllByRecursion (IsSpelledBy (words_before words)) line
-  line_spelled words line marker (without_marker items none spelled) =
-      subst (λ before. AllByRecursion (IsSpelledBy before) items)
-      (sym (before_without_marker words none)) (all_spelled words items spelled)
-  line_spelled words line marker (with_marker before after items cut none spelled) =
-      subst (λ those. AllByRecursion (IsSpelledBy those)
-      (items ++ PosWord (codes "--") ∷ map PosWord after))
-      (sym (ap words_before cut ∙ before_with_marker before after none))
-      (each_append (IsSpelledBy before) items (PosWord (codes "--") ∷ map PosWord after)
-      (all_spelled before items spelled) ((λ is. cc), behind_spelled before after))
-
-  -- a place at which such a key stands
-  record IsAt (at : ℕ → Option Arg) : Type 0 where
+  -- one stands at one of the first places
+  record IsAt (at : ℕ → Option Arg) (n : ℕ) : Type 0 where
     place : ℕ
+    within : place < n
     key : Arg
     is : at place ≡ Some key
     is_key : is_key_of names key ≡ true
 
-  -- where one stands on the line, it stands at a place
-  on_place : (at : ℕ → Option Arg) (n : ℕ) (k : Arg) (ks : List Arg)
-      → keys_on names (first_cells at n) ≡ k ∷ ks → IsAt at
-  on_place at zero k ks e = absurd cc
-  on_place at (suc n) k ks e =
-      by_cell (at zero) refl e (λ f. later (on_place (λ p. at (suc p)) n k ks f))
+  -- what is behind the first place
+  abbrev behind : (ℕ → Option Arg) → ℕ → Cells
+  behind at n = first_cells (λ p. at (suc p)) n
+
+  -- where one is on a line, it stands at a place
+  on_place : (at : ℕ → Option Arg) (n : ℕ) → keys_on (first_cells at n) ≢ [] → IsAt at n
+  on_place at zero some = absurd (some refl)
+  on_place at (suc n) some =
+      by_cell (at zero) refl some (λ more. later (on_place (λ p. at (suc p)) n more))
     where
-      later : IsAt (λ p. at (suc p)) → IsAt at
-      later i = record { place = suc i.place; key = i.key; is = i.is; is_key = i.is_key }
+      later : IsAt (λ p. at (suc p)) n → IsAt at (suc n)
+      later i = record {
+        place = suc i.place;
+        within = let below = i.within in omega arith;
+        key = i.key;
+        is = i.is;
+        is_key = i.is_key;
+      }
 
       by_key : (j : Arg) → at zero ≡ Some j → (b : Bool) → is_key_of names j ≡ b
-          → (if b then (j ∷ keys_on names (first_cells (λ p. at (suc p)) n))
-          else keys_on names (first_cells (λ p. at (suc p)) n)) ≡ k ∷ ks
-          → (keys_on names (first_cells (λ p. at (suc p)) n) ≡ k ∷ ks → IsAt at) → IsAt at
-      by_key j here true is_key e later =
-          record { place = zero; key = j; is = here; is_key = is_key }
-      by_key j here false is_key e later = later e
+          → (if b then (j ∷ keys_on (behind at n)) else keys_on (behind at n)) ≢ []
+          → (keys_on (behind at n) ≢ [] → IsAt at (suc n)) → IsAt at (suc n)
+      by_key j here true is_key some later =
+          record { place = zero; within = omega arith; key = j; is = here; is_key = is_key }
+      by_key j here false is_key some later = later some
 
-      by_cell : (c : Option Arg) → at zero ≡ c
-          → keys_on names (c ∷ first_cells (λ p. at (suc p)) n) ≡ k ∷ ks
-          → (keys_on names (first_cells (λ p. at (suc p)) n) ≡ k ∷ ks → IsAt at) → IsAt at
-      by_cell None here e later = later e
-      by_cell (Some j) here e later = by_key j here (is_key_of names j) refl e later
+      by_cell : (c : Option Arg) → at zero ≡ c → keys_on (c ∷ behind at n) ≢ []
+          → (keys_on (behind at n) ≢ [] → IsAt at (suc n)) → IsAt at (suc n)
+      by_cell None here some later = later some
+      by_cell (Some j) here some later = by_key j here (is_key_of names j) refl some later
 
-  -- an item of the line is there
-  in_line : (context : Context) (p : ℕ) (item : Arg) → item_in context p ≡ Some item
-      → slice_get context.line p ≡ Some item
-  in_line context p item is =
-      by_test (is_marker context.marker p) (slice_get context.line p) is
+  -- where none is on a line, none is on what follows its first place
+  none_behind : (c : Option Arg) (cs : Cells) → keys_on (c ∷ cs) ≡ [] → keys_on cs ≡ []
+  none_behind None cs none = none
+  none_behind (Some j) cs none = by_key (is_key_of names j) none
     where
-      by_test : (b : Bool) (at : Option Arg) → (if b then None else at) ≡ Some item
-          → at ≡ Some item
-      by_test true at e = cc
-      by_test false at e = e
+      by_key : (b : Bool) → (if b then (j ∷ keys_on cs) else keys_on cs) ≡ [] → keys_on cs ≡ []
+      by_key true e = absurd cc
+      by_key false e = e
 
-  -- A key that stands on the line of words is spelled by one of those before the first `--`.
-  key_spelled : (given : Given) (context : Context) → IsContext known given context
-      → (k : Arg) (ks : List Arg) → keys_on names (line_cells context) ≡ k ∷ ks
-      → IsSpelled known names given.words
-  key_spelled given context is k ks e =
-      let found = on_place (item_in context) (length context.line) k ks e in
-      let by = each_at (IsSpelledBy (words_before given.words)) context.line found.place found.key
-      (line_spelled given.words context.line context.marker is.is_line)
-      (in_line context found.place found.key found.is) found.is_key in
-      record { word = by.0; before = by.1; spells = by.2 }
+  -- where one stands at a place, it is on the line
+  from_place : (at : ℕ → Option Arg) (n p : ℕ) (key : Arg) → p < n → at p ≡ Some key
+      → is_key_of names key ≡ true → keys_on (first_cells at n) ≢ []
+  from_place at zero p key within is is_key = absurd (omega arith)
+  from_place at (suc n) zero key within is is_key = λ none.
+      let e : keys_on (at zero ∷ behind at n) ≡ key ∷ keys_on (behind at n) =
+      ap (λ c. keys_on (c ∷ behind at n)) is
+      ∙ ap (λ b. if b then (key ∷ keys_on (behind at n)) else keys_on (behind at n)) is_key in
+      let wrong : key ∷ keys_on (behind at n) ≡ [] = sym e ∙ none in
+      cc
+  from_place at (suc n) (suc p) key within is is_key = λ none.
+      from_place (λ q. at (suc q)) n p key (omega arith) is is_key
+      (none_behind (at zero) (behind at n) none)
 
--- So it is on the line by which a run reads the words.
-key_was_spelled : {describes : Shape → Type 0} (info : RunInfo) (given : Given)
-    (context : Context) → IsLineContext describes info given context → (names : Names) (k : Arg)
-    (ks : List Arg) → keys_on names (line_cells context) ≡ k ∷ ks → WasSpelled names given.words
-key_was_spelled info given context is names k ks e = ⊎_elim
-    (λ one. (
-      known_names info one.0,
-      key_spelled (known_names info one.0) names given context one.2 k ks e,
-    ))
-    (λ any. let nothing : Known = known_at info.numbers (record { flags = []; arguments = [] }) in
-    (nothing, key_spelled nothing names given context (any nothing.names) k ks e))
-    is
+  -- one is among items
+  record KeyAmong (items : List Arg) : Type 0 where
+    key : Arg
+    among : Contains items key
+    is_key : is_key_of names key ≡ true
 
--- A piece that begins with such a key is spelled by one of the words before the first `--`.
-pub piece_was_spelled : {describes : Shape → Type 0} (info : RunInfo) (given : Given)
-    (context : Context) → IsLineContext describes info given context → (r : Roles) (names : Names)
-    (os : List LinePiece) → Cut r (line_cells context) os → (o : LinePiece) (more : List LinePiece)
-    → keyed (names ∷ []) os ≡ o ∷ more
-    → WasSpelled names given.words
-piece_was_spelled info given context is r names os cut o more e =
-    let there = cut_key r names cut o more e in
-    key_was_spelled info given context is names there.key there.more there.keys
+  -- none is behind the marker
+  none_behind_marker : (texts : List (List ℕ)) (key : Arg) → Contains (map PosWord texts) key
+      → is_key_of names key ≡ false
+  none_behind_marker [] key (k, within, is) = absurd (omega arith)
+  none_behind_marker (text ∷ texts) key (zero, within, is) =
+      subst (λ z. is_key_of names z ≡ false) is refl
+  none_behind_marker (text ∷ texts) key (suc k, within, is) =
+      none_behind_marker texts key (k, omega arith, is)
+
+  module _ (known : Known) where
+    -- one of these words spells such a key
+    record OneSpells (words : List (List ℕ)) : Type 0 where
+      word : List ℕ
+      among : Contains words word
+      spells : SpellsKey known names word
+
+    -- a key among all items that words spell is spelled by one of them
+    word_of : (words : List (List ℕ)) (parts : List (List Arg))
+        → AllZip (λ word items. Spells known word (Items items)) words parts
+        → KeyAmong (flat_map (λ items. items) parts) → OneSpells words
+    word_of [] [] spelled k = let within = k.among.1 in absurd (omega arith)
+    word_of [] (items ∷ parts) spelled k = absurd spelled
+    word_of (word ∷ words) [] spelled k = absurd spelled
+    word_of (word ∷ words) (items ∷ parts) spelled k = ⊎_elim
+        (λ here. record {
+          word = word;
+          among = (0, omega arith, refl);
+          spells = record {
+            items = items;
+            spells = spelled.0;
+            key = k.key;
+            among = here;
+            is_key = k.is_key;
+          };
+        })
+        (λ there. let one = word_of words parts spelled.1
+        (record { key = k.key; among = there; is_key = k.is_key }) in
+        let within = one.among.1 in
+        record {
+          word = one.word;
+          among = (suc one.among.0, omega arith, one.among.2);
+          spells = one.spells;
+        })
+        (Contains-append_cases items (flat_map (λ xs. xs) parts) k.key k.among)
+
+    -- and one that one of them spells is among all items
+    item_of : (words : List (List ℕ)) (parts : List (List Arg))
+        → AllZip (λ word items. Spells known word (Items items)) words parts → All IsUtf8 words
+        → HasNoMarker words → (i : ℕ) (word : List ℕ) → i < length words
+        → slice_index_or words i word ≡ word → SpellsKey known names word
+        → KeyAmong (flat_map (λ items. items) parts)
+    item_of [] [] spelled texts none i word within is s = absurd (omega arith)
+    item_of [] (items ∷ parts) spelled texts none i word within is s = absurd spelled
+    item_of (first ∷ words) [] spelled texts none i word within is s = absurd spelled
+    item_of (first ∷ words) (items ∷ parts) spelled texts none zero word within is s =
+        let one = one_spelling known first (texts 0 [] (omega arith)) (none 0 [] (omega arith)) in
+        let these : Items s.items ≡ one.spelling =
+        (one.only (Items s.items) (subst (λ w. Spells known w (Items s.items)) (sym is) s.spells)).1
+        in
+        let those : Items items ≡ one.spelling = (one.only (Items items) spelled.0).1 in
+        let same : s.items ≡ items = cc in
+        record {
+          key = s.key;
+          among = Contains-append_left items (flat_map (λ xs. xs) parts) s.key
+              (subst (λ xs. Contains xs s.key) same s.among);
+          is_key = s.is_key;
+        }
+    item_of (first ∷ words) (items ∷ parts) spelled texts none (suc i) word within is s =
+        let k = item_of words parts spelled.1 (λ j d below. texts (suc j) d (omega arith))
+        (λ j d below. none (suc j) d (omega arith)) i word (omega arith) is s in
+        record {
+          key = k.key;
+          among = Contains-append_right items (flat_map (λ xs. xs) parts) k.key k.among;
+          is_key = k.is_key;
+        }
+
+    -- A key on a line is spelled by one of the words before the first `--`,
+    line_word : (words : List (List ℕ)) (line : List Arg) (marker : Option ℕ)
+        → IsLine known words line marker → KeyAmong line → OneSpells (words_before words)
+    line_word words line marker (without_marker items none spells) k =
+        subst OneSpells (sym (before_without_marker words none))
+        (word_of words spells.parts spells.spelled
+        (record {
+          key = k.key;
+          among = subst (λ z. Contains z k.key) spells.joined k.among;
+          is_key = k.is_key;
+        }))
+    line_word words line marker (with_marker before after items cut none spells) k =
+        subst OneSpells (sym (ap words_before cut ∙ before_with_marker before after none))
+        (⊎_elim
+        (λ here. word_of before spells.parts spells.spelled
+        (record {
+          key = k.key;
+          among = subst (λ z. Contains z k.key) spells.joined here;
+          is_key = k.is_key;
+        }))
+        (λ there. let no_key : is_key_of names k.key ≡ false =
+        none_behind_marker (codes "--" ∷ after) k.key there in
+        let key = k.is_key in
+        absurd cc)
+        (Contains-append_cases items (PosWord (codes "--") ∷ map PosWord after) k.key k.among))
+
+    -- and one that one of these spells stands on it.
+    word_at : (words : List (List ℕ)) (line : List Arg) (marker : Option ℕ)
+        → IsLine known words line marker → All IsUtf8 words → OneSpells (words_before words)
+        → IsAt (λ p. if is_marker marker p then None else slice_get line p) (length line)
+    word_at words line marker (without_marker items none spells) texts one =
+        let s = subst OneSpells (before_without_marker words none) one in
+        let k = item_of words spells.parts spells.spelled texts none s.among.0 s.word s.among.1
+        s.among.2 s.spells in
+        let among = subst (λ z. Contains z k.key) (sym spells.joined) k.among in
+        record {
+          place = among.0;
+          within = among.1;
+          key = k.key;
+          is = slice_get_read items (length items) among.0 k.key refl among.1 (sym among.2);
+          is_key = k.is_key;
+        }
+    word_at words line marker (with_marker before after items cut none spells) texts one =
+        let behind = PosWord (codes "--") ∷ map PosWord after in
+        let s = subst OneSpells (ap words_before cut ∙ before_with_marker before after none) one in
+        let k = item_of before spells.parts spells.spelled
+        (all_before IsUtf8 before (codes "--" ∷ after) (subst (All IsUtf8) cut texts)) none s.among.0
+        s.word s.among.1 s.among.2 s.spells in
+        let among = subst (λ z. Contains z k.key) (sym spells.joined) k.among in
+        let size = length-append items behind in
+        let below = among.1 in
+        record {
+          place = among.0;
+          within = omega arith;
+          key = k.key;
+          is = ap (λ b. if b then None else slice_get (items ++ behind) among.0)
+              (ne_eqb among.0 (length items) (λ same. absurd (omega arith)))
+              ∙ slice_get_read (items ++ behind) (length (items ++ behind)) among.0 k.key refl
+              (omega arith)
+              (sym (get_or_append_left items behind k.key among.0 among.1 ∙ among.2));
+          is_key = k.is_key;
+        }
+
+-- an item of the line is there
+in_line : (context : Context) (p : ℕ) (item : Arg) → item_in context p ≡ Some item
+    → slice_get context.line p ≡ Some item
+in_line context p item is =
+    by_test (is_marker context.marker p) (slice_get context.line p) is
+  where
+    by_test : (b : Bool) (at : Option Arg) → (if b then None else at) ≡ Some item → at ≡ Some item
+    by_test true at e = cc
+    by_test false at e = e
+
+module _ (known : Known) (names : Names) (given : Given) (context : Context)
+    (is : IsContext known given context) (r : Roles) (os : List LinePiece)
+    (cut : Cut r (line_cells context) os) where
+  -- a piece that begins with a key is spelled by one of the words before the first `--`,
+  piece_spelled : keyed (names ∷ []) os ≢ [] → IsSpelled known names given.words
+  piece_spelled some =
+      let there = on_place names (item_in context) (length context.line)
+      (λ none. some (map_none (keyed (names ∷ []) os) (sym (cut_keys names r cut) ∙ none))) in
+      let here = in_line context there.place there.key there.is in
+      let one = line_word names known given.words context.line context.marker is.is_line (record {
+        key = there.key;
+        among = (
+          there.place,
+          slice_get_within context.line there.place there.key here,
+          get_or_from_slice_get context.line there.place there.key there.key here,
+        );
+        is_key = there.is_key;
+      }) in
+      record { word = one.word; before = one.among; spells = one.spells }
+    where
+      map_none : (ps : List LinePiece) → map first_item ps ≡ [] → ps ≡ []
+      map_none [] e = refl
+      map_none (p ∷ ps) e = absurd cc
+
+  -- and where one of them spells a key there is such a piece
+  spelled_piece : All IsUtf8 given.words → IsSpelled known names given.words
+      → keyed (names ∷ []) os ≢ []
+  spelled_piece texts one = λ none.
+      let there = word_at names known given.words context.line context.marker is.is_line texts
+      (record { word = one.word; among = one.before; spells = one.spells }) in
+      from_place names (item_in context) (length context.line) there.place there.key there.within
+      there.is there.is_key
+      (cut_keys names r cut ∙ ap (map first_item) none)
+
+module _ {describes : Shape → Type 0} (info : RunInfo) (given : Given) (context : Context)
+    (on_line : IsLineContext describes info given context) (r : Roles) (names : Names)
+    (os : List LinePiece) (cut : Cut r (line_cells context) os) where
+  -- A piece that begins with a key is spelled by one of the words before the first `--`,
+  pub piece_was_spelled : keyed (names ∷ []) os ≢ [] → WasSpelled names given.words
+  piece_was_spelled some = ⊎_elim
+      (λ one. (
+        known_names info one.0,
+        piece_spelled (known_names info one.0) names given context one.2 r os cut some,
+      ))
+      (λ any. let nothing : Known = known_at info.numbers (record { flags = []; arguments = [] }) in
+      (nothing, piece_spelled nothing names given context (any nothing.names) r os cut some))
+      on_line
+
+  -- and where one of them spells it, whatever names are known, there is such a piece.
+  pub spelled_has_piece : All IsUtf8 given.words → IsSpelledByAny info.numbers names given.words
+      → keyed (names ∷ []) os ≢ []
+  spelled_has_piece texts spelled = ⊎_elim
+      (λ one. let known = known_names info one.0 in
+      spelled_piece known names given context one.2 r os cut texts (spelled known.names))
+      (λ any. let nothing : Known = known_at info.numbers (record { flags = []; arguments = [] }) in
+      spelled_piece nothing names given context (any nothing.names) r os cut texts
+      (spelled nothing.names))
+      on_line

@@ -1,9 +1,9 @@
 -- Keys, by the words that spell them.
-use Rattle.std.specs.Prelude.{◌≡◌, true, ℕ, List}
+use Rattle.std.specs.Prelude.{◌≡◌, Bool, true, ℕ, List}
 use Rattle.std.specs.List.{Contains}
 use Rattle.bpaf_doc.specs.Names.{Names}
 use Rattle.bpaf_items.specs.Items.{is_key_of}
-use Rattle.bpaf_words.specs.Spelling.{Known, Items, Spells}
+use Rattle.bpaf_words.specs.Spelling.{Known, Items, ShortNames, Spells, known_at}
 use Rattle.bpaf_items.specs.declared.arg.Arg.{Arg}
 use Rattle.bpaf.specs.Marker.{words_before}
 
@@ -24,3 +24,8 @@ pub record IsSpelled (known : Known) (names : Names) (words : List (List ℕ)) :
 -- so it does by the names that some parser knows
 abbrev pub WasSpelled : Names → List (List ℕ) → Type 0
 WasSpelled names words = (known : Known) × IsSpelled known names words
+
+-- one of them does whatever short names are known, where a negative number is a word or isn't
+abbrev pub IsSpelledByAny : (numbers : Bool) → Names → List (List ℕ) → Type 0
+IsSpelledByAny numbers names words =
+    (known : ShortNames) → IsSpelled (known_at numbers known) names words

@@ -1,0 +1,71 @@
+-- Which values need a piece of their own: those of which nothing is said without one.
+use Rattle.std.proofs.Common.{◌≡◌, ◌≢◌, ℕ, Bool, List, [], ◌∷◌, ◌++◌, Option, None, refl, sym, ◌∙◌}
+use Rattle.bpaf_exact.specs.Pieces.{LinePiece, Two}
+use Rattle.bpaf_exact.specs.Says.{Said, FlagSays, says_present, says_absent, ArgumentSays}
+use Rattle.bpaf_exact.specs.Says.{says_text, says_last_text, MadeSays, FrontSays, RepeatSays}
+use Rattle.bpaf_exact.specs.Says.{says_in_turn, says_alone, LastSays}
+use Rattle.bpaf_exact.specs.Single.{Own, own_none, own_more}
+use Rattle.bpaf_exact.specs.Wrappers.{Closure}
+
+-- no value says so of no piece
+pub record NeedsPiece {T : Type 0} (said : Said T) : Type 0 where
+  pub some : (v : T) → ¬ (said [] v)
+
+-- a list with a member isn't empty
+not_empty : {X : Type 0} (xs : List X) (y : X) (ys : List X) → ¬ ([] ≡ xs ++ y ∷ ys)
+not_empty [] y ys e = cc
+not_empty (x ∷ xs) y ys e = cc
+
+-- where the first part of nothing has a member there is none
+no_part : {X : Type 0} (xs ys : List X) → [] ≡ xs ++ ys → xs ≡ []
+no_part [] ys e = refl
+no_part (x ∷ xs) ys e = absurd cc
+
+-- An argument's value needs a piece,
+pub argument_needs : {T : Type 0} {means : List ℕ → T → Type 0} {last : Bool}
+    → NeedsPiece (ArgumentSays means last)
+argument_needs {T} {means} {last} = record { some = by_case }
+  where
+    by_case : (v : T) → ¬ (ArgumentSays means last [] v)
+    by_case v (says_text k w e m) = cc
+    by_case v (says_last_text before k w all each e m) = not_empty before (Two k w) [] e
+
+-- a required flag's,
+pub flag_needs : {T : Type 0} {clones : T → T → Type 0} {present : T} {absent : Option T}
+    → absent ≡ None → NeedsPiece (FlagSays clones present absent)
+flag_needs {T} {clones} {present} {absent} required = record { some = by_case }
+  where
+    by_case : (v : T) → ¬ (FlagSays clones present absent [] v)
+    by_case v (says_present k e m) = cc
+    by_case v (says_absent a none kept m) = cc
+
+-- with a closure round it one that does inside,
+pub made_needs : {A B : Type 0} {said : Said A} {f : Closure A B} → NeedsPiece said
+    → NeedsPiece (MadeSays said f)
+made_needs needs = record { some = λ v made. needs.some made.from made.told }
+
+-- a repeat that has values where each of them does,
+pub repeat_needs : {T : Type 0} {said : Said T} → NeedsPiece said → (vs : List T) → vs ≢ []
+    → ¬ (RepeatSays said [] vs)
+repeat_needs {T} {said} needs vs some (says_alone a none e told) = needs.some a told
+repeat_needs {T} {said} needs vs some (says_in_turn turns) = in_turn [] vs refl some turns
+  where
+    in_turn : (os : List LinePiece) (xs : List T) → os ≡ [] → xs ≢ []
+        → ¬ (Own T (FrontSays said) os xs)
+    in_turn os [] none some turns = some refl
+    in_turn os (x ∷ xs) none some (own_more {rest = rest} front more) =
+        front.some (no_part front.part rest (sym none ∙ front.is))
+
+-- and a last value then.
+pub last_needs : {T : Type 0} {said : Said T} → NeedsPiece said → NeedsPiece (LastSays said)
+last_needs needs = record {
+  some = λ v last. repeat_needs needs last.values
+      (λ none. not_empty last.is.before v [] (sym none ∙ last.is.is))
+      last.told;
+}
+
+-- And a repeat without values has no piece.
+pub no_values : {T : Type 0} {said : Said T} {os : List LinePiece} → RepeatSays said os []
+    → os ≡ []
+no_values (says_alone a none e told) = none
+no_values (says_in_turn own_none) = refl
