@@ -8,7 +8,7 @@ LEFT_OUT = {"out", "must-fail"}
 
 
 def needed(names):
-    """The libraries of each crate that these need, and of these: by their names, in the order of crates.txt."""
+    """These crates and all that they need, in the order of crates.txt, each with its libraries."""
     with open(os.path.join(HERE, "crates.txt"), encoding="utf-8") as file:
         lines = [it.split(":") for it in file if ":" in it and not it.startswith("#")]
     listed, found, todo = {name: rest.split() for name, rest in lines}, set(), [*names]
@@ -38,7 +38,7 @@ def checksum(names):
 
 
 def copy(names, there, own=None):
-    """Copies the files of these crates and of those that they need, HANDLES, and their lines of crates.txt with others behind them."""
+    """Copies all files of these crates, HANDLES, and their lines of crates.txt, behind which others may stand."""
     for path in ["HANDLES", *files(names)]:
         to = os.path.join(there, path)
         os.makedirs(os.path.dirname(to), exist_ok=True)
