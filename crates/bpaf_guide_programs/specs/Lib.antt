@@ -1,1 +1,5 @@
+pub mod Told
 pub mod Remove
+pub mod Head
+pub mod Archive
+pub mod Unpack

@@ -1,5 +1,5 @@
-//! The programs of docs/USERS.md, a backup and a remover, and one that runs them and the parsers of
-//! `bpaf_guide`.
+//! The programs of docs/USERS.md, a backup, a remover, a `head`, an archiver and an unpacker, and
+//! one that runs them and the parsers of `bpaf_guide`.
 //!
 //! It stands on `bpaf_guide`, `bpaf`, `bpaf_record` and `bpaf_program`.
 //!
@@ -8,8 +8,11 @@
 //! ```
 #![tactic(auto)]
 
+mod archive;
 mod backup;
+mod head;
 mod remove;
+mod unpack;
 
 use bpaf::ParseFailure;
 use bpaf_guide::options::{Options, read_options};
@@ -29,6 +32,9 @@ fn main(rt: HostRuntime) -> io::Result<ExitCode> {
             println!(rt; "size: {size}")?;
             show_backup(&rt)?;
             show_removal(&rt)?;
+            show_head(&rt)?;
+            show_archive(&rt)?;
+            show_unpacking(&rt)?;
             show_sum(&rt)?;
             Ok(ExitCode::SUCCESS)
         }
@@ -89,6 +95,52 @@ fn show_removal(rt: &HostRuntime) -> io::Result<()> {
     let words = [file, key];
     let status = remove::run(rt.alloc(), &words, &mut rt.stdout(), &mut rt.stderr());
     println!(rt; "removal: status {status}")
+}
+
+/// Runs the `head` on words of its own.
+fn show_head(rt: &HostRuntime) -> io::Result<()> {
+    let key = String::from_str(rt.alloc(), "--bytes=5")?;
+    let file = String::from_str(rt.alloc(), "a")?;
+    let words = [key, file];
+    let status = head::run(rt.alloc(), &words, &mut rt.stdout(), &mut rt.stderr());
+    println!(rt; "head: status {status}")
+}
+
+/// Tells what an archiver reads off words of its own.
+fn show_archive(rt: &HostRuntime) -> io::Result<()> {
+    let out = String::from_str(rt.alloc(), "-oa.tar")?;
+    let without = String::from_str(rt.alloc(), "--without=b")?;
+    let words = [out, without];
+    match archive::read_archive(rt.alloc(), &words) {
+        Ok(archive) => {
+            let jobs = archive.jobs;
+            let without = archive.without.len();
+            println!(rt; "archive: {jobs} jobs, without {without}")
+        }
+        Err(failure) => {
+            drop(failure);
+            Ok(())
+        }
+    }
+}
+
+/// Tells what an unpacker reads off words of its own.
+fn show_unpacking(rt: &HostRuntime) -> io::Result<()> {
+    let keys = String::from_str(rt.alloc(), "-avv")?;
+    let root = String::from_str(rt.alloc(), "-r=b")?;
+    let words = [keys, root];
+    match unpack::read_unpacking(rt.alloc(), &words) {
+        Ok(unpacking) => {
+            let agreed = unpacking.agreed;
+            let verbose = unpacking.verbose;
+            let root = unpacking.root.as_str();
+            println!(rt; "unpacking: agreed {agreed}, to {root}, told {verbose} times")
+        }
+        Err(failure) => {
+            drop(failure);
+            Ok(())
+        }
+    }
 }
 
 /// Tells what a sum reads off words of its own.

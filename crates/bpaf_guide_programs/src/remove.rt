@@ -33,8 +33,12 @@ pub fn read_removal(alloc: Global, words: &[String]) -> Result<Removal, ParseFai
         force,
         files
     })
-    .to_options(alloc)?;
-    options.run_record(Args::from(words))
+    .to_options(alloc)?
+    .version_str("1.2")?
+    .descr_str("Removes files")?
+    .header_str("Without --force they are told, and kept")?
+    .footer_str("See also: ls")?;
+    options.run_record(Args::from(words).set_name("remove"))
 }
 
 /// Runs the remover on its words and gives its status. Its files are printed a line each, as

@@ -1,5 +1,5 @@
 use Rattle.std.proofs.Common.{rules, map, string_bytes}
-use Rattle.bpaf_guide_programs.specs.Remove.{lines}
+use Rattle.bpaf_guide_programs.specs.Told.{lines}
 use Rattle.bpaf_guide_programs.proofs.remove.lines_of.Goals as goal
 
 pub returns : goal.returns
