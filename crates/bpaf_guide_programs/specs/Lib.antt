@@ -2,4 +2,3 @@ pub mod Told
 pub mod Remove
 pub mod Head
 pub mod Archive
-pub mod Unpack

@@ -1,9 +1,8 @@
 //! What an archiver is told, of which is known, option by option, what it says of the words.
-ghost use Rattle.std.specs.Prelude.{◌≡◌, IfOk, codes, map, string_bytes};
-ghost use Rattle.bpaf_program.specs.Fields.{plain_switch};
-ghost use Rattle.bpaf_guide_programs.specs.Archive.{SaysOf, key};
+ghost use Rattle.std.specs.Prelude.{IfOk, map, string_bytes};
+ghost use Rattle.bpaf_guide_programs.specs.Archive.{AreKnown, SaysOf};
 
-use bpaf::params::ParseFlag;
+use bpaf::params::{ParseArgument, ParseFlag};
 use bpaf::{Args, ParseFailure, Parser, construct, short};
 use bpaf_record::Record;
 use std::alloc::{AllocError, Global};
@@ -11,39 +10,62 @@ use std::alloc::{AllocError, Global};
 /// What an archiver is told.
 #[derive(Drop)]
 pub struct Archive {
+    pub agreed: bool,
     pub out: String,
+    pub root: String,
     pub level: Option<u128>,
     pub jobs: u64,
     pub without: Vec<String>,
+    pub verbose: usize,
     pub quiet: bool,
+}
+
+/// The keys of these.
+#[derive(Drop)]
+struct Keys {
+    agreed: ParseFlag<bool>,
+    out: ParseArgument<String>,
+    root: ParseArgument<String>,
+    level: ParseArgument<u64>,
+    jobs: ParseArgument<u64>,
+    without: ParseArgument<String>,
+    verbose: ParseFlag<()>,
+    quiet: ParseFlag<bool>,
 }
 
 /// The archive that the words tell. What it has was spelled, and what was spelled it has.
 pub fn read_archive(alloc: Global, words: &[String]) -> Result<Archive, ParseFailure>
     ensures { IfOk result (SaysOf (map string_bytes words.now)) }
 {
-    let out = short(alloc, 'o')?.long("out")?.argument::<String>("FILE");
-    let level = short(alloc, 'l')?.long("level")?.argument::<u64>("N");
-    let level = level.map(|n| u128::from(n)).optional();
-    let jobs = short(alloc, 'j')?.long("jobs")?.argument::<u64>("N");
-    let jobs = jobs.fallback(1);
-    let without = short(alloc, 'x')?.long("without")?;
-    let without = without.argument::<String>("NAME").many();
-    let quiet = quiet(alloc)?;
-    let options = construct!(Archive {
-        out,
-        level,
-        jobs,
-        without,
-        quiet
-    })
-    .to_options(alloc)?;
+    let keys = make_keys(alloc)?;
+    let archive = construct!(Archive {
+        agreed(keys.agreed),
+        out(keys.out),
+        root(keys.root.last()),
+        level(keys.level.map(|n| u128::from(n)).optional()),
+        jobs(keys.jobs.fallback(1)),
+        without(keys.without.many()),
+        verbose(keys.verbose.count()),
+        quiet(keys.quiet)
+    });
+    let options = archive.to_options(alloc)?;
     options.run_record(Args::from(words))
 }
 
-/// The switch `-q` or `--quiet`; refused only for want of memory.
-fn quiet(alloc: Global) -> Result<ParseFlag<bool>, AllocError>
-    ensures { IfOk result (λ quiet. quiet ≡ plain_switch (key (codes "q") (codes "quiet"))) }
+/// The keys, each of a letter and a name; refused only for want of memory.
+fn make_keys(alloc: Global) -> Result<Keys, AllocError>
+    ensures { IfOk result AreKnown }
 {
-    Ok(short(alloc, 'q')?.long("quiet")?.switch())
+    Ok(Keys {
+        agreed: short(alloc, 'a')?.long("agree")?.req_flag(true),
+        out: short(alloc, 'o')?.long("out")?.argument::<String>("FILE"),
+        root: short(alloc, 'r')?.long("root")?.argument::<String>("DIR"),
+        level: short(alloc, 'l')?.long("level")?.argument::<u64>("N"),
+        jobs: short(alloc, 'j')?.long("jobs")?.argument::<u64>("N"),
+        without: short(alloc, 'x')?
+            .long("without")?
+            .argument::<String>("NAME"),
+        verbose: short(alloc, 'v')?.long("verbose")?.req_flag(()),
+        quiet: short(alloc, 'q')?.long("quiet")?.switch(),
+    })
 }

@@ -1,5 +1,5 @@
-//! The programs of docs/USERS.md, a backup, a remover, a `head`, an archiver and an unpacker, and
-//! one that runs them and the parsers of `bpaf_guide`.
+//! The programs of docs/USERS.md, a backup, a remover, a `head` and an archiver, and one that runs
+//! them and the parsers of `bpaf_guide`.
 //!
 //! It stands on `bpaf_guide`, `bpaf`, `bpaf_record` and `bpaf_program`.
 //!
@@ -12,7 +12,6 @@ mod archive;
 mod backup;
 mod head;
 mod remove;
-mod unpack;
 
 use bpaf::ParseFailure;
 use bpaf_guide::options::{Options, read_options};
@@ -34,7 +33,6 @@ fn main(rt: HostRuntime) -> io::Result<ExitCode> {
             show_removal(&rt)?;
             show_head(&rt)?;
             show_archive(&rt)?;
-            show_unpacking(&rt)?;
             show_sum(&rt)?;
             Ok(ExitCode::SUCCESS)
         }
@@ -108,33 +106,16 @@ fn show_head(rt: &HostRuntime) -> io::Result<()> {
 
 /// Tells what an archiver reads off words of its own.
 fn show_archive(rt: &HostRuntime) -> io::Result<()> {
+    let keys = String::from_str(rt.alloc(), "-avv")?;
     let out = String::from_str(rt.alloc(), "-oa.tar")?;
-    let without = String::from_str(rt.alloc(), "--without=b")?;
-    let words = [out, without];
+    let root = String::from_str(rt.alloc(), "--root=b")?;
+    let words = [keys, out, root];
     match archive::read_archive(rt.alloc(), &words) {
         Ok(archive) => {
+            let root = archive.root.as_str();
             let jobs = archive.jobs;
-            let without = archive.without.len();
-            println!(rt; "archive: {jobs} jobs, without {without}")
-        }
-        Err(failure) => {
-            drop(failure);
-            Ok(())
-        }
-    }
-}
-
-/// Tells what an unpacker reads off words of its own.
-fn show_unpacking(rt: &HostRuntime) -> io::Result<()> {
-    let keys = String::from_str(rt.alloc(), "-avv")?;
-    let root = String::from_str(rt.alloc(), "-r=b")?;
-    let words = [keys, root];
-    match unpack::read_unpacking(rt.alloc(), &words) {
-        Ok(unpacking) => {
-            let agreed = unpacking.agreed;
-            let verbose = unpacking.verbose;
-            let root = unpacking.root.as_str();
-            println!(rt; "unpacking: agreed {agreed}, to {root}, told {verbose} times")
+            let verbose = archive.verbose;
+            println!(rt; "archive: of {root}, {jobs} jobs, told {verbose} times")
         }
         Err(failure) => {
             drop(failure);

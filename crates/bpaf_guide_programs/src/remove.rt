@@ -2,13 +2,14 @@
 //! removed unless its key was spelled.
 ghost use Rattle.std.specs.Prelude.{◌≡◌, true, IfOk, codes, map, string_bytes};
 ghost use Rattle.bpaf_program.specs.Running.{OrPage, RunsTo};
+ghost use Rattle.bpaf_program.specs.Texts.{HasOtherTexts};
 ghost use Rattle.bpaf_record.specs.Spelled.{WasSpelled};
 ghost use Rattle.bpaf_guide_programs.specs.Remove.{IsRemovalText, force_names};
 
-use bpaf::{Args, ParseFailure, Parser, construct, positional, short};
+use bpaf::{Args, OptionParser, ParseFailure, Parser, construct, positional, short};
 use bpaf_program::{print, push_lines};
 use bpaf_record::Record;
-use std::alloc::Global;
+use std::alloc::{AllocError, Global};
 use std::io::Write;
 
 /// What a removal is told.
@@ -33,12 +34,21 @@ pub fn read_removal(alloc: Global, words: &[String]) -> Result<Removal, ParseFai
         force,
         files
     })
-    .to_options(alloc)?
-    .version_str("1.2")?
-    .descr_str("Removes files")?
-    .header_str("Without --force they are told, and kept")?
-    .footer_str("See also: ls")?;
+    .to_options(alloc)?;
+    let options = with_texts(options)?;
     options.run_record(Args::from(words).set_name("remove"))
+}
+
+/// The same options with the texts of the remover's help page.
+fn with_texts<T, P: Drop>(options: OptionParser<T, P>) -> Result<OptionParser<T, P>, AllocError>
+    ensures inner { IfOk result (λ told. told.inner ≡ options.inner) }
+    ensures info { IfOk result (λ told. HasOtherTexts options.info told.info) }
+{
+    options
+        .version_str("1.2")?
+        .descr_str("Removes files")?
+        .header_str("Without --force they are told, and kept")?
+        .footer_str("See also: ls")
 }
 
 /// Runs the remover on its words and gives its status. Its files are printed a line each, as

@@ -1,5 +1,5 @@
 -- All that a field is which a function of a program makes: without a help, or with one of some text.
-use Rattle.std.specs.Prelude.{◌≡◌, Bool, true, false, ℕ, List, Some}
+use Rattle.std.specs.Prelude.{◌≡◌, Bool, true, false, ℕ, List, Option, Some}
 use Rattle.bpaf_doc.specs.declared.doc.Piece.{Piece}
 use Rattle.bpaf_doc.specs.Fold.{TextPieces}
 use Rattle.bpaf_doc.specs.Names.{Names}
@@ -8,9 +8,17 @@ use Rattle.bpaf_text.specs.Named.{KeyWithValue, key_named, with_help}
 use Rattle.bpaf.specs.declared.leaves.positional.ParsePositional.{ParsePositional}
 use Rattle.bpaf.specs.declared.leaves.positional.Position.{Position}
 
+-- a flag with these names, its present value and perhaps an absent one, and no help
+abbrev pub plain_flag : {T : Type 0} → Names → T → Option T → ParseFlag T
+plain_flag names present absent = record {
+  named = key_named names;
+  present = present;
+  absent = absent;
+}
+
 -- a switch with these names, and no help
 abbrev pub plain_switch : Names → ParseFlag Bool
-plain_switch names = record { named = key_named names; present = true; absent = Some false }
+plain_switch names = plain_flag names true (Some false)
 
 -- an argument with these names and this metavar, and no help
 abbrev pub plain_argument : Names → List ℕ → KeyWithValue

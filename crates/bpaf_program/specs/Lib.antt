@@ -6,3 +6,4 @@ pub mod Lines
 pub mod ReadBy
 pub mod Values
 pub mod Fields
+pub mod Texts
