@@ -25,9 +25,12 @@ pub enum Remote {
     Remove { name: String },
 }
 
+/// A command, or what ends the program without one.
+pub type Asked = Result<Git, ParseFailure>;
+
 /// The command that the words give, as `-v clone URL`; refused where they give none, or for want of
 /// memory.
-pub fn read_git(alloc: Global, words: &[String]) -> Result<Git, ParseFailure> {
+pub fn read_git(alloc: Global, words: &[String]) -> Asked {
     let url = positional::<String>("URL");
     let dir = positional::<String>("DIR").optional();
     let clone = construct!(Command::Clone { url, dir }).to_options(alloc)?;
@@ -35,11 +38,7 @@ pub fn read_git(alloc: Global, words: &[String]) -> Result<Git, ParseFailure> {
 }
 
 /// A command of those before, or `commit [-a] -m MSG`, and so on.
-fn or_commit<P: Parser<Command> + Drop>(
-    alloc: Global,
-    words: &[String],
-    before: P,
-) -> Result<Git, ParseFailure>
+fn or_commit<P: Parser<Command> + Drop>(alloc: Global, words: &[String], before: P) -> Asked
     requires { P.can_eval before }
 {
     let all = short(alloc, 'a')?.switch();
@@ -50,11 +49,7 @@ fn or_commit<P: Parser<Command> + Drop>(
 }
 
 /// A command of those before, or `remote add NAME URL`, or `remote remove NAME`.
-fn or_remote<P: Parser<Command> + Drop>(
-    alloc: Global,
-    words: &[String],
-    before: P,
-) -> Result<Git, ParseFailure>
+fn or_remote<P: Parser<Command> + Drop>(alloc: Global, words: &[String], before: P) -> Asked
     requires { P.can_eval before }
 {
     let name = positional::<String>("NAME");
@@ -73,7 +68,7 @@ fn or_one_of_remote<P: Parser<Command> + Drop, R: Parser<Remote> + Drop>(
     words: &[String],
     before: P,
     remote: R,
-) -> Result<Git, ParseFailure>
+) -> Asked
     requires before { P.can_eval before }
     requires remote { R.can_eval remote }
 {
@@ -83,11 +78,7 @@ fn or_one_of_remote<P: Parser<Command> + Drop, R: Parser<Remote> + Drop>(
 }
 
 /// One of the commands, with `-v` in front of it or behind.
-fn run<P: Parser<Command> + Drop>(
-    alloc: Global,
-    words: &[String],
-    command: P,
-) -> Result<Git, ParseFailure>
+fn run<P: Parser<Command> + Drop>(alloc: Global, words: &[String], command: P) -> Asked
     requires { P.can_eval command }
 {
     let verbose = short(alloc, 'v')?.switch();
