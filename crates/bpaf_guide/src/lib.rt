@@ -6,6 +6,7 @@
 
 pub mod closures;
 pub mod commands;
+pub mod git;
 pub mod keys;
 pub mod options;
 pub mod sum;

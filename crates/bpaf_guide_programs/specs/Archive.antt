@@ -12,28 +12,35 @@ use Rattle.bpaf_guide_programs.specs.declared.archive.Keys.{Keys}
 abbrev pub key : List ℕ → List ℕ → Names
 key letter name = record { shorts = letter; longs = name ∷ [] }
 
--- `-a` and `--agree`, and so on
+-- `-a` and `--agree`
 abbrev pub agree : Names
 agree = key (codes "a") (codes "agree")
 
+-- `-o` and `--out`
 abbrev pub out : Names
 out = key (codes "o") (codes "out")
 
+-- `-r` and `--root`
 abbrev pub root : Names
 root = key (codes "r") (codes "root")
 
+-- `-l` and `--level`
 abbrev pub level : Names
 level = key (codes "l") (codes "level")
 
+-- `-j` and `--jobs`
 abbrev pub jobs : Names
 jobs = key (codes "j") (codes "jobs")
 
+-- `-x` and `--without`
 abbrev pub without : Names
 without = key (codes "x") (codes "without")
 
+-- `-v` and `--verbose`
 abbrev pub verbose : Names
 verbose = key (codes "v") (codes "verbose")
 
+-- `-q` and `--quiet`
 abbrev pub quiet : Names
 quiet = key (codes "q") (codes "quiet")
 
