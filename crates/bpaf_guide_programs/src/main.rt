@@ -14,6 +14,7 @@ mod head;
 mod remove;
 
 use bpaf::ParseFailure;
+use bpaf_guide::git::{Command, read_git};
 use bpaf_guide::options::{Options, read_options};
 use bpaf_guide::sum::read_sum;
 use bpaf_program::{end, words};
@@ -34,6 +35,7 @@ fn main(rt: HostRuntime) -> io::Result<ExitCode> {
             show_head(&rt)?;
             show_archive(&rt)?;
             show_sum(&rt)?;
+            show_commit(&rt)?;
             Ok(ExitCode::SUCCESS)
         }
         Err(status) => Ok(ExitCode::from(status)),
@@ -132,6 +134,25 @@ fn show_sum(rt: &HostRuntime) -> io::Result<()> {
             let terms = sum.terms.len();
             println!(rt; "sum: {times} times {terms} terms")
         }
+        Err(failure) => {
+            drop(failure);
+            Ok(())
+        }
+    }
+}
+
+/// Tells what `git` reads off words of its own.
+fn show_commit(rt: &HostRuntime) -> io::Result<()> {
+    let command = String::from_str(rt.alloc(), "commit")?;
+    let message = String::from_str(rt.alloc(), "-mdone")?;
+    let words = [command, message];
+    match read_git(rt.alloc(), &words) {
+        Ok(git) => match git.command {
+            Command::Commit { all, message } => {
+                println!(rt; "git: commit, all {all}, message {message}")
+            }
+            _ => Ok(()),
+        },
         Err(failure) => {
             drop(failure);
             Ok(())
