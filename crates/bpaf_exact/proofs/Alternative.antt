@@ -4,7 +4,7 @@ use Rattle.bpaf_line.specs.declared.error.Error.{Error}
 use Rattle.bpaf_line.specs.Situation.{Situation}
 use Rattle.bpaf_laws.specs.Reading.{Outcome}
 use Rattle.bpaf_exact.specs.Pieces.{Roles, LinePiece, pieces, takes_none}
-use Rattle.bpaf_exact.specs.Flat.{Refused, class, cells, IsWhole, Steady, FieldKind, ByName}
+use Rattle.bpaf_exact.specs.Flat.{Refused, class, cells, NoneOutside, Steady, FieldKind, ByName}
 use Rattle.bpaf_exact.specs.Flat.{OneWord}
 use Rattle.bpaf_exact.specs.Flat.{EachWord}
 use Rattle.bpaf_exact.specs.Single.{Groups, FrontOf, Own, own_none, own_more, Readable, Gap, no_gap}
@@ -67,7 +67,7 @@ module _ (T : Type 0) (outcome : Outcome T) (q : Roles) (value : LinePiece → T
   alternative_reads s t v a (inr b) o = absurd (own_bad T value _ o.0 b o.1)
 
   -- its value, as that of one evaluation
-  alternative_ok : (s t : Situation) (v : T) → IsWhole s → outcome s (Ok v) t
+  alternative_ok : (s t : Situation) (v : T) → NoneOutside s → outcome s (Ok v) t
       → SingleOk T ByName q (FrontOf T value) (no_gap T) s v t
   alternative_ok s t v w o =
       let a = l.ok s t v w o in
@@ -116,7 +116,7 @@ module _ (A B : Type 0) (inner : Outcome A) (q : Roles) (value : LinePiece → A
   refused_value x o g n v c = agrees o c.from x v c.read g c.made n
 
   -- a value that the closure gave
-  closed_alternative_ok : (s t : Situation) (v : B) → IsWhole s
+  closed_alternative_ok : (s t : Situation) (v : B) → NoneOutside s
       → ClosedEval A B inner f Refused s (Ok v) t
       → AlternativeOk B q (ClosedPiece A B value f) s v t
   closed_alternative_ok s t v w (closed_yes {x = x} i y) =
@@ -155,7 +155,7 @@ module _ (A B : Type 0) (inner : Outcome A) (q : Roles) (value : LinePiece → A
       alternative_refused c p (closed_bad _ b) (λ o os v h g. n o os g.from h g.read)
 
   -- a refusal, of the closure or from inside
-  closed_alternative_err : (s t : Situation) (e : Error) → IsWhole s
+  closed_alternative_err : (s t : Situation) (e : Error) → NoneOutside s
       → ClosedEval A B inner f Refused s (Err e) t
       → AlternativeErr B q (ClosedPiece A B value f) s e t
   closed_alternative_err s t e w (closed_no {x = x} i n c) =
@@ -251,13 +251,13 @@ module _ (A B : Type 0) (inner : Outcome A) (k : FieldKind) (q : Roles) (group :
   err_single s t e (of_piece c ne n) = of_piece c ne (λ w rest g. n g.from rest g.read)
 
   -- a value of one evaluation
-  closed_single_ok : (s t : Situation) (v : B) → IsWhole s
+  closed_single_ok : (s t : Situation) (v : B) → NoneOutside s
       → ClosedEval A B inner f Refused s (Ok v) t
       → SingleOk B k q (ClosedGroup A B group f) (closed_gap gap f) s v t
   closed_single_ok s t v w (closed_yes {x = x} i y) = yes_single s t x v y (l.ok s t x w i)
 
   -- a refusal of one evaluation
-  closed_single_err : (s t : Situation) (e : Error) → IsWhole s
+  closed_single_err : (s t : Situation) (e : Error) → NoneOutside s
       → ClosedEval A B inner f Refused s (Err e) t
       → SingleErr B k q (ClosedGroup A B group f) (closed_gap gap f) s e t
   closed_single_err s t e w (closed_no {x = x} i n c) = no_single s t x e c n (l.ok s t x w i)

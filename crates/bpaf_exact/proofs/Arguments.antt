@@ -9,7 +9,7 @@ use Rattle.bpaf_line.specs.Situation.{Situation}
 use Rattle.bpaf_laws.specs.Argument.{ArgumentOutcome, ArgumentFails, TakesOwnText, TakesBefore}
 use Rattle.bpaf_laws.specs.Argument.{GetsText, LacksText, is_key_with_value}
 use Rattle.bpaf_exact.specs.Pieces.{WithNext, Roles, LinePiece, One, Two, pieces}
-use Rattle.bpaf_exact.specs.Flat.{class, class_of, cells, IsWhole}
+use Rattle.bpaf_exact.specs.Flat.{class, class_of, cells, NoneOutside}
 use Rattle.bpaf_exact.specs.Alternative.{AlternativeOk, AlternativeErr}
 use Rattle.bpaf_exact.specs.Alternative.{alternative_memory, AlternativeLaw}
 use Rattle.bpaf_exact.specs.Leaves.{argument_roles, ArgumentValue, argument_by, argument_field}
@@ -44,7 +44,7 @@ module _ (T : Type 0) (means : List ℕ → T → Type 0) (argument : KeyWithVal
       (λ variable. absurd (never_set argument no_envs s text variable.set)) gets
 
   -- a value is that of the first piece
-  argument_ok : (s t : Situation) (v : T) → IsWhole s → ArgumentOutcome means argument s (Ok v) t
+  argument_ok : (s t : Situation) (v : T) → NoneOutside s → ArgumentOutcome means argument s (Ok v) t
       → AlternativeOk T q value s v t
   argument_ok s t v w o =
       let m = gets_pair s t o.0 o.1 in

@@ -1,9 +1,9 @@
 -- A choice of two alternatives is one.
 use Rattle.std.proofs.Common.{◌≡◌, ℕ, suc, zero, ◌<◌, Bool, true, false, not, ◌&&◌, List, [], ◌∷◌}
 use Rattle.std.proofs.Common.{length, Option, Some, None, Result, Ok, Err, refl, sym, ap, ap₂, ◌∙◌}
-use Rattle.std.proofs.Common.{subst, inl, inr, ◌⊎◌, ⊎_elim, arith, true≢false, nat_le, nat_lt}
+use Rattle.std.proofs.Common.{◌≤◌, subst, inl, inr, ◌⊎◌, ⊎_elim, arith, true≢false, nat_le, nat_lt}
 use Rattle.std.specs.Option.{option_map_or}
-use Rattle.std.proofs.lemmas.Bool.{eqb-true, le-leb, lt-ltb, and_parts}
+use Rattle.std.proofs.lemmas.Bool.{eqb-true, le-leb, lt-ltb, and_parts, cases_lt}
 use Rattle.bpaf_items.specs.declared.arg.Arg.{Arg}
 use Rattle.bpaf_line.specs.declared.error.Error.{Error}
 use Rattle.bpaf_line.specs.Combining.{Combines}
@@ -21,7 +21,7 @@ use Rattle.bpaf_laws.specs.Spared.{IsNotMemory}
 use Rattle.bpaf_laws.specs.Turn.{is_untouched}
 use Rattle.bpaf_exact.specs.Pieces.{Cells, Roles, LinePiece, One, Two, is_own_role, is_own, Apart}
 use Rattle.bpaf_exact.specs.Pieces.{either, pieces, TakesPiece, takes_one, takes_two, takes_later}
-use Rattle.bpaf_exact.specs.Flat.{OfMemory, OfMissing, Refused, class, cells, first_cells, IsWhole}
+use Rattle.bpaf_exact.specs.Flat.{OfMemory, OfMissing, Refused, class, cells, first_cells, NoneOutside}
 use Rattle.bpaf_exact.specs.Flat.{Steady}
 use Rattle.bpaf_exact.specs.Alternative.{TakesFirst, HasBad, AlternativeOk, AlternativeErr}
 use Rattle.bpaf_exact.specs.Alternative.{alternative_memory, alternative_missing}
@@ -32,32 +32,39 @@ use Rattle.bpaf_exact.proofs.Classes.{memory_class, not_memory}
 use Rattle.bpaf_exact.proofs.Combining.{combined_refused, combined_missing}
 use Rattle.bpaf_exact.proofs.Counts.{open_present, takes_fewer}
 use Rattle.bpaf_exact.proofs.Places.{same_cells, same_item, closed_item}
-use Rattle.bpaf_exact.proofs.Product.{steady_refl, steady_trans, whole_after}
+use Rattle.bpaf_exact.proofs.Product.{steady_refl, steady_trans, none_outside_after}
 use Rattle.bpaf_exact.proofs.First.{Union, swap_union, either_union, union_named, takes_left}
 use Rattle.bpaf_exact.proofs.First.{bad_given_back, bad_left, HeadOf, owner, first_mine}
 use Rattle.bpaf_exact.proofs.First.{first_alone, both_nil, TookLeft, left_here, left_later}
 use Rattle.bpaf_exact.proofs.First.{first_both, not_left, never_same}
 
--- what no evaluation of a flat field changes is the same in two that began alike
-steady_both : {s m n : Situation} → Steady s m → Steady s n → Steady n m
-steady_both a b =
-    record {
-      context = a.context ∙ sym b.context;
-      start = a.start ∙ sym b.start;
-      end = a.end
-          ∙ sym b.end;
-      path = a.path ∙ sym b.path;
-    }
+-- the same scope of the same line
+record SameScope (m n : Situation) : Type 0 where
+  context : n.context ≡ m.context
+  start : n.start ≡ m.start
+  end : n.end ≡ m.end
+
+-- no evaluation of a flat field changes it
+same_scope : {m n : Situation} → Steady m n → SameScope m n
+same_scope a = record { context = a.context; start = a.start; end = a.end }
+
+-- so it is the same in two that began alike
+steady_both : {s m n : Situation} → Steady s m → Steady s n → SameScope n m
+steady_both a b = record {
+  context = a.context ∙ sym b.context;
+  start = a.start ∙ sym b.start;
+  end = a.end ∙ sym b.end;
+}
 
 -- a place where as much is taken has the item that it had
-steady_item : (m n : Situation) → Steady m n → (p : ℕ) → is_taken n p ≡ is_taken m p
+steady_item : (m n : Situation) → SameScope m n → (p : ℕ) → is_taken n p ≡ is_taken m p
     → open_item n p ≡ open_item m p
 steady_item m n st p e =
     same_item m n p (ap₂ (λ a b. nat_le a p && nat_lt p b) st.start st.end)
     (ap (λ c. item_in c p) st.context) e
 
 -- where as much is taken the cells are the same
-pub cells_same : (m n : Situation) → Steady m n → ((p : ℕ) → is_taken n p ≡ is_taken m p)
+cells_same : (m n : Situation) → SameScope m n → ((p : ℕ) → is_taken n p ≡ is_taken m p)
     → cells n ≡ cells m
 unfolding cells
 cells_same m n st f =
@@ -88,11 +95,14 @@ record HasItem (s : Situation) (p : ℕ) : Type 0 where
   item : Arg
   is : open_item s p ≡ Some item
 
--- in the scope of the whole line what isn't taken is open
-has_item : (s : Situation) (p : ℕ) → IsWhole s → is_taken s p ≡ false → HasItem s p
+-- what isn't taken is open
+has_item : (s : Situation) (p : ℕ) → NoneOutside s → is_taken s p ≡ false → HasItem s p
 has_item s p w free =
     let l = present_in_line s p free in
-    let a = w.start in
+    let a : s.start ≤ p = ⊎_elim
+    (λ (ahead : p < s.start). absurd (true≢false (sym (w.front p ahead) ∙ free)))
+    (λ (within : s.start ≤ p). within)
+    (cases_lt p s.start) in
     let b = w.end in
     by_item (open_item s p) refl
     (open_has_item s p
@@ -111,12 +121,12 @@ has_item s p w free =
     by_item (Some k) f h = record { item = k; is = f }
 
 -- the one that took the leftmost place that only one took, by their cells
-left_of : (s m n : Situation) (p : ℕ) → IsWhole s → Steady s m → Steady s n → is_taken m p ≡ true
+left_of : (s m n : Situation) (p : ℕ) → NoneOutside s → Steady s m → Steady s n → is_taken m p ≡ true
     → is_taken n p ≡ false → ((q : ℕ) → q < p → is_taken m q ≡ is_taken n q)
     → TookLeft (cells m) (cells n)
 unfolding cells
 left_of s m n p w a b took free same =
-    let i = has_item n p (whole_after s n w b) free in
+    let i = has_item n p (none_outside_after s n w b) free in
     let st = steady_both a b in
     subst (λ c. TookLeft (first_cells (open_item m) (length c.line))
     (first_cells (open_item n) (length n.context.line))) (sym st.context)
@@ -137,7 +147,13 @@ differ_not a false e f = absurd (true≢false (sym e ∙ f))
 -- conflict notes change nothing that is taken
 saved_steady : (s other t : Situation) (place : ℕ) → ConflictsSaved s other place t → Steady s t
 saved_steady s other t place c =
-    record { context = c.context; start = c.start; end = c.end; path = c.path }
+    record {
+      context = c.context;
+      start = c.start;
+      end = c.end;
+      path = c.path;
+      keeps = λ p h. c.taken p ∙ h;
+    }
 
 -- a piece that was taken is one of the field's own
 pub takes_own : (q : Roles) {cs ds : Cells} {o : LinePiece} → TakesPiece q cs o ds
@@ -287,7 +303,7 @@ module _ (T : Type 0) (a b : Outcome T) (qa qb : Roles) (va vb : LinePiece → T
 
   -- an alternative leaves the path as it was
   law_path : (z : Outcome T) (q : Roles) (v : LinePiece → T → Type 0) → AlternativeLaw T z q v
-      → (s n : Situation) (r : Result T Error) → IsWhole s → z s r n → IsNotMemory r
+      → (s n : Situation) (r : Result T Error) → NoneOutside s → z s r n → IsNotMemory r
       → n.path ≡ s.path
   law_path z q v l s n (Ok x) w o h = (l.ok s n x w o).steady.path
   law_path z q v l s n (Err e) w o h = err_path q v s n e h (l.err s n e w o)
@@ -308,7 +324,7 @@ module _ (T : Type 0) (a b : Outcome T) (qa qb : Roles) (va vb : LinePiece → T
       absurd (omega arith)
 
   -- the winner's value, where both answered
-  winner_ok : (s sa sb t : Situation) (x y v : T) (winner : Bool × Option ℕ) → IsWhole s
+  winner_ok : (s sa sb t : Situation) (x y v : T) (winner : Bool × Option ℕ) → NoneOutside s
       → AlternativeOk T qa va s x sa → AlternativeOk T qb vb s y sb
       → IsWinner sa sb winner → Winner (branch_of x sa) (branch_of y sb) winner (Ok v) t
       → AlternativeOk T (either qa qb) vr s v t
@@ -322,7 +338,8 @@ module _ (T : Type 0) (a b : Outcome T) (qa qb : Roles) (va vb : LinePiece → T
       (first_won s sa t x i
       (took_other qb vb s sa sb y j
       (left_of s sa sb p w i.steady j.steady win.1 free win.0.first))
-      (saved_steady sa sb t p k.1) (cells_same sa t (saved_steady sa sb t p k.1) k.1.taken))
+      (saved_steady sa sb t p k.1)
+      (cells_same sa t (same_scope (saved_steady sa sb t p k.1)) k.1.taken))
   winner_ok s sa sb t x y v (false, Some p) w i j win k =
       let d : y ≡ v = cc in
       let here = differ_not (is_taken sa p) (is_taken sb p) win.0.differs win.1 in
@@ -330,10 +347,11 @@ module _ (T : Type 0) (a b : Outcome T) (qa qb : Roles) (va vb : LinePiece → T
       (second_won s sb t y j
       (took_other qa va s sb sa x i
       (left_of s sb sa p w j.steady i.steady here win.1 (λ q l. sym (win.0.first q l))))
-      (saved_steady sb sa t p k.1) (cells_same sb t (saved_steady sb sa t p k.1) k.1.taken))
+      (saved_steady sb sa t p k.1)
+      (cells_same sb t (same_scope (saved_steady sb sa t p k.1)) k.1.taken))
 
   -- the value of one, where the other refused
-  first_alone_ok : (s sa sb t : Situation) (x v : T) (e : Error) → IsWhole s → a s (Ok x) sa
+  first_alone_ok : (s sa sb t : Situation) (x v : T) (e : Error) → NoneOutside s → a s (Ok x) sa
       → b s (Err e) sb → is_memory e.0 ≡ false → OneOk s (branch_of x sa) e (Ok v) t
       → AlternativeOk T (either qa qb) vr s v t
   first_alone_ok s sa sb t x v e w f g h (inl o) = let i = o.1 in absurd cc
@@ -346,7 +364,7 @@ module _ (T : Type 0) (a b : Outcome T) (qa qb : Roles) (va vb : LinePiece → T
       (err_other qb vb s sb (cells sa) e h (lb.err s sb e w g)) (steady_refl sa) refl))
 
   -- the value of the second, where the first refused
-  second_alone_ok : (s sa sb t : Situation) (y v : T) (e : Error) → IsWhole s → a s (Err e) sa
+  second_alone_ok : (s sa sb t : Situation) (y v : T) (e : Error) → NoneOutside s → a s (Err e) sa
       → b s (Ok y) sb → is_memory e.0 ≡ false → OneOk s (branch_of y sb) e (Ok v) t
       → AlternativeOk T (either qa qb) vr s v t
   second_alone_ok s sa sb t y v e w f g h (inl o) = let i = o.1 in absurd cc
@@ -359,7 +377,7 @@ module _ (T : Type 0) (a b : Outcome T) (qa qb : Roles) (va vb : LinePiece → T
       (err_other qa va s sa (cells sb) e h (la.err s sa e w f)) (steady_refl sb) refl))
 
   -- the value where both paths are equally deep
-  equal_ok : (s sa sb t : Situation) (v : T) (x y : Result T Error) → IsWhole s → a s x sa
+  equal_ok : (s sa sb t : Situation) (v : T) (x y : Result T Error) → NoneOutside s → a s x sa
       → b s y sb → IsNotMemory x → IsNotMemory y → EqualDepths s x sa y sb (Ok v) t
       → AlternativeOk T (either qa qb) vr s v t
   equal_ok s sa sb t v (Ok x) (Ok y) w f g hf hg (inl o) =
@@ -372,7 +390,7 @@ module _ (T : Type 0) (a b : Outcome T) (qa qb : Roles) (va vb : LinePiece → T
   equal_ok s sa sb t v (Err e) (Err d) w f g hf hg o = let i = o.0.2 in absurd cc
 
   -- a value of the choice is that of an alternative
-  choice_ok : (s t : Situation) (v : T) → IsWhole s → ChoiceOutcome a b s (Ok v) t
+  choice_ok : (s t : Situation) (v : T) → NoneOutside s → ChoiceOutcome a b s (Ok v) t
       → AlternativeOk T (either qa qb) vr s v t
   choice_ok s t v w o =
       let pa = law_path a qa va la s o.sa o.a w o.first_ran o.first_spared in
@@ -472,7 +490,7 @@ module _ (T : Type 0) (a b : Outcome T) (qa qb : Roles) (va vb : LinePiece → T
   one_no_refusal q v s m t x e g i (inr o) = let h = o.1.0 in cc
 
   -- the refusal where both paths are equally deep
-  equal_err : (s sa sb t : Situation) (g : Error) (x y : Result T Error) → IsWhole s → a s x sa
+  equal_err : (s sa sb t : Situation) (g : Error) (x y : Result T Error) → NoneOutside s → a s x sa
       → b s y sb → IsNotMemory x → IsNotMemory y → EqualDepths s x sa y sb (Err g) t
       → AlternativeErr T (either qa qb) vr s g t
   equal_err s sa sb t g (Ok x) (Ok y) w f h hf hg (inl o) = let i = o.1.0 in absurd cc
@@ -490,7 +508,7 @@ module _ (T : Type 0) (a b : Outcome T) (qa qb : Roles) (va vb : LinePiece → T
       (both_failed s sa sb e d o.0.0 hf hg o.0.1 (la.err s sa e w f) (lb.err s sb d w h)))
 
   -- a refusal of the choice is that of an alternative
-  choice_err : (s t : Situation) (e : Error) → IsWhole s → ChoiceOutcome a b s (Err e) t
+  choice_err : (s t : Situation) (e : Error) → NoneOutside s → ChoiceOutcome a b s (Err e) t
       → AlternativeErr T (either qa qb) vr s e t
   choice_err s t e w (inl o) =
       let pa = law_path a qa va la s o.sa o.a w o.first_ran o.first_spared in

@@ -6,14 +6,14 @@ use Rattle.bpaf_line.specs.Situation.{Situation}
 use Rattle.bpaf_laws.specs.Reading.{Outcome}
 use Rattle.bpaf_laws.specs.Repeat.{LastOutcome, UntilRest}
 use Rattle.bpaf_exact.specs.Pieces.{Roles, LinePiece, pieces}
-use Rattle.bpaf_exact.specs.Flat.{cells, IsWhole, FieldKind, front, back, FieldTook, FieldLaw}
+use Rattle.bpaf_exact.specs.Flat.{cells, NoneOutside, FieldKind, front, back, FieldTook, FieldLaw}
 use Rattle.bpaf_exact.specs.Flat.{Gives}
 use Rattle.bpaf_exact.specs.Single.{Groups, Gap, SingleOk, gave_absent, took, SingleLaw, OwnList}
 use Rattle.bpaf_exact.specs.Single.{listed, listed_and_absent, only_absent, Own, own_none, own_more}
 use Rattle.bpaf_exact.specs.Single.{repeated, RepeatOutcome}
 use Rattle.bpaf_exact.specs.Wrappers.{AgreesOn}
 use Rattle.bpaf_exact.specs.Derived.{some_closure, IsLast, LastOf}
-use Rattle.bpaf_exact.proofs.Product.{whole_after}
+use Rattle.bpaf_exact.proofs.Product.{none_outside_after}
 use Rattle.bpaf_exact.proofs.Repeat.{repeat_law, repeat_took, own_nil}
 
 -- a list with a last value isn't empty
@@ -65,19 +65,19 @@ module _ (T : Type 0) (inner : Outcome T)
   again_never m t v h p (took g) = g.found p
 
   -- so the evaluation after an empty list answers no value
-  again_ok : (s m t : Situation) (v : T) → IsWhole s → UntilRest inner s [] m
+  again_ok : (s m t : Situation) (v : T) → NoneOutside s → UntilRest inner s [] m
       → inner m (Ok v) t → ⊥
   again_ok s m t v w f g =
       let i = repeat_took T inner k q group gap l true s m [] w f in
       by_empty (empty_list (pieces q (cells s)) [] refl i.list) i.none
-      (l.ok m t v (whole_after s m w i.steady) g)
+      (l.ok m t v (none_outside_after s m w i.steady) g)
     where
       by_empty : Nothing (pieces q (cells s)) → pieces q (cells m) ≡ []
           → SingleOk T k q group gap m v t → ⊥
       by_empty (nothing h e) p o = again_never m t v h p o
 
   -- a last value is that of the own list
-  last_took : (s t : Situation) (v : T) → IsWhole s → LastOutcome inner s (Ok v) t
+  last_took : (s t : Situation) (v : T) → NoneOutside s → LastOutcome inner s (Ok v) t
       → FieldTook T (repeated k) q (LastOf T group gap) s v t
   last_took s t v w (inl o) =
       let vs = o.0 ++ v ∷ [] in
@@ -95,7 +95,7 @@ module _ (T : Type 0) (inner : Outcome T)
   last_took s t v w (inr o) = absurd (again_ok s o.0 t v w o.1 o.2)
 
   -- where the list has a last value it isn't empty
-  again_gives : (s m t : Situation) (r : Result T Error) (v : T) → IsWhole s
+  again_gives : (s m t : Situation) (r : Result T Error) (v : T) → NoneOutside s
       → UntilRest inner s [] m
       → LastOf T group gap (front (repeated k) (pieces q (cells s))) v
       → Gives q (LastOf T group gap (front (repeated k) (pieces q (cells s))))
@@ -105,7 +105,7 @@ module _ (T : Type 0) (inner : Outcome T)
       absurd (no_last T h.list v h.is (empty_nothing _ h.list (empty_list _ [] refl j.0) h.own))
 
   -- each answer is the last of an own list, or want of memory
-  last_answers : (s t : Situation) (r : Result T Error) (v : T) → IsWhole s
+  last_answers : (s t : Situation) (r : Result T Error) (v : T) → NoneOutside s
       → LastOutcome inner s r t
       → LastOf T group gap (front (repeated k) (pieces q (cells s))) v
       → Gives q (LastOf T group gap (front (repeated k) (pieces q (cells s))))

@@ -9,7 +9,7 @@ use Rattle.bpaf_line.specs.Situation.{Context, Situation, beginning, item_in, is
 use Rattle.bpaf_line.specs.Taking.{open_item}
 use Rattle.bpaf_laws.specs.Reading.{Outcome}
 use Rattle.bpaf_exact.specs.Pieces.{Roles, LinePiece, Cut}
-use Rattle.bpaf_exact.specs.Flat.{cells, NonePresent, IsWhole, FieldsLaw, FieldsReading, ReadOff}
+use Rattle.bpaf_exact.specs.Flat.{cells, NonePresent, NoneOutside, FieldsLaw, FieldsReading, ReadOff}
 use Rattle.bpaf_exact.specs.Record.{line_cells, RecordValue, RunAnswer, Accepted, NoMemory, Refusal}
 use Rattle.bpaf_exact.specs.Record.{RunRan, run_value, run_leftover, run_memory, run_refusal}
 use Rattle.bpaf_exact.specs.Record.{IsNoValue, IsAcceptedOrWant, IsExact}
@@ -57,8 +57,8 @@ module _ (V : Type 0) (outcome : Outcome V) (r : Roles) (reading : FieldsReading
   s = beginning context
 
   -- the scope is the whole line
-  whole : IsWhole s
-  whole = record { start = refl; end = refl }
+  whole : NoneOutside s
+  whole = record { end = refl; front = λ p l. absurd (omega arith) }
 
   -- where no item is counted none is present
   nothing_left : (t : Situation) (v : V) → outcome s (Ok v) t → open_count t ≡ 0

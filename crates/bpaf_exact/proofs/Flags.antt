@@ -11,7 +11,7 @@ use Rattle.bpaf_line.specs.Taking.{HasNone, TakesFlag}
 use Rattle.bpaf_laws.specs.Environment.{is_set}
 use Rattle.bpaf_laws.specs.Flag.{FlagOutcome, FlagFails}
 use Rattle.bpaf_exact.specs.Pieces.{Alone, Roles, LinePiece, One, IsNamed}
-use Rattle.bpaf_exact.specs.Flat.{class, class_of, IsWhole, ByName}
+use Rattle.bpaf_exact.specs.Flat.{class, class_of, NoneOutside, ByName}
 use Rattle.bpaf_exact.specs.Single.{Groups, Gap, FrontOf, SingleOk, gave_absent, took, SingleErr}
 use Rattle.bpaf_exact.specs.Single.{of_memory, SingleLaw}
 use Rattle.bpaf_exact.specs.Alternative.{AlternativeOk, AlternativeErr, alternative_memory}
@@ -59,7 +59,7 @@ module _ (T : Type 0) (clones : T → T → Type 0) (key : Key) (present : T)
       (one_taken (is_key_of key.names) q s takes.0 test takes.1 m))
 
   -- a value is that of the first piece
-  flag_ok : (s t : Situation) (v : T) → IsWhole s → FlagOutcome clones key present None s (Ok v) t
+  flag_ok : (s t : Situation) (v : T) → NoneOutside s → FlagOutcome clones key present None s (Ok v) t
       → AlternativeOk T q value s v t
   flag_ok s t v w o = ⊎_elim
       (λ here. ⊎_elim (λ takes. flag_found s t v takes here.1)
@@ -104,7 +104,7 @@ module _ (T : Type 0) (clones : T → T → Type 0) (key : Key) (present : T)
         (gave_absent refl (no_pieces (is_key_of key.names) q Alone s test none) y refl
         (steady_refl s))
 
-    switch_ok : (s t : Situation) (v : T) → IsWhole s
+    switch_ok : (s t : Situation) (v : T) → NoneOutside s
         → FlagOutcome clones key present (Some absent) s (Ok v) t
         → SingleOk T ByName q group gap s v t
     switch_ok s t v w o = ⊎_elim

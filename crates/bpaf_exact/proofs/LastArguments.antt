@@ -12,7 +12,7 @@ use Rattle.bpaf_laws.specs.Argument.{ArgumentOutcome, ArgumentFails, TakesKeysWi
 use Rattle.bpaf_laws.specs.Argument.{TakesOwnText, TakesBefore, GetsText, is_key_with_value}
 use Rattle.bpaf_exact.specs.Pieces.{WithNext, Roles, LinePiece, One, Two, pieces}
 use Rattle.bpaf_exact.specs.Pieces.{takes_none, takes_more}
-use Rattle.bpaf_exact.specs.Flat.{class, class_of, cells, IsWhole, ByName, Steady, Refused}
+use Rattle.bpaf_exact.specs.Flat.{class, class_of, cells, NoneOutside, ByName, Steady, Refused}
 use Rattle.bpaf_exact.specs.Single.{no_gap, TakesAny, SingleOk, took, SingleErr, of_memory}
 use Rattle.bpaf_exact.specs.Single.{of_missing, of_piece, SingleLaw}
 use Rattle.bpaf_exact.specs.Leaves.{argument_roles, HaveValues, no_more, one_more, LastGroup}
@@ -163,7 +163,7 @@ module _ (T : Type 0) (means : List ℕ → T → Type 0) (argument : KeyWithVal
       a.is ∙ ap (λ z. a.before ++ Two a.key a.word ∷ z) got.none
 
   -- a value is that of the last piece
-  last_ok : (s t : Situation) (v : T) → IsWhole s → ArgumentOutcome means argument s (Ok v) t
+  last_ok : (s t : Situation) (v : T) → NoneOutside s → ArgumentOutcome means argument s (Ok v) t
       → SingleOk T ByName q (LastGroup T means) (no_gap T) s v t
   last_ok s t v w o =
       let got = gets_all s t o.0 o.1 in

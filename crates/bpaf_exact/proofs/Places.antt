@@ -5,7 +5,7 @@ use Rattle.std.proofs.Common.{if◌then◌else◌, arith}
 use Rattle.bpaf_items.specs.declared.arg.Arg.{Arg}
 use Rattle.bpaf_line.specs.Situation.{Situation, is_open, is_taken, in_scope, item_at, take_place}
 use Rattle.bpaf_line.specs.Taking.{open_item}
-use Rattle.bpaf_line.proofs.Places.{taken_here, taken_other}
+use Rattle.bpaf_line.proofs.Places.{taken_here, taken_other, taken_stays}
 use Rattle.bpaf_exact.specs.Pieces.{Cells, Alone, WithNext, Roles, LinePiece, One, Two, is_value}
 use Rattle.bpaf_exact.specs.Pieces.{with_next, pieces}
 use Rattle.bpaf_exact.specs.Flat.{first_cells, Steady}
@@ -14,7 +14,8 @@ use Rattle.bpaf_exact.proofs.First.{begin_at}
 
 -- taking a place changes what is taken and the current place alone
 pub take_steady : (s : Situation) (p : ℕ) → Steady s (take_place s p)
-take_steady s p = record { context = refl; start = refl; end = refl; path = refl }
+take_steady s p =
+    record { context = refl; start = refl; end = refl; path = refl; keeps = taken_stays s p }
 
 -- what is at the first places decides their cells
 pub same_cells : (at other : ℕ → Option Arg) (n : ℕ) → ((p : ℕ) → p < n → at p ≡ other p)

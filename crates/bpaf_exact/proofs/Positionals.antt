@@ -11,7 +11,7 @@ use Rattle.bpaf_line.specs.Taking.{TakesText}
 use Rattle.bpaf_line.proofs.Matches.{open_item_there}
 use Rattle.bpaf_exact.specs.Pieces.{Cells, Foreign, Alone, WithNext, LinePiece, One, word_roles}
 use Rattle.bpaf_exact.specs.Pieces.{pieces}
-use Rattle.bpaf_exact.specs.Flat.{cells, IsWhole, Steady, OneWord, front, back}
+use Rattle.bpaf_exact.specs.Flat.{cells, NoneOutside, Steady, OneWord, front, back}
 use Rattle.bpaf_exact.specs.Single.{Groups, FrontOf, no_gap, SingleOk, took, SingleErr, of_memory}
 use Rattle.bpaf_exact.specs.Single.{of_missing, of_piece, WordByWord, SingleLaw}
 use Rattle.bpaf_exact.specs.Alternative.{TakesFirst, first_one, first_two, first_later}
@@ -84,7 +84,7 @@ module _ (T : Type 0) (means : List ℕ → T → Type 0) where
       })
 
   -- a value is that of the first word
-  word_ok : (s t : Situation) (v : T) → IsWhole s → WordEval T means s (Ok v) t
+  word_ok : (s t : Situation) (v : T) → NoneOutside s → WordEval T means s (Ok v) t
       → SingleOk T OneWord word_roles group (no_gap T) s v t
   word_ok s t v w (word_read {p = p} {strict = strict} {text = text} takes y) =
       let m = took_word s t p strict text takes in
@@ -94,7 +94,7 @@ module _ (T : Type 0) (means : List ℕ → T → Type 0) where
       (took_front T (WordValue means) OneWord word_roles s t v (One m.word) m.steady m.takes e y)
 
   -- a refusal: there is no word, or the first can't be read
-  word_err : (s t : Situation) (e : Error) → IsWhole s → WordEval T means s (Err e) t
+  word_err : (s t : Situation) (e : Error) → NoneOutside s → WordEval T means s (Err e) t
       → SingleErr T OneWord word_roles group (no_gap T) s e t
   word_err s t e w (word_fault {p = p} {strict = strict} {text = text} takes n c) =
       let m = took_word s t p strict text takes in

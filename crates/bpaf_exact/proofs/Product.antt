@@ -1,6 +1,6 @@
 -- A field before other fields: the laws of a product from those of its parts.
 use Rattle.std.proofs.Common.{◌≡◌, true, false, List, [], ◌∷◌, length, Some, Result, Ok, Err, refl}
-use Rattle.std.proofs.Common.{inl, inr, Bool, sym, ap, ◌∙◌, subst, if◌then◌else◌}
+use Rattle.std.proofs.Common.{inl, inr, Bool, sym, ap, ◌∙◌, subst, if◌then◌else◌, ◌<◌}
 use Rattle.bpaf_line.specs.declared.error.Error.{Error}
 use Rattle.bpaf_line.specs.Situation.{Situation}
 use Rattle.bpaf_line.specs.Messages.{is_memory}
@@ -12,7 +12,7 @@ use Rattle.bpaf_exact.specs.Pieces.{Two}
 use Rattle.bpaf_exact.specs.Pieces.{is_own_role, is_own, others, either_role, either, IsNamed}
 use Rattle.bpaf_exact.specs.Pieces.{Apart, Cut, at_end, passed, flag, argument, word}
 use Rattle.bpaf_exact.specs.Pieces.{pieces, TakesPieces}
-use Rattle.bpaf_exact.specs.Flat.{cells, NonePresent, IsWhole, Steady, FieldKind, ByName, OneWord}
+use Rattle.bpaf_exact.specs.Flat.{cells, NonePresent, NoneOutside, Steady, FieldKind, ByName, OneWord}
 use Rattle.bpaf_exact.specs.Flat.{EachWord, front, back, share, left, keys, IsWords, OwnItems}
 use Rattle.bpaf_exact.specs.Flat.{LeavesNone, FieldTook, FieldLaw, ReadOff, GivesAll, FieldsLaw}
 use Rattle.bpaf_exact.specs.Flat.{Before, FieldsReading, Gives, both_reading, class, OfMemory}
@@ -22,16 +22,17 @@ use Rattle.bpaf_exact.proofs.Cells.{nil_foreign, pieces_of_cut, others_foreign, 
 use Rattle.bpaf_exact.proofs.Cells.{take_some_from}
 use Rattle.bpaf_exact.proofs.Words.{NoKeys, put_words_back, take_words_from, words_of_cut}
 
--- the scope stays the whole line
-pub whole_after : (s t : Situation) → IsWhole s → Steady s t → IsWhole t
-whole_after s t w k = record {
-  start = k.start ∙ w.start;
+-- what isn't taken stays in the scope
+pub none_outside_after : (s t : Situation) → NoneOutside s → Steady s t → NoneOutside t
+none_outside_after s t w k = record {
   end = k.end ∙ (w.end ∙ ap (λ c. length c.line) (sym k.context));
+  front = λ p l. k.keeps p (w.front p (subst (λ n. p < n) k.start l));
 }
 
 -- nothing has changed
 pub steady_refl : (s : Situation) → Steady s s
-steady_refl s = record { context = refl; start = refl; end = refl; path = refl }
+steady_refl s =
+    record { context = refl; start = refl; end = refl; path = refl; keeps = λ p h. h }
 
 -- nor in two steps
 pub steady_trans : {s m t : Situation} → Steady s m → Steady m t → Steady s t
@@ -42,6 +43,7 @@ steady_trans a b =
       end = b.end
           ∙ a.end;
       path = b.path ∙ a.path;
+      keeps = λ p h. b.keeps p (a.keeps p h);
     }
 
 -- A cut by the keys of others holds no key of one's own.
@@ -290,22 +292,22 @@ module _ (A B : Type 0) (first : Outcome A) (rest : Outcome B) (k : FieldKind) (
   reading = both_reading k q fv others_read
 
   -- a product changes nothing but what is taken
-  both_steady : (s t : Situation) (v : A × B) → IsWhole s → BothOutcome first rest s (Ok v) t
+  both_steady : (s t : Situation) (v : A × B) → NoneOutside s → BothOutcome first rest s (Ok v) t
       → Steady s t
   both_steady s t v w o =
       let h = values_of_both A B first rest s t v o in
       let i = lf.ok s h.middle v.0 w h.first_ran in
       steady_trans i.steady
-      (lr.steady h.middle t v.1 (whole_after s h.middle w i.steady) h.rest_ran)
+      (lr.steady h.middle t v.1 (none_outside_after s h.middle w i.steady) h.rest_ran)
 
   -- its values are read off a cut
-  both_reads : (s t : Situation) (v : A × B) → IsWhole s → BothOutcome first rest s (Ok v) t
+  both_reads : (s t : Situation) (v : A × B) → NoneOutside s → BothOutcome first rest s (Ok v) t
       → NonePresent (cells t)
       → ReadOff (A × B) (either (keys k q) r) reading.value (cells s) v
   both_reads s t v w o e =
       let h = values_of_both A B first rest s t v o in
       let i = lf.ok s h.middle v.0 w h.first_ran in
-      let after = lr.ok h.middle t v.1 (whole_after s h.middle w i.steady) h.rest_ran e in
+      let after = lr.ok h.middle t v.1 (none_outside_after s h.middle w i.steady) h.rest_ran e in
       let p = step_back k q r A fv lf.own b i after.cut in
       record {
         cut_into = p.before;
@@ -318,7 +320,7 @@ module _ (A B : Type 0) (first : Outcome A) (rest : Outcome B) (k : FieldKind) (
       }
 
   -- where each field has a value, the first answers one, or want of memory
-  first_gives : (s m : Situation) (a : Result A Error) (os : List LinePiece) → IsWhole s
+  first_gives : (s m : Situation) (a : Result A Error) (os : List LinePiece) → NoneOutside s
       → first s a m → Cut (either (keys k q) r) (cells s) os → reading.each os
       → Gives q (fv (front k (pieces q (cells s)))) (back k (pieces q (cells s))) a m
   first_gives s m a os w f c h =
@@ -327,16 +329,16 @@ module _ (A B : Type 0) (first : Outcome A) (rest : Outcome B) (k : FieldKind) (
 
   -- and then so do the others
   rest_gives : (s m t : Situation) (x : A) (y : Result B Error) (os : List LinePiece)
-      → IsWhole s → first s (Ok x) m → rest m y t → Cut (either (keys k q) r) (cells s) os
+      → NoneOutside s → first s (Ok x) m → rest m y t → Cut (either (keys k q) r) (cells s) os
       → reading.each os → GivesAll (others_read.value (left k q os)) y t
   rest_gives s m t x y os w f g c h =
       let i = lf.ok s m x w f in
       let j = first_gives s m (Ok x) os w f c h in
-      lr.answers m t y (left k q os) (whole_after s m w i.steady) g
+      lr.answers m t y (left k q os) (none_outside_after s m w i.steady) g
       (step_on k q r lf.own b i.takes j.1 c) h.1
 
   -- where each field has a value, the values of a product are such
-  both_values : (s t : Situation) (u : A × B) (os : List LinePiece) → IsWhole s
+  both_values : (s t : Situation) (u : A × B) (os : List LinePiece) → NoneOutside s
       → BothOutcome first rest s (Ok u) t
       → Cut (either (keys k q) r) (cells s) os → reading.each os
       → GivesAll (reading.value os) (Ok u) t
@@ -348,7 +350,7 @@ module _ (A B : Type 0) (first : Outcome A) (rest : Outcome B) (k : FieldKind) (
 
   -- and a refusal is want of memory
   both_fails : (s m t : Situation) (x : Result A Error) (y : Result B Error) (e : Error)
-      (os : List LinePiece) → IsWhole s → first s x m → rest m y t → IsNotMemory x
+      (os : List LinePiece) → NoneOutside s → first s x m → rest m y t → IsNotMemory x
       → Err e ≡ joined x y
       → Cut (either (keys k q) r) (cells s) os → reading.each os → class e ≡ OfMemory
   both_fails s m t (Ok x) (Ok y) e os w f g spared i c h = absurd cc
@@ -360,7 +362,7 @@ module _ (A B : Type 0) (first : Outcome A) (rest : Outcome B) (k : FieldKind) (
 
   -- each answer
   both_answers : (s t : Situation) (a : Result (A × B) Error) (os : List LinePiece)
-      → IsWhole s → BothOutcome first rest s a t
+      → NoneOutside s → BothOutcome first rest s a t
       → Cut (either (keys k q) r) (cells s) os → reading.each os
       → GivesAll (reading.value os) a t
   both_answers s t (Ok u) os w o c h = both_values s t u os w o c h

@@ -8,7 +8,7 @@ use Rattle.bpaf_laws.specs.Reading.{Outcome}
 use Rattle.bpaf_exact.specs.Pieces.{Cells, Roles, Role, Foreign, Alone, WithNext, LinePiece}
 use Rattle.bpaf_exact.specs.Pieces.{IsNamed}
 use Rattle.bpaf_exact.specs.Pieces.{Cut, either, either_role, no_roles}
-use Rattle.bpaf_exact.specs.Flat.{cells, NonePresent, no_place, none_here, IsWhole, Steady}
+use Rattle.bpaf_exact.specs.Flat.{cells, NonePresent, no_place, none_here, NoneOutside, Steady}
 use Rattle.bpaf_exact.specs.Flat.{FieldKind}
 use Rattle.bpaf_exact.specs.Flat.{ByName, OneWord, EachWord, keys, OwnItems, FieldLaw, FieldsLaw}
 use Rattle.bpaf_exact.specs.Flat.{ReadOff, GivesAll, Before, FieldsReading}
@@ -58,7 +58,7 @@ module _ (T : Type 0) (outcome : Outcome T)
       by_kind EachWord n = record { only_keys = λ a h. refl }
 
   -- the value of a last field is read off a cut
-  last_reads : (s t : Situation) (v : T) → IsWhole s → outcome s (Ok v) t → NonePresent (cells t)
+  last_reads : (s t : Situation) (v : T) → NoneOutside s → outcome s (Ok v) t → NonePresent (cells t)
       → ReadOff T (either (keys k q) no_roles) (LastValue T k q value) (cells s) v
   last_reads s t v w o n =
       let i = l.ok s t v w o in
@@ -75,7 +75,7 @@ module _ (T : Type 0) (outcome : Outcome T)
       }
 
   -- where the field has a value each answer is one
-  last_answers : (s t : Situation) (a : Result T Error) (os : List LinePiece) → IsWhole s
+  last_answers : (s t : Situation) (a : Result T Error) (os : List LinePiece) → NoneOutside s
       → outcome s a t → Cut (either (keys k q) no_roles) (cells s) os
       → (last_reading k q value).each os → GivesAll (LastValue T k q value os) a t
   last_answers s t (Ok x) os w o c h =
@@ -116,15 +116,21 @@ module _ (A B : Type 0) (fields : Outcome A) (makes : A → B → Type 0) (r : R
   made = made_reading (map_closure makes) reading
 
   -- a constructor changes nothing
-  con_steady : (s t : Situation) (v : B) → IsWhole s → ProductOutcome fields makes s (Ok v) t
+  con_steady : (s t : Situation) (v : B) → NoneOutside s → ProductOutcome fields makes s (Ok v) t
       → Steady s t
   con_steady s t v w o =
       let a = l.steady s o.0 o.1 w o.2 in
       subst (Steady s) (sym o.4)
-      (record { context = a.context; start = a.start; end = a.end; path = a.path })
+      (record {
+        context = a.context;
+        start = a.start;
+        end = a.end;
+        path = a.path;
+        keeps = a.keeps;
+      })
 
   -- its value is made of those that are read off a cut
-  con_reads : (s t : Situation) (v : B) → IsWhole s → ProductOutcome fields makes s (Ok v) t
+  con_reads : (s t : Situation) (v : B) → NoneOutside s → ProductOutcome fields makes s (Ok v) t
       → NonePresent (cells t) → ReadOff B r made.value (cells s) v
   con_reads s t v w o n =
       let a = l.ok s o.0 o.1 w o.2 (subst NonePresent (ap cells o.4 ∙ current_cells o.0) n) in
@@ -136,7 +142,7 @@ module _ (A B : Type 0) (fields : Outcome A) (makes : A → B → Type 0) (r : R
       }
 
   -- where each field has a value each answer is one made of such
-  con_answers : (s t : Situation) (a : Result B Error) (os : List LinePiece) → IsWhole s
+  con_answers : (s t : Situation) (a : Result B Error) (os : List LinePiece) → NoneOutside s
       → ProductOutcome fields makes s a t → Cut r (cells s) os → reading.each os
       → GivesAll (made.value os) a t
   con_answers s t (Ok u) os w o c h =

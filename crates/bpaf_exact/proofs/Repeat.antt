@@ -9,7 +9,7 @@ use Rattle.bpaf_laws.specs.Turn.{TurnOutcome}
 use Rattle.bpaf_exact.specs.Pieces.{Cells, Roles, LinePiece, pieces, TakesPieces, takes_none}
 use Rattle.bpaf_exact.specs.Pieces.{takes_more}
 use Rattle.bpaf_exact.specs.Flat.{ErrorClass, OfMemory, OfMissing, Caught, Refused, class, cells}
-use Rattle.bpaf_exact.specs.Flat.{IsWhole, Steady, FieldKind, ByName, OneWord, EachWord, front}
+use Rattle.bpaf_exact.specs.Flat.{NoneOutside, Steady, FieldKind, ByName, OneWord, EachWord, front}
 use Rattle.bpaf_exact.specs.Flat.{back}
 use Rattle.bpaf_exact.specs.Flat.{OwnItems, FieldLaw, Gives}
 use Rattle.bpaf_exact.specs.Single.{Groups, Own, own_none, own_more, TakesAny, Readable, Gap}
@@ -18,7 +18,7 @@ use Rattle.bpaf_exact.specs.Single.{of_missing, of_absent, of_piece, SingleLaw, 
 use Rattle.bpaf_exact.specs.Single.{listed_and_absent, only_absent, repeated, Stops, nothing_found}
 use Rattle.bpaf_exact.specs.Single.{caught, RepeatOutcome, present_count}
 use Rattle.bpaf_exact.proofs.Classes.{memory_class, stops_at, goes_on}
-use Rattle.bpaf_exact.proofs.Product.{whole_after, steady_refl, steady_trans}
+use Rattle.bpaf_exact.proofs.Product.{none_outside_after, steady_refl, steady_trans}
 use Rattle.bpaf_exact.proofs.Counts.{open_present, takes_any_fewer}
 
 -- one piece at least is some
@@ -130,7 +130,7 @@ module _ (T : Type 0) (inner : Outcome T) (k : FieldKind) (q : Roles) (group : G
   enough_took s t v same (took h) = absurd (not_fewer s t same (fewer_count s t h.takes))
 
   -- a turn after a value that stops
-  stop_took : (s t : Situation) → IsWhole s → TurnOutcome inner false false s (Ok None) t
+  stop_took : (s t : Situation) → NoneOutside s → TurnOutcome inner false false s (Ok None) t
       → Took s [] t
   stop_took s t w (inl o) = enough_took s t o.0 o.3 (l.ok s t o.0 w o.1)
   stop_took s t w (inr o) =
@@ -138,14 +138,14 @@ module _ (T : Type 0) (inner : Outcome T) (k : FieldKind) (q : Roles) (group : G
       (stop_after s o.0.1 o.0.0 (stops_at o.0.0 s o.0.1 o.0.3) (l.err s o.0.1 o.0.0 w o.0.2))
 
   -- Once it has the first value, a repeat that answers has read all its pieces.
-  later_took : (vs : List T) (s m t : Situation) → IsWhole s → Turns inner false false s vs m
+  later_took : (vs : List T) (s m t : Situation) → NoneOutside s → Turns inner false false s vs m
       → TurnOutcome inner false false m (Ok None) t → Took s vs t
   later_took [] s m t w turns stop =
       stop_took s t w
       (subst (λ z. TurnOutcome inner false false z (Ok None) t) (sym turns) stop)
   later_took (v ∷ vs) s m t w turns stop =
       step_took s turns.0 t v vs (took_item s turns.0 turns.1.1) (l.ok s turns.0 v w turns.1.0)
-      (λ st. later_took vs turns.0 m t (whole_after s turns.0 w st) turns.2 stop)
+      (λ st. later_took vs turns.0 m t (none_outside_after s turns.0 w st) turns.2 stop)
 
   -- a repeat from its start
   pub record RepeatTook (s : Situation) (vs : List T) (t : Situation) : Type 0 where
@@ -199,7 +199,7 @@ module _ (T : Type 0) (inner : Outcome T) (k : FieldKind) (q : Roles) (group : G
       }
 
   -- a first value that took nothing
-  first_idle : (s t : Situation) (v : T) → IsWhole s → open_count s ≤ open_count t
+  first_idle : (s t : Situation) (v : T) → NoneOutside s → open_count s ≤ open_count t
       → SingleOk T k q group gap s v t → RepeatTook s (v ∷ []) t
   first_idle s t v w e (gave_absent h p ab same st) =
       record {
@@ -228,7 +228,7 @@ module _ (T : Type 0) (inner : Outcome T) (k : FieldKind) (q : Roles) (group : G
   first_stop s m e h (of_piece c p n) = absurd (no_stop s m e Refused h c (λ i. cc) (λ i. cc))
 
   -- a first turn that stops read all
-  first_stopped : (s t : Situation) → IsWhole s → TurnOutcome inner false true s (Ok None) t
+  first_stopped : (s t : Situation) → NoneOutside s → TurnOutcome inner false true s (Ok None) t
       → RepeatTook s [] t
   first_stopped s t w (inl o) = absurd (true≢false o.2)
   first_stopped s t w (inr o) =
@@ -236,7 +236,7 @@ module _ (T : Type 0) (inner : Outcome T) (k : FieldKind) (q : Roles) (group : G
       (first_stop s o.0.1 o.0.0 (stops_at o.0.0 s o.0.1 o.0.3) (l.err s o.0.1 o.0.0 w o.0.2))
 
   -- so did turns from the first one on, until one stops
-  turns_took : (first : Bool) (vs : List T) (s m t : Situation) → IsWhole s
+  turns_took : (first : Bool) (vs : List T) (s m t : Situation) → NoneOutside s
       → Turns inner false first s vs m → TurnOutcome inner false (is_nil vs) m (Ok None) t
       → RepeatTook s vs t
   turns_took first [] s m t w turns stop =
@@ -244,10 +244,10 @@ module _ (T : Type 0) (inner : Outcome T) (k : FieldKind) (q : Roles) (group : G
       (subst (λ z. TurnOutcome inner false true z (Ok None) t) (sym turns) stop)
   turns_took first (v ∷ vs) s m t w turns stop =
       first_step s turns.0 t v vs (l.ok s turns.0 v w turns.1.0)
-      (λ st. later_took vs turns.0 m t (whole_after s turns.0 w st) turns.2 stop)
+      (λ st. later_took vs turns.0 m t (none_outside_after s turns.0 w st) turns.2 stop)
 
   -- A repeat that answers has read all its pieces.
-  pub repeat_took : (idle : Bool) (s t : Situation) (vs : List T) → IsWhole s
+  pub repeat_took : (idle : Bool) (s t : Situation) (vs : List T) → NoneOutside s
       → RepeatOutcome inner idle s (Ok vs) t → RepeatTook s vs t
   repeat_took false s t vs w o = turns_took true vs s o.last t w o.steps o.stop
   repeat_took true s t vs w (stops m turns stop) = turns_took false vs s m t w turns stop
@@ -300,7 +300,7 @@ module _ (T : Type 0) (inner : Outcome T) (k : FieldKind) (q : Roles) (group : G
   cons_gives s m t v us o = (own_more o.read o.gives.0, o.gives.1)
 
   -- where the pieces can be read a refusal is want of memory
-  failed_gives : (s t : Situation) (e : Error) (ws : List T) → IsWhole s
+  failed_gives : (s t : Situation) (e : Error) (ws : List T) → NoneOutside s
       → (gap.has ≡ true → (a : T) × gap.absent a) → OwnView (pieces q (cells s)) ws
       → (Stops e s t → ⊥)
       → SingleErr T k q group gap s e t → class e ≡ OfMemory
@@ -337,7 +337,7 @@ module _ (T : Type 0) (inner : Outcome T) (k : FieldKind) (q : Roles) (group : G
   enough_gives s t v ws same o (took h) = absurd (not_fewer s t same (fewer_count s t h.takes))
 
   -- a turn after a value that stops
-  stop_gives : (s t : Situation) (ws : List T) → IsWhole s → OwnView (pieces q (cells s)) ws
+  stop_gives : (s t : Situation) (ws : List T) → NoneOutside s → OwnView (pieces q (cells s)) ws
       → TurnOutcome inner false false s (Ok None) t → GivesList (pieces q (cells s)) (Ok []) t
   stop_gives s t ws w view (inl o) = enough_gives s t o.0 ws o.3 view (l.ok s t o.0 w o.1)
   stop_gives s t ws w view (inr o) =
@@ -346,7 +346,7 @@ module _ (T : Type 0) (inner : Outcome T) (k : FieldKind) (q : Roles) (group : G
       (l.err s o.0.1 o.0.0 w o.0.2))
 
   -- where the pieces can be read, a turn fails for want of memory alone
-  turn_fails : (first : Bool) (s t : Situation) (e : Error) (ws : List T) → IsWhole s
+  turn_fails : (first : Bool) (s t : Situation) (e : Error) (ws : List T) → NoneOutside s
       → (gap.has ≡ true → (a : T) × gap.absent a) → OwnView (pieces q (cells s)) ws
       → TurnOutcome inner false first s (Err e) t → class e ≡ OfMemory
   turn_fails first s t e ws w ab view (inl o) =
@@ -354,7 +354,7 @@ module _ (T : Type 0) (inner : Outcome T) (k : FieldKind) (q : Roles) (group : G
   turn_fails first s t e ws w ab view (inr o) = memory_class e.0 o.0
 
   -- where the pieces can be read, the turns after a value read them, until one stops
-  later_gives : (vs : List T) (s m t : Situation) (ws : List T) → IsWhole s
+  later_gives : (vs : List T) (s m t : Situation) (ws : List T) → NoneOutside s
       → Own T group (pieces q (cells s)) ws → Turns inner false false s vs m
       → TurnOutcome inner false false m (Ok None) t → GivesList (pieces q (cells s)) (Ok vs) t
   later_gives [] s m t ws w o turns stop =
@@ -366,11 +366,11 @@ module _ (T : Type 0) (inner : Outcome T) (k : FieldKind) (q : Roles) (group : G
       (λ h p same st.
       not_fewer s turns.0 (not_less s turns.0 same) (took_item s turns.0 turns.1.1))
       (own_view _ ws o)
-      (λ st xs own. later_gives vs turns.0 m t xs (whole_after s turns.0 w st) own turns.2 stop)
+      (λ st xs own. later_gives vs turns.0 m t xs (none_outside_after s turns.0 w st) own turns.2 stop)
       (l.ok s turns.0 v w turns.1.0))
 
   -- and fail for want of memory alone
-  later_fails : (vs : List T) (s m t : Situation) (e : Error) (ws : List T) → IsWhole s
+  later_fails : (vs : List T) (s m t : Situation) (e : Error) (ws : List T) → NoneOutside s
       → (gap.has ≡ true → (a : T) × gap.absent a) → Own T group (pieces q (cells s)) ws
       → Turns inner false false s vs m → TurnOutcome inner false false m (Err e) t
       → class e ≡ OfMemory
@@ -383,7 +383,7 @@ module _ (T : Type 0) (inner : Outcome T) (k : FieldKind) (q : Roles) (group : G
       not_fewer s turns.0 (not_less s turns.0 same) (took_item s turns.0 turns.1.1))
       (own_view _ ws o)
       (λ st xs own.
-      later_fails vs turns.0 m t e xs (whole_after s turns.0 w st) ab own turns.2 fails)
+      later_fails vs turns.0 m t e xs (none_outside_after s turns.0 w st) ab own turns.2 fails)
       (l.ok s turns.0 v w turns.1.0) in
       on.gives
 
@@ -463,13 +463,13 @@ module _ (T : Type 0) (inner : Outcome T) (k : FieldKind) (q : Roles) (group : G
   gap_stopped s m e h p x (of_piece c ne none) = ne p
 
   -- where there are pieces the first value took one
-  own_idle : (s t : Situation) (v : T) → IsWhole s → (gap.has ≡ true → pieces q (cells s) ≡ [] → ⊥)
+  own_idle : (s t : Situation) (v : T) → NoneOutside s → (gap.has ≡ true → pieces q (cells s) ≡ [] → ⊥)
       → open_count s ≤ open_count t → SingleOk T k q group gap s v t → ⊥
   own_idle s t v w n same (gave_absent h p ab e st) = n h p
   own_idle s t v w n same (took h) = let f = fewer_count s t h.takes in omega arith
 
   -- where there is an own list, a first turn that stops answers it
-  first_stop_gives : (s t : Situation) (ws : List T) → IsWhole s → ListView (pieces q (cells s)) ws
+  first_stop_gives : (s t : Situation) (ws : List T) → NoneOutside s → ListView (pieces q (cells s)) ws
       → TurnOutcome inner false true s (Ok None) t → GivesOwn (pieces q (cells s)) (Ok []) t
   first_stop_gives s t ws w view (inl o) = absurd (true≢false o.2)
   first_stop_gives s t ws w (all_read ab own n) (inr o) =
@@ -482,7 +482,7 @@ module _ (T : Type 0) (inner : Outcome T) (k : FieldKind) (q : Roles) (group : G
       (l.err s o.0.1 o.0.0 w o.0.2))
 
   -- so do turns from the first one on, until one stops
-  turns_give : (first : Bool) (vs : List T) (s m t : Situation) (ws : List T) → IsWhole s
+  turns_give : (first : Bool) (vs : List T) (s m t : Situation) (ws : List T) → NoneOutside s
       → ListView (pieces q (cells s)) ws → Turns inner false first s vs m
       → TurnOutcome inner false (is_nil vs) m (Ok None) t → GivesOwn (pieces q (cells s)) (Ok vs) t
   turns_give first [] s m t ws w view turns stop =
@@ -492,16 +492,16 @@ module _ (T : Type 0) (inner : Outcome T) (k : FieldKind) (q : Roles) (group : G
       own_given (pieces q (cells s)) (Ok (v ∷ vs)) t ab n
       (cons_gives s turns.0 t v vs
       (on_step s turns.0 t v ws (Ok vs) (λ h p same st. n h p) (own_view _ ws o)
-      (λ st xs own. later_gives vs turns.0 m t xs (whole_after s turns.0 w st) own turns.2 stop)
+      (λ st xs own. later_gives vs turns.0 m t xs (none_outside_after s turns.0 w st) own turns.2 stop)
       (l.ok s turns.0 v w turns.1.0)))
   turns_give first (v ∷ vs) s m t ws w (gap_read h a ab p) turns stop =
       gap_step s turns.0 t v vs p
-      (λ st. later_took vs turns.0 m t (whole_after s turns.0 w st) turns.2 stop)
+      (λ st. later_took vs turns.0 m t (none_outside_after s turns.0 w st) turns.2 stop)
       (l.ok s turns.0 v w turns.1.0)
 
   -- and fail for want of memory alone
   turns_fail : (first : Bool) (vs : List T) (s m t : Situation) (e : Error) (ws : List T)
-      → IsWhole s → ListView (pieces q (cells s)) ws → Turns inner false first s vs m
+      → NoneOutside s → ListView (pieces q (cells s)) ws → Turns inner false first s vs m
       → TurnOutcome inner false (is_nil vs) m (Err e) t → class e ≡ OfMemory
   turns_fail first [] s m t e ws w view turns fails =
       by_view view (subst (λ z. TurnOutcome inner false true z (Err e) t) (sym turns) fails)
@@ -514,17 +514,17 @@ module _ (T : Type 0) (inner : Outcome T) (k : FieldKind) (q : Roles) (group : G
   turns_fail first (v ∷ vs) s m t e ws w (all_read ab o n) turns fails =
       let on = on_step s turns.0 t v ws (Err e) (λ h p same st. n h p) (own_view _ ws o)
       (λ st xs own.
-      later_fails vs turns.0 m t e xs (whole_after s turns.0 w st) ab own turns.2 fails)
+      later_fails vs turns.0 m t e xs (none_outside_after s turns.0 w st) ab own turns.2 fails)
       (l.ok s turns.0 v w turns.1.0) in
       on.gives
   turns_fail first (v ∷ vs) s m t e ws w (gap_read h a ab p) turns fails =
       gap_step_failed s turns.0 t v e p
       (λ st abs own.
-      later_fails vs turns.0 m t e [] (whole_after s turns.0 w st) abs own turns.2 fails)
+      later_fails vs turns.0 m t e [] (none_outside_after s turns.0 w st) abs own turns.2 fails)
       (l.ok s turns.0 v w turns.1.0)
 
   -- so it is of one value alone that took nothing
-  rest_gives : (s t : Situation) (v : T) (ws : List T) → IsWhole s
+  rest_gives : (s t : Situation) (v : T) (ws : List T) → NoneOutside s
       → ListView (pieces q (cells s)) ws → open_count s ≤ open_count t
       → SingleOk T k q group gap s v t → GivesOwn (pieces q (cells s)) (Ok (v ∷ [])) t
   rest_gives s t v ws w (all_read ab o n) same one = absurd (own_idle s t v w n same one)
@@ -532,7 +532,7 @@ module _ (T : Type 0) (inner : Outcome T) (k : FieldKind) (q : Roles) (group : G
 
   -- where there is an own list, each answer is one, or want of memory
   first_gives : (idle : Bool) (s t : Situation) (r : Result (List T) Error) (ws : List T)
-      → IsWhole s → ListView (pieces q (cells s)) ws → RepeatOutcome inner idle s r t
+      → NoneOutside s → ListView (pieces q (cells s)) ws → RepeatOutcome inner idle s r t
       → GivesOwn (pieces q (cells s)) r t
   first_gives false s t (Ok vs) ws w view o = turns_give true vs s o.last t ws w view o.steps o.stop
   first_gives false s t (Err e) ws w view o =
@@ -576,7 +576,7 @@ module _ (T : Type 0) (inner : Outcome T) (k : FieldKind) (q : Roles) (group : G
 
   -- each answer of a repeat
   repeat_gives : (idle : Bool) (s t : Situation) (r : Result (List T) Error) (ws : List T)
-      → IsWhole s → RepeatOutcome inner idle s r t
+      → NoneOutside s → RepeatOutcome inner idle s r t
       → OwnList T group gap (front (repeated k) (pieces q (cells s))) ws
       → Gives q (OwnList T group gap (front (repeated k) (pieces q (cells s))))
       (back (repeated k) (pieces q (cells s))) r t

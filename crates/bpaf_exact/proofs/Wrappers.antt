@@ -6,7 +6,7 @@ use Rattle.bpaf_line.specs.Situation.{Situation}
 use Rattle.bpaf_laws.specs.Reading.{Outcome}
 use Rattle.bpaf_exact.specs.Pieces.{Roles, LinePiece, pieces, takes_none}
 use Rattle.bpaf_exact.specs.Flat.{ErrorClass, OfMemory, OfMissing, Caught, Refused, class, cells}
-use Rattle.bpaf_exact.specs.Flat.{IsWhole, FieldKind, ByName, OneWord, EachWord, front, back}
+use Rattle.bpaf_exact.specs.Flat.{NoneOutside, FieldKind, ByName, OneWord, EachWord, front, back}
 use Rattle.bpaf_exact.specs.Flat.{LeavesNone, FieldTook, FieldLaw, Gives}
 use Rattle.bpaf_exact.specs.Single.{Groups, Own, own_none, Readable, Gap, SingleOk, gave_absent}
 use Rattle.bpaf_exact.specs.Single.{took, SingleErr, of_memory, of_missing, of_absent, of_piece}
@@ -47,7 +47,7 @@ module _ (A B : Type 0) (inner : Outcome A) (k : FieldKind) (q : Roles)
     (l : FieldLaw A inner k q value) (f : Closure A B)
     (agrees : (os : List LinePiece) → AgreesOn (value os) f) (c : ErrorClass) where
   -- a value that the closure gave
-  closed_ok : (s t : Situation) (v : B) → IsWhole s → ClosedEval A B inner f c s (Ok v) t
+  closed_ok : (s t : Situation) (v : B) → NoneOutside s → ClosedEval A B inner f c s (Ok v) t
       → FieldTook B k q (ClosedValue A B value f) s v t
   closed_ok s t v w (closed_yes {x = x} i y) =
       let a = l.ok s t x w i in
@@ -60,7 +60,7 @@ module _ (A B : Type 0) (inner : Outcome A) (k : FieldKind) (q : Roles)
       }
 
   -- where the share has a value the closure gives one
-  closed_answers : (s t : Situation) (r : Result B Error) (v : B) → IsWhole s
+  closed_answers : (s t : Situation) (r : Result B Error) (v : B) → NoneOutside s
       → ClosedEval A B inner f c s r t → ClosedValue A B value f (front k (pieces q (cells s))) v
       → Gives q (ClosedValue A B value f (front k (pieces q (cells s))))
       (back k (pieces q (cells s))) r t
@@ -178,7 +178,7 @@ module _ (T : Type 0) (inner : Outcome T) (k : FieldKind) (q : Roles) (group : G
   err_gives s t e w (of_piece c ne n) (view_gap x a) = absurd (ne (nil_front k _ x))
 
   -- a field without a repeat or default
-  single_answers : (s t : Situation) (r : Result T Error) (w : T) → IsWhole s → inner s r t
+  single_answers : (s t : Situation) (r : Result T Error) (w : T) → NoneOutside s → inner s r t
       → SingleValue T group gap (front k (pieces q (cells s))) w
       → Gives q (SingleValue T group gap (front k (pieces q (cells s))))
       (back k (pieces q (cells s))) r t
@@ -205,7 +205,7 @@ module _ (T : Type 0) (inner : Outcome T) (k : FieldKind) (q : Roles) (group : G
   stop_missing s m e h (of_piece c p n) = absurd (no_stop s m e Refused h c (λ i. cc) (λ i. cc))
 
   -- a value that may be left out
-  optional_ok : (s t : Situation) (v : Option T) → IsWhole s → OptionalEval T inner s (Ok v) t
+  optional_ok : (s t : Situation) (v : Option T) → NoneOutside s → OptionalEval T inner s (Ok v) t
       → FieldTook (Option T) k q (OptionalValue T group gap) s v t
   optional_ok s t v w (optional_some {v = x} i) =
       let a = single_took s t x (l.ok s t x w i) in
@@ -238,7 +238,7 @@ module _ (T : Type 0) (inner : Outcome T) (k : FieldKind) (q : Roles) (group : G
   optional_view os v (no_value h) = view_none refl refl h
 
   -- where the share has a value, Some is right
-  some_gives : (s t : Situation) (x : T) (v : Option T) → IsWhole s → inner s (Ok x) t
+  some_gives : (s t : Situation) (x : T) (v : Option T) → NoneOutside s → inner s (Ok x) t
       → SingleOk T k q group gap s x t → OptionalView (front k (pieces q (cells s))) v
       → Gives q (OptionalValue T group gap (front k (pieces q (cells s))))
       (back k (pieces q (cells s))) (Ok (Some x)) t
@@ -267,7 +267,7 @@ module _ (T : Type 0) (inner : Outcome T) (k : FieldKind) (q : Roles) (group : G
       )
 
   -- where nothing is there no other refusal comes
-  none_fails : (s t : Situation) (e : Error) → IsWhole s → (Stops e s t → ⊥)
+  none_fails : (s t : Situation) (e : Error) → NoneOutside s → (Stops e s t → ⊥)
       → front k (pieces q (cells s)) ≡ [] → gap.has ≡ false → SingleErr T k q group gap s e t
       → class e ≡ OfMemory
   none_fails s t e w n p b (of_memory c) = c
@@ -277,7 +277,7 @@ module _ (T : Type 0) (inner : Outcome T) (k : FieldKind) (q : Roles) (group : G
   none_fails s t e w n p b (of_piece c ne x) = absurd (ne (nil_front k _ p))
 
   -- each answer
-  optional_answers : (s t : Situation) (r : Result (Option T) Error) (v : Option T) → IsWhole s
+  optional_answers : (s t : Situation) (r : Result (Option T) Error) (v : Option T) → NoneOutside s
       → OptionalEval T inner s r t → OptionalView (front k (pieces q (cells s))) v
       → Gives q (OptionalValue T group gap (front k (pieces q (cells s))))
       (back k (pieces q (cells s))) r t
@@ -317,7 +317,7 @@ module _ (T : Type 0) (inner : Outcome T) (k : FieldKind) (q : Roles) (group : G
     catch_nothing s m e (catch_missing h) (of_piece c p n) = absurd cc
     catch_nothing s m e (catch_other h) (of_piece c p n) = absurd cc
 
-    fallback_took : (s t : Situation) (v : T) → IsWhole s → FallbackEval T inner f s (Ok v) t
+    fallback_took : (s t : Situation) (v : T) → NoneOutside s → FallbackEval T inner f s (Ok v) t
         → FieldTook T k q (FallbackValue T group gap f) s v t
     fallback_took s t v w (fallback_ok i) =
         let a = single_took s t v (l.ok s t v w i) in
@@ -366,7 +366,7 @@ module _ (T : Type 0) (inner : Outcome T) (k : FieldKind) (q : Roles) (group : G
     kept_fails s t e n p b (of_absent c g p' x) = absurd cc
     kept_fails s t e n p b (of_piece c ne x) = absurd (ne (nil_front k _ p))
 
-    fallback_answers : (s t : Situation) (r : Result T Error) (v : T) → IsWhole s
+    fallback_answers : (s t : Situation) (r : Result T Error) (v : T) → NoneOutside s
         → FallbackEval T inner f s r t → FallbackView (front k (pieces q (cells s))) v
         → Gives q (FallbackValue T group gap f (front k (pieces q (cells s))))
         (back k (pieces q (cells s))) r t

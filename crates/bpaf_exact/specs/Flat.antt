@@ -1,13 +1,13 @@
 -- What a flat field keeps to when it is evaluated: its answer and what it takes depend on its own
 -- pieces alone.
-use Rattle.std.specs.Prelude.{◌≡◌, ℕ, zero, suc, Bool, true, false, List, [], ◌∷◌, length, Option}
-use Rattle.std.specs.Prelude.{None, Result, Ok, Err}
+use Rattle.std.specs.Prelude.{◌≡◌, ◌<◌, ℕ, zero, suc, Bool, true, false, List, [], ◌∷◌, length}
+use Rattle.std.specs.Prelude.{Option, None, Result, Ok, Err}
 use Rattle.bpaf_items.specs.declared.arg.Arg.{Arg}
 use Rattle.bpaf_line.specs.declared.error.Error.{Error}
 use Rattle.bpaf_line.specs.declared.error.Message.{Message}
 use Rattle.bpaf_line.specs.declared.error.Message.TheVariants.{Missing}
 use Rattle.bpaf_line.specs.Messages.{is_memory, can_catch}
-use Rattle.bpaf_line.specs.Situation.{Situation}
+use Rattle.bpaf_line.specs.Situation.{Situation, is_taken}
 use Rattle.bpaf_line.specs.Taking.{open_item}
 use Rattle.bpaf_laws.specs.Reading.{Outcome}
 use Rattle.bpaf_exact.specs.Pieces.{Cells, Roles, Foreign, LinePiece, mine, others, no_roles}
@@ -51,17 +51,20 @@ pub data NonePresent : Cells → Type 0 where
   no_place : NonePresent []
   none_here : {cs : Cells} → NonePresent cs → NonePresent (None ∷ cs)
 
--- the scope is the whole line
-pub record IsWhole (s : Situation) : Type 0 where
-  pub start : s.start ≡ 0
+-- each place that isn't taken lies in the scope: it reaches to the line's end, and nothing is left
+-- in front of it
+pub record NoneOutside (s : Situation) : Type 0 where
   pub end : s.end ≡ length s.context.line
+  pub front : (p : ℕ) → p < s.start → is_taken s p ≡ true
 
--- nothing but what is taken, the conflicts and the current place has changed
+-- nothing but what is taken, the conflicts and the current place has changed, and what was taken is
+-- taken still
 pub record Steady (s t : Situation) : Type 0 where
   pub context : t.context ≡ s.context
   pub start : t.start ≡ s.start
   pub end : t.end ≡ s.end
   pub path : t.path ≡ s.path
+  pub keeps : (p : ℕ) → is_taken s p ≡ true → is_taken t p ≡ true
 
 -- a named field; a positional field without a repeat; a positional field with one
 pub data FieldKind : Type 0 where
@@ -137,8 +140,8 @@ Gives q value rest (Err e) t = class e ≡ OfMemory
 pub record FieldLaw (T : Type 0) (outcome : Outcome T) (k : FieldKind) (q : Roles)
     (value : List LinePiece → T → Type 0) : Type 0 where
   pub own : OwnItems k q
-  pub ok : (s t : Situation) (v : T) → IsWhole s → outcome s (Ok v) t → FieldTook T k q value s v t
-  pub answers : (s t : Situation) (r : Result T Error) (w : T) → IsWhole s → outcome s r t
+  pub ok : (s t : Situation) (v : T) → NoneOutside s → outcome s (Ok v) t → FieldTook T k q value s v t
+  pub answers : (s t : Situation) (r : Result T Error) (w : T) → NoneOutside s → outcome s r t
       → value (front k (pieces q (cells s))) w
       → Gives q (value (front k (pieces q (cells s)))) (back k (pieces q (cells s))) r t
 
@@ -169,11 +172,11 @@ pub record FieldsReading (V : Type 0) : Type 1 where
 pub record FieldsLaw (V : Type 0) (outcome : Outcome V) (r : Roles)
     (reading : FieldsReading V) : Type 0 where
   pub named : IsNamed r
-  pub steady : (s t : Situation) (v : V) → IsWhole s → outcome s (Ok v) t → Steady s t
-  pub ok : (s t : Situation) (v : V) → IsWhole s → outcome s (Ok v) t → NonePresent (cells t)
+  pub steady : (s t : Situation) (v : V) → NoneOutside s → outcome s (Ok v) t → Steady s t
+  pub ok : (s t : Situation) (v : V) → NoneOutside s → outcome s (Ok v) t → NonePresent (cells t)
       → ReadOff V r reading.value (cells s) v
   pub has_each : (os : List LinePiece) (v : V) → reading.value os v → reading.each os
-  pub answers : (s t : Situation) (a : Result V Error) (os : List LinePiece) → IsWhole s
+  pub answers : (s t : Situation) (a : Result V Error) (os : List LinePiece) → NoneOutside s
       → outcome s a t → Cut r (cells s) os → reading.each os → GivesAll (reading.value os) a t
 
 -- a field before others: their keys are apart, and after a positional field no named one stands

@@ -6,7 +6,7 @@ use Rattle.bpaf_line.specs.Situation.{Situation, open_count}
 use Rattle.bpaf_laws.specs.Reading.{Outcome}
 use Rattle.bpaf_laws.specs.Repeat.{ListOutcome, UntilRest, UntilFault}
 use Rattle.bpaf_exact.specs.Pieces.{Cells, Roles, LinePiece, pieces, TakesPiece, TakesPieces}
-use Rattle.bpaf_exact.specs.Flat.{OfMemory, OfMissing, Caught, Refused, class, cells, IsWhole}
+use Rattle.bpaf_exact.specs.Flat.{OfMemory, OfMissing, Caught, Refused, class, cells, NoneOutside}
 use Rattle.bpaf_exact.specs.Flat.{Steady, FieldKind, ByName, OneWord, EachWord, front, back}
 use Rattle.bpaf_exact.specs.Flat.{OwnItems}
 
@@ -105,9 +105,9 @@ pub record SingleLaw (T : Type 0) (outcome : Outcome T) (k : FieldKind) (q : Rol
   pub words : ReadsWords k group
   pub starts : (v : T) (rest : List LinePiece) → group [] v rest → ⊥
   pub no_absent : (v : T) → gap.has ≡ false → gap.absent v → ⊥
-  pub ok : (s t : Situation) (v : T) → IsWhole s → outcome s (Ok v) t
+  pub ok : (s t : Situation) (v : T) → NoneOutside s → outcome s (Ok v) t
       → SingleOk T k q group gap s v t
-  pub err : (s t : Situation) (e : Error) → IsWhole s → outcome s (Err e) t
+  pub err : (s t : Situation) (e : Error) → NoneOutside s → outcome s (Err e) t
       → SingleErr T k q group gap s e t
 
 -- The own list under a repeat; the absent value must be there also where it isn't used: the repeat
