@@ -366,7 +366,8 @@ module _ (T : Type 0) (inner : Outcome T) (k : FieldKind) (q : Roles) (group : G
       (λ h p same st.
       not_fewer s turns.0 (not_less s turns.0 same) (took_item s turns.0 turns.1.1))
       (own_view _ ws o)
-      (λ st xs own. later_gives vs turns.0 m t xs (none_outside_after s turns.0 w st) own turns.2 stop)
+      (λ st xs own. later_gives vs turns.0 m t xs (none_outside_after s turns.0 w st) own turns.2
+      stop)
       (l.ok s turns.0 v w turns.1.0))
 
   -- and fail for want of memory alone
@@ -463,13 +464,15 @@ module _ (T : Type 0) (inner : Outcome T) (k : FieldKind) (q : Roles) (group : G
   gap_stopped s m e h p x (of_piece c ne none) = ne p
 
   -- where there are pieces the first value took one
-  own_idle : (s t : Situation) (v : T) → NoneOutside s → (gap.has ≡ true → pieces q (cells s) ≡ [] → ⊥)
+  own_idle : (s t : Situation) (v : T) → NoneOutside s
+      → (gap.has ≡ true → pieces q (cells s) ≡ [] → ⊥)
       → open_count s ≤ open_count t → SingleOk T k q group gap s v t → ⊥
   own_idle s t v w n same (gave_absent h p ab e st) = n h p
   own_idle s t v w n same (took h) = let f = fewer_count s t h.takes in omega arith
 
   -- where there is an own list, a first turn that stops answers it
-  first_stop_gives : (s t : Situation) (ws : List T) → NoneOutside s → ListView (pieces q (cells s)) ws
+  first_stop_gives : (s t : Situation) (ws : List T) → NoneOutside s
+      → ListView (pieces q (cells s)) ws
       → TurnOutcome inner false true s (Ok None) t → GivesOwn (pieces q (cells s)) (Ok []) t
   first_stop_gives s t ws w view (inl o) = absurd (true≢false o.2)
   first_stop_gives s t ws w (all_read ab own n) (inr o) =
@@ -492,7 +495,8 @@ module _ (T : Type 0) (inner : Outcome T) (k : FieldKind) (q : Roles) (group : G
       own_given (pieces q (cells s)) (Ok (v ∷ vs)) t ab n
       (cons_gives s turns.0 t v vs
       (on_step s turns.0 t v ws (Ok vs) (λ h p same st. n h p) (own_view _ ws o)
-      (λ st xs own. later_gives vs turns.0 m t xs (none_outside_after s turns.0 w st) own turns.2 stop)
+      (λ st xs own. later_gives vs turns.0 m t xs (none_outside_after s turns.0 w st) own turns.2
+      stop)
       (l.ok s turns.0 v w turns.1.0)))
   turns_give first (v ∷ vs) s m t ws w (gap_read h a ab p) turns stop =
       gap_step s turns.0 t v vs p
