@@ -39,13 +39,13 @@ use Rattle.bpaf_exact.proofs.First.{first_alone, both_nil, TookLeft, left_here, 
 use Rattle.bpaf_exact.proofs.First.{first_both, not_left, never_same}
 
 -- the same scope of the same line
-record SameScope (m n : Situation) : Type 0 where
-  context : n.context ≡ m.context
-  start : n.start ≡ m.start
-  end : n.end ≡ m.end
+pub record SameScope (m n : Situation) : Type 0 where
+  pub context : n.context ≡ m.context
+  pub start : n.start ≡ m.start
+  pub end : n.end ≡ m.end
 
 -- no evaluation of a flat field changes it
-same_scope : {m n : Situation} → Steady m n → SameScope m n
+pub same_scope : {m n : Situation} → Steady m n → SameScope m n
 same_scope a = record { context = a.context; start = a.start; end = a.end }
 
 -- so it is the same in two that began alike
@@ -64,7 +64,7 @@ steady_item m n st p e =
     (ap (λ c. item_in c p) st.context) e
 
 -- where as much is taken the cells are the same
-cells_same : (m n : Situation) → SameScope m n → ((p : ℕ) → is_taken n p ≡ is_taken m p)
+pub cells_same : (m n : Situation) → SameScope m n → ((p : ℕ) → is_taken n p ≡ is_taken m p)
     → cells n ≡ cells m
 unfolding cells
 cells_same m n st f =
@@ -91,12 +91,12 @@ left_cells at other (suc n) (suc p) x l e f same =
     (λ q i. same (suc q) (omega arith)))
 
 -- an item is there
-record HasItem (s : Situation) (p : ℕ) : Type 0 where
-  item : Arg
-  is : open_item s p ≡ Some item
+pub record HasItem (s : Situation) (p : ℕ) : Type 0 where
+  pub item : Arg
+  pub is : open_item s p ≡ Some item
 
 -- what isn't taken is open
-has_item : (s : Situation) (p : ℕ) → NoneOutside s → is_taken s p ≡ false → HasItem s p
+pub has_item : (s : Situation) (p : ℕ) → NoneOutside s → is_taken s p ≡ false → HasItem s p
 has_item s p w free =
     let l = present_in_line s p free in
     let a : s.start ≤ p = ⊎_elim
@@ -145,7 +145,7 @@ differ_not a true e f = refl
 differ_not a false e f = absurd (true≢false (sym e ∙ f))
 
 -- conflict notes change nothing that is taken
-saved_steady : (s other t : Situation) (place : ℕ) → ConflictsSaved s other place t → Steady s t
+pub saved_steady : (s other t : Situation) (place : ℕ) → ConflictsSaved s other place t → Steady s t
 saved_steady s other t place c =
     record {
       context = c.context;

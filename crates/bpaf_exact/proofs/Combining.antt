@@ -40,7 +40,7 @@ class_tests false false true = (λ e. absurd cc, λ e. absurd cc)
 class_tests false false false = (λ e. absurd cc, λ e. refl)
 
 -- a refusal of that class says that items are missing
-is_missing_of : (m : Message) → class_of m ≡ OfMissing → is_missing m ≡ true
+pub is_missing_of : (m : Message) → class_of m ≡ OfMissing → is_missing m ≡ true
 is_missing_of m e = (class_tests (is_memory m) (is_missing m) (can_catch m)).0 e
 
 -- one of this class can't be caught

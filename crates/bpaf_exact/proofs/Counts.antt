@@ -6,8 +6,9 @@ use Rattle.bpaf_items.specs.declared.arg.Arg.{Arg}
 use Rattle.bpaf_items.specs.Items.{any_item}
 use Rattle.bpaf_line.specs.Situation.{Situation, open_count, count_below, is_open, item_at}
 use Rattle.bpaf_line.specs.Taking.{open_item}
-use Rattle.bpaf_index.proofs.Counts.{count_below-same}
+use Rattle.bpaf_index.proofs.Counts.{count_below-same, count_below-some}
 use Rattle.bpaf_line.proofs.Matches.{open_has_item}
+use Rattle.bpaf_line.proofs.Places.{open_in_line}
 use Rattle.bpaf_exact.specs.Pieces.{Cells, Roles, LinePiece, TakesPiece, takes_one, takes_two}
 use Rattle.bpaf_exact.specs.Pieces.{takes_later}
 use Rattle.bpaf_exact.specs.Pieces.{TakesPieces, takes_none, takes_more}
@@ -83,3 +84,9 @@ open_present s =
     count_below-same (is_open s) (λ p. is_some (open_item s p)) (length s.context.line)
     (λ p l. open_some s p)
     ∙ count_cells (open_item s) (length s.context.line)
+
+-- an open place is counted
+pub open_counted : (s : Situation) (p : ℕ) → is_open s p ≡ true → open_count s ≡ 0 → ⊥
+open_counted s p there none =
+    let some = count_below-some (is_open s) _ p (open_in_line s p there) there in
+    omega arith

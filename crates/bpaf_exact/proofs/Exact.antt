@@ -38,14 +38,14 @@ open_at_first context p l =
     by_tests false inside marker e f at = absurd cc
 
 -- the cells with which parsing begins are those of the line
-first_cells_are : (context : Context) → cells (beginning context) ≡ line_cells context
+pub first_cells_are : (context : Context) → cells (beginning context) ≡ line_cells context
 unfolding cells
 first_cells_are context =
     same_cells (open_item (beginning context)) (item_in context) (length context.line)
     (open_at_first context)
 
 -- no value is none
-no_value : {V : Type 0} (a : RunAnswer V) (v : V) → IsNoValue a → a ≡ Accepted v → ⊥
+pub no_value : {V : Type 0} (a : RunAnswer V) (v : V) → IsNoValue a → a ≡ Accepted v → ⊥
 no_value (Accepted x) v n h = n
 no_value NoMemory v n h = cc
 no_value Refusal v n h = cc

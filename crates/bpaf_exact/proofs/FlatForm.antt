@@ -124,7 +124,7 @@ choices_rest_law P T outcome keys form agrees law (p ∷ ps) each first own s l 
     (flat_choice_law T first (outcome p) own (keys p) s (form p) l (law p each.0))
 
 -- an alternative alone
-only_law : (T : Type 0) (outcome : Outcome T) (names : List Names) (s : FlatForm T)
+pub only_law : (T : Type 0) (outcome : Outcome T) (names : List Names) (s : FlatForm T)
     → FormLaw outcome names s → FormLaw outcome names (alternative_only s)
 only_law T outcome names not_flat l = tt
 only_law T outcome names (alternative q value) l = l

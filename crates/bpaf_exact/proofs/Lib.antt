@@ -34,3 +34,9 @@ pub mod Says
 pub mod Keeping
 pub mod Told
 pub mod Needed
+pub mod Programs
+pub mod BeforeCommands
+pub mod Commands
+pub mod ProgramForm
+pub mod ProgramSays
+pub mod WorkedPrograms

@@ -47,7 +47,7 @@ steady_trans a b =
     }
 
 -- A cut by the keys of others holds no key of one's own.
-no_own_in_cut : (q r : Roles) {cs : Cells} {os : List LinePiece} → IsNamed q → Apart q r
+pub no_own_in_cut : (q r : Roles) {cs : Cells} {os : List LinePiece} → IsNamed q → Apart q r
     → Cut r cs os
     → pieces q cs ≡ []
 no_own_in_cut q r n a at_end = refl
@@ -254,11 +254,11 @@ both_named OneWord q r n m = m
 both_named EachWord q r n m = m
 
 -- two values of fields that were all evaluated
-record ValuesOfBoth (A B : Type 0) (first : Outcome A) (rest : Outcome B) (s : Situation)
+pub record ValuesOfBoth (A B : Type 0) (first : Outcome A) (rest : Outcome B) (s : Situation)
     (v : A × B) (t : Situation) : Type 0 where
-  middle : Situation
-  first_ran : first s (Ok v.0) middle
-  rest_ran : rest middle (Ok v.1) t
+  pub middle : Situation
+  pub first_ran : first s (Ok v.0) middle
+  pub rest_ran : rest middle (Ok v.1) t
 
 module _ (A B : Type 0) (first : Outcome A) (rest : Outcome B) where
   -- joined answers are a value where both are
@@ -280,7 +280,7 @@ module _ (A B : Type 0) (first : Outcome A) (rest : Outcome B) where
       by_test false j = absurd cc
 
   -- the values of a product are those of its fields
-  values_of_both : (s t : Situation) (v : A × B) → BothOutcome first rest s (Ok v) t
+  pub values_of_both : (s t : Situation) (v : A × B) → BothOutcome first rest s (Ok v) t
       → ValuesOfBoth A B first rest s v t
   values_of_both s t v o = joined_values s o.middle t o.a o.b v o.first_ran o.rest_ran o.answer
 

@@ -105,7 +105,7 @@ module _ (T : Type 0) (outcome : Outcome T)
 -- The constructor of a product.
 
 -- which place is current is nothing to the cells
-current_cells : (s : Situation) → cells (with_current s None) ≡ cells s
+pub current_cells : (s : Situation) → cells (with_current s None) ≡ cells s
 unfolding cells
 current_cells s = refl
 

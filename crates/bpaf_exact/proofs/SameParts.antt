@@ -1,8 +1,9 @@
 -- Each flat type shows the same parts, whichever shape it shows, where its inner parsers do.
 use Rattle.std.proofs.Common.{◌≡◌, List, [], ◌∷◌, ◌++◌, Option, Some, None}
-use Rattle.std.proofs.Common.{refl, sym, ap, ◌∙◌, append_assoc, append-nil}
+use Rattle.std.proofs.Common.{refl, sym, ap, ap₂, ◌∙◌, append_assoc, append-nil, map, slice_get}
+use Rattle.std.proofs.lemmas.List.{map-append}
 use Rattle.bpaf_doc.specs.declared.doc.Piece.{Piece}
-use Rattle.bpaf_doc.specs.Shape.{Shape, Shapes, Or, Optional, Required, Many, Suffix}
+use Rattle.bpaf_doc.specs.Shape.{Shown, Command, Shape, Shapes, Or, Optional, Required, Many, Suffix}
 use Rattle.bpaf_doc.specs.Shape.{Subsection, CustomUsage, Skip, none, ◌then◌, members}
 use Rattle.bpaf_doc.specs.Shape.{alternatives, shapes_of}
 use Rattle.bpaf_doc.specs.Walks.{parts, parts_of_all}
@@ -12,11 +13,12 @@ use Rattle.bpaf_laws.specs.Default.{DefaultDescribes, OptionalDescribes}
 use Rattle.bpaf_laws.specs.Hide.{SectionDescribes, UsageDescribes, usage_pieces}
 use Rattle.bpaf_laws.specs.Product.{BothDescribes, LastDescribes, ProductDescribes}
 use Rattle.bpaf_laws.specs.Repeat.{ManyDescribes, SomeDescribes}
-use Rattle.bpaf_exact.specs.SameParts.{FieldsShowTheSame, ShowsTheSame}
+use Rattle.bpaf_laws.specs.Command.{Called, CommandDescribes}
+use Rattle.bpaf_exact.specs.SameParts.{bare, shown_parts, FieldsShowTheSame, ShowsTheSame}
 
 -- a parser of one shape
 pub one_shape : (shape : Shape) → ShowsTheSame (λ shown. shown ≡ shape)
-one_shape shape = record { same = λ a b first second. ap parts (first ∙ sym second) }
+one_shape shape = record { same = λ a b first second. ap shown_parts (first ∙ sym second) }
 
 module _ {inner : Shape → Type 0} (inside : ShowsTheSame inner) where
   -- a wrapper whose parts are those inside it
@@ -24,8 +26,9 @@ module _ {inner : Shape → Type 0} (inside : ShowsTheSame inner) where
       → ShowsTheSame (λ shape. (within : Shape) × inner within × (shape ≡ wrap within))
   around wrap as_inside = record {
     same = λ a b first second.
-        ap parts first.2 ∙ (as_inside first.0 ∙ (inside.same first.0 second.0 first.1 second.1
-        ∙ (sym (as_inside second.0) ∙ sym (ap parts second.2))));
+        ap shown_parts first.2 ∙ (ap (map bare) (as_inside first.0)
+        ∙ (inside.same first.0 second.0 first.1 second.1
+        ∙ (sym (ap (map bare) (as_inside second.0)) ∙ sym (ap shown_parts second.2))));
   }
 
   -- what may be left out
@@ -78,15 +81,19 @@ either_parts a b =
     ∙ (ap (λ first. first ++ parts_of_all (members (alternatives b))) (added a)
     ∙ ap (λ second. parts a ++ second) (added b))
 
+-- so it shows what both show
+either_shown : (a b : Shape) → shown_parts (either_shape a b) ≡ shown_parts a ++ shown_parts b
+either_shown a b = ap (map bare) (either_parts a b) ∙ map-append bare (parts a) (parts b)
+
 -- a choice of two
 pub choice_shows : {first second : Shape → Type 0} → ShowsTheSame first → ShowsTheSame second
     → ShowsTheSame (ChoiceDescribes first second)
 choice_shows one other = record {
   same = λ a b shown also.
-      ap parts shown.4 ∙ (either_parts shown.0 shown.1
-      ∙ (ap (λ left. left ++ parts shown.1) (one.same shown.0 also.0 shown.2 also.2)
-      ∙ (ap (λ right. parts also.0 ++ right) (other.same shown.1 also.1 shown.3 also.3)
-      ∙ (sym (either_parts also.0 also.1) ∙ sym (ap parts also.4)))));
+      ap shown_parts shown.4 ∙ (either_shown shown.0 shown.1
+      ∙ (ap₂ (λ left right. left ++ right) (one.same shown.0 also.0 shown.2 also.2)
+      (other.same shown.1 also.1 shown.3 also.3)
+      ∙ (sym (either_shown also.0 also.1) ∙ sym (ap shown_parts also.4))));
 }
 
 module _ {P : Type 0} (describes : P → Shape → Type 0)
@@ -108,9 +115,11 @@ pub last_shows : {last : Shape → Type 0} → ShowsTheSame last
     → FieldsShowTheSame (LastDescribes last)
 last_shows one = record {
   same = λ all others first second.
-      ap (λ shapes. parts_of_all (members shapes)) first.2
-      ∙ (ap (λ own. own ++ []) (one.same first.0 second.0 first.1 second.1)
-      ∙ sym (ap (λ shapes. parts_of_all (members shapes)) second.2));
+      ap (λ shapes. map bare (parts_of_all (members shapes))) first.2
+      ∙ (ap (map bare) (append-nil (parts first.0))
+      ∙ (one.same first.0 second.0 first.1 second.1
+      ∙ (sym (ap (map bare) (append-nil (parts second.0)))
+      ∙ sym (ap (λ shapes. map bare (parts_of_all (members shapes))) second.2))));
 }
 
 -- a field and those after it
@@ -118,10 +127,12 @@ pub both_show : {first : Shape → Type 0} {rest : List Shape → Type 0} → Sh
     → FieldsShowTheSame rest → FieldsShowTheSame (BothDescribes first rest)
 both_show one more = record {
   same = λ all others shown also.
-      ap (λ shapes. parts_of_all (members shapes)) shown.4
-      ∙ (ap (λ own. own ++ parts_of_all (members shown.1)) (one.same shown.0 also.0 shown.2 also.2)
-      ∙ (ap (λ rest. parts also.0 ++ rest) (more.same shown.1 also.1 shown.3 also.3)
-      ∙ sym (ap (λ shapes. parts_of_all (members shapes)) also.4)));
+      ap (λ shapes. map bare (parts_of_all (members shapes))) shown.4
+      ∙ (map-append bare (parts shown.0) (parts_of_all (members shown.1))
+      ∙ (ap₂ (λ own rest. own ++ rest) (one.same shown.0 also.0 shown.2 also.2)
+      (more.same shown.1 also.1 shown.3 also.3)
+      ∙ (sym (map-append bare (parts also.0) (parts_of_all (members also.1)))
+      ∙ sym (ap (λ shapes. map bare (parts_of_all (members shapes))) also.4))));
 }
 
 -- a product
@@ -129,5 +140,17 @@ pub product_shows : {fields : List Shape → Type 0} → FieldsShowTheSame field
     → ShowsTheSame (ProductDescribes fields)
 product_shows all = record {
   same = λ a b first second.
-      ap parts first.2 ∙ (all.same first.0 second.0 first.1 second.1 ∙ sym (ap parts second.2));
+      ap shown_parts first.2
+      ∙ (all.same first.0 second.0 first.1 second.1 ∙ sym (ap shown_parts second.2));
+}
+
+-- a command
+pub command_shows : {inner : Shape → Type 0} → ShowsTheSame inner → (called : Called)
+    → (help : Option (List Piece)) → ShowsTheSame (CommandDescribes called help inner)
+command_shows inside called help = record {
+  same = λ a b first second.
+      ap shown_parts (first.2 ∙ ap (λ part. Shown part) first.1.2)
+      ∙ (ap (λ rest. Command called.name (slice_get called.shorts 0) help Skip ∷ rest)
+      (inside.same first.1.0 second.1.0 first.1.1 second.1.1)
+      ∙ sym (ap shown_parts (second.2 ∙ ap (λ part. Shown part) second.1.2)));
 }

@@ -161,7 +161,7 @@ dressed_says {T} {s} {kind} {said} h = record { by = by_form s h.by }
 -- Choices.
 
 -- of two, into what each says more of
-choice_into : {T : Type 0} (own others : List Names) (kind : FieldKind) (said this that : Said T)
+pub choice_into : {T : Type 0} (own others : List Names) (kind : FieldKind) (said this that : Said T)
     → ((os : List LinePiece) (v : T) → this os v → said os v)
     → ((os : List LinePiece) (v : T) → that os v → said os v)
     → (a b : FlatForm T) → FormSays a ByName this → FormSays b kind that
@@ -192,7 +192,7 @@ choice_into {T} own others kind said this that from_this from_that a b g h =
         (refl, λ o v m. piece q first second g.1 h.1 o v (is_own q o) m)
 
 -- a parser that says so by whichever kind is an alternative or says nothing
-by_name : {T : Type 0} (s : FlatForm T) (kind : FieldKind) (said : Said T) → FormSays s kind said
+pub by_name : {T : Type 0} (s : FlatForm T) (kind : FieldKind) (said : Said T) → FormSays s kind said
     → FormSays (alternative_only s) ByName said
 by_name not_flat kind said h = tt
 by_name (alternative q value) kind said h = (refl, h.1)
@@ -225,44 +225,6 @@ choice_says own others {a} {b} {j} {k} {this} {that} g h = record {
       (choice_into own others k (EitherSays this that) this that (λ os v m. says_this m)
       (λ os v m. says_that m) (alternative_only a) b (by_name a j this g.by) h.by);
 }
-
--- of any number
-module _ {P T : Type 0} (names : P → List Names) (form : P → FlatForm T) (kind : P → FieldKind)
-    (says : P → Said T) (agrees : P → Type 0)
-    (each : (p : P) → agrees p → Says (form p) (kind p) (says p)) where
-  -- of what stands before and of more
-  rest_says : (said : Said T) (own : List Names) (before : FlatForm T) (ps : List P)
-      → FormSays before ByName said → EachAgrees agrees ps
-      → ((p : P) → Contains ps p → (os : List LinePiece) (v : T) → says p os v → said os v)
-      → FormSays (choices_rest names form own before ps) ByName said
-  rest_says said own before [] h agree into = h
-  rest_says said own before (p ∷ ps) h agree into =
-      rest_says said (own ++ names p) (flat_choice own (names p) before (form p)) ps
-      (choice_into own (names p) (kind p) said said (says p) (λ os v m. m)
-      (into p (zero, omega arith, refl)) before (form p) h (each p agree.0).by) agree.1
-      (λ q there. into q (suc there.0, omega arith, there.2))
-
-  -- of all
-  pub choices_says : (ps : List P) → EachAgrees agrees ps
-      → Says (flat_choices names form ps) ByName (OneOfSays says ps)
-  choices_says [] agree = record { by = tt }
-  choices_says (p ∷ ps) agree = record {
-    by = rest_says (OneOfSays says (p ∷ ps)) (names p) (alternative_only (form p)) ps
-        (first (form p) (by_name (form p) (kind p) (says p) (each p agree.0).by)) agree.1
-        (λ q there os v m.
-        record { parser = q; among = (suc there.0, omega arith, there.2); told = m });
-  }
-    where
-      into : (os : List LinePiece) (v : T) → says p os v → OneOfSays says (p ∷ ps) os v
-      into os v m = record { parser = p; among = (zero, omega arith, refl); told = m }
-
-      first : (s : FlatForm T) → FormSays (alternative_only s) ByName (says p)
-          → FormSays (alternative_only s) ByName (OneOfSays says (p ∷ ps))
-      first not_flat h = tt
-      first (alternative q value) h = (refl, λ o v m. into (o ∷ []) v (h.1 o v m))
-      first (single k q group gap) h = tt
-      first (complete k q value) h = tt
-      first (product q fields) h = tt
 
 -- Repeats and defaults.
 
@@ -424,7 +386,7 @@ unless_says false h = h
 -- Products.
 
 -- own items are those with one of these names
-abbrev FormOwns : {T : Type 0} → List Names → FlatForm T → Type 0
+abbrev pub FormOwns : {T : Type 0} → List Names → FlatForm T → Type 0
 FormOwns names (complete k q value) = Owns (keys k q) names
 FormOwns names (product q fields) = Owns q names
 FormOwns names _ = Unit {0}

@@ -28,7 +28,13 @@ use Rattle.bpaf_exact.specs.FlatForm.{flat_many}
 use Rattle.bpaf_exact.specs.FlatForm.{flat_some, flat_count, flat_collect, flat_last}
 use Rattle.bpaf_exact.specs.FlatForm.{flat_optional, flat_fallback, unless}
 use Rattle.bpaf_exact.proofs.Classes.{memory_class, caught_class, kept_class, stops_at, goes_on}
+use Rattle.bpaf_exact.specs.ProgramForm.{ProgramForm, no_program, plain, commands, left_out}
+use Rattle.bpaf_exact.specs.ProgramForm.{before_commands, ProgramFormLaw, ProgramAgrees}
+use Rattle.bpaf_exact.specs.ProgramForm.{program_closed, program_fallback, program_last}
+use Rattle.bpaf_exact.specs.ProgramForm.{program_optional, program_repeat}
 use Rattle.bpaf_exact.proofs.Narrow.{AllowsNoMore, narrower_form}
+use Rattle.bpaf_exact.proofs.ProgramForm.{flat_only_law, narrower_program_form, program_closed_law}
+use Rattle.bpaf_exact.proofs.ProgramForm.{program_never_refuses, program_optional_law}
 use Rattle.bpaf_exact.proofs.FlatForm.{flat_closed_law, never_refuses, flat_listed_law, some_agrees}
 use Rattle.bpaf_exact.proofs.FlatForm.{flat_last_law, flat_optional_law, flat_fallback_law}
 
@@ -43,13 +49,14 @@ map_within A B inner answers = record { within = by_answer }
     by_answer s t (Err e) o = closed_err o
 
 -- keeps to the laws of its form
-pub map_field_law : (A B : Type 0) (inner : Outcome A) (answers : A → B → Type 0)
-    (names : List Names) (s : FlatForm A) → FormLaw inner names s
-    → FormLaw (MapOutcome inner answers) names (flat_closed (map_closure answers) s)
-map_field_law A B inner answers names s l =
-    narrower_form B _ _ (map_within A B inner answers) names _
-    (flat_closed_law A B inner (map_closure answers) names s
-    (never_refuses A B (map_closure answers) (λ x n. n) s) l)
+pub map_law : (A B : Type 0) (inner : Outcome A) (answers : A → B → Type 0) (names : List Names)
+    (words : List (List ℕ)) (s : ProgramForm A) → ProgramFormLaw inner names words s
+    → ProgramFormLaw (MapOutcome inner answers) names words
+    (program_closed (map_closure answers) s)
+map_law A B inner answers names words s l =
+    narrower_program_form B _ _ (map_within A B inner answers) names words _
+    (program_closed_law A B inner (map_closure answers) names words s
+    (program_never_refuses A B (map_closure answers) (λ x n. n) s) l)
 
 -- parse
 parse_within : (A B E : Type 0) (inner : Outcome A) (answers : A → Result B E → Type 0)
@@ -67,14 +74,15 @@ parse_within A B E inner answers shown = record { within = by_answer }
         (λ told. closed_no o.1 (o.2, o.3) (ap class_of told.1)) o.4
 
 -- keeps to the laws of its form
-pub parse_field_law : (A B E : Type 0) (inner : Outcome A) (answers : A → Result B E → Type 0)
-    (shown : E → Option (List ℕ)) (names : List Names) (s : FlatForm A)
-    → Agrees (parse_closure answers) s
-    → FormLaw inner names s
-    → FormLaw (ParseOutcome inner answers shown) names (flat_closed (parse_closure answers) s)
-parse_field_law A B E inner answers shown names s g l =
-    narrower_form B _ _ (parse_within A B E inner answers shown) names _
-    (flat_closed_law A B inner (parse_closure answers) names s g l)
+pub parse_law : (A B E : Type 0) (inner : Outcome A) (answers : A → Result B E → Type 0)
+    (shown : E → Option (List ℕ)) (names : List Names) (words : List (List ℕ))
+    (s : ProgramForm A) → ProgramAgrees (parse_closure answers) s
+    → ProgramFormLaw inner names words s
+    → ProgramFormLaw (ParseOutcome inner answers shown) names words
+    (program_closed (parse_closure answers) s)
+parse_law A B E inner answers shown names words s g l =
+    narrower_program_form B _ _ (parse_within A B E inner answers shown) names words _
+    (program_closed_law A B inner (parse_closure answers) names words s g l)
 
 -- guard
 guard_within : (A : Type 0) (inner : Outcome A) (checks : A → Bool → Type 0) (message : List ℕ)
@@ -91,13 +99,14 @@ guard_within A inner checks message = record { within = by_answer }
         (λ memory. closed_memory o.1 (ap class_of memory)) o.3
 
 -- keeps to the laws of its form
-pub guard_field_law : (A : Type 0) (inner : Outcome A) (checks : A → Bool → Type 0)
-    (message : List ℕ) (names : List Names) (s : FlatForm A) → Agrees (guard_closure checks) s
-    → FormLaw inner names s
-    → FormLaw (GuardOutcome inner checks message) names (flat_closed (guard_closure checks) s)
-guard_field_law A inner checks message names s g l =
-    narrower_form A _ _ (guard_within A inner checks message) names _
-    (flat_closed_law A A inner (guard_closure checks) names s g l)
+pub guard_law : (A : Type 0) (inner : Outcome A) (checks : A → Bool → Type 0)
+    (message : List ℕ) (names : List Names) (words : List (List ℕ)) (s : ProgramForm A)
+    → ProgramAgrees (guard_closure checks) s → ProgramFormLaw inner names words s
+    → ProgramFormLaw (GuardOutcome inner checks message) names words
+    (program_closed (guard_closure checks) s)
+guard_law A inner checks message names words s g l =
+    narrower_program_form A _ _ (guard_within A inner checks message) names words _
+    (program_closed_law A A inner (guard_closure checks) names words s g l)
 
 -- optional
 optional_within : (T : Type 0) (inner : Outcome T)
@@ -115,13 +124,21 @@ optional_within T inner = record { within = by_answer }
     by_answer s t (Err e) (inr o) = optional_memory (memory_class e.0 o.0)
 
 -- keeps to the laws of its form
-pub optional_field_law : (T : Type 0) (inner : Outcome T) (catch : Bool) (names : List Names)
-    (s : FlatForm T) → FormLaw inner names s
-    → FormLaw (TurnOutcome inner catch true) names (unless catch (flat_optional s))
-optional_field_law T inner true names s l = tt
-optional_field_law T inner false names s l =
-    narrower_form (Option T) _ _ (optional_within T inner) names _
-    (flat_optional_law T inner names s l)
+pub optional_law : (T : Type 0) (inner : Outcome T) (catch : Bool) (names : List Names)
+    (words : List (List ℕ)) (s : ProgramForm T) → ProgramFormLaw inner names words s
+    → ProgramFormLaw (TurnOutcome inner catch true) names [] (program_optional catch s)
+optional_law T inner catch names words no_program l = tt
+optional_law T inner true names words (plain s) l = tt
+optional_law T inner true names words (commands r value) l = tt
+optional_law T inner false names words (plain s) l =
+    narrower_program_form (Option T) _ _ (optional_within T inner) names []
+    (program_optional false (plain s)) (program_optional_law T inner names words (plain s) l)
+optional_law T inner false names words (commands r value) l =
+    narrower_program_form (Option T) _ _ (optional_within T inner) names []
+    (program_optional false (commands r value))
+    (program_optional_law T inner names words (commands r value) l)
+optional_law T inner catch names words (left_out r value) l = tt
+optional_law T inner catch names words (before_commands r value) l = tt
 
 -- Repeats.
 
@@ -149,6 +166,14 @@ many_field_law T inner false names s l =
     (flat_listed_law T (Vec T) inner false (list_closure T) Refused names s
     (never_refuses (List T) (Vec T) (list_closure T) (λ x n. n) (flat_repeat s)) l)
 
+-- so over any form
+pub many_law : (T : Type 0) (inner : Outcome T) (catch : Bool) (names : List Names)
+    (words : List (List ℕ)) (s : ProgramForm T) → ProgramFormLaw inner names words s
+    → ProgramFormLaw (ManyOutcome inner catch) names [] (program_repeat catch (list_closure T) s)
+many_law T inner catch names words s l =
+    flat_only_law inner (ManyOutcome inner catch) names words []
+    (λ s. unless catch (flat_many s)) (λ s. many_field_law T inner catch names s) s l
+
 -- some
 not_nil : (T : Type 0) (values : List T) → is_nil values ≡ false → values ≡ [] → ⊥
 not_nil T values e f = true≢false (sym (ap is_nil f) ∙ e)
@@ -171,7 +196,7 @@ some_within T inner message = record { within = by_answer }
         (λ memory. closed_memory o.0 (ap class_of memory)) o.1
 
 -- keeps to the laws of its form
-pub some_field_law : (T : Type 0) (inner : Outcome T) (catch : Bool) (message : List ℕ)
+some_field_law : (T : Type 0) (inner : Outcome T) (catch : Bool) (message : List ℕ)
     (names : List Names) (s : FlatForm T) → FormLaw inner names s
     → FormLaw (SomeOutcome inner catch message) names (unless catch (flat_some s))
 some_field_law T inner true message names s l = tt
@@ -179,6 +204,16 @@ some_field_law T inner false message names s l =
     narrower_form (Vec T) _ _ (some_within T inner message) names _
     (flat_listed_law T (Vec T) inner false (some_closure T) Caught names s
     (some_agrees T inner names s l) l)
+
+-- so over any form
+pub some_law : (T : Type 0) (inner : Outcome T) (catch : Bool) (message : List ℕ)
+    (names : List Names) (words : List (List ℕ)) (s : ProgramForm T)
+    → ProgramFormLaw inner names words s
+    → ProgramFormLaw (SomeOutcome inner catch message) names []
+    (program_repeat catch (some_closure T) s)
+some_law T inner catch message names words s l =
+    flat_only_law inner (SomeOutcome inner catch message) names words []
+    (λ s. unless catch (flat_some s)) (λ s. some_field_law T inner catch message names s) s l
 
 -- collect
 collect_within : (T C : Type 0) (inner : Outcome T) (fills : List T → C → Type 0)
@@ -197,7 +232,7 @@ collect_within T C inner fills = record { within = by_answer }
         closed_memory o.1 (memory_class e.0 o.2)
 
 -- keeps to the laws of its form
-pub collect_field_law : (T C : Type 0) (inner : Outcome T) (catch : Bool)
+collect_field_law : (T C : Type 0) (inner : Outcome T) (catch : Bool)
     (fills : List T → C → Type 0) (names : List Names) (s : FlatForm T) → FormLaw inner names s
     → FormLaw (CollectOutcome inner catch fills) names (unless catch (flat_collect fills s))
 collect_field_law T C inner true fills names s l = tt
@@ -205,6 +240,17 @@ collect_field_law T C inner false fills names s l =
     narrower_form C _ _ (collect_within T C inner fills) names _
     (flat_listed_law T C inner false (collect_closure fills) Refused names s
     (never_refuses (List T) C (collect_closure fills) (λ x n. n) (flat_repeat s)) l)
+
+-- so over any form
+pub collect_law : (T C : Type 0) (inner : Outcome T) (catch : Bool) (fills : List T → C → Type 0)
+    (names : List Names) (words : List (List ℕ)) (s : ProgramForm T)
+    → ProgramFormLaw inner names words s
+    → ProgramFormLaw (CollectOutcome inner catch fills) names []
+    (program_repeat catch (collect_closure fills) s)
+collect_law T C inner catch fills names words s l =
+    flat_only_law inner (CollectOutcome inner catch fills) names words []
+    (λ s. unless catch (flat_collect fills s))
+    (λ s. collect_field_law T C inner catch fills names s) s l
 
 -- count
 count_within : (T : Type 0) (inner : Outcome T)
@@ -218,17 +264,28 @@ count_within T inner = record { within = by_answer }
     by_answer s t (Err e) o = closed_err o
 
 -- keeps to the laws of its form
-pub count_field_law : (T : Type 0) (inner : Outcome T) (names : List Names) (s : FlatForm T)
+count_field_law : (T : Type 0) (inner : Outcome T) (names : List Names) (s : FlatForm T)
     → FormLaw inner names s → FormLaw (CountOutcome inner) names (flat_count s)
 count_field_law T inner names s l =
     narrower_form ℕ _ _ (count_within T inner) names _
     (flat_listed_law T ℕ inner true (count_closure T) Refused names s
     (never_refuses (List T) ℕ (count_closure T) (λ x n. n) (flat_repeat s)) l)
 
+-- so over any form
+pub count_law : (T : Type 0) (inner : Outcome T) (names : List Names) (words : List (List ℕ))
+    (s : ProgramForm T) → ProgramFormLaw inner names words s
+    → ProgramFormLaw (CountOutcome inner) names [] (program_repeat false (count_closure T) s)
+count_law T inner names words s l =
+    flat_only_law inner (CountOutcome inner) names words [] (λ s. flat_count s)
+    (λ s. count_field_law T inner names s) s l
+
 -- last keeps to the laws of its form
-pub last_field_law : (T : Type 0) (inner : Outcome T) (names : List Names) (s : FlatForm T)
-    → FormLaw inner names s → FormLaw (LastOutcome inner) names (flat_last s)
-last_field_law T inner names s l = flat_last_law T inner names s l
+pub last_law : (T : Type 0) (inner : Outcome T) (names : List Names) (words : List (List ℕ))
+    (s : ProgramForm T) → ProgramFormLaw inner names words s
+    → ProgramFormLaw (LastOutcome inner) names [] (program_last s)
+last_law T inner names words s l =
+    flat_only_law inner (LastOutcome inner) names words [] (λ s. flat_last s)
+    (λ s. flat_last_law T inner names s) s l
 
 -- Defaults.
 
@@ -267,7 +324,7 @@ fallback_within T inner gives f given = record { within = by_answer }
         (given.no e o.1))
 
 -- a kept value
-pub fallback_field_law : (T : Type 0) (inner : Outcome T) (clones : T → T → Type 0) (kept : T)
+fallback_field_law : (T : Type 0) (inner : Outcome T) (clones : T → T → Type 0) (kept : T)
     (names : List Names) (s : FlatForm T) → FormLaw inner names s
     → FormLaw (FallbackOutcome inner (GivesClone clones kept)) names
     (flat_fallback (kept_closure (clones kept)) s)
@@ -277,8 +334,19 @@ fallback_field_law T inner clones kept names s l =
     (record { yes = λ v g. g; no = λ e g. inl (memory_class e.0 g) })) names _
     (flat_fallback_law T inner (kept_closure (clones kept)) (λ u v y n. n) names s l)
 
+-- so over any form
+pub fallback_law : (T : Type 0) (inner : Outcome T) (clones : T → T → Type 0) (kept : T)
+    (names : List Names) (words : List (List ℕ)) (s : ProgramForm T)
+    → ProgramFormLaw inner names words s
+    → ProgramFormLaw (FallbackOutcome inner (GivesClone clones kept)) names []
+    (program_fallback (kept_closure (clones kept)) s)
+fallback_law T inner clones kept names words s l =
+    flat_only_law inner (FallbackOutcome inner (GivesClone clones kept)) names words []
+    (λ s. flat_fallback (kept_closure (clones kept)) s)
+    (λ s. fallback_field_law T inner clones kept names s) s l
+
 -- a closure's value
-pub fallback_with_field_law : (T E : Type 0) (inner : Outcome T) (answers : Result T E → Type 0)
+fallback_with_field_law : (T E : Type 0) (inner : Outcome T) (answers : Result T E → Type 0)
     (shown : E → Option (List ℕ)) (names : List Names) (s : FlatForm T)
     → Decides (answer_closure answers)
     → FormLaw inner names s
@@ -292,3 +360,14 @@ fallback_with_field_law T E inner answers shown names s decides l =
           (λ told. inr ((g.0, g.1), ap class_of told.1)) g.2;
     })) names _
     (flat_fallback_law T inner (answer_closure answers) decides names s l)
+
+-- so over any form
+pub fallback_with_law : (T E : Type 0) (inner : Outcome T) (answers : Result T E → Type 0)
+    (shown : E → Option (List ℕ)) (names : List Names) (words : List (List ℕ))
+    (s : ProgramForm T) → Decides (answer_closure answers) → ProgramFormLaw inner names words s
+    → ProgramFormLaw (FallbackOutcome inner (GivesAnswer answers shown)) names []
+    (program_fallback (answer_closure answers) s)
+fallback_with_law T E inner answers shown names words s decides l =
+    flat_only_law inner (FallbackOutcome inner (GivesAnswer answers shown)) names words []
+    (λ s. flat_fallback (answer_closure answers) s)
+    (λ s. fallback_with_field_law T E inner answers shown names s decides) s l

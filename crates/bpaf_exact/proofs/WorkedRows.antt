@@ -28,15 +28,15 @@ use Rattle.bpaf_exact.proofs.Surplus.{surplus_word}
 use Rattle.bpaf_exact.proofs.Cuts.{one_cut}
 
 -- a line without `--`
-abbrev line_of : List Arg → Context
+abbrev pub line_of : List Arg → Context
 line_of items = record { line = items; marker = None; env = []; name = None }
 
 -- a key of one short name
-abbrev short : ℕ → Names
+abbrev pub short : ℕ → Names
 short c = record { shorts = c ∷ []; longs = [] }
 
 -- this value alone
-abbrev exactly : {T : Type 0} → T → T → Type 0
+abbrev pub exactly : {T : Type 0} → T → T → Type 0
 exactly x v = v ≡ x
 
 -- the text of one character means its number
@@ -44,11 +44,11 @@ abbrev number : List ℕ → ℕ → Type 0
 number text n = text ≡ n ∷ []
 
 -- a text means itself
-abbrev itself : List ℕ → List ℕ → Type 0
+abbrev pub itself : List ℕ → List ℕ → Type 0
 itself text v = v ≡ text
 
 -- the items of the switch `-v`
-abbrev v_roles : Roles
+abbrev pub v_roles : Roles
 v_roles = flag_roles (short 118)
 
 -- those of the argument `-n`
@@ -73,7 +73,7 @@ abbrev TextValue : List LinePiece → List ℕ → Type 0
 TextValue = SingleValue (List ℕ) (FrontOf (List ℕ) (WordValue itself)) (no_gap (List ℕ))
 
 -- the key `-v`
-abbrev v_key : Arg
+abbrev pub v_key : Arg
 v_key = Short 118 false []
 
 -- the key `-n`
@@ -81,7 +81,7 @@ abbrev n_key : Arg
 n_key = Short 110 true []
 
 -- a word of one character
-abbrev letter : ℕ → Arg
+abbrev pub letter : ℕ → Arg
 letter c = Word (c ∷ [])
 
 -- the items of the switch, the argument and a word
@@ -97,7 +97,7 @@ ThreeValue =
     (BothValue ByName n_roles NumberValue (LastValue (List ℕ) OneWord word_roles TextValue))
 
 -- a piece alone, and its value
-one_front : {T : Type 0} (value : LinePiece → T → Type 0) (o : LinePiece) (v : T) → value o v
+pub one_front : {T : Type 0} (value : LinePiece → T → Type 0) (o : LinePiece) (v : T) → value o v
     → FrontOf T value (o ∷ []) v []
 one_front value o v h = record { piece = o; is = refl; means = h }
 

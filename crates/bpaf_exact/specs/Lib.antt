@@ -9,7 +9,10 @@ pub mod Derived
 pub mod FlatForm
 pub mod Leaves
 pub mod Theorem
+pub mod Programs
+pub mod ProgramForm
 pub mod SameParts
 pub mod OneView
 pub mod Accepted
 pub mod Says
+pub mod ProgramSays

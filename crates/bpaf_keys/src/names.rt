@@ -88,6 +88,20 @@ impl CommandNames {
         self.name.as_str()
     }
 
+    /// The hidden long names, in the order in which they were given.
+    pub fn longs(&self) -> &[Text]
+        ensures { result.now ≡ self.now.longs }
+    {
+        &self.longs
+    }
+
+    /// The short names, in the order in which they were given.
+    pub fn shorts(&self) -> &[char]
+        ensures { result.now ≡ self.now.shorts }
+    {
+        &self.shorts
+    }
+
     /// The first short name, which is shown.
     pub fn first_short(&self) -> Option<char>
         ensures { result ≡ slice_get self.now.shorts 0 }

@@ -6,7 +6,7 @@ ghost use Rattle.bpaf_program.specs.Ending.{Ends};
 
 use crate::ending::end;
 use bpaf::{Args, OptionParser, ParseFailure, Parser};
-use bpaf_record::Record;
+use bpaf_record::{CommandLine, Record};
 use std::io::Write;
 
 /// Options that a program runs over its words.
@@ -79,4 +79,30 @@ pub fn run_record<T: Drop, R: Record<T>, W: Write, E: Write>(
         (W.contents out.old) (W.contents out.new) (E.contents err.old) (E.contents err.new) result }
 {
     end(options.run_record(args), out, err)
+}
+
+/// The value that the words give a program with commands, as [`Program::run`], and exactly.
+///
+/// Where the program has a value on the words' line, only want of memory keeps a value from coming:
+/// the status is 1, and on `err` stands `Error: out of memory`, or a beginning of that where a write
+/// failed.
+///
+/// ```text
+/// let options = run_program(&options, Args::from(words), out, err)?;
+/// ```
+pub fn run_program<T: Drop, R: CommandLine<T>, W: Write, E: Write>(
+    options: &R,
+    args: Args<'_>,
+    out: &mut W,
+    err: &mut E,
+) -> Result<T, u8>
+    requires can { R.can_run options.now }
+    requires program { R.is_whole options.now ≡ true }
+    ensures { Ends (λ r. R.answers options.now (given_of args.entry) r
+        × (IfErr r (R.refuses options.now (given_of args.entry))
+        × (IfOk r (R.deals options.now (given_of args.entry))
+        × (R.agrees options.now → R.answers_as_program options.now (given_of args.entry) r))))
+        (W.contents out.old) (W.contents out.new) (E.contents err.old) (E.contents err.new) result }
+{
+    end(options.run_program(args), out, err)
 }

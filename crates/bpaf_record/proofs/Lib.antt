@@ -1,7 +1,10 @@
 pub mod Forms
 pub mod Products
+pub mod Parts
 pub mod OneLine
 pub mod Running
+pub mod SpelledItems
+pub mod Programs
 pub mod Spelled
 pub mod OwnWords
 pub mod Answered

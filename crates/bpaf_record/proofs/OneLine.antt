@@ -1,8 +1,9 @@
 -- The words of a flat record have one line, since it shows the same parts each time.
 use Rattle.std.proofs.Common.{◌≡◌, ℕ, [], ◌++◌, All, IsUtf8, List, Option, ⊎_elim, refl, sym, ap}
-use Rattle.std.proofs.Common.{subst, ◌∙◌}
-use Rattle.bpaf_doc.specs.Shape.{Part, Shape}
-use Rattle.bpaf_doc.specs.Walks.{shorts_of_arguments, shorts_of_flags}
+use Rattle.std.proofs.Common.{subst, ◌∙◌, ◌∷◌, ap₂, map}
+use Rattle.bpaf_doc.specs.Shape.{Part, Any, Positional, Command, Flag, Argument, Shape}
+use Rattle.bpaf_doc.specs.Walks.{parts, shorts_of_argument, shorts_of_arguments, shorts_of_flag}
+use Rattle.bpaf_doc.specs.Walks.{shorts_of_flags}
 use Rattle.bpaf_items.specs.declared.arg.Arg.{Arg}
 use Rattle.bpaf_words.specs.Arguments.{Given}
 use Rattle.bpaf_words.specs.Line.{HasNoLine}
@@ -12,7 +13,7 @@ use Rattle.bpaf_line.specs.Constructing.{IsContext}
 use Rattle.bpaf_line.specs.Situation.{Context}
 use Rattle.bpaf.specs.Info.{RunInfo}
 use Rattle.bpaf.specs.Known.{IsLineContext, known_names}
-use Rattle.bpaf_exact.specs.SameParts.{ShowsTheSame}
+use Rattle.bpaf_exact.specs.SameParts.{bare, ShowsTheSame}
 
 -- contexts of the same line, marker, environment and name are one
 same_fields : (l m : List Arg) (p q : Option ℕ) (e f : List (List ℕ × List ℕ))
@@ -20,6 +21,31 @@ same_fields : (l m : List Arg) (p q : Option ℕ) (e f : List (List ℕ × List 
     → a ≡ record { line = l; marker = p; env = e; name = n }
     → b ≡ record { line = m; marker = q; env = f; name = o } → a ≡ b
 same_fields l m p q e f n o lines markers envs names a b is also = cc
+
+-- what stands inside a command is none of its own names
+flags_bare : (shown : List Part) → shorts_of_flags (map bare shown) ≡ shorts_of_flags shown
+flags_bare [] = refl
+flags_bare (part ∷ shown) = ap₂ (λ own more. own ++ more) (of_part part) (flags_bare shown)
+  where
+    of_part : (part : Part) → shorts_of_flag (bare part) ≡ shorts_of_flag part
+    of_part (Any metavar help anywhere) = refl
+    of_part (Positional metavar help) = refl
+    of_part (Command name short help inner) = refl
+    of_part (Flag name shorts env help) = refl
+    of_part (Argument name shorts metavar env help) = refl
+
+-- nor of arguments
+arguments_bare : (shown : List Part)
+    → shorts_of_arguments (map bare shown) ≡ shorts_of_arguments shown
+arguments_bare [] = refl
+arguments_bare (part ∷ shown) = ap₂ (λ own more. own ++ more) (of_part part) (arguments_bare shown)
+  where
+    of_part : (part : Part) → shorts_of_argument (bare part) ≡ shorts_of_argument part
+    of_part (Any metavar help anywhere) = refl
+    of_part (Positional metavar help) = refl
+    of_part (Command name short help inner) = refl
+    of_part (Flag name shorts env help) = refl
+    of_part (Argument name shorts metavar env help) = refl
 
 module _ (given : Given) (texts : All IsUtf8 given.words) where
   -- by the same names words have one context
@@ -39,9 +65,18 @@ module _ (given : Given) (texts : All IsUtf8 given.words) where
       arguments = shorts_of_arguments shown;
     })
 
+    -- those of what stands inside a command are parts by themselves
+    names_bare : (shown : List Part) → names_of (map bare shown) ≡ names_of shown
+    names_bare shown = ap₂ (λ flags arguments. known_at info.numbers (record {
+      flags = flags ++ info.help_arg.names.shorts ++ info.version_arg.names.shorts;
+      arguments = arguments;
+    })) (flags_bare shown) (arguments_bare shown)
+
     -- whichever shape is shown, the known names are the same
     same_names : (a b : Shape) → describes a → describes b → known_names info a ≡ known_names info b
-    same_names a b first second = ap names_of (shows.same a b first second)
+    same_names a b first second =
+        sym (names_bare (parts a)) ∙ (ap names_of (shows.same a b first second)
+        ∙ names_bare (parts b))
 
     -- words have one context
     pub one_context : (a b : Context) → IsLineContext describes info given a

@@ -17,7 +17,7 @@ use Rattle.bpaf_exact.specs.FlatForm.{flat_choices, flat_field, flat_both, flat_
 use Rattle.bpaf_exact.specs.Wrappers.{Closure}
 use Rattle.bpaf_record.specs.declared.form.Form.{Form}
 use Rattle.bpaf_record.specs.Form.{form_of, product_if, field_form, alternative_form, joined_form}
-use Rattle.bpaf_record.specs.Form.{alone_form, before_form, made_form, forms_rest}
+use Rattle.bpaf_record.specs.Form.{alone_form, before_form, made_form}
 
 -- a test of the keys of two
 pub all_joined : {X : Type 0} (test : X → Bool) (xs ys : List X)
@@ -51,7 +51,7 @@ con_is f (complete EachWord q value) = refl
 con_is f (product q fields) = refl
 
 -- a choice of one alone
-only_is : {T : Type 0} (s : FlatForm T)
+pub only_is : {T : Type 0} (s : FlatForm T)
     → alternative_form (form_of s) ≡ form_of (alternative_only s)
 only_is not_flat = refl
 only_is (alternative q value) = refl
@@ -177,57 +177,3 @@ both_is own others (complete EachWord q value) (complete EachWord r other) = ref
 both_is own [] (complete EachWord q value) (product r other) = refl
 both_is own (names ∷ others) (complete EachWord q value) (product r other) = refl
 both_is own others (product q fields) t = refl
-
--- a choice of what stands before and of parsers
-rest_is : {P T : Type 0} (keys : P → List Names) (flat_form : P → FlatForm T) (own : List Names)
-    (s : FlatForm T) (ps : List P)
-    → forms_rest keys (λ p. form_of (flat_form p)) own (form_of s) ps
-    ≡ form_of (choices_rest keys flat_form own s ps)
-rest_is keys flat_form own s [] = refl
-rest_is keys flat_form own s (p ∷ ps) =
-    ap (λ form. forms_rest keys (λ q. form_of (flat_form q)) (own ++ keys p) form ps)
-    (choice_is own (keys p) s (flat_form p))
-    ∙ rest_is keys flat_form (own ++ keys p) (flat_choice own (keys p) s (flat_form p)) ps
-
--- the keys of one parser more
-keys_more : {P : Type 0} (keys : P → List Names) (ps : List P) (i : ℕ) (d : P) → i < length ps
-    → flat_map keys (take (i + 1) ps) ≡ flat_map keys (take i ps) ++ keys (slice_index_or ps i d)
-keys_more keys ps i d l =
-    ap (flat_map keys) (take_more ps i d l)
-    ∙ (flat_map-append keys (take i ps) (slice_index_or ps i d ∷ [])
-    ∙ ap (λ names. flat_map keys (take i ps) ++ names) (append-nil (keys (slice_index_or ps i d))))
-
--- one parser more is joined
-pub join_step : {P : Type 0} (keys : P → List Names) (form : P → Form) (f : Form) (ps : List P)
-    (i : ℕ) (d : P) → i < length ps
-    → forms_rest keys form (flat_map keys (take (i + 1) ps))
-    (joined_form (are_all_apart (flat_map keys (take i ps)) (keys (slice_index_or ps i d))) f
-    (form (slice_index_or ps i d))) (drop (i + 1) ps)
-    ≡ forms_rest keys form (flat_map keys (take i ps)) f (drop i ps)
-join_step keys form f ps i d l =
-    ap (λ names. forms_rest keys form names
-    (joined_form (are_all_apart (flat_map keys (take i ps)) (keys (slice_index_or ps i d))) f
-    (form (slice_index_or ps i d))) (drop (i + 1) ps)) (keys_more keys ps i d l)
-    ∙ sym (ap (forms_rest keys form (flat_map keys (take i ps)) f) (drop_more ps i d l))
-
--- when all are joined
-pub join_end : {P : Type 0} (keys : P → List Names) (form : P → Form) (f : Form) (ps : List P)
-    (i : ℕ) → length ps ≤ i
-    → forms_rest keys form (flat_map keys (take i ps)) f (drop i ps) ≡ f
-join_end keys form f ps i l =
-    ap (forms_rest keys form (flat_map keys (take i ps)) f) (drop_all i ps l)
-
--- the choice of all parsers
-pub choices_is : {P T : Type 0} (keys : P → List Names) (flat_form : P → FlatForm T)
-    (ps : List P) (d : P)
-    → 1 ≤ length ps
-    → forms_rest keys (λ p. form_of (flat_form p)) (flat_map keys (take 1 ps))
-    (alternative_form (form_of (flat_form (slice_index_or ps 0 d)))) (drop 1 ps)
-    ≡ form_of (flat_choices keys flat_form ps)
-choices_is keys flat_form [] d l = absurd (omega arith)
-choices_is keys flat_form (p ∷ ps) d l =
-    ap (λ names. forms_rest keys (λ q. form_of (flat_form q)) names
-    (alternative_form (form_of (flat_form p))) ps) (append-nil (keys p))
-    ∙ (ap (λ form. forms_rest keys (λ q. form_of (flat_form q)) (keys p) form ps)
-    (only_is (flat_form p))
-    ∙ rest_is keys flat_form (keys p) (alternative_only (flat_form p)) ps)

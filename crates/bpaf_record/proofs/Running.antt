@@ -9,10 +9,7 @@ use Rattle.bpaf_line.specs.declared.error.Error.{Error}
 use Rattle.bpaf_line.specs.declared.error.Message.{Message}
 use Rattle.bpaf_line.specs.declared.failure.ParseFailure.{ParseFailure}
 use Rattle.bpaf_line.specs.declared.failure.ParseFailure.TheVariants as failure
-use Rattle.bpaf.specs.Leftover.{IsLeftover, conflict, only_once, not_expected}
-use Rattle.bpaf_line.specs.Situation.{Context, Situation, beginning, is_open, open_count}
-use Rattle.bpaf_line.proofs.Counts.{count_below-some}
-use Rattle.bpaf_line.proofs.Places.{open_in_line}
+use Rattle.bpaf_line.specs.Situation.{Context, Situation, beginning}
 use Rattle.bpaf_laws.specs.Reading.{Outcome}
 use Rattle.bpaf.specs.Ending.{EndsRun, memory, usage, passed_on, refused as told_refusal}
 use Rattle.bpaf.specs.Ending.{leftover as told_leftover}
@@ -37,19 +34,8 @@ use Rattle.bpaf_exact.specs.Says.{Said, Says}
 use Rattle.bpaf_record.specs.Record.{is_flat_record, answer_of, AnswersExactly, RunsWordsExactly}
 use Rattle.bpaf_record.specs.Record.{IsValueOf, IsValueOrWant, HasWholeLine, PiecesOf}
 use Rattle.bpaf_record.specs.Record.{SaysOfWords}
+use Rattle.bpaf_record.specs.Commands.{left_over}
 use Rattle.bpaf_record.proofs.OneLine.{never_without, one_context}
-
--- an open place is counted
-open_counted : (s : Situation) (p : ℕ) → is_open s p ≡ true → open_count s ≡ 0 → ⊥
-open_counted s p there none =
-    let some = count_below-some (is_open s) _ p (open_in_line s p there) there in
-    omega arith
-
--- where something is told of what is left something is
-left_over : (s : Situation) (m : Message) → IsLeftover s m → open_count s ≡ 0 → ⊥
-left_over s m (conflict p winner next is) = open_counted s p next.present
-left_over s m (only_once p earlier next is key) = open_counted s p next.present
-left_over s m (not_expected p next is key) = open_counted s p next.present
 
 -- what a run answers that gives no value is none
 no_value : (T : Type 0) (f : ParseFailure) → IsNoValue (answer_of {T = T} (Err f))
@@ -76,7 +62,7 @@ module _ (T : Type 0) (outcome : Outcome T) (describes : Shape → Type 0) (info
       run_refusal o (not_memory e.0 spared) (no_value T f)
 
   -- a run from its beginning
-  run_ran : (s t : Situation) (r : Result T ParseFailure)
+  pub run_ran : (s t : Situation) (r : Result T ParseFailure)
       → Runs T outcome (EndsRun describes info) s r t → RunRan T outcome s (answer_of r)
   run_ran s t r (value v after o none) = run_value o none
   run_ran s t r (leftover v left f after o ends) = leftover_ran s left after v f o ends

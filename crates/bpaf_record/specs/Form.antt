@@ -1,8 +1,6 @@
 -- What a parser is to a flat record, as the program tells it.
-use Rattle.std.specs.Prelude.{Bool, true, false, List, [], ◌∷◌, ◌++◌}
-use Rattle.bpaf_doc.specs.Names.{Names}
+use Rattle.std.specs.Prelude.{Bool, true, false}
 use Rattle.bpaf_exact.specs.Flat.{FieldKind, ByName, OneWord, EachWord}
-use Rattle.bpaf_exact.specs.Names.{are_all_apart}
 use Rattle.bpaf_exact.specs.FlatForm.{FlatForm, not_flat, alternative, single, complete, product}
 use Rattle.bpaf_record.specs.declared.form.Form.{Form}
 use Rattle.bpaf_record.specs.declared.form.Form.TheVariants.{NotFlat, Alternative, Named, Word}
@@ -90,11 +88,3 @@ made_form _ = NotFlat
 abbrev pub is_record_form : Form → Bool
 is_record_form NotFlat = false
 is_record_form _ = true
-
--- the choice of what stands before and of parsers, by their keys and forms
-abbrev pub forms_rest : {P : Type 0} → (P → List Names) → (P → Form) → List Names → Form → List P
-    → Form
-forms_rest keys form own before [] = before
-forms_rest keys form own before (p ∷ ps) =
-    forms_rest keys form (own ++ keys p)
-    (joined_form (are_all_apart own (keys p)) before (form p)) ps

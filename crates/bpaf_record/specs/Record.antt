@@ -20,12 +20,15 @@ use Rattle.bpaf_exact.specs.FlatForm.{FlatForm, is_record, product_roles, produc
 use Rattle.bpaf_exact.specs.FlatForm.{flat_record}
 use Rattle.bpaf_exact.specs.Says.{Said}
 
+-- none of these keys shares a name with those of help and version
+abbrev pub are_unusual : List Names → RunInfo → Bool
+are_unusual keys info =
+    list_all (are_apart info.help_arg.names) keys
+    && list_all (are_apart info.version_arg.names) keys
+
 -- a flat record none of whose keys shares a name with those of help and version
 abbrev pub is_flat_record : {T : Type 0} → FlatForm T → List Names → RunInfo → Bool
-is_flat_record form keys info =
-    is_record form
-    && (list_all (are_apart info.help_arg.names) keys
-    && list_all (are_apart info.version_arg.names) keys)
+is_flat_record form keys info = is_record form && are_unusual keys info
 
 -- the answer of a run, as exactness sees it: a text that was asked for is no value
 abbrev pub answer_of : {T : Type 0} → Result T ParseFailure → RunAnswer T

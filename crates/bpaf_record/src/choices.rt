@@ -1,43 +1,53 @@
-//! Choices as fields of a flat record.
-ghost use Rattle.std.specs.Prelude.{◌≡◌, ◌≤◌, length, take, drop, flat_map};
+//! Choices of fields, and of commands.
+ghost use Rattle.std.specs.Prelude.{◌≡◌, ◌≤◌, length, take, drop, flat_map, true};
 ghost use Rattle.std.specs.List.{list_all};
-ghost use Rattle.bpaf_exact.specs.FlatForm.{flat_choices};
-ghost use Rattle.bpaf_record.specs.Form.{form_of, forms_rest};
+ghost use Rattle.bpaf_exact.specs.ProgramForm.{program_choices};
+ghost use Rattle.bpaf_record.specs.Part.{part_of, parts_rest};
 
-use crate::field::FlatField;
-use crate::form::Form;
+use crate::field::{FlatField, ProgramField};
 use crate::keys::{ApartFromField, KeyTest};
+use crate::part::ProgramPart;
+use crate::words::{NoWordOf, WordTest};
 use bpaf::parsers::{ParseChoice, ParseOrElse};
 use std::marker::PhantomData;
 
-/// Of required flags and arguments alone, whose names are apart.
-impl<T: Drop, A: FlatField<T>, B: FlatField<T>> FlatField<T> for ParseOrElse<A, B> {
+/// Of required flags and arguments alone, whose names are apart; or of commands alone, whose words
+/// are.
+impl<T: Drop, A: ProgramField<T>, B: ProgramField<T>> ProgramField<T> for ParseOrElse<A, B> {
     ghost use Rattle.std.specs.Prelude.{◌++◌};
     ghost use Rattle.bpaf_exact.specs.Flat.{ByName};
-    ghost use Rattle.bpaf_exact.specs.Says.{EitherSays};
-    ghost use Rattle.bpaf_exact.proofs.Says.{choice_says};
-    ghost use Rattle.bpaf_exact.specs.FlatForm.{flat_choice};
-    ghost use Rattle.bpaf_exact.proofs.FlatForm.{flat_choice_law};
+    ghost use Rattle.bpaf_exact.specs.ProgramForm.{program_choice};
+    ghost use Rattle.bpaf_exact.specs.ProgramSays.{said_choice};
+    ghost use Rattle.bpaf_exact.proofs.ProgramForm.{program_choice_law};
+    ghost use Rattle.bpaf_exact.proofs.ProgramSays.{program_choice_says};
     ghost use Rattle.bpaf_exact.proofs.SameParts.{choice_shows};
 
-    ghost keys = { λ p. A.keys p.this ++ B.keys p.that };
+    ghost keys = { λ p deep. A.keys p.this deep ++ B.keys p.that deep };
 
-    ghost flat_form = { λ p.
-        flat_choice (A.keys p.this) (B.keys p.that) (A.flat_form p.this) (B.flat_form p.that) };
+    ghost words = { λ p. A.words p.this ++ B.words p.that };
+
+    ghost program_form = { λ p. program_choice (A.keys p.this true) (B.keys p.that true)
+        (A.words p.this) (B.words p.that) (A.program_form p.this) (B.program_form p.that) };
 
     ghost kind = { λ p. ByName };
 
-    ghost says = { λ p. EitherSays (A.says p.this) (B.says p.that) };
+    ghost says = { said_choice (λ p. p.this) (λ p. p.that) A.says B.says };
 
     ghost agrees = { λ p. A.agrees p.this × B.agrees p.that };
 
-    #[tactic(auto, using(crate::proofs::Products::choice_is))]
-    fn form(&self) -> Form {
-        let apart = self.this.all_keys(&ApartFromField {
+    #[tactic(auto, using(crate::proofs::Parts::choice_part_is))]
+    fn part(&self) -> ProgramPart {
+        let keys_apart = self.this.all_keys(&ApartFromField {
             other: &self.that,
             value: PhantomData::<T>,
         });
-        self.this.form().or_else(self.that.form(), apart)
+        let words_apart = self.this.all_words(&NoWordOf {
+            other: &self.that,
+            value: PhantomData::<T>,
+        });
+        self.this
+            .part()
+            .or_else(self.that.part(), keys_apart, words_apart)
     }
 
     #[tactic(auto, using(crate::proofs::Products::all_joined))]
@@ -47,92 +57,135 @@ impl<T: Drop, A: FlatField<T>, B: FlatField<T>> FlatField<T> for ParseOrElse<A, 
         this && that
     }
 
-    ghost flat = { λ p a. flat_choice_law T (A.outcome p.this) (B.outcome p.that)
-        (A.keys p.this) (B.keys p.that) (A.flat_form p.this) (B.flat_form p.that)
-        (A.flat p.this a.0) (B.flat p.that a.1) };
+    #[tactic(auto, using(crate::proofs::Products::all_joined))]
+    fn all_words<W: WordTest>(&self, test: &W) -> bool {
+        let this = self.this.all_words(test);
+        let that = self.that.all_words(test);
+        this && that
+    }
+
+    ghost law = { λ p a. program_choice_law T (A.outcome p.this) (B.outcome p.that)
+        (A.keys p.this true) (B.keys p.that true) (A.words p.this) (B.words p.that)
+        (A.program_form p.this) (B.program_form p.that) (A.law p.this a.0) (B.law p.that a.1) };
 
     ghost shows = { λ p. choice_shows (A.shows p.this) (B.shows p.that) };
 
-    ghost said = { λ p a. choice_says (A.keys p.this) (B.keys p.that)
-        (A.said p.this a.0) (B.said p.that a.1) };
+    ghost said = { λ p a. program_choice_says (λ p. p.this) (λ p. p.that) p (A.keys p.this true)
+        (B.keys p.that true) (A.words p.this) (B.words p.that) (A.said p.this a.0)
+        (B.said p.that a.1) };
 }
+
+impl<T: Drop, A: FlatField<T>, B: FlatField<T>> FlatField<T> for ParseOrElse<A, B> {}
 
 /// Whether each key of each of these parsers passes a test.
 #[tactic(auto, using(crate::proofs::Products::all_joined))]
-fn all_of<T, P: FlatField<T>, N: KeyTest>(parsers: &[P], test: &N) -> bool
-    ensures { result ≡ list_all (N.accepts test.now) (flat_map P.keys parsers.now) }
+fn all_keys_of<T, P: ProgramField<T>, N: KeyTest>(parsers: &[P], test: &N) -> bool
+    ensures { result ≡ list_all (N.accepts test.now)
+        (flat_map (λ p. P.keys p (N.deep test.now)) parsers.now) }
 {
     match parsers {
         [] => true,
         [first, rest @ ..] => {
             let here = first.all_keys(test);
-            let behind = all_of::<T, P, N>(rest, test);
+            let behind = all_keys_of::<T, P, N>(rest, test);
+            here && behind
+        }
+    }
+}
+
+/// Whether each word of the commands of each of these parsers passes a test.
+#[tactic(auto, using(crate::proofs::Products::all_joined))]
+fn all_words_of<T, P: ProgramField<T>, W: WordTest>(parsers: &[P], test: &W) -> bool
+    ensures { result ≡ list_all (W.accepts test.now) (flat_map P.words parsers.now) }
+{
+    match parsers {
+        [] => true,
+        [first, rest @ ..] => {
+            let here = first.all_words(test);
+            let behind = all_words_of::<T, P, W>(rest, test);
             here && behind
         }
     }
 }
 
 /// The choice of what the first of these parsers is with all others.
-fn join_rest<T, P: FlatField<T>>(parsers: &[P], first: Form) -> Form
+fn join_rest<T, P: ProgramField<T>>(parsers: &[P], first: ProgramPart) -> ProgramPart
     requires { 1 ≤ length parsers.now }
-    ensures { result ≡ forms_rest P.keys (λ p. form_of (P.flat_form p))
-        (flat_map P.keys (take 1 parsers.now)) first (drop 1 parsers.now) }
+    ensures { result ≡ parts_rest (λ p. P.keys p true) P.words (λ p. part_of (P.program_form p))
+        (flat_map (λ p. P.keys p true) (take 1 parsers.now))
+        (flat_map P.words (take 1 parsers.now)) first (drop 1 parsers.now) }
 {
-    let mut form = first;
+    let mut part = first;
     for index in 1..parsers.len() {
         let parser = &parsers[index];
-        let test = ApartFromField {
+        let keys = ApartFromField {
             other: parser,
             value: PhantomData::<T>,
         };
-        let apart = all_of::<T, P, _>(&parsers[..index], &test);
-        form = form.or_else(parser.form(), apart);
+        let words = NoWordOf {
+            other: parser,
+            value: PhantomData::<T>,
+        };
+        let keys_apart = all_keys_of::<T, P, _>(&parsers[..index], &keys);
+        let words_apart = all_words_of::<T, P, _>(&parsers[..index], &words);
+        part = part.or_else(parser.part(), keys_apart, words_apart);
     }
-    form
+    part
 }
 
-/// The choice of these parsers; of none it isn't flat.
-fn join_all<T, P: FlatField<T>>(parsers: &[P]) -> Form
-    ensures { result ≡ form_of (flat_choices P.keys P.flat_form parsers.now) }
+/// The choice of these parsers; of none it is nothing.
+fn join_all<T, P: ProgramField<T>>(parsers: &[P]) -> ProgramPart
+    ensures { result ≡ part_of (program_choices (λ p. P.keys p true) P.words P.program_form
+        parsers.now) }
 {
     match parsers {
-        [] => Form::NotFlat,
-        [first, ..] => join_rest(parsers, first.form().alternative()),
+        [] => ProgramPart::NoPart,
+        [first, ..] => join_rest(parsers, first.part().first()),
     }
 }
 
-/// Of required flags and arguments alone, whose names are apart; a choice of none isn't flat.
-impl<T: Drop, P: FlatField<T> + Drop> FlatField<T> for ParseChoice<P> {
+/// Of required flags and arguments alone, whose names are apart; or of commands alone, whose words
+/// are. A choice of none is nothing.
+impl<T: Drop, P: ProgramField<T> + Drop> ProgramField<T> for ParseChoice<P> {
     ghost use Rattle.bpaf_exact.specs.Flat.{ByName};
-    ghost use Rattle.bpaf_exact.specs.Says.{OneOfSays};
-    ghost use Rattle.bpaf_exact.proofs.Says.{choices_says};
     ghost use Rattle.bpaf_exact.specs.FlatForm.{EachAgrees};
-    ghost use Rattle.bpaf_exact.proofs.FlatForm.{flat_choices_law};
+    ghost use Rattle.bpaf_exact.specs.ProgramSays.{said_choices};
+    ghost use Rattle.bpaf_exact.proofs.ProgramForm.{program_choices_law};
+    ghost use Rattle.bpaf_exact.proofs.ProgramSays.{program_choices_says};
     ghost use Rattle.bpaf_exact.proofs.SameParts.{choices_show};
 
-    ghost keys = { λ p. flat_map P.keys p.parsers.items };
+    ghost keys = { λ p deep. flat_map (λ q. P.keys q deep) p.parsers.items };
 
-    ghost flat_form = { λ p. flat_choices P.keys P.flat_form p.parsers.items };
+    ghost words = { λ p. flat_map P.words p.parsers.items };
+
+    ghost program_form = { λ p.
+        program_choices (λ q. P.keys q true) P.words P.program_form p.parsers.items };
 
     ghost kind = { λ p. ByName };
 
-    ghost says = { λ p. OneOfSays P.says p.parsers.items };
+    ghost says = { said_choices (λ p. p.parsers.items) P.says };
 
     ghost agrees = { λ p. EachAgrees P.agrees p.parsers.items };
 
-    fn form(&self) -> Form {
+    fn part(&self) -> ProgramPart {
         join_all(self.parsers.as_slice())
     }
 
     fn all_keys<N: KeyTest>(&self, test: &N) -> bool {
-        all_of::<T, P, N>(self.parsers.as_slice(), test)
+        all_keys_of::<T, P, N>(self.parsers.as_slice(), test)
     }
 
-    ghost flat = { λ p a. flat_choices_law _ T P.outcome P.keys P.flat_form P.agrees P.flat
-        p.parsers.items a };
+    fn all_words<W: WordTest>(&self, test: &W) -> bool {
+        all_words_of::<T, P, W>(self.parsers.as_slice(), test)
+    }
+
+    ghost law = { λ p a. program_choices_law _ T P.outcome (λ q. P.keys q true) P.words
+        P.program_form P.agrees P.law p.parsers.items a };
 
     ghost shows = { λ p. choices_show P.describes P.shows p.parsers.items };
 
-    ghost said = { λ p a. choices_says P.keys P.flat_form P.kind P.says P.agrees P.said
-        p.parsers.items a };
+    ghost said = { λ p a. program_choices_says (λ q. P.keys q true) P.words P.program_form P.kind
+        P.agrees p (λ p. p.parsers.items) P.says P.said a };
 }
+
+impl<T: Drop, P: FlatField<T> + Drop> FlatField<T> for ParseChoice<P> {}

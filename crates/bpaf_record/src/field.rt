@@ -1,91 +1,112 @@
-//! The traits of the parsers that are fields of a flat record.
+//! The traits of the parsers that may stand in a program, and of those that may in a flat record.
 ghost use Rattle.std.specs.Prelude.{◌≡◌};
 ghost use Rattle.std.specs.List.{list_all};
 
-use crate::form::Form;
 use crate::keys::KeyTest;
+use crate::part::ProgramPart;
+use crate::words::WordTest;
 use bpaf::{Fields, Parser};
 
-/// A parser that may be a field of a flat record, or a flat record itself.
-pub trait FlatField<T>: Parser<T> {
-    ghost use Rattle.std.specs.Prelude.{List};
+/// A parser that may be a field of a program, a command, or a program itself.
+pub trait ProgramField<T>: Parser<T> {
+    ghost use Rattle.std.specs.Prelude.{Bool, true, ℕ, List};
     ghost use Rattle.bpaf_doc.specs.Names.{Names};
     ghost use Rattle.bpaf_exact.specs.SameParts.{ShowsTheSame};
     ghost use Rattle.bpaf_exact.specs.Flat.{FieldKind};
-    ghost use Rattle.bpaf_exact.specs.FlatForm.{FlatForm, FormLaw};
-    ghost use Rattle.bpaf_exact.specs.Says.{Said, Says};
-    ghost use Rattle.bpaf_record.specs.Form.{form_of};
+    ghost use Rattle.bpaf_exact.specs.ProgramForm.{ProgramForm, ProgramFormLaw};
+    ghost use Rattle.bpaf_exact.specs.ProgramSays.{ProgramSaid, ProgramSays};
+    ghost use Rattle.bpaf_record.specs.Part.{part_of};
 
-    /// The names of its flags and arguments, one after the other.
-    ghost keys: { Self → List Names };
+    /// The names of its flags and arguments, one after the other, with or without those inside its
+    /// commands.
+    ghost keys: { Self → Bool → List Names };
 
-    /// What it is to a flat record, and how it reads its pieces.
-    ghost flat_form: { Self → FlatForm T };
+    /// The words of its commands, where it is a command or a choice of such.
+    ghost words: { Self → List (List ℕ) };
+
+    /// What it is to a program: to a flat record how it reads its pieces, else which values it has
+    /// on the cells of its scope.
+    ghost program_form: { Self → ProgramForm T };
 
     /// Whether its pieces are keys or words, and how many of the words it takes.
     ghost kind: { Self → FieldKind };
 
-    /// What its value says of the pieces that are its own, or of all where it is a record.
-    ghost says: { Self → Said T };
+    /// What its value says of the pieces that are its own, or of all where it is a record; or of
+    /// the cells of its scope, where it ends in commands.
+    ghost says: { ProgramSaid Self T };
 
-    /// The premise of exactness: whether its closures accept depends on the pieces alone.
+    /// The premise of exactness: whether its closures accept depends on what is present alone.
     ghost agrees: { Self → Type 0 };
 
-    /// What it is to a flat record. It takes no memory.
-    fn form(&self) -> Form
-        ensures { result ≡ form_of (flat_form self.now) };
+    /// What it is to a program. It takes no memory.
+    fn part(&self) -> ProgramPart
+        ensures { result ≡ part_of (program_form self.now) };
 
-    /// Whether each of its keys passes a test. It takes no memory.
+    /// Whether each of its keys passes a test, which may ask for those inside its commands too. It
+    /// takes no memory.
     fn all_keys<N: KeyTest>(&self, test: &N) -> bool
-        ensures { result ≡ list_all (N.accepts test.now) (keys self.now) };
+        ensures { result ≡ list_all (N.accepts test.now) (keys self.now (N.deep test.now)) };
 
-    /// What it answers and takes depends on its own pieces alone, as its form says.
-    ghost flat: { (p : Self) → agrees p
-        → FormLaw (Self.Parser.outcome p) (keys p) (flat_form p) };
+    /// Whether each word of its commands passes a test. It takes no memory.
+    fn all_words<W: WordTest>(&self, test: &W) -> bool
+        ensures { result ≡ list_all (W.accepts test.now) (words self.now) };
+
+    /// What it answers and takes depends on what is its own alone, as its form says.
+    ghost law: { (p : Self) → agrees p
+        → ProgramFormLaw (Self.Parser.outcome p) (keys p true) (words p) (program_form p) };
 
     /// It shows the same parts, whichever shape it shows, so that words have one line.
     ghost shows: { (p : Self) → ShowsTheSame (Self.Parser.describes p) };
 
-    /// Its value says so of the pieces that it is read off.
-    ghost said: { (p : Self) → agrees p → Says (flat_form p) (kind p) (says p) };
+    /// Its value says so.
+    ghost said: { (p : Self) → agrees p → ProgramSays (program_form p) (kind p) says p };
 }
 
-/// The fields of a flat record.
-pub trait FlatFields<V>: Fields<V> {
-    ghost use Rattle.std.specs.Prelude.{List};
+/// A parser that may be a field of a flat record, or a flat record itself.
+pub trait FlatField<T>: ProgramField<T> {}
+
+/// The fields of a program.
+pub trait ProgramFields<V>: Fields<V> {
+    ghost use Rattle.std.specs.Prelude.{Bool, true, [], List};
     ghost use Rattle.bpaf_doc.specs.Names.{Names};
     ghost use Rattle.bpaf_exact.specs.SameParts.{FieldsShowTheSame};
-    ghost use Rattle.bpaf_exact.specs.FlatForm.{FlatForm, FormLaw};
-    ghost use Rattle.bpaf_exact.specs.Says.{FieldsSaid, FieldsSay};
-    ghost use Rattle.bpaf_record.specs.Form.{form_of};
+    ghost use Rattle.bpaf_exact.specs.ProgramForm.{ProgramForm, ProgramFormLaw};
+    ghost use Rattle.bpaf_exact.specs.ProgramSays.{ProgramFieldsSaid, ProgramFieldsSay};
+    ghost use Rattle.bpaf_record.specs.Part.{part_of};
 
-    /// The names of their flags and arguments, one after the other.
-    ghost keys: { Self → List Names };
+    /// The names of their flags and arguments, one after the other, with or without those inside
+    /// commands.
+    ghost keys: { Self → Bool → List Names };
 
-    /// What they are to a flat record, and how they share out the pieces.
-    ghost flat_form: { Self → FlatForm V };
+    /// What they are to a program.
+    ghost program_form: { Self → ProgramForm V };
 
-    /// What their values say of the pieces of a line, and of the words that are left to them.
-    ghost says: { Self → FieldsSaid V };
+    /// What their values say: of the pieces of a line and of the words that are left to them, or of
+    /// the cells of their scope, where they end in commands.
+    ghost says: { ProgramFieldsSaid Self V };
 
     /// The premise of exactness, for each of them.
     ghost agrees: { Self → Type 0 };
 
-    /// What they are to a flat record. It takes no memory.
-    fn fields_form(&self) -> Form
-        ensures { result ≡ form_of (flat_form self.now) };
+    /// What they are to a program. It takes no memory.
+    fn fields_part(&self) -> ProgramPart
+        ensures { result ≡ part_of (program_form self.now) };
 
-    /// Whether each of their keys passes a test. It takes no memory.
+    /// Whether each of their keys passes a test, which may ask for those inside commands too. It
+    /// takes no memory.
     fn all_keys<N: KeyTest>(&self, test: &N) -> bool
-        ensures { result ≡ list_all (N.accepts test.now) (keys self.now) };
+        ensures { result ≡ list_all (N.accepts test.now) (keys self.now (N.deep test.now)) };
 
-    /// What they answer and take depends on the pieces of the line alone, as their form says.
-    ghost flat: { (p : Self) → agrees p
-        → FormLaw (Self.Fields.outcome p) (keys p) (flat_form p) };
+    /// What they answer and take depends on what is present alone, as their form says.
+    ghost law: { (p : Self) → agrees p
+        → ProgramFormLaw (Self.Fields.outcome p) (keys p true) [] (program_form p) };
 
     /// They show the same parts, whichever shapes they show.
     ghost shows: { (p : Self) → FieldsShowTheSame (Self.Fields.describes p) };
 
     /// Their values say so.
-    ghost said: { (p : Self) → agrees p → FieldsSay (flat_form p) (says p) };
+    ghost said: { (p : Self) → agrees p → ProgramFieldsSay (program_form p) says p };
 }
+
+/// The fields of a flat record.
+pub trait FlatFields<V>: ProgramFields<V> {}

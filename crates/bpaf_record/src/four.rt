@@ -1,9 +1,90 @@
-//! Four fields of a flat record at once.
+//! Four fields of a program at once.
 
-use crate::field::{FlatField, FlatFields};
-use crate::form::Form;
+use crate::field::{FlatField, FlatFields, ProgramField, ProgramFields};
 use crate::keys::KeyTest;
+use crate::part::ProgramPart;
 use bpaf::{Four, FourFields, FourValues};
+
+impl<
+    S: Drop,
+    T: Drop,
+    U: Drop,
+    V: Drop,
+    W,
+    A: ProgramField<S>,
+    B: ProgramField<T>,
+    C: ProgramField<U>,
+    D: ProgramField<V>,
+    R: ProgramFields<W>,
+> ProgramFields<FourValues<S, T, U, V, W>> for Four<A, B, C, D, R> {
+    ghost use Rattle.bpaf_exact.specs.ProgramSays.{fields_said_inside};
+    ghost use Rattle.bpaf_exact.proofs.SameParts.{both_show};
+    ghost use Rattle.bpaf_exact.proofs.Keeping.{keep, keep_before};
+    ghost use Rattle.bpaf_exact.proofs.ProgramSays.{inside_say};
+    ghost use Rattle.std.specs.Prelude.{true};
+
+    ghost keys = { λ p.
+        ⟦<FourFields<A, B, C, D, R> as ProgramFields<FourValues<S, T, U, V, W>>>⟧.keys p.fields };
+
+    ghost program_form = { λ p.
+        ⟦<FourFields<A, B, C, D, R> as ProgramFields<FourValues<S, T, U, V, W>>>⟧.program_form
+        p.fields };
+
+    ghost says = { fields_said_inside (λ p. p.fields)
+        ⟦<FourFields<A, B, C, D, R> as ProgramFields<FourValues<S, T, U, V, W>>>⟧.says };
+
+    ghost agrees = { λ p.
+        ⟦<FourFields<A, B, C, D, R> as ProgramFields<FourValues<S, T, U, V, W>>>⟧.agrees
+        p.fields };
+
+    fn fields_part(&self) -> ProgramPart {
+        self.fields.fields_part()
+    }
+
+    fn all_keys<N: KeyTest>(&self, test: &N) -> bool {
+        self.fields.all_keys(test)
+    }
+
+    ghost law = { λ p a.
+        (keep_before (λ q. q.first) (λ q. q.rest) p.fields _ A.kind (λ q. A.keys q true)
+        (A.words p.fields.first) _ A.says (A.law p.fields.first a.0) (A.said p.fields.first a.0)
+        (keep_before (λ q. q.first) (λ q. q.rest) p.fields.rest _ B.kind (λ q. B.keys q true)
+        (B.words p.fields.rest.first) _ B.says (B.law p.fields.rest.first a.1.0)
+        (B.said p.fields.rest.first a.1.0)
+        (keep_before (λ q. q.first) (λ q. q.rest) p.fields.rest.rest _ C.kind
+        (λ q. C.keys q true) (C.words p.fields.rest.rest.first) _ C.says
+        (C.law p.fields.rest.rest.first a.1.1.0) (C.said p.fields.rest.rest.first a.1.1.0)
+        (keep_before (λ q. q.first) (λ q. q.rest) p.fields.rest.rest.rest _ D.kind
+        (λ q. D.keys q true) (D.words p.fields.rest.rest.rest.first) _ D.says
+        (D.law p.fields.rest.rest.rest.first a.1.1.1.0)
+        (D.said p.fields.rest.rest.rest.first a.1.1.1.0)
+        (keep _ _ _ R.says p.fields.rest.rest.rest.rest
+        (R.law p.fields.rest.rest.rest.rest a.1.1.1.1)
+        (R.said p.fields.rest.rest.rest.rest a.1.1.1.1)))))).law };
+
+    ghost shows = { λ p. both_show (A.shows p.fields.first)
+        (both_show (B.shows p.fields.rest.first)
+        (both_show (C.shows p.fields.rest.rest.first)
+        (both_show (D.shows p.fields.rest.rest.rest.first)
+        (R.shows p.fields.rest.rest.rest.rest)))) };
+
+    ghost said = { λ p a. inside_say (λ p. p.fields) p
+        (keep_before (λ q. q.first) (λ q. q.rest) p.fields _ A.kind (λ q. A.keys q true)
+        (A.words p.fields.first) _ A.says (A.law p.fields.first a.0) (A.said p.fields.first a.0)
+        (keep_before (λ q. q.first) (λ q. q.rest) p.fields.rest _ B.kind (λ q. B.keys q true)
+        (B.words p.fields.rest.first) _ B.says (B.law p.fields.rest.first a.1.0)
+        (B.said p.fields.rest.first a.1.0)
+        (keep_before (λ q. q.first) (λ q. q.rest) p.fields.rest.rest _ C.kind
+        (λ q. C.keys q true) (C.words p.fields.rest.rest.first) _ C.says
+        (C.law p.fields.rest.rest.first a.1.1.0) (C.said p.fields.rest.rest.first a.1.1.0)
+        (keep_before (λ q. q.first) (λ q. q.rest) p.fields.rest.rest.rest _ D.kind
+        (λ q. D.keys q true) (D.words p.fields.rest.rest.rest.first) _ D.says
+        (D.law p.fields.rest.rest.rest.first a.1.1.1.0)
+        (D.said p.fields.rest.rest.rest.first a.1.1.1.0)
+        (keep _ _ _ R.says p.fields.rest.rest.rest.rest
+        (R.law p.fields.rest.rest.rest.rest a.1.1.1.1)
+        (R.said p.fields.rest.rest.rest.rest a.1.1.1.1)))))).says };
+}
 
 impl<
     S: Drop,
@@ -16,56 +97,4 @@ impl<
     C: FlatField<U>,
     D: FlatField<V>,
     R: FlatFields<W>,
-> FlatFields<FourValues<S, T, U, V, W>> for Four<A, B, C, D, R> {
-    ghost use Rattle.bpaf_exact.proofs.SameParts.{both_show};
-    ghost use Rattle.bpaf_exact.proofs.Keeping.{keep, keep_before};
-
-    ghost keys = { λ p.
-        ⟦<FourFields<A, B, C, D, R> as FlatFields<FourValues<S, T, U, V, W>>>⟧.keys p.fields };
-
-    ghost flat_form = { λ p.
-        ⟦<FourFields<A, B, C, D, R> as FlatFields<FourValues<S, T, U, V, W>>>⟧.flat_form
-        p.fields };
-
-    ghost says = { λ p.
-        ⟦<FourFields<A, B, C, D, R> as FlatFields<FourValues<S, T, U, V, W>>>⟧.says p.fields };
-
-    ghost agrees = { λ p.
-        ⟦<FourFields<A, B, C, D, R> as FlatFields<FourValues<S, T, U, V, W>>>⟧.agrees p.fields };
-
-    fn fields_form(&self) -> Form {
-        self.fields.fields_form()
-    }
-
-    fn all_keys<N: KeyTest>(&self, test: &N) -> bool {
-        self.fields.all_keys(test)
-    }
-
-    ghost flat = { λ p a.
-        (keep_before _ _ _ _ _ (A.flat p.fields.first a.0) (A.said p.fields.first a.0)
-        (keep_before _ _ _ _ _ (B.flat p.fields.rest.first a.1.0)
-        (B.said p.fields.rest.first a.1.0)
-        (keep_before _ _ _ _ _ (C.flat p.fields.rest.rest.first a.1.1.0)
-        (C.said p.fields.rest.rest.first a.1.1.0)
-        (keep_before _ _ _ _ _ (D.flat p.fields.rest.rest.rest.first a.1.1.1.0)
-        (D.said p.fields.rest.rest.rest.first a.1.1.1.0)
-        (keep _ _ _ _ (R.flat p.fields.rest.rest.rest.rest a.1.1.1.1)
-        (R.said p.fields.rest.rest.rest.rest a.1.1.1.1)))))).law };
-
-    ghost shows = { λ p. both_show (A.shows p.fields.first)
-        (both_show (B.shows p.fields.rest.first)
-        (both_show (C.shows p.fields.rest.rest.first)
-        (both_show (D.shows p.fields.rest.rest.rest.first)
-        (R.shows p.fields.rest.rest.rest.rest)))) };
-
-    ghost said = { λ p a.
-        (keep_before _ _ _ _ _ (A.flat p.fields.first a.0) (A.said p.fields.first a.0)
-        (keep_before _ _ _ _ _ (B.flat p.fields.rest.first a.1.0)
-        (B.said p.fields.rest.first a.1.0)
-        (keep_before _ _ _ _ _ (C.flat p.fields.rest.rest.first a.1.1.0)
-        (C.said p.fields.rest.rest.first a.1.1.0)
-        (keep_before _ _ _ _ _ (D.flat p.fields.rest.rest.rest.first a.1.1.1.0)
-        (D.said p.fields.rest.rest.rest.first a.1.1.1.0)
-        (keep _ _ _ _ (R.flat p.fields.rest.rest.rest.rest a.1.1.1.1)
-        (R.said p.fields.rest.rest.rest.rest a.1.1.1.1)))))).says };
-}
+> FlatFields<FourValues<S, T, U, V, W>> for Four<A, B, C, D, R> {}

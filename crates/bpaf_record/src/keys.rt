@@ -1,11 +1,11 @@
 //! The names of fields, and whether they are apart.
-ghost use Rattle.std.specs.Prelude.{◌≡◌, not, ◌&&◌};
+ghost use Rattle.std.specs.Prelude.{◌≡◌, false, not, true, ◌&&◌};
 ghost use Rattle.std.specs.List.{list_all};
 ghost use Rattle.bpaf_items.specs.Items.{is_among, is_text_among};
 ghost use Rattle.bpaf_exact.specs.Names.{are_apart};
 ghost use Rattle.bpaf_record.specs.Keys.{has_no_short, has_no_long};
 
-use crate::field::{FlatField, FlatFields};
+use crate::field::{ProgramField, ProgramFields};
 use bpaf::{NamedArg, Text};
 use std::marker::PhantomData;
 
@@ -13,6 +13,13 @@ use std::marker::PhantomData;
 pub trait KeyTest {
     ghost use Rattle.std.specs.Prelude.{Bool};
     ghost use Rattle.bpaf_doc.specs.Names.{Names};
+
+    /// Whether it is put to the keys inside commands too.
+    ghost deep: { Self → Bool };
+
+    /// Whether it is put to them. It takes no memory.
+    fn is_deep(&self) -> bool
+        ensures { result ≡ deep self.now };
 
     /// Whether a key with these names passes.
     ghost accepts: { Self → Names → Bool };
@@ -61,9 +68,16 @@ fn are_apart(own: &NamedArg, other: &NamedArg) -> bool
 #[derive(Drop)]
 pub(crate) struct ApartFrom<'a> {
     pub key: &'a NamedArg,
+    pub deep: bool,
 }
 
 impl KeyTest for ApartFrom<'_> {
+    ghost deep = { λ t. t.deep };
+
+    fn is_deep(&self) -> bool {
+        self.deep
+    }
+
     ghost accepts = { λ t names. are_apart t.key.now.names names };
 
     fn test(&self, key: &NamedArg) -> bool {
@@ -78,11 +92,17 @@ pub(crate) struct ApartFromField<'a, T, P> {
     pub value: PhantomData<T>,
 }
 
-impl<T, P: FlatField<T>> KeyTest for ApartFromField<'_, T, P> {
-    ghost accepts = { λ t names. list_all (are_apart names) (P.keys t.other.now) };
+impl<T, P: ProgramField<T>> KeyTest for ApartFromField<'_, T, P> {
+    ghost deep = { λ t. true };
+
+    fn is_deep(&self) -> bool {
+        true
+    }
+
+    ghost accepts = { λ t names. list_all (are_apart names) (P.keys t.other.now true) };
 
     fn test(&self, key: &NamedArg) -> bool {
-        self.other.all_keys(&ApartFrom { key })
+        self.other.all_keys(&ApartFrom { key, deep: true })
     }
 }
 
@@ -93,11 +113,17 @@ pub(crate) struct ApartFromFields<'a, V, R> {
     pub values: PhantomData<V>,
 }
 
-impl<V, R: FlatFields<V>> KeyTest for ApartFromFields<'_, V, R> {
-    ghost accepts = { λ t names. list_all (are_apart names) (R.keys t.others.now) };
+impl<V, R: ProgramFields<V>> KeyTest for ApartFromFields<'_, V, R> {
+    ghost deep = { λ t. true };
+
+    fn is_deep(&self) -> bool {
+        true
+    }
+
+    ghost accepts = { λ t names. list_all (are_apart names) (R.keys t.others.now true) };
 
     fn test(&self, key: &NamedArg) -> bool {
-        self.others.all_keys(&ApartFrom { key })
+        self.others.all_keys(&ApartFrom { key, deep: true })
     }
 }
 
@@ -106,7 +132,11 @@ impl<V, R: FlatFields<V>> KeyTest for ApartFromFields<'_, V, R> {
 pub(crate) struct NoKey {}
 
 impl KeyTest for NoKey {
-    ghost use Rattle.std.specs.Prelude.{false};
+    ghost deep = { λ t. true };
+
+    fn is_deep(&self) -> bool {
+        true
+    }
 
     ghost accepts = { λ t names. false };
 
@@ -124,6 +154,12 @@ pub(crate) struct ApartFromUsual<'a> {
 
 impl KeyTest for ApartFromUsual<'_> {
     ghost use Rattle.std.specs.Prelude.{[], ◌∷◌};
+
+    ghost deep = { λ t. false };
+
+    fn is_deep(&self) -> bool {
+        false
+    }
 
     ghost accepts = { λ t names.
         are_apart (record { shorts = t.short ∷ []; longs = t.long.now ∷ [] }) names };

@@ -1,15 +1,16 @@
 //! Flags, arguments and words as fields.
-ghost use Rattle.std.specs.Prelude.{◌≡◌};
+ghost use Rattle.std.specs.Prelude.{◌≡◌, [], ◌∷◌};
 
-use crate::field::FlatField;
+use crate::field::{FlatField, ProgramField};
 use crate::form::Form;
 use crate::keys::KeyTest;
+use crate::part::ProgramPart;
+use crate::words::WordTest;
 use bpaf::parsers::{ParseArgument, ParseFlag};
 use bpaf::{FromText, ParsePositional, Position};
 
 /// With a name in the environment it is no flat field.
-impl<T: Clone> FlatField<T> for ParseFlag<T> {
-    ghost use Rattle.std.specs.Prelude.{[], ◌∷◌};
+impl<T: Clone> ProgramField<T> for ParseFlag<T> {
     ghost use Rattle.bpaf_exact.specs.Flat.{ByName};
     ghost use Rattle.bpaf_exact.specs.Says.{FlagSays};
     ghost use Rattle.bpaf_exact.proofs.Says.{flag_says};
@@ -17,23 +18,27 @@ impl<T: Clone> FlatField<T> for ParseFlag<T> {
     ghost use Rattle.bpaf_exact.proofs.Flags.{flag_field_law};
     ghost use Rattle.bpaf_exact.proofs.SameParts.{one_shape};
     ghost use Rattle.bpaf_laws.specs.Flag.{flag_shape};
+    ghost use Rattle.bpaf_exact.specs.ProgramForm.{plain};
+    ghost use Rattle.bpaf_exact.specs.ProgramSays.{of_pieces};
 
-    ghost keys = { λ p. p.named.names ∷ [] };
+    ghost keys = { λ p deep. p.named.names ∷ [] };
 
-    ghost flat_form = { λ p. flag_field T.is_clone p.named p.present p.absent };
+    ghost words = { λ p. [] };
+
+    ghost program_form = { λ p. plain (flag_field T.is_clone p.named p.present p.absent) };
 
     ghost kind = { λ p. ByName };
 
-    ghost says = { λ p. FlagSays T.is_clone p.present p.absent };
+    ghost says = { of_pieces (λ p. FlagSays T.is_clone p.present p.absent) };
 
     ghost agrees = { λ p. Unit {0} };
 
-    fn form(&self) -> Form {
-        match (self.named.envs(), &self.absent) {
+    fn part(&self) -> ProgramPart {
+        ProgramPart::Flat(match (self.named.envs(), &self.absent) {
             ([_, ..], _) => Form::NotFlat,
             ([], Some(_)) => Form::Named,
             ([], None) => Form::Alternative,
-        }
+        })
     }
 
     #[tactic(auto, using(crate::proofs::Forms::and_true))]
@@ -41,17 +46,22 @@ impl<T: Clone> FlatField<T> for ParseFlag<T> {
         test.test(&self.named)
     }
 
-    ghost flat = { λ p a. flag_field_law T T.is_clone p.named p.present p.absent };
+    fn all_words<W: WordTest>(&self, _test: &W) -> bool {
+        true
+    }
+
+    ghost law = { λ p a. flag_field_law T T.is_clone p.named p.present p.absent };
 
     ghost shows = { λ p. one_shape (flag_shape p.named p.absent) };
 
-    ghost said = { λ p a. flag_says T.is_clone p.named p.present p.absent };
+    ghost said = { λ p a. record { by = flag_says T.is_clone p.named p.present p.absent } };
 }
+
+impl<T: Clone> FlatField<T> for ParseFlag<T> {}
 
 /// With a name in the environment, or with `adjacent`, it is no flat field. With `take_last` it is
 /// a field by itself, and no alternative of a choice.
-impl<T: FromText> FlatField<T> for ParseArgument<T> {
-    ghost use Rattle.std.specs.Prelude.{[], ◌∷◌};
+impl<T: FromText> ProgramField<T> for ParseArgument<T> {
     ghost use Rattle.bpaf_exact.specs.Flat.{ByName};
     ghost use Rattle.bpaf_exact.specs.Says.{ArgumentSays};
     ghost use Rattle.bpaf_exact.proofs.Says.{argument_says};
@@ -59,23 +69,27 @@ impl<T: FromText> FlatField<T> for ParseArgument<T> {
     ghost use Rattle.bpaf_exact.proofs.Arguments.{argument_field_law};
     ghost use Rattle.bpaf_exact.proofs.SameParts.{one_shape};
     ghost use Rattle.bpaf_laws.specs.Argument.{argument_shape};
+    ghost use Rattle.bpaf_exact.specs.ProgramForm.{plain};
+    ghost use Rattle.bpaf_exact.specs.ProgramSays.{of_pieces};
 
-    ghost keys = { λ p. p.named.names ∷ [] };
+    ghost keys = { λ p deep. p.named.names ∷ [] };
 
-    ghost flat_form = { λ p. argument_field T.means p };
+    ghost words = { λ p. [] };
+
+    ghost program_form = { λ p. plain (argument_field T.means p) };
 
     ghost kind = { λ p. ByName };
 
-    ghost says = { λ p. ArgumentSays T.means p.last };
+    ghost says = { of_pieces (λ p. ArgumentSays T.means p.last) };
 
     ghost agrees = { λ p. Unit {0} };
 
-    fn form(&self) -> Form {
-        match (self.named.envs(), self.adjacent, self.last) {
+    fn part(&self) -> ProgramPart {
+        ProgramPart::Flat(match (self.named.envs(), self.adjacent, self.last) {
             ([], false, false) => Form::Alternative,
             ([], false, true) => Form::Named,
             _ => Form::NotFlat,
-        }
+        })
     }
 
     #[tactic(auto, using(crate::proofs::Forms::and_true))]
@@ -83,47 +97,61 @@ impl<T: FromText> FlatField<T> for ParseArgument<T> {
         test.test(&self.named)
     }
 
-    ghost flat = { λ p a. argument_field_law T T.means p };
+    fn all_words<W: WordTest>(&self, _test: &W) -> bool {
+        true
+    }
+
+    ghost law = { λ p a. argument_field_law T T.means p };
 
     ghost shows = { λ p. one_shape (argument_shape p) };
 
-    ghost said = { λ p a. argument_says T.means p };
+    ghost said = { λ p a. record { by = argument_says T.means p } };
 }
 
+impl<T: FromText> FlatField<T> for ParseArgument<T> {}
+
 /// With `strict` or `non_strict` it is no flat field.
-impl<T: FromText> FlatField<T> for ParsePositional<T> {
-    ghost use Rattle.std.specs.Prelude.{[]};
+impl<T: FromText> ProgramField<T> for ParsePositional<T> {
     ghost use Rattle.bpaf_exact.specs.Flat.{OneWord};
     ghost use Rattle.bpaf_exact.specs.Says.{WordSays};
-    ghost use Rattle.bpaf_record.specs.Positional.{positional_says};
-    ghost use Rattle.bpaf_record.specs.Positional.{positional_field, positional_field_law};
+    ghost use Rattle.bpaf_record.specs.Positional.{positional_says, positional_field, positional_field_law};
     ghost use Rattle.bpaf_exact.proofs.SameParts.{one_shape};
     ghost use Rattle.bpaf.specs.Positional.{positional_shape};
+    ghost use Rattle.bpaf_exact.specs.ProgramForm.{plain};
+    ghost use Rattle.bpaf_exact.specs.ProgramSays.{of_pieces};
 
-    ghost keys = { λ p. [] };
+    ghost keys = { λ p deep. [] };
 
-    ghost flat_form = { λ p. positional_field T.means p.position };
+    ghost words = { λ p. [] };
+
+    ghost program_form = { λ p. plain (positional_field T.means p.position) };
 
     ghost kind = { λ p. OneWord };
 
-    ghost says = { λ p. WordSays T.means };
+    ghost says = { of_pieces (λ p. WordSays T.means) };
 
     ghost agrees = { λ p. Unit {0} };
 
-    fn form(&self) -> Form {
-        match self.position {
+    fn part(&self) -> ProgramPart {
+        ProgramPart::Flat(match self.position {
             Position::Unrestricted => Form::Word,
             Position::Strict | Position::NonStrict => Form::NotFlat,
-        }
+        })
     }
 
     fn all_keys<N: KeyTest>(&self, _test: &N) -> bool {
         true
     }
 
-    ghost flat = { λ p a. positional_field_law T T.means p.position p.metavar.0.now };
+    fn all_words<W: WordTest>(&self, _test: &W) -> bool {
+        true
+    }
+
+    ghost law = { λ p a. positional_field_law T T.means p.position p.metavar.0.now };
 
     ghost shows = { λ p. one_shape (positional_shape p.position p.metavar.0.now p.help) };
 
-    ghost said = { λ p a. positional_says T.means p.position };
+    ghost said = { λ p a. record { by = positional_says T.means p.position } };
 }
+
+impl<T: FromText> FlatField<T> for ParsePositional<T> {}

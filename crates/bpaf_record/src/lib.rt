@@ -34,18 +34,26 @@
 
 mod choices;
 mod closures;
+mod command_line;
+mod commands;
 mod defaults;
 mod field;
 mod form;
 mod four;
 mod keys;
 mod leaves;
+mod part;
 mod product;
 mod record;
 mod repeats;
 mod shown;
+mod usual;
+mod words;
 
-pub use field::{FlatField, FlatFields};
+pub use command_line::CommandLine;
+pub use field::{FlatField, FlatFields, ProgramField, ProgramFields};
 pub use form::Form;
 pub use keys::KeyTest;
+pub use part::ProgramPart;
 pub use record::Record;
+pub use words::WordTest;

@@ -1,15 +1,14 @@
 //! Whether options are a flat record, and the run of one.
-ghost use Rattle.std.specs.Prelude.{◌≡◌, Result, true};
-ghost use Rattle.std.specs.List.{list_all};
+ghost use Rattle.std.specs.Prelude.{◌≡◌, Result, false, true};
 ghost use Rattle.bpaf_words.specs.Arguments.{given_of};
-ghost use Rattle.bpaf_exact.specs.Names.{are_apart};
 
+use crate::command_line::CommandLine;
 use crate::field::FlatField;
-use crate::keys::{ApartFrom, ApartFromUsual};
-use bpaf::{Args, Info, OptionParser, ParseFailure};
+use crate::usual::are_unusual;
+use bpaf::{Args, OptionParser, ParseFailure};
 
 /// Options that are a flat record, where `is_record` says so.
-pub trait Record<T> {
+pub trait Record<T>: CommandLine<T> {
     ghost use Rattle.std.specs.Prelude.{Bool, IfOk, Result};
     ghost use Rattle.std.specs.Result.{IfErr};
     ghost use Rattle.bpaf_line.specs.declared.failure.ParseFailure.{ParseFailure};
@@ -25,26 +24,8 @@ pub trait Record<T> {
     fn is_record(&self) -> bool
         ensures { result ≡ is_flat self.now };
 
-    /// Whether they may run: their closures may be called on every value.
-    ghost can_run: { Self → Type 0 };
-
-    /// The premise of exactness: whether their closures accept depends on the pieces alone.
-    ghost agrees: { Self → Type 0 };
-
-    /// What a run may answer to words, by its table.
-    ghost answers: { Self → Given → Result T ParseFailure → Type 0 };
-
-    /// Which refusals have one of the twelve names, or are handed on.
-    ghost refuses: { Self → Given → ParseFailure → Type 0 };
-
-    /// Which values are dealt out of words.
-    ghost deals: { Self → Given → T → Type 0 };
-
     /// What a value says of words, field by field.
     ghost says: { Self → Given → T → Type 0 };
-
-    /// What a run may answer to words where the parser wanted no memory.
-    ghost answers_spared: { Self → Given → Result T ParseFailure → Type 0 };
 
     /// What a run of a flat record answers to words.
     ghost answers_exactly: { Self → Given → Result T ParseFailure → Type 0 };
@@ -72,85 +53,41 @@ pub trait Record<T> {
     /// options.run_record(args)
     /// ```
     fn run_record(&self, args: Args<'_>) -> Result<T, ParseFailure>
-        requires can { can_run self.now }
+        requires can { Self.can_run self.now }
         requires record { is_flat self.now ≡ true }
-        ensures outcome { answers self.now (given_of args.entry) result }
-        ensures named { IfErr result (refuses self.now (given_of args.entry)) }
-        ensures dealt { IfOk result (deals self.now (given_of args.entry)) }
+        ensures outcome { Self.answers self.now (given_of args.entry) result }
+        ensures named { IfErr result (Self.refuses self.now (given_of args.entry)) }
+        ensures dealt { IfOk result (Self.deals self.now (given_of args.entry)) }
         ensures memory_is_never_caught { IsNotWant result →
-            answers_spared self.now (given_of args.entry) result }
-        ensures fields { agrees self.now →
+            Self.answers_spared self.now (given_of args.entry) result }
+        ensures fields { Self.agrees self.now →
             IfOk result (says self.now (given_of args.entry)) }
-        ensures exact { agrees self.now → answers_exactly self.now (given_of args.entry) result }
-        ensures each_exact { agrees self.now → (r : Result T ParseFailure)
-            → answers self.now (given_of args.entry) r
+        ensures exact { Self.agrees self.now → answers_exactly self.now (given_of args.entry) result }
+        ensures each_exact { Self.agrees self.now → (r : Result T ParseFailure)
+            → Self.answers self.now (given_of args.entry) r
             → answers_exactly self.now (given_of args.entry) r };
 }
 
-/// Whether all keys of a parser are apart from the key for help.
-fn apart_from_help<T, P: FlatField<T>>(parser: &P, info: &Info) -> bool
-    ensures { result ≡ list_all (are_apart info.now.help_arg.names) (P.keys parser.now) }
-{
-    match &info.help_arg {
-        Some(key) => parser.all_keys(&ApartFrom { key }),
-        None => parser.all_keys(&ApartFromUsual {
-            short: 'h',
-            long: "help",
-        }),
-    }
-}
-
-/// Whether they are apart from the key for the version.
-fn apart_from_version<T, P: FlatField<T>>(parser: &P, info: &Info) -> bool
-    ensures { result ≡ list_all (are_apart info.now.version_arg.names) (P.keys parser.now) }
-{
-    match &info.version_arg {
-        Some(key) => parser.all_keys(&ApartFrom { key }),
-        None => parser.all_keys(&ApartFromUsual {
-            short: 'V',
-            long: "version",
-        }),
-    }
-}
-
 impl<T: Drop, P: FlatField<T>> Record<T> for OptionParser<T, P> {
+    ghost use Rattle.bpaf_exact.specs.ProgramForm.{flat_form};
+    ghost use Rattle.bpaf_exact.specs.ProgramSays.{pieces_said};
     ghost use Rattle.bpaf_record.specs.Record.{is_flat_record, AnswersExactly, SaysOfWords};
-    ghost use Rattle.bpaf.specs.Dealt.{IsDealtOut};
-    ghost use Rattle.bpaf.specs.Refusals.{IsOneOfTwelve};
-    ghost use Rattle.bpaf.specs.Run.{RunsWords};
-    ghost use Rattle.bpaf_laws.specs.Spared.{WithoutMemory};
 
-    ghost is_flat = { λ p. is_flat_record (P.flat_form p.inner) (P.keys p.inner) p.info };
+    ghost is_flat = { λ p. is_flat_record (flat_form (P.program_form p.inner))
+        (P.keys p.inner false) p.info };
 
-    #[tactic(auto, using(crate::proofs::Forms::record_is))]
+    #[tactic(auto, using(crate::proofs::Parts::record_part_is))]
     fn is_record(&self) -> bool {
-        let flat = self.inner.form().is_record();
-        let help = apart_from_help::<T, P>(&self.inner, &self.info);
-        let version = apart_from_version::<T, P>(&self.inner, &self.info);
-        flat && (help && version)
+        let flat = self.inner.part().flat().is_record();
+        let unusual = are_unusual::<T, P>(&self.inner, &self.info);
+        flat && unusual
     }
 
-    ghost can_run = { λ p. P.can_eval p.inner };
+    ghost says = { λ p given. SaysOfWords (P.describes p.inner) p.info
+        (flat_form (P.program_form p.inner)) (pieces_said P.says p.inner) given };
 
-    ghost agrees = { λ p. P.agrees p.inner };
-
-    ghost answers = { λ p given.
-        RunsWords T (P.outcome p.inner) (P.describes p.inner) p.info given };
-
-    ghost refuses = { λ p given.
-        IsOneOfTwelve (P.outcome p.inner) (P.describes p.inner) p.info given };
-
-    ghost answers_spared = { λ p given. RunsWords T (WithoutMemory (P.outcome p.inner))
-        (P.describes p.inner) p.info given };
-
-    ghost deals = { λ p given.
-        IsDealtOut T (P.reads p.inner) (P.describes p.inner) p.info given };
-
-    ghost says = { λ p given.
-        SaysOfWords (P.describes p.inner) p.info (P.flat_form p.inner) (P.says p.inner) given };
-
-    ghost answers_exactly = { λ p given.
-        AnswersExactly T (P.describes p.inner) p.info (P.flat_form p.inner) given };
+    ghost answers_exactly = { λ p given. AnswersExactly T (P.describes p.inner) p.info
+        (flat_form (P.program_form p.inner)) given };
 
     fn run_record(&self, args: Args<'_>) -> Result<T, ParseFailure> {
         self.run_inner(args)

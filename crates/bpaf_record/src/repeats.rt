@@ -1,192 +1,238 @@
 //! Fields that may be given again and again.
-ghost use Rattle.std.specs.Prelude.{◌≡◌};
+ghost use Rattle.std.specs.Prelude.{◌≡◌, [], true};
 
-use crate::field::FlatField;
-use crate::form::Form;
+use crate::field::{FlatField, ProgramField};
 use crate::keys::KeyTest;
+use crate::part::ProgramPart;
+use crate::words::WordTest;
 use bpaf::FromList;
 use bpaf::parsers::{ParseCollect, ParseCount, ParseLast, ParseMany, ParseSome};
 
 /// With `catch` it is no flat field, nor round another repeat or a default.
-impl<T: Drop, P: FlatField<T>> FlatField<Vec<T>> for ParseMany<P> {
+impl<T: Drop, P: ProgramField<T>> ProgramField<Vec<T>> for ParseMany<P> {
     ghost use Rattle.bpaf_exact.specs.Single.{repeated};
     ghost use Rattle.bpaf_exact.specs.Derived.{list_closure};
-    ghost use Rattle.bpaf_exact.specs.Says.{MadeSays, RepeatSays};
-    ghost use Rattle.bpaf_exact.proofs.Says.{listed_says, unless_says};
-    ghost use Rattle.bpaf_exact.specs.FlatForm.{flat_many, unless};
-    ghost use Rattle.bpaf_exact.proofs.Twins.{many_field_law};
     ghost use Rattle.bpaf_exact.proofs.SameParts.{many_shows};
+    ghost use Rattle.bpaf_exact.specs.ProgramForm.{program_repeat};
+    ghost use Rattle.bpaf_exact.specs.ProgramSays.{said_repeat};
+    ghost use Rattle.bpaf_exact.proofs.Twins.{many_law};
+    ghost use Rattle.bpaf_exact.proofs.ProgramSays.{program_repeat_says};
 
-    ghost keys = { λ p. P.keys p.inner };
+    ghost keys = { λ p deep. P.keys p.inner deep };
 
-    ghost flat_form = { λ p. unless p.catch (flat_many (P.flat_form p.inner)) };
+    ghost words = { λ p. [] };
+
+    ghost program_form = { λ p. program_repeat p.catch (list_closure T) (P.program_form p.inner) };
 
     ghost kind = { λ p. repeated (P.kind p.inner) };
 
-    ghost says = { λ p. MadeSays (RepeatSays (P.says p.inner)) (list_closure T) };
+    ghost says = { said_repeat (λ p. p.inner) (list_closure T) P.says };
 
     ghost agrees = { λ p. P.agrees p.inner };
 
-    #[tactic(auto, using(crate::proofs::Forms::listed_unless))]
-    fn form(&self) -> Form {
-        self.inner.form().completed_unless(self.catch)
+    #[tactic(auto, using(crate::proofs::Parts::repeat_part_is))]
+    fn part(&self) -> ProgramPart {
+        self.inner.part().completed_unless(self.catch)
     }
 
     fn all_keys<N: KeyTest>(&self, test: &N) -> bool {
         self.inner.all_keys(test)
     }
 
-    ghost flat = { λ p a. many_field_law T (P.outcome p.inner) p.catch (P.keys p.inner)
-        (P.flat_form p.inner) (P.flat p.inner a) };
+    fn all_words<W: WordTest>(&self, _test: &W) -> bool {
+        true
+    }
+
+    ghost law = { λ p a. many_law T (P.outcome p.inner) p.catch (P.keys p.inner true) (P.words p.inner)
+        (P.program_form p.inner) (P.law p.inner a) };
 
     ghost shows = { λ p. many_shows (P.shows p.inner) };
 
-    ghost said = { λ p a. unless_says p.catch (listed_says (list_closure T) (P.said p.inner a)) };
+    ghost said = { λ p a. program_repeat_says (λ p. p.inner) p p.catch (list_closure T)
+        (P.said p.inner a) };
 }
 
+impl<T: Drop, P: FlatField<T>> FlatField<Vec<T>> for ParseMany<P> {}
+
 /// As `many`.
-impl<'m, T: Drop, P: FlatField<T>> FlatField<Vec<T>> for ParseSome<'m, P> {
+impl<'m, T: Drop, P: ProgramField<T>> ProgramField<Vec<T>> for ParseSome<'m, P> {
     ghost use Rattle.bpaf_exact.specs.Single.{repeated};
     ghost use Rattle.bpaf_exact.specs.Derived.{some_closure};
-    ghost use Rattle.bpaf_exact.specs.Says.{MadeSays, RepeatSays};
-    ghost use Rattle.bpaf_exact.proofs.Says.{listed_says, unless_says};
-    ghost use Rattle.bpaf_exact.specs.FlatForm.{flat_some, unless};
-    ghost use Rattle.bpaf_exact.proofs.Twins.{some_field_law};
     ghost use Rattle.bpaf_exact.proofs.SameParts.{some_shows};
+    ghost use Rattle.bpaf_exact.specs.ProgramForm.{program_repeat};
+    ghost use Rattle.bpaf_exact.specs.ProgramSays.{said_repeat};
+    ghost use Rattle.bpaf_exact.proofs.Twins.{some_law};
+    ghost use Rattle.bpaf_exact.proofs.ProgramSays.{program_repeat_says};
 
-    ghost keys = { λ p. P.keys p.inner };
+    ghost keys = { λ p deep. P.keys p.inner deep };
 
-    ghost flat_form = { λ p. unless p.catch (flat_some (P.flat_form p.inner)) };
+    ghost words = { λ p. [] };
+
+    ghost program_form = { λ p. program_repeat p.catch (some_closure T) (P.program_form p.inner) };
 
     ghost kind = { λ p. repeated (P.kind p.inner) };
 
-    ghost says = { λ p. MadeSays (RepeatSays (P.says p.inner)) (some_closure T) };
+    ghost says = { said_repeat (λ p. p.inner) (some_closure T) P.says };
 
     ghost agrees = { λ p. P.agrees p.inner };
 
-    #[tactic(auto, using(crate::proofs::Forms::listed_unless))]
-    fn form(&self) -> Form {
-        self.inner.form().completed_unless(self.catch)
+    #[tactic(auto, using(crate::proofs::Parts::repeat_part_is))]
+    fn part(&self) -> ProgramPart {
+        self.inner.part().completed_unless(self.catch)
     }
 
     fn all_keys<N: KeyTest>(&self, test: &N) -> bool {
         self.inner.all_keys(test)
     }
 
-    ghost flat = { λ p a. some_field_law T (P.outcome p.inner) p.catch p.message.now
-        (P.keys p.inner) (P.flat_form p.inner) (P.flat p.inner a) };
+    fn all_words<W: WordTest>(&self, _test: &W) -> bool {
+        true
+    }
+
+    ghost law = { λ p a. some_law T (P.outcome p.inner) p.catch p.message.now
+        (P.keys p.inner true) (P.words p.inner)
+        (P.program_form p.inner) (P.law p.inner a) };
 
     ghost shows = { λ p. some_shows (P.shows p.inner) };
 
-    ghost said = { λ p a. unless_says p.catch (listed_says (some_closure T) (P.said p.inner a)) };
+    ghost said = { λ p a. program_repeat_says (λ p. p.inner) p p.catch (some_closure T)
+        (P.said p.inner a) };
 }
+
+impl<'m, T: Drop, P: FlatField<T>> FlatField<Vec<T>> for ParseSome<'m, P> {}
 
 /// As `many`.
-impl<T: Drop, C: FromList<T> + Drop, P: FlatField<T>> FlatField<C> for ParseCollect<P, C, T> {
+impl<T: Drop, C: FromList<T> + Drop, P: ProgramField<T>> ProgramField<C> for ParseCollect<P, C, T> {
     ghost use Rattle.bpaf_exact.specs.Single.{repeated};
     ghost use Rattle.bpaf_exact.specs.Derived.{collect_closure};
-    ghost use Rattle.bpaf_exact.specs.Says.{MadeSays, RepeatSays};
-    ghost use Rattle.bpaf_exact.proofs.Says.{listed_says, unless_says};
-    ghost use Rattle.bpaf_exact.specs.FlatForm.{flat_collect, unless};
-    ghost use Rattle.bpaf_exact.proofs.Twins.{collect_field_law};
     ghost use Rattle.bpaf_exact.proofs.SameParts.{many_shows};
+    ghost use Rattle.bpaf_exact.specs.ProgramForm.{program_repeat};
+    ghost use Rattle.bpaf_exact.specs.ProgramSays.{said_repeat};
+    ghost use Rattle.bpaf_exact.proofs.Twins.{collect_law};
+    ghost use Rattle.bpaf_exact.proofs.ProgramSays.{program_repeat_says};
 
-    ghost keys = { λ p. P.keys p.inner };
+    ghost keys = { λ p deep. P.keys p.inner deep };
 
-    ghost flat_form = { λ p. unless p.catch (flat_collect C.fills (P.flat_form p.inner)) };
+    ghost words = { λ p. [] };
+
+    ghost program_form = { λ p. program_repeat p.catch (collect_closure C.fills) (P.program_form p.inner) };
 
     ghost kind = { λ p. repeated (P.kind p.inner) };
 
-    ghost says = { λ p. MadeSays (RepeatSays (P.says p.inner)) (collect_closure C.fills) };
+    ghost says = { said_repeat (λ p. p.inner) (collect_closure C.fills) P.says };
 
     ghost agrees = { λ p. P.agrees p.inner };
 
-    #[tactic(auto, using(crate::proofs::Forms::listed_unless))]
-    fn form(&self) -> Form {
-        self.inner.form().completed_unless(self.catch)
+    #[tactic(auto, using(crate::proofs::Parts::repeat_part_is))]
+    fn part(&self) -> ProgramPart {
+        self.inner.part().completed_unless(self.catch)
     }
 
     fn all_keys<N: KeyTest>(&self, test: &N) -> bool {
         self.inner.all_keys(test)
     }
 
-    ghost flat = { λ p a. collect_field_law T C (P.outcome p.inner) p.catch C.fills
-        (P.keys p.inner) (P.flat_form p.inner) (P.flat p.inner a) };
+    fn all_words<W: WordTest>(&self, _test: &W) -> bool {
+        true
+    }
+
+    ghost law = { λ p a. collect_law T C (P.outcome p.inner) p.catch C.fills
+        (P.keys p.inner true) (P.words p.inner)
+        (P.program_form p.inner) (P.law p.inner a) };
 
     ghost shows = { λ p. many_shows (P.shows p.inner) };
 
-    ghost said = { λ p a. unless_says p.catch (listed_says (collect_closure C.fills) (P.said p.inner a)) };
+    ghost said = { λ p a. program_repeat_says (λ p. p.inner) p p.catch (collect_closure C.fills)
+        (P.said p.inner a) };
 }
 
-impl<T: Drop, P: FlatField<T>> FlatField<usize> for ParseCount<P, T> {
+impl<T: Drop, C: FromList<T> + Drop, P: FlatField<T>> FlatField<C> for ParseCollect<P, C, T> {}
+
+impl<T: Drop, P: ProgramField<T>> ProgramField<usize> for ParseCount<P, T> {
     ghost use Rattle.bpaf_exact.specs.Single.{repeated};
     ghost use Rattle.bpaf_exact.specs.Derived.{count_closure};
-    ghost use Rattle.bpaf_exact.specs.Says.{MadeSays, RepeatSays};
-    ghost use Rattle.bpaf_exact.proofs.Says.{listed_says};
-    ghost use Rattle.bpaf_exact.specs.FlatForm.{flat_count};
-    ghost use Rattle.bpaf_exact.proofs.Twins.{count_field_law};
     ghost use Rattle.bpaf_exact.proofs.SameParts.{many_shows};
+    ghost use Rattle.bpaf_exact.specs.ProgramForm.{program_repeat};
+    ghost use Rattle.bpaf_exact.specs.ProgramSays.{said_repeat};
+    ghost use Rattle.bpaf_exact.proofs.Twins.{count_law};
+    ghost use Rattle.bpaf_exact.proofs.ProgramSays.{program_repeat_says};
+    ghost use Rattle.std.specs.Prelude.{false};
 
-    ghost keys = { λ p. P.keys p.inner };
+    ghost keys = { λ p deep. P.keys p.inner deep };
 
-    ghost flat_form = { λ p. flat_count (P.flat_form p.inner) };
+    ghost words = { λ p. [] };
+
+    ghost program_form = { λ p. program_repeat false (count_closure T) (P.program_form p.inner) };
 
     ghost kind = { λ p. repeated (P.kind p.inner) };
 
-    ghost says = { λ p. MadeSays (RepeatSays (P.says p.inner)) (count_closure T) };
+    ghost says = { said_repeat (λ p. p.inner) (count_closure T) P.says };
 
     ghost agrees = { λ p. P.agrees p.inner };
 
-    #[tactic(auto, using(crate::proofs::Forms::listed_is))]
-    fn form(&self) -> Form {
-        self.inner.form().completed()
+    #[tactic(auto, using(crate::proofs::Parts::repeat_part_is))]
+    fn part(&self) -> ProgramPart {
+        self.inner.part().completed_unless(false)
     }
 
     fn all_keys<N: KeyTest>(&self, test: &N) -> bool {
         self.inner.all_keys(test)
     }
 
-    ghost flat = { λ p a.
-        count_field_law T (P.outcome p.inner) (P.keys p.inner) (P.flat_form p.inner)
-        (P.flat p.inner a) };
+    fn all_words<W: WordTest>(&self, _test: &W) -> bool {
+        true
+    }
+
+    ghost law = { λ p a. count_law T (P.outcome p.inner) (P.keys p.inner true) (P.words p.inner)
+        (P.program_form p.inner) (P.law p.inner a) };
 
     ghost shows = { λ p. many_shows (P.shows p.inner) };
 
-    ghost said = { λ p a. listed_says (count_closure T) (P.said p.inner a) };
+    ghost said = { λ p a. program_repeat_says (λ p. p.inner) p false (count_closure T)
+        (P.said p.inner a) };
 }
 
-impl<T: Drop, P: FlatField<T>> FlatField<T> for ParseLast<P> {
+impl<T: Drop, P: FlatField<T>> FlatField<usize> for ParseCount<P, T> {}
+
+impl<T: Drop, P: ProgramField<T>> ProgramField<T> for ParseLast<P> {
     ghost use Rattle.bpaf_exact.specs.Single.{repeated};
-    ghost use Rattle.bpaf_exact.specs.Says.{LastSays};
-    ghost use Rattle.bpaf_exact.proofs.Says.{last_says};
-    ghost use Rattle.bpaf_exact.specs.FlatForm.{flat_last};
-    ghost use Rattle.bpaf_exact.proofs.Twins.{last_field_law};
     ghost use Rattle.bpaf_exact.proofs.SameParts.{some_shows};
+    ghost use Rattle.bpaf_exact.specs.ProgramForm.{program_last};
+    ghost use Rattle.bpaf_exact.specs.ProgramSays.{said_last};
+    ghost use Rattle.bpaf_exact.proofs.Twins.{last_law};
+    ghost use Rattle.bpaf_exact.proofs.ProgramSays.{program_last_says};
 
-    ghost keys = { λ p. P.keys p.inner };
+    ghost keys = { λ p deep. P.keys p.inner deep };
 
-    ghost flat_form = { λ p. flat_last (P.flat_form p.inner) };
+    ghost words = { λ p. [] };
+
+    ghost program_form = { λ p. program_last (P.program_form p.inner) };
 
     ghost kind = { λ p. repeated (P.kind p.inner) };
 
-    ghost says = { λ p. LastSays (P.says p.inner) };
+    ghost says = { said_last (λ p. p.inner) P.says };
 
     ghost agrees = { λ p. P.agrees p.inner };
 
-    #[tactic(auto, using(crate::proofs::Forms::last_is))]
-    fn form(&self) -> Form {
-        self.inner.form().completed()
+    #[tactic(auto, using(crate::proofs::Parts::last_part_is))]
+    fn part(&self) -> ProgramPart {
+        self.inner.part().completed_unless(false)
     }
 
     fn all_keys<N: KeyTest>(&self, test: &N) -> bool {
         self.inner.all_keys(test)
     }
 
-    ghost flat = { λ p a.
-        last_field_law T (P.outcome p.inner) (P.keys p.inner) (P.flat_form p.inner)
-        (P.flat p.inner a) };
+    fn all_words<W: WordTest>(&self, _test: &W) -> bool {
+        true
+    }
+
+    ghost law = { λ p a. last_law T (P.outcome p.inner) (P.keys p.inner true) (P.words p.inner)
+        (P.program_form p.inner) (P.law p.inner a) };
 
     ghost shows = { λ p. some_shows (P.shows p.inner) };
 
-    ghost said = { λ p a. last_says (P.said p.inner a) };
+    ghost said = { λ p a. program_last_says (λ p. p.inner) p (P.said p.inner a) };
 }
+
+impl<T: Drop, P: FlatField<T>> FlatField<T> for ParseLast<P> {}

@@ -1,76 +1,95 @@
 //! What changes only what is shown: a field stays what it is inside; a product with such a look
 //! round it is no record.
-ghost use Rattle.std.specs.Prelude.{◌≡◌};
+ghost use Rattle.std.specs.Prelude.{◌≡◌, true};
 
-use crate::field::FlatField;
-use crate::form::Form;
+use crate::field::{FlatField, ProgramField};
 use crate::keys::KeyTest;
+use crate::part::ProgramPart;
+use crate::words::WordTest;
 use bpaf::parsers::{ParseGroupHelp, ParseUsage};
 
-impl<T, P: FlatField<T>> FlatField<T> for ParseUsage<P> {
-    ghost use Rattle.bpaf_exact.proofs.Says.{dressed_says};
-    ghost use Rattle.bpaf_exact.specs.FlatForm.{flat_dressed};
+impl<T, P: ProgramField<T>> ProgramField<T> for ParseUsage<P> {
     ghost use Rattle.bpaf_exact.proofs.SameParts.{usage_shows};
-    ghost use Rattle.bpaf_exact.proofs.FlatForm.{flat_dressed_law};
+    ghost use Rattle.bpaf_exact.specs.ProgramForm.{program_dressed};
+    ghost use Rattle.bpaf_exact.specs.ProgramSays.{said_dressed};
+    ghost use Rattle.bpaf_exact.proofs.ProgramForm.{program_dressed_law};
+    ghost use Rattle.bpaf_exact.proofs.ProgramSays.{program_dressed_says};
 
-    ghost keys = { λ p. P.keys p.inner };
+    ghost keys = { λ p deep. P.keys p.inner deep };
 
-    ghost flat_form = { λ p. flat_dressed (P.flat_form p.inner) };
+    ghost words = { λ p. P.words p.inner };
+
+    ghost program_form = { λ p. program_dressed (P.program_form p.inner) };
 
     ghost kind = { λ p. P.kind p.inner };
 
-    ghost says = { λ p. P.says p.inner };
+    ghost says = { said_dressed (λ p. p.inner) P.says };
 
     ghost agrees = { λ p. P.agrees p.inner };
 
-    #[tactic(auto, using(crate::proofs::Forms::dressed_is))]
-    fn form(&self) -> Form {
-        self.inner.form().closed()
+    #[tactic(auto, using(crate::proofs::Parts::dressed_part_is))]
+    fn part(&self) -> ProgramPart {
+        self.inner.part().closed()
     }
 
     fn all_keys<N: KeyTest>(&self, test: &N) -> bool {
         self.inner.all_keys(test)
     }
 
-    ghost flat = { λ p a.
-        flat_dressed_law T (P.outcome p.inner) (P.keys p.inner) (P.flat_form p.inner)
-        (P.flat p.inner a) };
+    fn all_words<W: WordTest>(&self, test: &W) -> bool {
+        self.inner.all_words(test)
+    }
+
+    ghost law = { λ p a.
+        program_dressed_law T (P.outcome p.inner) (P.keys p.inner true) (P.words p.inner)
+        (P.program_form p.inner) (P.law p.inner a) };
 
     ghost shows = { λ p. usage_shows (P.shows p.inner) p.usage };
 
-    ghost said = { λ p a. dressed_says (P.said p.inner a) };
+    ghost said = { λ p a. program_dressed_says (λ p. p.inner) p (P.said p.inner a) };
 }
 
-impl<T, P: FlatField<T>> FlatField<T> for ParseGroupHelp<P> {
-    ghost use Rattle.bpaf_exact.proofs.Says.{dressed_says};
-    ghost use Rattle.bpaf_exact.specs.FlatForm.{flat_dressed};
+impl<T, P: FlatField<T>> FlatField<T> for ParseUsage<P> {}
+
+impl<T, P: ProgramField<T>> ProgramField<T> for ParseGroupHelp<P> {
     ghost use Rattle.bpaf_exact.proofs.SameParts.{section_shows};
-    ghost use Rattle.bpaf_exact.proofs.FlatForm.{flat_dressed_law};
+    ghost use Rattle.bpaf_exact.specs.ProgramForm.{program_dressed};
+    ghost use Rattle.bpaf_exact.specs.ProgramSays.{said_dressed};
+    ghost use Rattle.bpaf_exact.proofs.ProgramForm.{program_dressed_law};
+    ghost use Rattle.bpaf_exact.proofs.ProgramSays.{program_dressed_says};
 
-    ghost keys = { λ p. P.keys p.inner };
+    ghost keys = { λ p deep. P.keys p.inner deep };
 
-    ghost flat_form = { λ p. flat_dressed (P.flat_form p.inner) };
+    ghost words = { λ p. P.words p.inner };
+
+    ghost program_form = { λ p. program_dressed (P.program_form p.inner) };
 
     ghost kind = { λ p. P.kind p.inner };
 
-    ghost says = { λ p. P.says p.inner };
+    ghost says = { said_dressed (λ p. p.inner) P.says };
 
     ghost agrees = { λ p. P.agrees p.inner };
 
-    #[tactic(auto, using(crate::proofs::Forms::dressed_is))]
-    fn form(&self) -> Form {
-        self.inner.form().closed()
+    #[tactic(auto, using(crate::proofs::Parts::dressed_part_is))]
+    fn part(&self) -> ProgramPart {
+        self.inner.part().closed()
     }
 
     fn all_keys<N: KeyTest>(&self, test: &N) -> bool {
         self.inner.all_keys(test)
     }
 
-    ghost flat = { λ p a.
-        flat_dressed_law T (P.outcome p.inner) (P.keys p.inner) (P.flat_form p.inner)
-        (P.flat p.inner a) };
+    fn all_words<W: WordTest>(&self, test: &W) -> bool {
+        self.inner.all_words(test)
+    }
+
+    ghost law = { λ p a.
+        program_dressed_law T (P.outcome p.inner) (P.keys p.inner true) (P.words p.inner)
+        (P.program_form p.inner) (P.law p.inner a) };
 
     ghost shows = { λ p. section_shows (P.shows p.inner) p.message };
 
-    ghost said = { λ p a. dressed_says (P.said p.inner a) };
+    ghost said = { λ p a. program_dressed_says (λ p. p.inner) p (P.said p.inner a) };
 }
+
+impl<T, P: FlatField<T>> FlatField<T> for ParseGroupHelp<P> {}

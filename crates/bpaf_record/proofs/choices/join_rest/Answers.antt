@@ -1,24 +1,28 @@
-use Rattle.std.proofs.Common.{◌∙◌, ◌+◌, ap, take, drop, flat_map}
+use Rattle.std.proofs.Common.{◌∙◌, ◌+◌, ap, ap₂, take, drop, flat_map, true}
 use Rattle.bpaf_exact.specs.Names.{are_all_apart}
-use Rattle.bpaf_record.specs.Form.{form_of, forms_rest, joined_form}
-use Rattle.bpaf_record.proofs.Products.{join_step}
+use Rattle.bpaf_exact.specs.ProgramForm.{are_words_apart}
+use Rattle.bpaf_record.specs.Part.{chosen_part, part_of, parts_rest}
+use Rattle.bpaf_record.proofs.Parts.{join_step}
 use Rattle.bpaf_record.proofs.choices.join_rest.Goals as goal
 
 pub loop-index-preserved : goal.loop-index-preserved
 loop-index-preserved g c =
     let ps = c.args.parsers.now in
     let i = c.loop-index.index in
-    let old = c.loop-index.form in
-    let own = flat_map g.P.FlatField.keys (take i ps) in
-    let form = c.or_else-form.ensures
-    ∙ (ap (λ apart. joined_form apart old c.form.result) c.all_of-apart.ensures
-    ∙ (ap (joined_form
-    (are_all_apart own (g.P.FlatField.keys c.index-parsers-index.result)) old) c.form.ensures
-    ∙ ap (λ p. joined_form (are_all_apart own (g.P.FlatField.keys p)) old
-    (form_of (g.P.FlatField.flat_form p))) c.index-parsers-index.is)) in
-    ap (λ form. forms_rest g.P.FlatField.keys (λ p. form_of (g.P.FlatField.flat_form p))
-    (flat_map g.P.FlatField.keys (take (i + 1) ps)) form (drop (i + 1) ps)) form
-    ∙ (join_step g.P.FlatField.keys
-    (λ p. form_of
-    (g.P.FlatField.flat_form p)) old ps i c.index-parsers-index.result c.loop-index-test.true
+    let old = c.loop-index.part in
+    let own = flat_map (λ p. g.P.ProgramField.keys p true) (take i ps) in
+    let said = flat_map g.P.ProgramField.words (take i ps) in
+    let part = c.or_else-part.ensures
+    ∙ (ap₂ (λ apart others. chosen_part apart others old c.part.result)
+    c.all_keys_of-keys_apart.ensures c.all_words_of-words_apart.ensures
+    ∙ (ap (chosen_part (are_all_apart own (g.P.ProgramField.keys c.index-parsers-index.result true))
+    (are_words_apart said (g.P.ProgramField.words c.index-parsers-index.result)) old) c.part.ensures
+    ∙ ap (λ p. chosen_part (are_all_apart own (g.P.ProgramField.keys p true)) (are_words_apart said (g.P.ProgramField.words p)) old
+    (part_of (g.P.ProgramField.program_form p))) c.index-parsers-index.is)) in
+    ap (λ part. parts_rest (λ p. g.P.ProgramField.keys p true) g.P.ProgramField.words
+    (λ p. part_of (g.P.ProgramField.program_form p)) (flat_map (λ p. g.P.ProgramField.keys p true) (take (i + 1) ps))
+    (flat_map g.P.ProgramField.words (take (i + 1) ps)) part (drop (i + 1) ps)) part
+    ∙ (join_step (λ p. g.P.ProgramField.keys p true) g.P.ProgramField.words
+    (λ p. part_of (g.P.ProgramField.program_form p)) old ps i c.index-parsers-index.result
+    c.loop-index-test.true
     ∙ c.loop-index.invariant)

@@ -1,0 +1,401 @@
+-- A command over a program keeps to the laws of commands, and a named field before them to those of
+-- a program.
+use Rattle.std.proofs.Common.{◌≡◌, ◌≤◌, ◌<◌, ℕ, zero, suc, Bool, true, false, not, ◌&&◌, List}
+use Rattle.std.proofs.Common.{[], ◌∷◌, length, Option, Some, None, Result, Ok, Err, refl, sym, ap}
+use Rattle.std.proofs.Common.{◌∙◌, subst, inl, inr, ⊎_elim, arith, true≢false}
+use Rattle.std.proofs.Common.{if◌then◌else◌, ◌||◌, bytes_eq}
+use Rattle.std.specs.List.{list_any}
+use Rattle.std.specs.Option.{option_map_or}
+use Rattle.std.proofs.lemmas.Bool.{cases_lt, cases_Bool, and_parts}
+use Rattle.std.proofs.lemmas.Bool.Decides.{nat_tests}
+use Rattle.std.proofs.lemmas.List.{length_push}
+use Rattle.std.proofs.lemmas.Slice.Eq.{bytes_eq-Decides}
+use Rattle.bpaf_items.specs.declared.arg.Arg.{Arg}
+use Rattle.bpaf_items.specs.declared.arg.Arg.TheVariants.{Short, Long, ArgWord, Word, PosWord}
+use Rattle.bpaf_items.specs.Items.{any_item}
+use Rattle.bpaf_line.specs.declared.error.Error.{Error}
+use Rattle.bpaf_line.specs.Situation.{Situation, in_scope, is_taken, item_at}
+use Rattle.bpaf_line.specs.Taking.{open_item}
+use Rattle.bpaf_line.proofs.Places.{open_in_scope, taken_here, taken_other, taken_stays}
+use Rattle.bpaf_line.proofs.Matches.{match_is_open, open_item_there}
+use Rattle.bpaf_laws.specs.Choice.{depth}
+use Rattle.bpaf_laws.specs.Command.{Called, IsNotOpened, IsOpenedAt, inside, is_one_of}
+use Rattle.bpaf_laws.specs.Command.{opening_words}
+use Rattle.bpaf_laws.specs.Reading.{Outcome}
+use Rattle.bpaf_exact.specs.Pieces.{Cells, Roles, pieces}
+use Rattle.bpaf_exact.specs.Pieces.{IsNamed, is_key}
+use Rattle.bpaf_exact.specs.Flat.{cells, first_cells, NonePresent}
+use Rattle.bpaf_exact.specs.Flat.{NoneOutside, GivesAll, FieldsLaw, FieldsReading, ReadOff}
+use Rattle.bpaf_exact.specs.Programs.{CellsValue, Opens, opens_here, opens_later, OpensNone}
+use Rattle.bpaf_exact.specs.Programs.{is_dashed, is_spelled, IsSpelled, AllSpelled, no_cell}
+use Rattle.bpaf_exact.specs.Programs.{empty_cell, spelled_cell, are_plain}
+use Rattle.bpaf_exact.specs.Programs.{CommandValue, LeavesToOthers, ProgramLaw}
+use Rattle.bpaf_exact.specs.Programs.{FindsNoCommand, CommandsLaw, CommandEval, command_value}
+use Rattle.bpaf_exact.specs.Programs.{command_leftover, command_refused, command_missing}
+use Rattle.bpaf_exact.specs.Programs.{command_memory}
+use Rattle.bpaf_exact.proofs.Cells.{begin_foreign}
+use Rattle.bpaf_exact.proofs.Choice.{HasItem, has_item}
+use Rattle.bpaf_exact.proofs.Counts.{open_present}
+use Rattle.bpaf_exact.proofs.Matching.{match_of}
+use Rattle.bpaf_exact.proofs.Places.{same_cells, same_item, closed_item, TakenOne}
+use Rattle.bpaf_exact.proofs.Product.{no_own_in_cut}
+use Rattle.bpaf_exact.proofs.Records.{count_none}
+
+-- A command's word on cells.
+
+-- the first cell is the word
+opens_head : (words : List (List ℕ)) (c d : Option Arg) (cs ds : Cells) (k : Arg) → c ≡ Some k
+    → d ≡ None → ds ≡ cs → is_one_of words k ≡ true → Opens words (c ∷ cs) (d ∷ ds)
+opens_head words c d cs ds k e f g h =
+    subst (λ z. Opens words (z ∷ cs) (d ∷ ds)) (sym e)
+    (subst (λ z. Opens words (Some k ∷ cs) (z ∷ ds)) (sym f)
+    (subst (λ z. Opens words (Some k ∷ cs) (None ∷ z)) (sym g) (opens_here h)))
+
+-- nothing stands in the first cell
+opens_tail : (words : List (List ℕ)) (c d : Option Arg) (cs ds : Cells) → c ≡ None → d ≡ None
+    → Opens words cs ds → Opens words (c ∷ cs) (d ∷ ds)
+opens_tail words c d cs ds e f o =
+    subst (λ z. Opens words (z ∷ cs) (d ∷ ds)) (sym e)
+    (subst (λ z. Opens words (None ∷ cs) (z ∷ ds)) (sym f) (opens_later o))
+
+-- the first place at which something stands is taken, and is the word
+opens_at : (words : List (List ℕ)) (at left : ℕ → Option Arg) (n p : ℕ) (k : Arg) → p < n
+    → at p ≡ Some k → is_one_of words k ≡ true → ((q : ℕ) → q < p → at q ≡ None)
+    → TakenOne at left p → Opens words (first_cells at n) (first_cells left n)
+opens_at words at left zero p k l e h none taken = absurd (omega arith)
+opens_at words at left (suc n) zero k l e h none taken =
+    opens_head words (at zero) (left zero) _ _ k e taken.gone
+    (same_cells (λ q. left (suc q)) (λ q. at (suc q)) n
+    (λ q i. taken.others (suc q) (λ f. absurd (omega arith)))) h
+opens_at words at left (suc n) (suc p) k l e h none taken =
+    opens_tail words (at zero) (left zero) _ _ (none zero (omega arith))
+    (taken.others zero (λ f. absurd (omega arith)) ∙ none zero (omega arith))
+    (opens_at words (λ q. at (suc q)) (λ q. left (suc q)) n p k (omega arith) e h
+    (λ q i. none (suc q) (omega arith))
+    (record {
+      gone = taken.gone;
+      others = λ q other. taken.others (suc q) (λ f. other (omega arith));
+    }))
+
+-- what a word leaves is decided by the cells
+opens_one : (words : List (List ℕ)) {cs ds es : Cells} → Opens words cs ds → Opens words cs es
+    → ds ≡ es
+opens_one words (opens_here h) (opens_here i) = refl
+opens_one words (opens_later o) (opens_later p) = ap (λ z. None ∷ z) (opens_one words o p)
+
+-- where the first thing stands that is a word
+record FirstWord (words : List (List ℕ)) (at : ℕ → Option Arg) (n : ℕ) : Type 0 where
+  place : ℕ
+  item : Arg
+  within : place < n
+  is : at place ≡ Some item
+  named : is_one_of words item ≡ true
+  before : (q : ℕ) → q < place → at q ≡ None
+
+-- cells that a word opens have it as their first thing
+word_of : (words : List (List ℕ)) (at : ℕ → Option Arg) (n : ℕ) (ds : Cells)
+    → Opens words (first_cells at n) ds → FirstWord words at n
+word_of words at zero ds o = elim o [ ]
+word_of words at (suc n) ds o =
+    by_head (at zero) refl ds o (λ fs. word_of words (λ q. at (suc q)) n fs)
+  where
+    by_head : (c : Option Arg) → at zero ≡ c → (es : Cells)
+        → Opens words (c ∷ first_cells (λ q. at (suc q)) n) es
+        → ((fs : Cells) → Opens words (first_cells (λ q. at (suc q)) n) fs
+        → FirstWord words (λ q. at (suc q)) n) → FirstWord words at (suc n)
+    by_head (Some k) e es (opens_here h) behind = record {
+      place = zero;
+      item = k;
+      within = omega arith;
+      is = e;
+      named = h;
+      before = λ q l. absurd (omega arith);
+    }
+    by_head None e es (opens_later {ds = fs} o) behind =
+        let w = behind fs o in
+        record {
+          place = suc w.place;
+          item = w.item;
+          within = let l = w.within in omega arith;
+          is = w.is;
+          named = w.named;
+          before = later w.place w.before;
+        }
+      where
+        later : (p : ℕ) → ((q : ℕ) → q < p → at (suc q) ≡ None) → (q : ℕ) → q < suc p
+            → at q ≡ None
+        later p before zero l = e
+        later p before (suc q) l = before q (omega arith)
+
+-- What a command's word is.
+
+-- a plain word isn't dashed
+plain_word : (words : List (List ℕ)) → are_plain words ≡ true → (word : List ℕ)
+    → is_dashed word ≡ true → list_any (λ own. bytes_eq word own) words ≡ false
+plain_word [] plain word dashed = refl
+plain_word (own ∷ words) plain word dashed =
+    let both = and_parts (not (is_dashed own)) (are_plain words) plain in
+    by_test (bytes_eq word own) (plain_word words both.1 word dashed)
+    (λ same. true≢false (sym (subst (λ z. not (is_dashed z) ≡ true)
+    (sym ((bytes_eq-Decides word own).0 same)) both.0) ∙ ap not dashed))
+  where
+    by_test : (a : Bool) {b : Bool} → b ≡ false → (a ≡ true → ⊥) → (a || b) ≡ false
+    by_test true e f = absurd (f refl)
+    by_test false e f = e
+
+-- so a key is none of the words
+no_key : (words : List (List ℕ)) → are_plain words ≡ true → (k : Arg) → is_spelled k ≡ true
+    → is_one_of words k ≡ true → is_key k ≡ false
+no_key words plain (Short c attached word) s h =
+    absurd (true≢false (sym h ∙ plain_word words plain word s))
+no_key words plain (Long name true word) s h = absurd (true≢false (sym h ∙ none words))
+  where
+    none : (words : List (List ℕ)) → list_any (λ (own : List ℕ). false) words ≡ false
+    none [] = refl
+    none (w ∷ ws) = none ws
+no_key words plain (Long name false word) s h =
+    absurd (true≢false (sym h ∙ plain_word words plain word s))
+no_key words plain (ArgWord text) s h = refl
+no_key words plain (Word text) s h = refl
+no_key words plain (PosWord text) s h = refl
+
+-- a word isn't a named field's own, and so the field has the same pieces behind it
+opens_pieces : (words : List (List ℕ)) (q : Roles) → are_plain words ≡ true → IsNamed q
+    → {cs ds : Cells} → AllSpelled cs → Opens words cs ds → pieces q cs ≡ pieces q ds
+opens_pieces words q plain n no_cell o = elim o [ ]
+opens_pieces words q plain n (spelled_cell s a) (opens_here {k = k} {cs = cs} h) =
+    begin_foreign k cs (pieces q cs) (n.only_keys k (no_key words plain k s h))
+opens_pieces words q plain n (empty_cell a) (opens_later o) = opens_pieces words q plain n a o
+
+-- what is behind it is spelled
+opens_spelled : (words : List (List ℕ)) {cs ds : Cells} → AllSpelled cs → Opens words cs ds
+    → AllSpelled ds
+opens_spelled words no_cell o = elim o [ ]
+opens_spelled words (spelled_cell s a) (opens_here h) = empty_cell a
+opens_spelled words (empty_cell a) (opens_later o) = empty_cell (opens_spelled words a o)
+
+-- the first items are spelled
+first_spelled : (at : ℕ → Option Arg) (n : ℕ)
+    → ((p : ℕ) (k : Arg) → at p ≡ Some k → is_spelled k ≡ true) → AllSpelled (first_cells at n)
+first_spelled at zero all = no_cell
+first_spelled at (suc n) all =
+    by_cell (at zero) (all zero) (first_spelled (λ p. at (suc p)) n (λ p. all (suc p)))
+  where
+    by_cell : (c : Option Arg) → ((k : Arg) → c ≡ Some k → is_spelled k ≡ true) → {cs : Cells}
+        → AllSpelled cs → AllSpelled (c ∷ cs)
+    by_cell None f a = empty_cell a
+    by_cell (Some k) f a = spelled_cell (f k refl) a
+
+-- all that is present on a line is
+pub cells_spelled : (s : Situation) → IsSpelled s.context → AllSpelled (cells s)
+unfolding cells
+cells_spelled s all =
+    first_spelled (open_item s) (length s.context.line)
+    (λ p k e. all p k (open_item_there s p k e).1)
+
+-- A command's word in a situation.
+
+-- outside the scope nothing is open
+closed_outside : (s : Situation) (p : ℕ) → in_scope s p ≡ false → open_item s p ≡ None
+closed_outside s p e = ap (λ b. if (b && not (is_taken s p)) then item_at s p else None) e
+
+-- where not any item is open none is
+not_any : (c : Option Arg) → option_map_or any_item c false ≡ false → c ≡ None
+not_any None e = refl
+not_any (Some k) e = cc
+
+-- the item of a place passes a test that its place passes
+passes_at : (test : Arg → Bool) (c : Option Arg) (k : Arg) → c ≡ Some k
+    → option_map_or test c false ≡ true → test k ≡ true
+passes_at test c k e h = subst (λ z. option_map_or test z false ≡ true) e h
+
+module _ (called : Called) (s : Situation) (p : ℕ)
+    (at : IsOpenedAt (opening_words called) s p) where
+  -- behind the word
+  abbrev behind : Situation
+  behind = inside called s p
+
+  -- the word is in scope
+  word_in_scope : (s.start ≤ p) × (p < s.end)
+  word_in_scope = open_in_scope s p (match_is_open any_item s p at.first.matches)
+
+  -- nothing is open before it
+  none_before : (q : ℕ) → q < p → open_item s q ≡ None
+  none_before q l = not_any (open_item s q) (at.first.first q l)
+
+  -- what is open behind it
+  behind_one : TakenOne (open_item s) (open_item behind) p
+  behind_one = record {
+    gone = closed_item behind p (taken_here s p);
+    others = λ q other. ⊎_elim
+        (λ (before : q < p). closed_outside behind q (outside q before) ∙ sym (none_before q before))
+        (λ (after : p ≤ q). same_item s behind q (same_scope q after) refl (taken_other s p q other))
+        (cases_lt q p);
+  }
+    where
+      outside : (q : ℕ) → q < p → in_scope behind q ≡ false
+      outside q before = grind (arith, nat_tests)
+
+      same_scope : (q : ℕ) → p ≤ q → in_scope behind q ≡ in_scope s q
+      same_scope q after = let within = word_in_scope in grind (arith, nat_tests)
+
+  -- it opens the cells, and leaves those behind it
+  pub opens_cells : Opens (opening_words called) (cells s) (cells behind)
+  unfolding cells
+  opens_cells =
+      let m = match_of any_item s p at.first.matches in
+      opens_at (opening_words called) (open_item s) (open_item behind) (length s.context.line) p
+      m.item m.in_line m.is
+      (passes_at (is_one_of (opening_words called)) (item_at s p) m.item
+      (open_item_there s p m.item m.is).1 at.named)
+      none_before behind_one
+
+  -- what isn't taken lies in the scope behind it
+  pub whole_behind : NoneOutside s → NoneOutside behind
+  whole_behind w = record {
+    end = w.end;
+    front = λ q before. taken_stays s p q (⊎_elim
+        (λ (taken : is_taken s q ≡ true). taken)
+        (λ (free : is_taken s q ≡ false). absurd (never q before (has_item s q w free)))
+        (cases_Bool (is_taken s q)));
+  }
+    where
+      never : (q : ℕ) → q < p → HasItem s q → ⊥
+      never q before i = let e = i.is in let f = none_before q before in cc
+
+  -- the path is longer behind it
+  pub deeper_behind : depth s ≤ depth behind
+  deeper_behind = let e = length_push s.path called.name in omega arith
+
+-- where no word opens a situation none opens its cells
+pub opens_none : (words : List (List ℕ)) (s : Situation) → IsNotOpened words s
+    → OpensNone words (cells s)
+unfolding cells
+opens_none words s none ds o =
+    let w = word_of words (open_item s) (length s.context.line) ds o in
+    let there = open_item_there s w.place w.item w.is in
+    true≢false (sym (ap (λ z. option_map_or (is_one_of words) z false) there.1 ∙ w.named)
+    ∙ none w.place (record {
+      matches = ap (λ z. option_map_or any_item z false) w.is;
+      first = λ q l. ap (λ z. option_map_or any_item z false) (w.before q l);
+    }))
+
+-- A command keeps to the laws, where its program does.
+module _ (T : Type 0) (inner : Outcome T) (r : Roles) (value : CellsValue T)
+    (l : ProgramLaw T inner r value) (called : Called)
+    (plain : are_plain (opening_words called) ≡ true) where
+  -- its words
+  abbrev words : List (List ℕ)
+  words = opening_words called
+
+  -- a command's values
+  abbrev opened_value : CellsValue T
+  opened_value = CommandValue T words value
+
+  -- it leaves nothing of another's own
+  command_others : LeavesToOthers r opened_value
+  command_others q n a cs v s h =
+      opens_pieces words q plain n s h.opens
+      ∙ l.others q n a h.behind v (opens_spelled words s h.opens) h.read
+
+  -- the value is that of what is behind the word
+  from_behind : (s : Situation) (p : ℕ) (v : T) → IsOpenedAt words s p
+      → value (cells (inside called s p)) v → opened_value (cells s) v
+  from_behind s p v at h =
+      record { behind = cells (inside called s p); opens = opens_cells called s p at; read = h }
+
+  -- and the other way
+  to_behind : (s : Situation) (p : ℕ) (v : T) → IsOpenedAt words s p → opened_value (cells s) v
+      → value (cells (inside called s p)) v
+  to_behind s p v at h =
+      subst (λ cs. value cs v) (opens_one words h.opens (opens_cells called s p at)) h.read
+
+  -- the path gets no shorter
+  command_deep : (s t : Situation) (v : T) → NoneOutside s → CommandEval T inner called s (Ok v) t
+      → depth s ≤ depth t
+  command_deep s t v w (command_value {p = p} at i e) =
+      let a = deeper_behind called s p at in
+      let b = l.deep (inside called s p) t v (whole_behind called s p at w) i in
+      omega arith
+
+  -- an Ok took the word, and has the value of what is behind it
+  command_ok : (s t : Situation) (v : T) → NoneOutside s → IsSpelled s.context
+      → CommandEval T inner called s (Ok v) t
+      → NonePresent (cells t) → opened_value (cells s) v
+  command_ok s t v w spelled (command_value {p = p} at i e) n =
+      from_behind s p v at
+      (l.ok (inside called s p) t v (whole_behind called s p at w) spelled i n)
+
+  -- what its program answers behind the word where there is a value
+  answer_behind : (s m : Situation) (p : ℕ) (a : Result T Error) (u : T) → NoneOutside s
+      → IsOpenedAt words s p → inner (inside called s p) a m → opened_value (cells s) u
+      → GivesAll (value (cells (inside called s p))) a m
+  answer_behind s m p a u w at i h =
+      l.answers (inside called s p) m a u (whole_behind called s p at w) i (to_behind s p u at h)
+
+  -- where it has a value each answer is one, or want of memory
+  command_answers : (s t : Situation) (a : Result T Error) (u : T) → NoneOutside s
+      → CommandEval T inner called s a t → opened_value (cells s) u
+      → GivesAll (opened_value (cells s)) a t
+  command_answers s t a u w (command_value {v = v} {p = p} at i e) h =
+      let g = answer_behind s t p (Ok v) u w at i h in
+      (from_behind s p v at g.0, g.1)
+  command_answers s t a u w (command_leftover {v = v} {p = p} {m = m} at i left) h =
+      let g = answer_behind s m p (Ok v) u w at i h in
+      absurd (left (open_present m ∙ count_none g.1))
+  command_answers s t a u w (command_refused {d = d} {p = p} {m = m} at i spared) h =
+      absurd (spared (answer_behind s m p (Err d) u w at i h))
+  command_answers s t a u w (command_missing none e) h =
+      absurd (opens_none words s none h.behind h.opens)
+  command_answers s t a u w (command_memory e) h = e
+
+  -- where no word is the first thing present it is missing
+  command_none : (s t : Situation) (a : Result T Error) → NoneOutside s
+      → CommandEval T inner called s a t → OpensNone words (cells s) → FindsNoCommand s a t
+  unfolding cells
+  command_none s t a w (command_value {p = p} at i e) n =
+      absurd (n _ (opens_cells called s p at))
+  command_none s t a w (command_leftover {p = p} at i left) n =
+      absurd (n _ (opens_cells called s p at))
+  command_none s t a w (command_refused {p = p} at i spared) n =
+      absurd (n _ (opens_cells called s p at))
+  command_none s t a w (command_missing none e) n = inr (e, refl, refl)
+  command_none s t a w (command_memory e) n = inl e
+
+  -- the laws
+  pub command_law : CommandsLaw T (CommandEval T inner called) r words opened_value
+  command_law = record {
+    program = record {
+      others = command_others;
+      deep = command_deep;
+      ok = command_ok;
+      answers = command_answers;
+    };
+    opened = λ cs v h. (h.behind, h.opens);
+    none = command_none;
+  }
+
+-- A flat record is a program.
+module _ (V : Type 0) (outcome : Outcome V) (r : Roles) (reading : FieldsReading V)
+    (l : FieldsLaw V outcome r reading) where
+  -- its values, read off a cut
+  abbrev record_value : CellsValue V
+  record_value cs v = ReadOff V r reading.value cs v
+
+  -- where it has a value each answer is one, or want of memory
+  record_answers : (s t : Situation) (a : Result V Error) (u : V) → NoneOutside s → outcome s a t
+      → record_value (cells s) u → GivesAll (record_value (cells s)) a t
+  record_answers s t (Ok v) u w o h =
+      let g = l.answers s t (Ok v) h.cut_into w o h.cut (l.has_each h.cut_into u h.read) in
+      (record { cut_into = h.cut_into; cut = h.cut; read = g.0 }, g.1)
+  record_answers s t (Err e) u w o h =
+      l.answers s t (Err e) h.cut_into w o h.cut (l.has_each h.cut_into u h.read)
+
+  -- the laws
+  pub record_program : ProgramLaw V outcome r record_value
+  record_program = record {
+    others = λ q n a cs v s h. no_own_in_cut q r n a h.cut;
+    deep = λ s t v w o. let e = ap length (l.steady s t v w o).path in omega arith;
+    ok = λ s t v w spelled o. l.ok s t v w o;
+    answers = record_answers;
+  }

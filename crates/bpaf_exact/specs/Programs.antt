@@ -1,0 +1,173 @@
+-- Programs with commands: named fields, and then a command, behind whose word a program stands
+-- again. What a program's values are is said of the cells of its scope alone.
+use Rattle.std.specs.Prelude.{◌≡◌, ◌≤◌, ◌⊎◌, ℕ, Bool, true, false, List, [], ◌∷◌, Option, Some, None}
+use Rattle.std.specs.Prelude.{Result, Ok, Err, if◌then◌else◌, ◌==◌, not}
+use Rattle.std.specs.List.{list_all}
+use Rattle.bpaf_items.specs.declared.arg.Arg.{Arg}
+use Rattle.bpaf_items.specs.declared.arg.Arg.TheVariants.{Short, Long, ArgWord, Word, PosWord}
+use Rattle.bpaf_line.specs.declared.error.Error.{Error}
+use Rattle.bpaf_line.specs.Situation.{Situation, Context, item_in, open_count, with_current}
+use Rattle.bpaf_laws.specs.Choice.{depth}
+use Rattle.bpaf_laws.specs.Command.{Called, IsNotOpened, IsOpenedAt, inside, is_one_of}
+use Rattle.bpaf_laws.specs.Command.{opening_words}
+use Rattle.bpaf_laws.specs.Reading.{Outcome}
+use Rattle.bpaf_exact.specs.Pieces.{Cells, Role, Foreign, Alone, WithNext, Roles, LinePiece}
+use Rattle.bpaf_exact.specs.Pieces.{is_value, pieces, Apart, IsNamed}
+use Rattle.bpaf_exact.specs.Flat.{OfMemory, OfMissing, class, cells, NonePresent, NoneOutside, GivesAll}
+use Rattle.bpaf_exact.specs.Wrappers.{Closure}
+
+-- which values some cells have
+abbrev pub CellsValue : Type 0 → Type 1
+CellsValue V = Cells → V → Type 0
+
+-- Named fields' own pieces taken away.
+
+-- the first cell made empty, where a value stands in it
+abbrev pub without_value : Cells → Cells
+without_value [] = []
+without_value (None ∷ cs) = None ∷ cs
+without_value (Some w ∷ cs) = (if is_value w then None else Some w) ∷ cs
+
+-- an item of one's own taken away: of a key of an argument with the value in the next cell
+abbrev pub without_piece : Role → Arg → Cells → Cells
+without_piece Foreign k cs = Some k ∷ cs
+without_piece Alone k cs = None ∷ cs
+without_piece WithNext k cs = None ∷ without_value cs
+
+-- the cells without the pieces that begin with an item of one's own, wherever these stand
+abbrev pub without : Roles → Cells → Cells
+without q [] = []
+without q (None ∷ cs) = None ∷ without q cs
+without q (Some k ∷ cs) = without_piece (q k) k (without q cs)
+
+-- A command's word.
+
+-- the first thing present is one of these words, and is taken; nothing is present in front of it
+pub data Opens (words : List (List ℕ)) : Cells → Cells → Type 0 where
+  opens_here : {k : Arg} {cs : Cells} → is_one_of words k ≡ true
+      → Opens words (Some k ∷ cs) (None ∷ cs)
+  opens_later : {cs ds : Cells} → Opens words cs ds → Opens words (None ∷ cs) (None ∷ ds)
+
+-- none of these words opens anything
+abbrev pub OpensNone : List (List ℕ) → Cells → Type 0
+OpensNone words cs = (ds : Cells) → ¬ (Opens words cs ds)
+
+-- Which items a command's word may be.
+
+-- the whole word of a key: none, where another key of the same word stands before it, else one that
+-- begins with a dash
+abbrev pub is_dashed : List ℕ → Bool
+is_dashed [] = true
+is_dashed (b ∷ bs) = b == 45
+
+-- an item as words spell it
+abbrev pub is_spelled : Arg → Bool
+is_spelled (Short c attached word) = is_dashed word
+is_spelled (Long name attached word) = is_dashed word
+is_spelled (ArgWord text) = true
+is_spelled (Word text) = true
+is_spelled (PosWord text) = true
+
+-- all items of a line are such
+abbrev pub IsSpelled : Context → Type 0
+IsSpelled context = (p : ℕ) (k : Arg) → item_in context p ≡ Some k → is_spelled k ≡ true
+
+-- all that is present is such
+pub data AllSpelled : Cells → Type 0 where
+  no_cell : AllSpelled []
+  empty_cell : {cs : Cells} → AllSpelled cs → AllSpelled (None ∷ cs)
+  spelled_cell : {k : Arg} {cs : Cells} → is_spelled k ≡ true → AllSpelled cs
+      → AllSpelled (Some k ∷ cs)
+
+-- the names of a command aren't empty, and don't begin with a dash
+abbrev pub are_plain : List (List ℕ) → Bool
+are_plain words = list_all (λ word. not (is_dashed word)) words
+
+-- The values.
+
+-- a command: its word is the first thing present, and behind it its program has the value
+pub record CommandValue (T : Type 0) (words : List (List ℕ)) (inner : CellsValue T) (cs : Cells)
+    (v : T) : Type 0 where
+  pub behind : Cells
+  pub opens : Opens words cs behind
+  pub read : inner behind v
+
+-- a choice of commands: one of them has the value
+pub data ChoiceValue (T : Type 0) (first second : CellsValue T) (cs : Cells) (v : T) : Type 0 where
+  first_value : first cs v → ChoiceValue T first second cs v
+  second_value : second cs v → ChoiceValue T first second cs v
+
+-- commands that may be left out: nothing is present at all, and it is None
+pub data OptionalCommands (T : Type 0) (inner : CellsValue T) (cs : Cells) : Option T
+    → Type 0 where
+  some_command : {v : T} → inner cs v → OptionalCommands T inner cs (Some v)
+  no_command : NonePresent cs → OptionalCommands T inner cs None
+
+-- a closure round any of these
+pub record ClosedCells (A B : Type 0) (inner : CellsValue A) (f : Closure A B) (cs : Cells)
+    (v : B) : Type 0 where
+  pub from : A
+  pub read : inner cs from
+  pub made : f.yes from v
+
+-- a named field before others, the last of which are commands: it has its value on its own pieces,
+-- and they have theirs on what is left without these
+pub record FieldThen (A B : Type 0) (q : Roles) (first : List LinePiece → A → Type 0)
+    (rest : CellsValue B) (cs : Cells) (v : A × B) : Type 0 where
+  pub own : first (pieces q cs) v.0
+  pub left : rest (without q cs) v.1
+
+-- The laws.
+
+-- where a program has a value, none of the items left to it are those of a field before it
+abbrev pub LeavesToOthers : {V : Type 0} → Roles → CellsValue V → Type 0
+LeavesToOthers {V = V} r value =
+    (q : Roles) → IsNamed q → Apart q r → (cs : Cells) (v : V) → AllSpelled cs → value cs v
+    → pieces q cs ≡ []
+
+-- The laws of a program, and of commands as the last field of one, with the items that may stand in
+-- it. Where it has a value, each answer is one, with nothing left, or it is want of memory.
+pub record ProgramLaw (V : Type 0) (outcome : Outcome V) (r : Roles) (value : CellsValue V)
+    : Type 0 where
+  pub others : LeavesToOthers r value
+  pub deep : (s t : Situation) (v : V) → NoneOutside s → outcome s (Ok v) t → depth s ≤ depth t
+  pub ok : (s t : Situation) (v : V) → NoneOutside s → IsSpelled s.context → outcome s (Ok v) t
+      → NonePresent (cells t) → value (cells s) v
+  pub answers : (s t : Situation) (a : Result V Error) (w : V) → NoneOutside s → outcome s a t
+      → value (cells s) w → GivesAll (value (cells s)) a t
+
+-- the word is missing, and nothing is taken; or memory is wanted
+abbrev pub FindsNoCommand : {T : Type 0} → Situation → Result T Error → Situation → Type 0
+FindsNoCommand s (Ok v) t = ⊥
+FindsNoCommand s (Err e) t =
+    (class e ≡ OfMemory) ⊎ ((class e ≡ OfMissing) × (cells t ≡ cells s) × (t.path ≡ s.path))
+
+-- The laws of a command, or a choice of them, with its words: what has a value is opened by one of
+-- them; where none is the first thing present it is missing.
+pub record CommandsLaw (T : Type 0) (outcome : Outcome T) (r : Roles) (words : List (List ℕ))
+    (value : CellsValue T) : Type 0 where
+  pub program : ProgramLaw T outcome r value
+  pub opened : (cs : Cells) (v : T) → value cs v → (ds : Cells) × Opens words cs ds
+  pub none : (s t : Situation) (a : Result T Error) → NoneOutside s → outcome s a t
+      → OpensNone words (cells s) → FindsNoCommand s a t
+
+-- What runs behind a command's word: a value only where nothing is left present.
+pub data CommandEval (T : Type 0) (inner : Outcome T) (called : Called) (s : Situation)
+    : Result T Error → Situation → Type 0 where
+  command_value : {v : T} {p : ℕ} {t : Situation} → IsOpenedAt (opening_words called) s p
+      → inner (inside called s p) (Ok v) t → open_count t ≡ 0 → CommandEval T inner called s
+      (Ok v) t
+  command_leftover : {v : T} {e : Error} {p : ℕ} {m t : Situation}
+      → IsOpenedAt (opening_words called) s p → inner (inside called s p) (Ok v) m
+      → (open_count m ≡ 0 → ⊥) → CommandEval T inner called s (Err e) t
+  command_refused : {d e : Error} {p : ℕ} {m t : Situation}
+      → IsOpenedAt (opening_words called) s p → inner (inside called s p) (Err d) m
+      → (class d ≡ OfMemory → ⊥) → CommandEval T inner called s (Err e) t
+  command_missing : {e : Error} → IsNotOpened (opening_words called) s → class e ≡ OfMissing
+      → CommandEval T inner called s (Err e) (with_current s None)
+  command_memory : {e : Error} {t : Situation} → class e ≡ OfMemory
+      → CommandEval T inner called s (Err e) t
+
+-- the words of two commands are apart
+abbrev pub WordsApart : List (List ℕ) → List (List ℕ) → Type 0
+WordsApart words others = (k : Arg) → is_one_of words k ≡ true → is_one_of others k ≡ false

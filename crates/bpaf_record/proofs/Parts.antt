@@ -1,0 +1,290 @@
+-- What the combinators make of a part of a program.
+use Rattle.std.proofs.Common.{◌≡◌, ℕ, ◌+◌, ◌<◌, ◌≤◌, Bool, true, false, not, ◌&&◌, List, [], ◌∷◌}
+use Rattle.std.proofs.Common.{◌++◌, length, take, drop, flat_map, slice_index_or, refl, sym, ap}
+use Rattle.std.proofs.Common.{◌∙◌, ap₂, arith, append-nil, if◌then◌else◌}
+use Rattle.std.specs.List.{list_all}
+use Rattle.std.proofs.lemmas.List.{drop_all, drop_more, take_more}
+use Rattle.std.proofs.lemmas.List.Concat.{flat_map-append}
+use Rattle.bpaf_doc.specs.Names.{Names}
+use Rattle.bpaf_laws.specs.Command.{Called, opening_words}
+use Rattle.bpaf_exact.specs.Flat.{ByName, OneWord, EachWord, ReadOff}
+use Rattle.bpaf_exact.specs.FlatForm.{FlatForm, not_flat, alternative, single, complete, product}
+use Rattle.bpaf_exact.specs.FlatForm.{flat_field, flat_record, is_record, product_reading}
+use Rattle.bpaf_exact.specs.FlatForm.{product_roles}
+use Rattle.bpaf_exact.specs.Names.{are_all_apart}
+use Rattle.bpaf_exact.specs.ProgramForm.{ProgramForm, no_program, plain, commands, left_out}
+use Rattle.bpaf_exact.specs.ProgramForm.{before_commands, program_if, program_closed, flat_only}
+use Rattle.bpaf_exact.specs.ProgramForm.{program_dressed, program_repeat, program_last}
+use Rattle.bpaf_exact.specs.ProgramForm.{program_fallback, program_optional, are_words_apart}
+use Rattle.bpaf_exact.specs.ProgramForm.{program_choice, program_choices, program_rest, first_only}
+use Rattle.bpaf_exact.specs.ProgramForm.{whole_program, opened_form, program_command, is_program}
+use Rattle.bpaf_exact.specs.ProgramForm.{program_field, program_alone, program_both, program_con}
+use Rattle.bpaf_exact.specs.ProgramForm.{flat_form}
+use Rattle.bpaf_exact.specs.Pieces.{Roles}
+use Rattle.bpaf_exact.specs.Programs.{CellsValue, CommandValue, are_plain}
+use Rattle.bpaf_exact.specs.Wrappers.{Closure}
+use Rattle.bpaf_record.specs.declared.part.ProgramPart.{ProgramPart}
+use Rattle.bpaf_record.specs.declared.part.ProgramPart.TheVariants.{NoPart, Flat, Commands}
+use Rattle.bpaf_record.specs.declared.part.ProgramPart.TheVariants.{BeforeCommands}
+use Rattle.bpaf_record.specs.Commands.{keys_inside}
+use Rattle.bpaf_record.specs.Form.{field_form, form_of, is_record_form}
+use Rattle.bpaf_record.specs.Part.{part_of, part_if, flat_part, closed_part, completed_part}
+use Rattle.bpaf_record.specs.Part.{optional_part, chosen_part, first_part, is_program_part}
+use Rattle.bpaf_record.specs.Part.{command_part, field_part, last_part, before_part, made_part}
+use Rattle.bpaf_record.specs.Part.{parts_rest}
+use Rattle.bpaf_record.proofs.Forms.{closed_is, dressed_is, fallback_is, last_is, listed_unless}
+use Rattle.bpaf_record.proofs.Forms.{optional_unless, record_is}
+use Rattle.bpaf_record.proofs.Products.{alone_is, both_is, choice_is, con_is, only_is}
+
+-- where a test holds
+if_is : {T : Type 0} (b : Bool) (s : ProgramForm T)
+    → part_if b (part_of s) ≡ part_of (program_if b s)
+if_is true s = refl
+if_is false s = refl
+
+-- a closure
+pub closed_part_is : {A B : Type 0} (f : Closure A B) (s : ProgramForm A)
+    → closed_part (part_of s) ≡ part_of (program_closed f s)
+closed_part_is f no_program = refl
+closed_part_is f (plain s) = ap Flat (closed_is f s)
+closed_part_is f (commands r value) = refl
+closed_part_is f (left_out r value) = refl
+closed_part_is f (before_commands r value) = refl
+
+-- another look
+pub dressed_part_is : {T : Type 0} (s : ProgramForm T)
+    → closed_part (part_of s) ≡ part_of (program_dressed s)
+dressed_part_is no_program = refl
+dressed_part_is (plain s) = ap Flat (dressed_is s)
+dressed_part_is (commands r value) = refl
+dressed_part_is (left_out r value) = refl
+dressed_part_is (before_commands r value) = refl
+
+-- what is made of a repeat
+pub repeat_part_is : {T B : Type 0} (catch : Bool) (f : Closure (List T) B) (s : ProgramForm T)
+    → completed_part catch (part_of s) ≡ part_of (program_repeat catch f s)
+repeat_part_is catch f no_program = refl
+repeat_part_is catch f (plain s) = ap Flat (listed_unless catch f s)
+repeat_part_is catch f (commands r value) = refl
+repeat_part_is catch f (left_out r value) = refl
+repeat_part_is catch f (before_commands r value) = refl
+
+-- its last value
+pub last_part_is : {T : Type 0} (s : ProgramForm T)
+    → completed_part false (part_of s) ≡ part_of (program_last s)
+last_part_is no_program = refl
+last_part_is (plain s) = ap Flat (last_is s)
+last_part_is (commands r value) = refl
+last_part_is (left_out r value) = refl
+last_part_is (before_commands r value) = refl
+
+-- a default
+pub fallback_part_is : {T : Type 0} (f : Closure (Unit {0}) T) (s : ProgramForm T)
+    → completed_part false (part_of s) ≡ part_of (program_fallback f s)
+fallback_part_is f no_program = refl
+fallback_part_is f (plain s) = ap Flat (fallback_is f s)
+fallback_part_is f (commands r value) = refl
+fallback_part_is f (left_out r value) = refl
+fallback_part_is f (before_commands r value) = refl
+
+-- what may be left out
+pub optional_part_is : {T : Type 0} (catch : Bool) (s : ProgramForm T)
+    → optional_part catch (part_of s) ≡ part_of (program_optional catch s)
+optional_part_is catch no_program = refl
+optional_part_is catch (plain s) = ap Flat (optional_unless catch s)
+optional_part_is true (commands r value) = refl
+optional_part_is false (commands r value) = refl
+optional_part_is catch (left_out r value) = refl
+optional_part_is catch (before_commands r value) = refl
+
+-- a choice of two
+pub choice_part_is : {T : Type 0} (own others : List Names) (words more : List (List ℕ))
+    (s t : ProgramForm T)
+    → chosen_part (are_all_apart own others) (are_words_apart words more) (part_of s) (part_of t)
+    ≡ part_of (program_choice own others words more s t)
+choice_part_is own others words more (plain s) (plain t) = ap Flat (choice_is own others s t)
+choice_part_is own others words more (commands q a) (commands r b) =
+    if_is (are_words_apart words more) _
+choice_part_is own others words more _ _ = refl
+
+-- a choice of one alone
+first_part_is : {T : Type 0} (s : ProgramForm T) → first_part (part_of s) ≡ part_of (first_only s)
+first_part_is no_program = refl
+first_part_is (plain s) = ap Flat (only_is s)
+first_part_is (commands r value) = refl
+first_part_is (left_out r value) = refl
+first_part_is (before_commands r value) = refl
+
+-- a flat record
+pub record_part_is : {T : Type 0} (s : ProgramForm T)
+    → is_record_form (flat_part (part_of s)) ≡ is_record (flat_form s)
+record_part_is no_program = refl
+record_part_is (plain s) = record_is s
+record_part_is (commands r value) = refl
+record_part_is (left_out r value) = refl
+record_part_is (before_commands r value) = refl
+
+-- a program
+pub program_part_is : {T : Type 0} (s : ProgramForm T) → is_program_part (part_of s) ≡ is_program s
+program_part_is no_program = refl
+program_part_is (plain s) = record_is s
+program_part_is (commands r value) = refl
+program_part_is (left_out r value) = refl
+program_part_is (before_commands r value) = refl
+
+-- a command over no program
+over_none : (b : Bool) → part_if (b && false) Commands ≡ NoPart
+over_none true = refl
+over_none false = refl
+
+module _ {T : Type 0} (words : List (List ℕ)) where
+  -- over one
+  over_program : (r : Roles) (value : CellsValue T) (b : Bool)
+      → part_if (b && true) Commands
+      ≡ part_of (program_if b (commands r (CommandValue T words value)))
+  over_program r value true = refl
+  over_program r value false = refl
+
+  -- over what may be a flat record
+  over_record : (s : FlatForm T) (a b : Bool) → a ≡ b
+      → part_if (are_plain words && a) Commands
+      ≡ part_of (opened_form words (program_if b (before_commands (product_roles (flat_record s))
+      (ReadOff T (product_roles (flat_record s)) (product_reading (flat_record s)).value))))
+  over_record s true true e = over_program _ _ (are_plain words)
+  over_record s true false e = absurd cc
+  over_record s false true e = absurd cc
+  over_record s false false e = over_none (are_plain words)
+
+  -- a command that opens a program
+  opened_part_is : (s : ProgramForm T)
+      → part_if (are_plain words && is_program_part (part_of s)) Commands
+      ≡ part_of (opened_form words (whole_program s))
+  opened_part_is no_program = over_none (are_plain words)
+  opened_part_is (plain s) = over_record s (is_record_form (form_of s)) (is_record s) (record_is s)
+  opened_part_is (commands r value) = over_program r value (are_plain words)
+  opened_part_is (left_out r value) = over_program r value (are_plain words)
+  opened_part_is (before_commands r value) = over_program r value (are_plain words)
+
+-- a command
+pub command_part_is : {T : Type 0} (adjacent apart : Bool) (called : Called) (s : ProgramForm T)
+    → command_part ((not adjacent && apart) && are_plain (opening_words called)) (part_of s)
+    ≡ part_of (program_command adjacent apart called s)
+command_part_is true apart called s = refl
+command_part_is false true called s = opened_part_is (opening_words called) s
+command_part_is false false called s = refl
+
+-- a test of the keys inside a command
+pub keys_entered : (test : Names → Bool) (deep : Bool) (names : List Names) (b : Bool)
+    → b ≡ list_all test names
+    → (if deep then b else true) ≡ list_all test (keys_inside deep names)
+keys_entered test true names b e = e
+keys_entered test false names b e = refl
+
+-- the last field
+pub alone_part_is : {T : Type 0} (s : ProgramForm T)
+    → last_part (field_part (part_of s)) ≡ part_of (program_alone (program_field s))
+alone_part_is no_program = refl
+alone_part_is (plain s) = ap Flat (alone_is s)
+alone_part_is (commands r value) = refl
+alone_part_is (left_out r value) = refl
+alone_part_is (before_commands r value) = refl
+
+-- a named field before commands
+named_part_is : {A B : Type 0} (own others : List Names) (s : FlatForm A) (r : Roles)
+    (value : CellsValue B) (none : Bool)
+    → before_part (Flat (field_form (form_of s))) BeforeCommands (are_all_apart own others) none
+    ≡ part_of (program_both own others (plain (flat_field s)) (before_commands r value))
+named_part_is own others not_flat r value none = refl
+named_part_is own others (alternative q own_value) r value none =
+    if_is (are_all_apart own others) _
+named_part_is own others (single ByName q group gap) r value none =
+    if_is (are_all_apart own others) _
+named_part_is own others (single OneWord q group gap) r value none = refl
+named_part_is own others (single EachWord q group gap) r value none = refl
+named_part_is own others (complete ByName q own_value) r value none =
+    if_is (are_all_apart own others) _
+named_part_is own others (complete OneWord q own_value) r value none = refl
+named_part_is own others (complete EachWord q own_value) r value none = refl
+named_part_is own others (product q fields) r value none = refl
+
+-- a field before others
+pub both_part_is : {A B : Type 0} (own others : List Names) (s : ProgramForm A)
+    (t : ProgramForm B)
+    → before_part (field_part (part_of s)) (part_of t) (are_all_apart own others)
+    (list_all (λ names. false) others) ≡ part_of (program_both own others (program_field s) t)
+both_part_is own others (plain s) (plain t) = ap Flat (both_is own others s t)
+both_part_is own others (plain s) (before_commands r value) =
+    named_part_is own others s r value (list_all (λ names. false) others)
+both_part_is own others _ _ = refl
+
+-- a constructor
+pub con_part_is : {A B : Type 0} (f : Closure A B) (s : ProgramForm A)
+    → made_part (part_of s) ≡ part_of (program_con f s)
+con_part_is f no_program = refl
+con_part_is f (plain s) = ap Flat (con_is f s)
+con_part_is f (commands r value) = refl
+con_part_is f (left_out r value) = refl
+con_part_is f (before_commands r value) = refl
+
+-- a choice of what stands before and of parsers
+rest_part_is : {P T : Type 0} (keys : P → List Names) (words : P → List (List ℕ))
+    (form : P → ProgramForm T) (own : List Names) (said : List (List ℕ)) (s : ProgramForm T)
+    (ps : List P)
+    → parts_rest keys words (λ p. part_of (form p)) own said (part_of s) ps
+    ≡ part_of (program_rest keys words form own said s ps)
+rest_part_is keys words form own said s [] = refl
+rest_part_is keys words form own said s (p ∷ ps) =
+    ap (λ part. parts_rest keys words (λ q. part_of (form q)) (own ++ keys p) (said ++ words p)
+    part ps) (choice_part_is own (keys p) said (words p) s (form p))
+    ∙ rest_part_is keys words form (own ++ keys p) (said ++ words p)
+    (program_choice own (keys p) said (words p) s (form p)) ps
+
+-- what one parser more adds
+one_more : {P X : Type 0} (each : P → List X) (ps : List P) (i : ℕ) (d : P) → i < length ps
+    → flat_map each (take (i + 1) ps) ≡ flat_map each (take i ps) ++ each (slice_index_or ps i d)
+one_more each ps i d l =
+    ap (flat_map each) (take_more ps i d l)
+    ∙ (flat_map-append each (take i ps) (slice_index_or ps i d ∷ [])
+    ∙ ap (λ more. flat_map each (take i ps) ++ more) (append-nil (each (slice_index_or ps i d))))
+
+-- one parser more is joined
+pub join_step : {P : Type 0} (keys : P → List Names) (words : P → List (List ℕ))
+    (part : P → ProgramPart) (f : ProgramPart) (ps : List P) (i : ℕ) (d : P) → i < length ps
+    → parts_rest keys words part (flat_map keys (take (i + 1) ps))
+    (flat_map words (take (i + 1) ps))
+    (chosen_part (are_all_apart (flat_map keys (take i ps)) (keys (slice_index_or ps i d)))
+    (are_words_apart (flat_map words (take i ps)) (words (slice_index_or ps i d))) f
+    (part (slice_index_or ps i d))) (drop (i + 1) ps)
+    ≡ parts_rest keys words part (flat_map keys (take i ps)) (flat_map words (take i ps)) f
+    (drop i ps)
+join_step keys words part f ps i d l =
+    ap₂ (λ own said. parts_rest keys words part own said
+    (chosen_part (are_all_apart (flat_map keys (take i ps)) (keys (slice_index_or ps i d)))
+    (are_words_apart (flat_map words (take i ps)) (words (slice_index_or ps i d))) f
+    (part (slice_index_or ps i d))) (drop (i + 1) ps)) (one_more keys ps i d l)
+    (one_more words ps i d l)
+    ∙ sym (ap (parts_rest keys words part (flat_map keys (take i ps)) (flat_map words (take i ps))
+    f) (drop_more ps i d l))
+
+-- when all are joined
+pub join_end : {P : Type 0} (keys : P → List Names) (words : P → List (List ℕ))
+    (part : P → ProgramPart) (f : ProgramPart) (ps : List P) (i : ℕ) → length ps ≤ i
+    → parts_rest keys words part (flat_map keys (take i ps)) (flat_map words (take i ps)) f
+    (drop i ps) ≡ f
+join_end keys words part f ps i l =
+    ap (parts_rest keys words part (flat_map keys (take i ps)) (flat_map words (take i ps)) f)
+    (drop_all i ps l)
+
+-- the choice of all parsers
+pub choices_are : {P T : Type 0} (keys : P → List Names) (words : P → List (List ℕ))
+    (form : P → ProgramForm T) (ps : List P) (d : P) → 1 ≤ length ps
+    → parts_rest keys words (λ p. part_of (form p)) (flat_map keys (take 1 ps))
+    (flat_map words (take 1 ps)) (first_part (part_of (form (slice_index_or ps 0 d)))) (drop 1 ps)
+    ≡ part_of (program_choices keys words form ps)
+choices_are keys words form [] d l = absurd (omega arith)
+choices_are keys words form (p ∷ ps) d l =
+    ap₂ (λ own said. parts_rest keys words (λ q. part_of (form q)) own said
+    (first_part (part_of (form p))) ps) (append-nil (keys p)) (append-nil (words p))
+    ∙ (ap (λ part. parts_rest keys words (λ q. part_of (form q)) (keys p) (words p) part ps)
+    (first_part_is (form p))
+    ∙ rest_part_is keys words form (keys p) (words p) (first_only (form p)) ps)

@@ -1,0 +1,108 @@
+-- What a plain command answers is what exactness says of one; so it keeps to the laws of commands,
+-- where what runs behind its word keeps to those of a program.
+use Rattle.std.proofs.Common.{◌≡◌, ℕ, Bool, true, false, List, [], Some, None, Result, Ok, Err, ap}
+use Rattle.std.proofs.Common.{inl, inr}
+use Rattle.bpaf_doc.specs.Names.{Names}
+use Rattle.bpaf_doc.specs.Shape.{Part, Shape}
+use Rattle.bpaf_line.specs.declared.error.Error.{Error}
+use Rattle.bpaf_line.specs.declared.failure.ParseFailure.{ParseFailure}
+use Rattle.bpaf_line.specs.Situation.{Situation, open_count, with_current}
+use Rattle.bpaf_laws.specs.Command.{Called, IsNotOpened, IsOpenedAt, inside, opening_words}
+use Rattle.bpaf_laws.specs.Reading.{Outcome}
+use Rattle.bpaf_core.specs.Adjacent.{EitherCommandOutcome}
+use Rattle.bpaf_core.specs.Command.{CommandOutcome, value, ended, missing, no_memory, IsMissingPart}
+use Rattle.bpaf_parts.specs.Failures.{end_message}
+use Rattle.bpaf.specs.Ending.{EndsRun, memory, usage, passed_on, refused as told_refusal}
+use Rattle.bpaf.specs.Ending.{leftover as told_leftover}
+use Rattle.bpaf.specs.Info.{RunInfo}
+use Rattle.bpaf.specs.Run.{Runs, value as ran_value, leftover, refused}
+use Rattle.bpaf_exact.specs.Flat.{class_of}
+use Rattle.bpaf_exact.specs.Programs.{CommandEval, command_value, command_leftover, command_refused}
+use Rattle.bpaf_exact.specs.Programs.{command_missing, command_memory}
+use Rattle.bpaf_exact.proofs.Classes.{not_memory}
+use Rattle.bpaf_exact.specs.ProgramForm.{ProgramForm, ProgramFormLaw, program_command}
+use Rattle.bpaf_exact.proofs.ProgramForm.{narrower_program_form, program_command_law}
+use Rattle.bpaf.specs.Leftover.{IsLeftover, conflict, only_once, not_expected}
+use Rattle.bpaf_line.specs.declared.error.Message.{Message}
+use Rattle.bpaf_exact.proofs.Counts.{open_counted}
+
+-- the keys inside a command, where a test is put to these too
+abbrev pub keys_inside : Bool → List Names → List Names
+keys_inside true names = names
+keys_inside false names = []
+
+-- where something is told of what is left something is
+pub left_over : (s : Situation) (m : Message) → IsLeftover s m → open_count s ≡ 0 → ⊥
+left_over s m (conflict p winner next is) = open_counted s p next.present
+left_over s m (only_once p earlier next is key) = open_counted s p next.present
+left_over s m (not_expected p next is key) = open_counted s p next.present
+
+module _ (T : Type 0) (inner : Outcome T) (describes : Shape → Type 0) (info : RunInfo)
+    (called : Called) (shows : Part → Type 0) where
+  -- what runs behind the word left something
+  left_behind : (s m t u : Situation) (v : T) (f : ParseFailure) (e : Error) (p : ℕ)
+      → IsOpenedAt (opening_words called) s p → inner (inside called s p) (Ok v) m
+      → EndsRun describes info None (inside called s p) m f u
+      → CommandEval T inner called s (Err e) t
+  left_behind s m t u v f e p at o (told_leftover w before after g x is tells) =
+      command_leftover at o (left_over m w is)
+
+  -- what runs behind it refused
+  refused_behind : (s m u : Situation) (d e : Error) (f : ParseFailure) (p : ℕ)
+      → IsOpenedAt (opening_words called) s p → inner (inside called s p) (Err d) m
+      → EndsRun describes info (Some d.0) (inside called s p) m f u → e.0 ≡ end_message f
+      → CommandEval T inner called s (Err e) u
+  refused_behind s m u d e f p at o (memory w before after is) h = command_memory (ap class_of h)
+  refused_behind s m u d e f p at o (usage w before g after spared shown is) h =
+      command_refused at o (not_memory d.0 spared)
+  refused_behind s m u d e f p at o (passed_on g before after spared shown) h =
+      command_refused at o (not_memory d.0 spared)
+  refused_behind s m u d e f p at o (told_refusal w before after g x spared shown plain tells) h =
+      command_refused at o (not_memory d.0 spared)
+
+  -- any end but a value
+  ended_behind : (s t : Situation) (e : Error) (f : ParseFailure) (p : ℕ)
+      → IsOpenedAt (opening_words called) s p
+      → Runs T inner (EndsRun describes info) (inside called s p) (Err f) t → e.0 ≡ end_message f
+      → CommandEval T inner called s (Err e) t
+  ended_behind s t e f p at (leftover v left g u o ends) h =
+      left_behind s left t u v g e p at o ends
+  ended_behind s t e f p at (refused d left g u o ends) h =
+      refused_behind s left u d e g p at o ends h
+
+  -- a value
+  value_behind : (s t : Situation) (v : T) (p : ℕ) → IsOpenedAt (opening_words called) s p
+      → Runs T inner (EndsRun describes info) (inside called s p) (Ok v) t
+      → CommandEval T inner called s (Ok v) t
+  value_behind s t v p at (ran_value w u o none) = command_value at o none
+
+  -- the word isn't there
+  missing_word : (s t : Situation) (e : Error) → IsNotOpened (opening_words called) s
+      → IsMissingPart shows s e.0 → CommandEval T inner called s (Err e) (with_current s None)
+  missing_word s t e none (inl m) = command_memory (ap class_of m)
+  missing_word s t e none (inr m) = command_missing none (ap class_of m.3)
+
+  -- each answer
+  command_eval : (s t : Situation) (r : Result T Error)
+      → CommandOutcome T inner (EndsRun describes info) called shows s r t
+      → CommandEval T inner called s r t
+  command_eval s t r (value v p u at ran) = value_behind s u v p at ran
+  command_eval s t r (ended f e p u at ran h) = ended_behind s u e f p at ran h
+  command_eval s t r (missing e none m) = missing_word s s e none m
+  command_eval s t r (no_memory e p at h) = command_memory (ap class_of h)
+
+-- A plain command keeps to the law of its form, where what runs behind its word does; an adjacent one
+-- has none.
+pub either_command_law : (T : Type 0) (inner : Outcome T) (describes : Shape → Type 0)
+    (info : RunInfo) (called : Called) (shows : Part → Type 0) (adjacent apart : Bool)
+    (names : List Names) (words : List (List ℕ)) (form : ProgramForm T)
+    → ProgramFormLaw inner names words form
+    → ProgramFormLaw (EitherCommandOutcome adjacent T inner (EndsRun describes info) called shows)
+    names (opening_words called) (program_command adjacent apart called form)
+either_command_law T inner describes info called shows true apart names words form l = tt
+either_command_law T inner describes info called shows false apart names words form l =
+    narrower_program_form T (CommandEval T inner called)
+    (CommandOutcome T inner (EndsRun describes info) called shows)
+    (record { within = λ s t r o. command_eval T inner describes info called shows s t r o }) names
+    (opening_words called) (program_command false apart called form)
+    (program_command_law T inner apart called names words form l)

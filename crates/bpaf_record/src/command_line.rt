@@ -1,0 +1,131 @@
+//! Whether options are a program, perhaps with commands, and the run of one.
+ghost use Rattle.std.specs.Prelude.{◌≡◌, Result, false, true};
+ghost use Rattle.bpaf_words.specs.Arguments.{given_of};
+
+use crate::field::ProgramField;
+use crate::usual::are_unusual;
+use bpaf::{Args, OptionParser, ParseFailure};
+
+/// Options of a whole command line, which are a program where `is_program` says so.
+pub trait CommandLine<T> {
+    ghost use Rattle.std.specs.Prelude.{Bool, IfOk, Result};
+    ghost use Rattle.std.specs.Result.{IfErr};
+    ghost use Rattle.bpaf_line.specs.declared.failure.ParseFailure.{ParseFailure};
+    ghost use Rattle.bpaf_words.specs.Arguments.{Given};
+    ghost use Rattle.bpaf.specs.Run.{IsNotWant};
+
+    /// Whether they are a program.
+    ghost is_whole: { Self → Bool };
+
+    /// Whether they are a program: a flat record, or named fields and then commands, each over a
+    /// program again. The commands may stand under `optional`, and closures round each of them,
+    /// round a choice of them and round the optional; their words aren't empty, and none begins
+    /// with a dash. No field shares a name with another of its product, with one inside its
+    /// commands, or with the keys of help and version of the run that it stands in; no two commands
+    /// of a choice share a word. It takes no memory.
+    fn is_program(&self) -> bool
+        ensures { result ≡ is_whole self.now };
+
+    /// Whether they may run: their closures may be called on every value.
+    ghost can_run: { Self → Type 0 };
+
+    /// The premise of exactness: whether their closures accept depends on what is present alone.
+    ghost agrees: { Self → Type 0 };
+
+    /// What a run may answer to words, by its table.
+    ghost answers: { Self → Given → Result T ParseFailure → Type 0 };
+
+    /// Which refusals have one of the twelve names, or are handed on.
+    ghost refuses: { Self → Given → ParseFailure → Type 0 };
+
+    /// Which values are dealt out of words.
+    ghost deals: { Self → Given → T → Type 0 };
+
+    /// What a value says of words: each named field of its own pieces, and the command of the rest.
+    ghost tells: { Self → Given → T → Type 0 };
+
+    /// What a run may answer to words where the parser wanted no memory.
+    ghost answers_spared: { Self → Given → Result T ParseFailure → Type 0 };
+
+    /// What a run of a program answers to words.
+    ghost answers_as_program: { Self → Given → Result T ParseFailure → Type 0 };
+
+    /// The value that the words give, as `run_inner`, and exactly. The program's values are read
+    /// off the words' line by itself: take away the pieces that begin with a name of a field in
+    /// front of the commands, wherever they stand; the first thing left is the word of a command,
+    /// and what stands behind it is the line of that command's program.
+    ///
+    /// - Ok(v) comes only where v is a value of the program there.
+    /// - Where the program has a value, the answer is one of its values, or want of memory.
+    ///
+    /// The clause `exact` says it of the answer, `each_exact` of every answer that the table of a
+    /// run allows; `fields` is what each named field says of the words, whatever the command is,
+    /// and which command's word stands there. The other clauses are those of `run_inner`.
+    ///
+    /// ```text
+    /// if !options.is_program() {
+    ///     return Err(refused);
+    /// }
+    /// options.run_program(args)
+    /// ```
+    fn run_program(&self, args: Args<'_>) -> Result<T, ParseFailure>
+        requires can { can_run self.now }
+        requires program { is_whole self.now ≡ true }
+        ensures outcome { answers self.now (given_of args.entry) result }
+        ensures named { IfErr result (refuses self.now (given_of args.entry)) }
+        ensures dealt { IfOk result (deals self.now (given_of args.entry)) }
+        ensures memory_is_never_caught { IsNotWant result →
+            answers_spared self.now (given_of args.entry) result }
+        ensures fields { agrees self.now →
+            IfOk result (tells self.now (given_of args.entry)) }
+        ensures exact { agrees self.now →
+            answers_as_program self.now (given_of args.entry) result }
+        ensures each_exact { agrees self.now → (r : Result T ParseFailure)
+            → answers self.now (given_of args.entry) r
+            → answers_as_program self.now (given_of args.entry) r };
+}
+
+impl<T: Drop, P: ProgramField<T>> CommandLine<T> for OptionParser<T, P> {
+    ghost use Rattle.bpaf_exact.specs.ProgramSays.{cells_said};
+    ghost use Rattle.bpaf_record.specs.Program.{is_whole_program, AnswersAsProgram, TellsOfWords};
+    ghost use Rattle.bpaf.specs.Dealt.{IsDealtOut};
+    ghost use Rattle.bpaf.specs.Refusals.{IsOneOfTwelve};
+    ghost use Rattle.bpaf.specs.Run.{RunsWords};
+    ghost use Rattle.bpaf_laws.specs.Spared.{WithoutMemory};
+
+    ghost is_whole = { λ p.
+        is_whole_program (P.program_form p.inner) (P.keys p.inner false) p.info };
+
+    #[tactic(auto, using(crate::proofs::Parts::program_part_is))]
+    fn is_program(&self) -> bool {
+        let program = self.inner.part().is_program();
+        let unusual = are_unusual::<T, P>(&self.inner, &self.info);
+        program && unusual
+    }
+
+    ghost can_run = { λ p. P.can_eval p.inner };
+
+    ghost agrees = { λ p. P.agrees p.inner };
+
+    ghost answers = { λ p given.
+        RunsWords T (P.outcome p.inner) (P.describes p.inner) p.info given };
+
+    ghost refuses = { λ p given.
+        IsOneOfTwelve (P.outcome p.inner) (P.describes p.inner) p.info given };
+
+    ghost deals = { λ p given.
+        IsDealtOut T (P.reads p.inner) (P.describes p.inner) p.info given };
+
+    ghost tells = { λ p given. TellsOfWords (P.describes p.inner) p.info
+        (P.program_form p.inner) (cells_said P.says p.inner) given };
+
+    ghost answers_spared = { λ p given. RunsWords T (WithoutMemory (P.outcome p.inner))
+        (P.describes p.inner) p.info given };
+
+    ghost answers_as_program = { λ p given.
+        AnswersAsProgram T (P.describes p.inner) p.info (P.program_form p.inner) given };
+
+    fn run_program(&self, args: Args<'_>) -> Result<T, ParseFailure> {
+        self.run_inner(args)
+    }
+}

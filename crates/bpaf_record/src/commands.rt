@@ -1,0 +1,67 @@
+//! Commands of a program.
+ghost use Rattle.std.specs.Prelude.{◌≡◌, ◌&&◌, false, not, true};
+
+use crate::field::ProgramField;
+use crate::keys::KeyTest;
+use crate::part::ProgramPart;
+use crate::usual::are_unusual;
+use crate::words::{Plain, WordTest, names_pass};
+use bpaf::parsers::ParseCommand;
+
+/// A plain command over a program whose own keys are apart from those of its help and version. Its
+/// words aren't empty, and none begins with a dash. An adjacent command is nothing to a program.
+impl<T: Drop, P: ProgramField<T>> ProgramField<T> for ParseCommand<T, P> {
+    ghost use Rattle.bpaf_laws.specs.Command.{CommandPart, opening_words};
+    ghost use Rattle.bpaf_exact.specs.Flat.{ByName};
+    ghost use Rattle.bpaf_exact.specs.ProgramForm.{program_command};
+    ghost use Rattle.bpaf_exact.specs.ProgramSays.{said_command};
+    ghost use Rattle.bpaf_exact.proofs.ProgramSays.{program_command_says};
+    ghost use Rattle.bpaf_exact.proofs.SameParts.{command_shows};
+    ghost use Rattle.bpaf_record.specs.Commands.{either_command_law, keys_inside};
+    ghost use Rattle.bpaf_record.specs.Record.{are_unusual};
+
+    ghost keys = { λ p deep. keys_inside deep (P.keys p.inner deep) };
+
+    ghost words = { λ p. opening_words p.names };
+
+    ghost program_form = { λ p. program_command p.adjacent
+        (are_unusual (P.keys p.inner false) p.info) p.names (P.program_form p.inner) };
+
+    ghost kind = { λ p. ByName };
+
+    ghost says = { said_command (λ p. p.inner) (λ p. p.names) P.says };
+
+    ghost agrees = { λ p. P.agrees p.inner };
+
+    #[tactic(auto, using(crate::proofs::Parts::command_part_is))]
+    fn part(&self) -> ProgramPart {
+        let plain = names_pass(&self.names, &Plain {});
+        let unusual = are_unusual::<T, P>(&self.inner, &self.info);
+        self.inner
+            .part()
+            .command(!self.adjacent && unusual && plain)
+    }
+
+    #[tactic(auto, using(crate::proofs::Parts::keys_entered))]
+    fn all_keys<N: KeyTest>(&self, test: &N) -> bool {
+        if test.is_deep() {
+            self.inner.all_keys(test)
+        } else {
+            true
+        }
+    }
+
+    fn all_words<W: WordTest>(&self, test: &W) -> bool {
+        names_pass(&self.names, test)
+    }
+
+    ghost law = { λ p a. either_command_law T (P.outcome p.inner) (P.describes p.inner) p.info
+        p.names (CommandPart p.names p.help (P.describes p.inner)) p.adjacent
+        (are_unusual (P.keys p.inner false) p.info) (P.keys p.inner true) (P.words p.inner)
+        (P.program_form p.inner) (P.law p.inner a) };
+
+    ghost shows = { λ p. command_shows (P.shows p.inner) p.names p.help };
+
+    ghost said = { λ p a. program_command_says (λ p. p.inner) p p.adjacent
+        (are_unusual (P.keys p.inner false) p.info) (λ p. p.names) (P.said p.inner a) };
+}
