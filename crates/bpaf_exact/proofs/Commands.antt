@@ -1,7 +1,7 @@
 -- Closures round commands, choices of them, and commands that may be left out keep to the laws.
-use Rattle.std.proofs.Common.{◌≡◌, ◌≤◌, ℕ, Bool, true, false, ◌||◌, List, [], ◌++◌}
-use Rattle.std.proofs.Common.{length, Option, Some, None, Result, Ok, Err, refl, sym, ap, ◌∙◌, subst}
-use Rattle.std.proofs.Common.{inl, inr, ⊎_elim, arith, true≢false}
+use Rattle.std.proofs.Common.{◌≡◌, ◌≤◌, ℕ, Bool, true, false, ◌||◌, List, [], ◌++◌, length, Option}
+use Rattle.std.proofs.Common.{Some, None, Result, Ok, Err, refl, sym, ap, ◌∙◌, subst, inl, inr}
+use Rattle.std.proofs.Common.{⊎_elim, arith, true≢false}
 use Rattle.std.proofs.lemmas.Bool.{and_parts}
 use Rattle.std.proofs.lemmas.List.Folds.{list_any-append}
 use Rattle.bpaf_items.specs.Items.{is_command_word}
@@ -11,15 +11,15 @@ use Rattle.bpaf_line.specs.declared.error.Message.TheVariants.{Missing}
 use Rattle.bpaf_line.specs.Conflicts.{ConflictsSaved}
 use Rattle.bpaf_line.specs.Messages.{is_memory, is_wrong_input}
 use Rattle.bpaf_line.specs.Situation.{Situation, Context, beginning}
-use Rattle.bpaf_laws.specs.Choice.{Chosen, depth, branch_of, ChoiceOutcome, EqualDepths}
-use Rattle.bpaf_laws.specs.Choice.{OneOk, Winner}
+use Rattle.bpaf_laws.specs.Choice.{Chosen, depth, branch_of, ChoiceOutcome, EqualDepths, OneOk}
+use Rattle.bpaf_laws.specs.Choice.{Winner}
 use Rattle.bpaf_laws.specs.Command.{is_one_of}
 use Rattle.bpaf_laws.specs.Reading.{Outcome}
 use Rattle.bpaf_laws.specs.Spared.{IsNotMemory}
 use Rattle.bpaf_laws.specs.Turn.{is_untouched}
 use Rattle.bpaf_exact.specs.Pieces.{Cells, Roles, pieces, either}
-use Rattle.bpaf_exact.specs.Flat.{ErrorClass, OfMemory, OfMissing, is_missing, class}
-use Rattle.bpaf_exact.specs.Flat.{cells, NonePresent, no_place, none_here, NoneOutside, GivesAll}
+use Rattle.bpaf_exact.specs.Flat.{ErrorClass, OfMemory, OfMissing, is_missing, class, cells}
+use Rattle.bpaf_exact.specs.Flat.{NonePresent, no_place, none_here, NoneOutside, GivesAll}
 use Rattle.bpaf_exact.specs.Record.{line_cells, RunAnswer, Accepted, RunRan, run_value}
 use Rattle.bpaf_exact.specs.Record.{run_leftover, run_memory, run_refusal, IsAcceptedOrWant}
 use Rattle.bpaf_exact.specs.Single.{Stops, nothing_found, caught, present_count}
@@ -28,8 +28,8 @@ use Rattle.bpaf_exact.specs.Wrappers.{closed_memory, closed_err, OptionalEval, o
 use Rattle.bpaf_exact.specs.Wrappers.{optional_none, optional_err, optional_memory}
 use Rattle.bpaf_exact.specs.Programs.{CellsValue, Opens, opens_here, opens_later, OpensNone}
 use Rattle.bpaf_exact.specs.Programs.{ChoiceValue, first_value, second_value, OptionalCommands}
-use Rattle.bpaf_exact.specs.Programs.{some_command, no_command, ClosedCells, ProgramLaw, CommandsLaw}
-use Rattle.bpaf_exact.specs.Programs.{FindsNoCommand, WordsApart, IsSpelled}
+use Rattle.bpaf_exact.specs.Programs.{some_command, no_command, ClosedCells, ProgramLaw}
+use Rattle.bpaf_exact.specs.Programs.{CommandsLaw, FindsNoCommand, WordsApart, IsSpelled}
 use Rattle.bpaf_exact.proofs.BeforeCommands.{apart_first, apart_second}
 use Rattle.bpaf_exact.proofs.Choice.{same_scope, cells_same, saved_steady}
 use Rattle.bpaf_exact.proofs.Classes.{memory_class, not_memory}
@@ -143,7 +143,8 @@ module _ (T : Type 0) (inner : Outcome T) (r : Roles) (words : List (List ℕ)) 
   some_answers s t a x w (optional_memory e) h = e
 
   -- where none is found nothing stops but want of memory
-  none_stops : (s t : Situation) (e : Error) → FindsNoCommand {T = T} s (Err e) t → (Stops e s t → ⊥)
+  none_stops : (s t : Situation) (e : Error) → FindsNoCommand {T = T} s (Err e) t
+      → (Stops e s t → ⊥)
       → class e ≡ OfMemory
   none_stops s t e (inl memory) goes = memory
   none_stops s t e (inr found) goes =
@@ -342,7 +343,8 @@ module _ (T : Type 0) (a b : Outcome T) (ra rb : Roles) (wa wb : List (List ℕ)
   Passed s e m = (class e ≡ OfMissing) × (cells m ≡ cells s) × (m.path ≡ s.path)
 
   -- nothing else can be of it
-  passed : (s m : Situation) (e : Error) → is_memory e.0 ≡ false → FindsNoCommand {T = T} s (Err e) m
+  passed : (s m : Situation) (e : Error) → is_memory e.0 ≡ false
+      → FindsNoCommand {T = T} s (Err e) m
       → Passed s e m
   passed s m e h (inl memory) = absurd (not_memory e.0 h memory)
   passed s m e h (inr found) = found
@@ -511,7 +513,8 @@ module _ (V : Type 0) (outcome : Outcome V) (r : Roles) (value : CellsValue V)
       → value (line_cells context) u → IsAcceptedOrWant (value (line_cells context)) a
   program_complete a (run_value {v = x} {t = t} o e) u h =
       subst (λ cs. value cs x) (first_cells_are context)
-      (l.answers s t (Ok x) u whole o (subst (λ cs. value cs u) (sym (first_cells_are context)) h)).0
+      (l.answers s t (Ok x) u whole o
+      (subst (λ cs. value cs u) (sym (first_cells_are context)) h)).0
   program_complete a (run_leftover {v = x} {t = t} o e n) u h =
       absurd (e (open_present t ∙ count_none (l.answers s t (Ok x) u whole o
       (subst (λ cs. value cs u) (sym (first_cells_are context)) h)).1))

@@ -10,8 +10,7 @@ use Rattle.bpaf_index.proofs.Counts.{count_below-same, count_below-some}
 use Rattle.bpaf_line.proofs.Matches.{open_has_item}
 use Rattle.bpaf_line.proofs.Places.{open_in_line}
 use Rattle.bpaf_exact.specs.Pieces.{Cells, Roles, LinePiece, TakesPiece, takes_one, takes_two}
-use Rattle.bpaf_exact.specs.Pieces.{takes_later}
-use Rattle.bpaf_exact.specs.Pieces.{TakesPieces, takes_none, takes_more}
+use Rattle.bpaf_exact.specs.Pieces.{takes_later, TakesPieces, takes_none, takes_more}
 use Rattle.bpaf_exact.specs.Flat.{cells, first_cells}
 use Rattle.bpaf_exact.specs.Single.{present_count, TakesAny}
 

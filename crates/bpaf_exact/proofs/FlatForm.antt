@@ -1,29 +1,24 @@
 -- Each form that is made of flat fields keeps to its laws.
-use Rattle.std.proofs.Common.{◌≡◌, Bool, true, false, List, [], ◌∷◌, ◌++◌, flat_map, refl}
-use Rattle.std.proofs.Common.{sym, subst, ◌∙◌, append-nil, append_assoc}
+use Rattle.std.proofs.Common.{◌≡◌, Bool, true, false, List, [], ◌∷◌, ◌++◌, refl, subst, append-nil}
 use Rattle.bpaf_doc.specs.Names.{Names}
 use Rattle.bpaf_laws.specs.Choice.{ChoiceOutcome}
-use Rattle.bpaf_laws.specs.Choices.{ChoicesOutcome, Nested}
 use Rattle.bpaf_laws.specs.Product.{BothOutcome, ProductOutcome}
 use Rattle.bpaf_laws.specs.Reading.{Outcome}
 use Rattle.bpaf_laws.specs.Repeat.{LastOutcome}
-use Rattle.bpaf_exact.specs.Pieces.{Roles, no_roles}
-use Rattle.bpaf_exact.specs.Pieces.{either}
+use Rattle.bpaf_exact.specs.Pieces.{Roles, no_roles, either}
 use Rattle.bpaf_exact.specs.Names.{Owns, are_all_apart}
 use Rattle.bpaf_exact.specs.Flat.{ErrorClass, Refused, FieldKind, ByName, OneWord, EachWord}
-use Rattle.bpaf_exact.specs.Flat.{FieldsLaw}
-use Rattle.bpaf_exact.specs.Flat.{keys, Before}
+use Rattle.bpaf_exact.specs.Flat.{FieldsLaw, keys, Before}
 use Rattle.bpaf_exact.specs.Single.{RepeatOutcome, repeated}
 use Rattle.bpaf_exact.specs.Wrappers.{Closure, Decides, map_closure, ClosedEval, OptionalEval}
 use Rattle.bpaf_exact.specs.Wrappers.{FallbackEval}
 use Rattle.bpaf_exact.specs.Derived.{some_closure}
-use Rattle.bpaf_exact.specs.FlatForm.{EachAgrees, FlatForm, not_flat, alternative, single, complete}
-use Rattle.bpaf_exact.specs.FlatForm.{product, FormLaw, Agrees, only_if, flat_closed, flat_dressed}
-use Rattle.bpaf_exact.specs.FlatForm.{flat_either}
-use Rattle.bpaf_exact.specs.FlatForm.{flat_choice, choices_rest, alternative_only, flat_choices}
-use Rattle.bpaf_exact.specs.FlatForm.{flat_repeat, flat_last, flat_optional, flat_fallback}
-use Rattle.bpaf_exact.specs.FlatForm.{flat_field, may_follow, flat_both, flat_alone, flat_con}
-use Rattle.bpaf_exact.specs.FlatForm.{flat_record, is_record, product_roles, product_reading}
+use Rattle.bpaf_exact.specs.FlatForm.{FlatForm, not_flat, alternative, single, complete, product}
+use Rattle.bpaf_exact.specs.FlatForm.{FormLaw, Agrees, only_if, flat_closed, flat_dressed}
+use Rattle.bpaf_exact.specs.FlatForm.{flat_either, flat_choice, alternative_only, flat_repeat}
+use Rattle.bpaf_exact.specs.FlatForm.{flat_last, flat_optional, flat_fallback, flat_field}
+use Rattle.bpaf_exact.specs.FlatForm.{may_follow, flat_both, flat_alone, flat_con, flat_record}
+use Rattle.bpaf_exact.specs.FlatForm.{is_record, product_roles, product_reading}
 use Rattle.bpaf_exact.proofs.Names.{foreign_of, apart_of_names, either_owns}
 use Rattle.bpaf_exact.proofs.Alternative.{alternative_single, closed_alternative, closed_single}
 use Rattle.bpaf_exact.proofs.Choice.{choice_law}
@@ -97,32 +92,6 @@ flat_choice_law T a b own others s t la lb =
     if_law T (ChoiceOutcome a b) (own ++ others) (flat_either s t) (are_all_apart own others)
     (λ h. flat_either_law T a b own others s t h la lb)
 
--- the keys of a choice, behind those that stand before
-abbrev keys_behind : {P : Type 0} → (P → List Names) → List Names → List P → List Names
-keys_behind keys own [] = own
-keys_behind keys own (p ∷ ps) = keys_behind keys (own ++ keys p) ps
-
--- these are the keys of all
-keys_of_all : {P : Type 0} (keys : P → List Names) (own : List Names) (ps : List P)
-    → keys_behind keys own ps ≡ own ++ flat_map keys ps
-keys_of_all keys own [] = sym (append-nil own)
-keys_of_all keys own (p ∷ ps) = keys_of_all keys (own ++ keys p) ps
-    ∙ append_assoc own (keys p) (flat_map keys ps)
-
--- a choice of what stands before and of parsers
-choices_rest_law : (P T : Type 0) (outcome : P → Outcome T) (keys : P → List Names)
-    (form : P → FlatForm T) (agrees : P → Type 0)
-    → ((p : P) → agrees p → FormLaw (outcome p) (keys p) (form p)) → (ps : List P)
-    → EachAgrees agrees ps
-    → (first : Outcome T) (own : List Names) (s : FlatForm T) → FormLaw first own s
-    → FormLaw (Nested ChoiceOutcome outcome first ps) (keys_behind keys own ps)
-    (choices_rest keys form own s ps)
-choices_rest_law P T outcome keys form agrees law [] each first own s l = l
-choices_rest_law P T outcome keys form agrees law (p ∷ ps) each first own s l =
-    choices_rest_law P T outcome keys form agrees law ps each.1 (ChoiceOutcome first (outcome p))
-    (own ++ keys p) (flat_choice own (keys p) s (form p))
-    (flat_choice_law T first (outcome p) own (keys p) s (form p) l (law p each.0))
-
 -- an alternative alone
 pub only_law : (T : Type 0) (outcome : Outcome T) (names : List Names) (s : FlatForm T)
     → FormLaw outcome names s → FormLaw outcome names (alternative_only s)
@@ -131,20 +100,6 @@ only_law T outcome names (alternative q value) l = l
 only_law T outcome names (single k q group gap) l = tt
 only_law T outcome names (complete k q value) l = tt
 only_law T outcome names (product q fields) l = tt
-
--- a choice of any number of parsers
-pub flat_choices_law : (P T : Type 0) (outcome : P → Outcome T) (keys : P → List Names)
-    (form : P → FlatForm T) (agrees : P → Type 0)
-    → ((p : P) → agrees p → FormLaw (outcome p) (keys p) (form p)) → (ps : List P)
-    → EachAgrees agrees ps
-    → FormLaw (ChoicesOutcome outcome ps) (flat_map keys ps) (flat_choices keys form ps)
-flat_choices_law P T outcome keys form agrees law [] each = tt
-flat_choices_law P T outcome keys form agrees law (p ∷ ps) each =
-    subst (λ names. FormLaw (ChoicesOutcome outcome (p ∷ ps)) names
-    (flat_choices keys form (p ∷ ps))) (keys_of_all keys (keys p) ps)
-    (choices_rest_law P T outcome keys form agrees law ps each.1 (outcome p) (keys p)
-    (alternative_only (form p))
-    (only_law T (outcome p) (keys p) (form p) (law p each.0)))
 
 -- a repeat has the keys of the field
 repeated_keys : (k : FieldKind) (q : Roles) (names : List Names) → Owns (keys k q) names

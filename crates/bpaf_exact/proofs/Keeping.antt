@@ -34,8 +34,8 @@ pub keep_before : {P Q R A B : Type 0} (first : R → P) (rest : R → Q) (r : R
     (said_both first rest kind names said more) r
 keep_before {P} {Q} {R} {A} {B} first rest r outcome kind names words s said law says {behind}
     {others} {t} {more} keeps = record {
-  law = program_both_law A B outcome behind (names (first r)) others words (program_field s) t
-      (program_field_law A outcome (names (first r)) words s law) keeps.law;
-  says = program_both_say first rest r outcome behind kind names words others law keeps.law says
-      keeps.says;
-}
+      law = program_both_law A B outcome behind (names (first r)) others words (program_field s) t
+          (program_field_law A outcome (names (first r)) words s law) keeps.law;
+      says = program_both_say first rest r outcome behind kind names words others law keeps.law says
+          keeps.says;
+    }

@@ -8,7 +8,7 @@ use Rattle.bpaf_text.specs.Named.{Named as Key, KeyWithValue}
 use Rattle.bpaf_items.specs.Items.{item_text}
 use Rattle.bpaf_line.specs.Situation.{Context}
 use Rattle.bpaf_laws.specs.Reading.{Outcome}
-use Rattle.bpaf_exact.specs.Pieces.{Roles, LinePiece, One, Two, is_own}
+use Rattle.bpaf_exact.specs.Pieces.{Roles, LinePiece, One, Two, is_own, either}
 use Rattle.bpaf_exact.specs.Names.{are_all_apart}
 use Rattle.bpaf_exact.specs.Flat.{FieldsLaw, FieldsReading, FieldKind, ByName}
 use Rattle.bpaf_exact.specs.Single.{Groups, Gap, FrontOf, Own, own_none, own_more, SingleLaw}
@@ -23,11 +23,14 @@ use Rattle.bpaf_exact.specs.Leaves.{LastGroup, argument_by, argument_field, word
 use Rattle.bpaf_exact.specs.Record.{RunAnswer, Accepted, NoMemory, Refusal, RecordValue, IsExact}
 use Rattle.bpaf_exact.specs.FlatForm.{FlatForm, not_flat, alternative, single, complete, product}
 use Rattle.bpaf_exact.specs.FlatForm.{FormLaw, Agrees, only_if, flat_closed, flat_either}
-use Rattle.bpaf_exact.specs.FlatForm.{flat_choice, choices_rest, alternative_only, flat_choices}
-use Rattle.bpaf_exact.specs.FlatForm.{flat_repeat, flat_many, flat_last, flat_optional}
-use Rattle.bpaf_exact.specs.FlatForm.{flat_fallback, flat_field, may_follow, flat_both, flat_alone}
-use Rattle.bpaf_exact.specs.FlatForm.{flat_con, flat_record, is_record, product_roles}
-use Rattle.bpaf_exact.specs.FlatForm.{product_reading}
+use Rattle.bpaf_exact.specs.FlatForm.{flat_choice, alternative_only, flat_repeat, flat_many}
+use Rattle.bpaf_exact.specs.FlatForm.{flat_last, flat_optional, flat_fallback, flat_field}
+use Rattle.bpaf_exact.specs.FlatForm.{may_follow, flat_both, flat_alone, flat_con, flat_record}
+use Rattle.bpaf_exact.specs.FlatForm.{is_record, product_roles, product_reading}
+use Rattle.bpaf_exact.specs.Programs.{ChoiceValue}
+use Rattle.bpaf_exact.specs.ProgramForm.{ProgramForm, no_program, plain, commands, left_out}
+use Rattle.bpaf_exact.specs.ProgramForm.{before_commands, are_words_apart, first_only, flat_form}
+use Rattle.bpaf_exact.specs.ProgramForm.{program_choice, program_choices, program_if, program_rest}
 use Rattle.bpaf_exact.specs.OneView.{Alike, OneGroup, HasOneView, Respects, option_view, pair_view}
 use Rattle.bpaf_exact.specs.OneView.{LooksLike, RunsToOne}
 use Rattle.bpaf_exact.proofs.Alternative.{alternative_single}
@@ -187,15 +190,6 @@ pub choice_view : (T X : Type 0) (see : T → X) (own others : List Names) (s t 
 choice_view T X see own others s t u n =
     if_view T X see (flat_either s t) (are_all_apart own others) (either_view T X see s t u n)
 
--- a choice of what stands before and of parsers
-rest_view : (P T X : Type 0) (see : T → X) (keys : P → List Names) (form : P → FlatForm T)
-    → ((p : P) → HasOneView see (form p)) → (ps : List P) (own : List Names) (s : FlatForm T)
-    → HasOneView see s → HasOneView see (choices_rest keys form own s ps)
-rest_view P T X see keys form n [] own s u = u
-rest_view P T X see keys form n (p ∷ ps) own s u =
-    rest_view P T X see keys form n ps (own ++ keys p) (flat_choice own (keys p) s (form p))
-    (choice_view T X see own (keys p) s (form p) u (n p))
-
 -- an alternative alone
 only_view : (T X : Type 0) (see : T → X) (s : FlatForm T) → HasOneView see s
     → HasOneView see (alternative_only s)
@@ -205,14 +199,47 @@ only_view T X see (single k q group gap) u = tt
 only_view T X see (complete k q value) u = tt
 only_view T X see (product q fields) u = tt
 
--- a choice of any number of parsers
-pub choices_view : (P T X : Type 0) (see : T → X) (keys : P → List Names) (form : P → FlatForm T)
-    → ((p : P) → HasOneView see (form p)) → (ps : List P)
-    → HasOneView see (flat_choices keys form ps)
-choices_view P T X see keys form n [] = tt
-choices_view P T X see keys form n (p ∷ ps) =
-    rest_view P T X see keys form n ps (keys p) (alternative_only (form p))
-    (only_view T X see (form p) (n p))
+module _ (P T X : Type 0) (see : T → X) (keys : P → List Names) (words : P → List (List ℕ))
+    (form : P → ProgramForm T) (each : (p : P) → HasOneView see (flat_form (form p))) where
+  -- one parser more
+  more_view : (own others : List Names) (said more : List (List ℕ)) (s t : ProgramForm T)
+      → HasOneView see (flat_form s) → HasOneView see (flat_form t)
+      → HasOneView see (flat_form (program_choice own others said more s t))
+  more_view own others said more (plain s) (plain t) u n = choice_view T X see own others s t u n
+  more_view own others said more (commands q a) (commands r other) u n =
+      none_if (are_words_apart said more)
+    where
+      none_if : (b : Bool) → HasOneView see
+          (flat_form (program_if b (commands (either q r) (ChoiceValue T a other))))
+      none_if true = tt
+      none_if false = tt
+  more_view own others said more _ _ u n = tt
+
+  -- a choice of what stands before and of parsers
+  rest_view : (ps : List P) (own : List Names) (said : List (List ℕ)) (s : ProgramForm T)
+      → HasOneView see (flat_form s)
+      → HasOneView see (flat_form (program_rest keys words form own said s ps))
+  rest_view [] own said s u = u
+  rest_view (p ∷ ps) own said s u =
+      rest_view ps (own ++ keys p) (said ++ words p)
+      (program_choice own (keys p) said (words p) s (form p))
+      (more_view own (keys p) said (words p) s (form p) u (each p))
+
+  -- the first of them
+  first_view : (s : ProgramForm T) → HasOneView see (flat_form s)
+      → HasOneView see (flat_form (first_only s))
+  first_view no_program u = tt
+  first_view (plain s) u = only_view T X see s u
+  first_view (commands r value) u = tt
+  first_view (left_out r value) u = tt
+  first_view (before_commands r value) u = tt
+
+  -- a choice of any number of parsers
+  pub choices_view : (ps : List P)
+      → HasOneView see (flat_form (program_choices keys words form ps))
+  choices_view [] = tt
+  choices_view (p ∷ ps) =
+      rest_view ps (keys p) (words p) (first_only (form p)) (first_view (form p) (each p))
 
 -- Fields without a repeat or default, and what is made of them.
 

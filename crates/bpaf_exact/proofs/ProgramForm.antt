@@ -1,8 +1,8 @@
 -- Each parser keeps to the laws of its form to a program, where its inner parsers do.
-use Rattle.std.proofs.Common.{◌≡◌, ℕ, Bool, true, false, not, ◌||◌, List, [], ◌∷◌, ◌++◌, Option, Some}
+use Rattle.std.proofs.Common.{◌≡◌, ℕ, Bool, true, false, not, ◌||◌, List, [], ◌∷◌, ◌++◌, Option}
+use Rattle.std.proofs.Common.{Some, None, Ok, refl, sym, ap, ◌∙◌, subst, bytes_eq, ⊎_elim}
+use Rattle.std.proofs.Common.{true≢false, append_assoc, append-nil}
 use Rattle.std.specs.Prelude.{flat_map}
-use Rattle.std.proofs.Common.{None, Ok, refl, sym, ap, ◌∙◌, subst, bytes_eq, ⊎_elim, true≢false}
-use Rattle.std.proofs.Common.{append_assoc, append-nil}
 use Rattle.std.specs.List.{list_all}
 use Rattle.std.specs.Option.{option_map_or}
 use Rattle.std.proofs.lemmas.Bool.{and_parts, or_cases, false_from_ne_true}
@@ -24,26 +24,26 @@ use Rattle.bpaf_exact.specs.FlatForm.{flat_record, EachAgrees}
 use Rattle.bpaf_exact.specs.Names.{Owns, are_all_apart}
 use Rattle.bpaf_exact.specs.Record.{line_cells, RunAnswer, Accepted, RunRan, IsAcceptedOrWant}
 use Rattle.bpaf_exact.specs.ProgramForm.{ProgramForm, no_program, plain, commands, left_out}
-use Rattle.bpaf_exact.specs.ProgramForm.{before_commands, ProgramFormLaw, ProgramAgrees}
-use Rattle.bpaf_exact.specs.ProgramForm.{program_if, program_closed, program_optional, flat_only}
+use Rattle.bpaf_exact.specs.ProgramForm.{before_commands, ProgramFormLaw, ProgramAgrees, program_if}
+use Rattle.bpaf_exact.specs.ProgramForm.{program_closed, program_optional, flat_only}
 use Rattle.bpaf_exact.specs.ProgramForm.{are_words_apart, program_choice, whole_program}
-use Rattle.bpaf_exact.specs.ProgramForm.{opened_form, program_command, program_field}
-use Rattle.bpaf_exact.specs.ProgramForm.{program_alone, program_both, program_con, is_program}
-use Rattle.bpaf_exact.specs.ProgramForm.{program_roles, program_value, program_rest, first_only}
-use Rattle.bpaf_exact.specs.ProgramForm.{program_choices, program_dressed}
-use Rattle.bpaf_exact.specs.Programs.{CellsValue, ProgramLaw, CommandEval, are_plain, WordsApart, IsSpelled}
+use Rattle.bpaf_exact.specs.ProgramForm.{opened_form, program_command, program_field, program_alone}
+use Rattle.bpaf_exact.specs.ProgramForm.{program_both, program_con, is_program, program_roles}
+use Rattle.bpaf_exact.specs.ProgramForm.{program_value, program_rest, first_only, program_choices}
+use Rattle.bpaf_exact.specs.ProgramForm.{program_dressed, flat_form}
+use Rattle.bpaf_exact.specs.Programs.{CellsValue, ProgramLaw, CommandEval, are_plain, WordsApart}
+use Rattle.bpaf_exact.specs.Programs.{IsSpelled}
 use Rattle.bpaf_exact.specs.Wrappers.{Closure, ClosedEval, OptionalEval, map_closure}
 use Rattle.bpaf_exact.proofs.BeforeCommands.{before_law, con_program}
 use Rattle.bpaf_exact.proofs.Commands.{closed_program, closed_commands, optional_commands}
 use Rattle.bpaf_exact.proofs.Commands.{choice_commands, program_sound, program_complete}
 use Rattle.bpaf_exact.proofs.FlatForm.{flat_closed_law, flat_optional_law, flat_choice_law}
 use Rattle.bpaf_exact.proofs.FlatForm.{flat_field_law, flat_alone_law, flat_both_law, flat_con_law}
-use Rattle.bpaf_exact.proofs.FlatForm.{flat_record_law, record_law}
-use Rattle.bpaf_exact.proofs.FlatForm.{only_law, never_refuses, flat_dressed_law}
+use Rattle.bpaf_exact.proofs.FlatForm.{flat_record_law, record_law, only_law, never_refuses}
+use Rattle.bpaf_exact.proofs.FlatForm.{flat_dressed_law}
 use Rattle.bpaf_exact.proofs.Narrow.{AllowsNoMore, narrower_form}
 use Rattle.bpaf_exact.proofs.Names.{apart_of_names, either_owns}
 use Rattle.bpaf_exact.proofs.Programs.{command_law, record_program}
-use Rattle.bpaf_exact.specs.ProgramForm.{flat_form}
 
 -- where a test holds
 program_if_law : (T : Type 0) (outcome : Outcome T) (names : List Names) (words : List (List ℕ))

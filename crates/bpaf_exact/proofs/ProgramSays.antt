@@ -1,16 +1,17 @@
 -- Of each combinator: its values say what is told of them, where those of its inner parsers do.
-use Rattle.std.proofs.Common.{◌≡◌, ℕ, zero, suc, Bool, true, false, List, [], ◌∷◌, ◌++◌, Option}
-use Rattle.std.proofs.Common.{Some, None, not, ◌&&◌, refl, arith}
+use Rattle.std.proofs.Common.{◌≡◌, ℕ, zero, suc, Bool, true, false, List, [], ◌∷◌, ◌++◌, Some, None}
+use Rattle.std.proofs.Common.{not, ◌&&◌, refl, arith}
 use Rattle.std.specs.List.{Contains}
 use Rattle.bpaf_doc.specs.Names.{Names}
 use Rattle.bpaf_laws.specs.Command.{Called, opening_words}
 use Rattle.bpaf_laws.specs.Reading.{Outcome}
-use Rattle.bpaf_exact.specs.Pieces.{Cells, Roles, LinePiece, pieces}
-use Rattle.bpaf_exact.specs.Flat.{FieldKind, ByName, OneWord, EachWord}
-use Rattle.bpaf_exact.specs.FlatForm.{FlatForm, FormLaw, not_flat, alternative, single, complete}
-use Rattle.bpaf_exact.specs.FlatForm.{product, EachAgrees, alternative_only, flat_field, flat_optional, is_record}
-use Rattle.bpaf_exact.specs.FlatForm.{product_roles, product_reading, flat_record, unless}
-use Rattle.bpaf_exact.specs.Names.{Owns, are_all_apart}
+use Rattle.bpaf_exact.specs.Pieces.{Roles, LinePiece, pieces}
+use Rattle.bpaf_exact.specs.Flat.{FieldKind, ByName}
+use Rattle.bpaf_exact.specs.FlatForm.{FlatForm, not_flat, alternative, single, complete, product}
+use Rattle.bpaf_exact.specs.FlatForm.{EachAgrees, alternative_only, flat_field, is_record}
+use Rattle.bpaf_exact.specs.FlatForm.{product_roles, flat_record, unless, flat_fallback}
+use Rattle.bpaf_exact.specs.FlatForm.{flat_closed, flat_last, flat_repeat}
+use Rattle.bpaf_exact.specs.Names.{are_all_apart}
 use Rattle.bpaf_exact.specs.ProgramForm.{ProgramForm, no_program, plain, commands, left_out}
 use Rattle.bpaf_exact.specs.ProgramForm.{before_commands, ProgramFormLaw, program_if, flat_only}
 use Rattle.bpaf_exact.specs.ProgramForm.{program_closed, program_dressed, program_optional}
@@ -18,44 +19,25 @@ use Rattle.bpaf_exact.specs.ProgramForm.{program_choice, program_choices, progra
 use Rattle.bpaf_exact.specs.ProgramForm.{whole_program, opened_form, program_command, flat_form}
 use Rattle.bpaf_exact.specs.ProgramForm.{program_field, program_alone, program_both, program_con}
 use Rattle.bpaf_exact.specs.ProgramForm.{is_program, program_value, are_words_apart}
+use Rattle.bpaf_exact.specs.ProgramForm.{program_fallback, program_last, program_repeat}
 use Rattle.bpaf_exact.specs.Programs.{CellsValue, CommandValue, ChoiceValue, first_value}
 use Rattle.bpaf_exact.specs.Programs.{second_value, OptionalCommands, some_command, no_command}
 use Rattle.bpaf_exact.specs.Programs.{ClosedCells, are_plain, without}
-use Rattle.bpaf_exact.specs.Says.{Said, FieldsSaid, FieldsSay, Says, EitherSays, MadeSays}
-use Rattle.bpaf_exact.specs.Says.{OptionalSays, OneOfSays, FormSays}
+use Rattle.bpaf_exact.specs.Says.{Said, Says, MadeSays, OneOfSays, FormSays, FallbackSays, LastSays}
+use Rattle.bpaf_exact.specs.Says.{RepeatSays}
 use Rattle.bpaf_exact.specs.ProgramSays.{ProgramSaid, of_pieces, of_cells, ProgramFieldsSaid}
 use Rattle.bpaf_exact.specs.ProgramSays.{of_all_pieces, of_all_cells, IsSaid, ProgramFormSays}
 use Rattle.bpaf_exact.specs.ProgramSays.{ProgramSays, ProgramFieldsFormSay, ProgramFieldsSay}
-use Rattle.bpaf_exact.specs.ProgramSays.{cells_said, pieces_said, said_round}
-use Rattle.bpaf_exact.specs.ProgramSays.{said_choice, OneOfCells, said_alone, said_both}
-use Rattle.bpaf_exact.specs.ProgramSays.{said_con, said_choices}
+use Rattle.bpaf_exact.specs.ProgramSays.{cells_said, pieces_said, said_choice, OneOfCells}
+use Rattle.bpaf_exact.specs.ProgramSays.{said_alone, said_both, said_con, said_choices, said_closed}
+use Rattle.bpaf_exact.specs.ProgramSays.{said_command, said_dressed, said_flat, said_optional}
+use Rattle.bpaf_exact.specs.ProgramSays.{said_fallback, said_last, said_repeat, fields_said_inside}
 use Rattle.bpaf_exact.specs.Single.{repeated}
 use Rattle.bpaf_exact.specs.Wrappers.{Closure}
-use Rattle.bpaf_exact.proofs.Says.{FormOwns, alone_says, both_say, by_name, choice_into, choice_says, closed_says, con_says}
-use Rattle.bpaf_exact.proofs.Says.{dressed_says, field_owned, field_says, optional_says, owned}
-use Rattle.bpaf_exact.proofs.Says.{record_says, unless_says}
-use Rattle.bpaf_exact.specs.ProgramForm.{program_fallback}
-use Rattle.bpaf_exact.specs.ProgramForm.{program_last}
-use Rattle.bpaf_exact.specs.ProgramForm.{program_repeat}
-use Rattle.bpaf_exact.specs.ProgramSays.{said_closed}
-use Rattle.bpaf_exact.specs.ProgramSays.{said_command}
-use Rattle.bpaf_exact.specs.ProgramSays.{said_dressed}
-use Rattle.bpaf_exact.specs.ProgramSays.{said_flat}
-use Rattle.bpaf_exact.specs.ProgramSays.{said_optional}
-use Rattle.bpaf_exact.specs.ProgramSays.{said_fallback}
-use Rattle.bpaf_exact.specs.Says.{FallbackSays}
-use Rattle.bpaf_exact.specs.FlatForm.{flat_fallback}
-use Rattle.bpaf_exact.specs.ProgramSays.{said_last}
-use Rattle.bpaf_exact.specs.ProgramSays.{said_repeat}
-use Rattle.bpaf_exact.proofs.Says.{fallback_says}
-use Rattle.bpaf_exact.specs.Says.{LastSays}
-use Rattle.bpaf_exact.specs.Says.{RepeatSays}
-use Rattle.bpaf_exact.specs.FlatForm.{flat_closed}
-use Rattle.bpaf_exact.specs.FlatForm.{flat_last}
-use Rattle.bpaf_exact.proofs.Says.{last_says}
-use Rattle.bpaf_exact.specs.FlatForm.{flat_repeat}
-use Rattle.bpaf_exact.proofs.Says.{listed_says}
-use Rattle.bpaf_exact.specs.ProgramSays.{fields_said_inside}
+use Rattle.bpaf_exact.proofs.Says.{FormOwns, alone_says, both_say, by_name, choice_into}
+use Rattle.bpaf_exact.proofs.Says.{choice_says, closed_says, con_says, dressed_says, field_owned}
+use Rattle.bpaf_exact.proofs.Says.{field_says, optional_says, owned, record_says, unless_says}
+use Rattle.bpaf_exact.proofs.Says.{fallback_says, last_says, listed_says}
 
 -- where a test holds
 if_says : {P T : Type 0} (b : Bool) (s : ProgramForm T) (kind : FieldKind) (said : ProgramSaid P T)

@@ -1,9 +1,9 @@
 -- A command over a program keeps to the laws of commands, and a named field before them to those of
 -- a program.
-use Rattle.std.proofs.Common.{◌≡◌, ◌≤◌, ◌<◌, ℕ, zero, suc, Bool, true, false, not, ◌&&◌, List}
-use Rattle.std.proofs.Common.{[], ◌∷◌, length, Option, Some, None, Result, Ok, Err, refl, sym, ap}
-use Rattle.std.proofs.Common.{◌∙◌, subst, inl, inr, ⊎_elim, arith, true≢false}
-use Rattle.std.proofs.Common.{if◌then◌else◌, ◌||◌, bytes_eq}
+use Rattle.std.proofs.Common.{◌≡◌, ◌≤◌, ◌<◌, ℕ, zero, suc, Bool, true, false, not, ◌&&◌, List, []}
+use Rattle.std.proofs.Common.{◌∷◌, length, Option, Some, None, Result, Ok, Err, refl, sym, ap, ◌∙◌}
+use Rattle.std.proofs.Common.{subst, inl, inr, ⊎_elim, arith, true≢false, if◌then◌else◌, ◌||◌}
+use Rattle.std.proofs.Common.{bytes_eq}
 use Rattle.std.specs.List.{list_any}
 use Rattle.std.specs.Option.{option_map_or}
 use Rattle.std.proofs.lemmas.Bool.{cases_lt, cases_Bool, and_parts}
@@ -22,17 +22,15 @@ use Rattle.bpaf_laws.specs.Choice.{depth}
 use Rattle.bpaf_laws.specs.Command.{Called, IsNotOpened, IsOpenedAt, inside, is_one_of}
 use Rattle.bpaf_laws.specs.Command.{opening_words}
 use Rattle.bpaf_laws.specs.Reading.{Outcome}
-use Rattle.bpaf_exact.specs.Pieces.{Cells, Roles, pieces}
-use Rattle.bpaf_exact.specs.Pieces.{IsNamed, is_key}
-use Rattle.bpaf_exact.specs.Flat.{cells, first_cells, NonePresent}
-use Rattle.bpaf_exact.specs.Flat.{NoneOutside, GivesAll, FieldsLaw, FieldsReading, ReadOff}
+use Rattle.bpaf_exact.specs.Pieces.{Cells, Roles, pieces, IsNamed, is_key}
+use Rattle.bpaf_exact.specs.Flat.{cells, first_cells, NonePresent, NoneOutside, GivesAll, FieldsLaw}
+use Rattle.bpaf_exact.specs.Flat.{FieldsReading, ReadOff}
 use Rattle.bpaf_exact.specs.Programs.{CellsValue, Opens, opens_here, opens_later, OpensNone}
 use Rattle.bpaf_exact.specs.Programs.{is_dashed, is_spelled, IsSpelled, AllSpelled, no_cell}
-use Rattle.bpaf_exact.specs.Programs.{empty_cell, spelled_cell, are_plain}
-use Rattle.bpaf_exact.specs.Programs.{CommandValue, LeavesToOthers, ProgramLaw}
-use Rattle.bpaf_exact.specs.Programs.{FindsNoCommand, CommandsLaw, CommandEval, command_value}
-use Rattle.bpaf_exact.specs.Programs.{command_leftover, command_refused, command_missing}
-use Rattle.bpaf_exact.specs.Programs.{command_memory}
+use Rattle.bpaf_exact.specs.Programs.{empty_cell, spelled_cell, are_plain, CommandValue}
+use Rattle.bpaf_exact.specs.Programs.{LeavesToOthers, ProgramLaw, FindsNoCommand, CommandsLaw}
+use Rattle.bpaf_exact.specs.Programs.{CommandEval, command_value, command_leftover, command_refused}
+use Rattle.bpaf_exact.specs.Programs.{command_missing, command_memory}
 use Rattle.bpaf_exact.proofs.Cells.{begin_foreign}
 use Rattle.bpaf_exact.proofs.Choice.{HasItem, has_item}
 use Rattle.bpaf_exact.proofs.Counts.{open_present}

@@ -1,10 +1,10 @@
 -- Each flat type shows the same parts, whichever shape it shows, where its inner parsers do.
-use Rattle.std.proofs.Common.{◌≡◌, List, [], ◌∷◌, ◌++◌, Option, Some, None}
-use Rattle.std.proofs.Common.{refl, sym, ap, ap₂, ◌∙◌, append_assoc, append-nil, map, slice_get}
+use Rattle.std.proofs.Common.{◌≡◌, List, [], ◌∷◌, ◌++◌, Option, Some, None, refl, sym, ap, ap₂, ◌∙◌}
+use Rattle.std.proofs.Common.{append_assoc, append-nil, map, slice_get}
 use Rattle.std.proofs.lemmas.List.{map-append}
 use Rattle.bpaf_doc.specs.declared.doc.Piece.{Piece}
-use Rattle.bpaf_doc.specs.Shape.{Shown, Command, Shape, Shapes, Or, Optional, Required, Many, Suffix}
-use Rattle.bpaf_doc.specs.Shape.{Subsection, CustomUsage, Skip, none, ◌then◌, members}
+use Rattle.bpaf_doc.specs.Shape.{Shown, Command, Shape, Shapes, Or, Optional, Required, Many}
+use Rattle.bpaf_doc.specs.Shape.{Suffix, Subsection, CustomUsage, Skip, none, ◌then◌, members}
 use Rattle.bpaf_doc.specs.Shape.{alternatives, shapes_of}
 use Rattle.bpaf_doc.specs.Walks.{parts, parts_of_all}
 use Rattle.bpaf_laws.specs.Choice.{ChoiceDescribes, either_shape}

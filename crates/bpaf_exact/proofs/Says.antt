@@ -1,39 +1,36 @@
 -- The value of each flat field says of its pieces what its parser says.
-use Rattle.std.proofs.Common.{◌≡◌, ℕ, zero, suc, Bool, true, false, List, [], ◌∷◌, ◌++◌, Option}
-use Rattle.std.proofs.Common.{Some, None, refl, sym, ap, ◌∙◌, subst, append-nil, arith}
-use Rattle.std.specs.List.{Contains}
+use Rattle.std.proofs.Common.{◌≡◌, ℕ, Bool, true, false, List, [], ◌∷◌, ◌++◌, Option, Some, None}
+use Rattle.std.proofs.Common.{refl, sym, ap, ◌∙◌, subst, append-nil}
 use Rattle.bpaf_doc.specs.Names.{Names}
 use Rattle.bpaf_text.specs.Named.{Named as Key, KeyWithValue}
 use Rattle.bpaf_laws.specs.Reading.{Outcome}
-use Rattle.bpaf_exact.specs.Pieces.{Roles, LinePiece, One, Two, is_own, mine, others}
-use Rattle.bpaf_exact.specs.Pieces.{either, no_roles}
+use Rattle.bpaf_exact.specs.Pieces.{Roles, LinePiece, One, Two, is_own, mine, others, either}
+use Rattle.bpaf_exact.specs.Pieces.{no_roles}
 use Rattle.bpaf_exact.specs.Flat.{FieldKind, ByName, OneWord, EachWord, FieldsReading, keys, front}
 use Rattle.bpaf_exact.specs.Flat.{back, both_reading}
 use Rattle.bpaf_exact.specs.Names.{Owns, are_all_apart}
 use Rattle.bpaf_exact.specs.Single.{Groups, Gap, FrontOf, Own, own_none, own_more, OwnList, listed}
 use Rattle.bpaf_exact.specs.Single.{listed_and_absent, only_absent, SingleValue, of_group, of_gap}
 use Rattle.bpaf_exact.specs.Single.{no_gap, repeated}
-use Rattle.bpaf_exact.specs.Wrappers.{Closure, OptionalValue, some_value, no_value}
-use Rattle.bpaf_exact.specs.Wrappers.{FallbackValue, own_value, kept_value}
+use Rattle.bpaf_exact.specs.Wrappers.{Closure, OptionalValue, some_value, no_value, FallbackValue}
+use Rattle.bpaf_exact.specs.Wrappers.{own_value, kept_value}
 use Rattle.bpaf_exact.specs.Derived.{LastOf}
 use Rattle.bpaf_exact.specs.Alternative.{pick_type}
-use Rattle.bpaf_exact.specs.Leaves.{flag_field, flag_by, FlagValue, argument_field}
-use Rattle.bpaf_exact.specs.Leaves.{argument_by, ArgumentValue, LastGroup}
-use Rattle.bpaf_exact.specs.Leaves.{word_field, WordValue}
+use Rattle.bpaf_exact.specs.Leaves.{flag_field, flag_by, FlagValue, argument_field, argument_by}
+use Rattle.bpaf_exact.specs.Leaves.{ArgumentValue, LastGroup, word_field, WordValue}
 use Rattle.bpaf_exact.specs.Record.{LastValue}
 use Rattle.bpaf_exact.specs.FlatForm.{FlatForm, FormLaw, not_flat, alternative, single, complete}
 use Rattle.bpaf_exact.specs.FlatForm.{product, only_if, flat_closed, flat_dressed, flat_either}
-use Rattle.bpaf_exact.specs.FlatForm.{flat_choice, choices_rest, alternative_only, flat_choices}
-use Rattle.bpaf_exact.specs.FlatForm.{EachAgrees, flat_repeat, flat_last, flat_optional}
-use Rattle.bpaf_exact.specs.FlatForm.{flat_fallback, unless, flat_field, may_follow, flat_both}
-use Rattle.bpaf_exact.specs.FlatForm.{flat_alone, flat_con, flat_record, product_reading}
+use Rattle.bpaf_exact.specs.FlatForm.{flat_choice, alternative_only, flat_repeat, flat_last}
+use Rattle.bpaf_exact.specs.FlatForm.{flat_optional, flat_fallback, unless, flat_field, may_follow}
+use Rattle.bpaf_exact.specs.FlatForm.{flat_both, flat_alone, flat_con, flat_record, product_reading}
 use Rattle.bpaf_exact.specs.Says.{Said, FlagSays, says_present, says_absent, ArgumentSays}
 use Rattle.bpaf_exact.specs.Says.{says_text, says_last_text, WordSays, EitherSays, says_this}
-use Rattle.bpaf_exact.specs.Says.{says_that, OneOfSays, MadeSays, OptionalSays, says_some}
-use Rattle.bpaf_exact.specs.Says.{says_none, FallbackSays, says_own, says_kept, FrontSays}
-use Rattle.bpaf_exact.specs.Says.{RepeatSays, says_in_turn, says_alone, LastSays, FieldsSaid}
-use Rattle.bpaf_exact.specs.Says.{RecordSays, FormSays, Says, FieldsFormSays, FieldsSay}
-use Rattle.bpaf_exact.specs.Says.{its_pieces, words_after}
+use Rattle.bpaf_exact.specs.Says.{says_that, MadeSays, OptionalSays, says_some, says_none}
+use Rattle.bpaf_exact.specs.Says.{FallbackSays, says_own, says_kept, FrontSays, RepeatSays}
+use Rattle.bpaf_exact.specs.Says.{says_in_turn, says_alone, LastSays, FieldsSaid, RecordSays}
+use Rattle.bpaf_exact.specs.Says.{FormSays, Says, FieldsFormSays, FieldsSay, its_pieces}
+use Rattle.bpaf_exact.specs.Says.{words_after}
 use Rattle.bpaf_exact.proofs.Names.{apart_of_names}
 use Rattle.bpaf_exact.proofs.Sharing.{mine_keyed, others_unkeyed, mine_within, first_within}
 use Rattle.bpaf_exact.proofs.Sharing.{second_within, mine_of_others, mine_none, others_none}
@@ -161,7 +158,8 @@ dressed_says {T} {s} {kind} {said} h = record { by = by_form s h.by }
 -- Choices.
 
 -- of two, into what each says more of
-pub choice_into : {T : Type 0} (own others : List Names) (kind : FieldKind) (said this that : Said T)
+pub choice_into : {T : Type 0} (own others : List Names) (kind : FieldKind)
+    (said this that : Said T)
     → ((os : List LinePiece) (v : T) → this os v → said os v)
     → ((os : List LinePiece) (v : T) → that os v → said os v)
     → (a b : FlatForm T) → FormSays a ByName this → FormSays b kind that
@@ -192,8 +190,8 @@ choice_into {T} own others kind said this that from_this from_that a b g h =
         (refl, λ o v m. piece q first second g.1 h.1 o v (is_own q o) m)
 
 -- a parser that says so by whichever kind is an alternative or says nothing
-pub by_name : {T : Type 0} (s : FlatForm T) (kind : FieldKind) (said : Said T) → FormSays s kind said
-    → FormSays (alternative_only s) ByName said
+pub by_name : {T : Type 0} (s : FlatForm T) (kind : FieldKind) (said : Said T)
+    → FormSays s kind said → FormSays (alternative_only s) ByName said
 by_name not_flat kind said h = tt
 by_name (alternative q value) kind said h = (refl, h.1)
 by_name (single k q group gap) kind said h = tt

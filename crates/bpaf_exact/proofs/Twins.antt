@@ -1,7 +1,6 @@
 -- What parsers answer, by their tables, is what the laws of flat fields speak of.
-use Rattle.std.proofs.Common.{◌≡◌, ℕ, Bool, true, false, List, [], Option, Some}
-use Rattle.std.proofs.Common.{None, Result, Ok, Err, refl, sym, ap, ◌∙◌, subst, inl, inr, ◌⊎◌}
-use Rattle.std.proofs.Common.{⊎_elim, true≢false}
+use Rattle.std.proofs.Common.{◌≡◌, ℕ, Bool, true, false, List, [], Option, Some, None, Result, Ok}
+use Rattle.std.proofs.Common.{Err, refl, sym, ap, ◌∙◌, subst, inl, inr, ◌⊎◌, ⊎_elim, true≢false}
 use Rattle.std.specs.Global.{Vec}
 use Rattle.bpaf_doc.specs.Names.{Names}
 use Rattle.bpaf_line.specs.declared.error.Error.{Error}
@@ -23,10 +22,8 @@ use Rattle.bpaf_exact.specs.Wrappers.{CanCatch, catch_missing, catch_other, Fall
 use Rattle.bpaf_exact.specs.Wrappers.{fallback_ok, fallback_given, fallback_no, fallback_memory}
 use Rattle.bpaf_exact.specs.Wrappers.{fallback_err}
 use Rattle.bpaf_exact.specs.Derived.{list_closure, some_closure, count_closure, collect_closure}
-use Rattle.bpaf_exact.specs.FlatForm.{FlatForm, FormLaw, Agrees, flat_closed, flat_repeat}
-use Rattle.bpaf_exact.specs.FlatForm.{flat_many}
-use Rattle.bpaf_exact.specs.FlatForm.{flat_some, flat_count, flat_collect, flat_last}
-use Rattle.bpaf_exact.specs.FlatForm.{flat_optional, flat_fallback, unless}
+use Rattle.bpaf_exact.specs.FlatForm.{FlatForm, FormLaw, flat_repeat, flat_many, flat_some}
+use Rattle.bpaf_exact.specs.FlatForm.{flat_count, flat_collect, flat_last, flat_fallback, unless}
 use Rattle.bpaf_exact.proofs.Classes.{memory_class, caught_class, kept_class, stops_at, goes_on}
 use Rattle.bpaf_exact.specs.ProgramForm.{ProgramForm, no_program, plain, commands, left_out}
 use Rattle.bpaf_exact.specs.ProgramForm.{before_commands, ProgramFormLaw, ProgramAgrees}
@@ -35,8 +32,8 @@ use Rattle.bpaf_exact.specs.ProgramForm.{program_optional, program_repeat}
 use Rattle.bpaf_exact.proofs.Narrow.{AllowsNoMore, narrower_form}
 use Rattle.bpaf_exact.proofs.ProgramForm.{flat_only_law, narrower_program_form, program_closed_law}
 use Rattle.bpaf_exact.proofs.ProgramForm.{program_never_refuses, program_optional_law}
-use Rattle.bpaf_exact.proofs.FlatForm.{flat_closed_law, never_refuses, flat_listed_law, some_agrees}
-use Rattle.bpaf_exact.proofs.FlatForm.{flat_last_law, flat_optional_law, flat_fallback_law}
+use Rattle.bpaf_exact.proofs.FlatForm.{never_refuses, flat_listed_law, some_agrees, flat_last_law}
+use Rattle.bpaf_exact.proofs.FlatForm.{flat_fallback_law}
 
 -- map
 map_within : (A B : Type 0) (inner : Outcome A) (answers : A → B → Type 0)

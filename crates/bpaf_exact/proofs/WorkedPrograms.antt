@@ -6,8 +6,8 @@ use Rattle.bpaf_exact.specs.Flat.{ByName, none_here, no_place}
 use Rattle.bpaf_exact.specs.FlatForm.{single}
 use Rattle.bpaf_exact.specs.Leaves.{FlagValue, WordValue, switch_gap, word_field}
 use Rattle.bpaf_exact.specs.ProgramForm.{ProgramForm, plain, is_program, program_value}
-use Rattle.bpaf_exact.specs.ProgramForm.{program_command, program_field, program_alone, program_both}
-use Rattle.bpaf_exact.specs.ProgramForm.{program_optional}
+use Rattle.bpaf_exact.specs.ProgramForm.{program_command, program_field, program_alone}
+use Rattle.bpaf_exact.specs.ProgramForm.{program_both, program_optional}
 use Rattle.bpaf_exact.specs.Programs.{opens_here, some_command, no_command}
 use Rattle.bpaf_exact.specs.Record.{line_cells}
 use Rattle.bpaf_exact.specs.Single.{FrontOf, of_group}

@@ -1,5 +1,5 @@
 -- What a flat field is: how it reads its pieces, and the law that this puts on its outcome.
-use Rattle.std.specs.Prelude.{ℕ, Bool, true, false, List, [], ◌∷◌, ◌++◌, Option}
+use Rattle.std.specs.Prelude.{ℕ, Bool, true, false, List, [], ◌∷◌, Option}
 use Rattle.std.specs.Global.{Vec}
 use Rattle.bpaf_doc.specs.Names.{Names}
 use Rattle.bpaf_laws.specs.Reading.{Outcome}
@@ -87,15 +87,6 @@ abbrev pub flat_choice : {T : Type 0} → List Names → List Names → FlatForm
     → FlatForm T
 flat_choice own others a b = only_if (are_all_apart own others) (flat_either a b)
 
--- a choice of what stands before and of parsers, nested to the left
-abbrev pub choices_rest : {P T : Type 0} → (P → List Names) → (P → FlatForm T) → List Names
-    → FlatForm T
-    → List P
-    → FlatForm T
-choices_rest names form own before [] = before
-choices_rest names form own before (p ∷ ps) =
-    choices_rest names form (own ++ names p) (flat_choice own (names p) before (form p)) ps
-
 -- an alternative, and nothing else
 abbrev pub alternative_only : {T : Type 0} → FlatForm T → FlatForm T
 alternative_only not_flat = not_flat
@@ -103,12 +94,6 @@ alternative_only (alternative q value) = alternative q value
 alternative_only (single k q group gap) = not_flat
 alternative_only (complete k q value) = not_flat
 alternative_only (product q fields) = not_flat
-
--- a choice of any number of parsers, but for none
-abbrev pub flat_choices : {P T : Type 0} → (P → List Names) → (P → FlatForm T) → List P → FlatForm T
-flat_choices names form [] = not_flat
-flat_choices names form (p ∷ ps) =
-    choices_rest names form (names p) (alternative_only (form p)) ps
 
 -- the values of a repeat, as a list
 abbrev pub flat_repeat : {T : Type 0} → FlatForm T → FlatForm (List T)

@@ -1,7 +1,7 @@
 -- Programs with commands: named fields, and then a command, behind whose word a program stands
 -- again. What a program's values are is said of the cells of its scope alone.
-use Rattle.std.specs.Prelude.{◌≡◌, ◌≤◌, ◌⊎◌, ℕ, Bool, true, false, List, [], ◌∷◌, Option, Some, None}
-use Rattle.std.specs.Prelude.{Result, Ok, Err, if◌then◌else◌, ◌==◌, not}
+use Rattle.std.specs.Prelude.{◌≡◌, ◌≤◌, ◌⊎◌, ℕ, Bool, true, false, List, [], ◌∷◌, Option, Some}
+use Rattle.std.specs.Prelude.{None, Result, Ok, Err, if◌then◌else◌, ◌==◌, not}
 use Rattle.std.specs.List.{list_all}
 use Rattle.bpaf_items.specs.declared.arg.Arg.{Arg}
 use Rattle.bpaf_items.specs.declared.arg.Arg.TheVariants.{Short, Long, ArgWord, Word, PosWord}
@@ -13,7 +13,8 @@ use Rattle.bpaf_laws.specs.Command.{opening_words}
 use Rattle.bpaf_laws.specs.Reading.{Outcome}
 use Rattle.bpaf_exact.specs.Pieces.{Cells, Role, Foreign, Alone, WithNext, Roles, LinePiece}
 use Rattle.bpaf_exact.specs.Pieces.{is_value, pieces, Apart, IsNamed}
-use Rattle.bpaf_exact.specs.Flat.{OfMemory, OfMissing, class, cells, NonePresent, NoneOutside, GivesAll}
+use Rattle.bpaf_exact.specs.Flat.{OfMemory, OfMissing, class, cells, NonePresent, NoneOutside}
+use Rattle.bpaf_exact.specs.Flat.{GivesAll}
 use Rattle.bpaf_exact.specs.Wrappers.{Closure}
 
 -- which values some cells have

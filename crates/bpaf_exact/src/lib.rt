@@ -1,5 +1,5 @@
-//! What a flat record is, and that a run of one is exact: definitions and lemmas alone, no function
-//! stands here.
+//! What a flat record is, and a program with commands, and that a run of one is exact: definitions
+//! and lemmas alone, no function stands here.
 //!
 //! It stands on `bpaf_doc`, `bpaf_words`, `bpaf_line`, `bpaf_text` and `bpaf_laws`, whose types and
 //! tables it speaks of. For the layers above:
@@ -29,7 +29,15 @@
 //!   text. Where closures can't tell apart what looks alike, the values of a line look alike
 //!   (specs/OneView.antt, `record_looks_one` and `runs_to_one` of proofs/OneView.antt).
 //!
+//! - A program is a flat record, or named fields and then commands, behind the word of each of which
+//!   stands a program again. Its values are said of the cells of its scope: the fields' own pieces
+//!   are taken away, the first thing left opens a command, and what stands behind it is that
+//!   command's (specs/Programs.antt). What a parser is to a program is its `ProgramForm`, of which
+//!   the `FlatForm` is the plain part (specs/ProgramForm.antt); each answer of a run is exact where
+//!   it is a program (`runs_as_program`, proofs/ProgramForm.antt). What its values say of the cells
+//!   stands in specs/ProgramSays.antt and proofs/ProgramSays.antt.
+//!
 //! Proofs that closures, repeats, choices and products keep to these laws by their tables stand in
-//! proofs/: proofs/Twins.antt and proofs/FlatForm.antt have one lemma for each type of parser,
-//! proofs/Exact.antt the theorem.
+//! proofs/: proofs/Twins.antt, proofs/ProgramForm.antt and proofs/FlatForm.antt have one lemma for
+//! each type of parser, proofs/Exact.antt the theorem of flat records.
 #![tactic(auto)]

@@ -22,43 +22,39 @@ pub answer_says : {T : Type 0} {P Q : T → Type 0} (r : Result T ParseFailure) 
 answer_says (Ok v) holds so = so v holds
 answer_says (Err f) holds so = tt
 
-module _ {T : Type 0} {describes : Shape → Type 0} {info : RunInfo} {form : FlatForm T}
-    {said : Said T} {given : Given} {v : T}
-    (told : SaysOfWords describes info form said given v) where
-  -- the pieces of the line that begin with a key
-  abbrev own : Names → List LinePiece
-  own key = keyed (key ∷ []) told.is_value.read.cut_into
+-- pieces that are a key's own on the line of words: where there is one, one of the words before the
+-- first `--` spells the key
+pub record OwnOf (given : Given) (key : Names) (os : List LinePiece) : Type 0 where
+  pub spelled : os ≢ [] → WasSpelled key given.words
 
+module _ {given : Given} {key : Names} {os : List LinePiece} (own : OwnOf given key os) where
   -- one of the words before the first `--` spells the key, by its names and the words of a caller
-  abbrev IsKeySpelled : Names → Type 0
-  IsKeySpelled key =
+  abbrev IsKeySpelled : Type 0
+  IsKeySpelled =
       (names : Names) → key ≡ names → (words : List (List ℕ)) → given.words ≡ words
       → WasSpelled names words
 
   -- A key with a piece of its own was spelled.
-  pub key_spelled : {key : Names} → own key ≢ [] → IsKeySpelled key
-  key_spelled {key} some names same words are =
-      let value = told.is_value in
+  pub key_spelled : os ≢ [] → IsKeySpelled
+  key_spelled some names same words are =
       subst (WasSpelled names) are
-      (subst (λ z. WasSpelled z given.words) same
-      (piece_was_spelled info given value.context value.on_line _ key value.read.cut_into
-      value.read.cut some))
+      (subst (λ z. WasSpelled z given.words) same (own.spelled some))
 
   -- So was that of a value that needs a piece,
-  pub value_spelled : {key : Names} {A : Type 0} {inside : Said A} {x : A} → NeedsPiece inside
-      → inside (own key) x → IsKeySpelled key
-  value_spelled {key} {A} {inside} {x} needs so =
+  pub value_spelled : {A : Type 0} {inside : Said A} {x : A} → NeedsPiece inside
+      → inside os x → IsKeySpelled
+  value_spelled {A} {inside} {x} needs so =
       key_spelled (λ none. needs.some x (subst (λ os. inside os x) none so))
 
   -- of an argument's value,
-  pub argument_spelled : {key : Names} {A : Type 0} {means : List ℕ → A → Type 0} {last : Bool}
-      {x : A} → ArgumentSays means last (own key) x → IsKeySpelled key
-  argument_spelled {key} {A} {means} {last} {x} so =
+  pub argument_spelled : {A : Type 0} {means : List ℕ → A → Type 0} {last : Bool}
+      {x : A} → ArgumentSays means last os x → IsKeySpelled
+  argument_spelled {A} {means} {last} {x} so =
       value_spelled {x = x} (argument_needs {means = means} {last = last}) so
 
   -- of a switch that is true,
-  pub switch_spelled : {key : Names} {present : Bool} {absent : Option Bool} {b : Bool}
-      → FlagSays (λ kept x. x ≡ kept) present absent (own key) b → absent ≡ Some false
+  pub switch_spelled : {present : Bool} {absent : Option Bool} {b : Bool}
+      → FlagSays (λ kept x. x ≡ kept) present absent os b → absent ≡ Some false
       → (names : Names) → key ≡ names → (words : List (List ℕ)) → given.words ≡ words
       → (switch : Bool) → switch ≡ b → switch ≡ true → WasSpelled names words
   switch_spelled (says_present k one is) off names same words are switch value on =
@@ -66,8 +62,8 @@ module _ {T : Type 0} {describes : Shape → Type 0} {info : RunInfo} {form : Fl
   switch_spelled (says_absent a none kept is) off names same words are switch value on = absurd cc
 
   -- of a required flag that has its value,
-  pub flag_spelled : {key : Names} {A : Type 0} {clones : A → A → Type 0} {present : A}
-      {absent : Option A} {x : A} → FlagSays clones present absent (own key) x → absent ≡ None
+  pub flag_spelled : {A : Type 0} {clones : A → A → Type 0} {present : A}
+      {absent : Option A} {x : A} → FlagSays clones present absent os x → absent ≡ None
       → (names : Names) → key ≡ names → (words : List (List ℕ)) → given.words ≡ words
       → clones present x × WasSpelled names words
   flag_spelled (says_present k one is) required names same words are =
@@ -75,28 +71,42 @@ module _ {T : Type 0} {describes : Shape → Type 0} {info : RunInfo} {form : Fl
   flag_spelled (says_absent a none kept is) required names same words are = absurd cc
 
   -- of an optional value that is Some,
-  pub optional_spelled : {key : Names} {A : Type 0} {inside : Said A} {o : Option A}
-      → NeedsPiece inside → OptionalSays inside (own key) o → (value : Option A) → value ≡ o
-      → IsSome value → IsKeySpelled key
+  pub optional_spelled : {A : Type 0} {inside : Said A} {o : Option A}
+      → NeedsPiece inside → OptionalSays inside os o → (value : Option A) → value ≡ o
+      → IsSome value → IsKeySpelled
   optional_spelled needs (says_some x is so) value same some = value_spelled {x = x} needs so
   optional_spelled needs (says_none is none) value same some =
       let wrong : false ≡ true = subst IsSome (same ∙ is) some in
       absurd cc
 
   -- of a value under a fallback that isn't what stands in its place,
-  pub fallback_spelled : {key : Names} {A : Type 0} {inside : Said A} {kept : A → Type 0} {x : A}
-      → NeedsPiece inside → FallbackSays inside kept (own key) x → ¬ (kept x) → IsKeySpelled key
-  fallback_spelled {key} {A} {inside} {kept} {x} needs (says_own so) other =
+  pub fallback_spelled : {A : Type 0} {inside : Said A} {kept : A → Type 0} {x : A}
+      → NeedsPiece inside → FallbackSays inside kept os x → ¬ (kept x) → IsKeySpelled
+  fallback_spelled {A} {inside} {kept} {x} needs (says_own so) other =
       value_spelled {x = x} needs so
   fallback_spelled needs (says_kept none is) other = absurd (other is)
 
   -- and of a repeat that isn't empty.
-  pub repeat_spelled : {key : Names} {A : Type 0} {inside : Said A} {xs : List A}
-      → NeedsPiece inside → RepeatSays inside (own key) xs → (values : List A) → values ≡ xs
-      → values ≢ [] → IsKeySpelled key
-  repeat_spelled {key} {A} {inside} {xs} needs so values same some =
+  pub repeat_spelled : {A : Type 0} {inside : Said A} {xs : List A}
+      → NeedsPiece inside → RepeatSays inside os xs → (values : List A) → values ≡ xs
+      → values ≢ [] → IsKeySpelled
+  repeat_spelled {A} {inside} {xs} needs so values same some =
       key_spelled (λ none. repeat_needs needs xs (λ empty. some (same ∙ empty))
       (subst (λ os. RepeatSays inside os xs) none so))
+
+module _ {T : Type 0} {describes : Shape → Type 0} {info : RunInfo} {form : FlatForm T}
+    {said : Said T} {given : Given} {v : T}
+    (told : SaysOfWords describes info form said given v) where
+  -- the pieces that the line is cut into
+  abbrev line : List LinePiece
+  line = told.is_value.read.cut_into
+
+  -- Those of them that begin with a key are its own.
+  pub of_line : {key : Names} → OwnOf given key (keyed (key ∷ []) line)
+  of_line {key} = record {
+    spelled = piece_was_spelled info given told.is_value.context told.is_value.on_line _ key line
+        told.is_value.read.cut;
+  }
 
   -- what follows where one of the words before the first `--` spells the key, whatever names are
   -- known
@@ -106,7 +116,7 @@ module _ {T : Type 0} {describes : Shape → Type 0} {info : RunInfo} {form : Fl
       → All IsUtf8 words → IsSpelledByAny info.numbers names words → A
 
   -- A key that was spelled has a piece of its own,
-  pub spelled_key : {key : Names} → IfKeySpelled key (own key ≢ [])
+  pub spelled_key : {key : Names} → IfKeySpelled key (keyed (key ∷ []) line ≢ [])
   spelled_key {key} names same words are texts spelled =
       let value = told.is_value in
       spelled_has_piece info given value.context value.on_line _ key value.read.cut_into
@@ -116,7 +126,7 @@ module _ {T : Type 0} {describes : Shape → Type 0} {info : RunInfo} {form : Fl
 
   -- so its switch is true,
   pub spelled_switch : {key : Names} {present : Bool} {absent : Option Bool} {b : Bool}
-      → FlagSays (λ kept x. x ≡ kept) present absent (own key) b → present ≡ true
+      → FlagSays (λ kept x. x ≡ kept) present absent (keyed (key ∷ []) line) b → present ≡ true
       → (switch : Bool) → switch ≡ b → IfKeySpelled key (switch ≡ true)
   spelled_switch (says_present k one is) on switch value names same words are texts spelled = cc
   spelled_switch (says_absent a none kept is) on switch value names same words are texts spelled =
@@ -124,7 +134,7 @@ module _ {T : Type 0} {describes : Shape → Type 0} {info : RunInfo} {form : Fl
 
   -- an optional value Some,
   pub spelled_optional : {key : Names} {A : Type 0} {inside : Said A} {o : Option A}
-      → OptionalSays inside (own key) o → (value : Option A) → value ≡ o
+      → OptionalSays inside (keyed (key ∷ []) line) o → (value : Option A) → value ≡ o
       → IfKeySpelled key (IsSome value)
   spelled_optional (says_some x is so) value e names same words are texts spelled =
       subst IsSome (sym (e ∙ is)) refl
@@ -133,8 +143,8 @@ module _ {T : Type 0} {describes : Shape → Type 0} {info : RunInfo} {form : Fl
 
   -- and a repeat not empty.
   pub spelled_repeat : {key : Names} {A : Type 0} {inside : Said A} {xs : List A}
-      → RepeatSays inside (own key) xs → (values : List A) → values ≡ xs
+      → RepeatSays inside (keyed (key ∷ []) line) xs → (values : List A) → values ≡ xs
       → IfKeySpelled key (values ≢ [])
   spelled_repeat {key} {A} {inside} {xs} so values e names same words are texts spelled =
       λ none. spelled_key names same words are texts spelled
-      (no_values (subst (RepeatSays inside (own key)) (sym e ∙ none) so))
+      (no_values (subst (RepeatSays inside (keyed (key ∷ []) line)) (sym e ∙ none) so))

@@ -3,8 +3,7 @@ use Rattle.std.proofs.Common.{◌≡◌, Bool, true, false, List, ◌&&◌, refl
 use Rattle.bpaf_exact.specs.Flat.{ByName, OneWord, EachWord}
 use Rattle.bpaf_exact.specs.FlatForm.{FlatForm, not_flat, alternative, single, complete, product}
 use Rattle.bpaf_exact.specs.FlatForm.{flat_closed, flat_dressed, flat_repeat, flat_last}
-use Rattle.bpaf_exact.specs.FlatForm.{flat_optional}
-use Rattle.bpaf_exact.specs.FlatForm.{flat_fallback, unless, is_record}
+use Rattle.bpaf_exact.specs.FlatForm.{flat_optional, flat_fallback, unless, is_record}
 use Rattle.bpaf_exact.specs.Wrappers.{Closure}
 use Rattle.bpaf_record.specs.Form.{form_of, closed_form, completed_form, unless_form}
 use Rattle.bpaf_record.specs.Form.{is_record_form}

@@ -8,3 +8,4 @@ pub mod Programs
 pub mod Spelled
 pub mod OwnWords
 pub mod Answered
+pub mod Called

@@ -13,7 +13,7 @@ use Rattle.bpaf_exact.specs.FlatForm.{flat_field, flat_record, is_record, produc
 use Rattle.bpaf_exact.specs.FlatForm.{product_roles}
 use Rattle.bpaf_exact.specs.Names.{are_all_apart}
 use Rattle.bpaf_exact.specs.ProgramForm.{ProgramForm, no_program, plain, commands, left_out}
-use Rattle.bpaf_exact.specs.ProgramForm.{before_commands, program_if, program_closed, flat_only}
+use Rattle.bpaf_exact.specs.ProgramForm.{before_commands, program_if, program_closed}
 use Rattle.bpaf_exact.specs.ProgramForm.{program_dressed, program_repeat, program_last}
 use Rattle.bpaf_exact.specs.ProgramForm.{program_fallback, program_optional, are_words_apart}
 use Rattle.bpaf_exact.specs.ProgramForm.{program_choice, program_choices, program_rest, first_only}

@@ -1,9 +1,5 @@
 -- What choices and products make of forms, and of tests of their keys.
-use Rattle.std.proofs.Common.{◌≡◌, ℕ, ◌+◌, ◌<◌, Bool, true, false, ◌&&◌, List, [], ◌∷◌, ◌++◌}
-use Rattle.std.proofs.Common.{length, take, drop, flat_map, slice_index_or, refl, sym, ap, ◌∙◌}
-use Rattle.std.proofs.Common.{arith, append-nil, ◌≤◌}
-use Rattle.std.proofs.lemmas.List.{take_more, drop_more, drop_all}
-use Rattle.std.proofs.lemmas.List.Concat.{flat_map-append}
+use Rattle.std.proofs.Common.{◌≡◌, ◌+◌, Bool, true, false, ◌&&◌, List, [], ◌∷◌, ◌++◌, refl, sym}
 use Rattle.std.specs.List.{list_all}
 use Rattle.std.proofs.lemmas.List.Folds.{list_all-append}
 use Rattle.bpaf_doc.specs.Names.{Names}
@@ -11,11 +7,9 @@ use Rattle.bpaf_exact.specs.Names.{are_all_apart}
 use Rattle.bpaf_exact.specs.Pieces.{Roles}
 use Rattle.bpaf_exact.specs.Flat.{FieldsReading, ByName, OneWord, EachWord}
 use Rattle.bpaf_exact.specs.FlatForm.{FlatForm, not_flat, alternative, single, complete, product}
-use Rattle.bpaf_exact.specs.FlatForm.{only_if}
-use Rattle.bpaf_exact.specs.FlatForm.{flat_either, flat_choice, choices_rest, alternative_only}
-use Rattle.bpaf_exact.specs.FlatForm.{flat_choices, flat_field, flat_both, flat_alone, flat_con}
+use Rattle.bpaf_exact.specs.FlatForm.{only_if, flat_either, flat_choice, alternative_only}
+use Rattle.bpaf_exact.specs.FlatForm.{flat_field, flat_both, flat_alone, flat_con}
 use Rattle.bpaf_exact.specs.Wrappers.{Closure}
-use Rattle.bpaf_record.specs.declared.form.Form.{Form}
 use Rattle.bpaf_record.specs.Form.{form_of, product_if, field_form, alternative_form, joined_form}
 use Rattle.bpaf_record.specs.Form.{alone_form, before_form, made_form}
 

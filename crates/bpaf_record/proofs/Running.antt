@@ -1,12 +1,11 @@
 -- Each answer that the table of a run allows to a flat record is exact.
-use Rattle.std.proofs.Common.{◌≡◌, ℕ, true, List, Some, None, Result, Ok, Err, IfOk, All, IsUtf8}
-use Rattle.std.proofs.Common.{refl, ap, subst, arith}
+use Rattle.std.proofs.Common.{◌≡◌, true, List, Some, None, Result, Ok, Err, IfOk, All, IsUtf8, refl}
+use Rattle.std.proofs.Common.{ap, subst}
 use Rattle.std.proofs.lemmas.Bool.{and_parts}
 use Rattle.bpaf_doc.specs.Names.{Names}
 use Rattle.bpaf_doc.specs.Shape.{Shape}
 use Rattle.bpaf_words.specs.Arguments.{Given}
 use Rattle.bpaf_line.specs.declared.error.Error.{Error}
-use Rattle.bpaf_line.specs.declared.error.Message.{Message}
 use Rattle.bpaf_line.specs.declared.failure.ParseFailure.{ParseFailure}
 use Rattle.bpaf_line.specs.declared.failure.ParseFailure.TheVariants as failure
 use Rattle.bpaf_line.specs.Situation.{Context, Situation, beginning}
@@ -20,8 +19,7 @@ use Rattle.bpaf.specs.Run.{no_memory as wanted}
 use Rattle.bpaf_exact.specs.Flat.{FieldKind, FieldsLaw, FieldsReading}
 use Rattle.bpaf_exact.specs.Pieces.{Cut, Roles}
 use Rattle.bpaf_exact.specs.Record.{RunRan, run_value, run_leftover, run_memory, run_refusal}
-use Rattle.bpaf_exact.specs.Record.{IsNoValue}
-use Rattle.bpaf_exact.specs.Record.{IsAcceptedOrWant, IsExact, RecordValue, line_cells}
+use Rattle.bpaf_exact.specs.Record.{IsNoValue, IsAcceptedOrWant, IsExact, RecordValue, line_cells}
 use Rattle.bpaf_exact.specs.FlatForm.{FlatForm, FormLaw, is_record, product_roles, product_reading}
 use Rattle.bpaf_exact.specs.FlatForm.{flat_record}
 use Rattle.bpaf_exact.proofs.Classes.{memory_class, not_memory}
@@ -32,8 +30,7 @@ use Rattle.bpaf_exact.proofs.Says.{record_says}
 use Rattle.bpaf_exact.specs.SameParts.{ShowsTheSame}
 use Rattle.bpaf_exact.specs.Says.{Said, Says}
 use Rattle.bpaf_record.specs.Record.{is_flat_record, answer_of, AnswersExactly, RunsWordsExactly}
-use Rattle.bpaf_record.specs.Record.{IsValueOf, IsValueOrWant, HasWholeLine, PiecesOf}
-use Rattle.bpaf_record.specs.Record.{SaysOfWords}
+use Rattle.bpaf_record.specs.Record.{IsValueOf, IsValueOrWant, HasWholeLine, PiecesOf, SaysOfWords}
 use Rattle.bpaf_record.specs.Commands.{left_over}
 use Rattle.bpaf_record.proofs.OneLine.{never_without, one_context}
 

@@ -1,6 +1,6 @@
 -- Each key on the line of words has a whole word that begins with a dash, or none.
-use Rattle.std.proofs.Common.{◌≡◌, ℕ, Bool, true, false, List, [], ◌∷◌, Option, Some, None}
-use Rattle.std.proofs.Common.{codes, map, refl, sym, ap, subst, if◌then◌else◌, ⊎_elim, slice_get}
+use Rattle.std.proofs.Common.{◌≡◌, ℕ, Bool, true, false, List, [], ◌∷◌, Option, Some, None, codes}
+use Rattle.std.proofs.Common.{map, refl, sym, ap, subst, if◌then◌else◌, ⊎_elim, slice_get}
 use Rattle.std.specs.Prelude.{flat_map, encode_utf8_all}
 use Rattle.std.specs.List.{AllZip, AllByRecursion}
 use Rattle.bpaf_doc.specs.Shape.{Shape}
@@ -10,8 +10,9 @@ use Rattle.bpaf_words.specs.Arguments.{Given}
 use Rattle.bpaf_words.specs.Line.{IsLine, without_marker, with_marker, SpellAll}
 use Rattle.bpaf_words.specs.Spelling.{Known, ShortNames, Spelling, Items, Ambiguous, flags_of}
 use Rattle.bpaf_words.specs.Spelling.{argument_of, SpellsJoined, flags, argument, neither, both}
-use Rattle.bpaf_words.specs.Spelling.{SpellsByDash, plain, dash, long, long_value, short, short_value}
-use Rattle.bpaf_words.specs.Spelling.{short_long_value, joined, Spells, number_word, by_dash, known_at}
+use Rattle.bpaf_words.specs.Spelling.{SpellsByDash, plain, dash, long, long_value, short}
+use Rattle.bpaf_words.specs.Spelling.{short_value, short_long_value, joined, Spells, number_word}
+use Rattle.bpaf_words.specs.Spelling.{by_dash, known_at}
 use Rattle.bpaf_line.specs.Constructing.{IsContext}
 use Rattle.bpaf_line.specs.Situation.{Context, item_in, is_marker}
 use Rattle.bpaf.specs.Info.{RunInfo}

@@ -7,8 +7,8 @@ use Rattle.bpaf_exact.specs.ProgramForm.{before_commands, are_words_apart}
 use Rattle.bpaf_record.specs.declared.form.Form.{Form}
 use Rattle.bpaf_record.specs.declared.form.Form.TheVariants.{NotFlat, NamedComplete}
 use Rattle.bpaf_record.specs.declared.part.ProgramPart.{ProgramPart}
-use Rattle.bpaf_record.specs.declared.part.ProgramPart.TheVariants.{NoPart, Flat, Commands}
-use Rattle.bpaf_record.specs.declared.part.ProgramPart.TheVariants.{LeftOut, BeforeCommands}
+use Rattle.bpaf_record.specs.declared.part.ProgramPart.TheVariants.{NoPart, Flat, Commands, LeftOut}
+use Rattle.bpaf_record.specs.declared.part.ProgramPart.TheVariants.{BeforeCommands}
 use Rattle.bpaf_record.specs.Form.{form_of, closed_form, completed_form, unless_form, joined_form}
 use Rattle.bpaf_record.specs.Form.{alternative_form, field_form, alone_form, before_form, made_form}
 use Rattle.bpaf_record.specs.Form.{is_record_form}

@@ -14,8 +14,7 @@ use Rattle.bpaf.specs.Run.{RunsWords}
 use Rattle.bpaf_exact.specs.Accepted.{HoldsTogether}
 use Rattle.bpaf_exact.specs.Names.{are_apart}
 use Rattle.bpaf_exact.specs.Pieces.{LinePiece, Cut}
-use Rattle.bpaf_exact.specs.Record.{RunAnswer, Accepted, NoMemory, Refusal, RecordValue}
-use Rattle.bpaf_exact.specs.Record.{line_cells}
+use Rattle.bpaf_exact.specs.Record.{RunAnswer, Accepted, NoMemory, Refusal, RecordValue, line_cells}
 use Rattle.bpaf_exact.specs.FlatForm.{FlatForm, is_record, product_roles, product_reading}
 use Rattle.bpaf_exact.specs.FlatForm.{flat_record}
 use Rattle.bpaf_exact.specs.Says.{Said}

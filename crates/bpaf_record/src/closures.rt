@@ -20,11 +20,13 @@ impl<T, R, P: ProgramField<T>, F: Fn(T) -> R> ProgramField<R> for ParseMap<T, P,
 
     ghost words = { λ p. P.words p.inner };
 
-    ghost program_form = { λ p. program_closed (map_closure (λ x y. F.post p.map_fn x y)) (P.program_form p.inner) };
+    ghost program_form = { λ p.
+        program_closed (map_closure (λ x y. F.post p.map_fn x y)) (P.program_form p.inner) };
 
     ghost kind = { λ p. P.kind p.inner };
 
-    ghost says = { said_closed (λ p. p.inner) (λ p. map_closure (λ x y. F.post p.map_fn x y)) P.says };
+    ghost says = { said_closed (λ p. p.inner)
+        (λ p. map_closure (λ x y. F.post p.map_fn x y)) P.says };
 
     ghost agrees = { λ p. P.agrees p.inner };
 
@@ -46,7 +48,8 @@ impl<T, R, P: ProgramField<T>, F: Fn(T) -> R> ProgramField<R> for ParseMap<T, P,
 
     ghost shows = { λ p. P.shows p.inner };
 
-    ghost said = { λ p a. program_closed_says (λ p. p.inner) p (λ p. map_closure (λ x y. F.post p.map_fn x y)) (P.said p.inner a) };
+    ghost said = { λ p a. program_closed_says (λ p. p.inner) p
+        (λ p. map_closure (λ x y. F.post p.map_fn x y)) (P.said p.inner a) };
 }
 
 impl<T, R, P: FlatField<T>, F> FlatField<R> for ParseMap<T, P, F, R>
@@ -67,11 +70,13 @@ impl<T, R, E: Display + Drop, P: ProgramField<T>, F: Fn(T) -> Result<R, E>> Prog
 
     ghost words = { λ p. P.words p.inner };
 
-    ghost program_form = { λ p. program_closed (parse_closure (λ x y. F.post p.parse_fn x y)) (P.program_form p.inner) };
+    ghost program_form = { λ p.
+        program_closed (parse_closure (λ x y. F.post p.parse_fn x y)) (P.program_form p.inner) };
 
     ghost kind = { λ p. P.kind p.inner };
 
-    ghost says = { said_closed (λ p. p.inner) (λ p. parse_closure (λ x y. F.post p.parse_fn x y)) P.says };
+    ghost says = { said_closed (λ p. p.inner)
+        (λ p. parse_closure (λ x y. F.post p.parse_fn x y)) P.says };
 
     ghost agrees = { λ p. P.agrees p.inner
         × ProgramAgrees (parse_closure (λ x y. F.post p.parse_fn x y)) (P.program_form p.inner) };
@@ -95,7 +100,8 @@ impl<T, R, E: Display + Drop, P: ProgramField<T>, F: Fn(T) -> Result<R, E>> Prog
 
     ghost shows = { λ p. P.shows p.inner };
 
-    ghost said = { λ p a. program_closed_says (λ p. p.inner) p (λ p. parse_closure (λ x y. F.post p.parse_fn x y)) (P.said p.inner a.0) };
+    ghost said = { λ p a. program_closed_says (λ p. p.inner) p
+        (λ p. parse_closure (λ x y. F.post p.parse_fn x y)) (P.said p.inner a.0) };
 }
 
 impl<T, R, E: Display + Drop, P: FlatField<T>, F> FlatField<R> for ParseWith<T, P, F, E, R>
@@ -116,11 +122,13 @@ impl<'m, T: Drop, P: ProgramField<T>, F: Fn(&T) -> bool> ProgramField<T> for Par
 
     ghost words = { λ p. P.words p.inner };
 
-    ghost program_form = { λ p. program_closed (guard_closure (FnReturnsAt F.Fn p.check)) (P.program_form p.inner) };
+    ghost program_form = { λ p.
+        program_closed (guard_closure (FnReturnsAt F.Fn p.check)) (P.program_form p.inner) };
 
     ghost kind = { λ p. P.kind p.inner };
 
-    ghost says = { said_closed (λ p. p.inner) (λ p. guard_closure (FnReturnsAt F.Fn p.check)) P.says };
+    ghost says = { said_closed (λ p. p.inner)
+        (λ p. guard_closure (FnReturnsAt F.Fn p.check)) P.says };
 
     ghost agrees = { λ p. P.agrees p.inner
         × ProgramAgrees (guard_closure (FnReturnsAt F.Fn p.check)) (P.program_form p.inner) };
@@ -144,7 +152,8 @@ impl<'m, T: Drop, P: ProgramField<T>, F: Fn(&T) -> bool> ProgramField<T> for Par
 
     ghost shows = { λ p. P.shows p.inner };
 
-    ghost said = { λ p a. program_closed_says (λ p. p.inner) p (λ p. guard_closure (FnReturnsAt F.Fn p.check)) (P.said p.inner a.0) };
+    ghost said = { λ p a. program_closed_says (λ p. p.inner) p
+        (λ p. guard_closure (FnReturnsAt F.Fn p.check)) (P.said p.inner a.0) };
 }
 
 impl<'m, T: Drop, P: FlatField<T>, F> FlatField<T> for ParseGuard<'m, P, F>

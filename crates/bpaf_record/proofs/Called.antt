@@ -1,0 +1,191 @@
+-- What an answer of a program says by the words: whose keys were spelled of the fields in front of
+-- commands, and which command's word was.
+use Rattle.std.proofs.Common.{◌≡◌, ◌≢◌, ℕ, Bool, true, false, List, [], ◌∷◌, Some, None, refl, ap}
+use Rattle.std.proofs.Common.{sym, subst, ◌∙◌, if◌then◌else◌, ◌||◌, Option}
+use Rattle.bpaf_doc.specs.Names.{Names}
+use Rattle.bpaf_doc.specs.Shape.{Shape}
+use Rattle.bpaf_items.specs.declared.arg.Arg.{Arg}
+use Rattle.bpaf_items.specs.declared.arg.Arg.TheVariants.{PosWord}
+use Rattle.bpaf_items.specs.Items.{is_key_of}
+use Rattle.bpaf_words.specs.Arguments.{Given}
+use Rattle.bpaf_line.specs.Situation.{Context}
+use Rattle.bpaf_laws.specs.Command.{is_one_of}
+use Rattle.bpaf.specs.Info.{RunInfo}
+use Rattle.bpaf.specs.Known.{IsLineContext}
+use Rattle.bpaf_exact.specs.Names.{Owns}
+use Rattle.bpaf_exact.specs.Pieces.{Cells, Roles, Role, Foreign, Alone, WithNext, LinePiece, Cut}
+use Rattle.bpaf_exact.specs.Pieces.{pieces, begin_piece, is_own_role, is_value}
+use Rattle.bpaf_exact.specs.ProgramForm.{ProgramForm}
+use Rattle.bpaf_exact.specs.Programs.{CellsValue, Opens, opens_here, opens_later, without}
+use Rattle.bpaf_exact.specs.Programs.{without_piece, without_value}
+use Rattle.bpaf_exact.specs.Record.{line_cells}
+use Rattle.bpaf_exact.specs.Says.{keyed}
+use Rattle.bpaf_record.specs.Program.{TellsOfWords}
+use Rattle.bpaf_record.specs.Spelled.{WasCalled}
+use Rattle.bpaf_record.proofs.Answered.{OwnOf}
+use Rattle.bpaf_record.proofs.Spelled.{keyed_on, keys_on, was_spelled}
+
+-- what is left of cells: at each place what was there, or nothing
+pub data IsLeft : Cells → Cells → Type 0 where
+  none_left : IsLeft [] []
+  still_there : {c : Option Arg} {left cs : Cells} → IsLeft left cs → IsLeft (c ∷ left) (c ∷ cs)
+  gone : {c : Option Arg} {left cs : Cells} → IsLeft left cs → IsLeft (None ∷ left) (c ∷ cs)
+
+-- all of them
+all_left : (cs : Cells) → IsLeft cs cs
+all_left [] = none_left
+all_left (c ∷ cs) = still_there (all_left cs)
+
+-- what is left of what is left
+left_again : {a b c : Cells} → IsLeft a b → IsLeft b c → IsLeft a c
+left_again none_left none_left = none_left
+left_again (still_there l) (still_there m) = still_there (left_again l m)
+left_again (still_there l) (gone m) = gone (left_again l m)
+left_again (gone l) (still_there m) = gone (left_again l m)
+left_again (gone l) (gone m) = gone (left_again l m)
+
+-- a value taken away
+value_left : {left cs : Cells} → IsLeft left cs → IsLeft (without_value left) cs
+value_left none_left = none_left
+value_left (still_there {c = None} l) = still_there l
+value_left (still_there {c = Some w} {left = left} {cs = cs} l) = by_test (is_value w)
+  where
+    by_test : (b : Bool) → IsLeft ((if b then None else Some w) ∷ left) (Some w ∷ cs)
+    by_test true = gone l
+    by_test false = still_there l
+value_left (gone l) = gone l
+
+-- a piece taken away
+piece_left : (r : Role) (k : Arg) {left cs : Cells} → IsLeft left cs
+    → IsLeft (without_piece r k left) (Some k ∷ cs)
+piece_left Foreign k l = still_there l
+piece_left Alone k l = gone l
+piece_left WithNext k l = gone (value_left l)
+
+-- the pieces of a field taken away
+without_left : (q : Roles) (cs : Cells) → IsLeft (without q cs) cs
+without_left q [] = none_left
+without_left q (None ∷ cs) = still_there (without_left q cs)
+without_left q (Some k ∷ cs) = piece_left (q k) k (without_left q cs)
+
+-- what stands behind a command's word
+opens_left : {words : List (List ℕ)} {cs ds : Cells} → Opens words cs ds → IsLeft ds cs
+opens_left (opens_here {cs = cs} is) = gone (all_left cs)
+opens_left (opens_later o) = still_there (opens_left o)
+
+-- an item that passes a test stands where it is left
+kept_on : (test : Arg → Bool) {left cs : Cells} → IsLeft left cs → keys_on test left ≢ []
+    → keys_on test cs ≢ []
+kept_on test none_left some = some
+kept_on test (still_there {c = None} l) some = kept_on test l some
+kept_on test (still_there {c = Some k} {left = left} {cs = cs} l) some =
+    by_test (test k) some (kept_on test l)
+  where
+    by_test : (b : Bool) → (if b then (k ∷ keys_on test left) else keys_on test left) ≢ []
+        → (keys_on test left ≢ [] → keys_on test cs ≢ [])
+        → (if b then (k ∷ keys_on test cs) else keys_on test cs) ≢ []
+    by_test true some behind = λ none. cc
+    by_test false some behind = behind some
+kept_on test (gone {c = None} l) some = kept_on test l some
+kept_on test (gone {c = Some k} {cs = cs} l) some = by_test (test k) (kept_on test l some)
+  where
+    by_test : (b : Bool) → keys_on test cs ≢ []
+        → (if b then (k ∷ keys_on test cs) else keys_on test cs) ≢ []
+    by_test true behind = λ none. cc
+    by_test false behind = behind
+
+-- the word of a command stands where it opens
+opens_on : (words : List (List ℕ)) {cs ds : Cells} → Opens words cs ds
+    → keys_on (is_one_of words) cs ≢ []
+opens_on words (opens_here {k = k} {cs = cs} is) = λ none.
+    let wrong : k ∷ keys_on (is_one_of words) cs ≡ [] =
+    sym (ap (λ b. if b then (k ∷ keys_on (is_one_of words) cs) else keys_on (is_one_of words) cs) is)
+    ∙ none in
+    cc
+opens_on words (opens_later o) = opens_on words o
+
+-- own pieces begin with a key where its roles are those of its names
+owned_on : (q : Roles) (key : Names) → Owns q (key ∷ []) → (cs : Cells) → pieces q cs ≢ []
+    → keys_on (is_key_of key) cs ≢ []
+owned_on q key owns [] some = absurd (some refl)
+owned_on q key owns (None ∷ cs) some = owned_on q key owns cs some
+owned_on q key owns (Some k ∷ cs) some =
+    by_role (q k) refl (is_key_of key k) refl (owned_on q key owns cs)
+  where
+    by_role : (r : Role) → q k ≡ r → (b : Bool) → is_key_of key k ≡ b
+        → (pieces q cs ≢ [] → keys_on (is_key_of key) cs ≢ [])
+        → (if b then (k ∷ keys_on (is_key_of key) cs) else keys_on (is_key_of key) cs) ≢ []
+    by_role r is true e behind = λ none. cc
+    by_role Foreign is false e behind =
+        behind (subst (λ r. begin_piece r k cs (pieces q cs) ≢ []) is some)
+    by_role Alone is false e behind =
+        let wrong : true ≡ false =
+        sym (ap is_own_role is) ∙ (owns.own k ∙ ap (λ b. b || false) e) in
+        absurd cc
+    by_role WithNext is false e behind =
+        let wrong : true ≡ false =
+        sym (ap is_own_role is) ∙ (owns.own k ∙ ap (λ b. b || false) e) in
+        absurd cc
+
+-- what is left of the line of words
+pub record LeftOfLine (describes : Shape → Type 0) (info : RunInfo) (given : Given) (cs : Cells)
+    : Type 0 where
+  pub context : Context
+  pub on_line : IsLineContext describes info given context
+  pub left : IsLeft cs (line_cells context)
+
+-- Of what a value of a program is told, all of the line is left.
+pub told_line : {T : Type 0} {describes : Shape → Type 0} {info : RunInfo} {form : ProgramForm T}
+    {said : CellsValue T} {given : Given} {v : T}
+    → (told : TellsOfWords describes info form said given v)
+    → LeftOfLine describes info given (line_cells told.is_value.context)
+told_line told = record {
+  context = told.is_value.context;
+  on_line = told.is_value.on_line;
+  left = all_left (line_cells told.is_value.context);
+}
+
+module _ {describes : Shape → Type 0} {info : RunInfo} {given : Given} {cs : Cells}
+    (line : LeftOfLine describes info given cs) where
+  -- So it is without the pieces of a field,
+  pub without_field : (q : Roles) → LeftOfLine describes info given (without q cs)
+  without_field q = record {
+    context = line.context;
+    on_line = line.on_line;
+    left = left_again (without_left q cs) line.left;
+  }
+
+  -- and behind the word of a command.
+  pub behind_word : {words : List (List ℕ)} {ds : Cells} → Opens words cs ds
+      → LeftOfLine describes info given ds
+  behind_word o = record {
+    context = line.context;
+    on_line = line.on_line;
+    left = left_again (opens_left o) line.left;
+  }
+
+  -- The pieces of a named field are its key's own there,
+  pub of_field : {key : Names} (q : Roles) → Owns q (key ∷ []) → OwnOf given key (pieces q cs)
+  of_field {key} q owns = record {
+    spelled = λ some. was_spelled (is_key_of key) (λ text. refl) info given line.context
+        line.on_line (kept_on (is_key_of key) line.left (owned_on q key owns cs some));
+  }
+
+  -- as are those of the record that a command runs, which begin with a key.
+  pub of_record : {key : Names} {r : Roles} {os : List LinePiece} → Cut r cs os
+      → OwnOf given key (keyed (key ∷ []) os)
+  of_record {key} {r} cut = record {
+    spelled = λ some. was_spelled (is_key_of key) (λ text. refl) info given line.context
+        line.on_line (kept_on (is_key_of key) line.left (keyed_on key r cut some));
+  }
+
+  -- The word of a command that opens was spelled.
+  pub command_called : {words : List (List ℕ)} {ds : Cells} → Opens words cs ds
+      → WasCalled words given.words
+  command_called {words} o =
+      was_spelled (is_one_of words) (none_behind words) info given line.context line.on_line
+      (kept_on (is_one_of words) line.left (opens_on words o))
+    where
+      none_behind : (words : List (List ℕ)) (text : List ℕ) → is_one_of words (PosWord text) ≡ false
+      none_behind [] text = refl
+      none_behind (word ∷ words) text = none_behind words text
