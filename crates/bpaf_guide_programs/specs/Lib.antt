@@ -2,3 +2,4 @@ pub mod Told
 pub mod Remove
 pub mod Head
 pub mod Archive
+pub mod Clean

@@ -10,6 +10,7 @@
 
 mod archive;
 mod backup;
+mod clean;
 mod head;
 mod remove;
 

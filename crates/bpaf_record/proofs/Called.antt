@@ -16,7 +16,8 @@ use Rattle.bpaf_exact.specs.Names.{Owns}
 use Rattle.bpaf_exact.specs.Pieces.{Cells, Roles, Role, Foreign, Alone, WithNext, LinePiece, Cut}
 use Rattle.bpaf_exact.specs.Pieces.{pieces, begin_piece, is_own_role, is_value}
 use Rattle.bpaf_exact.specs.ProgramForm.{ProgramForm}
-use Rattle.bpaf_exact.specs.Programs.{CellsValue, Opens, opens_here, opens_later, without}
+use Rattle.bpaf_exact.specs.Programs.{CellsValue, ChoiceValue, first_value, second_value}
+use Rattle.bpaf_exact.specs.Programs.{CommandValue, Opens, opens_here, opens_later, without}
 use Rattle.bpaf_exact.specs.Programs.{without_piece, without_value}
 use Rattle.bpaf_exact.specs.Record.{line_cells}
 use Rattle.bpaf_exact.specs.Says.{keyed}
@@ -179,13 +180,22 @@ module _ {describes : Shape → Type 0} {info : RunInfo} {given : Given} {cs : C
         line.on_line (kept_on (is_key_of key) line.left (keyed_on key r cut some));
   }
 
-  -- The word of a command that opens was spelled.
-  pub command_called : {words : List (List ℕ)} {ds : Cells} → Opens words cs ds
-      → WasCalled words given.words
-  command_called {words} o =
-      was_spelled (is_one_of words) (none_behind words) info given line.context line.on_line
-      (kept_on (is_one_of words) line.left (opens_on words o))
+  -- The word of a command that has the value was spelled.
+  pub command_called : {T : Type 0} {words : List (List ℕ)} {inner : CellsValue T} {v : T}
+      → CommandValue T words inner cs v → (names : List (List ℕ)) → words ≡ names
+      → (said : List (List ℕ)) → given.words ≡ said → WasCalled names said
+  command_called {T} {words} command names same said are =
+      subst (WasCalled names) are
+      (subst (λ those. WasCalled those given.words) same
+      (was_spelled (is_one_of words) (none_behind words) info given line.context line.on_line
+      (kept_on (is_one_of words) line.left (opens_on words command.opens))))
     where
       none_behind : (words : List (List ℕ)) (text : List ℕ) → is_one_of words (PosWord text) ≡ false
       none_behind [] text = refl
       none_behind (word ∷ words) text = none_behind words text
+
+-- What follows of either of two commands follows of a choice of them.
+pub of_either : {T X : Type 0} {first second : CellsValue T} {cs : Cells} {v : T}
+    → ChoiceValue T first second cs v → (first cs v → X) → (second cs v → X) → X
+of_either (first_value c) one other = one c
+of_either (second_value c) one other = other c
