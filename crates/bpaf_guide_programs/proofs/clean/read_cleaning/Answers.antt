@@ -1,8 +1,7 @@
 use Rattle.std.proofs.Common.{◌≡◌, [], ◌∷◌, codes, map, rules, string_bytes, subst}
-use Rattle.bpaf_exact.specs.Programs.{first_value, second_value}
-use Rattle.bpaf_record.specs.Spelled.{WasCalled}
 use Rattle.bpaf_record.proofs.Answered.{answer_says, switch_spelled}
-use Rattle.bpaf_record.proofs.Called.{command_called, of_field, told_line, without_field}
+use Rattle.bpaf_record.proofs.Called.{command_called, of_either, of_field, told_line, without_field}
+use Rattle.bpaf_guide_programs.specs.declared.clean.Task.TheVariants.{List}
 use Rattle.bpaf_guide_programs.specs.Clean.{IsRemoval}
 use Rattle.bpaf_guide_programs.specs.Remove.{force_names}
 use Rattle.bpaf_guide_programs.proofs.clean.read_cleaning.Goals as goal
@@ -15,4 +14,10 @@ returns-clause-forced c = answer_says c.run_program.result (c.run_program.ensure
     cleaning.force (search rules))
 
 pub returns-clause-called : goal.returns-clause-called
-returns-clause-called c = ?
+returns-clause-called c = answer_says c.run_program.result (c.run_program.ensures.fields (tt, (tt, tt)))
+    (λ cleaning told is. let force = told.told.read in
+    of_either force.left
+    (λ list. let made : cleaning.task ≡ List list.read.told.from = search rules in
+    absurd (subst IsRemoval made is))
+    (λ remove. command_called (without_field (told_line told) force.roles) remove
+    (codes "remove" ∷ []) (search rules) (map string_bytes c.args.words.now) (search rules)))
