@@ -18,7 +18,7 @@ use Rattle.bpaf_exact.specs.Flat.{OfMemory, class, cells, NonePresent, NoneOutsi
 use Rattle.bpaf_exact.specs.Flat.{ByName, FieldLaw}
 use Rattle.bpaf_exact.specs.Programs.{CellsValue, without, without_piece, without_value, FieldThen}
 use Rattle.bpaf_exact.specs.Programs.{LeavesToOthers, ProgramLaw, ClosedCells, is_spelled}
-use Rattle.bpaf_exact.specs.Programs.{IsSpelled, AllSpelled, no_cell, empty_cell, spelled_cell}
+use Rattle.bpaf_exact.specs.Programs.{IsSpelledLine, AllSpelled, no_cell, empty_cell, spelled_cell}
 use Rattle.bpaf_exact.specs.Wrappers.{map_closure}
 use Rattle.bpaf_exact.proofs.Cells.{begin_foreign, nil_rest, nil_foreign, value_foreign}
 use Rattle.bpaf_exact.proofs.Classes.{memory_class, not_memory}
@@ -29,7 +29,8 @@ use Rattle.bpaf_exact.proofs.Records.{current_cells}
 -- What is left without the own pieces.
 
 -- an item taken away by its role
-role_piece : {x y : Role} (k : Arg) (cs : Cells) → x ≡ y → without_piece x k cs ≡ without_piece y k cs
+role_piece : {x y : Role} (k : Arg) (cs : Cells) → x ≡ y
+    → without_piece x k cs ≡ without_piece y k cs
 role_piece k cs e = ap (λ z. without_piece z k cs) e
 
 -- where there is no own piece all is left
@@ -178,14 +179,17 @@ module _ (A B : Type 0) (first : Outcome A) (rest : Outcome B) (q r : Roles)
       omega arith
 
   -- the field has its value on its own pieces, and the others on what is left without these
-  both_ok : (s t : Situation) (v : A × B) → NoneOutside s → IsSpelled s.context
+  both_ok : (s t : Situation) (v : A × B) → NoneOutside s → IsSpelledLine s.context
       → BothOutcome first rest s (Ok v) t → NonePresent (cells t) → value (cells s) v
   both_ok s t v w spelled o e =
       let h = values_of_both A B first rest s t v o in
       let i = lf.ok s h.middle v.0 w h.first_ran in
-      let still : IsSpelled h.middle.context = subst IsSpelled (sym i.steady.context) spelled in
-      let after = lr.ok h.middle t v.1 (none_outside_after s h.middle w i.steady) still h.rest_ran e in
-      let none = lr.others q lf.own apart (cells h.middle) v.1 (cells_spelled h.middle still) after in
+      let still : IsSpelledLine h.middle.context =
+      subst IsSpelledLine (sym i.steady.context) spelled in
+      let after = lr.ok h.middle t v.1 (none_outside_after s h.middle w i.steady) still h.rest_ran e
+      in
+      let none = lr.others q lf.own apart (cells h.middle) v.1 (cells_spelled h.middle still) after
+      in
       record {
         own = i.read none;
         left = subst (λ cs. rv cs v.1) (all_taken q lf.own i.takes none) after;
@@ -249,7 +253,7 @@ module _ (A B : Type 0) (fields : Outcome A) (makes : A → B → Type 0) (r : R
   con_deep s t v w o = subst (λ z. depth s ≤ depth z) (sym o.4) (l.deep s o.0 o.1 w o.2)
 
   -- its value is made of theirs
-  con_ok : (s t : Situation) (v : B) → NoneOutside s → IsSpelled s.context
+  con_ok : (s t : Situation) (v : B) → NoneOutside s → IsSpelledLine s.context
       → ProductOutcome fields makes s (Ok v) t → NonePresent (cells t) → made (cells s) v
   con_ok s t v w spelled o n = record {
     from = o.1;

@@ -29,7 +29,7 @@ use Rattle.bpaf_exact.specs.Wrappers.{optional_none, optional_err, optional_memo
 use Rattle.bpaf_exact.specs.Programs.{CellsValue, Opens, opens_here, opens_later, OpensNone}
 use Rattle.bpaf_exact.specs.Programs.{ChoiceValue, first_value, second_value, OptionalCommands}
 use Rattle.bpaf_exact.specs.Programs.{some_command, no_command, ClosedCells, ProgramLaw}
-use Rattle.bpaf_exact.specs.Programs.{CommandsLaw, FindsNoCommand, WordsApart, IsSpelled}
+use Rattle.bpaf_exact.specs.Programs.{CommandsLaw, FindsNoCommand, WordsApart, IsSpelledLine}
 use Rattle.bpaf_exact.proofs.BeforeCommands.{apart_first, apart_second}
 use Rattle.bpaf_exact.proofs.Choice.{same_scope, cells_same, saved_steady}
 use Rattle.bpaf_exact.proofs.Classes.{memory_class, not_memory}
@@ -60,7 +60,7 @@ module _ (A B : Type 0) (inner : Outcome A) (r : Roles) (value : CellsValue A) (
       closed_deep l s t v w (closed_yes {x = x} i y) = l.deep s t x w i
 
       closed_ok : ProgramLaw A inner r value → (s t : Situation) (v : B) → NoneOutside s
-          → IsSpelled s.context → ClosedEval A B inner f c s (Ok v) t → NonePresent (cells t)
+          → IsSpelledLine s.context → ClosedEval A B inner f c s (Ok v) t → NonePresent (cells t)
           → closed (cells s) v
       closed_ok l s t v w spelled (closed_yes {x = x} i y) n =
           record { from = x; read = l.ok s t x w spelled i n; made = y }
@@ -120,7 +120,7 @@ module _ (T : Type 0) (inner : Outcome T) (r : Roles) (words : List (List ℕ)) 
   optional_deep s t v w (optional_none i stops) = omega arith
 
   -- the value is that of a command, or nothing is present
-  optional_ok : (s t : Situation) (v : Option T) → NoneOutside s → IsSpelled s.context
+  optional_ok : (s t : Situation) (v : Option T) → NoneOutside s → IsSpelledLine s.context
       → OptionalEval T inner s (Ok v) t → NonePresent (cells t) → optional (cells s) v
   optional_ok s t v w spelled (optional_some {v = x} i) n =
       some_command (l.program.ok s t x w spelled i n)
@@ -302,7 +302,7 @@ module _ (T : Type 0) (a b : Outcome T) (ra rb : Roles) (wa wb : List (List ℕ)
           subst (λ n. depth s ≤ n) (sym e.depth_alike) (lb.program.deep s m v w i)
 
   -- a value of the choice is one of the branch that was opened
-  choice_ok : (s t : Situation) (v : T) → NoneOutside s → IsSpelled s.context
+  choice_ok : (s t : Situation) (v : T) → NoneOutside s → IsSpelledLine s.context
       → ChoiceOutcome a b s (Ok v) t → NonePresent (cells t) → value (cells s) v
   choice_ok s t v w spelled o n = by_branch (branch_ok s t v o)
     where
@@ -497,7 +497,7 @@ module _ (V : Type 0) (outcome : Outcome V) (r : Roles) (value : CellsValue V)
   whole = record { end = refl; front = λ p l. absurd (omega arith) }
 
   -- a value comes only where it is one of the program's
-  pub program_sound : IsSpelled context → (a : RunAnswer V) → RunRan V outcome s a → (v : V)
+  pub program_sound : IsSpelledLine context → (a : RunAnswer V) → RunRan V outcome s a → (v : V)
       → a ≡ Accepted v → value (line_cells context) v
   program_sound spelled a (run_value {v = x} {t = t} o e) v h =
       let d : x ≡ v = cc in

@@ -32,7 +32,7 @@ use Rattle.bpaf_exact.specs.ProgramForm.{program_both, program_con, is_program, 
 use Rattle.bpaf_exact.specs.ProgramForm.{program_value, program_rest, first_only, program_choices}
 use Rattle.bpaf_exact.specs.ProgramForm.{program_dressed, flat_form}
 use Rattle.bpaf_exact.specs.Programs.{CellsValue, ProgramLaw, CommandEval, are_plain, WordsApart}
-use Rattle.bpaf_exact.specs.Programs.{IsSpelled}
+use Rattle.bpaf_exact.specs.Programs.{IsSpelledLine}
 use Rattle.bpaf_exact.specs.Wrappers.{Closure, ClosedEval, OptionalEval, map_closure}
 use Rattle.bpaf_exact.proofs.BeforeCommands.{before_law, con_program}
 use Rattle.bpaf_exact.proofs.Commands.{closed_program, closed_commands, optional_commands}
@@ -295,7 +295,7 @@ program_law T outcome names words (before_commands r value) h l = l.0
 -- where that is one of the program's; and where it has a value, it is one, or want of memory.
 pub runs_as_program : (V : Type 0) (outcome : Outcome V) (names : List Names)
     (words : List (List ℕ)) (s : ProgramForm V) → is_program s ≡ true
-    → ProgramFormLaw outcome names words s → (context : Context) → IsSpelled context
+    → ProgramFormLaw outcome names words s → (context : Context) → IsSpelledLine context
     → (a : RunAnswer V) → RunRan V outcome (beginning context) a
     → ((v : V) → a ≡ Accepted v → program_value s (line_cells context) v)
     × ((u : V) → program_value s (line_cells context) u

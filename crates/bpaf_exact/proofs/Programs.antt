@@ -26,7 +26,7 @@ use Rattle.bpaf_exact.specs.Pieces.{Cells, Roles, pieces, IsNamed, is_key}
 use Rattle.bpaf_exact.specs.Flat.{cells, first_cells, NonePresent, NoneOutside, GivesAll, FieldsLaw}
 use Rattle.bpaf_exact.specs.Flat.{FieldsReading, ReadOff}
 use Rattle.bpaf_exact.specs.Programs.{CellsValue, Opens, opens_here, opens_later, OpensNone}
-use Rattle.bpaf_exact.specs.Programs.{is_dashed, is_spelled, IsSpelled, AllSpelled, no_cell}
+use Rattle.bpaf_exact.specs.Programs.{is_dashed, is_spelled, IsSpelledLine, AllSpelled, no_cell}
 use Rattle.bpaf_exact.specs.Programs.{empty_cell, spelled_cell, are_plain, CommandValue}
 use Rattle.bpaf_exact.specs.Programs.{LeavesToOthers, ProgramLaw, FindsNoCommand, CommandsLaw}
 use Rattle.bpaf_exact.specs.Programs.{CommandEval, command_value, command_leftover, command_refused}
@@ -185,7 +185,7 @@ first_spelled at (suc n) all =
     by_cell (Some k) f a = spelled_cell (f k refl) a
 
 -- all that is present on a line is
-pub cells_spelled : (s : Situation) → IsSpelled s.context → AllSpelled (cells s)
+pub cells_spelled : (s : Situation) → IsSpelledLine s.context → AllSpelled (cells s)
 unfolding cells
 cells_spelled s all =
     first_spelled (open_item s) (length s.context.line)
@@ -317,7 +317,7 @@ module _ (T : Type 0) (inner : Outcome T) (r : Roles) (value : CellsValue T)
       omega arith
 
   -- an Ok took the word, and has the value of what is behind it
-  command_ok : (s t : Situation) (v : T) → NoneOutside s → IsSpelled s.context
+  command_ok : (s t : Situation) (v : T) → NoneOutside s → IsSpelledLine s.context
       → CommandEval T inner called s (Ok v) t
       → NonePresent (cells t) → opened_value (cells s) v
   command_ok s t v w spelled (command_value {p = p} at i e) n =

@@ -70,8 +70,8 @@ is_spelled (Word text) = true
 is_spelled (PosWord text) = true
 
 -- all items of a line are such
-abbrev pub IsSpelled : Context → Type 0
-IsSpelled context = (p : ℕ) (k : Arg) → item_in context p ≡ Some k → is_spelled k ≡ true
+abbrev pub IsSpelledLine : Context → Type 0
+IsSpelledLine context = (p : ℕ) (k : Arg) → item_in context p ≡ Some k → is_spelled k ≡ true
 
 -- all that is present is such
 pub data AllSpelled : Cells → Type 0 where
@@ -132,7 +132,7 @@ pub record ProgramLaw (V : Type 0) (outcome : Outcome V) (r : Roles) (value : Ce
     : Type 0 where
   pub others : LeavesToOthers r value
   pub deep : (s t : Situation) (v : V) → NoneOutside s → outcome s (Ok v) t → depth s ≤ depth t
-  pub ok : (s t : Situation) (v : V) → NoneOutside s → IsSpelled s.context → outcome s (Ok v) t
+  pub ok : (s t : Situation) (v : V) → NoneOutside s → IsSpelledLine s.context → outcome s (Ok v) t
       → NonePresent (cells t) → value (cells s) v
   pub answers : (s t : Situation) (a : Result V Error) (w : V) → NoneOutside s → outcome s a t
       → value (cells s) w → GivesAll (value (cells s)) a t

@@ -8,7 +8,7 @@ abbrev pub bare : Part → Part
 bare (Command name short help inner) = Command name short help Skip
 bare other = other
 
--- the parts of a shape, each without what stands inside it
+-- all parts of a shape, also those inside commands, each without what stands inside it
 abbrev pub shown_parts : Shape → List Part
 shown_parts shape = map bare (parts shape)
 

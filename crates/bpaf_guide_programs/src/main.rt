@@ -1,5 +1,5 @@
-//! The programs of docs/USERS.md, a backup, a remover, a `head` and an archiver, and one that runs
-//! them and the parsers of `bpaf_guide`.
+//! The programs of docs/USERS.md, a backup, a remover, a `head`, an archiver and a program with
+//! commands, and one that runs them and the parsers of `bpaf_guide`.
 //!
 //! It stands on `bpaf_guide`, `bpaf`, `bpaf_record` and `bpaf_program`.
 //!
@@ -19,6 +19,7 @@ use bpaf_guide::git::{Command, read_git};
 use bpaf_guide::options::{Options, read_options};
 use bpaf_guide::sum::read_sum;
 use bpaf_program::{end, words};
+use clean::Task;
 use std::collections::BTreeMap;
 use std::process::ExitCode;
 use std::{env, io};
@@ -35,6 +36,7 @@ fn main(rt: HostRuntime) -> io::Result<ExitCode> {
             show_removal(&rt)?;
             show_head(&rt)?;
             show_archive(&rt)?;
+            show_cleaning(&rt)?;
             show_sum(&rt)?;
             show_commit(&rt)?;
             Ok(ExitCode::SUCCESS)
@@ -119,6 +121,30 @@ fn show_archive(rt: &HostRuntime) -> io::Result<()> {
             let jobs = archive.jobs;
             let verbose = archive.verbose;
             println!(rt; "archive: of {root}, {jobs} jobs, told {verbose} times")
+        }
+        Err(failure) => {
+            drop(failure);
+            Ok(())
+        }
+    }
+}
+
+/// Tells what the program with commands reads off words of its own.
+fn show_cleaning(rt: &HostRuntime) -> io::Result<()> {
+    let command = String::from_str(rt.alloc(), "remove")?;
+    let key = String::from_str(rt.alloc(), "-f")?;
+    let file = String::from_str(rt.alloc(), "a")?;
+    let words = [command, key, file];
+    match clean::read_cleaning(rt.alloc(), &words) {
+        Ok(cleaning) => {
+            let force = cleaning.force;
+            match cleaning.task {
+                Task::List { long } => println!(rt; "cleaning: list, long {long}"),
+                Task::Remove { files } => {
+                    let number = files.len();
+                    println!(rt; "cleaning: of {number} files, forced {force}")
+                }
+            }
         }
         Err(failure) => {
             drop(failure);

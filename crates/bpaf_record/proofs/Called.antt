@@ -100,8 +100,8 @@ opens_on : (words : List (List ℕ)) {cs ds : Cells} → Opens words cs ds
     → keys_on (is_one_of words) cs ≢ []
 opens_on words (opens_here {k = k} {cs = cs} is) = λ none.
     let wrong : k ∷ keys_on (is_one_of words) cs ≡ [] =
-    sym (ap (λ b. if b then (k ∷ keys_on (is_one_of words) cs) else keys_on (is_one_of words) cs) is)
-    ∙ none in
+    sym (ap (λ b. if b then (k ∷ keys_on (is_one_of words) cs) else keys_on (is_one_of words) cs)
+    is) ∙ none in
     cc
 opens_on words (opens_later o) = opens_on words o
 

@@ -1,4 +1,4 @@
--- The words of a flat record have one line, since it shows the same parts each time.
+-- The words of a flat record or a program have one line, since it shows the same parts each time.
 use Rattle.std.proofs.Common.{◌≡◌, ℕ, [], ◌++◌, All, IsUtf8, List, Option, ⊎_elim, refl, sym, ap}
 use Rattle.std.proofs.Common.{subst, ◌∙◌, ◌∷◌, ap₂, map}
 use Rattle.bpaf_doc.specs.Shape.{Part, Any, Positional, Command, Flag, Argument, Shape}

@@ -138,12 +138,16 @@ module _ (names : Names) where
   cut_keys r at_end = refl
   cut_keys r (passed c) = cut_keys r c
   cut_keys r (flag {k = k} {cs = cs} {os = os} is c) =
-      one_more (is_key_of names k) (One k) (keys_on (is_key_of names) cs) (keyed (names ∷ []) os) (cut_keys r c)
+      one_more (is_key_of names k) (One k) (keys_on (is_key_of names) cs) (keyed (names ∷ []) os)
+      (cut_keys r c)
   cut_keys r (argument {k = k} {w = w} {cs = cs} {os = os} is v c) =
-      one_more (is_key_of names k) (Two k w) (keys_on (is_key_of names) (Some w ∷ cs)) (keyed (names ∷ []) os)
-      (ap (λ b. if b then (w ∷ keys_on (is_key_of names) cs) else keys_on (is_key_of names) cs) (value_is_no_key w v) ∙ cut_keys r c)
+      one_more (is_key_of names k) (Two k w) (keys_on (is_key_of names) (Some w ∷ cs))
+      (keyed (names ∷ []) os)
+      (ap (λ b. if b then (w ∷ keys_on (is_key_of names) cs) else keys_on (is_key_of names) cs)
+      (value_is_no_key w v) ∙ cut_keys r c)
   cut_keys r (piece.word {w = w} {cs = cs} {os = os} is c) =
-      one_more (is_key_of names w) (One w) (keys_on (is_key_of names) cs) (keyed (names ∷ []) os) (cut_keys r c)
+      one_more (is_key_of names w) (One w) (keys_on (is_key_of names) cs) (keyed (names ∷ []) os)
+      (cut_keys r c)
 
 module _ (test : Arg → Bool) (not_behind : (text : List ℕ) → test (PosWord text) ≡ false) where
   -- none is behind the marker
@@ -329,7 +333,8 @@ spelled_item test not_behind known given context is texts one =
 pub was_spelled : {describes : Shape → Type 0} (test : Arg → Bool)
     → ((text : List ℕ) → test (PosWord text) ≡ false) → (info : RunInfo) (given : Given)
     (context : Context) → IsLineContext describes info given context
-    → keys_on test (line_cells context) ≢ [] → (known : Known) × IsSpelledItem known test given.words
+    → keys_on test (line_cells context) ≢ []
+    → (known : Known) × IsSpelledItem known test given.words
 was_spelled test not_behind info given context on_line some = ⊎_elim
     (λ one. (
       known_names info one.0,

@@ -18,7 +18,7 @@ use Rattle.bpaf_line.specs.Situation.{Context, item_in, is_marker}
 use Rattle.bpaf.specs.Info.{RunInfo}
 use Rattle.bpaf.specs.Known.{IsLineContext, known_names}
 use Rattle.bpaf.proofs.Sides.{each_at, each_append}
-use Rattle.bpaf_exact.specs.Programs.{is_dashed, is_spelled, IsSpelled}
+use Rattle.bpaf_exact.specs.Programs.{is_dashed, is_spelled, IsSpelledLine}
 
 -- an item is spelled
 abbrev Is : Arg → Type 0
@@ -110,14 +110,14 @@ in_line context p item is = by_test (is_marker context.marker p) (slice_get cont
 
 -- a context
 of_context : (known : Known) (given : Given) (context : Context) → IsContext known given context
-    → IsSpelled context
+    → IsSpelledLine context
 of_context known given context is p k e =
     each_at Is context.line p k
     (of_line known given.words context.line context.marker is.is_line) (in_line context p k e)
 
 -- Each item on the line by which a run reads its words is spelled.
 pub context_spelled : {describes : Shape → Type 0} (info : RunInfo) (given : Given)
-    (context : Context) → IsLineContext describes info given context → IsSpelled context
+    (context : Context) → IsLineContext describes info given context → IsSpelledLine context
 context_spelled info given context is = ⊎_elim
     (λ one. of_context (known_names info one.0) given context one.2)
     (λ any. let nothing : Known = known_at info.numbers (record { flags = []; arguments = [] }) in

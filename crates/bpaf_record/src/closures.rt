@@ -1,4 +1,4 @@
-//! Fields whose value a closure makes or checks.
+//! Fields and commands whose value a closure makes or checks.
 ghost use Rattle.std.specs.Prelude.{◌≡◌, true};
 
 use crate::field::{FlatField, ProgramField};
@@ -57,7 +57,8 @@ where
     ParseMap<T, P, F, R>: ProgramField<R>,
 {}
 
-/// Whether the closure accepts has to depend on the pieces alone.
+/// Whether the closure accepts has to depend on the pieces alone, or round commands on what is
+/// present.
 impl<T, R, E: Display + Drop, P: ProgramField<T>, F: Fn(T) -> Result<R, E>> ProgramField<R>
     for ParseWith<T, P, F, E, R> {
     ghost use Rattle.bpaf_exact.specs.Wrappers.{parse_closure};
@@ -109,7 +110,8 @@ where
     ParseWith<T, P, F, E, R>: ProgramField<R>,
 {}
 
-/// Whether the check is true has to depend on the pieces alone.
+/// Whether the check is true has to depend on the pieces alone, or round commands on what is
+/// present.
 impl<'m, T: Drop, P: ProgramField<T>, F: Fn(&T) -> bool> ProgramField<T> for ParseGuard<'m, P, F> {
     ghost use Rattle.std.specs.Fn.{FnReturnsAt};
     ghost use Rattle.bpaf_exact.specs.Wrappers.{guard_closure};

@@ -1,4 +1,4 @@
-//! Fields that may be missing.
+//! Fields that may be missing, and commands that may be left out.
 ghost use Rattle.std.specs.Prelude.{◌≡◌, [], true};
 
 use crate::field::{FlatField, ProgramField};
@@ -8,7 +8,7 @@ use crate::words::WordTest;
 use bpaf::parsers::{ParseFallback, ParseFallbackWith, ParseOptional};
 use std::fmt::Display;
 
-/// With `catch` it is no flat field.
+/// With `catch` it is no flat field, nor optional commands.
 impl<T: Drop, P: ProgramField<T>> ProgramField<Option<T>> for ParseOptional<P> {
     ghost use Rattle.bpaf_exact.proofs.SameParts.{optional_shows};
     ghost use Rattle.bpaf_exact.specs.ProgramForm.{program_optional};

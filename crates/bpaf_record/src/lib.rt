@@ -5,13 +5,14 @@
 //! the layers above:
 //!
 //! - [`ProgramField`] is written for the parsers that may stand in a program: flags, arguments and
-//!   positional words, choices of required flags and arguments, `map`, `parse`, `guard`, `optional`,
-//!   the repeats, both fallbacks, `hide_usage`, `custom_usage`, `group_help`, products, and commands
-//!   and choices of them; [`ProgramFields`] for the fields of a product. Each says what it is
-//!   (`program_form`), and proves the law of that form: what it answers and takes depends on what is
-//!   its own alone. A parser that has no [`ProgramField`] stands in no program: the compiler tells.
-//! - [`FlatField`] and [`FlatFields`], above these and without members of their own, are written for
-//!   those that may stand in a flat record: all but commands.
+//!   positional words, choices of required flags and arguments, `map`, `parse`, `guard`,
+//!   `optional`, the repeats, both fallbacks, `hide_usage`, `custom_usage`, `group_help`, products,
+//!   and commands and choices of them; [`ProgramFields`] for the fields of a product. Each says
+//!   what it is (`program_form`), and proves the law of that form: what it answers and takes
+//!   depends on what is its own alone. A parser that has no [`ProgramField`] stands in no program:
+//!   the compiler tells.
+//! - [`FlatField`] and [`FlatFields`], above these and without members of their own, are written
+//!   for those that may stand in a flat record: all but commands.
 //! - Its premise is `agrees`: whether a closure of `parse`, `guard` or `fallback_with` accepts
 //!   depends on the pieces alone. `map` and constructors need none, nor do kept values and
 //!   `from_text`.
@@ -35,9 +36,9 @@
 //! - [`CommandLine::is_program`] tells, without memory, whether options are a program: a flat
 //!   record, or named fields and then commands, each over a program again (`is_whole_program`,
 //!   specs/Program.antt). [`CommandLine::run_program`] runs such options as `run_inner` does, and
-//!   each answer is exact (`AnswersAsProgram`): a value comes only where it is one of the program on
-//!   the words' line, and where the program has a value there no other answer comes, but for want of
-//!   memory. Its clause `fields` says of each value what its named fields say of their own pieces,
+//!   each answer is exact (`AnswersAsProgram`): a value comes only where it is one of the program
+//!   on the words' line, and where the program has a value there no other answer comes, but for
+//!   want of memory. Its clause `fields` says of each value what its named fields say of their own pieces,
 //!   whatever the command is, and which command's word stands there (`TellsOfWords`). Lemmas of
 //!   proofs/Called.antt tell it of the words.
 //!

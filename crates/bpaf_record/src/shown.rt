@@ -1,5 +1,5 @@
-//! What changes only what is shown: a field stays what it is inside; a product with such a look
-//! round it is no record.
+//! What changes only what is shown: a field stays what it is inside, as does a command or a choice
+//! of such; a product with such a look round it is no record and no program.
 ghost use Rattle.std.specs.Prelude.{◌≡◌, true};
 
 use crate::field::{FlatField, ProgramField};

@@ -7,14 +7,16 @@ use Rattle.bpaf_guide_programs.specs.Remove.{force_names}
 use Rattle.bpaf_guide_programs.proofs.clean.read_cleaning.Goals as goal
 
 pub returns-clause-forced : goal.returns-clause-forced
-returns-clause-forced c = answer_says c.run_program.result (c.run_program.ensures.fields (tt, (tt, tt)))
+returns-clause-forced c =
+    answer_says c.run_program.result (c.run_program.ensures.fields (tt, (tt, tt)))
     (λ cleaning told. let force = told.told.read in
     switch_spelled (of_field (told_line told) force.roles force.owns) force.own (search rules)
     force_names (search rules) (map string_bytes c.args.words.now) (search rules)
     cleaning.force (search rules))
 
 pub returns-clause-called : goal.returns-clause-called
-returns-clause-called c = answer_says c.run_program.result (c.run_program.ensures.fields (tt, (tt, tt)))
+returns-clause-called c =
+    answer_says c.run_program.result (c.run_program.ensures.fields (tt, (tt, tt)))
     (λ cleaning told is. let force = told.told.read in
     of_either force.left
     (λ list. let made : cleaning.task ≡ List list.read.told.from = search rules in
