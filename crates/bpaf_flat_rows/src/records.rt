@@ -96,49 +96,48 @@ fn repeats(alloc: Global) -> Result<bool, AllocError> {
     )
 }
 
-/// Whether a product without a usage text is one.
-fn is_hidden_flat(
-    alloc: Global,
-    verbose: ParseFlag<bool>,
-    file: ParsePositional<String>,
-) -> Result<bool, AllocError> {
-    is_flat(alloc, construct!(verbose, file).hide_usage())
+/// What may stand round a product.
+#[derive(Clone, Copy)]
+enum Round {
+    Hidden,
+    Titled,
+    Mapped,
+    Checked,
 }
 
-/// Whether a product in a section is one.
-fn is_titled_flat(
+/// Whether a product with this round it is one.
+fn is_dressed_flat<T: Drop, P: FlatField<T> + Drop>(
     alloc: Global,
-    verbose: ParseFlag<bool>,
-    file: ParsePositional<String>,
+    product: P,
+    round: Round,
 ) -> Result<bool, AllocError> {
-    is_flat(alloc, construct!(verbose, file).group_help(Doc::new(alloc)))
-}
-
-/// Whether a product with a closure round it is one.
-fn is_mapped_flat(
-    alloc: Global,
-    verbose: ParseFlag<bool>,
-    file: ParsePositional<String>,
-) -> Result<bool, AllocError> {
-    is_flat(alloc, construct!(verbose, file).map(|pair| pair.0))
-}
-
-/// Whether a product with a check round it is one.
-fn is_checked_flat(
-    alloc: Global,
-    verbose: ParseFlag<bool>,
-    file: ParsePositional<String>,
-) -> Result<bool, AllocError> {
-    is_flat(alloc, construct!(verbose, file).guard(|_| true, "no"))
+    match round {
+        Round::Hidden => is_flat(alloc, product.hide_usage()),
+        Round::Titled => is_flat(alloc, product.group_help(Doc::new(alloc))),
+        Round::Mapped => is_flat(alloc, product.map(|value| value)),
+        Round::Checked => is_flat(alloc, product.guard(|_| true, "no")),
+    }
 }
 
 /// Of products with something round them, whether one is a flat record.
 fn dressed(alloc: Global) -> Result<bool, AllocError> {
+    for round in [Round::Hidden, Round::Titled, Round::Mapped, Round::Checked] {
+        let verbose = switch(alloc, 'v')?;
+        let file = word();
+        if is_dressed_flat(alloc, construct!(verbose, file), round)? {
+            return Ok(true);
+        }
+    }
+    Ok(false)
+}
+
+/// Of products, whether one is.
+fn products(alloc: Global) -> Result<bool, AllocError> {
     Ok(
-        is_hidden_flat(alloc, switch(alloc, 'v')?, word())?
-            || is_titled_flat(alloc, switch(alloc, 'v')?, word())?
-            || is_mapped_flat(alloc, switch(alloc, 'v')?, word())?
-            || is_checked_flat(alloc, switch(alloc, 'v')?, word())?,
+        pair(alloc, word(), switch(alloc, 'v')?)?
+            || pair(alloc, switch(alloc, 'v')?, number(alloc, 'v')?)?
+            || nested(alloc, switch(alloc, 'v')?, number(alloc, 'n')?)?
+            || dressed(alloc)?,
     )
 }
 
@@ -151,10 +150,6 @@ fn single_fields_are_told(rt: HostRuntime) -> Result<(), Fail> {
 
 #[test]
 fn products_are_told(rt: HostRuntime) -> Result<(), Fail> {
-    let alloc = rt.alloc();
-    assert!(rt; !pair(alloc, word(), switch(alloc, 'v')?)?);
-    assert!(rt; !pair(alloc, switch(alloc, 'v')?, number(alloc, 'v')?)?);
-    assert!(rt; !nested(alloc, switch(alloc, 'v')?, number(alloc, 'n')?)?);
-    assert!(rt; !dressed(alloc)?);
+    assert!(rt; !products(rt.alloc())?);
     Ok(())
 }

@@ -5,6 +5,7 @@ use bpaf_program::{Program, print, run_record};
 use bpaf_record::Record;
 use bpaf_trial::Narrow;
 use std::alloc::Global;
+use std::fmt::Debug;
 use std::test::Fail;
 
 /// Words, parted by spaces; the room of the two writers; the value or the status, and what then
@@ -68,7 +69,12 @@ fn ended(alloc: Global, row: &End<'_>, exact: bool) -> Result<String, Fail> {
 }
 
 /// An answer and what stands on the writers.
-fn shown(alloc: Global, answer: Result<u64, u8>, out: Narrow, err: Narrow) -> Result<String, Fail> {
+pub(crate) fn shown<T: Debug + Drop>(
+    alloc: Global,
+    answer: Result<T, u8>,
+    out: Narrow,
+    err: Narrow,
+) -> Result<String, Fail> {
     let out = standing(out)?;
     let err = standing(err)?;
     Ok(format!(in alloc; "{answer:?}|{out}|{err}")?)
@@ -94,7 +100,7 @@ fn printed(alloc: Global, text: Option<&str>, room: usize) -> Result<String, Fai
     let mut out = Narrow::new(alloc, room, 0);
     let mut err = Narrow::new(alloc, room, 0);
     let status = print(answer, &mut out, &mut err);
-    shown(alloc, Err(status), out, err)
+    shown(alloc, Err::<u64, u8>(status), out, err)
 }
 
 #[test]

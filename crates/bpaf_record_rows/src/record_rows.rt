@@ -1,9 +1,10 @@
-//! Worked rows through `run_record`: each field of a flat record once, on lines of words, each with
-//! its whole answer. `run_record` runs as `run_inner` does, on which rows.txt has them all.
+//! Worked rows through `run_record`, and through `run_program`, which gives the same: each field of a
+//! flat record once, on lines of words, each with its whole answer. Both run as `run_inner` does, on
+//! which rows.txt has them all.
 use bpaf::params::{ParseArgument, ParsePositional};
 use bpaf::{Args, Doc, OptionParser, ParseFailure, Parser, choice, construct, positional};
 use bpaf_answers::{number, switch};
-use bpaf_record::{FlatField, Record};
+use bpaf_record::{CommandLine, FlatField, Record};
 use bpaf_trial::reads;
 use std::alloc::{AllocError, Global};
 use std::collections::BTreeSet;
@@ -15,7 +16,7 @@ use std::test::Fail;
 pub(crate) type Row<'a> = (&'a str, &'a str);
 
 /// A word.
-fn word() -> ParsePositional<String> {
+pub(crate) fn word() -> ParsePositional<String> {
     positional("FILE")
 }
 
@@ -28,7 +29,7 @@ fn refused(alloc: Global, failure: ParseFailure) -> Result<String, AllocError> {
 }
 
 /// An answer as a row tells it.
-fn told<T: Debug + Drop>(
+pub(crate) fn told<T: Debug + Drop>(
     alloc: Global,
     answer: Result<T, ParseFailure>,
 ) -> Result<String, AllocError> {
@@ -49,7 +50,7 @@ fn compare<T: Debug + Drop, P: FlatField<T> + Drop>(
     compare_options(alloc, parser.to_options(alloc)?, rows)
 }
 
-/// The same of options.
+/// The same of options, as a flat record and as a program.
 pub(crate) fn compare_options<T: Debug + Drop, P: FlatField<T> + Drop>(
     alloc: Global,
     options: OptionParser<T, P>,
@@ -60,9 +61,14 @@ pub(crate) fn compare_options<T: Debug + Drop, P: FlatField<T> + Drop>(
     if !options.is_record() {
         return Err(Fail::new("no flat record"));
     }
+    if !options.is_program() {
+        return Err(Fail::new("no program"));
+    }
     for (words, wanted) in rows {
         let line: Vec<&str> = words.split_whitespace().collect(alloc)?;
         let answer = options.run_record(Args::from(line.as_slice()));
+        reads(told(alloc, answer), wanted)?;
+        let answer = options.run_program(Args::from(line.as_slice()));
         reads(told(alloc, answer), wanted)?;
     }
     Ok(())

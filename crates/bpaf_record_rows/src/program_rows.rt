@@ -1,0 +1,376 @@
+//! Worked rows through `run_program`, each with its value, or that it is refused or a text is shown.
+//! It runs as `run_inner` does, whose texts stand in rows.txt.
+use crate::record_rows::{Row, told, word};
+use bpaf::params::{ParseArgument, ParseFlag};
+use bpaf::parsers::{ParseCommand, ParseOrElse};
+use bpaf::{Args, Doc, Parser, choice, construct, long, short};
+use bpaf_answers::{number, switch};
+use bpaf_record::{CommandLine, ProgramField};
+use std::alloc::{AllocError, Global};
+use std::fmt::Debug;
+use std::test::Fail;
+
+/// Whether an answer is that of a row: its text, or a message where it is refused.
+fn is_answer(found: &str, wanted: &str) -> bool {
+    found == wanted || (wanted == "refused" && found.starts_with("err "))
+}
+
+/// Runs a program on the words of each row, and compares the answers.
+fn compare<T: Debug + Drop, P: ProgramField<T> + Drop>(
+    alloc: Global,
+    parser: P,
+    rows: &[Row<'_>],
+) -> Result<(), Fail>
+    requires { P.can_eval parser }
+{
+    let options = parser.to_options(alloc)?;
+    if !options.is_program() {
+        return Err(Fail::new("no program"));
+    }
+    for (words, wanted) in rows {
+        let line: Vec<&str> = words.split_whitespace().collect(alloc)?;
+        let answer = options.run_program(Args::from(line.as_slice()));
+        let found = told(alloc, answer)?;
+        if !is_answer(found.as_str(), wanted) {
+            return Err(Fail::new(found));
+        }
+    }
+    Ok(())
+}
+
+/// The same of the switch `-v`, and commands behind it.
+fn compare_behind<T: Debug + Drop, P: ProgramField<T> + Drop>(
+    alloc: Global,
+    last: P,
+    rows: &[Row<'_>],
+) -> Result<(), Fail>
+    requires { P.can_eval last }
+{
+    let verbose = switch(alloc, 'v')?;
+    compare(alloc, construct!(verbose, last), rows)
+}
+
+/// The same with a name between them.
+fn compare_triple<T: Debug + Drop, P: ProgramField<T> + Drop>(
+    alloc: Global,
+    name: ParseArgument<String>,
+    last: P,
+    rows: &[Row<'_>],
+) -> Result<(), Fail>
+    requires { P.can_eval last }
+{
+    let verbose = switch(alloc, 'v')?;
+    compare(alloc, construct!(verbose, name, last), rows)
+}
+
+/// A command over a number.
+type Counted = ParseCommand<u64, ParseArgument<u64>>;
+
+/// `build -n NUM`, or `b -n NUM`.
+fn build(alloc: Global) -> Result<Counted, AllocError> {
+    let options = number(alloc, 'n')?.to_options(alloc)?;
+    options.command("build")?.short('b')
+}
+
+/// The same, or `run -n NUM`.
+fn build_or_run(alloc: Global) -> Result<ParseOrElse<Counted, Counted>, AllocError> {
+    let run = number(alloc, 'n')?.to_options(alloc)?.command("run")?;
+    Ok(build(alloc)?.or_else(run))
+}
+
+const SWITCH_AND_COMMAND: &[Row<'static>] = &[
+    ("-v build -n 3", "ok (true, 3)"),
+    ("build -v -n 3", "ok (true, 3)"),
+    ("build -n 3 -v", "ok (true, 3)"),
+    ("build -vn3", "ok (true, 3)"),
+    ("b -n=3", "ok (false, 3)"),
+    ("build -n 3 --", "ok (false, 3)"),
+    ("-b -n 3", "refused"),
+    ("-v", "refused"),
+    ("", "refused"),
+    ("build", "refused"),
+    ("buil", "refused"),
+    ("x build -n 3", "refused"),
+    ("-n 3 build", "refused"),
+    ("-n build 3", "refused"),
+    ("build -n 3 x", "refused"),
+    ("build -n 3 build", "refused"),
+    ("build build -n 3", "refused"),
+    ("build -n 3 -n 4", "refused"),
+    ("build -n -v", "refused"),
+    ("-v build -v -n 3", "refused"),
+    ("-- build -n 3", "refused"),
+    ("build -- -n 3", "refused"),
+    ("build -n -- 3", "refused"),
+    ("build --help", "shown"),
+    ("build -n 3 --help", "shown"),
+    ("--help build -n 3", "shown"),
+];
+
+#[test]
+fn a_switch_and_a_command_run_as_programs(rt: HostRuntime) -> Result<(), Fail> {
+    let alloc = rt.alloc();
+    compare_behind(alloc, build(alloc)?, SWITCH_AND_COMMAND)
+}
+
+const COMMAND_LEFT_OUT: &[Row<'static>] = &[
+    ("", "ok (false, None)"),
+    ("-v", "ok (true, None)"),
+    ("--", "ok (false, None)"),
+    ("build -n 3 -v", "ok (true, Some(3))"),
+    ("build", "refused"),
+    ("build -n x", "refused"),
+    ("-n 3", "refused"),
+    ("-v x", "refused"),
+    ("x build -n 3", "refused"),
+    ("-- build", "refused"),
+];
+
+#[test]
+fn commands_left_out_run_as_programs(rt: HostRuntime) -> Result<(), Fail> {
+    let alloc = rt.alloc();
+    compare_behind(alloc, build(alloc)?.optional(), COMMAND_LEFT_OUT)
+}
+
+const COMMAND_CLOSED: &[Row<'static>] = &[
+    ("", "ok (false, None)"),
+    ("build -n 3", "ok (false, Some(6))"),
+    ("build -n 12", "refused"),
+    ("build -n 5", "refused"),
+];
+
+/// Compares the answers of a number below 10, twice, that isn't 10, or may be left out, in a section
+/// and without a usage.
+fn compare_doubled<P: ProgramField<u64> + Drop>(
+    alloc: Global,
+    parser: P,
+    rows: &[Row<'_>],
+) -> Result<(), Fail>
+    requires { P.can_eval parser }
+{
+    let below = parser.guard(|n| *n < 10, "below 10");
+    let twice = below.map(|n| n.saturating_add(n)).optional();
+    let even = twice.parse(|n: Option<u64>| match n {
+        Some(10) => Err("ten"),
+        other => Ok(other),
+    });
+    compare_behind(alloc, even.hide_usage().group_help(Doc::new(alloc)), rows)
+}
+
+#[test]
+fn closures_round_commands_run_as_programs(rt: HostRuntime) -> Result<(), Fail> {
+    compare_doubled(rt.alloc(), build(rt.alloc())?, COMMAND_CLOSED)?;
+    compare_doubled(rt.alloc(), build_or_run(rt.alloc())?, COMMAND_CLOSED)
+}
+
+const COMMANDS_ALONE: &[Row<'static>] = &[
+    ("build -n 3", "ok 3"),
+    ("", "refused"),
+    ("-n 3", "refused"),
+    ("build build", "refused"),
+];
+
+#[test]
+fn commands_alone_run_as_programs(rt: HostRuntime) -> Result<(), Fail> {
+    compare(rt.alloc(), build(rt.alloc())?, COMMANDS_ALONE)?;
+    compare(rt.alloc(), build_or_run(rt.alloc())?, COMMANDS_ALONE)
+}
+
+/// A command over the flag `-f`, which tells the second letter where it is there, else the first.
+fn forced(
+    alloc: Global,
+    word: &str,
+    letters: (char, char),
+) -> Result<ParseCommand<char, ParseFlag<char>>, AllocError> {
+    let force = short(alloc, 'f')?.flag(letters.1, letters.0);
+    force.to_options(alloc)?.command(word)
+}
+
+/// Compares the answers of `[-v] -n NAME`, and `add [-f]` or `rm [-f]`.
+fn compare_tasks(alloc: Global, rows: &[Row<'_>]) -> Result<(), Fail> {
+    let mut tasks = Vec::new(alloc);
+    tasks.push(forced(alloc, "add", ('a', 'A'))?)?;
+    tasks.push(forced(alloc, "rm", ('r', 'R'))?)?;
+    compare_triple(
+        alloc,
+        short(alloc, 'n')?.argument("NAME"),
+        choice(tasks),
+        rows,
+    )
+}
+
+const SHARED_KEY: &[Row<'static>] = &[
+    ("-n x add -f", "ok (false, \"x\", 'A')"),
+    ("-n x rm -f", "ok (false, \"x\", 'R')"),
+    ("-n add rm", "ok (false, \"add\", 'r')"),
+    ("rm -n add", "ok (false, \"add\", 'r')"),
+    ("add -f -n=rm", "ok (false, \"rm\", 'A')"),
+    ("-nadd add", "ok (false, \"add\", 'a')"),
+    ("-n add add", "ok (false, \"add\", 'a')"),
+    ("add -v -n=x -f", "ok (true, \"x\", 'A')"),
+    ("-n add", "refused"),
+    ("add", "refused"),
+    ("add -n", "refused"),
+    ("-n -- add", "refused"),
+    ("-n x -- add", "refused"),
+    ("-f add -n x", "refused"),
+    ("-n rm -f add", "refused"),
+    ("-n x add rm", "refused"),
+    ("-n x add -f -f", "refused"),
+    ("-n x add -f y", "refused"),
+    ("-n x -n y add", "refused"),
+];
+
+#[test]
+fn commands_that_share_a_key_run_as_programs(rt: HostRuntime) -> Result<(), Fail> {
+    compare_tasks(rt.alloc(), SHARED_KEY)
+}
+
+/// What is done to a remote.
+#[derive(Debug, Drop)]
+enum Remote {
+    Add { name: String, url: String },
+    Remove { name: String },
+}
+
+/// Compares the answers of `[-v] remote add NAME URL` or `remote remove NAME`.
+fn compare_remotes(alloc: Global, rows: &[Row<'_>]) -> Result<(), Fail> {
+    let add = construct!(Remote::Add {
+        name(word()),
+        url(word()),
+    });
+    let add = add.to_options(alloc)?.command("add")?;
+    let remove = word().map(|name| Remote::Remove { name });
+    let remove = remove.to_options(alloc)?.command("remove")?;
+    compare_inside(alloc, "remote", construct!([add, remove]), rows)
+}
+
+/// The same of the switch `-v`, and a command of this word over a program.
+fn compare_inside<T: Debug + Drop, P: ProgramField<T> + Drop>(
+    alloc: Global,
+    word: &str,
+    parser: P,
+    rows: &[Row<'_>],
+) -> Result<(), Fail>
+    requires { P.can_eval parser }
+{
+    compare_behind(alloc, parser.to_options(alloc)?.command(word)?, rows)
+}
+
+const REMOTES: &[Row<'static>] = &[
+    (
+        "remote add origin x",
+        "ok (false, Add { name: \"origin\", url: \"x\" })",
+    ),
+    (
+        "-v remote remove origin",
+        "ok (true, Remove { name: \"origin\" })",
+    ),
+    (
+        "remote -v remove origin",
+        "ok (true, Remove { name: \"origin\" })",
+    ),
+    (
+        "remote add -v origin x",
+        "ok (true, Add { name: \"origin\", url: \"x\" })",
+    ),
+    (
+        "remote remove origin -v",
+        "ok (true, Remove { name: \"origin\" })",
+    ),
+    (
+        "remote add remove add",
+        "ok (false, Add { name: \"remove\", url: \"add\" })",
+    ),
+    (
+        "remote add -- -v x",
+        "ok (false, Add { name: \"-v\", url: \"x\" })",
+    ),
+    (
+        "remote add origin -- x",
+        "ok (false, Add { name: \"origin\", url: \"x\" })",
+    ),
+    ("remote", "refused"),
+    ("add origin x", "refused"),
+    ("remote add origin", "refused"),
+    ("remote add origin x y", "refused"),
+    ("remote remove", "refused"),
+    ("remote remove origin x", "refused"),
+    ("remote rename origin x", "refused"),
+    ("remote remote add origin x", "refused"),
+    ("origin remote remove", "refused"),
+    ("remote origin remove", "refused"),
+    ("-v remote remove origin -v", "refused"),
+    ("remote -- remove origin", "refused"),
+    ("-- remote remove origin", "refused"),
+    ("remote remove --help", "shown"),
+];
+
+#[test]
+fn commands_of_a_command_run_as_programs(rt: HostRuntime) -> Result<(), Fail> {
+    compare_remotes(rt.alloc(), REMOTES)
+}
+
+/// Compares the answers of `[-v] a [-x] b [-y]`.
+fn compare_nested(alloc: Global, rows: &[Row<'_>]) -> Result<(), Fail> {
+    let x = switch(alloc, 'x')?;
+    let y = switch(alloc, 'y')?.to_options(alloc)?.command("b")?;
+    compare_inside(alloc, "a", construct!(x, y), rows)
+}
+
+const NESTED: &[Row<'static>] = &[
+    ("a b", "ok (false, (false, false))"),
+    ("-v a -x b -y", "ok (true, (true, true))"),
+    ("a b -y -x -v", "ok (true, (true, true))"),
+    ("a -vx b", "ok (true, (true, false))"),
+    ("-x a b", "refused"),
+    ("a -y b", "refused"),
+    ("a", "refused"),
+    ("b", "refused"),
+    ("b a", "refused"),
+    ("a a b", "refused"),
+    ("a b c", "refused"),
+    ("a -x b -x", "refused"),
+];
+
+#[test]
+fn fields_at_each_level_run_as_programs(rt: HostRuntime) -> Result<(), Fail> {
+    compare_nested(rt.alloc(), NESTED)
+}
+
+const WORDS_OF_A_COMMAND: &[Row<'static>] = &[
+    ("run", "ok (false, [])"),
+    ("run --", "ok (false, [])"),
+    ("run run x", "ok (false, [\"run\", \"x\"])"),
+    ("run x -v y", "ok (true, [\"x\", \"y\"])"),
+    ("run x -- -v --", "ok (false, [\"x\", \"-v\", \"--\"])"),
+    ("run -vq", "ok (false, [\"-vq\"])"),
+    ("run -q", "refused"),
+    ("-- run x", "refused"),
+    ("x run", "refused"),
+];
+
+#[test]
+fn words_of_a_command_run_as_programs(rt: HostRuntime) -> Result<(), Fail> {
+    compare_inside(rt.alloc(), "run", word().many(), WORDS_OF_A_COMMAND)
+}
+
+/// Compares the answers of `[-v] add [-h]`, where `--usage` asks for help of the command.
+fn compare_asked(alloc: Global, rows: &[Row<'_>]) -> Result<(), Fail> {
+    let usage = long(alloc, "usage")?;
+    let options = switch(alloc, 'h')?.to_options(alloc)?.help_parser(usage);
+    compare_behind(alloc, options.command("add")?, rows)
+}
+
+const NAMED_AS_HELP: &[Row<'static>] = &[
+    ("add -h", "ok (false, true)"),
+    ("add -v -h", "ok (true, true)"),
+    ("add --usage", "shown"),
+    ("-h add", "shown"),
+    ("add -h -h", "refused"),
+];
+
+#[test]
+fn a_key_named_as_the_outer_help_runs_as_a_program(rt: HostRuntime) -> Result<(), Fail> {
+    compare_asked(rt.alloc(), NAMED_AS_HELP)
+}
