@@ -37,11 +37,12 @@ returns c =
           (search rules);
       has_level = λ typed. spelled_optional told fields.1.1.1.0 v.level (search rules)
           archive.level (search rules) words (search rules) texts
-          (long_is_spelled _ _ words (codes "level") typed refl refl);
+          (long_is_spelled _ archive.level words (codes "level") typed refl refl);
       has_without = λ typed. spelled_repeat told without.told v.without.items (search rules)
           archive.without (search rules) words (search rules) texts
-          (long_is_spelled _ _ words (codes "without") typed refl refl);
+          (long_is_spelled _ archive.without words (codes "without") typed refl refl);
       is_quiet = λ typed. spelled_switch told fields.1.1.1.1.1.1.1 (search rules) v.quiet
           (search rules) archive.quiet (search rules) words (search rules) texts
-          (short_is_spelled _ (search rules) _ words 113 typed (omega arith) (λ dash. cc) refl);
+          (short_is_spelled _ (search rules) archive.quiet words 113 typed (omega arith)
+          (λ dash. cc) refl);
     })
