@@ -2,12 +2,15 @@
 use bpaf::params::{ParseArgument, ParseFlag, ParsePositional};
 use bpaf::{Doc, Parser, choice, construct, positional, short};
 use bpaf_answers::{number, switch};
-use bpaf_record::{FlatField, Record};
+use bpaf_record::{FlatField, ProgramField, Record};
 use std::alloc::{AllocError, Global};
 use std::test::Fail;
 
 /// Whether a parser with the usual keys for help and version is a flat record.
-fn is_flat<T: Drop, P: FlatField<T> + Drop>(alloc: Global, parser: P) -> Result<bool, AllocError> {
+fn is_flat<T: Drop, P: ProgramField<T> + FlatField<T> + Drop>(
+    alloc: Global,
+    parser: P,
+) -> Result<bool, AllocError> {
     Ok(parser.to_options(alloc)?.is_record())
 }
 
@@ -17,11 +20,12 @@ fn word() -> ParsePositional<String> {
 }
 
 /// A product of two fields.
-fn pair<A: Drop, B: Drop, P: FlatField<A> + Drop, Q: FlatField<B> + Drop>(
-    alloc: Global,
-    first: P,
-    second: Q,
-) -> Result<bool, AllocError> {
+fn pair<
+    A: Drop,
+    B: Drop,
+    P: ProgramField<A> + FlatField<A> + Drop,
+    Q: ProgramField<B> + FlatField<B> + Drop,
+>(alloc: Global, first: P, second: Q) -> Result<bool, AllocError> {
     is_flat(alloc, construct!(first, second))
 }
 
@@ -106,7 +110,7 @@ enum Round {
 }
 
 /// Whether a product with this round it is one.
-fn is_dressed_flat<T: Drop, P: FlatField<T> + Drop>(
+fn is_dressed_flat<T: Drop, P: ProgramField<T> + FlatField<T> + Drop>(
     alloc: Global,
     product: P,
     round: Round,

@@ -1,7 +1,7 @@
 //! A record of ten fields, of which it is known which lines it accepts.
 use bpaf::params::{ParseArgument, ParseFlag};
 use bpaf::{Args, ParseFailure, Parser, construct, positional, short};
-use bpaf_record::{FlatField, Record};
+use bpaf_record::{FlatField, ProgramField, Record};
 use std::alloc::{AllocError, Global};
 
 /// What a backup is told.
@@ -57,7 +57,7 @@ pub fn read_backup(alloc: Global, words: &[&str]) -> Result<Option<Backup>, Pars
 }
 
 /// The value of a flat record on words; None where the parser is no flat record.
-fn record_value<T: Drop, P: FlatField<T> + Drop>(
+fn record_value<T: Drop, P: ProgramField<T> + FlatField<T> + Drop>(
     alloc: Global,
     parser: P,
     words: &[&str],

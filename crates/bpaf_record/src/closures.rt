@@ -52,10 +52,7 @@ impl<T, R, P: ProgramField<T>, F: Fn(T) -> R> ProgramField<R> for ParseMap<T, P,
         (λ p. map_closure (λ x y. F.post p.map_fn x y)) (P.said p.inner a) };
 }
 
-impl<T, R, P: FlatField<T>, F> FlatField<R> for ParseMap<T, P, F, R>
-where
-    ParseMap<T, P, F, R>: ProgramField<R>,
-{}
+impl<T, R, P: FlatField<T>, F> FlatField<R> for ParseMap<T, P, F, R> {}
 
 /// Whether the closure accepts has to depend on the pieces alone, or round commands on what is
 /// present.
@@ -105,10 +102,7 @@ impl<T, R, E: Display + Drop, P: ProgramField<T>, F: Fn(T) -> Result<R, E>> Prog
         (λ p. parse_closure (λ x y. F.post p.parse_fn x y)) (P.said p.inner a.0) };
 }
 
-impl<T, R, E: Display + Drop, P: FlatField<T>, F> FlatField<R> for ParseWith<T, P, F, E, R>
-where
-    ParseWith<T, P, F, E, R>: ProgramField<R>,
-{}
+impl<T, R, E: Display + Drop, P: FlatField<T>, F> FlatField<R> for ParseWith<T, P, F, E, R> {}
 
 /// Whether the check is true has to depend on the pieces alone, or round commands on what is
 /// present.
@@ -158,7 +152,4 @@ impl<'m, T: Drop, P: ProgramField<T>, F: Fn(&T) -> bool> ProgramField<T> for Par
         (λ p. guard_closure (FnReturnsAt F.Fn p.check)) (P.said p.inner a.0) };
 }
 
-impl<'m, T: Drop, P: FlatField<T>, F> FlatField<T> for ParseGuard<'m, P, F>
-where
-    ParseGuard<'m, P, F>: ProgramField<T>,
-{}
+impl<'m, T: Drop, P: FlatField<T>, F> FlatField<T> for ParseGuard<'m, P, F> {}

@@ -143,7 +143,4 @@ impl<T, E: Display + Drop, P: ProgramField<T>, F: Fn() -> Result<T, E>> ProgramF
         (λ p. answer_closure (λ r. F.post p.fallback r)) (P.said p.inner a.0) };
 }
 
-impl<T, E: Display + Drop, P: FlatField<T>, F> FlatField<T> for ParseFallbackWith<T, P, F, E>
-where
-    ParseFallbackWith<T, P, F, E>: ProgramField<T>,
-{}
+impl<T, E: Display + Drop, P: FlatField<T>, F> FlatField<T> for ParseFallbackWith<T, P, F, E> {}

@@ -62,8 +62,9 @@ pub trait ProgramField<T>: Parser<T> {
     ghost said: { (p : Self) → agrees p → ProgramSays (program_form p) (kind p) says p };
 }
 
-/// A parser that may be a field of a flat record, or a flat record itself.
-pub trait FlatField<T>: ProgramField<T> {}
+/// The mark of a parser that may be a field of a flat record, or a flat record itself. It has no
+/// members: what such a parser is it says as a [`ProgramField`].
+pub trait FlatField<T> {}
 
 /// The fields of a program.
 pub trait ProgramFields<V>: Fields<V> {
@@ -108,5 +109,5 @@ pub trait ProgramFields<V>: Fields<V> {
     ghost said: { (p : Self) → agrees p → ProgramFieldsSay (program_form p) says p };
 }
 
-/// The fields of a flat record.
-pub trait FlatFields<V>: ProgramFields<V> {}
+/// The mark of the fields of a flat record.
+pub trait FlatFields<V> {}

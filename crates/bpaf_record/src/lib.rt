@@ -11,8 +11,8 @@
 //!   what it is (`program_form`), and proves the law of that form: what it answers and takes
 //!   depends on what is its own alone. A parser that has no [`ProgramField`] stands in no program:
 //!   the compiler tells.
-//! - [`FlatField`] and [`FlatFields`], above these and without members of their own, are written
-//!   for those that may stand in a flat record: all but commands.
+//! - [`FlatField`] and [`FlatFields`], marks without members, are written for those that may stand
+//!   in a flat record: all but commands.
 //! - Its premise is `agrees`: whether a closure of `parse`, `guard` or `fallback_with` accepts
 //!   depends on the pieces alone. `map` and constructors need none, nor do kept values and
 //!   `from_text`.

@@ -145,7 +145,4 @@ impl<V, T, P: ProgramFields<V>, F: Fn(V) -> T> ProgramField<T> for ParseCon<V, P
         (P.said p.fields a) };
 }
 
-impl<V, T, P: FlatFields<V>, F> FlatField<T> for ParseCon<V, P, F>
-where
-    ParseCon<V, P, F>: ProgramField<T>,
-{}
+impl<V, T, P: FlatFields<V>, F> FlatField<T> for ParseCon<V, P, F> {}

@@ -3,7 +3,7 @@ ghost use Rattle.std.specs.Prelude.{◌≡◌, Result, false, true};
 ghost use Rattle.bpaf_words.specs.Arguments.{given_of};
 
 use crate::command_line::CommandLine;
-use crate::field::FlatField;
+use crate::field::{FlatField, ProgramField};
 use crate::usual::are_unusual;
 use bpaf::{Args, OptionParser, ParseFailure};
 
@@ -68,7 +68,7 @@ pub trait Record<T>: CommandLine<T> {
             → answers_exactly self.now (given_of args.entry) r };
 }
 
-impl<T: Drop, P: FlatField<T>> Record<T> for OptionParser<T, P> {
+impl<T: Drop, P: ProgramField<T> + FlatField<T>> Record<T> for OptionParser<T, P> {
     ghost use Rattle.bpaf_exact.specs.ProgramForm.{flat_form};
     ghost use Rattle.bpaf_exact.specs.ProgramSays.{pieces_said};
     ghost use Rattle.bpaf_record.specs.Record.{is_flat_record, AnswersExactly, SaysOfWords};
