@@ -1,13 +1,13 @@
 //! Negative numbers as words, through `run_record`.
 use crate::record_rows::{Row, compare_options};
 use bpaf::{Parser, construct, positional, short};
-use bpaf_record::FlatField;
+use bpaf_record::{FlatField, ProgramField};
 use std::alloc::Global;
 use std::fmt::Debug;
 use std::test::Fail;
 
 /// Runs a flat record by which negative numbers are words on each row, and compares the answers.
-fn compare_numbers<T: Debug + Drop, P: FlatField<T> + Drop>(
+fn compare_numbers<T: Debug + Drop, P: ProgramField<T> + FlatField<T> + Drop>(
     alloc: Global,
     parser: P,
     rows: &[Row<'_>],
@@ -19,12 +19,12 @@ fn compare_numbers<T: Debug + Drop, P: FlatField<T> + Drop>(
 }
 
 /// The same of a product of two fields.
-fn compare_pair<A: Debug + Drop, B: Debug + Drop, P: FlatField<A> + Drop, Q: FlatField<B> + Drop>(
-    alloc: Global,
-    first: P,
-    second: Q,
-    rows: &[Row<'_>],
-) -> Result<(), Fail>
+fn compare_pair<
+    A: Debug + Drop,
+    B: Debug + Drop,
+    P: ProgramField<A> + FlatField<A> + Drop,
+    Q: ProgramField<B> + FlatField<B> + Drop,
+>(alloc: Global, first: P, second: Q, rows: &[Row<'_>]) -> Result<(), Fail>
     requires first { P.can_eval first }
     requires second { Q.can_eval second }
 {

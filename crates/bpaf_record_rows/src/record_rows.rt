@@ -4,7 +4,7 @@
 use bpaf::params::{ParseArgument, ParsePositional};
 use bpaf::{Args, Doc, OptionParser, ParseFailure, Parser, choice, construct, positional};
 use bpaf_answers::{number, switch};
-use bpaf_record::{CommandLine, FlatField, Record};
+use bpaf_record::{CommandLine, FlatField, ProgramField, Record};
 use bpaf_trial::reads;
 use std::alloc::{AllocError, Global};
 use std::collections::BTreeSet;
@@ -40,7 +40,7 @@ pub(crate) fn told<T: Debug + Drop>(
 }
 
 /// Runs a flat record on the words of each row, and compares the answers.
-fn compare<T: Debug + Drop, P: FlatField<T> + Drop>(
+fn compare<T: Debug + Drop, P: ProgramField<T> + FlatField<T> + Drop>(
     alloc: Global,
     parser: P,
     rows: &[Row<'_>],
@@ -51,7 +51,7 @@ fn compare<T: Debug + Drop, P: FlatField<T> + Drop>(
 }
 
 /// The same of options, as a flat record and as a program.
-pub(crate) fn compare_options<T: Debug + Drop, P: FlatField<T> + Drop>(
+pub(crate) fn compare_options<T: Debug + Drop, P: ProgramField<T> + FlatField<T> + Drop>(
     alloc: Global,
     options: OptionParser<T, P>,
     rows: &[Row<'_>],
@@ -79,9 +79,9 @@ fn compare_triple<
     A: Debug + Drop,
     B: Debug + Drop,
     C: Debug + Drop,
-    P: FlatField<A> + Drop,
-    Q: FlatField<B> + Drop,
-    R: FlatField<C> + Drop,
+    P: ProgramField<A> + FlatField<A> + Drop,
+    Q: ProgramField<B> + FlatField<B> + Drop,
+    R: ProgramField<C> + FlatField<C> + Drop,
 >(alloc: Global, first: P, second: Q, third: R, rows: &[Row<'_>]) -> Result<(), Fail>
     requires first { P.can_eval first }
     requires second { Q.can_eval second }
@@ -180,7 +180,7 @@ const CLOSED: &[Row<'static>] = &[
 ];
 
 /// Compares the answers of a number that isn't 5, twice, with a default.
-fn compare_doubled<P: FlatField<u64> + Drop>(
+fn compare_doubled<P: ProgramField<u64> + FlatField<u64> + Drop>(
     alloc: Global,
     parser: P,
     rows: &[Row<'_>],
@@ -232,12 +232,11 @@ fn repeats_run_as_records(rt: HostRuntime) -> Result<(), Fail> {
 }
 
 /// Compares the answers of the repeat of a choice.
-fn compare_choices<T: Debug + Drop, P: FlatField<T> + Drop, Q: FlatField<T> + Drop>(
-    alloc: Global,
-    first: P,
-    second: Q,
-    rows: &[Row<'_>],
-) -> Result<(), Fail>
+fn compare_choices<
+    T: Debug + Drop,
+    P: ProgramField<T> + FlatField<T> + Drop,
+    Q: ProgramField<T> + FlatField<T> + Drop,
+>(alloc: Global, first: P, second: Q, rows: &[Row<'_>]) -> Result<(), Fail>
     requires first { P.can_eval first }
     requires second { Q.can_eval second }
 {
@@ -295,7 +294,7 @@ const NUMBER_IN_A_SECTION: &[Row<'static>] = &[
 ];
 
 /// Compares the answers of a number in a section, without a usage.
-fn compare_shown<P: FlatField<u64> + Drop>(
+fn compare_shown<P: ProgramField<u64> + FlatField<u64> + Drop>(
     alloc: Global,
     parser: P,
     rows: &[Row<'_>],
