@@ -8,9 +8,9 @@ use Rattle.bpaf_text.specs.Named.{Named as Key, KeyWithValue}
 use Rattle.bpaf_items.specs.Items.{item_text}
 use Rattle.bpaf_line.specs.Situation.{Context}
 use Rattle.bpaf_laws.specs.Reading.{Outcome}
-use Rattle.bpaf_exact.specs.Pieces.{Roles, LinePiece, One, Two, is_own, either}
+use Rattle.bpaf_exact.specs.Pieces.{Cells, Roles, LinePiece, One, Two, is_own, either}
 use Rattle.bpaf_exact.specs.Names.{are_all_apart}
-use Rattle.bpaf_exact.specs.Flat.{FieldsLaw, FieldsReading, FieldKind, ByName}
+use Rattle.bpaf_exact.specs.Flat.{FieldsLaw, FieldsReading, FieldKind, ByName, ReadOff}
 use Rattle.bpaf_exact.specs.Single.{Groups, Gap, FrontOf, Own, own_none, own_more, SingleLaw}
 use Rattle.bpaf_exact.specs.Single.{SingleValue, of_group, of_gap, OwnList, listed}
 use Rattle.bpaf_exact.specs.Single.{listed_and_absent, only_absent}
@@ -21,6 +21,7 @@ use Rattle.bpaf_exact.specs.Alternative.{pick_type}
 use Rattle.bpaf_exact.specs.Leaves.{FlagValue, ArgumentValue, WordValue, flag_by, flag_field}
 use Rattle.bpaf_exact.specs.Leaves.{LastGroup, argument_by, argument_field, word_field}
 use Rattle.bpaf_exact.specs.Record.{RunAnswer, Accepted, NoMemory, Refusal, RecordValue, IsExact}
+use Rattle.bpaf_exact.specs.Record.{line_cells}
 use Rattle.bpaf_exact.specs.FlatForm.{FlatForm, not_flat, alternative, single, complete, product}
 use Rattle.bpaf_exact.specs.FlatForm.{FormLaw, Agrees, only_if, flat_closed, flat_either}
 use Rattle.bpaf_exact.specs.FlatForm.{flat_choice, alternative_only, flat_repeat, flat_many}
@@ -471,12 +472,12 @@ module _ (T X : Type 0) (see : T → X) where
   like_this inner r reading context l one Refusal v e h =
       e.complete h.cut_into h.cut (l.has_each h.cut_into v h.read)
 
-  -- All values of a line look alike.
+  -- All values of the same cells look alike.
   pub record_looks_one : (outcome : Outcome T) (names : List Names) (s : FlatForm T)
-      → is_record s ≡ true → FormLaw outcome names s → HasOneView see s → (context : Context)
-      → Alike see (λ v. RecordValue (product_roles (flat_record s))
-      (product_reading (flat_record s)).value context v)
-  record_looks_one outcome names s h l u context v w a b =
+      → is_record s ≡ true → FormLaw outcome names s → HasOneView see s → (cs : Cells)
+      → Alike see (ReadOff T (product_roles (flat_record s)) (product_reading (flat_record s)).value
+      cs)
+  record_looks_one outcome names s h l u cs v w a b =
       let f = record_law T outcome names s h l in
       let c = one_cut
       (product_roles (flat_record s)) _ a.cut_into b.cut_into f.named a.cut b.cut in
@@ -490,5 +491,5 @@ module _ (T X : Type 0) (see : T → X) where
       → RunsToOne see outcome s context
   runs_to_one outcome names s h l u context a v ran r =
       like_this outcome _ _ context (record_law T outcome names s h l)
-      (record_looks_one outcome names s h l u context) a v
+      (record_looks_one outcome names s h l u (line_cells context)) a v
       (runs_exactly T outcome names s h l context a ran) r

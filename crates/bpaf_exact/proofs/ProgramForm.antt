@@ -206,7 +206,7 @@ not_among (w ∷ ws) others text apart h i =
     (or_cases (bytes_eq w text) (is_text_among ws text) h)
 
 -- so no item is a word of both
-words_apart : (words others : List (List ℕ)) → are_words_apart words others ≡ true
+pub words_apart : (words others : List (List ℕ)) → are_words_apart words others ≡ true
     → WordsApart words others
 words_apart words others apart k h = false_from_ne_true (is_one_of others k)
     (λ f. let i = among words k h in let j = among others k f in

@@ -75,7 +75,7 @@ added (Or all) = listed all
 added shape = append-nil (parts shape)
 
 -- the parts of a choice are those of both
-either_parts : (a b : Shape) → parts (either_shape a b) ≡ parts a ++ parts b
+pub either_parts : (a b : Shape) → parts (either_shape a b) ≡ parts a ++ parts b
 either_parts a b =
     parts_joined (alternatives a) (alternatives b)
     ∙ (ap (λ first. first ++ parts_of_all (members (alternatives b))) (added a)

@@ -18,7 +18,7 @@ use Rattle.bpaf_exact.specs.FlatForm.{flat_many, flat_record, is_record, product
 use Rattle.bpaf_exact.specs.FlatForm.{product_roles}
 use Rattle.bpaf_exact.specs.Leaves.{WordEval, argument_field, flag_field, word_field}
 use Rattle.bpaf_exact.specs.OneView.{Alike, HasOneView, pair_view}
-use Rattle.bpaf_exact.specs.Record.{RecordValue}
+use Rattle.bpaf_exact.specs.Record.{RecordValue, line_cells}
 use Rattle.bpaf_exact.specs.Wrappers.{map_closure}
 use Rattle.bpaf_exact.proofs.Arguments.{argument_field_law}
 use Rattle.bpaf_exact.proofs.FlatForm.{flat_alone_law, flat_both_law, flat_con_law, flat_field_law}
@@ -115,7 +115,7 @@ module _ {T X : Type 0} {see : T → X} {names : List Names} {form : FlatForm T}
   reads_one record_is shape given texts v w a b =
       let one = one_context given texts (one_shape shape) plain_info a.context b.context
       (inl (shape, refl, a.is_context)) (inl (shape, refl, b.is_context)) in
-      record_looks_one T X see is.outcome names form record_is is.law is.view b.context v w
+      record_looks_one T X see is.outcome names form record_is is.law is.view (line_cells b.context) v w
       (subst (λ context. RecordValue (product_roles (flat_record form))
       (product_reading (flat_record form)).value context v) one a.read) b.read
 

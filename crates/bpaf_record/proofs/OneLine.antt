@@ -47,6 +47,27 @@ arguments_bare (part ∷ shown) = ap₂ (λ own more. own ++ more) (of_part part
     of_part (Flag name shorts env help) = refl
     of_part (Argument name shorts metavar env help) = refl
 
+module _ {describes : Shape → Type 0} (shows : ShowsTheSame describes) (info : RunInfo) where
+  -- the names that words are read by, of the parts that are shown
+  abbrev names_of : List Part → Known
+  names_of shown = known_at info.numbers (record {
+    flags = shorts_of_flags shown ++ info.help_arg.names.shorts ++ info.version_arg.names.shorts;
+    arguments = shorts_of_arguments shown;
+  })
+
+  -- those of what stands inside a command are parts by themselves
+  names_bare : (shown : List Part) → names_of (map bare shown) ≡ names_of shown
+  names_bare shown = ap₂ (λ flags arguments. known_at info.numbers (record {
+    flags = flags ++ info.help_arg.names.shorts ++ info.version_arg.names.shorts;
+    arguments = arguments;
+  })) (flags_bare shown) (arguments_bare shown)
+
+  -- whichever shape is shown, the known names are the same
+  pub same_names : (a b : Shape) → describes a → describes b → known_names info a ≡ known_names info b
+  same_names a b first second =
+      sym (names_bare (parts a)) ∙ (ap names_of (shows.same a b first second)
+      ∙ names_bare (parts b))
+
 module _ (given : Given) (texts : All IsUtf8 given.words) where
   -- by the same names words have one context
   same_context : (known : Known) (a b : Context) → IsContext known given a
@@ -58,33 +79,13 @@ module _ (given : Given) (texts : All IsUtf8 given.words) where
       (first.env ∙ sym second.env) (first.name ∙ sym second.name) a b refl refl
 
   module _ {describes : Shape → Type 0} (shows : ShowsTheSame describes) (info : RunInfo) where
-    -- the names that words are read by, of the parts that are shown
-    abbrev names_of : List Part → Known
-    names_of shown = known_at info.numbers (record {
-      flags = shorts_of_flags shown ++ info.help_arg.names.shorts ++ info.version_arg.names.shorts;
-      arguments = shorts_of_arguments shown;
-    })
-
-    -- those of what stands inside a command are parts by themselves
-    names_bare : (shown : List Part) → names_of (map bare shown) ≡ names_of shown
-    names_bare shown = ap₂ (λ flags arguments. known_at info.numbers (record {
-      flags = flags ++ info.help_arg.names.shorts ++ info.version_arg.names.shorts;
-      arguments = arguments;
-    })) (flags_bare shown) (arguments_bare shown)
-
-    -- whichever shape is shown, the known names are the same
-    same_names : (a b : Shape) → describes a → describes b → known_names info a ≡ known_names info b
-    same_names a b first second =
-        sym (names_bare (parts a)) ∙ (ap names_of (shows.same a b first second)
-        ∙ names_bare (parts b))
-
     -- words have one context
     pub one_context : (a b : Context) → IsLineContext describes info given a
         → IsLineContext describes info given b → a ≡ b
     one_context a b first second = ⊎_elim
         (λ one. ⊎_elim
         (λ other. same_context (known_names info other.0) a b
-        (subst (λ known. IsContext known given a) (same_names one.0 other.0 one.1 other.1) one.2)
+        (subst (λ known. IsContext known given a) (same_names shows info one.0 other.0 one.1 other.1) one.2)
         other.2)
         (λ any. same_context (known_names info one.0) a b one.2
         (any (known_names info one.0).names))
@@ -105,7 +106,7 @@ module _ (given : Given) (texts : All IsUtf8 given.words) where
         (λ one. (one_lines (known_names info shape) given.words texts).not_both a.line a.marker word
         number
         (subst (λ known. IsContext known given a)
-        (same_names one.0 shape one.1 shown) one.2).is_line
+        (same_names shows info one.0 shape one.1 shown) one.2).is_line
         none)
         (λ any. (one_lines (known_names info shape) given.words texts).not_both a.line a.marker word
         number (any (known_names info shape).names).is_line none)

@@ -3,7 +3,7 @@ use Rattle.std.proofs.Common.{◌≡◌, ℕ, ◌+◌, ◌<◌, ◌≤◌, Bool,
 use Rattle.std.proofs.Common.{◌++◌, length, take, drop, flat_map, slice_index_or, refl, sym, ap}
 use Rattle.std.proofs.Common.{◌∙◌, ap₂, arith, append-nil, if◌then◌else◌}
 use Rattle.std.specs.List.{list_all}
-use Rattle.std.proofs.lemmas.List.{drop_all, drop_more, take_more}
+use Rattle.std.proofs.lemmas.List.{drop_more, take_more}
 use Rattle.std.proofs.lemmas.List.Concat.{flat_map-append}
 use Rattle.bpaf_doc.specs.Names.{Names}
 use Rattle.bpaf_laws.specs.Command.{Called, opening_words}
@@ -265,15 +265,6 @@ join_step keys words part f ps i d l =
     (one_more words ps i d l)
     ∙ sym (ap (parts_rest keys words part (flat_map keys (take i ps)) (flat_map words (take i ps))
     f) (drop_more ps i d l))
-
--- when all are joined
-pub join_end : {P : Type 0} (keys : P → List Names) (words : P → List (List ℕ))
-    (part : P → ProgramPart) (f : ProgramPart) (ps : List P) (i : ℕ) → length ps ≤ i
-    → parts_rest keys words part (flat_map keys (take i ps)) (flat_map words (take i ps)) f
-    (drop i ps) ≡ f
-join_end keys words part f ps i l =
-    ap (parts_rest keys words part (flat_map keys (take i ps)) (flat_map words (take i ps)) f)
-    (drop_all i ps l)
 
 -- the choice of all parsers
 pub choices_are : {P T : Type 0} (keys : P → List Names) (words : P → List (List ℕ))
