@@ -70,7 +70,7 @@ module _ {describes : Shape → Type 0} (shows : ShowsTheSame describes) (info :
 
 module _ (given : Given) (texts : All IsUtf8 given.words) where
   -- by the same names words have one context
-  same_context : (known : Known) (a b : Context) → IsContext known given a
+  pub same_context : (known : Known) (a b : Context) → IsContext known given a
       → IsContext known given b → a ≡ b
   same_context known a b first second =
       let lines = (one_lines known given.words texts).one_line a.line b.line a.marker b.marker
