@@ -184,7 +184,7 @@ module _ (T : Type 0) (inner : Outcome T) (r : Roles) (words : List (List ℕ)) 
 -- A choice of commands.
 
 -- what one of some words opens, one of more words does
-opens_left : (words others : List (List ℕ)) {cs ds : Cells} → Opens words cs ds
+pub opens_left : (words others : List (List ℕ)) {cs ds : Cells} → Opens words cs ds
     → Opens (words ++ others) cs ds
 opens_left words others (opens_here {k = k} h) =
     opens_here (list_any-append (λ word. is_command_word word k) words others
@@ -192,7 +192,7 @@ opens_left words others (opens_here {k = k} h) =
 opens_left words others (opens_later o) = opens_later (opens_left words others o)
 
 -- or one of the others
-opens_right : (words others : List (List ℕ)) {cs ds : Cells} → Opens others cs ds
+pub opens_right : (words others : List (List ℕ)) {cs ds : Cells} → Opens others cs ds
     → Opens (words ++ others) cs ds
 opens_right words others (opens_here {k = k} h) =
     opens_here (list_any-append (λ word. is_command_word word k) words others
@@ -204,7 +204,7 @@ opens_right words others (opens_here {k = k} h) =
 opens_right words others (opens_later o) = opens_later (opens_right words others o)
 
 -- words that are apart don't open the same cells
-opens_apart : (words others : List (List ℕ)) → WordsApart words others → {cs ds es : Cells}
+pub opens_apart : (words others : List (List ℕ)) → WordsApart words others → {cs ds es : Cells}
     → Opens words cs ds → Opens others cs es → ⊥
 opens_apart words others a (opens_here {k = k} h) (opens_here i) =
     true≢false (sym i ∙ a k h)

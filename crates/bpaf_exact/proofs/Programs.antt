@@ -76,7 +76,7 @@ opens_at words at left (suc n) (suc p) k l e h none taken =
     }))
 
 -- what a word leaves is decided by the cells
-opens_one : (words : List (List ℕ)) {cs ds es : Cells} → Opens words cs ds → Opens words cs es
+pub opens_one : (words : List (List ℕ)) {cs ds es : Cells} → Opens words cs ds → Opens words cs es
     → ds ≡ es
 opens_one words (opens_here h) (opens_here i) = refl
 opens_one words (opens_later o) (opens_later p) = ap (λ z. None ∷ z) (opens_one words o p)
