@@ -3,6 +3,7 @@
 use Rattle.std.proofs.Common.{◌≡◌, ℕ, Bool, true, false, List, [], ◌∷◌, ◌++◌, map, Option, Some}
 use Rattle.std.proofs.Common.{None, refl, sym, ap, ◌∙◌, subst}
 use Rattle.std.specs.Global.{Vec}
+use Rattle.std.specs.Prelude.{option_map}
 use Rattle.bpaf_doc.specs.Names.{Names}
 use Rattle.bpaf_text.specs.Named.{Named as Key, KeyWithValue}
 use Rattle.bpaf_items.specs.Items.{item_text}
@@ -32,7 +33,7 @@ use Rattle.bpaf_exact.specs.Programs.{ChoiceValue}
 use Rattle.bpaf_exact.specs.ProgramForm.{ProgramForm, no_program, plain, commands, left_out}
 use Rattle.bpaf_exact.specs.ProgramForm.{before_commands, are_words_apart, first_only, flat_form}
 use Rattle.bpaf_exact.specs.ProgramForm.{program_choice, program_choices, program_if, program_rest}
-use Rattle.bpaf_exact.specs.OneView.{Alike, OneGroup, HasOneView, Respects, option_view, pair_view}
+use Rattle.bpaf_exact.specs.OneView.{Alike, OneGroup, HasOneView, Respects, pair_view}
 use Rattle.bpaf_exact.specs.OneView.{LooksLike, RunsToOne}
 use Rattle.bpaf_exact.proofs.Alternative.{alternative_single}
 use Rattle.bpaf_exact.proofs.Cuts.{one_cut}
@@ -316,7 +317,7 @@ module _ (T X : Type 0) (see : T → X) (inner : Outcome T)
 
   -- what may be left out
   pub optional_value_view : (os : List LinePiece)
-      → Alike (option_view see) (OptionalValue T group gap os)
+      → Alike (option_map see) (OptionalValue T group gap os)
   optional_value_view os v w (some_value {v = x} g) (some_value {v = y} h) =
       ap Some (value_view os x y g h)
   optional_value_view os v w (some_value {v = x} g) (no_value h) =
@@ -361,7 +362,7 @@ module _ (T X : Type 0) (see : T → X) (inner : Outcome T) where
 
   -- a field that may be left out
   pub optional_field_view : (names : List Names) (s : FlatForm T) → FormLaw inner names s
-      → HasOneView see s → HasOneView (option_view see) (flat_optional s)
+      → HasOneView see s → HasOneView (option_map see) (flat_optional s)
   optional_field_view names not_flat l u = tt
   optional_field_view names (alternative q value) l u =
       optional_value_view T X see inner ByName q _ _ (alternative_single T inner q value l.0)

@@ -1,6 +1,6 @@
 -- Values of the same pieces that look alike: a text's bytes, whatever room is kept for them; or the
 -- value itself.
-use Rattle.std.specs.Prelude.{◌≡◌, List, Option, Some, None}
+use Rattle.std.specs.Prelude.{◌≡◌, List}
 use Rattle.bpaf_line.specs.Situation.{Context, beginning}
 use Rattle.bpaf_laws.specs.Reading.{Outcome}
 use Rattle.bpaf_exact.specs.Pieces.{LinePiece}
@@ -32,11 +32,6 @@ HasOneView see (product q fields) = (os : List LinePiece) → Alike see (fields.
 pub record Respects (A B X Y : Type 0) (see : A → X) (look : B → Y) (f : Closure A B) : Type 0 where
   pub same : (x y : A) (v w : B) → see x ≡ see y → f.yes x v → f.yes y w → look v ≡ look w
   pub apart : (x y : A) (v : B) → see x ≡ see y → f.yes x v → f.no y → ⊥
-
--- the view of what may be left out
-abbrev pub option_view : {T X : Type 0} → (T → X) → Option T → Option X
-option_view see None = None
-option_view see (Some v) = Some (see v)
 
 -- that of two fields
 abbrev pub pair_view : {A B X Y : Type 0} → (A → X) → (B → Y) → A × B → X × Y
