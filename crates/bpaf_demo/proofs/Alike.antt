@@ -1,31 +1,31 @@
 -- All values of the program's record on words print the same lines.
 use Rattle.std.proofs.Common.{◌++◌, ℕ, Bool, List, [], ◌∷◌, All, IsUtf8, ap, codes, refl}
-use Rattle.std.proofs.Common.{string_bytes}
-use Rattle.std.proofs.Common.{sym, ◌∙◌}
 use Rattle.std.specs.Fmt.{decimal}
-use Rattle.bpaf_text.specs.Meaning.{SpellsUnsigned}
 use Rattle.bpaf_exact.specs.OneView.{Alike}
 use Rattle.bpaf_program.specs.Lines.{line, truth}
-use Rattle.bpaf_program.specs.Values.{MeansText}
-use Rattle.bpaf_program.proofs.Seen.{IsSeen, alone_seen, argument_seen, both_seen, con_seen}
-use Rattle.bpaf_program.proofs.Seen.{field_seen, many_seen, reads_one, switch_seen, word_seen}
+use Rattle.bpaf_program.proofs.Seen.{IsSeen, alone_seen, both_seen, con_seen, field_seen}
+use Rattle.bpaf_program.proofs.Seen.{many_seen, number_seen, reads_one, switch_seen, text_word_seen}
 use Rattle.bpaf_demo.specs.Exact.{IsOptionsOf, options_form}
 use Rattle.bpaf_demo.specs.Lines.{file_lines, lines}
-use Rattle.bpaf_demo.specs.Record.{num_names, number_key, options_of, program_given, verbose_names}
-use Rattle.bpaf_demo.specs.Shown.{program_shape}
+use Rattle.bpaf_demo.specs.Record.{num_names, number_key, options_of, program_given, program_known}
+use Rattle.bpaf_demo.specs.Record.{verbose_names}
+use Rattle.bpaf_demo.specs.declared.options.Options.{Options}
+use Rattle.bpaf_laws.specs.Reading.{Outcome}
 
 -- of the record's values the lines are seen
-pub options_seen : IsSeen lines (verbose_names ∷ num_names ∷ []) options_form
-options_seen =
-    con_seen
-    (both_seen (field_seen (switch_seen verbose_names))
-    (both_seen (field_seen (argument_seen (λ num. num) (SpellsUnsigned 64)
-    (λ text v w a b. a.value_of ∙ sym b.value_of) number_key))
-    (alone_seen (field_seen (many_seen
-    (word_seen string_bytes MeansText (λ text v w a b. a ∙ sym b))))))) options_of lines
-    (λ x y same. ap (λ (seen : Bool × (ℕ × List (List ℕ))). line (codes "verbose: " ++ truth seen.0)
-    ++ line (codes "num: " ++ decimal seen.1.0) ++ file_lines seen.1.1) same)
+pub options_seen : (outcome : Outcome Options)
+    × IsSeen outcome lines (verbose_names ∷ num_names ∷ []) options_form
+options_seen = (
+  _,
+  con_seen
+      (both_seen (field_seen (switch_seen verbose_names))
+      (both_seen (field_seen (number_seen 64 number_key))
+      (alone_seen (field_seen (many_seen (text_word_seen (codes "FILE"))))))) options_of lines
+      (λ x y same. ap (λ (seen : Bool × (ℕ × List (List ℕ))).
+      line (codes "verbose: " ++ truth seen.0) ++ line (codes "num: " ++ decimal seen.1.0)
+      ++ file_lines seen.1.1) same),
+)
 
 -- so they are the same for the same words
 pub same_lines : (words : List (List ℕ)) → All IsUtf8 words → Alike lines (IsOptionsOf words)
-same_lines words = reads_one options_seen refl (program_shape [] [] []) (program_given words)
+same_lines words = reads_one options_seen.1 refl program_known (program_given words)

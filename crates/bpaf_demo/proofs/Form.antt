@@ -77,5 +77,5 @@ module _ {verbose_help num_help file_help : List Piece} {verbose : ParseFlag Boo
           → AnswersReadBy (known_names plain_info shape) (program_given words) options_form r
       program_exact is words texts same r answers made =
           read_exactly is (program_given words) options_of made (product_roles values_form)
-          (product_reading values_form) options_seen texts r answers
+          (product_reading values_form) options_seen.1 texts r answers
           (ap (flat_con (map_closure makes)) same_form) plain same

@@ -53,7 +53,8 @@ module _ {T V : Type 0} {outcome : Outcome T} {fields : Readings V} {makes : V â
     };
   }
 
-  module _ {X : Type 0} {see : T â†’ X} {names : List Names} (seen : IsSeen see names Own)
+  module _ {X : Type 0} {law : Outcome T} {see : T â†’ X} {names : List Names}
+      (seen : IsSeen law see names Own)
       (texts : All IsUtf8 given.words) where
     -- an accepted value is one of the record's
     whole_own : (r : Result T ParseFailure)
@@ -84,6 +85,6 @@ module _ {T V : Type 0} {outcome : Outcome T} {fields : Readings V} {makes : V â
                 cut_into = value.read.cut_into;
                 cut = value.read.cut;
               })
-              ((record_law T seen.outcome names Own refl seen.law).has_each value.read.cut_into v
+              ((record_law T law names Own refl seen.law).has_each value.read.cut_into v
               value.read.read));
         }

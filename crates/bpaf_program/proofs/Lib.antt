@@ -8,3 +8,7 @@ pub mod Parts
 pub mod Running
 pub mod Seen
 pub mod Shown
+pub mod ShownShorts
+pub mod KnownParser
+pub mod SeenPrograms
+pub mod OfCommands

@@ -7,3 +7,4 @@ pub mod ReadBy
 pub mod Values
 pub mod Fields
 pub mod Texts
+pub mod KnownParser

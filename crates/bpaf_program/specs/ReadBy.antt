@@ -1,5 +1,5 @@
--- The values of a flat record on words whose line is read by known names, and answers that are exact
--- for them.
+-- The values of a flat record, and of a program, on words whose line is read by known names, and
+-- answers that are exact for them.
 use Rattle.std.specs.Prelude.{IfOk, Result}
 use Rattle.bpaf_words.specs.Arguments.{Given}
 use Rattle.bpaf_words.specs.Spelling.{Known}
@@ -7,7 +7,8 @@ use Rattle.bpaf_line.specs.Constructing.{IsContext}
 use Rattle.bpaf_line.specs.Situation.{Context}
 use Rattle.bpaf_line.specs.declared.failure.ParseFailure.{ParseFailure}
 use Rattle.bpaf_exact.specs.FlatForm.{FlatForm, flat_record, product_reading, product_roles}
-use Rattle.bpaf_exact.specs.Record.{RecordValue}
+use Rattle.bpaf_exact.specs.Programs.{CellsValue}
+use Rattle.bpaf_exact.specs.Record.{RecordValue, line_cells}
 use Rattle.bpaf_record.specs.Record.{IsValueOrWant}
 
 -- v is a value of the record on the line, by these known short names, of what is given: read off the
@@ -19,10 +20,25 @@ pub record IsReadBy {T : Type 0} (known : Known) (given : Given) (form : FlatFor
   pub read : RecordValue (product_roles (flat_record form))
       (product_reading (flat_record form)).value context v
 
--- an answer is exact: a value only where it is one of the record's there; and where the record has a
--- value there, one of them, or want of memory
-pub record AnswersReadBy {T : Type 0} (known : Known) (given : Given) (form : FlatForm T)
-    (r : Result T ParseFailure) : Type 0 where
-  pub sound : IfOk r (IsReadBy known given form)
-  pub complete : (v : T) → IsReadBy known given form v
-      → IsValueOrWant (IsReadBy known given form) r
+-- v is a value of a program on the line, by these known short names, of what is given
+pub record IsProgramReadBy {T : Type 0} (known : Known) (given : Given) (value : CellsValue T)
+    (v : T) : Type 0 where
+  pub context : Context
+  pub is_context : IsContext known given context
+  pub read : value (line_cells context) v
+
+-- an answer is exact for these values: a value only where it is one of them; and where there is one,
+-- one of them, or want of memory
+pub record IsExactFor {T : Type 0} (value : T → Type 0) (r : Result T ParseFailure) : Type 0 where
+  pub sound : IfOk r value
+  pub complete : (v : T) → value v → IsValueOrWant value r
+
+-- for those of a record
+abbrev pub AnswersReadBy : {T : Type 0} → Known → Given → FlatForm T → Result T ParseFailure
+    → Type 0
+AnswersReadBy known given form = IsExactFor (IsReadBy known given form)
+
+-- for those of a program
+abbrev pub AnswersProgramReadBy : {T : Type 0} → Known → Given → CellsValue T
+    → Result T ParseFailure → Type 0
+AnswersProgramReadBy known given value = IsExactFor (IsProgramReadBy known given value)

@@ -1,0 +1,110 @@
+-- Programs all of whose values on the same words look alike.
+use Rattle.std.proofs.Common.{◌≡◌, All, true, IsUtf8, List, [], ◌∷◌, ◌++◌, ℕ, ap, ap₂}
+use Rattle.std.proofs.Common.{subst, sym, ◌∙◌}
+use Rattle.bpaf_doc.specs.Names.{Names}
+use Rattle.bpaf_words.specs.Arguments.{Given}
+use Rattle.bpaf_words.specs.Spelling.{Known}
+use Rattle.bpaf_laws.specs.Reading.{Outcome}
+use Rattle.bpaf_exact.specs.Flat.{ByName}
+use Rattle.bpaf_exact.specs.FlatForm.{FlatForm, complete, is_record}
+use Rattle.bpaf_exact.specs.OneView.{Alike, HasOneView, pair_view}
+use Rattle.bpaf_exact.specs.Pieces.{Cells, LinePiece, Roles}
+use Rattle.bpaf_exact.specs.ProgramForm.{are_words_apart, plain, program_value}
+use Rattle.bpaf_exact.specs.Programs.{CellsValue, ChoiceValue, ClosedCells, CommandValue, FieldThen}
+use Rattle.bpaf_exact.specs.Programs.{Opens, first_value}
+use Rattle.bpaf_exact.specs.Programs.{second_value}
+use Rattle.bpaf_exact.proofs.Commands.{opens_apart, opens_left, opens_right}
+use Rattle.bpaf_exact.proofs.OneView.{record_looks_one}
+use Rattle.bpaf_exact.proofs.ProgramForm.{words_apart}
+use Rattle.bpaf_exact.proofs.Programs.{opens_one}
+use Rattle.bpaf_exact.specs.Record.{line_cells}
+use Rattle.bpaf_record.proofs.OneLine.{same_context}
+use Rattle.bpaf_program.specs.KnownParser.{makes}
+use Rattle.bpaf_program.specs.ReadBy.{IsProgramReadBy}
+use Rattle.bpaf_program.proofs.Seen.{IsSeen}
+
+-- all values on the same cells look alike
+abbrev pub LooksOne : {T X : Type 0} → (T → X) → CellsValue T → Type 0
+LooksOne see value = (cs : Cells) → Alike see (value cs)
+
+-- the values of commands look alike, and each is opened by one of these words
+pub record AreSeen {T X : Type 0} (see : T → X) (words : List (List ℕ)) (value : CellsValue T)
+    : Type 0 where
+  pub look : LooksOne see value
+  pub opened : (cs : Cells) (v : T) → value cs v → (ds : Cells) × Opens words cs ds
+
+-- a flat record
+pub record_look : {T X : Type 0} {outcome : Outcome T} {see : T → X} {names : List Names}
+    {form : FlatForm T} → IsSeen outcome see names form → is_record form ≡ true → LooksOne see (program_value (plain form))
+record_look {T} {X} {outcome} {see} {names} {form} is record_is =
+    record_looks_one T X see outcome names form record_is is.law is.view
+
+module _ {T X : Type 0} {see : T → X} where
+  -- a command over what looks alike
+  pub command_seen : (word : List ℕ) {value : CellsValue T} → LooksOne see value
+      → AreSeen see (word ∷ []) (CommandValue T (word ∷ []) value)
+  command_seen word {value} one = record {
+    look = λ cs v w a b. one b.behind v w
+        (subst (λ ds. value ds v) (opens_one (word ∷ []) a.opens b.opens) a.read) b.read;
+    opened = λ cs v a. (a.behind, a.opens);
+  }
+
+  -- a choice of commands whose words are apart
+  pub choice_seen : {words more : List (List ℕ)} {first second : CellsValue T}
+      → AreSeen see words first → AreSeen see more second → are_words_apart words more ≡ true
+      → AreSeen see (words ++ more) (ChoiceValue T first second)
+  choice_seen {words} {more} {first} {second} one other apart =
+      record { look = choice_look; opened = choice_opened }
+    where
+      never : (cs : Cells) (v w : T) → first cs v → second cs w → ⊥
+      never cs v w a b =
+          opens_apart words more (words_apart words more apart) (one.opened cs v a).1
+          (other.opened cs w b).1
+
+      choice_look : LooksOne see (ChoiceValue T first second)
+      choice_look cs v w (first_value a) (first_value b) = one.look cs v w a b
+      choice_look cs v w (second_value a) (second_value b) = other.look cs v w a b
+      choice_look cs v w (first_value a) (second_value b) = absurd (never cs v w a b)
+      choice_look cs v w (second_value a) (first_value b) = absurd (never cs w v b a)
+
+      choice_opened : (cs : Cells) (v : T) → ChoiceValue T first second cs v
+          → (ds : Cells) × Opens (words ++ more) cs ds
+      choice_opened cs v (first_value a) =
+          let o = one.opened cs v a in (o.0, opens_left words more o.1)
+      choice_opened cs v (second_value a) =
+          let o = other.opened cs v a in (o.0, opens_right words more o.1)
+
+module _ {T X B Y : Type 0} {see : T → X} (make : T → B) (look : B → Y)
+    (same : (x y : T) → see x ≡ see y → look (make x) ≡ look (make y)) where
+  -- what is made of values that look alike
+  pub made_look : {value : CellsValue T} → LooksOne see value
+      → LooksOne look (ClosedCells T B value (makes make))
+  made_look one cs v w a b =
+      ap look a.made ∙ (same a.from b.from (one cs a.from b.from a.read b.read)
+      ∙ sym (ap look b.made))
+
+  -- so it is of commands
+  pub made_seen : {words : List (List ℕ)} {value : CellsValue T} → AreSeen see words value
+      → AreSeen look words (ClosedCells T B value (makes make))
+  made_seen are = record {
+    look = made_look are.look;
+    opened = λ cs v a. are.opened cs a.from a.read;
+  }
+
+-- a named field before others
+pub then_look : {A B X Y : Type 0} {see : A → X} {look : B → Y} {q : Roles}
+    {first : List LinePiece → A → Type 0} {value : CellsValue B}
+    → HasOneView see (complete ByName q first) → LooksOne look value
+    → LooksOne (pair_view see look) (FieldThen A B q first value)
+then_look one more cs v w a b =
+    ap₂ (λ x y. (x, y)) (one _ v.0 w.0 a.own b.own) (more _ v.1 w.1 a.left b.left)
+
+-- all values of the program on the same words look alike
+pub program_looks_one : {T X : Type 0} {see : T → X} {value : CellsValue T} → LooksOne see value
+    → (known : Known) (given : Given) → All IsUtf8 given.words
+    → Alike see (IsProgramReadBy known given value)
+program_looks_one {value = value} one known given texts v w a b =
+    one _ v w
+    (subst (λ context. value (line_cells context) v)
+    (same_context given texts known a.context b.context a.is_context b.is_context) a.read)
+    b.read

@@ -1,0 +1,151 @@
+-- What is known of the parsers that a function of a program is handed: keys, words of commands, short
+-- names and form, each told by the program alone.
+use Rattle.std.specs.Prelude.{◌≡◌, Bool, true, false, List, [], ◌∷◌, ◌++◌, ℕ, codes}
+use Rattle.bpaf_doc.specs.Names.{Names}
+use Rattle.bpaf_doc.specs.Shape.{Shape, members}
+use Rattle.bpaf_doc.specs.Walks.{parts, parts_of_all, shorts_of_arguments, shorts_of_flags}
+use Rattle.bpaf_doc.specs.Shape.{Part}
+use Rattle.bpaf_words.specs.Spelling.{Known, ShortNames, knowing}
+use Rattle.bpaf_laws.specs.Command.{named_only}
+use Rattle.bpaf_laws.specs.Reading.{Outcome}
+use Rattle.bpaf_exact.specs.FlatForm.{FlatForm}
+use Rattle.bpaf_exact.specs.ProgramForm.{ProgramForm, ProgramFormLaw, plain}
+use Rattle.bpaf_exact.specs.ProgramForm.{program_alone, program_both, program_choice, program_closed}
+use Rattle.bpaf_exact.specs.ProgramForm.{program_command, program_con, program_field}
+use Rattle.bpaf_exact.specs.SameParts.{FieldsShowTheSame, ShowsTheSame}
+use Rattle.bpaf_exact.specs.Wrappers.{Closure, map_closure}
+use Rattle.bpaf_record.specs.Part.{part_of}
+use Rattle.bpaf_record.specs.declared.part.ProgramPart.TheVariants.{Commands}
+
+-- a closure that makes this of a value
+abbrev pub makes : {A B : Type 0} → (A → B) → Closure A B
+makes make = map_closure (λ x v. v ≡ make x)
+
+-- the short names of flags and of arguments among parts
+abbrev pub shorts_of : List Part → ShortNames
+shorts_of shown = record { flags = shorts_of_flags shown; arguments = shorts_of_arguments shown }
+
+-- those of the one, and of the other
+abbrev pub joined : ShortNames → ShortNames → ShortNames
+joined one other = record {
+  flags = one.flags ++ other.flags;
+  arguments = one.arguments ++ other.arguments;
+}
+
+-- the names by which the words of a program that shows these are read: with those of help and version
+abbrev pub program_names : ShortNames → Known
+program_names shorts =
+    knowing (record {
+      flags = shorts.flags ++ codes "h" ++ codes "V";
+      arguments = shorts.arguments;
+    })
+
+-- a parser: the names of its keys, outside of commands and in all; the words of its commands; the
+-- short names that it shows; and what it is to a program
+pub record KnownParser (T : Type 0) : Type 1 where
+  pub own : List Names
+  pub all : List Names
+  pub words : List (List ℕ)
+  pub shorts : ShortNames
+  pub form : ProgramForm T
+
+-- a flat record
+abbrev pub known_record : {T : Type 0} → List Names → ShortNames → FlatForm T → KnownParser T
+known_record names shorts form = record {
+  own = names;
+  all = names;
+  words = [];
+  shorts = shorts;
+  form = plain form;
+}
+
+-- a command over a program
+abbrev pub known_command : {T : Type 0} → List ℕ → KnownParser T → KnownParser T
+known_command word program = record {
+  own = [];
+  all = program.all;
+  words = word ∷ [];
+  shorts = program.shorts;
+  form = program_command false true (named_only word) program.form;
+}
+
+-- a choice of two
+abbrev pub known_choice : {T : Type 0} → KnownParser T → KnownParser T → KnownParser T
+known_choice first second = record {
+  own = first.own ++ second.own;
+  all = first.all ++ second.all;
+  words = first.words ++ second.words;
+  shorts = joined first.shorts second.shorts;
+  form = program_choice first.all second.all first.words second.words first.form second.form;
+}
+
+-- with a closure round it that makes this of a value
+abbrev pub known_map : {A B : Type 0} → (A → B) → KnownParser A → KnownParser B
+known_map make inner = record {
+  own = inner.own;
+  all = inner.all;
+  words = inner.words;
+  shorts = inner.shorts;
+  form = program_closed (makes make) inner.form;
+}
+
+-- as the last field
+abbrev pub known_last : {T : Type 0} → KnownParser T → KnownParser T
+known_last inner = record {
+  own = inner.own;
+  all = inner.all;
+  words = [];
+  shorts = inner.shorts;
+  form = program_alone (program_field inner.form);
+}
+
+-- behind a field of this form, with these names
+abbrev pub known_both : {A B : Type 0} → List Names → ShortNames → FlatForm A → KnownParser B
+    → KnownParser (A × B)
+known_both names shorts form rest = record {
+  own = names ++ rest.own;
+  all = names ++ rest.all;
+  words = [];
+  shorts = joined shorts rest.shorts;
+  form = program_both names rest.all (program_field (plain form)) rest.form;
+}
+
+-- with a constructor that makes this of the fields
+abbrev pub known_con : {A B : Type 0} → (A → B) → KnownParser A → KnownParser B
+known_con make fields = record {
+  own = fields.own;
+  all = fields.all;
+  words = [];
+  shorts = fields.shorts;
+  form = program_con (makes make) fields.form;
+}
+
+-- a parser shows these short names, in each shape
+pub record ShowsShorts (describes : Shape → Type 0) (names : ShortNames) : Type 0 where
+  pub shape : Shape
+  pub shown : describes shape
+  pub are : shorts_of (parts shape) ≡ names
+  pub same : ShowsTheSame describes
+
+-- so do fields
+pub record FieldsShowShorts (describe : List Shape → Type 0) (names : ShortNames) : Type 0 where
+  pub shapes : List Shape
+  pub shown : describe shapes
+  pub are : shorts_of (parts_of_all (members shapes)) ≡ names
+  pub same : FieldsShowTheSame describe
+
+-- a parser, or fields, keep to the law of what is known, with these words of commands, and show it
+pub record IsKnownBy {T : Type 0} (known : KnownParser T) (outcome : Outcome T)
+    (words : List (List ℕ)) (shows : Type 0) : Type 0 where
+  pub law : ProgramFormLaw outcome known.all words known.form
+  pub shown : shows
+
+-- a parser is these commands, and has these keys and words
+pub record AreCommands {T : Type 0} (known : KnownParser T) (outcome : Outcome T)
+    (form : ProgramForm T) (keys : Bool → List Names) (words : List (List ℕ))
+    (describes : Shape → Type 0) : Type 0 where
+  pub by : IsKnownBy known outcome known.words (ShowsShorts describes known.shorts)
+  pub part_is : part_of form ≡ Commands
+  pub own_are : keys false ≡ known.own
+  pub all_are : keys true ≡ known.all
+  pub words_are : words ≡ known.words
