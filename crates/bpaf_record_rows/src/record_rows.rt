@@ -153,10 +153,7 @@ fn last_numbers_run_as_records(rt: HostRuntime) -> Result<(), Fail> {
 
 const LONG_SWITCH: &[Row<'static>] = &[
     ("--verbose", "ok true"),
-    (
-        "--verbose=yes",
-        "err `yes` is not expected in this context",
-    ),
+    ("--verbose=yes", "err `yes` is not expected in this context"),
 ];
 
 #[test]
@@ -212,7 +209,13 @@ fn products_of_three_run_as_records(rt: HostRuntime) -> Result<(), Fail> {
     let verbose = switch(a, 'v')?;
     let num = number(a, 'n')?;
     compare_triple(a, verbose, num, word().many(), OPTIONS_AND_WORDS)?;
-    compare_triple(a, switch(a, 'v')?, number(a, 'n')?, word(), OPTIONS_AND_WORD)
+    compare_triple(
+        a,
+        switch(a, 'v')?,
+        number(a, 'n')?,
+        word(),
+        OPTIONS_AND_WORD,
+    )
 }
 
 const ANY_ORDER: &[Row<'static>] = &[
@@ -286,7 +289,11 @@ fn compare_switches<
     requires set { Q.can_eval set }
 {
     compare(alloc, any.many(), REPEATED_SWITCH)?;
-    compare(alloc, set.guard(|set| *set, "must be set").many(), SET_SWITCHES)
+    compare(
+        alloc,
+        set.guard(|set| *set, "must be set").many(),
+        SET_SWITCHES,
+    )
 }
 
 #[test]
