@@ -84,7 +84,7 @@ const TREES: &[(&str, &str)] = &[
     ),
     ("word FILE\nflag a _\nand", "['a'] [] false word"),
     (
-        "flag b _\nword FILE\nflag a _\nor\nword FILE\nand\nand",
+        "flag b _\nword FILE\nflag a _\nor\nword FILE\nall",
         "['b', 'a'] [] true key",
     ),
     (
