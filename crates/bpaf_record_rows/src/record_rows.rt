@@ -35,6 +35,7 @@ pub(crate) fn told<T: Debug + Drop>(
 ) -> Result<String, AllocError> {
     match answer {
         Ok(value) => format!(in alloc; "ok {value:?}"),
+        Err(ParseFailure::Memory) => Err(AllocError),
         Err(failure) => refused(alloc, failure),
     }
 }
