@@ -1,5 +1,5 @@
-"""What the documents say of places: that a crate stands on others, that a definition stands in a file, and that a name
-stands in the crate, and in the clause, whose promise it tells.
+"""What the documents say of places: that a crate stands on others, that a definition stands in a file, and that a
+name stands in the crate, and in the clause, whose promise it tells.
 """
 import glob
 import os
@@ -9,7 +9,7 @@ import crates
 
 NAME = re.compile(r"`((?:\w+::)*\w+)(?:\(\))?`")
 CLAUSES = re.compile(r"clauses? ((?:`\w+`(?:, | and )?)+)")
-CITED = re.compile(r"clause `(\w+)`(?: of [^(;,]*)? \(((?:`\w+`(?:, )?)+)\)")
+CITED = re.compile(r"clause `(\w+)`(?: of [^(;,]*)? \(((?:`\w+`(?:, )?)+)(?:which [^)]*)?\)")
 ENSURES = re.compile(r"(?s)\b(?:ensures|requires) (\w+) \{(.*?)\n? *(?=\b(?:ensures|requires)\b|\}\s*[;{\n])")
 
 
@@ -19,8 +19,9 @@ def text_of(path):
 
 
 def of_crate(name):
-    """The text of a crate's own files, but for what was built and wrong bodies."""
-    return "\n".join(text_of(os.path.join(crates.HERE, it)) for it in crates.files([name]) if f"crates/{name}/" in it)
+    """The code of a crate's own files, without comments and texts."""
+    found = (text_of(os.path.join(crates.HERE, it)) for it in crates.files([name]) if f"crates/{name}/" in it)
+    return re.sub(r'"(?:[^"\\\n]|\\.)*"|(?m:(?://|--).*$)', "", "\n".join(found))
 
 
 def stands_on():
@@ -38,9 +39,15 @@ def rows_of(page):
     """The rows of a page's tables, each as its cells, with the heading above."""
     for part in re.split(r"(?m)^## ", text_of(page)):
         for line in part.split("\n"):
-            cells = [it.strip() for it in re.split(r"(?<!\\) \| ", re.sub(r"^\| ?| ?\|$", "", line.strip()))]
-            if line.startswith("| ") and len(cells) == 3:
+            cells = [it.strip() for it in re.split(r"(?<!\\)\|", line.strip())[1:-1]]
+            if len(cells) == 3:
                 yield part.split("\n")[0], cells
+
+
+def with_members(said, text):
+    """A clause, and what the ghost members that it names are."""
+    members = re.findall(r"(?s)\bghost (\w+) = \{(.*?)\};", text)
+    return said + "".join(it for name, it in members if re.search(rf"\b{name}\b", said))
 
 
 def promises():
@@ -55,10 +62,10 @@ def promises():
         for it in NAME.findall(contract):
             if not it.startswith("bpaf") and any(part not in re.findall(r"\w+", text) for part in it.split("::")):
                 yield f"docs/LAYERS.md: `{it}` doesn't stand in {name}"
-        clauses = [(it, said) for it, said in ENSURES.findall(text)]
         for clause, cited in CITED.findall(contract):
+            said = with_members("\n".join(it for own, it in ENSURES.findall(text) if own == clause), text)
             for it in NAME.findall(cited):
-                if not any(clause == own and it in said for own, said in clauses):
+                if not re.search(rf"\b{it}\b", said):
                     yield f"docs/LAYERS.md: no clause `{clause}` of {name} says `{it}`"
 
 
