@@ -13,26 +13,32 @@ fn required(alloc: Global, name: &str) -> Result<ParseFlag<()>, AllocError> {
     Ok(long(alloc, name)?.req_flag(()))
 }
 
-/// A switch and the group of `--point` and two numbers.
-fn switch_and_point(alloc: Global) -> Result<String, AdjacentError> {
-    let point = required(alloc, "point")?;
-    let x = positional::<u64>("X");
-    let y = positional::<u64>("Y");
-    let group = construct!(point, x, y).adjacent(alloc)?;
+/// What the switch `-v` and a group answer to lines.
+fn behind_switch<T: Debug + Drop, P: Parser<T> + Drop>(
+    alloc: Global,
+    group: P,
+    lines: &[&[&str]],
+) -> Result<String, AllocError>
+    requires { P.can_eval group }
+{
     let verbose = verbose(alloc)?;
-    let broken: [&str; 4] = ["--point", "1", "-v", "2"];
-    let whole: [&str; 4] = ["-v", "--point", "1", "2"];
-    Ok(answers(alloc, construct!(verbose, group), &[&broken, &whole])?)
+    answers(alloc, construct!(verbose, group), lines)
 }
 
-/// Any number of these groups.
-fn points(alloc: Global) -> Result<String, AdjacentError> {
+/// A group between a switch and its words, and behind it.
+const SWITCH_AND_POINT: &[&[&str]] = &[&["--point", "1", "-v", "2"], &["-v", "--point", "1", "2"]];
+
+/// What the group of `--point` and two numbers answers behind a switch, or any number of groups.
+fn points(alloc: Global, many: bool) -> Result<String, AdjacentError> {
     let point = required(alloc, "point")?;
     let x = positional::<u64>("X");
     let y = positional::<u64>("Y");
     let group = construct!(point, x, y).adjacent(alloc)?;
-    let words: [&str; 6] = ["--point", "1", "2", "--point", "3", "4"];
-    Ok(answers(alloc, group.many(), &[&words])?)
+    if many {
+        let words: [&str; 6] = ["--point", "1", "2", "--point", "3", "4"];
+        return Ok(answers(alloc, group.many(), &[&words])?);
+    }
+    Ok(behind_switch(alloc, group, SWITCH_AND_POINT)?)
 }
 
 /// A group whose first field shows no item.
@@ -59,14 +65,19 @@ const POINT: &str = "err expected `Y`, pass `--help` for usage information\n\
 #[test]
 fn points_are_groups(rt: HostRuntime) -> Result<(), Fail> {
     let a = rt.alloc();
-    reads(made(a, switch_and_point(a)), POINT)?;
+    reads(made(a, points(a, false)), POINT)?;
     let two = "ok [((), 1, 2), ((), 3, 4)]\n";
-    reads(made(a, points(a)), two)?;
+    reads(made(a, points(a, true)), two)?;
     reads(made(a, without_first_item(a)), "no first item")
 }
 
-/// The answers of the group of `--a` and another one to a line; those of a switch and that group to
-/// a line with the switch inside, where it is `broken`.
+/// Five groups with a switch inside, and without one.
+const BROKEN: &[&[&str]] = &[&["--a", "--b", "-v", "--c", "--d", "--e", "x"]];
+
+const WHOLE: &[&[&str]] = &[&["--a", "--b", "--c", "--d", "--e", "x"]];
+
+/// What the group of `--a` and another one answers to the whole line; or that behind a switch to the
+/// `broken` one.
 fn behind_a<T: Debug + Drop, P: Parser<T> + Drop>(
     alloc: Global,
     inner: P,
@@ -77,12 +88,9 @@ fn behind_a<T: Debug + Drop, P: Parser<T> + Drop>(
     let a = required(alloc, "a")?;
     let group = construct!(a, inner).adjacent(alloc)?;
     if broken {
-        let verbose = verbose(alloc)?;
-        let line: [&str; 7] = ["--a", "--b", "-v", "--c", "--d", "--e", "x"];
-        return Ok(answers(alloc, construct!(verbose, group), &[&line])?);
+        return Ok(behind_switch(alloc, group, BROKEN)?);
     }
-    let line: [&str; 6] = ["--a", "--b", "--c", "--d", "--e", "x"];
-    Ok(answers(alloc, group, &[&line])?)
+    Ok(answers(alloc, group, WHOLE)?)
 }
 
 /// The same of `--b` inside.
@@ -109,13 +117,23 @@ fn behind_c<T: Debug + Drop, P: Parser<T> + Drop>(
     behind_b(alloc, construct!(c, inner).adjacent(alloc)?, broken)
 }
 
-/// The same of `--d`, and of `--e` and a word inside.
+/// The same of `--d` inside.
+fn behind_d<T: Debug + Drop, P: Parser<T> + Drop>(
+    alloc: Global,
+    inner: P,
+    broken: bool,
+) -> Result<String, AdjacentError>
+    requires { P.can_eval inner }
+{
+    let d = required(alloc, "d")?;
+    behind_c(alloc, construct!(d, inner).adjacent(alloc)?, broken)
+}
+
+/// The same of `--e` and a word inside.
 fn five(alloc: Global, broken: bool) -> Result<String, AdjacentError> {
     let e = required(alloc, "e")?;
     let x = positional::<String>("X");
-    let inner = construct!(e, x).adjacent(alloc)?;
-    let d = required(alloc, "d")?;
-    behind_c(alloc, construct!(d, inner).adjacent(alloc)?, broken)
+    behind_d(alloc, construct!(e, x).adjacent(alloc)?, broken)
 }
 
 #[test]
