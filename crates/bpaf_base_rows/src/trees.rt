@@ -147,7 +147,7 @@ fn grow(trees: &mut Vec<Meta>, line: &str) -> Result<(), AllocError> {
     Ok(())
 }
 
-/// The tree that the lines of a description make: an item a line, and behind one to three trees what
+/// The tree that the lines of a description make: an item a line, and behind up to three trees what
 /// stands round them.
 pub(crate) fn tree(alloc: Global, lines: &str) -> Result<Meta, AllocError> {
     let mut trees = Vec::new(alloc);

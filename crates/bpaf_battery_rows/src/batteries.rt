@@ -27,7 +27,7 @@ enum Select {
     NoBanana,
 }
 
-/// Appends an answer, and a blank: Some value as Rust's Debug prints it, or None where the words are
+/// Appends an answer and a blank: Some value as Rust's Debug prints it, or None where the words are
 /// refused. Want of memory stays that.
 fn push_answer<T: Debug + Drop>(
     answer: Result<T, ParseFailure>,

@@ -1,5 +1,5 @@
-//! Choices of a switch and a number, and of one name that is a flag and an argument, as closures make
-//! their values.
+//! Choices of a switch and a number, and of one name that is a flag and an argument, as closures
+//! make their values.
 use bpaf_answers::{answers, num, verbose};
 use bpaf_core::Parser;
 use bpaf_text::long;

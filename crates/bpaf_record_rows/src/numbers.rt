@@ -51,7 +51,8 @@ const BEHIND_KEY: &[Row<'static>] = &[
 const FLAGS: &[Row<'static>] = &[
     (
         "-n -5",
-        "err `-n` requires an argument `NUM`, got a flag `-5`, try `-n=-5` to use it as an argument",
+        "err `-n` requires an argument `NUM`, got a flag `-5`, try \
+            `-n=-5` to use it as an argument",
     ),
     ("-n=-5", "ok -5"),
 ];

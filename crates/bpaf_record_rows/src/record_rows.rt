@@ -117,7 +117,8 @@ const NUMBER: &[Row<'static>] = &[
     ),
     (
         "-n -5",
-        "err `-n` requires an argument `NUM`, got a flag `-5`, try `-n=-5` to use it as an argument",
+        "err `-n` requires an argument `NUM`, got a flag `-5`, try \
+            `-n=-5` to use it as an argument",
     ),
     (
         "-n=",

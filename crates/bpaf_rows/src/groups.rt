@@ -76,8 +76,8 @@ const BROKEN: &[&[&str]] = &[&["--a", "--b", "-v", "--c", "--d", "--e", "x"]];
 
 const WHOLE: &[&[&str]] = &[&["--a", "--b", "--c", "--d", "--e", "x"]];
 
-/// What the group of `--a` and another one answers to the whole line; or that behind a switch to the
-/// `broken` one.
+/// What the group of `--a` and another one answers to the whole line, or that behind a switch to
+/// the `broken` one.
 fn behind_a<T: Debug + Drop, P: Parser<T> + Drop>(
     alloc: Global,
     inner: P,
