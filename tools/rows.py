@@ -1,7 +1,7 @@
 """The worked rows of docs/ROWS.md beside what runs: their parsers, words and answers as data or as literals of tests.
 
 A test has a row where a literal that it reaches is the row's words, or some in order are, and the answer stands behind
-them, or in a text by itself. Of a line of no words, and of an answer that isn't told in code, nothing is compared.
+them, or in a text by itself. Where a row has no words as literals, its answer is looked for in all that the test reaches.
 """
 import glob
 import re
