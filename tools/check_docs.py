@@ -1,6 +1,7 @@
 #!/usr/bin/env python3
-"""Holds the documents to the tree: names in backticks stand somewhere in crates/, and each test or
-data row that docs/ROWS.md names exists. It prints what doesn't, and then exits with 1.
+"""Holds the documents to the tree: names in backticks stand somewhere in crates/, and where a page says
+so; and each row of docs/ROWS.md runs as it says, by its tests or as data. It prints what doesn't, and
+then exits with 1.
 
 A name is an identifier or a path of them. Of docs/DIFFERENCES.md, whose first column and whose last
 lists are of Rust, only what is said to stand here is looked at.
@@ -10,9 +11,12 @@ import os
 import re
 import sys
 
+sys.dont_write_bytecode = True
+import places
+import rows
+
 NAME = re.compile(r"[A-Za-z_]\w*(::[A-Za-z_]\w*)*(\(\))?")
 IDENTIFIER = re.compile(r"[A-Za-z_]\w*")
-DATA = "crates/bpaf_bench/data"
 
 
 def text_of(path):
@@ -31,48 +35,35 @@ def said_here(path):
     text = text_of(path)
     if path.endswith("DIFFERENCES.md"):
         parts = re.split(r"(?m)^## ", text)
-        rows = [row.split(" | ") for it in parts if not it.startswith(("Left out", "Added")) for row in it.split("\n")]
+        kept = [it for it in parts if not it.startswith(("Left out", "Added"))]
+        cells = [row.split(" | ") for it in kept for row in it.split("\n")]
         added = [it for it in parts if it.startswith("Added")]
-        text = "\n".join(row[1] for row in rows if len(row) > 2) + "\n".join(added)
+        text = "\n".join(row[1] for row in cells if len(row) > 2) + "\n".join(added)
     text = re.sub(r"(?s)```.*?```", "", text)
     return re.sub(r"``.*?``", "", text)
 
 
-def names(path, rows):
+def names(path, named):
     """The names in backticks of a page, but for those of rows, and those of its own code and lists."""
     text = said_here(path)
     code = "\n".join(re.findall(r"(?m)^ {4,}.*$", text))
-    own = {*re.findall(r"(?m)^- `(\w+)` is ", text), *IDENTIFIER.findall(code), *rows}
+    own = {*re.findall(r"(?m)^- `(\w+)` is ", text), *IDENTIFIER.findall(code), *named}
     for it in re.findall(r"`([^`\n]+)`", text):
         if NAME.fullmatch(it) and it not in own:
             yield it
-
-
-def rows_of(path):
-    """Each row of a table with a column of tests: its name, and where it is run."""
-    for line in text_of(path).split("\n"):
-        cells = [it.strip() for it in re.split(r"(?<!\\) \| ", line.strip("| "))]
-        if line.startswith("| ") and len(cells) == 5 and IDENTIFIER.fullmatch(cells[0]) and cells[0] != "name":
-            yield cells[0], [it.strip() for it in cells[4].split(",")]
 
 
 def main():
     found = sources()
     words = {word for path, text in found.items() for word in IDENTIFIER.findall(path + " " + text)}
     words |= {word for it in os.listdir(".") for word in IDENTIFIER.findall(it)}
-    tests = {it for text in found.values() for it in re.findall(r"#\[test\]\s*fn (\w+)", text)}
-    rows = list(rows_of("docs/ROWS.md"))
-    lost = []
-    for name, runs in rows:
-        for run in runs:
-            is_data = run.endswith(".txt") and name in IDENTIFIER.findall(found.get(f"{DATA}/{run}", ""))
-            if not is_data and run not in tests:
-                lost.append(f"docs/ROWS.md: {name} is not run by {run}")
+    named = {cells[0] for cells, _ in rows.tables() if len(cells) == 5}
+    lost = [*(f"{rows.ROWS}: {it}" for it in rows.faults()), *places.faults()]
     for path in [*sorted(glob.glob("docs/*.md")), "README.md"]:
-        for name in sorted({*names(path, {name for name, _ in rows})}):
+        for name in sorted({*names(path, named)}):
             if any(it not in words for it in IDENTIFIER.findall(name)):
                 lost.append(f"{path}: `{name}` stands nowhere")
-    print("\n".join([*lost, f"documents: {len(rows)} rows, {len(lost)} faults"]))
+    print("\n".join([*lost, f"documents: {len(named)} rows of tests, {len(lost)} faults"]))
     return 1 if lost else 0
 
 

@@ -217,6 +217,7 @@ fn refuse(message: &Message, answers: &mut String) -> Result<(), AllocError> {
         Message::NoArgument(key, metavar) => write!(answers, "no argument {key} {metavar};"),
         Message::Ambiguity(word, number) => write!(answers, "ambiguity {word} {number};"),
         Message::Missing(_) => answers.push_str("missing;"),
+        Message::Memory => Err(AllocError),
         _ => answers.push_str("another refusal;"),
     }
 }

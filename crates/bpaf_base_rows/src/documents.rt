@@ -10,7 +10,10 @@ const FOLDED: &[(&str, &str)] = &[
     ("a\nb", "a b|a b|Some(\"a b\")"),
     ("a\n b", "a\n b|a\n b|Some(\"a\")"),
     ("a\n", "a\n|a\n|Some(\"a\")"),
-    ("one\n\ntwo or\nmore", "one\ntwo or more|one|Some(\"one\")"),
+    (
+        "short\n\nlong one\nmore",
+        "short\nlong one more|short|Some(\"short\")",
+    ),
     ("\n\nx", "\nx||None"),
 ];
 
@@ -36,6 +39,12 @@ fn text_prints(alloc: Global, text: &str) -> Result<String, AllocError> {
     prints(alloc, &doc)
 }
 
+// What a document prints of a piece with a line break and another one.
+fn pieces_print(alloc: Global) -> Result<String, AllocError> {
+    let doc = Doc::from_pieces(alloc, &[("a\nb", Style::Literal), ("c", Style::Text)])?;
+    prints(alloc, &doc)
+}
+
 // What a document prints to which each call appended something, and then all of it once more.
 fn grown_prints(alloc: Global) -> Result<String, AllocError> {
     let mut doc = Doc::from_pieces(alloc, &[("a", Style::Literal), ("b\nc", Style::Text)])?;
@@ -53,6 +62,8 @@ fn documents_are_printed(rt: HostRuntime) -> Result<(), Fail> {
         let printed = text_prints(rt.alloc(), *text)?;
         assert_eq!(rt; printed.as_str(), *wanted);
     }
+    let printed = pieces_print(rt.alloc())?;
+    assert_eq!(rt; printed.as_str(), "a\nbc|a\nbc|Some(\"a\")");
     let wanted = "ab\ncuse\nd\n`-x`ab\ncuse\nd\n`-x`";
     let printed = grown_prints(rt.alloc())?;
     assert!(rt; printed.starts_with(wanted));
@@ -73,7 +84,7 @@ const TREES: &[(&str, &str)] = &[
     ),
     ("word FILE\nflag a _\nand", "['a'] [] false word"),
     (
-        "flag b _\nword FILE\nflag a _\nor\nword FILE\nand\nand",
+        "flag b _\nword FILE\nflag a _\nor\nword FILE\nall",
         "['b', 'a'] [] true key",
     ),
     (

@@ -1,8 +1,8 @@
 //! The rows of what stands below the parsers, as tests: documents, help pages, values and keys;
 //! lines, states and refusals.
 //!
-//! It stands on `bpaf_pages`, `bpaf_messages`, `bpaf_parts` and what is below them, so the gate
-//! runs it while the parsers are proved. Nothing stands on this crate: one with tests is proved
+//! It stands on `bpaf_messages`, `bpaf_keys`, `bpaf_trial` and what is below them, so the gate runs
+//! it while the parsers are proved. Nothing stands on this crate: one with tests is proved
 //! twice. docs/ROWS.md names each row and its test.
 #![tactic(auto)]
 

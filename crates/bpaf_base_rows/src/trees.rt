@@ -121,12 +121,21 @@ fn last_two(trees: &mut Vec<Meta>) -> Result<Vec<Meta>, AllocError> {
     Ok(vec![in alloc; first, second]?)
 }
 
+/// The last three trees in order, which are taken off.
+fn last_three(trees: &mut Vec<Meta>) -> Result<Vec<Meta>, AllocError> {
+    let last = trees.pop().unwrap_or(Meta::Skip);
+    let mut all = last_two(trees)?;
+    all.push(last)?;
+    Ok(all)
+}
+
 /// Puts what one line of a description makes behind the trees so far.
 fn grow(trees: &mut Vec<Meta>, line: &str) -> Result<(), AllocError> {
     let alloc = *trees.allocator();
     let (kind, text) = cut(line);
     let tree = match kind {
         "and" => Meta::And(last_two(trees)?),
+        "all" => Meta::And(last_three(trees)?),
         "or" => Meta::Or(last_two(trees)?),
         "flag" | "argument" | "word" | "any" | "here" | "skip" => item(alloc, kind, text)?,
         _ => {
@@ -138,7 +147,7 @@ fn grow(trees: &mut Vec<Meta>, line: &str) -> Result<(), AllocError> {
     Ok(())
 }
 
-/// The tree that the lines of a description make: an item a line, and behind one or two trees what
+/// The tree that the lines of a description make: an item a line, and behind up to three trees what
 /// stands round them.
 pub(crate) fn tree(alloc: Global, lines: &str) -> Result<Meta, AllocError> {
     let mut trees = Vec::new(alloc);

@@ -1,7 +1,7 @@
 //! The batteries on worked lines.
 ghost use Rattle.std.specs.Prelude.{◌≤ℤ◌};
 
-use bpaf::{Args, Doc, Parser, construct, long, positional, short};
+use bpaf::{Args, Doc, ParseFailure, Parser, construct, long, positional, short};
 use bpaf_batteries::{
     cargo_helper, get_usage, toggle_flag, verbose_and_quiet_by_number, verbose_by_slice,
 };
@@ -27,9 +27,17 @@ enum Select {
     NoBanana,
 }
 
-/// Appends a value as Rust's Debug prints it, and a blank.
-fn push_value<T: Debug + Drop>(value: Option<T>, out: &mut String) -> Result<(), AllocError> {
-    write!(out, "{value:?} ")
+/// Appends an answer and a blank: Some value as Rust's Debug prints it, or None where the words are
+/// refused. Want of memory stays that.
+fn push_answer<T: Debug + Drop>(
+    answer: Result<T, ParseFailure>,
+    out: &mut String,
+) -> Result<(), AllocError> {
+    match answer {
+        Ok(value) => write!(out, "Some({value:?}) "),
+        Err(ParseFailure::Memory) => Err(AllocError),
+        Err(_) => out.push_str("None "),
+    }
 }
 
 /// The values of a parser on lines of words, each None where it is refused.
@@ -43,7 +51,7 @@ fn values<T: Debug + Drop, P: Parser<T> + Drop>(
     let options = parser.to_options(alloc)?;
     let mut out = String::new(alloc);
     for words in lines {
-        push_value(options.run_inner(Args::from(*words)).ok(), &mut out)?;
+        push_answer(options.run_inner(Args::from(*words)), &mut out)?;
     }
     Ok(out)
 }
@@ -131,7 +139,7 @@ fn the_last_toggle_counts(rt: HostRuntime) -> Result<(), Fail> {
 
 /// A number, perhaps behind the name of a subcommand.
 fn subcommand(alloc: Global, lines: &[&[&str]]) -> Result<String, AllocError> {
-    let num = short(alloc, 'n')?.long("num")?.argument::<u64>("NUM");
+    let num = short(alloc, 'n')?.argument::<u64>("NUM");
     values(alloc, cargo_helper(alloc, "asm", num)?, lines)
 }
 

@@ -1,6 +1,6 @@
 //! How often closures are called: once in each evaluation of their parser, also where the parse
 //! goes back and does again what is kept.
-use bpaf_answers::value;
+use bpaf_answers::{num, switch, value};
 use bpaf_core::Parser;
 use bpaf_text::short;
 use std::alloc::{AllocError, Global};
@@ -32,5 +32,55 @@ fn branches_are_evaluated_once_a_step(rt: HostRuntime) -> Result<(), Fail> {
     let a = rt.alloc();
     assert_eq!(rt; calls_of_branches(a, &["-a", "-b", "-a"])?, (3, 2));
     assert_eq!(rt; calls_of_branches(a, &[])?, (0, 0));
+    Ok(())
+}
+
+/// How often the closures behind a number and behind its default are called; the first refuses 5.
+fn calls_of_default(alloc: Global, words: &[&str]) -> Result<(u64, u64), AllocError> {
+    let inner = Cell::new(0);
+    let default = Cell::new(0);
+    let number = num(alloc)?.parse(|number| match counted(&inner, number) {
+        5 => Err("five"),
+        number => Ok(number),
+    });
+    let number = number.fallback_with(|| Ok::<u64, &str>(counted(&default, 7)));
+    let _ = value(alloc, number, words)?;
+    Ok((inner.get(), default.get()))
+}
+
+/// How often the closure behind a number is called, where a kept value is its default.
+fn calls_before_kept(alloc: Global, words: &[&str]) -> Result<u64, AllocError> {
+    let calls = Cell::new(0);
+    let number = num(alloc)?.map(|number| counted(&calls, number));
+    let _ = value(alloc, number.fallback(7), words)?;
+    Ok(calls.get())
+}
+
+#[test]
+fn defaults_evaluate_once(rt: HostRuntime) -> Result<(), Fail> {
+    let a = rt.alloc();
+    assert_eq!(rt; calls_of_default(a, &["-n", "3"])?, (1, 0));
+    assert_eq!(rt; calls_of_default(a, &[])?, (0, 1));
+    assert_eq!(rt; calls_of_default(a, &["-n", "5"])?, (1, 0));
+    assert_eq!(rt; calls_before_kept(a, &["-n", "3"])?, 1);
+    Ok(())
+}
+
+/// How often the closure inside the adjacent command `a` over the switch `-x` is called.
+fn calls_of_attempts(alloc: Global, words: &[&str]) -> Result<u64, AllocError> {
+    let calls = Cell::new(0);
+    let x = switch(alloc, 'x')?.map(|_| counted(&calls, 1));
+    let command = x.to_options(alloc)?.command("a")?.adjacent();
+    let _ = value(alloc, command, words)?;
+    Ok(calls.get())
+}
+
+#[test]
+fn adjacent_command_is_evaluated_for_each_attempt(rt: HostRuntime) -> Result<(), Fail> {
+    let a = rt.alloc();
+    assert_eq!(rt; calls_of_attempts(a, &["a", "-x"])?, 1);
+    assert_eq!(rt; calls_of_attempts(a, &["a", "-x", "w"])?, 2);
+    assert_eq!(rt; calls_of_attempts(a, &["a", "w", "-x"])?, 2);
+    assert_eq!(rt; calls_of_attempts(a, &["w", "a"])?, 0);
     Ok(())
 }

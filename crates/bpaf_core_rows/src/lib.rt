@@ -9,6 +9,8 @@
 #[cfg(test)]
 mod asked;
 #[cfg(test)]
+mod choices;
+#[cfg(test)]
 mod commands;
 #[cfg(test)]
 mod counting;

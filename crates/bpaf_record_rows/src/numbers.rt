@@ -1,5 +1,5 @@
 //! Negative numbers as words, through `run_record`.
-use crate::record_rows::{Row, compare_options};
+use crate::record_rows::{Row, compare, compare_options};
 use bpaf::{Parser, construct, positional, short};
 use bpaf_record::{FlatField, ProgramField};
 use std::alloc::Global;
@@ -47,6 +47,16 @@ const BEHIND_KEY: &[Row<'static>] = &[
     ),
 ];
 
+/// Rows of a number behind a key, where negative numbers are no words.
+const FLAGS: &[Row<'static>] = &[
+    (
+        "-n -5",
+        "err `-n` requires an argument `NUM`, got a flag `-5`, try \
+            `-n=-5` to use it as an argument",
+    ),
+    ("-n=-5", "ok -5"),
+];
+
 /// Rows of a number behind a key and of any number of words.
 const BESIDE_WORDS: &[Row<'static>] = &[
     ("-n -5 -1 2", "ok (-5, [-1, 2])"),
@@ -62,7 +72,9 @@ const BESIDE_WORDS: &[Row<'static>] = &[
 fn negative_numbers_behind_a_key_run_as_records(rt: HostRuntime) -> Result<(), Fail> {
     let a = rt.alloc();
     let num = short(a, 'n')?.argument::<i64>("NUM");
-    compare_numbers(a, num, BEHIND_KEY)
+    compare_numbers(a, num, BEHIND_KEY)?;
+    let num = short(a, 'n')?.argument::<i64>("NUM");
+    compare(a, num, FLAGS)
 }
 
 #[test]

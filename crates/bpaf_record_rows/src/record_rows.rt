@@ -2,7 +2,7 @@
 //! flat record once, on lines of words, each with its whole answer. Both run as `run_inner` does, on
 //! which rows.txt has them all.
 use bpaf::params::{ParseArgument, ParsePositional};
-use bpaf::{Args, Doc, OptionParser, ParseFailure, Parser, choice, construct, positional};
+use bpaf::{Args, Doc, OptionParser, ParseFailure, Parser, choice, construct, positional, short};
 use bpaf_answers::{number, switch};
 use bpaf_record::{CommandLine, FlatField, ProgramField, Record};
 use bpaf_trial::reads;
@@ -35,12 +35,13 @@ pub(crate) fn told<T: Debug + Drop>(
 ) -> Result<String, AllocError> {
     match answer {
         Ok(value) => format!(in alloc; "ok {value:?}"),
+        Err(ParseFailure::Memory) => Err(AllocError),
         Err(failure) => refused(alloc, failure),
     }
 }
 
 /// Runs a flat record on the words of each row, and compares the answers.
-fn compare<T: Debug + Drop, P: ProgramField<T> + FlatField<T> + Drop>(
+pub(crate) fn compare<T: Debug + Drop, P: ProgramField<T> + FlatField<T> + Drop>(
     alloc: Global,
     parser: P,
     rows: &[Row<'_>],
@@ -90,6 +91,19 @@ fn compare_triple<
     compare(alloc, construct!(first, second, third), rows)
 }
 
+/// The same of a product of two fields.
+fn compare_pair<
+    A: Debug + Drop,
+    B: Debug + Drop,
+    P: ProgramField<A> + FlatField<A> + Drop,
+    Q: ProgramField<B> + FlatField<B> + Drop,
+>(alloc: Global, first: P, second: Q, rows: &[Row<'_>]) -> Result<(), Fail>
+    requires first { P.can_eval first }
+    requires second { Q.can_eval second }
+{
+    compare(alloc, construct!(first, second), rows)
+}
+
 const NUMBER: &[Row<'static>] = &[
     (
         "-n 3 -n 4",
@@ -100,6 +114,11 @@ const NUMBER: &[Row<'static>] = &[
         "-n --bar",
         "err `-n` requires an argument `NUM`, got a flag `--bar`, try \
             `-n=--bar` to use it as an argument",
+    ),
+    (
+        "-n -5",
+        "err `-n` requires an argument `NUM`, got a flag `-5`, try \
+            `-n=-5` to use it as an argument",
     ),
     (
         "-n=",
@@ -134,6 +153,41 @@ fn last_numbers_run_as_records(rt: HostRuntime) -> Result<(), Fail> {
     compare(a, number(a, 'n')?.take_last(), LAST_NUMBER_ALONE)
 }
 
+const LONG_SWITCH: &[Row<'static>] = &[
+    ("--verbose", "ok true"),
+    ("--verbose=yes", "err `yes` is not expected in this context"),
+];
+
+#[test]
+fn switches_run_as_records(rt: HostRuntime) -> Result<(), Fail> {
+    let a = rt.alloc();
+    let verbose = short(a, 'v')?.long("verbose")?.switch();
+    compare(a, verbose, LONG_SWITCH)
+}
+
+const SWITCH_AND_WORD: &[Row<'static>] = &[("-vx", "ok (false, \"-vx\")")];
+
+const NUMBER_AND_WORD: &[Row<'static>] = &[(
+    "-n 3 -n 4",
+    "err argument `-n` cannot be used multiple times in this context",
+)];
+
+const TWO_SWITCHES: &[Row<'static>] = &[("", "ok (false, false)"), ("-a -b", "ok (true, true)")];
+
+const WORDS_AND_WORD: &[Row<'static>] = &[(
+    "x y",
+    "err expected `Q`, pass `--help` for usage information",
+)];
+
+#[test]
+fn products_of_two_run_as_records(rt: HostRuntime) -> Result<(), Fail> {
+    let a = rt.alloc();
+    compare_pair(a, switch(a, 'v')?, word(), SWITCH_AND_WORD)?;
+    compare_pair(a, number(a, 'n')?, word(), NUMBER_AND_WORD)?;
+    compare_pair(a, switch(a, 'a')?, switch(a, 'b')?, TWO_SWITCHES)?;
+    compare_pair(a, word().many(), positional::<String>("Q"), WORDS_AND_WORD)
+}
+
 const OPTIONS_AND_WORDS: &[Row<'static>] = &[
     ("-vn3 x", "ok (true, 3, [\"x\"])"),
     ("x -n 3 -v y", "ok (true, 3, [\"x\", \"y\"])"),
@@ -154,6 +208,21 @@ fn products_of_three_run_as_records(rt: HostRuntime) -> Result<(), Fail> {
     compare_triple(a, verbose, num, word().many(), OPTIONS_AND_WORDS)
 }
 
+const OPTIONS_AND_WORD: &[Row<'static>] = &[
+    ("-vn3 x", "ok (true, 3, \"x\")"),
+    ("x -n 3 -v", "ok (true, 3, \"x\")"),
+];
+
+/// With ample memory none is wanted: a body that always gives up is proved, and this test, as each
+/// row with a value, is what refuses it.
+#[test]
+fn memory_unforced(rt: HostRuntime) -> Result<(), Fail> {
+    let a = rt.alloc();
+    let verbose = switch(a, 'v')?;
+    let num = number(a, 'n')?;
+    compare_triple(a, verbose, num, word(), OPTIONS_AND_WORD)
+}
+
 const ANY_ORDER: &[Row<'static>] = &[
     ("-n1 x -v -n=2", "ok ([1, 2], true, Some(\"x\"))"),
     ("x y", "err `y` is not expected in this context"),
@@ -167,6 +236,8 @@ fn fields_in_any_order_run_as_records(rt: HostRuntime) -> Result<(), Fail> {
     let verbose = switch(a, 'v')?;
     compare_triple(a, nums, verbose, word().optional(), ANY_ORDER)
 }
+
+const BELOW_TEN: &[Row<'static>] = &[("-n 12", "err `12`: below 10"), ("-n 3", "ok 3")];
 
 const CLOSED: &[Row<'static>] = &[
     ("", "ok 7"),
@@ -194,6 +265,7 @@ fn compare_doubled<P: ProgramField<u64> + FlatField<u64> + Drop>(
 #[test]
 fn closures_run_as_records(rt: HostRuntime) -> Result<(), Fail> {
     let a = rt.alloc();
+    compare(a, number(a, 'n')?.guard(|n| *n < 10, "below 10"), BELOW_TEN)?;
     let num = number(a, 'n')?.guard(|n| *n < 10, "below 10");
     compare_doubled(a, num, CLOSED)
 }
@@ -205,6 +277,34 @@ fn defaults_run_as_records(rt: HostRuntime) -> Result<(), Fail> {
     let a = rt.alloc();
     let failed = number(a, 'n')?.fallback_with(|| Err::<u64, &str>("no disk"));
     compare(a, failed, FAILED_FALLBACK)
+}
+
+const REPEATED_SWITCH: &[Row<'static>] = &[("", "ok [false]"), ("-v", "ok [true]")];
+
+const LAST_SWITCH: &[Row<'static>] = &[("-v -v", "ok true"), ("", "ok false")];
+
+const SET_SWITCHES: &[Row<'static>] = &[("-v", "err check failed: must be set")];
+
+/// Compares the answers of a switch under a repeat, and of another one that must be set.
+fn compare_switches<
+    P: ProgramField<bool> + FlatField<bool> + Drop,
+    Q: ProgramField<bool> + FlatField<bool> + Drop,
+>(alloc: Global, any: P, set: Q) -> Result<(), Fail>
+    requires any { P.can_eval any }
+    requires set { Q.can_eval set }
+{
+    compare(alloc, any.many(), REPEATED_SWITCH)?;
+    compare(
+        alloc,
+        set.guard(|set| *set, "must be set").many(),
+        SET_SWITCHES,
+    )
+}
+
+#[test]
+fn repeated_switches_run_as_records(rt: HostRuntime) -> Result<(), Fail> {
+    let a = rt.alloc();
+    compare_switches(a, switch(a, 'v')?, switch(a, 'v')?)
 }
 
 const COUNTED_SWITCHES: &[Row<'static>] = &[
@@ -225,6 +325,7 @@ const SOME_WORDS: &[Row<'static>] = &[
 fn repeats_run_as_records(rt: HostRuntime) -> Result<(), Fail> {
     let a = rt.alloc();
     compare(a, switch(a, 'v')?.count(), COUNTED_SWITCHES)?;
+    compare(a, switch(a, 'v')?.last(), LAST_SWITCH)?;
     compare(a, number(a, 'n')?.last(), LAST_NUMBER)?;
     let numbers = number(a, 'n')?.collect::<BTreeSet<u64>>();
     compare(a, numbers, NUMBER_SET)?;
@@ -258,6 +359,35 @@ fn repeated_choices_run_as_records(rt: HostRuntime) -> Result<(), Fail> {
     let alloc = rt.alloc();
     let a = number(alloc, 'a')?;
     compare_choices(alloc, a, number(alloc, 'b')?, REPEATED_CHOICE)
+}
+
+const TWO_NUMBERS: &[Row<'static>] = &[
+    (
+        "-a 12 -b 3",
+        "err `-b` cannot be used at the same time as `-a`",
+    ),
+    ("-b 13", "ok 13"),
+    (
+        "",
+        "err expected `-a=NUM` or `-b=NUM`, pass `--help` for usage information",
+    ),
+];
+
+/// Compares the answers of a choice of two numbers.
+fn compare_either<
+    P: ProgramField<u64> + FlatField<u64> + Drop,
+    Q: ProgramField<u64> + FlatField<u64> + Drop,
+>(alloc: Global, a: P, b: Q) -> Result<(), Fail>
+    requires a { P.can_eval a }
+    requires b { Q.can_eval b }
+{
+    compare(alloc, construct!([a, b]), TWO_NUMBERS)
+}
+
+#[test]
+fn choices_of_two_run_as_records(rt: HostRuntime) -> Result<(), Fail> {
+    let alloc = rt.alloc();
+    compare_either(alloc, number(alloc, 'a')?, number(alloc, 'b')?)
 }
 
 const THREE_NUMBERS: &[Row<'static>] = &[

@@ -24,6 +24,13 @@ struct Settings {
     level: Telling,
 }
 
+/// Two words.
+#[derive(Debug, Drop)]
+struct Pair {
+    a: String,
+    b: String,
+}
+
 /// A struct with one numbered field.
 #[derive(Debug, Drop)]
 struct Single(u64);
@@ -79,6 +86,13 @@ fn fields_are_named_in_place(rt: HostRuntime) -> Result<(), Fail> {
     prints(a, answered(a, num, &["-n", "3"]), "Some((false, 3))")
 }
 
+/// Two words by the names of their fields.
+fn two_words(alloc: Global, words: &[&str]) -> Result<Option<Pair>, AllocError> {
+    let a = positional::<String>("A");
+    let b = positional::<String>("B");
+    value(alloc, construct!(Pair { a, b }), words)
+}
+
 /// A struct by the names of its fields.
 fn named_fields(alloc: Global, words: &[&str]) -> Result<Option<Settings>, AllocError> {
     let level = short(alloc, 'q')?.flag(Telling::Quiet, Telling::Normal);
@@ -123,6 +137,8 @@ fn without_fields(
 #[test]
 fn values_are_made_by_name_and_number(rt: HostRuntime) -> Result<(), Fail> {
     let a = rt.alloc();
+    let words = two_words(a, &["x", "--", "-y"]);
+    prints(a, words, "Some(Pair { a: \"x\", b: \"-y\" })")?;
     let settings = "Some(Settings { verbose: true, num: 3, level: Normal })";
     prints(a, named_fields(a, &["-n", "3", "-v"]), settings)?;
     let product_of = "Some((Build { verbose: true, num: 3 }, Run(4, false), Single(7), 5))";
