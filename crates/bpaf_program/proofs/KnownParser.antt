@@ -30,8 +30,9 @@ use Rattle.bpaf_exact.specs.ProgramForm.{program_con, program_field, program_val
 use Rattle.bpaf_exact.specs.Programs.{CellsValue}
 use Rattle.bpaf_exact.specs.Wrappers.{map_closure}
 use Rattle.bpaf_exact.proofs.Narrow.{AllowsNoMore}
-use Rattle.bpaf_exact.proofs.ProgramForm.{narrower_program_form, program_alone_law, program_both_law}
-use Rattle.bpaf_exact.proofs.ProgramForm.{program_choice_law, program_con_law, program_field_law}
+use Rattle.bpaf_exact.proofs.ProgramForm.{narrower_program_form, program_alone_law}
+use Rattle.bpaf_exact.proofs.ProgramForm.{program_both_law, program_choice_law, program_con_law}
+use Rattle.bpaf_exact.proofs.ProgramForm.{program_field_law}
 use Rattle.bpaf_exact.proofs.Twins.{map_law}
 use Rattle.bpaf_record.specs.Commands.{either_command_law}
 use Rattle.bpaf_record.specs.Part.{part_of}
@@ -43,9 +44,9 @@ use Rattle.bpaf_record.proofs.Parts.{choice_part_is, closed_part_is}
 use Rattle.bpaf_record.proofs.Programs as programs
 use Rattle.bpaf_program.specs.KnownParser.{AreCommands, FieldsShowShorts, IsKnownBy}
 use Rattle.bpaf_program.specs.KnownParser.{KnownParser}
-use Rattle.bpaf_program.specs.KnownParser.{ShowsShorts, joined, known_both, known_choice, known_command}
-use Rattle.bpaf_program.specs.KnownParser.{known_con, known_last, known_map, known_record, makes}
-use Rattle.bpaf_program.specs.KnownParser.{program_names}
+use Rattle.bpaf_program.specs.KnownParser.{ShowsShorts, joined, known_both, known_choice}
+use Rattle.bpaf_program.specs.KnownParser.{known_command, known_con, known_last, known_map}
+use Rattle.bpaf_program.specs.KnownParser.{known_record, makes, program_names}
 use Rattle.bpaf_program.specs.ReadBy.{AnswersProgramReadBy, IsProgramReadBy}
 use Rattle.bpaf_program.proofs.Shown.{line_context}
 use Rattle.bpaf_program.proofs.ShownShorts.{both_show, choice_shows, command_shows, last_shows}
@@ -95,19 +96,20 @@ pub command_known : {T : Type 0} (word : List ℕ) (known : KnownParser T) {outc
     → part_of form ≡ Commands → {keys : Bool → List Names} → keys false ≡ []
     → keys true ≡ known.all
     → AreCommands (known_command word known)
-    (EitherCommandOutcome false T outcome (EndsRun describes info) (named_only word) shows) form keys
-    (opening_words (named_only word)) (CommandDescribes (named_only word) help describes)
-command_known {T} word known {outcome} {words} {describes} is info help shows part own all = record {
-  by = record {
-    law = either_command_law T outcome describes info (named_only word) shows false true known.all
-        words known.form is.law;
-    shown = command_shows is.shown (named_only word) help;
-  };
-  part_is = part;
-  own_are = own;
-  all_are = all;
-  words_are = refl;
-}
+    (EitherCommandOutcome false T outcome (EndsRun describes info) (named_only word) shows) form
+    keys (opening_words (named_only word)) (CommandDescribes (named_only word) help describes)
+command_known {T} word known {outcome} {words} {describes} is info help shows part own all =
+    record {
+      by = record {
+        law = either_command_law T outcome describes info (named_only word) shows false true known.all
+            words known.form is.law;
+        shown = command_shows is.shown (named_only word) help;
+      };
+      part_is = part;
+      own_are = own;
+      all_are = all;
+      words_are = refl;
+    }
 
 -- a choice of commands
 pub choice_known : {T : Type 0} (first second : KnownParser T) {one two : Outcome T}

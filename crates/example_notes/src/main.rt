@@ -1,5 +1,5 @@
-//! A program with commands: a switch and an argument that stand anywhere, and three commands, one of
-//! which has two of its own.
+//! A program with commands: a switch and an argument that stand anywhere, and three commands, one
+//! of which has two of its own.
 //!
 //! It stands on `bpaf`, `bpaf_record` and `bpaf_program`, and has no contract for a layer above: it
 //! is the top. `run` is the whole program over two writers; `main` hands it the words, standard
@@ -9,13 +9,12 @@
 //! ```text
 //! notes [-v] [-d=DIR] COMMAND ...
 //!
-//! notes add -t home buy milk    verbose: false, add, tag: home, text: buy, text: milk, a line each,
-//!                               status 0
-//! notes list -v -d old          verbose: true, dir: old, list: 10
-//! notes tag remove home         verbose: false, tag remove: home
-//! notes --help                  the help page, status 0; notes list --help that of the command
-//! notes tag                     Error: expected `COMMAND ...`, pass `--help` for usage information,
-//!                               on standard error, status 1
+//! notes add -t home buy    verbose: false, add, tag: home, text: buy, a line each, status 0
+//! notes list -v -d old     verbose: true, dir: old, list: 10
+//! notes tag remove home    verbose: false, tag remove: home
+//! notes --help             the help page, status 0; notes list --help that of the command
+//! notes tag                Error: expected `COMMAND ...`, pass `--help` for usage information, on
+//!                          standard error, status 1
 //! ```
 //!
 //! What is proved of it, from the words to the bytes, where the writers tell these:
@@ -28,10 +27,11 @@
 //! - Status 0 comes only with nothing written on the error writer, and on the other exactly the
 //!   lines of such a value (specs/Lines.antt) or a help page; status 1 only with part of such a
 //!   text, or with a message on the error writer, or a beginning of that.
-//! - Where the program has a value on the words, the lines of one are written and the status is 0;
-//!   or a write failed, and a beginning of them stands there, not all; or memory was wanted, nothing
-//!   stands there, and on the error writer `Error: out of memory`, or a beginning of that
-//!   (`run`, clause `exact`). No other message is told there, and no page is shown.
+//! - Where the program has a value on the words, its lines are written and the status is 0; or a
+//!   write failed, and a beginning of them stands there, not all; or memory was wanted, nothing
+//!   stands there, and on the error writer `Error: out of memory`, or a beginning of that (`run`,
+//!   clause `exact`). All values on the same words have the same lines. No other message is told
+//!   there, and no page is shown.
 #![tactic(auto)]
 
 mod options;
