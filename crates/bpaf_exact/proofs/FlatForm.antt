@@ -210,7 +210,7 @@ flat_both_law A B first rest own others (single k q g h) t la lb = tt
 flat_both_law A B first rest own others (product q v) t la lb = tt
 
 -- no item without a key
-no_names : Owns no_roles []
+pub no_names : Owns no_roles []
 no_names = record { own = λ k. refl }
 
 -- the last field, or one alone

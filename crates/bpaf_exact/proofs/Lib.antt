@@ -40,3 +40,4 @@ pub mod Commands
 pub mod ProgramForm
 pub mod ProgramSays
 pub mod WorkedPrograms
+pub mod Pure

@@ -1,58 +1,109 @@
 -- An outcome that allows no more than another keeps to the same laws.
-use Rattle.std.proofs.Common.{List, Result, Ok, Err}
+use Rattle.std.proofs.Common.{◌≡◌, List, Result, Ok, Err, refl, sym, ◌∙◌}
 use Rattle.bpaf_line.specs.declared.error.Error.{Error}
 use Rattle.bpaf_line.specs.Situation.{Situation}
 use Rattle.bpaf_laws.specs.Reading.{Outcome}
 use Rattle.bpaf_doc.specs.Names.{Names}
-use Rattle.bpaf_exact.specs.Pieces.{Roles}
-use Rattle.bpaf_exact.specs.Flat.{FieldsLaw, FieldsReading}
+use Rattle.bpaf_exact.specs.Alternative.{AlternativeErr, alternative_memory, alternative_missing}
+use Rattle.bpaf_exact.specs.Alternative.{alternative_refused}
+use Rattle.bpaf_exact.specs.Flat.{FieldKind, FieldsLaw, FieldsReading, Gives, GivesAll, back, cells}
+use Rattle.bpaf_exact.specs.Flat.{class, front}
 use Rattle.bpaf_exact.specs.FlatForm.{FlatForm, not_flat, alternative, single, complete, product}
 use Rattle.bpaf_exact.specs.FlatForm.{FormLaw}
+use Rattle.bpaf_exact.specs.Pieces.{LinePiece, Roles, pieces}
+use Rattle.bpaf_exact.specs.Single.{Gap, Groups, SingleErr, of_absent, of_memory, of_missing}
+use Rattle.bpaf_exact.specs.Single.{of_piece}
 
--- what b allows a allows too
+-- what b allows a allows too, of a refusal one of the same class
 pub record AllowsNoMore (T : Type 0) (a b : Outcome T) : Type 0 where
-  pub within : (s t : Situation) (r : Result T Error) → b s r t → a s r t
+  pub value : (s t : Situation) (v : T) → b s (Ok v) t → a s (Ok v) t
+  pub refusal : (s t : Situation) (e : Error) → b s (Err e) t
+      → (d : Error) × a s (Err d) t × (class d ≡ class e)
 
--- so does a list of fields
-pub narrower_fields : (V : Type 0) (a b : Outcome V) → AllowsNoMore V a b
-    → (r : Roles) (fields : FieldsReading V) → FieldsLaw V a r fields → FieldsLaw V b r fields
-narrower_fields V a b n r fields l = record {
-  named = l.named;
-  steady = λ s t v w o. l.steady s t v w (n.within s t (Ok v) o);
-  ok = λ s t v w o e. l.ok s t v w (n.within s t (Ok v) o) e;
-  has_each = l.has_each;
-  answers = λ s t x os w o c h. l.answers s t x os w (n.within s t x o) c h;
+-- so it is where it allows each answer itself
+pub no_more : {T : Type 0} {a b : Outcome T}
+    → ((s t : Situation) (r : Result T Error) → b s r t → a s r t) → AllowsNoMore T a b
+no_more f = record {
+  value = λ s t v o. f s t (Ok v) o;
+  refusal = λ s t e o. (e, f s t (Err e) o, refl);
 }
 
--- and a field of any form
-pub narrower_form : (T : Type 0) (a b : Outcome T) → AllowsNoMore T a b
-    → (keys : List Names) (h : FlatForm T) → FormLaw a keys h → FormLaw b keys h
-narrower_form T a b n keys not_flat l = tt
-narrower_form T a b n keys (alternative q value) l = (
-  record {
-    named = l.0.named;
-    ok = λ s t v w o. l.0.ok s t v w (n.within s t (Ok v) o);
-    err = λ s t e w o. l.0.err s t e w (n.within s t (Err e) o);
-  },
-  l.1,
-)
-narrower_form T a b n keys (single k q group gap) l = (
-  record {
-    own = l.0.own;
-    words = l.0.words;
-    starts = l.0.starts;
-    no_absent = l.0.no_absent;
-    ok = λ s t v w o. l.0.ok s t v w (n.within s t (Ok v) o);
-    err = λ s t e w o. l.0.err s t e w (n.within s t (Err e) o);
-  },
-  l.1,
-)
-narrower_form T a b n keys (complete k q value) l = (
-  record {
-    own = l.0.own;
-    ok = λ s t v w o. l.0.ok s t v w (n.within s t (Ok v) o);
-    answers = λ s t r v w o h. l.0.answers s t r v w (n.within s t r o) h;
-  },
-  l.1,
-)
-narrower_form T a b n keys (product q fields) l = (narrower_fields T a b n q fields l.0, l.1)
+module _ (T : Type 0) (d e : Error) (same : class d ≡ class e) where
+  -- a refusal of an alternative is one of another error of its class
+  alternative_like : (q : Roles) (value : LinePiece → T → Type 0) (s t : Situation)
+      → AlternativeErr T q value s d t → AlternativeErr T q value s e t
+  alternative_like q value s t (alternative_memory h) = alternative_memory (sym same ∙ h)
+  alternative_like q value s t (alternative_missing h none kept steady) =
+      alternative_missing (sym same ∙ h) none kept steady
+  alternative_like q value s t (alternative_refused h path bad unread) =
+      alternative_refused (sym same ∙ h) path bad unread
+
+  -- so is one of another field
+  single_like : (k : FieldKind) (q : Roles) (group : Groups T) (gap : Gap T) (s t : Situation)
+      → SingleErr T k q group gap s d t → SingleErr T k q group gap s e t
+  single_like k q group gap s t (of_memory h) = of_memory (sym same ∙ h)
+  single_like k q group gap s t (of_missing h has none kept steady) =
+      of_missing (sym same ∙ h) has none kept steady
+  single_like k q group gap s t (of_absent h has none refused) =
+      of_absent (sym same ∙ h) has none refused
+  single_like k q group gap s t (of_piece h some refused) = of_piece (sym same ∙ h) some refused
+
+module _ (T : Type 0) (a b : Outcome T) (n : AllowsNoMore T a b) where
+  -- what is given by each answer of the one is by each of the other
+  pub narrower_gives : (gives : Result T Error → Situation → Type 0)
+      → ((d e : Error) (t : Situation) → class d ≡ class e → gives (Err d) t → gives (Err e) t)
+      → (s : Situation) → ((r : Result T Error) (t : Situation) → a s r t → gives r t)
+      → (r : Result T Error) (t : Situation) → b s r t → gives r t
+  narrower_gives gives like s all (Ok v) t o = all (Ok v) t (n.value s t v o)
+  narrower_gives gives like s all (Err e) t o =
+      let other = n.refusal s t e o in like other.0 e t other.2 (all (Err other.0) t other.1)
+
+  -- a list of fields
+  narrower_fields : (r : Roles) (fields : FieldsReading T) → FieldsLaw T a r fields
+      → FieldsLaw T b r fields
+  narrower_fields r fields l = record {
+    named = l.named;
+    steady = λ s t v w o. l.steady s t v w (n.value s t v o);
+    ok = λ s t v w o e. l.ok s t v w (n.value s t v o) e;
+    has_each = l.has_each;
+    answers = λ s t x os w o c h. narrower_gives (GivesAll (fields.value os))
+        (λ d e t same m. sym same ∙ m) s (λ y u g. l.answers s u y os w g c h) x t o;
+  }
+
+  -- and a field of any form
+  pub narrower_form : (keys : List Names) (h : FlatForm T) → FormLaw a keys h → FormLaw b keys h
+  narrower_form keys not_flat l = tt
+  narrower_form keys (alternative q value) l = (
+    record {
+      named = l.0.named;
+      ok = λ s t v w o. l.0.ok s t v w (n.value s t v o);
+      err = λ s t e w o.
+          let other = n.refusal s t e o in
+          alternative_like T other.0 e other.2 q value s t (l.0.err s t other.0 w other.1);
+    },
+    l.1,
+  )
+  narrower_form keys (single k q group gap) l = (
+    record {
+      own = l.0.own;
+      words = l.0.words;
+      starts = l.0.starts;
+      no_absent = l.0.no_absent;
+      ok = λ s t v w o. l.0.ok s t v w (n.value s t v o);
+      err = λ s t e w o.
+          let other = n.refusal s t e o in
+          single_like T other.0 e other.2 k q group gap s t (l.0.err s t other.0 w other.1);
+    },
+    l.1,
+  )
+  narrower_form keys (complete k q value) l = (
+    record {
+      own = l.0.own;
+      ok = λ s t v w o. l.0.ok s t v w (n.value s t v o);
+      answers = λ s t r v w o h. narrower_gives
+          (Gives q (value (front k (pieces q (cells s)))) (back k (pieces q (cells s))))
+          (λ d e t same m. sym same ∙ m) s (λ y u g. l.0.answers s u y v w g h) r t o;
+    },
+    l.1,
+  )
+  narrower_form keys (product q fields) l = (narrower_fields q fields l.0, l.1)

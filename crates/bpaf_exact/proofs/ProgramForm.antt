@@ -1,7 +1,7 @@
 -- Each parser keeps to the laws of its form to a program, where its inner parsers do.
 use Rattle.std.proofs.Common.{◌≡◌, ℕ, Bool, true, false, not, ◌||◌, List, [], ◌∷◌, ◌++◌, Option}
-use Rattle.std.proofs.Common.{Some, None, Ok, refl, sym, ap, ◌∙◌, subst, bytes_eq, ⊎_elim}
-use Rattle.std.proofs.Common.{true≢false, append_assoc, append-nil}
+use Rattle.std.proofs.Common.{Some, None, refl, sym, ap, ◌∙◌, subst, bytes_eq, ⊎_elim}
+use Rattle.std.proofs.Common.{true≢false, append_assoc, append-nil, inl, inr}
 use Rattle.std.specs.Prelude.{flat_map}
 use Rattle.std.specs.List.{list_all}
 use Rattle.std.specs.Option.{option_map_or}
@@ -17,7 +17,7 @@ use Rattle.bpaf_laws.specs.Command.{Called, is_one_of, opening_words}
 use Rattle.bpaf_laws.specs.Product.{BothOutcome, ProductOutcome}
 use Rattle.bpaf_laws.specs.Reading.{Outcome}
 use Rattle.bpaf_exact.specs.Pieces.{Roles}
-use Rattle.bpaf_exact.specs.Flat.{Refused, ByName}
+use Rattle.bpaf_exact.specs.Flat.{Refused, ByName, GivesAll, cells}
 use Rattle.bpaf_exact.specs.FlatForm.{FlatForm, FormLaw, not_flat, alternative, single, complete}
 use Rattle.bpaf_exact.specs.FlatForm.{product, is_record, product_roles, product_reading}
 use Rattle.bpaf_exact.specs.FlatForm.{flat_record, EachAgrees}
@@ -32,7 +32,7 @@ use Rattle.bpaf_exact.specs.ProgramForm.{program_both, program_con, is_program, 
 use Rattle.bpaf_exact.specs.ProgramForm.{program_value, program_rest, first_only, program_choices}
 use Rattle.bpaf_exact.specs.ProgramForm.{program_dressed, flat_form}
 use Rattle.bpaf_exact.specs.Programs.{CellsValue, ProgramLaw, CommandEval, are_plain, WordsApart}
-use Rattle.bpaf_exact.specs.Programs.{IsSpelledLine}
+use Rattle.bpaf_exact.specs.Programs.{FindsNoCommand, IsSpelledLine}
 use Rattle.bpaf_exact.specs.Wrappers.{Closure, ClosedEval, OptionalEval, map_closure}
 use Rattle.bpaf_exact.proofs.BeforeCommands.{before_law, con_program}
 use Rattle.bpaf_exact.proofs.Commands.{closed_program, closed_commands, optional_commands}
@@ -41,7 +41,7 @@ use Rattle.bpaf_exact.proofs.FlatForm.{flat_closed_law, flat_optional_law, flat_
 use Rattle.bpaf_exact.proofs.FlatForm.{flat_field_law, flat_alone_law, flat_both_law, flat_con_law}
 use Rattle.bpaf_exact.proofs.FlatForm.{flat_record_law, record_law, only_law, never_refuses}
 use Rattle.bpaf_exact.proofs.FlatForm.{flat_dressed_law}
-use Rattle.bpaf_exact.proofs.Narrow.{AllowsNoMore, narrower_form}
+use Rattle.bpaf_exact.proofs.Narrow.{AllowsNoMore, narrower_form, narrower_gives}
 use Rattle.bpaf_exact.proofs.Names.{apart_of_names, either_owns}
 use Rattle.bpaf_exact.proofs.Programs.{command_law, record_program}
 
@@ -311,9 +311,10 @@ narrower_program : (V : Type 0) (a b : Outcome V) → AllowsNoMore V a b → (r 
     (value : CellsValue V) → ProgramLaw V a r value → ProgramLaw V b r value
 narrower_program V a b n r value l = record {
   others = l.others;
-  deep = λ s t v w o. l.deep s t v w (n.within s t (Ok v) o);
-  ok = λ s t v w spelled o e. l.ok s t v w spelled (n.within s t (Ok v) o) e;
-  answers = λ s t x u w o h. l.answers s t x u w (n.within s t x o) h;
+  deep = λ s t v w o. l.deep s t v w (n.value s t v o);
+  ok = λ s t v w spelled o e. l.ok s t v w spelled (n.value s t v o) e;
+  answers = λ s t x u w o h. narrower_gives V a b n (GivesAll (value (cells s)))
+      (λ d e t same m. sym same ∙ m) s (λ y v g. l.answers s v y u w g h) x t o;
 }
 
 -- so it does with any form
@@ -326,7 +327,9 @@ narrower_program_form T a b n names words (commands r value) l = (
   record {
     program = narrower_program T a b n r value l.0.program;
     opened = l.0.opened;
-    none = λ s t x w o c. l.0.none s t x w (n.within s t x o) c;
+    none = λ s t x w o c. narrower_gives T a b n (λ y u. FindsNoCommand s y u)
+        (λ d e u same. ⊎_elim (λ m. inl (sym same ∙ m)) (λ m. inr (sym same ∙ m.0, m.1, m.2))) s
+        (λ y u g. l.0.none s u y w g c) x t o;
   },
   l.1,
 )

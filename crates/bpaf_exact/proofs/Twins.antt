@@ -5,6 +5,9 @@ use Rattle.std.specs.Global.{Vec}
 use Rattle.bpaf_doc.specs.Names.{Names}
 use Rattle.bpaf_line.specs.declared.error.Error.{Error}
 use Rattle.bpaf_line.specs.Messages.{can_catch}
+use Rattle.bpaf_line.specs.declared.error.Message.{Message}
+use Rattle.bpaf_line.specs.declared.error.Message.TheVariants.{Missing}
+use Rattle.bpaf_laws.specs.Hide.{HideOutcome, hidden}
 use Rattle.bpaf_line.specs.Situation.{Situation}
 use Rattle.bpaf_laws.specs.Default.{Gives, GivesClone, GivesAnswer, FallbackOutcome}
 use Rattle.bpaf_laws.specs.Reading.{Outcome}
@@ -27,10 +30,12 @@ use Rattle.bpaf_exact.specs.FlatForm.{flat_count, flat_collect, flat_last, flat_
 use Rattle.bpaf_exact.proofs.Classes.{memory_class, caught_class, kept_class, stops_at, goes_on}
 use Rattle.bpaf_exact.specs.ProgramForm.{ProgramForm, no_program, plain, commands, left_out}
 use Rattle.bpaf_exact.specs.ProgramForm.{before_commands, ProgramFormLaw, ProgramAgrees}
-use Rattle.bpaf_exact.specs.ProgramForm.{program_closed, program_fallback, program_last}
+use Rattle.bpaf_exact.specs.ProgramForm.{program_closed, program_dressed, program_fallback}
+use Rattle.bpaf_exact.specs.ProgramForm.{program_last}
 use Rattle.bpaf_exact.specs.ProgramForm.{program_optional, program_repeat}
-use Rattle.bpaf_exact.proofs.Narrow.{AllowsNoMore, narrower_form}
+use Rattle.bpaf_exact.proofs.Narrow.{AllowsNoMore, narrower_form, no_more}
 use Rattle.bpaf_exact.proofs.ProgramForm.{flat_only_law, narrower_program_form, program_closed_law}
+use Rattle.bpaf_exact.proofs.ProgramForm.{program_dressed_law}
 use Rattle.bpaf_exact.proofs.ProgramForm.{program_never_refuses, program_optional_law}
 use Rattle.bpaf_exact.proofs.FlatForm.{never_refuses, flat_listed_law, some_agrees, flat_last_law}
 use Rattle.bpaf_exact.proofs.FlatForm.{flat_fallback_law}
@@ -38,7 +43,7 @@ use Rattle.bpaf_exact.proofs.FlatForm.{flat_fallback_law}
 -- map
 map_within : (A B : Type 0) (inner : Outcome A) (answers : A → B → Type 0)
     → AllowsNoMore B (ClosedEval A B inner (map_closure answers) Refused) (MapOutcome inner answers)
-map_within A B inner answers = record { within = by_answer }
+map_within A B inner answers = no_more by_answer
   where
     by_answer : (s t : Situation) (r : Result B Error) → MapOutcome inner answers s r t
         → ClosedEval A B inner (map_closure answers) Refused s r t
@@ -60,7 +65,7 @@ parse_within : (A B E : Type 0) (inner : Outcome A) (answers : A → Result B E 
     (shown : E → Option (List ℕ))
     → AllowsNoMore B (ClosedEval A B inner (parse_closure answers) Refused)
     (ParseOutcome inner answers shown)
-parse_within A B E inner answers shown = record { within = by_answer }
+parse_within A B E inner answers shown = no_more by_answer
   where
     by_answer : (s t : Situation) (r : Result B Error) → ParseOutcome inner answers shown s r t
         → ClosedEval A B inner (parse_closure answers) Refused s r t
@@ -85,7 +90,7 @@ parse_law A B E inner answers shown names words s g l =
 guard_within : (A : Type 0) (inner : Outcome A) (checks : A → Bool → Type 0) (message : List ℕ)
     → AllowsNoMore A (ClosedEval A A inner (guard_closure checks) Refused)
     (GuardOutcome inner checks message)
-guard_within A inner checks message = record { within = by_answer }
+guard_within A inner checks message = no_more by_answer
   where
     by_answer : (s t : Situation) (r : Result A Error) → GuardOutcome inner checks message s r t
         → ClosedEval A A inner (guard_closure checks) Refused s r t
@@ -108,7 +113,7 @@ guard_law A inner checks message names words s g l =
 -- optional
 optional_within : (T : Type 0) (inner : Outcome T)
     → AllowsNoMore (Option T) (OptionalEval T inner) (TurnOutcome inner false true)
-optional_within T inner = record { within = by_answer }
+optional_within T inner = no_more by_answer
   where
     by_answer : (s t : Situation) (r : Result (Option T) Error) → TurnOutcome inner false true s r t
         → OptionalEval T inner s r t
@@ -144,7 +149,7 @@ many_within : (T : Type 0) (inner : Outcome T)
     → AllowsNoMore (Vec T)
     (ClosedEval (List T) (Vec T) (RepeatOutcome inner false) (list_closure T) Refused)
     (ManyOutcome inner false)
-many_within T inner = record { within = by_answer }
+many_within T inner = no_more by_answer
   where
     by_answer : (s t : Situation) (r : Result (Vec T) Error) → ManyOutcome inner false s r t
         → ClosedEval (List T) (Vec T) (RepeatOutcome inner false) (list_closure T) Refused s r t
@@ -180,7 +185,7 @@ some_within : (T : Type 0) (inner : Outcome T) (message : List ℕ)
     → AllowsNoMore (Vec T)
     (ClosedEval (List T) (Vec T) (RepeatOutcome inner false) (some_closure T) Caught)
     (SomeOutcome inner false message)
-some_within T inner message = record { within = by_answer }
+some_within T inner message = no_more by_answer
   where
     by_answer : (s t : Situation) (r : Result (Vec T) Error) → SomeOutcome inner false message s r t
         → ClosedEval (List T) (Vec T) (RepeatOutcome inner false) (some_closure T) Caught s r t
@@ -217,7 +222,7 @@ collect_within : (T C : Type 0) (inner : Outcome T) (fills : List T → C → Ty
     → AllowsNoMore C
     (ClosedEval (List T) C (RepeatOutcome inner false) (collect_closure fills) Refused)
     (CollectOutcome inner false fills)
-collect_within T C inner fills = record { within = by_answer }
+collect_within T C inner fills = no_more by_answer
   where
     by_answer : (s t : Situation) (r : Result C Error) → CollectOutcome inner false fills s r t
         → ClosedEval (List T) C (RepeatOutcome inner false) (collect_closure fills) Refused s r t
@@ -253,7 +258,7 @@ collect_law T C inner catch fills names words s l =
 count_within : (T : Type 0) (inner : Outcome T)
     → AllowsNoMore ℕ (ClosedEval (List T) ℕ (RepeatOutcome inner true) (count_closure T) Refused)
     (CountOutcome inner)
-count_within T inner = record { within = by_answer }
+count_within T inner = no_more by_answer
   where
     by_answer : (s t : Situation) (r : Result ℕ Error) → CountOutcome inner s r t
         → ClosedEval (List T) ℕ (RepeatOutcome inner true) (count_closure T) Refused s r t
@@ -304,7 +309,7 @@ record GivesAs (T : Type 0) (gives : Gives T) (f : Closure (Unit {0}) T) : Type 
 -- its answers, as those of a closure on nothing
 fallback_within : (T : Type 0) (inner : Outcome T) (gives : Gives T) (f : Closure (Unit {0}) T)
     → GivesAs T gives f → AllowsNoMore T (FallbackEval T inner f) (FallbackOutcome inner gives)
-fallback_within T inner gives f given = record { within = by_answer }
+fallback_within T inner gives f given = no_more by_answer
   where
     by_answer : (s t : Situation) (r : Result T Error) → FallbackOutcome inner gives s r t
         → FallbackEval T inner f s r t
@@ -368,3 +373,21 @@ fallback_with_law T E inner answers shown names words s decides l =
     flat_only_law inner (FallbackOutcome inner (GivesAnswer answers shown)) names words []
     (λ s. flat_fallback (answer_closure answers) s)
     (λ s. fallback_with_field_law T E inner answers shown names s decides) s l
+
+-- a hidden refusal is one of the same class
+hidden_class : (m : Message) → class_of m ≡ class_of (hidden m)
+hidden_class (Missing items) = refl
+hidden_class m = refl
+
+-- hide
+pub hide_law : (T : Type 0) (inner : Outcome T) (names : List Names) (words : List (List ℕ))
+    (s : ProgramForm T) → ProgramFormLaw inner names words s
+    → ProgramFormLaw (HideOutcome inner) names words (program_dressed s)
+hide_law T inner names words s l =
+    program_dressed_law T (HideOutcome inner) names words s
+    (narrower_program_form T inner (HideOutcome inner)
+    (record {
+      value = λ s t v o. o;
+      refusal = λ s t e o. (o.0, o.1, hidden_class o.0.0 ∙ ap class_of (sym o.2));
+    })
+    names words s l)

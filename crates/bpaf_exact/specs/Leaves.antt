@@ -9,10 +9,10 @@ use Rattle.bpaf_line.specs.declared.error.Error.{Error}
 use Rattle.bpaf_line.specs.Situation.{Situation}
 use Rattle.bpaf_line.specs.Taking.{TakesText, HasNone}
 use Rattle.bpaf_exact.specs.Pieces.{Roles, Foreign, Alone, WithNext, LinePiece, One, Two}
-use Rattle.bpaf_exact.specs.Pieces.{word_roles}
+use Rattle.bpaf_exact.specs.Pieces.{no_roles, word_roles}
 use Rattle.bpaf_exact.specs.Flat.{ByName, OneWord, OfMemory, OfMissing, Refused, class}
 use Rattle.bpaf_exact.specs.Single.{Gap, FrontOf, no_gap}
-use Rattle.bpaf_exact.specs.FlatForm.{FlatForm, not_flat, alternative, single}
+use Rattle.bpaf_exact.specs.FlatForm.{FlatForm, not_flat, alternative, complete, single}
 
 -- the items of a flag: keys with one of its names, each by itself
 abbrev pub flag_roles : Names → Roles
@@ -105,3 +105,7 @@ pub data WordEval (T : Type 0) (means : List ℕ → T → Type 0) (s : Situatio
   word_missing : {e : Error} → HasNone is_positional s → class e ≡ OfMissing
       → WordEval T means s (Err e) s
   word_memory : {e : Error} {t : Situation} → class e ≡ OfMemory → WordEval T means s (Err e) t
+
+-- a kept value, which stands for no piece
+abbrev pub pure_field : {T : Type 0} → (T → Type 0) → FlatForm T
+pure_field given = complete ByName no_roles (λ os v. given v)

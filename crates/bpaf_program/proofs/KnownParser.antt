@@ -29,7 +29,7 @@ use Rattle.bpaf_exact.specs.ProgramForm.{program_choice, program_closed}
 use Rattle.bpaf_exact.specs.ProgramForm.{program_con, program_field, program_value}
 use Rattle.bpaf_exact.specs.Programs.{CellsValue}
 use Rattle.bpaf_exact.specs.Wrappers.{map_closure}
-use Rattle.bpaf_exact.proofs.Narrow.{AllowsNoMore}
+use Rattle.bpaf_exact.proofs.Narrow.{AllowsNoMore, no_more}
 use Rattle.bpaf_exact.proofs.ProgramForm.{narrower_program_form, program_alone_law}
 use Rattle.bpaf_exact.proofs.ProgramForm.{program_both_law, program_choice_law, program_con_law}
 use Rattle.bpaf_exact.proofs.ProgramForm.{program_field_law}
@@ -56,7 +56,7 @@ use Rattle.bpaf_program.proofs.ShownShorts.{product_shows}
 con_within : {A B : Type 0} (inner : Outcome A) {answers wanted : A → B → Type 0}
     → ((x : A) (v : B) → answers x v → wanted x v)
     → AllowsNoMore B (ProductOutcome inner wanted) (ProductOutcome inner answers)
-con_within {A} {B} inner {answers} {wanted} only = record { within = by_answer }
+con_within {A} {B} inner {answers} {wanted} only = no_more by_answer
   where
     by_answer : (s t : Situation) (r : Result B Error) → ProductOutcome inner answers s r t
         → ProductOutcome inner wanted s r t
@@ -67,7 +67,7 @@ con_within {A} {B} inner {answers} {wanted} only = record { within = by_answer }
 map_within : {A B : Type 0} (inner : Outcome A) {answers wanted : A → B → Type 0}
     → ((x : A) (v : B) → answers x v → wanted x v)
     → AllowsNoMore B (MapOutcome inner wanted) (MapOutcome inner answers)
-map_within {A} {B} inner {answers} {wanted} only = record { within = by_answer }
+map_within {A} {B} inner {answers} {wanted} only = no_more by_answer
   where
     by_answer : (s t : Situation) (r : Result B Error) → MapOutcome inner answers s r t
         → MapOutcome inner wanted s r t

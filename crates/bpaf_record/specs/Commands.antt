@@ -20,6 +20,7 @@ use Rattle.bpaf_exact.specs.Flat.{class_of}
 use Rattle.bpaf_exact.specs.Programs.{CommandEval, command_value, command_leftover, command_refused}
 use Rattle.bpaf_exact.specs.Programs.{command_missing, command_memory}
 use Rattle.bpaf_exact.proofs.Classes.{not_memory}
+use Rattle.bpaf_exact.proofs.Narrow.{no_more}
 use Rattle.bpaf_exact.specs.ProgramForm.{ProgramForm, ProgramFormLaw, program_command}
 use Rattle.bpaf_exact.proofs.ProgramForm.{narrower_program_form, program_command_law}
 use Rattle.bpaf.specs.Leftover.{IsLeftover, conflict, only_once, not_expected}
@@ -103,6 +104,6 @@ either_command_law T inner describes info called shows true apart names words fo
 either_command_law T inner describes info called shows false apart names words form l =
     narrower_program_form T (CommandEval T inner called)
     (CommandOutcome T inner (EndsRun describes info) called shows)
-    (record { within = λ s t r o. command_eval T inner describes info called shows s t r o }) names
+    (no_more (λ s t r o. command_eval T inner describes info called shows s t r o)) names
     (opening_words called) (program_command false apart called form)
     (program_command_law T inner apart called names words form l)

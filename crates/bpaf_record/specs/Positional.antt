@@ -12,7 +12,7 @@ use Rattle.bpaf_exact.specs.Leaves.{word_memory}
 use Rattle.bpaf_exact.specs.FlatForm.{FlatForm, FormLaw, not_flat}
 use Rattle.bpaf_exact.specs.Says.{Says, WordSays}
 use Rattle.bpaf_exact.proofs.Says.{word_says}
-use Rattle.bpaf_exact.proofs.Narrow.{AllowsNoMore, narrower_form}
+use Rattle.bpaf_exact.proofs.Narrow.{AllowsNoMore, narrower_form, no_more}
 use Rattle.bpaf_exact.proofs.Positionals.{word_field_law}
 use Rattle.bpaf.specs.declared.leaves.positional.Position.{Position}
 use Rattle.bpaf.specs.declared.leaves.positional.Position.TheVariants.{Unrestricted, Strict}
@@ -41,7 +41,7 @@ refusal_within T means metavar s t e other c o = absurd o
 -- its answers
 word_within : (T : Type 0) (means : List ℕ → T → Type 0) (metavar : List ℕ)
     → AllowsNoMore T (WordEval T means) (PositionalOutcome means Unrestricted metavar)
-word_within T means metavar = record { within = by_answer }
+word_within T means metavar = no_more by_answer
   where
     by_answer : (s t : Situation) (r : Result T Error)
         → PositionalOutcome means Unrestricted metavar s r t → WordEval T means s r t

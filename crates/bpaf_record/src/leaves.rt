@@ -6,7 +6,7 @@ use crate::form::Form;
 use crate::keys::KeyTest;
 use crate::part::ProgramPart;
 use crate::words::WordTest;
-use bpaf::parsers::{ParseArgument, ParseFlag};
+use bpaf::parsers::{ParseArgument, ParseFlag, ParsePure};
 use bpaf::{FromText, ParsePositional, Position};
 
 /// With a name in the environment it is no flat field.
@@ -155,3 +155,44 @@ impl<T: FromText> ProgramField<T> for ParsePositional<T> {
 }
 
 impl<T: FromText> FlatField<T> for ParsePositional<T> {}
+
+/// A kept value may stand in a program, as a field that takes no piece, but in no flat record.
+impl<T: Clone> ProgramField<T> for ParsePure<T> {
+    ghost use Rattle.bpaf_doc.specs.Shape.{Skip};
+    ghost use Rattle.bpaf_exact.specs.Flat.{ByName};
+    ghost use Rattle.bpaf_exact.specs.Leaves.{pure_field};
+    ghost use Rattle.bpaf_exact.specs.ProgramForm.{plain};
+    ghost use Rattle.bpaf_exact.specs.ProgramSays.{of_pieces};
+    ghost use Rattle.bpaf_exact.proofs.Pure.{pure_field_law, pure_says};
+    ghost use Rattle.bpaf_exact.proofs.SameParts.{one_shape};
+
+    ghost keys = { λ p deep. [] };
+
+    ghost words = { λ p. [] };
+
+    ghost program_form = { λ p. plain (pure_field (T.is_clone p.value)) };
+
+    ghost kind = { λ p. ByName };
+
+    ghost says = { of_pieces (λ p os v. T.is_clone p.value v) };
+
+    ghost agrees = { λ p. Unit {0} };
+
+    fn part(&self) -> ProgramPart {
+        ProgramPart::Flat(Form::NamedComplete)
+    }
+
+    fn all_keys<N: KeyTest>(&self, _test: &N) -> bool {
+        true
+    }
+
+    fn all_words<W: WordTest>(&self, _test: &W) -> bool {
+        true
+    }
+
+    ghost law = { λ p a. pure_field_law T T.is_clone p.value };
+
+    ghost shows = { λ p. one_shape Skip };
+
+    ghost said = { λ p a. record { by = pure_says (T.is_clone p.value) } };
+}

@@ -6,7 +6,7 @@ use crate::field::{FlatField, ProgramField};
 use crate::keys::KeyTest;
 use crate::part::ProgramPart;
 use crate::words::WordTest;
-use bpaf::parsers::{ParseGroupHelp, ParseUsage};
+use bpaf::parsers::{ParseGroupHelp, ParseHide, ParseUsage};
 
 impl<T, P: ProgramField<T>> ProgramField<T> for ParseUsage<P> {
     ghost use Rattle.bpaf_exact.proofs.SameParts.{usage_shows};
@@ -93,3 +93,47 @@ impl<T, P: ProgramField<T>> ProgramField<T> for ParseGroupHelp<P> {
 }
 
 impl<T, P: FlatField<T>> FlatField<T> for ParseGroupHelp<P> {}
+
+/// What isn't shown may stand in a program, with the values that it has, but in no flat record: its
+/// short names aren't known in joined words.
+impl<T, P: ProgramField<T>> ProgramField<T> for ParseHide<P> {
+    ghost use Rattle.bpaf_doc.specs.Shape.{Skip};
+    ghost use Rattle.bpaf_exact.proofs.SameParts.{one_shape};
+    ghost use Rattle.bpaf_exact.specs.ProgramForm.{program_dressed};
+    ghost use Rattle.bpaf_exact.specs.ProgramSays.{said_dressed};
+    ghost use Rattle.bpaf_exact.proofs.Twins.{hide_law};
+    ghost use Rattle.bpaf_exact.proofs.ProgramSays.{program_dressed_says};
+
+    ghost keys = { λ p deep. P.keys p.inner deep };
+
+    ghost words = { λ p. P.words p.inner };
+
+    ghost program_form = { λ p. program_dressed (P.program_form p.inner) };
+
+    ghost kind = { λ p. P.kind p.inner };
+
+    ghost says = { said_dressed (λ p. p.inner) P.says };
+
+    ghost agrees = { λ p. P.agrees p.inner };
+
+    #[tactic(auto, using(crate::proofs::Parts::dressed_part_is))]
+    fn part(&self) -> ProgramPart {
+        self.inner.part().closed()
+    }
+
+    fn all_keys<N: KeyTest>(&self, test: &N) -> bool {
+        self.inner.all_keys(test)
+    }
+
+    fn all_words<W: WordTest>(&self, test: &W) -> bool {
+        self.inner.all_words(test)
+    }
+
+    ghost law = { λ p a.
+        hide_law T (P.outcome p.inner) (P.keys p.inner true) (P.words p.inner)
+        (P.program_form p.inner) (P.law p.inner a) };
+
+    ghost shows = { λ p. one_shape Skip };
+
+    ghost said = { λ p a. program_dressed_says (λ p. p.inner) p (P.said p.inner a) };
+}

@@ -3,7 +3,7 @@
 use crate::record_rows::{Row, told, word};
 use bpaf::params::{ParseArgument, ParseFlag};
 use bpaf::parsers::{ParseCommand, ParseOrElse};
-use bpaf::{Args, Doc, Parser, choice, construct, long, short};
+use bpaf::{Args, Doc, Parser, choice, construct, long, pure, short};
 use bpaf_answers::{number, switch};
 use bpaf_record::{CommandLine, ProgramField};
 use std::alloc::{AllocError, Global};
@@ -373,4 +373,36 @@ const NAMED_AS_HELP: &[Row<'static>] = &[
 #[test]
 fn a_key_named_as_the_outer_help_runs_as_a_program(rt: HostRuntime) -> Result<(), Fail> {
     compare_asked(rt.alloc(), NAMED_AS_HELP)
+}
+
+const HIDDEN_AND_KEPT: &[Row<'static>] = &[
+    ("-n 3", "ok (3, None, 5)"),
+    ("-n=3", "ok (3, None, 5)"),
+    ("-w 4 -n 3", "ok (3, Some(4), 5)"),
+    ("-n3", "refused"),
+    ("-w4 -n 3", "refused"),
+    ("-n 3 -n 4", "refused"),
+    ("-n 3 x", "refused"),
+    ("", "refused"),
+];
+
+#[test]
+fn hidden_and_kept_values_run_as_programs(rt: HostRuntime) -> Result<(), Fail> {
+    let alloc = rt.alloc();
+    let num = number(alloc, 'n')?.hide();
+    let width = number(alloc, 'w')?.hide().optional();
+    let kept = pure(5u64);
+    compare(alloc, construct!(num, width, kept), HIDDEN_AND_KEPT)
+}
+
+const HIDDEN_COMMAND: &[Row<'static>] = &[
+    ("build -n 3", "ok (false, 3)"),
+    ("build -n 3 -v", "ok (true, 3)"),
+    ("-n 3", "refused"),
+];
+
+#[test]
+fn a_hidden_command_runs_as_a_program(rt: HostRuntime) -> Result<(), Fail> {
+    let alloc = rt.alloc();
+    compare_behind(alloc, build(alloc)?.hide(), HIDDEN_COMMAND)
 }

@@ -1,0 +1,66 @@
+-- A kept value is a field that takes no piece.
+use Rattle.std.proofs.Common.{◌≡◌, List, [], ◌∷◌, None, Result, Ok, Err, Some, refl, subst, sym}
+use Rattle.bpaf_line.specs.Situation.{Situation}
+use Rattle.bpaf_line.specs.declared.error.Error.{Error}
+use Rattle.bpaf_laws.specs.Default.{GivesClone}
+use Rattle.bpaf_laws.specs.Pure.{PureOutcome}
+use Rattle.bpaf_exact.specs.Flat.{ByName, FieldTook, Gives, NoneOutside, cells}
+use Rattle.bpaf_exact.specs.FlatForm.{FormLaw}
+use Rattle.bpaf_exact.specs.Leaves.{pure_field}
+use Rattle.bpaf_exact.specs.Pieces.{Cells, LinePiece, TakesPieces, no_roles, pieces, takes_none}
+use Rattle.bpaf_exact.specs.Says.{Says}
+use Rattle.bpaf_exact.proofs.Classes.{memory_class}
+use Rattle.bpaf_exact.proofs.FlatForm.{no_names}
+use Rattle.bpaf_exact.proofs.Records.{current_cells}
+
+-- no piece is its own
+none_pieces : (cs : Cells) → pieces no_roles cs ≡ []
+none_pieces [] = refl
+none_pieces (None ∷ cs) = none_pieces cs
+none_pieces (Some k ∷ cs) = none_pieces cs
+
+module _ (T : Type 0) (clones : T → T → Type 0) (kept : T) where
+  -- what it stands for
+  abbrev value : List LinePiece → T → Type 0
+  value os v = clones kept v
+
+  -- a value takes nothing
+  pure_ok : (s t : Situation) (v : T) → NoneOutside s
+      → PureOutcome (GivesClone clones kept) s (Ok v) t
+      → FieldTook T ByName no_roles value s v t
+  pure_ok s t v w o =
+      subst (FieldTook T ByName no_roles value s v) (sym o.1)
+      (record {
+        steady = record {
+          context = refl;
+          start = refl;
+          end = refl;
+          path = refl;
+          keeps = λ p taken. taken;
+        };
+        takes = subst (TakesPieces no_roles (cells s)) (sym (current_cells s)) takes_none;
+        read = λ none. o.0;
+        rest = λ none. none;
+      })
+
+  -- each answer is such a value, or want of memory
+  pure_answers : (s t : Situation) (r : Result T Error) → PureOutcome (GivesClone clones kept) s r t
+      → Gives no_roles (clones kept) [] r t
+  pure_answers s t (Ok v) o = (o.0, none_pieces (cells t))
+  pure_answers s t (Err e) o = memory_class e.0 o.0
+
+  -- the laws
+  pub pure_field_law : FormLaw (PureOutcome (GivesClone clones kept)) [] (pure_field (clones kept))
+  pure_field_law = (
+    record {
+      own = record { only_keys = λ k h. refl };
+      ok = pure_ok;
+      answers = λ s t r v w o h. pure_answers s t r o;
+    },
+    no_names,
+  )
+
+-- its value says what it is, whatever the pieces are
+pub pure_says : {T : Type 0} (given : T → Type 0)
+    → Says (pure_field given) ByName (λ os v. given v)
+pure_says given = record { by = (refl, λ os v h. h) }
