@@ -6,13 +6,13 @@
 //!
 //! - [`ProgramField`] is written for the parsers that may stand in a program: flags, arguments and
 //!   positional words, choices of required flags and arguments, `map`, `parse`, `guard`,
-//!   `optional`, the repeats, both fallbacks, `hide_usage`, `custom_usage`, `group_help`, products,
-//!   and commands and choices of them; [`ProgramFields`] for the fields of a product. Each says
-//!   what it is (`program_form`), and proves the law of that form: what it answers and takes
-//!   depends on what is its own alone. A parser that has no [`ProgramField`] stands in no program:
-//!   the compiler tells.
+//!   `optional`, the repeats, both fallbacks, `hide`, `hide_usage`, `custom_usage`, `group_help`,
+//!   `pure`, products, and commands and choices of them; [`ProgramFields`] for the fields of a
+//!   product. Each says what it is (`program_form`), and proves the law of that form: what it
+//!   answers and takes depends on what is its own alone. A parser that has no [`ProgramField`]
+//!   stands in no program: the compiler tells.
 //! - [`FlatField`] and [`FlatFields`], marks without members, are written for those that may stand
-//!   in a flat record: all but commands.
+//!   in a flat record: all but commands, `hide` and `pure`.
 //! - Its premise is `agrees`: whether a closure of `parse`, `guard` or `fallback_with` accepts
 //!   depends on the pieces alone. `map` and constructors need none, nor do kept values and
 //!   `from_text`.
@@ -38,9 +38,9 @@
 //!   specs/Program.antt). [`CommandLine::run_program`] runs such options as `run_inner` does, and
 //!   each answer is exact (`AnswersAsProgram`): a value comes only where it is one of the program
 //!   on the words' line, and where the program has a value there no other answer comes, but for
-//!   want of memory. Its clause `fields` says of each value what its named fields say of their own pieces,
-//!   whatever the command is, and which command's word stands there (`TellsOfWords`). Lemmas of
-//!   proofs/Called.antt tell it of the words.
+//!   want of memory. Its clause `fields` says of each value what its named fields say of their own
+//!   pieces, whatever the command is, and which command's word stands there (`TellsOfWords`).
+//!   Lemmas of proofs/Called.antt tell it of the words.
 //!
 //! bpaf has no such calls.
 #![tactic(auto)]
