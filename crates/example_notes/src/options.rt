@@ -1,13 +1,11 @@
 //! The options of the program. Each command stands in a function of its own, which is handed the
 //! parsers of those before it; the last one runs all.
 ghost use Rattle.std.specs.Prelude.{◌≡◌, IfOk, false, map, string_bytes};
-ghost use Rattle.bpaf_program.specs.Fields.{plain_switch};
 ghost use Rattle.bpaf_program.specs.KnownParser.{AreCommands};
 ghost use Rattle.example_notes.specs.Notes.{AnswersNotes, add_command, commands, dir_key};
-ghost use Rattle.example_notes.specs.Notes.{list_command};
-ghost use Rattle.example_notes.specs.Notes.{max_key, name_commands, tag_key, verbose_names};
+ghost use Rattle.example_notes.specs.Notes.{list_command, max_key, name_commands, tag_key};
 
-use bpaf::params::{ParseArgument, ParseFlag};
+use bpaf::params::ParseArgument;
 use bpaf::parsers::{ParseFallback, ParseMany, ParseOptional};
 use bpaf::{Args, ParseFailure, Parser, construct, positional, short};
 use bpaf_record::{CommandLine, ProgramField};
@@ -128,17 +126,10 @@ fn run_commands<P: ProgramField<Task> + Drop>(
         (P.words task) (P.describes task) }
     ensures { AnswersNotes (map string_bytes words.now) result }
 {
-    let verbose = verbose(alloc)?;
+    let verbose = short(alloc, 'v')?.long("verbose")?.switch();
     let dir = dir(alloc)?;
     let options = construct!(Notes { verbose, dir, task }).to_options(alloc)?;
     options.run_program(Args::from(words).set_name("notes"))
-}
-
-/// The switch, `-v` or `--verbose`; refused only for want of memory.
-fn verbose(alloc: Global) -> Result<ParseFlag<bool>, AllocError>
-    ensures { IfOk result (λ field. field ≡ plain_switch verbose_names) }
-{
-    Ok(short(alloc, 'v')?.long("verbose")?.switch())
 }
 
 /// The directory, behind `-d` or `--dir`, or none; refused only for want of memory.
