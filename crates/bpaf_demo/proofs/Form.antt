@@ -1,7 +1,7 @@
 -- The program's parser has the form of the program's record, by what its parts are made of; so its
 -- answers are exact for the record.
 use Rattle.std.proofs.Common.{◌≡◌, ℕ, Bool, true, false, List, [], ◌∷◌, All, IsUtf8, Result}
-use Rattle.std.proofs.Common.{ap, codes, refl}
+use Rattle.std.proofs.Common.{ap, codes, refl, subst, sym}
 use Rattle.bpaf_doc.specs.declared.doc.Piece.{Piece}
 use Rattle.bpaf_doc.specs.Shape.{Shape}
 use Rattle.bpaf_text.specs.declared.params.ParseFlag.{ParseFlag}
@@ -16,11 +16,13 @@ use Rattle.bpaf_core.specs.declared.repeat.ParseMany.{ParseMany}
 use Rattle.bpaf_core.specs.Known.{known_names}
 use Rattle.bpaf.specs.declared.leaves.positional.ParsePositional.{ParsePositional}
 use Rattle.bpaf.specs.declared.leaves.positional.Position.TheVariants.{Unrestricted}
-use Rattle.bpaf_exact.specs.FlatForm.{FlatForm, flat_alone, flat_both, flat_con, flat_field}
-use Rattle.bpaf_exact.specs.FlatForm.{flat_many, product_reading, product_roles, unless}
+use Rattle.bpaf_exact.specs.Derived.{list_closure}
+use Rattle.bpaf_exact.specs.FlatForm.{product_reading, product_roles}
+use Rattle.bpaf_exact.specs.ProgramForm.{ProgramForm, flat_form, plain, program_alone, program_both}
+use Rattle.bpaf_exact.specs.ProgramForm.{program_con, program_field, program_repeat}
 use Rattle.bpaf_exact.specs.Leaves.{argument_field, flag_field}
 use Rattle.bpaf_exact.specs.Wrappers.{map_closure}
-use Rattle.bpaf_record.specs.Positional.{positional_field}
+use Rattle.bpaf_record.specs.Positional.{is_sided, positional_field}
 use Rattle.bpaf_record.specs.Record.{AnswersExactly, is_flat_record}
 use Rattle.bpaf_program.specs.Fields.{IsArgument, IsSwitch, IsWord}
 use Rattle.bpaf_program.specs.ReadBy.{AnswersReadBy}
@@ -39,16 +41,18 @@ module _ {verbose_help num_help file_help : List Piece} {verbose : ParseFlag Boo
     (is_files : IsWord Unrestricted (codes "FILE") (codes "Files to read") file_help files.inner)
     (no_catch : files.catch ≡ false) where
   -- the form of the parser's fields
-  abbrev PartsForm : FlatForm FieldValues
+  abbrev PartsForm : ProgramForm FieldValues
   PartsForm =
-      flat_both (verbose.named.names ∷ []) (num.named.names ∷ [])
-      (flat_field (flag_field IsKept verbose.named verbose.present verbose.absent))
-      (flat_both (num.named.names ∷ []) [] (flat_field (argument_field (SpellsUnsigned 64) num))
-      (flat_alone (flat_field (unless files.catch
-      (flat_many (positional_field MeansText files.inner.position))))))
+      program_both (verbose.named.names ∷ []) (num.named.names ∷ [])
+      (program_field (plain false (flag_field IsKept verbose.named verbose.present verbose.absent)))
+      (program_both (num.named.names ∷ []) []
+      (program_field (plain false (argument_field (SpellsUnsigned 64) num)))
+      (program_alone (program_field (program_repeat files.catch (list_closure String)
+      (plain (is_sided files.inner.position)
+      (positional_field MeansText files.inner.position))))))
 
   -- it is that of the record's fields
-  same_form : PartsForm ≡ values_form
+  same_form : PartsForm ≡ plain false values_form
   same_form =
       rw (
         is_verbose.absent_is,
@@ -59,12 +63,15 @@ module _ {verbose_help num_help file_help : List Piece} {verbose : ParseFlag Boo
         is_files.position_is,
       ) refl
 
-  module _ (makes : FieldValues → Options → Type 0) {info : RunInfo} (plain : info ≡ plain_info)
+  module _ (makes : FieldValues → Options → Type 0) {info : RunInfo} (plain_is : info ≡ plain_info)
     where
       -- the parser is a flat record
-      pub program_flat : is_flat_record (flat_con (map_closure makes) PartsForm)
+      pub program_flat : is_flat_record (flat_form (program_con (map_closure makes) PartsForm))
           (verbose.named.names ∷ num.named.names ∷ []) info ≡ true
-      program_flat = rw (same_form, is_verbose.named_is, is_num.key_is, plain) refl
+      program_flat =
+          subst (λ form. is_flat_record (flat_form (program_con (map_closure makes) form))
+          (verbose.named.names ∷ num.named.names ∷ []) info ≡ true) (sym same_form)
+          (rw (is_verbose.named_is, is_num.key_is, plain_is) refl)
 
       -- so its answers are exact
       pub program_exact : {outcome : Outcome Options} {fields : Readings FieldValues}
@@ -72,10 +79,11 @@ module _ {verbose_help num_help file_help : List Piece} {verbose : ParseFlag Boo
           → IsKnown outcome (ProductReads FieldValues Options fields makes) describes wanted shape
           → (words : List (List ℕ)) → All IsUtf8 words → given ≡ program_given words
           → (r : Result Options ParseFailure)
-          → AnswersExactly Options describes info (flat_con (map_closure makes) PartsForm) given r
+          → AnswersExactly Options describes info
+          (flat_form (program_con (map_closure makes) PartsForm)) given r
           → ((x : FieldValues) (v : Options) → makes x v → v ≡ options_of x)
           → AnswersReadBy (known_names plain_info shape) (program_given words) options_form r
       program_exact is words texts same r answers made =
-          read_exactly is (program_given words) options_of made (product_roles values_form)
+          read_exactly is (program_given words) options_of made false (product_roles values_form)
           (product_reading values_form) options_seen.1 texts r answers
-          (ap (flat_con (map_closure makes)) same_form) plain same
+          (ap (λ form. flat_form (program_con (map_closure makes) form)) same_form) plain_is same

@@ -161,7 +161,7 @@ takes_left qa qb r u (takes_two {k = k} e v) = takes_two (left_role qa qb r k Wi
 takes_left qa qb r u (takes_later t) = takes_later (takes_left qa qb r u t)
 
 -- a piece is its key's
-own_next : (q : Roles) (k : Arg) (cs : Cells) → is_own q (with_next k cs) ≡ is_own_role (q k)
+pub own_next : (q : Roles) (k : Arg) (cs : Cells) → is_own q (with_next k cs) ≡ is_own_role (q k)
 own_next q k [] = refl
 own_next q k (None ∷ cs) = refl
 own_next q k (Some w ∷ cs) = by_value (is_value w)
@@ -180,13 +180,13 @@ head_key q WithNext k cs os o ps h e = let d : with_next k cs ≡ o = cc in ap (
     ∙ own_next q k cs
 
 -- what an item is to each of two fields
-data Belongs (qa qb r : Roles) (k : Arg) : Type 0 where
+pub data Belongs (qa qb r : Roles) (k : Arg) : Type 0 where
   to_first : is_own_role (qa k) ≡ true → r k ≡ qa k → qb k ≡ Foreign → Belongs qa qb r k
   to_second : is_own_role (qb k) ≡ true → r k ≡ qb k → qa k ≡ Foreign → Belongs qa qb r k
   to_none : qa k ≡ Foreign → qb k ≡ Foreign → r k ≡ Foreign → Belongs qa qb r k
 
 -- an item belongs to one of both, or to neither
-belongs : (qa qb r : Roles) (k : Arg) → Union qa qb r → Belongs qa qb r k
+pub belongs : (qa qb r : Roles) (k : Arg) → Union qa qb r → Belongs qa qb r k
 belongs qa qb r k u = by_role (qa k) (qb k) refl refl
   where
     by_role : (x y : Role) → qa k ≡ x → qb k ≡ y → Belongs qa qb r k

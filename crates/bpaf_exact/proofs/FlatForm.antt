@@ -1,5 +1,5 @@
 -- Each form that is made of flat fields keeps to its laws.
-use Rattle.std.proofs.Common.{◌≡◌, Bool, true, false, List, [], ◌∷◌, ◌++◌, refl, subst, append-nil}
+use Rattle.std.proofs.Common.{◌≡◌, Bool, true, false, ◌&&◌, List, [], ◌∷◌, ◌++◌, refl, subst, append-nil}
 use Rattle.bpaf_doc.specs.Names.{Names}
 use Rattle.bpaf_laws.specs.Choice.{ChoiceOutcome}
 use Rattle.bpaf_laws.specs.Product.{BothOutcome, ProductOutcome}
@@ -8,23 +8,26 @@ use Rattle.bpaf_laws.specs.Repeat.{LastOutcome}
 use Rattle.bpaf_exact.specs.Pieces.{Roles, no_roles, either}
 use Rattle.bpaf_exact.specs.Names.{Owns, are_all_apart}
 use Rattle.bpaf_exact.specs.Flat.{ErrorClass, Refused, FieldKind, ByName, OneWord, EachWord}
-use Rattle.bpaf_exact.specs.Flat.{FieldsLaw, keys, Before}
+use Rattle.bpaf_exact.specs.Flat.{Before, FieldLaw, FieldsLaw, both_reading, keys}
 use Rattle.bpaf_exact.specs.Single.{RepeatOutcome, repeated}
 use Rattle.bpaf_exact.specs.Wrappers.{Closure, Decides, map_closure, ClosedEval, OptionalEval}
 use Rattle.bpaf_exact.specs.Wrappers.{FallbackEval}
 use Rattle.bpaf_exact.specs.Derived.{some_closure}
 use Rattle.bpaf_exact.specs.FlatForm.{FlatForm, not_flat, alternative, single, complete, product}
-use Rattle.bpaf_exact.specs.FlatForm.{FormLaw, Agrees, only_if, flat_closed, flat_dressed}
+use Rattle.bpaf_exact.specs.FlatForm.{FormLaw, Agrees, only_if, flat_closed}
 use Rattle.bpaf_exact.specs.FlatForm.{flat_either, flat_choice, alternative_only, flat_repeat}
 use Rattle.bpaf_exact.specs.FlatForm.{flat_last, flat_optional, flat_fallback, flat_field}
 use Rattle.bpaf_exact.specs.FlatForm.{may_follow, flat_both, flat_alone, flat_con, flat_record}
-use Rattle.bpaf_exact.specs.FlatForm.{is_record, product_roles, product_reading}
+use Rattle.bpaf_exact.specs.FlatForm.{NamedLaw, inner_field, is_named, is_record, made_reading}
+use Rattle.bpaf_exact.specs.FlatForm.{product_reading, product_roles}
+use Rattle.bpaf_exact.specs.Record.{LastValue}
 use Rattle.bpaf_exact.proofs.Names.{foreign_of, apart_of_names, either_owns}
 use Rattle.bpaf_exact.proofs.Alternative.{alternative_single, closed_alternative, closed_single}
 use Rattle.bpaf_exact.proofs.Choice.{choice_law}
 use Rattle.bpaf_exact.proofs.Repeat.{repeat_law}
 use Rattle.bpaf_exact.proofs.Wrappers.{closed_law, single_law, optional_law, fallback_law}
 use Rattle.bpaf_exact.proofs.Derived.{some_agrees_on, last_of_law}
+use Rattle.bpaf_exact.proofs.NamedProducts.{named_both_law, named_con_law, named_last_law}
 use Rattle.bpaf_exact.proofs.Product.{both_law}
 use Rattle.bpaf_exact.proofs.Records.{con_law, last_law}
 
@@ -39,16 +42,7 @@ flat_closed_law A B inner f names (single k q group gap) g l =
     (closed_single A B inner k q group gap l.0 f g.0 g.1, l.1)
 flat_closed_law A B inner f names (complete k q value) g l =
     (closed_law A B inner k q value l.0 f g Refused, l.1)
-flat_closed_law A B inner f names (product q fields) g l = tt
-
--- another look round a field
-pub flat_dressed_law : (T : Type 0) (outcome : Outcome T) (names : List Names) (s : FlatForm T)
-    → FormLaw outcome names s → FormLaw outcome names (flat_dressed s)
-flat_dressed_law T outcome names not_flat law = tt
-flat_dressed_law T outcome names (alternative q value) law = law
-flat_dressed_law T outcome names (single k q group gap) law = law
-flat_dressed_law T outcome names (complete k q value) law = law
-flat_dressed_law T outcome names (product q fields) law = tt
+flat_closed_law A B inner f names (product named q fields) g l = tt
 
 -- A closure that never refuses agrees with every form: map, count, collect, a constructor.
 pub never_refuses : (A B : Type 0) (f : Closure A B) → ((x : A) → f.no x → ⊥) → (s : FlatForm A)
@@ -58,7 +52,7 @@ never_refuses A B f n (alternative q value) = λ o x y v a b g h. n y h
 never_refuses A B f n (single k q group gap) =
     (λ os rest x y v a b g h. n y h, λ x y v a b g h. n y h)
 never_refuses A B f n (complete k q value) = λ os x y v a b g h. n y h
-never_refuses A B f n (product q fields) = λ os x y v a b g h. n y h
+never_refuses A B f n (product named q fields) = λ os x y v a b g h. n y h
 
 -- where a test holds
 if_law : (T : Type 0) (outcome : Outcome T) (names : List Names) (s : FlatForm T) (b : Bool)
@@ -78,11 +72,11 @@ flat_either_law T a b own others (alternative q x) (alternative r y) h la lb = (
 flat_either_law T a b own others (alternative q x) not_flat h la lb = tt
 flat_either_law T a b own others (alternative q x) (single k r g i) h la lb = tt
 flat_either_law T a b own others (alternative q x) (complete k r v) h la lb = tt
-flat_either_law T a b own others (alternative q x) (product r v) h la lb = tt
+flat_either_law T a b own others (alternative q x) (product named r v) h la lb = tt
 flat_either_law T a b own others not_flat t h la lb = tt
 flat_either_law T a b own others (single k q g i) t h la lb = tt
 flat_either_law T a b own others (complete k q v) t h la lb = tt
-flat_either_law T a b own others (product q v) t h la lb = tt
+flat_either_law T a b own others (product named q v) t h la lb = tt
 
 -- the same, where the keys are apart
 pub flat_choice_law : (T : Type 0) (a b : Outcome T) (own others : List Names) (s t : FlatForm T)
@@ -99,7 +93,7 @@ only_law T outcome names not_flat l = tt
 only_law T outcome names (alternative q value) l = l
 only_law T outcome names (single k q group gap) l = tt
 only_law T outcome names (complete k q value) l = tt
-only_law T outcome names (product q fields) l = tt
+only_law T outcome names (product named q fields) l = tt
 
 -- a repeat has the keys of the field
 repeated_keys : (k : FieldKind) (q : Roles) (names : List Names) → Owns (keys k q) names
@@ -122,7 +116,7 @@ flat_listed_law T B inner idle f c names (single k q group gap) g l = let m =
     repeat_law T inner k q group gap l.0 idle in
     (closed_law (List T) B _ (repeated k) q _ m f g c, repeated_keys k q names l.1)
 flat_listed_law T B inner idle f c names (complete k q value) g l = tt
-flat_listed_law T B inner idle f c names (product q fields) g l = tt
+flat_listed_law T B inner idle f c names (product named q fields) g l = tt
 
 -- some needs no premise: of the lists that the same pieces give, all are empty or none is
 pub some_agrees : (T : Type 0) (inner : Outcome T) (names : List Names) (s : FlatForm T)
@@ -132,7 +126,7 @@ some_agrees T inner names (alternative q value) l =
     some_agrees_on T inner ByName q _ _ (alternative_single T inner q value l.0)
 some_agrees T inner names (single k q group gap) l = some_agrees_on T inner k q group gap l.0
 some_agrees T inner names (complete k q value) l = tt
-some_agrees T inner names (product q fields) l = tt
+some_agrees T inner names (product named q fields) l = tt
 
 -- the last value
 pub flat_last_law : (T : Type 0) (inner : Outcome T) (names : List Names) (s : FlatForm T)
@@ -143,7 +137,7 @@ flat_last_law T inner names (alternative q value) l =
 flat_last_law T inner names (single k q group gap) l =
     (last_of_law T inner k q group gap l.0, repeated_keys k q names l.1)
 flat_last_law T inner names (complete k q value) l = tt
-flat_last_law T inner names (product q fields) l = tt
+flat_last_law T inner names (product named q fields) l = tt
 
 -- what may be left out
 pub flat_optional_law : (T : Type 0) (inner : Outcome T) (names : List Names) (s : FlatForm T)
@@ -154,7 +148,7 @@ flat_optional_law T inner names (alternative q value) l =
 flat_optional_law T inner names (single k q group gap) l =
     (optional_law T inner k q group gap l.0, l.1)
 flat_optional_law T inner names (complete k q value) l = tt
-flat_optional_law T inner names (product q fields) l = tt
+flat_optional_law T inner names (product named q fields) l = tt
 
 -- what has a value that stands for it
 pub flat_fallback_law : (T : Type 0) (inner : Outcome T) (f : Closure (Unit {0}) T) → Decides f
@@ -166,7 +160,7 @@ flat_fallback_law T inner f decides names (alternative q value) l =
 flat_fallback_law T inner f decides names (single k q group gap) l =
     (fallback_law T inner k q group gap l.0 f decides, l.1)
 flat_fallback_law T inner f decides names (complete k q value) l = tt
-flat_fallback_law T inner f decides names (product q fields) l = tt
+flat_fallback_law T inner f decides names (product named q fields) l = tt
 
 -- Each flat form is a field of a record.
 pub flat_field_law : (T : Type 0) (outcome : Outcome T) (names : List Names) (s : FlatForm T)
@@ -177,7 +171,19 @@ flat_field_law T outcome names (alternative q value) l =
 flat_field_law T outcome names (single k q group gap) l =
     (single_law T outcome k q group gap l.0, l.1)
 flat_field_law T outcome names (complete k q value) l = l
-flat_field_law T outcome names (product q fields) l = tt
+flat_field_law T outcome names (product named q fields) l = tt
+
+-- so is a product of named fields, in another product
+pub inner_field_law : (T : Type 0) (outcome : Outcome T) (names : List Names) (s : FlatForm T)
+    → FormLaw outcome names s → FormLaw outcome names (inner_field s)
+inner_field_law T outcome names not_flat l = tt
+inner_field_law T outcome names (alternative q value) l =
+    flat_field_law T outcome names (alternative q value) l
+inner_field_law T outcome names (single k q group gap) l =
+    flat_field_law T outcome names (single k q group gap) l
+inner_field_law T outcome names (complete k q value) l = l
+inner_field_law T outcome names (product true q fields) l = (l.2, l.1)
+inner_field_law T outcome names (product false q fields) l = tt
 
 -- fields that may follow keep apart
 follows : (k : FieldKind) (q r : Roles) (own others : List Names) → Owns (keys k q) own
@@ -193,13 +199,23 @@ follows EachWord q r own (names ∷ others) a b h = absurd cc
 pub flat_both_law : (A B : Type 0) (first : Outcome A) (rest : Outcome B) (own others : List Names)
     (s : FlatForm A) (t : FlatForm B) → FormLaw first own s → FormLaw rest others t
     → FormLaw (BothOutcome first rest) (own ++ others) (flat_both own others s t)
-flat_both_law A B first rest own others (complete k q fv) (product r fields) la lb =
+flat_both_law A B first rest own others (complete k q fv) (product named r fields) la lb =
     if_law (A × B) (BothOutcome first rest) (own ++ others) _ (may_follow k own others)
     (λ h. (
       both_law A B first rest k q r fv fields la.0 lb.0
           (follows k q r own others la.1 lb.1 h),
       either_owns (keys k q) r own others la.1 lb.1,
+      by_names k named la.0 lb.2 (follows k q r own others la.1 lb.1 h),
     ))
+  where
+    by_names : (j : FieldKind) (all : Bool) → FieldLaw A first j q fv
+        → NamedLaw all rest r fields.value → Before j q r
+        → NamedLaw (is_named j && all) (BothOutcome first rest) (either (keys j q) r)
+        (both_reading j q fv fields).value
+    by_names ByName true l m apart = named_both_law A B first rest q r fv fields l m apart
+    by_names ByName false l m apart = tt
+    by_names OneWord all l m apart = tt
+    by_names EachWord all l m apart = tt
 flat_both_law A B first rest own others (complete k q fv) not_flat la lb = tt
 flat_both_law A B first rest own others (complete k q fv) (alternative r v) la lb = tt
 flat_both_law A B first rest own others (complete k q fv) (single j r g h) la lb = tt
@@ -207,7 +223,7 @@ flat_both_law A B first rest own others (complete k q fv) (complete j r v) la lb
 flat_both_law A B first rest own others not_flat t la lb = tt
 flat_both_law A B first rest own others (alternative q v) t la lb = tt
 flat_both_law A B first rest own others (single k q g h) t la lb = tt
-flat_both_law A B first rest own others (product q v) t la lb = tt
+flat_both_law A B first rest own others (product named q v) t la lb = tt
 
 -- no item without a key
 pub no_names : Owns no_roles []
@@ -223,8 +239,15 @@ flat_alone_law T outcome names (complete k q value) l = (
   last_law T outcome k q value l.0,
   subst (Owns (either (keys k q) no_roles)) (append-nil names)
       (either_owns (keys k q) no_roles names [] l.1 no_names),
+  by_name k l.0,
 )
-flat_alone_law T outcome names (product q fields) l = tt
+  where
+    by_name : (j : FieldKind) → FieldLaw T outcome j q value
+        → NamedLaw (is_named j) outcome (either (keys j q) no_roles) (LastValue T j q value)
+    by_name ByName l = named_last_law T outcome q value l
+    by_name OneWord l = tt
+    by_name EachWord l = tt
+flat_alone_law T outcome names (product named q fields) l = tt
 
 -- the constructor of a product
 pub flat_con_law : (A B : Type 0) (inner : Outcome A) (makes : A → B → Type 0)
@@ -234,8 +257,14 @@ flat_con_law A B inner makes names not_flat l = tt
 flat_con_law A B inner makes names (alternative q value) l = tt
 flat_con_law A B inner makes names (single k q group gap) l = tt
 flat_con_law A B inner makes names (complete k q value) l = tt
-flat_con_law A B inner makes names (product q fields) l =
-    (con_law A B inner makes q fields l.0, l.1)
+flat_con_law A B inner makes names (product named q fields) l =
+    (con_law A B inner makes q fields l.0, l.1, by_name named l.2)
+  where
+    by_name : (all : Bool) → NamedLaw all inner q fields.value
+        → NamedLaw all (ProductOutcome inner makes) q
+        (made_reading (map_closure makes) fields).value
+    by_name true l = named_con_law A B inner makes q fields.value l
+    by_name false l = tt
 
 -- a flat record is a product
 pub flat_record_law : (T : Type 0) (outcome : Outcome T) (names : List Names) (s : FlatForm T)
@@ -249,7 +278,7 @@ flat_record_law T outcome names (single k q group gap) l =
     (flat_field_law T outcome names (single k q group gap) l)
 flat_record_law T outcome names (complete k q value) l =
     flat_alone_law T outcome names (complete k q value) l
-flat_record_law T outcome names (product q fields) l = l
+flat_record_law T outcome names (product named q fields) l = l
 
 -- each flat record keeps to the laws of a list of fields
 pub record_law : (T : Type 0) (outcome : Outcome T) (names : List Names) (s : FlatForm T)
@@ -262,4 +291,4 @@ record_law T outcome names (single k q group gap) h l =
     (flat_record_law T outcome names (single k q group gap) l).0
 record_law T outcome names (complete k q value) h l =
     (flat_record_law T outcome names (complete k q value) l).0
-record_law T outcome names (product q fields) h l = l.0
+record_law T outcome names (product named q fields) h l = l.0

@@ -20,6 +20,7 @@ pub mod Positionals
 pub mod Combining
 pub mod Choice
 pub mod Records
+pub mod NamedProducts
 pub mod Narrow
 pub mod FlatForm
 pub mod Exact

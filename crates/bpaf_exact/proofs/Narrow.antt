@@ -1,15 +1,15 @@
 -- An outcome that allows no more than another keeps to the same laws.
-use Rattle.std.proofs.Common.{◌≡◌, List, Result, Ok, Err, refl, sym, ◌∙◌}
+use Rattle.std.proofs.Common.{◌≡◌, Bool, true, false, List, Result, Ok, Err, refl, sym, ◌∙◌}
 use Rattle.bpaf_line.specs.declared.error.Error.{Error}
 use Rattle.bpaf_line.specs.Situation.{Situation}
 use Rattle.bpaf_laws.specs.Reading.{Outcome}
 use Rattle.bpaf_doc.specs.Names.{Names}
 use Rattle.bpaf_exact.specs.Alternative.{AlternativeErr, alternative_memory, alternative_missing}
 use Rattle.bpaf_exact.specs.Alternative.{alternative_refused}
-use Rattle.bpaf_exact.specs.Flat.{FieldKind, FieldsLaw, FieldsReading, Gives, GivesAll, back, cells}
-use Rattle.bpaf_exact.specs.Flat.{class, front}
+use Rattle.bpaf_exact.specs.Flat.{ByName, FieldKind, FieldLaw, FieldsLaw, FieldsReading, Gives, GivesAll}
+use Rattle.bpaf_exact.specs.Flat.{NoneOutside, OfMemory, back, cells, class, front}
 use Rattle.bpaf_exact.specs.FlatForm.{FlatForm, not_flat, alternative, single, complete, product}
-use Rattle.bpaf_exact.specs.FlatForm.{FormLaw}
+use Rattle.bpaf_exact.specs.FlatForm.{FormLaw, NamedLaw}
 use Rattle.bpaf_exact.specs.Pieces.{LinePiece, Roles, pieces}
 use Rattle.bpaf_exact.specs.Single.{Gap, Groups, SingleErr, of_absent, of_memory, of_missing}
 use Rattle.bpaf_exact.specs.Single.{of_piece}
@@ -48,6 +48,26 @@ module _ (T : Type 0) (d e : Error) (same : class d ≡ class e) where
       of_absent (sym same ∙ h) has none refused
   single_like k q group gap s t (of_piece h some refused) = of_piece (sym same ∙ h) some refused
 
+-- a field keeps to its laws too where its refusals are others, but for want of memory
+pub other_refusals : (T : Type 0) (a b : Outcome T) (k : FieldKind) (q : Roles)
+    (value : List LinePiece → T → Type 0)
+    → ((s t : Situation) (v : T) → b s (Ok v) t → a s (Ok v) t)
+    → ((s t : Situation) (e : Error) → b s (Err e) t
+    → (d : Error) × a s (Err d) t × (class d ≡ OfMemory → class e ≡ OfMemory))
+    → FieldLaw T a k q value → FieldLaw T b k q value
+other_refusals T a b k q value values refusals l = record {
+  own = l.own;
+  ok = λ s t v w o. l.ok s t v w (values s t v o);
+  answers = by_answer;
+}
+  where
+    by_answer : (s t : Situation) (r : Result T Error) (w : T) → NoneOutside s → b s r t
+        → value (front k (pieces q (cells s))) w
+        → Gives q (value (front k (pieces q (cells s)))) (back k (pieces q (cells s))) r t
+    by_answer s t (Ok v) w n o h = l.answers s t (Ok v) w n (values s t v o) h
+    by_answer s t (Err e) w n o h =
+        let other = refusals s t e o in other.2 (l.answers s t (Err other.0) w n other.1 h)
+
 module _ (T : Type 0) (a b : Outcome T) (n : AllowsNoMore T a b) where
   -- what is given by each answer of the one is by each of the other
   pub narrower_gives : (gives : Result T Error → Situation → Type 0)
@@ -69,6 +89,13 @@ module _ (T : Type 0) (a b : Outcome T) (n : AllowsNoMore T a b) where
     answers = λ s t x os w o c h. narrower_gives (GivesAll (fields.value os))
         (λ d e t same m. sym same ∙ m) s (λ y u g. l.answers s u y os w g c h) x t o;
   }
+
+  -- a field
+  narrower_field : (k : FieldKind) (q : Roles) (value : List LinePiece → T → Type 0)
+      → FieldLaw T a k q value → FieldLaw T b k q value
+  narrower_field k q value l =
+      other_refusals T a b k q value n.value (λ s t e o. let other = n.refusal s t e o in
+      (other.0, other.1, λ m. sym other.2 ∙ m)) l
 
   -- and a field of any form
   pub narrower_form : (keys : List Names) (h : FlatForm T) → FormLaw a keys h → FormLaw b keys h
@@ -96,14 +123,10 @@ module _ (T : Type 0) (a b : Outcome T) (n : AllowsNoMore T a b) where
     },
     l.1,
   )
-  narrower_form keys (complete k q value) l = (
-    record {
-      own = l.0.own;
-      ok = λ s t v w o. l.0.ok s t v w (n.value s t v o);
-      answers = λ s t r v w o h. narrower_gives
-          (Gives q (value (front k (pieces q (cells s)))) (back k (pieces q (cells s))))
-          (λ d e t same m. sym same ∙ m) s (λ y u g. l.0.answers s u y v w g h) r t o;
-    },
-    l.1,
-  )
-  narrower_form keys (product q fields) l = (narrower_fields q fields l.0, l.1)
+  narrower_form keys (complete k q value) l = (narrower_field k q value l.0, l.1)
+  narrower_form keys (product named q fields) l =
+      (narrower_fields q fields l.0, l.1, by_name named l.2)
+    where
+      by_name : (all : Bool) → NamedLaw all a q fields.value → NamedLaw all b q fields.value
+      by_name true l = narrower_field ByName q fields.value l
+      by_name false l = tt

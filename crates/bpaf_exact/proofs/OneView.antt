@@ -20,7 +20,8 @@ use Rattle.bpaf_exact.specs.Wrappers.{own_value, kept_value}
 use Rattle.bpaf_exact.specs.Derived.{LastOf, list_closure}
 use Rattle.bpaf_exact.specs.Alternative.{pick_type}
 use Rattle.bpaf_exact.specs.Leaves.{FlagValue, ArgumentValue, WordValue, flag_by, flag_field}
-use Rattle.bpaf_exact.specs.Leaves.{LastGroup, argument_by, argument_field, word_field}
+use Rattle.bpaf_exact.specs.Leaves.{LastGroup, SideValue, argument_by, argument_field, word_by}
+use Rattle.bpaf_exact.specs.Leaves.{word_field}
 use Rattle.bpaf_exact.specs.Record.{RunAnswer, Accepted, NoMemory, Refusal, RecordValue, IsExact}
 use Rattle.bpaf_exact.specs.Record.{line_cells}
 use Rattle.bpaf_exact.specs.FlatForm.{FlatForm, not_flat, alternative, single, complete, product}
@@ -60,7 +61,7 @@ module _ (A B X Y : Type 0) (see : A → X) (look : B → Y) (f : Closure A B)
     agrees_on gap.absent u.1,
   )
   view_agrees (complete k q value) u = λ os. agrees_on (value os) (u os)
-  view_agrees (product q fields) u = λ os. agrees_on (fields.value os) (u os)
+  view_agrees (product named q fields) u = λ os. agrees_on (fields.value os) (u os)
 
   -- Its answers look alike again.
   pub closed_view : (s : FlatForm A) → HasOneView see s → HasOneView look (flat_closed f s)
@@ -74,7 +75,7 @@ module _ (A B X Y : Type 0) (see : A → X) (look : B → Y) (f : Closure A B)
   )
   closed_view (complete k q value) u =
       λ os v w a b. respects.same a.from b.from v w (u os a.from b.from a.read b.read) a.made b.made
-  closed_view (product q fields) u = tt
+  closed_view (product named q fields) u = tt
 
   -- what a constructor makes of values that look alike looks alike
   pub con_view : (s : FlatForm A) → HasOneView see s → HasOneView look (flat_con f s)
@@ -82,7 +83,7 @@ module _ (A B X Y : Type 0) (see : A → X) (look : B → Y) (f : Closure A B)
   con_view (alternative q value) u = tt
   con_view (single k q group gap) u = tt
   con_view (complete k q value) u = tt
-  con_view (product q fields) u =
+  con_view (product named q fields) u =
       λ os v w a b. respects.same a.from b.from v w (u os a.from b.from a.read b.read) a.made b.made
 
 -- Leaves.
@@ -153,10 +154,23 @@ word_piece : (T X : Type 0) (see : T → X) (means : List ℕ → T → Type 0)
 word_piece T X see means u (One k) v w a b = u (item_text k) v w a b
 word_piece T X see means u (Two k x) v w a b = absurd a
 
+-- a word on one side of `--`
+side_piece : (T X : Type 0) (see : T → X) (behind : Bool) (means : List ℕ → T → Type 0)
+    → ((text : List ℕ) → Alike see (means text)) → (o : LinePiece)
+    → Alike see (SideValue behind means o)
+side_piece T X see behind means u (One k) v w a b = u (item_text k) v w a.1 b.1
+side_piece T X see behind means u (Two k x) v w a b = absurd a
+
 -- a positional, where what a text means looks alike
 pub word_view : (T X : Type 0) (see : T → X) (means : List ℕ → T → Type 0)
     → ((text : List ℕ) → Alike see (means text)) → HasOneView see (word_field means)
 word_view T X see means u = (front_view T X see _ (word_piece T X see means u), λ v w a b. absurd a)
+
+-- one on one side of `--`
+pub side_view : (T X : Type 0) (see : T → X) (behind : Bool) (means : List ℕ → T → Type 0)
+    → ((text : List ℕ) → Alike see (means text)) → HasOneView see (word_by (SideValue behind means))
+side_view T X see behind means u =
+    (front_view T X see _ (side_piece T X see behind means u), λ v w a b. absurd a)
 
 -- Choice.
 
@@ -180,11 +194,11 @@ either_view T X see (alternative q a) (alternative r b) u n =
 either_view T X see (alternative q a) not_flat u n = tt
 either_view T X see (alternative q a) (single k r g h) u n = tt
 either_view T X see (alternative q a) (complete k r v) u n = tt
-either_view T X see (alternative q a) (product r v) u n = tt
+either_view T X see (alternative q a) (product named r v) u n = tt
 either_view T X see not_flat t u n = tt
 either_view T X see (single k q g i) t u n = tt
 either_view T X see (complete k q v) t u n = tt
-either_view T X see (product q v) t u n = tt
+either_view T X see (product named q v) t u n = tt
 
 -- the same, where the keys are apart
 pub choice_view : (T X : Type 0) (see : T → X) (own others : List Names) (s t : FlatForm T)
@@ -199,7 +213,7 @@ only_view T X see not_flat u = tt
 only_view T X see (alternative q value) u = u
 only_view T X see (single k q group gap) u = tt
 only_view T X see (complete k q value) u = tt
-only_view T X see (product q fields) u = tt
+only_view T X see (product named q fields) u = tt
 
 module _ (P T X : Type 0) (see : T → X) (keys : P → List Names) (words : P → List (List ℕ))
     (form : P → ProgramForm T) (each : (p : P) → HasOneView see (flat_form (form p))) where
@@ -207,7 +221,10 @@ module _ (P T X : Type 0) (see : T → X) (keys : P → List Names) (words : P �
   more_view : (own others : List Names) (said more : List (List ℕ)) (s t : ProgramForm T)
       → HasOneView see (flat_form s) → HasOneView see (flat_form t)
       → HasOneView see (flat_form (program_choice own others said more s t))
-  more_view own others said more (plain s) (plain t) u n = choice_view T X see own others s t u n
+  more_view own others said more (plain false s) (plain false t) u n =
+      choice_view T X see own others s t u n
+  more_view own others said more (plain true s) (plain other t) u n = tt
+  more_view own others said more (plain false s) (plain true t) u n = tt
   more_view own others said more (commands q a) (commands r other) u n =
       none_if (are_words_apart said more)
     where
@@ -231,7 +248,8 @@ module _ (P T X : Type 0) (see : T → X) (keys : P → List Names) (words : P �
   first_view : (s : ProgramForm T) → HasOneView see (flat_form s)
       → HasOneView see (flat_form (first_only s))
   first_view no_program u = tt
-  first_view (plain s) u = only_view T X see s u
+  first_view (plain true s) u = tt
+  first_view (plain false s) u = only_view T X see s u
   first_view (commands r value) u = tt
   first_view (left_out r value) u = tt
   first_view (before_commands r value) u = tt
@@ -346,7 +364,7 @@ module _ (T X : Type 0) (see : T → X) (inner : Outcome T) where
       (front_view T X see value u) (λ v w a b. absurd a)
   repeat_view names (single k q group gap) l u = list_view T X see inner k q group gap l.0 u.0 u.1
   repeat_view names (complete k q value) l u = tt
-  repeat_view names (product q fields) l u = tt
+  repeat_view names (product named q fields) l u = tt
 
   -- its last value
   pub last_of_view : (names : List Names) (s : FlatForm T) → FormLaw inner names s
@@ -358,7 +376,7 @@ module _ (T X : Type 0) (see : T → X) (inner : Outcome T) where
       (front_view T X see value u) (λ v w a b. absurd a)
   last_of_view names (single k q group gap) l u = last_view T X see inner k q group gap l.0 u.0 u.1
   last_of_view names (complete k q value) l u = tt
-  last_of_view names (product q fields) l u = tt
+  last_of_view names (product named q fields) l u = tt
 
   -- a field that may be left out
   pub optional_field_view : (names : List Names) (s : FlatForm T) → FormLaw inner names s
@@ -370,7 +388,7 @@ module _ (T X : Type 0) (see : T → X) (inner : Outcome T) where
   optional_field_view names (single k q group gap) l u =
       optional_value_view T X see inner k q group gap l.0 u.0 u.1
   optional_field_view names (complete k q value) l u = tt
-  optional_field_view names (product q fields) l u = tt
+  optional_field_view names (product named q fields) l u = tt
 
   -- a field with a default
   pub fallback_view : (f : Closure (Unit {0}) T) → Alike see (λ v. f.yes tt v)
@@ -383,7 +401,7 @@ module _ (T X : Type 0) (see : T → X) (inner : Outcome T) where
   fallback_view f given names (single k q group gap) l u =
       fallback_value_view T X see inner k q group gap l.0 u.0 u.1 f given
   fallback_view f given names (complete k q value) l u = tt
-  fallback_view f given names (product q fields) l u = tt
+  fallback_view f given names (product named q fields) l u = tt
 
   -- any field of a record
   pub field_view : (names : List Names) (s : FlatForm T) → FormLaw inner names s → HasOneView see s
@@ -394,7 +412,7 @@ module _ (T X : Type 0) (see : T → X) (inner : Outcome T) where
       (front_view T X see value u) (λ v w a b. absurd a)
   field_view names (single k q group gap) l u = value_view T X see inner k q group gap l.0 u.0 u.1
   field_view names (complete k q value) l u = u
-  field_view names (product q fields) l u = tt
+  field_view names (product named q fields) l u = tt
 
 -- The list of a repeat, as the program keeps it.
 
@@ -419,7 +437,7 @@ many_view T X see inner names s l u =
 pub both_view : (A B X Y : Type 0) (see : A → X) (look : B → Y) (own others : List Names)
     (s : FlatForm A) (t : FlatForm B) → HasOneView see s → HasOneView look t
     → HasOneView (pair_view see look) (flat_both own others s t)
-both_view A B X Y see look own others (complete k q fv) (product r rv) u n =
+both_view A B X Y see look own others (complete k q fv) (product named r rv) u n =
     if_view (A × B) (X × Y) (pair_view see look) _ (may_follow k own others)
     (λ os v w a b. let d = u _ v.0 w.0 a.0 b.0 in let e = n _ v.1 w.1 a.1 b.1 in
     λ i. (d i, e i))
@@ -430,7 +448,7 @@ both_view A B X Y see look own others (complete k q fv) (complete j r v) u n = t
 both_view A B X Y see look own others not_flat t u n = tt
 both_view A B X Y see look own others (alternative q v) t u n = tt
 both_view A B X Y see look own others (single k q g h) t u n = tt
-both_view A B X Y see look own others (product q v) t u n = tt
+both_view A B X Y see look own others (product named q v) t u n = tt
 
 module _ (T X : Type 0) (see : T → X) where
   -- the last field
@@ -439,7 +457,7 @@ module _ (T X : Type 0) (see : T → X) where
   alone_view (alternative q value) u = tt
   alone_view (single k q group gap) u = tt
   alone_view (complete k q value) u = λ os v w a b. u _ v w a.read b.read
-  alone_view (product q fields) u = tt
+  alone_view (product named q fields) u = tt
 
   record_view : (inner : Outcome T) (names : List Names) (s : FlatForm T) → FormLaw inner names s
       → HasOneView see s → HasOneView see (flat_record s)
@@ -451,7 +469,7 @@ module _ (T X : Type 0) (see : T → X) where
       alone_view (flat_field (single k q group gap))
       (field_view T X see inner names (single k q group gap) l u)
   record_view inner names (complete k q value) l u = alone_view (complete k q value) u
-  record_view inner names (product q fields) l u = u
+  record_view inner names (product named q fields) l u = u
 
   -- the values of a record
   product_view : (s : FlatForm T) → HasOneView see s → (os : List LinePiece)
@@ -460,7 +478,7 @@ module _ (T X : Type 0) (see : T → X) where
   product_view (alternative q value) u os v w a b = absurd a
   product_view (single k q group gap) u os v w a b = absurd a
   product_view (complete k q value) u os v w a b = absurd a
-  product_view (product q fields) u os v w a b = u os v w a b
+  product_view (product named q fields) u os v w a b = u os v w a b
 
   -- an exact answer looks like each value of the record
   like_this : (inner : Outcome T) (r : Roles) (reading : FieldsReading T) (context : Context)

@@ -15,8 +15,8 @@ use Rattle.bpaf_exact.specs.Flat.{cells, NoneOutside, Steady, OneWord, front, ba
 use Rattle.bpaf_exact.specs.Single.{Groups, FrontOf, no_gap, SingleOk, took, SingleErr, of_memory}
 use Rattle.bpaf_exact.specs.Single.{of_missing, of_piece, WordByWord, SingleLaw}
 use Rattle.bpaf_exact.specs.Alternative.{TakesFirst, first_one, first_two, first_later}
-use Rattle.bpaf_exact.specs.Leaves.{WordValue, word_field, WordEval, word_read, word_fault}
-use Rattle.bpaf_exact.specs.Leaves.{word_missing, word_memory}
+use Rattle.bpaf_exact.specs.Leaves.{WordEval, stands_behind, word_by, word_fault, word_memory}
+use Rattle.bpaf_exact.specs.Leaves.{word_missing, word_read}
 use Rattle.bpaf_exact.specs.FlatForm.{FormLaw}
 use Rattle.bpaf_exact.proofs.Product.{steady_refl}
 use Rattle.bpaf_exact.proofs.First.{first_takes, takes_nonempty, begin_at}
@@ -24,20 +24,26 @@ use Rattle.bpaf_exact.proofs.Alternative.{took_front}
 use Rattle.bpaf_exact.proofs.Places.{take_steady}
 use Rattle.bpaf_exact.proofs.Matching.{match_of, ByTest, by_test, no_pieces, one_taken}
 
--- the text of a word is that of its item
-word_is : (w : Arg) (strict : Bool) (text : List ℕ) → word_text w ≡ Some (strict, text)
-    → item_text w ≡ text
+-- the text and the side of a word are those of its item
+pub word_is : (w : Arg) (strict : Bool) (text : List ℕ) → word_text w ≡ Some (strict, text)
+    → (item_text w ≡ text) × (stands_behind w ≡ strict)
 word_is (Short c attached word) strict text e = absurd cc
 word_is (Long name attached word) strict text e = absurd cc
 word_is (ArgWord own) strict text e = absurd cc
-word_is (Word own) strict text e = ap (λ z. option_map_or (λ word. word.1) z own) e
-word_is (PosWord own) strict text e = ap (λ z. option_map_or (λ word. word.1) z own) e
+word_is (Word own) strict text e = (
+  ap (λ z. option_map_or (λ word. word.1) z own) e,
+  ap (λ z. option_map_or (λ word. word.0) z false) e,
+)
+word_is (PosWord own) strict text e = (
+  ap (λ z. option_map_or (λ word. word.1) z own) e,
+  ap (λ z. option_map_or (λ word. word.0) z false) e,
+)
 
 -- a positional
-module _ (T : Type 0) (means : List ℕ → T → Type 0) where
+module _ (T : Type 0) (value : LinePiece → T → Type 0) where
   -- the first word and its value
   abbrev group : Groups T
-  group = FrontOf T (WordValue means)
+  group = FrontOf T value
 
   -- the words are the positional items
   test : ByTest is_positional word_roles Alone
@@ -64,37 +70,37 @@ module _ (T : Type 0) (means : List ℕ → T → Type 0) where
       cc
 
   -- the first word is the first piece
-  record TookWord (s t : Situation) (text : List ℕ) : Type 0 where
+  record TookWord (s t : Situation) (strict : Bool) (text : List ℕ) : Type 0 where
     word : Arg
-    text_is : item_text word ≡ text
+    text_is : word_text word ≡ Some (strict, text)
     takes : TakesFirst word_roles (cells s) (One word) (cells t)
     steady : Steady s t
 
   -- a word that was taken
   took_word : (s t : Situation) (p : ℕ) (strict : Bool) (text : List ℕ)
-      → TakesText s p strict text t → TookWord s t text
+      → TakesText s p strict text t → TookWord s t strict text
   took_word s t p strict text takes =
       let m = match_of is_positional s p takes.first.matches in
       let at = (open_item_there s p m.item m.is).1 in
-      subst (λ z. TookWord s z text) (sym takes.taken) (record {
+      subst (λ z. TookWord s z strict text) (sym takes.taken) (record {
         word = m.item;
-        text_is = word_is m.item strict text (sym (ap (option_and_then word_text) at) ∙ takes.is);
+        text_is = sym (ap (option_and_then word_text) at) ∙ takes.is;
         takes = one_taken is_positional word_roles s p test takes.first m;
         steady = take_steady s p;
       })
 
   -- a value is that of the first word
-  word_ok : (s t : Situation) (v : T) → NoneOutside s → WordEval T means s (Ok v) t
+  word_ok : (s t : Situation) (v : T) → NoneOutside s → WordEval T value s (Ok v) t
       → SingleOk T OneWord word_roles group (no_gap T) s v t
   word_ok s t v w (word_read {p = p} {strict = strict} {text = text} takes y) =
       let m = took_word s t p strict text takes in
       let e = word_pieces m.takes in
-      let y : means (item_text m.word) v = subst (λ z. means z v) (sym m.text_is) y in
       took
-      (took_front T (WordValue means) OneWord word_roles s t v (One m.word) m.steady m.takes e y)
+      (took_front T value OneWord word_roles s t v (One m.word) m.steady m.takes e
+      (y m.word m.text_is))
 
   -- a refusal: there is no word, or the first can't be read
-  word_err : (s t : Situation) (e : Error) → NoneOutside s → WordEval T means s (Err e) t
+  word_err : (s t : Situation) (e : Error) → NoneOutside s → WordEval T value s (Err e) t
       → SingleErr T OneWord word_roles group (no_gap T) s e t
   word_err s t e w (word_fault {p = p} {strict = strict} {text = text} takes n c) =
       let m = took_word s t p strict text takes in
@@ -103,7 +109,7 @@ module _ (T : Type 0) (means : List ℕ → T → Type 0) where
       (λ x rest y.
       let d : One m.word ∷ pieces word_roles (cells t) ≡ y.piece ∷ rest = sym i ∙ y.is in
       let j : y.piece ≡ One m.word = cc in
-      n x (subst (λ z. means z x) m.text_is (subst (λ z. WordValue means z x) j y.means)))
+      n m.word x m.text_is (subst (λ z. value z x) j y.means))
   word_err s t e w (word_missing none c) =
       of_missing c refl (no_pieces is_positional word_roles Alone s test none) refl (steady_refl s)
   word_err s t e w (word_memory c) = of_memory c
@@ -113,16 +119,16 @@ module _ (T : Type 0) (means : List ℕ → T → Type 0) where
   one_by_one = record { by_front = fronts; of_front = heads }
     where
       fronts : (os : List LinePiece) (v : T) (rest : List LinePiece)
-          → FrontOf T (WordValue means) os v rest
-          → FrontOf T (WordValue means) (front OneWord os) v [] × (rest ≡ back OneWord os)
+          → FrontOf T value os v rest
+          → FrontOf T value (front OneWord os) v [] × (rest ≡ back OneWord os)
       fronts [] v rest g = let e = g.is in absurd cc
       fronts (o ∷ os) v rest g =
           let e = g.is in
           let d : o ≡ g.piece = cc in
           (record { piece = g.piece; is = ap (λ z. z ∷ []) d; means = g.means }, cc)
 
-      heads : (os : List LinePiece) (v : T) → FrontOf T (WordValue means) (front OneWord os) v []
-          → FrontOf T (WordValue means) os v (back OneWord os)
+      heads : (os : List LinePiece) (v : T) → FrontOf T value (front OneWord os) v []
+          → FrontOf T value os v (back OneWord os)
       heads [] v g = g
       heads (o ∷ os) v g =
           let e = g.is in
@@ -130,7 +136,7 @@ module _ (T : Type 0) (means : List ℕ → T → Type 0) where
           record { piece = g.piece; is = ap (λ z. z ∷ os) d; means = g.means }
 
   -- a word keeps to the laws of one evaluation
-  word_law : SingleLaw T (WordEval T means) OneWord word_roles group (no_gap T)
+  word_law : SingleLaw T (WordEval T value) OneWord word_roles group (no_gap T)
   word_law = record {
     own = record { words = λ k. refl };
     words = one_by_one;
@@ -141,6 +147,6 @@ module _ (T : Type 0) (means : List ℕ → T → Type 0) where
   }
 
 -- a positional keeps to the laws of its form
-pub word_field_law : (T : Type 0) (means : List ℕ → T → Type 0)
-    → FormLaw (WordEval T means) [] (word_field means)
-word_field_law T means = (word_law T means, record { own = λ k. refl })
+pub word_by_law : (T : Type 0) (value : LinePiece → T → Type 0)
+    → FormLaw (WordEval T value) [] (word_by value)
+word_by_law T value = (word_law T value, record { own = λ k. refl })

@@ -38,9 +38,8 @@ use Rattle.bpaf_exact.proofs.BeforeCommands.{before_law, con_program}
 use Rattle.bpaf_exact.proofs.Commands.{closed_program, closed_commands, optional_commands}
 use Rattle.bpaf_exact.proofs.Commands.{choice_commands, program_sound, program_complete}
 use Rattle.bpaf_exact.proofs.FlatForm.{flat_closed_law, flat_optional_law, flat_choice_law}
-use Rattle.bpaf_exact.proofs.FlatForm.{flat_field_law, flat_alone_law, flat_both_law, flat_con_law}
+use Rattle.bpaf_exact.proofs.FlatForm.{inner_field_law, flat_alone_law, flat_both_law, flat_con_law}
 use Rattle.bpaf_exact.proofs.FlatForm.{flat_record_law, record_law, only_law, never_refuses}
-use Rattle.bpaf_exact.proofs.FlatForm.{flat_dressed_law}
 use Rattle.bpaf_exact.proofs.Narrow.{AllowsNoMore, narrower_form, narrower_gives}
 use Rattle.bpaf_exact.proofs.Names.{apart_of_names, either_owns}
 use Rattle.bpaf_exact.proofs.Programs.{command_law, record_program}
@@ -60,14 +59,14 @@ record_owns T outcome names not_flat h l = absurd cc
 record_owns T outcome names (alternative q value) h l = l.1
 record_owns T outcome names (single k q group gap) h l = l.1
 record_owns T outcome names (complete k q value) h l = l.1
-record_owns T outcome names (product q fields) h l = l.1
+record_owns T outcome names (product named q fields) h l = l.1
 
 -- a whole program
 whole_program_law : (T : Type 0) (outcome : Outcome T) (names : List Names)
     (words : List (List ℕ)) (s : ProgramForm T) → ProgramFormLaw outcome names words s
     → ProgramFormLaw outcome names words (whole_program s)
 whole_program_law T outcome names words no_program l = tt
-whole_program_law T outcome names words (plain s) l =
+whole_program_law T outcome names words (plain wide s) l =
     program_if_law T outcome names words _ (is_record s)
     (λ h. (
       record_program T outcome (product_roles (flat_record s)) (product_reading (flat_record s))
@@ -87,7 +86,7 @@ opened_form_law T inner called names words (before_commands r value) l =
     program_if_law T (CommandEval T inner called) names (opening_words called) _
     (are_plain (opening_words called)) (λ h. (command_law T inner r value l.0 called h, l.1))
 opened_form_law T inner called names words no_program l = tt
-opened_form_law T inner called names words (plain s) l = tt
+opened_form_law T inner called names words (plain wide s) l = tt
 opened_form_law T inner called names words (commands r value) l = tt
 opened_form_law T inner called names words (left_out r value) l = tt
 
@@ -109,7 +108,7 @@ pub flat_only_law : {A B : Type 0} (inner : Outcome A) (outcome : Outcome B) (na
     → (s : ProgramForm A) → ProgramFormLaw inner names words s
     → ProgramFormLaw outcome names more (flat_only g s)
 flat_only_law inner outcome names words more g law no_program l = tt
-flat_only_law inner outcome names words more g law (plain s) l = law s l
+flat_only_law inner outcome names words more g law (plain wide s) l = law s l
 flat_only_law inner outcome names words more g law (commands r value) l = tt
 flat_only_law inner outcome names words more g law (left_out r value) l = tt
 flat_only_law inner outcome names words more g law (before_commands r value) l = tt
@@ -119,7 +118,7 @@ pub program_dressed_law : (T : Type 0) (outcome : Outcome T) (names : List Names
     (words : List (List ℕ)) (s : ProgramForm T) → ProgramFormLaw outcome names words s
     → ProgramFormLaw outcome names words (program_dressed s)
 program_dressed_law T outcome names words no_program l = tt
-program_dressed_law T outcome names words (plain s) l = flat_dressed_law T outcome names s l
+program_dressed_law T outcome names words (plain wide s) l = l
 program_dressed_law T outcome names words (commands r value) l = l
 program_dressed_law T outcome names words (left_out r value) l = l
 program_dressed_law T outcome names words (before_commands r value) l = tt
@@ -130,7 +129,7 @@ pub program_closed_law : (A B : Type 0) (inner : Outcome A) (f : Closure A B) (n
     → ProgramFormLaw inner names words s
     → ProgramFormLaw (ClosedEval A B inner f Refused) names words (program_closed f s)
 program_closed_law A B inner f names words no_program g l = tt
-program_closed_law A B inner f names words (plain s) g l = flat_closed_law A B inner f names s g l
+program_closed_law A B inner f names words (plain wide s) g l = flat_closed_law A B inner f names s g l
 program_closed_law A B inner f names words (commands r value) g l =
     (closed_commands A B inner r value f g Refused words l.0, l.1)
 program_closed_law A B inner f names words (left_out r value) g l =
@@ -141,7 +140,7 @@ program_closed_law A B inner f names words (before_commands r value) g l = tt
 pub program_never_refuses : (A B : Type 0) (f : Closure A B) → ((x : A) → ¬ (f.no x))
     → (s : ProgramForm A) → ProgramAgrees f s
 program_never_refuses A B f n no_program = tt
-program_never_refuses A B f n (plain s) = never_refuses A B f n s
+program_never_refuses A B f n (plain wide s) = never_refuses A B f n s
 program_never_refuses A B f n (commands r value) = λ cs x y v a b yes no. n y no
 program_never_refuses A B f n (left_out r value) = λ cs x y v a b yes no. n y no
 program_never_refuses A B f n (before_commands r value) = tt
@@ -151,7 +150,7 @@ pub program_optional_law : (T : Type 0) (inner : Outcome T) (names : List Names)
     (words : List (List ℕ)) (s : ProgramForm T) → ProgramFormLaw inner names words s
     → ProgramFormLaw (OptionalEval T inner) names [] (program_optional false s)
 program_optional_law T inner names words no_program l = tt
-program_optional_law T inner names words (plain s) l = flat_optional_law T inner names s l
+program_optional_law T inner names words (plain wide s) l = flat_optional_law T inner names s l
 program_optional_law T inner names words (commands r value) l =
     (optional_commands T inner r words value l.0, l.1)
 program_optional_law T inner names words (left_out r value) l = tt
@@ -220,7 +219,7 @@ pub program_choice_law : (T : Type 0) (a b : Outcome T) (own others : List Names
     → ProgramFormLaw b others more t
     → ProgramFormLaw (ChoiceOutcome a b) (own ++ others) (words ++ more)
     (program_choice own others words more s t)
-program_choice_law T a b own others words more (plain s) (plain t) la lb =
+program_choice_law T a b own others words more (plain wide s) (plain other t) la lb =
     flat_choice_law T a b own others s t la lb
 program_choice_law T a b own others words more (commands q va) (commands r vb) la lb =
     program_if_law T (ChoiceOutcome a b) (own ++ others) (words ++ more) _
@@ -236,7 +235,7 @@ pub program_field_law : (T : Type 0) (outcome : Outcome T) (names : List Names)
     (words : List (List ℕ)) (s : ProgramForm T) → ProgramFormLaw outcome names words s
     → ProgramFormLaw outcome names words (program_field s)
 program_field_law T outcome names words no_program l = tt
-program_field_law T outcome names words (plain s) l = flat_field_law T outcome names s l
+program_field_law T outcome names words (plain wide s) l = inner_field_law T outcome names s l
 program_field_law T outcome names words (commands r value) l = l
 program_field_law T outcome names words (left_out r value) l = l
 program_field_law T outcome names words (before_commands r value) l = tt
@@ -246,7 +245,7 @@ pub program_alone_law : (T : Type 0) (outcome : Outcome T) (names : List Names)
     (words : List (List ℕ)) (s : ProgramForm T) → ProgramFormLaw outcome names words s
     → ProgramFormLaw outcome names [] (program_alone s)
 program_alone_law T outcome names words no_program l = tt
-program_alone_law T outcome names words (plain s) l = flat_alone_law T outcome names s l
+program_alone_law T outcome names words (plain wide s) l = flat_alone_law T outcome names s l
 program_alone_law T outcome names words (commands r value) l = (l.0.program, l.1)
 program_alone_law T outcome names words (left_out r value) l = l
 program_alone_law T outcome names words (before_commands r value) l = tt
@@ -256,9 +255,9 @@ pub program_both_law : (A B : Type 0) (first : Outcome A) (rest : Outcome B)
     (own others : List Names) (words : List (List ℕ)) (s : ProgramForm A) (t : ProgramForm B)
     → ProgramFormLaw first own words s → ProgramFormLaw rest others [] t
     → ProgramFormLaw (BothOutcome first rest) (own ++ others) [] (program_both own others s t)
-program_both_law A B first rest own others words (plain s) (plain t) la lb =
+program_both_law A B first rest own others words (plain wide s) (plain other t) la lb =
     flat_both_law A B first rest own others s t la lb
-program_both_law A B first rest own others words (plain (complete ByName q fv))
+program_both_law A B first rest own others words (plain wide (complete ByName q fv))
     (before_commands r rv) la lb =
     program_if_law (A × B) (BothOutcome first rest) (own ++ others) [] _
     (are_all_apart own others)
@@ -273,7 +272,7 @@ pub program_con_law : (A B : Type 0) (inner : Outcome A) (makes : A → B → Ty
     (names : List Names) (s : ProgramForm A) → ProgramFormLaw inner names [] s
     → ProgramFormLaw (ProductOutcome inner makes) names [] (program_con (map_closure makes) s)
 program_con_law A B inner makes names no_program l = tt
-program_con_law A B inner makes names (plain s) l = flat_con_law A B inner makes names s l
+program_con_law A B inner makes names (plain wide s) l = flat_con_law A B inner makes names s l
 program_con_law A B inner makes names (commands r value) l = tt
 program_con_law A B inner makes names (left_out r value) l = tt
 program_con_law A B inner makes names (before_commands r value) l =
@@ -284,7 +283,7 @@ program_law : (T : Type 0) (outcome : Outcome T) (names : List Names) (words : L
     (s : ProgramForm T) → is_program s ≡ true → ProgramFormLaw outcome names words s
     → ProgramLaw T outcome (program_roles s) (program_value s)
 program_law T outcome names words no_program h l = absurd cc
-program_law T outcome names words (plain s) h l =
+program_law T outcome names words (plain wide s) h l =
     record_program T outcome (product_roles (flat_record s)) (product_reading (flat_record s))
     (record_law T outcome names s h l)
 program_law T outcome names words (commands r value) h l = l.0.program
@@ -322,7 +321,7 @@ pub narrower_program_form : (T : Type 0) (a b : Outcome T) → AllowsNoMore T a 
     → (names : List Names) (words : List (List ℕ)) (s : ProgramForm T)
     → ProgramFormLaw a names words s → ProgramFormLaw b names words s
 narrower_program_form T a b n names words no_program l = tt
-narrower_program_form T a b n names words (plain s) l = narrower_form T a b n names s l
+narrower_program_form T a b n names words (plain wide s) l = narrower_form T a b n names s l
 narrower_program_form T a b n names words (commands r value) l = (
   record {
     program = narrower_program T a b n r value l.0.program;
@@ -343,7 +342,7 @@ first_only_law : (T : Type 0) (outcome : Outcome T) (names : List Names) (words 
     (s : ProgramForm T) → ProgramFormLaw outcome names words s
     → ProgramFormLaw outcome names words (first_only s)
 first_only_law T outcome names words no_program l = tt
-first_only_law T outcome names words (plain s) l = only_law T outcome names s l
+first_only_law T outcome names words (plain wide s) l = only_law T outcome names s l
 first_only_law T outcome names words (commands r value) l = l
 first_only_law T outcome names words (left_out r value) l = tt
 first_only_law T outcome names words (before_commands r value) l = tt
@@ -397,7 +396,8 @@ pub flat_form_law : (T : Type 0) (outcome : Outcome T) (names : List Names)
     (words : List (List ℕ)) (s : ProgramForm T) → ProgramFormLaw outcome names words s
     → FormLaw outcome names (flat_form s)
 flat_form_law T outcome names words no_program l = tt
-flat_form_law T outcome names words (plain s) l = l
+flat_form_law T outcome names words (plain true s) l = tt
+flat_form_law T outcome names words (plain false s) l = l
 flat_form_law T outcome names words (commands r value) l = tt
 flat_form_law T outcome names words (left_out r value) l = tt
 flat_form_law T outcome names words (before_commands r value) l = tt

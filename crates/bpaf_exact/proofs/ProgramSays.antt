@@ -1,6 +1,6 @@
 -- Of each combinator: its values say what is told of them, where those of its inner parsers do.
 use Rattle.std.proofs.Common.{◌≡◌, ℕ, zero, suc, Bool, true, false, List, [], ◌∷◌, ◌++◌, Some, None}
-use Rattle.std.proofs.Common.{not, ◌&&◌, refl, arith}
+use Rattle.std.proofs.Common.{not, ◌&&◌, ◌||◌, refl, arith}
 use Rattle.std.specs.List.{Contains}
 use Rattle.bpaf_doc.specs.Names.{Names}
 use Rattle.bpaf_laws.specs.Command.{Called, opening_words}
@@ -8,7 +8,8 @@ use Rattle.bpaf_laws.specs.Reading.{Outcome}
 use Rattle.bpaf_exact.specs.Pieces.{Roles, LinePiece, pieces}
 use Rattle.bpaf_exact.specs.Flat.{FieldKind, ByName}
 use Rattle.bpaf_exact.specs.FlatForm.{FlatForm, not_flat, alternative, single, complete, product}
-use Rattle.bpaf_exact.specs.FlatForm.{EachAgrees, alternative_only, flat_field, is_record}
+use Rattle.bpaf_exact.specs.FlatForm.{EachAgrees, alternative_only, inner_field, is_product}
+use Rattle.bpaf_exact.specs.FlatForm.{is_record}
 use Rattle.bpaf_exact.specs.FlatForm.{product_roles, flat_record, unless, flat_fallback}
 use Rattle.bpaf_exact.specs.FlatForm.{flat_closed, flat_last, flat_repeat}
 use Rattle.bpaf_exact.specs.Names.{are_all_apart}
@@ -35,7 +36,7 @@ use Rattle.bpaf_exact.specs.ProgramSays.{said_fallback, said_last, said_repeat, 
 use Rattle.bpaf_exact.specs.Single.{repeated}
 use Rattle.bpaf_exact.specs.Wrappers.{Closure}
 use Rattle.bpaf_exact.proofs.Says.{FormOwns, alone_says, both_say, by_name, choice_into}
-use Rattle.bpaf_exact.proofs.Says.{choice_says, closed_says, con_says, dressed_says, field_owned}
+use Rattle.bpaf_exact.proofs.Says.{choice_says, closed_says, con_says, field_owned}
 use Rattle.bpaf_exact.proofs.Says.{field_says, optional_says, owned, record_says, unless_says}
 use Rattle.bpaf_exact.proofs.Says.{fallback_says, last_says, listed_says}
 
@@ -59,8 +60,8 @@ module _ {P Q A B : Type 0} (inside : Q → P) (q : Q) where
           → ProgramFormSays s kind said (inside q)
           → ProgramFormSays (flat_only g s) outer (said_flat inside pieces said) q
       by_form no_program said h = tt
-      by_form (plain s) (of_pieces said) h = each s (said (inside q)) h
-      by_form (plain s) (of_cells said) h = absurd h
+      by_form (plain wide s) (of_pieces said) h = each s (said (inside q)) h
+      by_form (plain wide s) (of_cells said) h = absurd h
       by_form (commands r value) said h = tt
       by_form (left_out r value) said h = tt
       by_form (before_commands r value) said h = tt
@@ -82,8 +83,8 @@ module _ {P Q A B : Type 0} (inside : Q → P) (q : Q) where
           → ProgramFormSays (program_closed (f q) s) kind
           (said_closed inside f said) q
       by_form no_program said h = tt
-      by_form (plain s) (of_pieces said) h = closed_says (f q) h
-      by_form (plain s) (of_cells said) h = absurd h
+      by_form (plain wide s) (of_pieces said) h = closed_says (f q) h
+      by_form (plain wide s) (of_cells said) h = absurd h
       by_form (commands r value) (of_pieces said) h = absurd h
       by_form (commands r value) (of_cells said) h = made value (said (inside q)) h
       by_form (left_out r value) (of_pieces said) h = absurd h
@@ -130,8 +131,8 @@ module _ {P Q T : Type 0} (inside : Q → P) (q : Q) where
           → ProgramFormSays (program_dressed s) kind
           (said_dressed inside said) q
       by_form no_program said h = tt
-      by_form (plain s) (of_pieces said) h = dressed_says h
-      by_form (plain s) (of_cells said) h = absurd h
+      by_form (plain wide s) (of_pieces said) h = h
+      by_form (plain wide s) (of_cells said) h = absurd h
       by_form (commands r value) (of_pieces said) h = absurd h
       by_form (commands r value) (of_cells said) h = h
       by_form (left_out r value) (of_pieces said) h = absurd h
@@ -155,8 +156,8 @@ module _ {P Q T : Type 0} (inside : Q → P) (q : Q) where
           → ProgramFormSays (program_optional catch s) kind
           (said_optional inside said) q
       by_form no_program said h = tt
-      by_form (plain s) (of_pieces said) h = unless_says catch (optional_says h)
-      by_form (plain s) (of_cells said) h = absurd h
+      by_form (plain wide s) (of_pieces said) h = unless_says catch (optional_says h)
+      by_form (plain wide s) (of_cells said) h = absurd h
       by_form (commands r value) (of_pieces said) h = absurd h
       by_form (commands r value) (of_cells said) h =
           if_says (not catch) _ kind _ q (λ on. optional value (said (inside q)) h)
@@ -168,13 +169,13 @@ module _ {P Q T : Type 0} (inside : Q → P) (q : Q) where
       → ProgramFormSays s kind said p → is_program s ≡ true
       → IsSaid (program_value s) (cells_said said p)
   whole_says no_program kind said p h is = absurd cc
-  whole_says (plain s) kind (of_pieces said) p h is = λ cs v read. record {
+  whole_says (plain wide s) kind (of_pieces said) p h is = λ cs v read. record {
     roles = product_roles (flat_record s);
     cut_into = read.cut_into;
     cut = read.cut;
     told = record_says s h read.cut_into v read.read;
   }
-  whole_says (plain s) kind (of_cells said) p h is = absurd h
+  whole_says (plain wide s) kind (of_cells said) p h is = absurd h
   whole_says (commands r value) kind (of_pieces said) p h is = absurd h
   whole_says (commands r value) kind (of_cells said) p h is = h
   whole_says (left_out r value) kind (of_pieces said) p h is = absurd h
@@ -213,12 +214,12 @@ module _ {P Q T : Type 0} (inside : Q → P) (q : Q) where
           → ProgramFormSays (opened_form (opening_words (called q)) (whole_program s)) ByName
           (said_command inside called said) q
       by_form no_program h = tt
-      by_form (plain s) h = by_test (is_record s) refl
+      by_form (plain wide s) h = by_test (is_record s) refl
         where
           by_test : (b : Bool) → is_record s ≡ b
               → ProgramFormSays (opened_form (opening_words (called q))
               (program_if b (before_commands (product_roles (flat_record s))
-              (program_value (plain s))))) ByName
+              (program_value (plain wide s))))) ByName
               (said_command inside called said) q
           by_test true e = by_whole _ _ (h e)
           by_test false e = tt
@@ -236,7 +237,7 @@ module _ {Q T : Type 0} (q : Q) where
       → ProgramFormSays s kind (of_pieces says) p
       → ((os : List LinePiece) (v : T) → says p os v → said q os v)
       → ProgramFormSays (program_choice own others words more before s) ByName (of_pieces said) q
-  more_pieces said says p kind own others words more (plain a) (plain b) h g into = record {
+  more_pieces said says p kind own others words more (plain wide a) (plain other b) h g into = record {
     by = choice_into own others kind (said q) (said q) (says p) (λ os v m. m) into a b h.by g.by;
   }
   more_pieces said says p kind own others words more (commands r a) s h g into = absurd h
@@ -248,7 +249,7 @@ module _ {Q T : Type 0} (q : Q) where
       (before s : ProgramForm T) → ProgramFormSays before ByName (of_cells said) q
       → ProgramFormSays s kind (of_cells says) p → IsSaid (says p) (said q)
       → ProgramFormSays (program_choice own others words more before s) ByName (of_cells said) q
-  more_cells said says p kind own others words more (plain a) (plain b) h g into = absurd h
+  more_cells said says p kind own others words more (plain wide a) (plain other b) h g into = absurd h
   more_cells said says p kind own others words more (commands r a) (commands u b) h g into =
       if_says (are_words_apart words more) _ ByName _ q (λ on. either)
     where
@@ -276,9 +277,9 @@ program_choice_says {P} {Q} {R} {T} this that r own others words more {s} {t} {a
         → ProgramFormSays s j a (this r) → ProgramFormSays t k b (that r)
         → ProgramFormSays (program_choice own others words more s t) ByName
         (said_choice this that a b) r
-    by_form (plain s) (plain t) (of_pieces a) (of_pieces b) h g = choice_says own others h g
-    by_form (plain s) (plain t) (of_cells a) b h g = absurd h
-    by_form (plain s) (plain t) (of_pieces a) (of_cells b) h g = absurd g
+    by_form (plain wide s) (plain other t) (of_pieces a) (of_pieces b) h g = choice_says own others h g
+    by_form (plain wide s) (plain other t) (of_cells a) b h g = absurd h
+    by_form (plain wide s) (plain other t) (of_pieces a) (of_cells b) h g = absurd g
     by_form (commands q va) (commands u vb) (of_cells a) (of_cells b) h g =
         if_says (are_words_apart words more) _ ByName _ r
         (λ on. either va vb (a (this r)) (b (that r)) h g)
@@ -312,7 +313,7 @@ module _ {P Q T : Type 0} (names : P → List Names) (words : P → List (List �
         → ((os : List LinePiece) (v : T) → says p os v → said q os v)
         → ProgramFormSays (first_only s) ByName (of_pieces said) q
     first_pieces said p no_program h into = tt
-    first_pieces said p (plain s) h into =
+    first_pieces said p (plain wide s) h into =
         record { by = by_flat s (by_name s (kind p) (says p) h.by) }
       where
         by_flat : (s : FlatForm T) → FormSays (alternative_only s) ByName (says p)
@@ -321,7 +322,7 @@ module _ {P Q T : Type 0} (names : P → List Names) (words : P → List (List �
         by_flat (alternative r value) h = (refl, λ o v m. into (o ∷ []) v (h.1 o v m))
         by_flat (single k r group gap) h = tt
         by_flat (complete k r value) h = tt
-        by_flat (product r fields) h = tt
+        by_flat (product named r fields) h = tt
     first_pieces said p (commands r value) h into = absurd h
     first_pieces said p (left_out r value) h into = tt
     first_pieces said p (before_commands r value) h into = tt
@@ -347,7 +348,7 @@ module _ {P Q T : Type 0} (names : P → List Names) (words : P → List (List �
         → ProgramFormSays s (kind p) (of_cells says) p → IsSaid (says p) (said q)
         → ProgramFormSays (first_only s) ByName (of_cells said) q
     first_cells said p no_program h into = tt
-    first_cells said p (plain s) h into = absurd h
+    first_cells said p (plain wide s) h into = absurd h
     first_cells said p (commands r value) h into = λ cs v c. into cs v (h cs v c)
     first_cells said p (left_out r value) h into = tt
     first_cells said p (before_commands r value) h into = tt
@@ -412,9 +413,9 @@ program_alone_says {P} {Q} {T} last q outcome kind names words {s} {said} law h 
         → ProgramFieldsFormSay (program_alone (program_field s))
         (said_alone last kind names said) q
     by_form no_program said law h = tt
-    by_form (plain s) (of_pieces said) law h =
+    by_form (plain wide s) (of_pieces said) law h =
         alone_says (field_owned outcome (names (last q)) s law) (field_says h)
-    by_form (plain s) (of_cells said) law h = absurd h
+    by_form (plain wide s) (of_cells said) law h = absurd h
     by_form (commands r value) (of_pieces said) law h = absurd h
     by_form (commands r value) (of_cells said) law h = h
     by_form (left_out r value) (of_pieces said) law h = absurd h
@@ -433,20 +434,20 @@ module _ {P Q R A B : Type 0} (first : R → P) (rest : R → Q) (r : R) (outcom
     (behind : Outcome B) (kind : P → FieldKind) (names : P → List Names) (words : List (List ℕ))
     (others : List Names) where
   -- a named one before what ends in commands
-  before_says : (said : P → Said A) (more : Q → CellsValue B) (s : FlatForm A) (u : Roles)
-      (value : CellsValue B) → FormOwns (names (first r)) s
+  before_says : (said : P → Said A) (more : Q → CellsValue B) (wide : Bool) (s : FlatForm A)
+      (u : Roles) (value : CellsValue B) → FormOwns (names (first r)) s
       → Says s (kind (first r)) (said (first r)) → IsSaid value (more (rest r))
-      → ProgramFieldsFormSay (program_both (names (first r)) others (plain s)
+      → ProgramFieldsFormSay (program_both (names (first r)) others (plain wide s)
       (before_commands u value))
       (said_both first rest kind names (of_pieces said) (of_all_cells more)) r
-  before_says said more (complete ByName q reads) u value own h g =
+  before_says said more wide (complete ByName q reads) u value own h g =
       fields_if_say (are_all_apart (names (first r)) others) _ _ r (λ on cs v read. record {
         roles = q;
         owns = own;
         own = h.by.1 (pieces q cs) v.0 read.own;
         left = g (without q cs) v.1 read.left;
       })
-  before_says said more _ u value own h g = tt
+  before_says said more wide _ u value own h g = tt
 
   pub program_both_say : {s : ProgramForm A} {t : ProgramForm B} {said : ProgramSaid P A}
       {more : ProgramFieldsSaid Q B} → ProgramFormLaw outcome (names (first r)) words s
@@ -464,18 +465,18 @@ module _ {P Q R A B : Type 0} (first : R → P) (rest : R → Q) (r : R) (outcom
           → ProgramFieldsFormSay t more (rest r)
           → ProgramFieldsFormSay (program_both (names (first r)) others (program_field s) t)
           (said_both first rest kind names said more) r
-      by_form (plain s) (plain t) (of_pieces said) (of_all_pieces more) law laws h g =
+      by_form (plain wide s) (plain other t) (of_pieces said) (of_all_pieces more) law laws h g =
           both_say (field_owned outcome (names (first r)) s law) (owned behind others t laws)
           (field_says h) g
-      by_form (plain s) (plain t) (of_pieces said) (of_all_cells more) law laws h g = absurd g
-      by_form (plain s) (plain t) (of_cells said) more law laws h g = absurd h
-      by_form (plain s) (before_commands u value) (of_pieces said) (of_all_cells more) law laws h
+      by_form (plain wide s) (plain other t) (of_pieces said) (of_all_cells more) law laws h g = absurd g
+      by_form (plain wide s) (plain other t) (of_cells said) more law laws h g = absurd h
+      by_form (plain wide s) (before_commands u value) (of_pieces said) (of_all_cells more) law laws h
           g =
-          before_says said more (flat_field s) u value
+          before_says said more (wide || is_product s) (inner_field s) u value
           (field_owned outcome (names (first r)) s law).by (field_says h) g
-      by_form (plain s) (before_commands u value) (of_pieces said) (of_all_pieces more) law laws h
+      by_form (plain wide s) (before_commands u value) (of_pieces said) (of_all_pieces more) law laws h
           g = absurd g
-      by_form (plain s) (before_commands u value) (of_cells said) more law laws h g = absurd h
+      by_form (plain wide s) (before_commands u value) (of_cells said) more law laws h g = absurd h
       by_form _ _ said more law laws h g = tt
 
 -- fields that stand inside
@@ -488,8 +489,8 @@ inside_say {P} {Q} {V} inside q {s} {said} h = record { by = by_form s said h.by
         → ProgramFieldsFormSay s said (inside q)
         → ProgramFieldsFormSay s (fields_said_inside inside said) q
     by_form no_program said h = tt
-    by_form (plain s) (of_all_pieces said) h = h
-    by_form (plain s) (of_all_cells said) h = absurd h
+    by_form (plain wide s) (of_all_pieces said) h = h
+    by_form (plain wide s) (of_all_cells said) h = absurd h
     by_form (commands r value) said h = tt
     by_form (left_out r value) said h = tt
     by_form (before_commands r value) (of_all_pieces said) h = absurd h
@@ -510,9 +511,9 @@ program_con_says {P} {Q} {A} {B} fields q outcome names makes {s} {said} law g =
         → ProgramFormSays (program_con (makes q) s) ByName
         (said_con fields names makes said) q
     by_form no_program said law g = tt
-    by_form (plain s) (of_all_pieces said) law g =
+    by_form (plain wide s) (of_all_pieces said) law g =
         con_says (makes q) (owned outcome (names (fields q)) s law) g
-    by_form (plain s) (of_all_cells said) law g = absurd g
+    by_form (plain wide s) (of_all_cells said) law g = absurd g
     by_form (commands r value) said law g = tt
     by_form (left_out r value) said law g = tt
     by_form (before_commands r value) (of_all_pieces said) law g = absurd g
@@ -538,8 +539,8 @@ flat_says {P} {T} s {kind} {said} {p} h = by_form s said h.by
     by_form : (s : ProgramForm T) (said : ProgramSaid P T) → ProgramFormSays s kind said p
         → Says (flat_form s) kind (pieces_said said p)
     by_form no_program said h = record { by = tt }
-    by_form (plain s) (of_pieces said) h = h
-    by_form (plain s) (of_cells said) h = absurd h
+    by_form (plain wide s) (of_pieces said) h = unless_says wide h
+    by_form (plain wide s) (of_cells said) h = absurd h
     by_form (commands r value) said h = record { by = tt }
     by_form (left_out r value) said h = record { by = tt }
     by_form (before_commands r value) said h = record { by = tt }

@@ -35,7 +35,7 @@ module _ (T : Type 0) (outcome : Outcome T)
     (k : FieldKind) (q : Roles) (value : List LinePiece → T → Type 0)
     (l : FieldLaw T outcome k q value) where
   -- a field may stand before none
-  before_none : Before k q no_roles
+  pub before_none : Before k q no_roles
   before_none = by_kind k
     where
       by_kind : (z : FieldKind) → Before z q no_roles
@@ -109,6 +109,16 @@ pub current_cells : (s : Situation) → cells (with_current s None) ≡ cells s
 unfolding cells
 current_cells s = refl
 
+-- a step that takes the same is as steady, whichever place is current
+pub same_steady : {s t : Situation} → Steady s t → Steady s (with_current t None)
+same_steady a = record {
+  context = a.context;
+  start = a.start;
+  end = a.end;
+  path = a.path;
+  keeps = a.keeps;
+}
+
 module _ (A B : Type 0) (fields : Outcome A) (makes : A → B → Type 0) (r : Roles)
     (reading : FieldsReading A) (l : FieldsLaw A fields r reading) where
   -- what the constructor makes of the fields' values
@@ -119,15 +129,7 @@ module _ (A B : Type 0) (fields : Outcome A) (makes : A → B → Type 0) (r : R
   con_steady : (s t : Situation) (v : B) → NoneOutside s → ProductOutcome fields makes s (Ok v) t
       → Steady s t
   con_steady s t v w o =
-      let a = l.steady s o.0 o.1 w o.2 in
-      subst (Steady s) (sym o.4)
-      (record {
-        context = a.context;
-        start = a.start;
-        end = a.end;
-        path = a.path;
-        keeps = a.keeps;
-      })
+      subst (Steady s) (sym o.4) (same_steady (l.steady s o.0 o.1 w o.2))
 
   -- its value is made of those that are read off a cut
   con_reads : (s t : Situation) (v : B) → NoneOutside s → ProductOutcome fields makes s (Ok v) t

@@ -1,6 +1,6 @@
 -- The value of each flat field says of its pieces what its parser says.
 use Rattle.std.proofs.Common.{◌≡◌, ℕ, Bool, true, false, List, [], ◌∷◌, ◌++◌, Option, Some, None}
-use Rattle.std.proofs.Common.{refl, sym, ap, ◌∙◌, subst, append-nil}
+use Rattle.std.proofs.Common.{◌&&◌, refl, sym, ap, ◌∙◌, subst, append-nil}
 use Rattle.bpaf_doc.specs.Names.{Names}
 use Rattle.bpaf_text.specs.Named.{Named as Key, KeyWithValue}
 use Rattle.bpaf_laws.specs.Reading.{Outcome}
@@ -17,12 +17,14 @@ use Rattle.bpaf_exact.specs.Wrappers.{own_value, kept_value}
 use Rattle.bpaf_exact.specs.Derived.{LastOf}
 use Rattle.bpaf_exact.specs.Alternative.{pick_type}
 use Rattle.bpaf_exact.specs.Leaves.{flag_field, flag_by, FlagValue, argument_field, argument_by}
-use Rattle.bpaf_exact.specs.Leaves.{ArgumentValue, LastGroup, word_field, WordValue}
+use Rattle.bpaf_exact.specs.Leaves.{ArgumentValue, LastGroup, SideValue, WordValue, stands_behind}
+use Rattle.bpaf_exact.specs.Leaves.{word_by}
 use Rattle.bpaf_exact.specs.Record.{LastValue}
 use Rattle.bpaf_exact.specs.FlatForm.{FlatForm, FormLaw, not_flat, alternative, single, complete}
-use Rattle.bpaf_exact.specs.FlatForm.{product, only_if, flat_closed, flat_dressed, flat_either}
+use Rattle.bpaf_exact.specs.FlatForm.{product, only_if, flat_closed, flat_either}
 use Rattle.bpaf_exact.specs.FlatForm.{flat_choice, alternative_only, flat_repeat, flat_last}
-use Rattle.bpaf_exact.specs.FlatForm.{flat_optional, flat_fallback, unless, flat_field, may_follow}
+use Rattle.bpaf_exact.specs.FlatForm.{flat_optional, flat_fallback, unless, inner_field, is_named}
+use Rattle.bpaf_exact.specs.FlatForm.{may_follow}
 use Rattle.bpaf_exact.specs.FlatForm.{flat_both, flat_alone, flat_con, flat_record, product_reading}
 use Rattle.bpaf_exact.specs.Says.{Said, FlagSays, says_present, says_absent, ArgumentSays}
 use Rattle.bpaf_exact.specs.Says.{says_text, says_last_text, WordSays, EitherSays, says_this}
@@ -102,16 +104,33 @@ argument_says {T} means argument =
     by_envs [] false false = (refl, piece false)
     by_envs [] false true = (refl, all_at_once, λ v none. absurd none)
 
--- a positional word
-pub word_says : {T : Type 0} (means : List ℕ → T → Type 0)
-    → Says (word_field means) OneWord (WordSays means)
-word_says {T} means = record {
-  by = (refl, front_says (WordValue means) (WordSays means) piece, λ v none. absurd none);
+-- what the value of a word by itself says
+abbrev pub OneWordSays : {T : Type 0} → (Bool → Bool) → (List ℕ → T → Type 0)
+    → (LinePiece → T → Type 0) → Type 0
+OneWordSays {T = T} accepts means value =
+    (o : LinePiece) (v : T) → value o v → WordSays accepts means (o ∷ []) v
+
+-- a word with such values
+pub word_by_says : {T : Type 0} (accepts : Bool → Bool) (means : List ℕ → T → Type 0)
+    (value : LinePiece → T → Type 0) → OneWordSays accepts means value
+    → Says (word_by value) OneWord (WordSays accepts means)
+word_by_says accepts means value piece = record {
+  by = (refl, front_says value (WordSays accepts means) piece, λ v none. absurd none);
 }
-  where
-    piece : (o : LinePiece) (v : T) → WordValue means o v → WordSays means (o ∷ []) v
-    piece (One w) v m = record { word = w; is = refl; meant = m }
-    piece (Two k w) v m = absurd m
+
+-- a word on either side of `--`
+pub word_says : {T : Type 0} (accepts : Bool → Bool) (means : List ℕ → T → Type 0)
+    → ((behind : Bool) → accepts behind ≡ true) → OneWordSays accepts means (WordValue means)
+word_says accepts means all (One w) v m =
+    record { word = w; is = refl; side = all (stands_behind w); meant = m }
+word_says accepts means all (Two k w) v m = absurd m
+
+-- one on an accepted side
+pub side_says : {T : Type 0} (accepts : Bool → Bool) (behind : Bool) (means : List ℕ → T → Type 0)
+    → accepts behind ≡ true → OneWordSays accepts means (SideValue behind means)
+side_says accepts behind means accepted (One w) v m =
+    record { word = w; is = refl; side = ap accepts m.0 ∙ accepted; meant = m.1 }
+side_says accepts behind means accepted (Two k w) v m = absurd m
 
 -- Closures, and what changes only what is shown.
 
@@ -141,19 +160,7 @@ closed_says {A} {B} f {s} {kind} {said} h = record { by = by_form s h.by }
     )
     by_form (complete k q value) h =
         (h.0, λ os v m. made os m.from v (h.1 os m.from m.read) m.made)
-    by_form (product q fields) h = tt
-
--- with another look
-pub dressed_says : {T : Type 0} {s : FlatForm T} {kind : FieldKind} {said : Said T}
-    → Says s kind said → Says (flat_dressed s) kind said
-dressed_says {T} {s} {kind} {said} h = record { by = by_form s h.by }
-  where
-    by_form : (s : FlatForm T) → FormSays s kind said → FormSays (flat_dressed s) kind said
-    by_form not_flat h = tt
-    by_form (alternative q value) h = h
-    by_form (single k q group gap) h = h
-    by_form (complete k q value) h = h
-    by_form (product q fields) h = tt
+    by_form (product named q fields) h = tt
 
 -- Choices.
 
@@ -181,11 +188,11 @@ choice_into {T} own others kind said this that from_this from_that a b g h =
     by_names true not_flat b g h = tt
     by_names true (single k q group gap) b g h = tt
     by_names true (complete k q value) b g h = tt
-    by_names true (product q fields) b g h = tt
+    by_names true (product named q fields) b g h = tt
     by_names true (alternative q first) not_flat g h = tt
     by_names true (alternative q first) (single k r group gap) g h = tt
     by_names true (alternative q first) (complete k r value) g h = tt
-    by_names true (alternative q first) (product r fields) g h = tt
+    by_names true (alternative q first) (product named r fields) g h = tt
     by_names true (alternative q first) (alternative r second) g h =
         (refl, λ o v m. piece q first second g.1 h.1 o v (is_own q o) m)
 
@@ -196,7 +203,7 @@ by_name not_flat kind said h = tt
 by_name (alternative q value) kind said h = (refl, h.1)
 by_name (single k q group gap) kind said h = tt
 by_name (complete k q value) kind said h = tt
-by_name (product q fields) kind said h = tt
+by_name (product named q fields) kind said h = tt
 
 -- a choice is of alternatives alone
 only_alternatives : {T : Type 0} (own others : List Names) (said : Said T) (a b : FlatForm T)
@@ -212,7 +219,7 @@ only_alternatives {T} own others said a b h = by_names (are_all_apart own others
     by_names true (alternative q value) h = h
     by_names true (single k q group gap) h = tt
     by_names true (complete k q value) h = tt
-    by_names true (product q fields) h = tt
+    by_names true (product named q fields) h = tt
 
 -- of two
 pub choice_says : {T : Type 0} (own others : List Names) {a b : FlatForm T} {j k : FieldKind}
@@ -277,10 +284,10 @@ module _ {T : Type 0} (said : Said T) (value : LinePiece → T → Type 0)
 
 -- as a field
 pub field_says : {T : Type 0} {s : FlatForm T} {kind : FieldKind} {said : Said T}
-    → Says s kind said → Says (flat_field s) kind said
+    → Says s kind said → Says (inner_field s) kind said
 field_says {T} {s} {kind} {said} h = record { by = by_form s h.by }
   where
-    by_form : (s : FlatForm T) → FormSays s kind said → FormSays (flat_field s) kind said
+    by_form : (s : FlatForm T) → FormSays s kind said → FormSays (inner_field s) kind said
     by_form not_flat h = tt
     by_form (alternative q value) h = (
       h.0,
@@ -289,7 +296,8 @@ field_says {T} {s} {kind} {said} h = record { by = by_form s h.by }
     )
     by_form (single k q group gap) h = (h.0, whole_says said group gap h.1 h.2)
     by_form (complete k q value) h = h
-    by_form (product q fields) h = tt
+    by_form (product true q fields) h = h
+    by_form (product false q fields) h = tt
 
 -- under `optional`
 pub optional_says : {T : Type 0} {s : FlatForm T} {kind : FieldKind} {said : Said T}
@@ -306,7 +314,7 @@ optional_says {T} {s} {kind} {said} h = record { by = by_form s h.by }
     )
     by_form (single k q group gap) h = (h.0, optional_by said group gap h.1 h.2)
     by_form (complete k q value) h = tt
-    by_form (product q fields) h = tt
+    by_form (product named q fields) h = tt
 
 -- under a fallback
 pub fallback_says : {T : Type 0} (f : Closure (Unit {0}) T) {s : FlatForm T} {kind : FieldKind}
@@ -323,7 +331,7 @@ fallback_says {T} f {s} {kind} {said} h = record { by = by_form s h.by }
     )
     by_form (single k q group gap) h = (h.0, fallback_by said group gap h.1 h.2 f)
     by_form (complete k q value) h = tt
-    by_form (product q fields) h = tt
+    by_form (product named q fields) h = tt
 
 -- under a repeat, as a list
 repeat_says : {T : Type 0} {s : FlatForm T} {kind : FieldKind} {said : Said T}
@@ -340,7 +348,7 @@ repeat_says {T} {s} {kind} {said} h = record { by = by_form s h.by }
     )
     by_form (single k q group gap) h = (ap repeated h.0, list_says said group gap h.1 h.2)
     by_form (complete k q value) h = tt
-    by_form (product q fields) h = tt
+    by_form (product named q fields) h = tt
 
 -- under `many`, `some`, `collect` or `count`
 pub listed_says : {T B : Type 0} (f : Closure (List T) B) {s : FlatForm T} {kind : FieldKind}
@@ -373,7 +381,7 @@ last_says {T} {s} {kind} {said} h = record { by = by_form s h.by }
     )
     by_form (single k q group gap) h = (ap repeated h.0, last_by group gap h.1 h.2)
     by_form (complete k q value) h = tt
-    by_form (product q fields) h = tt
+    by_form (product named q fields) h = tt
 
 -- without `catch`
 pub unless_says : {T : Type 0} (catch : Bool) {s : FlatForm T} {kind : FieldKind} {said : Said T}
@@ -386,7 +394,7 @@ unless_says false h = h
 -- own items are those with one of these names
 abbrev pub FormOwns : {T : Type 0} → List Names → FlatForm T → Type 0
 FormOwns names (complete k q value) = Owns (keys k q) names
-FormOwns names (product q fields) = Owns q names
+FormOwns names (product named q fields) = Owns q names
 FormOwns names _ = Unit {0}
 
 -- so it is with a form
@@ -400,16 +408,17 @@ owned outcome names not_flat law = record { by = tt }
 owned outcome names (alternative q value) law = record { by = tt }
 owned outcome names (single k q group gap) law = record { by = tt }
 owned outcome names (complete k q value) law = record { by = law.1 }
-owned outcome names (product q fields) law = record { by = law.1 }
+owned outcome names (product named q fields) law = record { by = law.1 }
 
 -- also as a field
 pub field_owned : {T : Type 0} (outcome : Outcome T) (names : List Names) (s : FlatForm T)
-    → FormLaw outcome names s → OwnsKeys names (flat_field s)
+    → FormLaw outcome names s → OwnsKeys names (inner_field s)
 field_owned outcome names not_flat law = record { by = tt }
 field_owned outcome names (alternative q value) law = record { by = law.1 }
 field_owned outcome names (single k q group gap) law = record { by = law.1 }
 field_owned outcome names (complete k q value) law = record { by = law.1 }
-field_owned outcome names (product q fields) law = record { by = tt }
+field_owned outcome names (product true q fields) law = record { by = law.1 }
+field_owned outcome names (product false q fields) law = record { by = tt }
 
 -- the last field
 pub alone_says : {T : Type 0} {names : List Names} {s : FlatForm T} {kind : FieldKind}
@@ -443,7 +452,7 @@ alone_says {T} {names} {s} {kind} {said} own_keys h =
     by_form not_flat law h = tt
     by_form (alternative q value) law h = tt
     by_form (single k q group gap) law h = tt
-    by_form (product q fields) law h = tt
+    by_form (product named q fields) law h = tt
     by_form (complete k q value) law h = λ whole os v m same.
         subst (λ j. said (its_pieces j names whole (others (either (keys k q) no_roles) os)) v)
         (sym h.0)
@@ -454,7 +463,7 @@ module _ {A B : Type 0} (own behind : List Names) (said : Said A) (rest_said : F
     (q r : Roles) (first : List LinePiece → A → Type 0) (fields : FieldsReading B)
     (owned_behind : Owns r behind)
     (each : (os : List LinePiece) (v : A) → first os v → said os v)
-    (rest_each : FieldsFormSays (product r fields) rest_said) where
+    (rest_each : FieldsFormSays (product true r fields) rest_said) where
   -- what a field of a kind and those behind it say
   abbrev KindSays : FieldKind → Type 0
   KindSays k =
@@ -510,21 +519,21 @@ pub both_say : {A B : Type 0} {own behind : List Names} {a : FlatForm A} {s : Fl
 both_say {A} {B} {own} {behind} {a} {s} {kind} {said} {rest_said} own_keys behind_keys h g =
     record { by = by_form a s own_keys.by behind_keys.by h.by g.by }
   where
-    by_test : (k : FieldKind) (q r : Roles) (first : List LinePiece → A → Type 0)
+    by_test : (k : FieldKind) (named : Bool) (q r : Roles) (first : List LinePiece → A → Type 0)
         (fields : FieldsReading B) → Owns (keys k q) own → Owns r behind → kind ≡ k
         → ((os : List LinePiece) (v : A) → first os v → said os v)
-        → FieldsFormSays (product r fields) rest_said
+        → FieldsFormSays (product named r fields) rest_said
         → (may : Bool) → may_follow k own behind ≡ may
-        → FieldsFormSays (only_if may (product (either (keys k q) r)
+        → FieldsFormSays (only_if may (product (is_named k && named) (either (keys k q) r)
         (both_reading k q first fields))) (BothSaid own kind said rest_said)
-    by_test k q r first fields owned owned_behind is each rest_each false may = tt
-    by_test k q r first fields owned owned_behind is each rest_each true may = λ whole os v m same.
-        subst
+    by_test k named q r first fields owned owned_behind is each rest_each false may = tt
+    by_test k named q r first fields owned owned_behind is each rest_each true may = λ whole os v m
+        same. subst
         (λ j. said (its_pieces j own whole (others (either (keys k q) r) os)) v.0
         × rest_said whole (words_after j (others (either (keys k q) r) os)) v.1)
         (sym is)
-        (kind_says own behind said rest_said q r first fields owned_behind each rest_each k owned may whole os v m
-        same)
+        (kind_says own behind said rest_said q r first fields owned_behind each rest_each k owned may
+        whole os v m same)
 
     by_form : (a : FlatForm A) (s : FlatForm B) → FormOwns own a
         → FormOwns behind s → FormSays a kind said → FieldsFormSays s rest_said
@@ -532,33 +541,36 @@ both_say {A} {B} {own} {behind} {a} {s} {kind} {said} {rest_said} own_keys behin
     by_form not_flat s law rest_law h g = tt
     by_form (alternative q value) s law rest_law h g = tt
     by_form (single k q group gap) s law rest_law h g = tt
-    by_form (product q fields) s law rest_law h g = tt
+    by_form (product named q fields) s law rest_law h g = tt
     by_form (complete k q first) not_flat law rest_law h g = tt
     by_form (complete k q first) (alternative r value) law rest_law h g = tt
     by_form (complete k q first) (single j r group gap) law rest_law h g = tt
     by_form (complete k q first) (complete j r value) law rest_law h g = tt
-    by_form (complete k q first) (product r fields) law rest_law h g =
-        by_test k q r first fields law rest_law h.0 h.1 g (may_follow k own behind) refl
+    by_form (complete k q first) (product named r fields) law rest_law h g =
+        by_test k named q r first fields law rest_law h.0 h.1 g (may_follow k own behind) refl
 
 -- what a constructor makes of the values of fields
 pub con_says : {A B : Type 0} {names : List Names} {s : FlatForm A} {said : FieldsSaid A}
-    (f : Closure A B) {kind : FieldKind} → OwnsKeys names s → FieldsSay s said
-    → Says (flat_con f s) kind (RecordSays said names f)
-con_says {A} {B} {names} {s} {said} f {kind} own_keys g =
+    (f : Closure A B) → OwnsKeys names s → FieldsSay s said
+    → Says (flat_con f s) ByName (RecordSays said names f)
+con_says {A} {B} {names} {s} {said} f own_keys g =
     record { by = by_form s own_keys.by g.by }
   where
     by_form : (s : FlatForm A) → FormOwns names s → FieldsFormSays s said
-        → FormSays (flat_con f s) kind (RecordSays said names f)
+        → FormSays (flat_con f s) ByName (RecordSays said names f)
     by_form not_flat law g = tt
     by_form (alternative q value) law g = tt
     by_form (single k q group gap) law g = tt
     by_form (complete k q value) law g = tt
-    by_form (product q fields) law g = λ os v m. record {
-      from = m.from;
-      fields = subst (λ z. said os z m.from) (others_unkeyed q names law os)
-          (g os os m.from m.read refl);
-      made = m.made;
-    }
+    by_form (product named q fields) law g = (
+      refl,
+      λ os v m. record {
+        from = m.from;
+        fields = subst (λ z. said os z m.from) (others_unkeyed q names law os)
+            (g os os m.from m.read refl);
+        made = m.made;
+      },
+    )
 
 -- A value of a flat record says what its parser says of all pieces of the line.
 pub record_says : {T : Type 0} (s : FlatForm T) {kind : FieldKind} {said : Said T}
@@ -589,4 +601,4 @@ record_says {T} s {kind} {said} h = by_form s h.by
     by_form (single k q group gap) h os v m =
         all_own k q _ (whole_says said group gap h.1 h.2) os v m
     by_form (complete k q value) h os v m = all_own k q value h.1 os v m
-    by_form (product q fields) h os v m = h os v m
+    by_form (product named q fields) h os v m = h.1 os v m

@@ -50,7 +50,7 @@ closed_no_surplus f not_flat h = tt
 closed_no_surplus f (alternative q value) h = tt
 closed_no_surplus f (single k q group gap) h = λ os rest v g. h os rest g.from g.read
 closed_no_surplus f (complete k q value) h = λ o p os v i. h o p os i.from i.read
-closed_no_surplus f (product q fields) h = tt
+closed_no_surplus f (product named q fields) h = tt
 
 -- a field without a repeat or default has no surplus
 pub field_no_surplus : {T : Type 0} (s : FlatForm T) → HasNoSurplus s → HasNoSurplus (flat_field s)
@@ -58,7 +58,7 @@ field_no_surplus not_flat h = tt
 field_no_surplus {T = T} (alternative q value) h = single_once T _ _ (front_one T value)
 field_no_surplus {T = T} (single k q group gap) h = single_once T group gap h
 field_no_surplus (complete k q value) h = h
-field_no_surplus (product q fields) h = tt
+field_no_surplus (product named q fields) h = tt
 
 -- nor has what may be left out
 pub optional_no_surplus : {T : Type 0} (s : FlatForm T) → HasNoSurplus s
@@ -67,7 +67,7 @@ optional_no_surplus not_flat h = tt
 optional_no_surplus {T = T} (alternative q value) h = optional_once T _ _ (front_one T value)
 optional_no_surplus {T = T} (single k q group gap) h = optional_once T group gap h
 optional_no_surplus (complete k q value) h = tt
-optional_no_surplus (product q fields) h = tt
+optional_no_surplus (product named q fields) h = tt
 
 -- nor what has a value that stands for it
 pub fallback_no_surplus : {T : Type 0} (f : Closure (Unit {0}) T) (s : FlatForm T) → HasNoSurplus s
@@ -76,7 +76,7 @@ fallback_no_surplus f not_flat h = tt
 fallback_no_surplus {T = T} f (alternative q value) h = fallback_once T _ _ (front_one T value) f
 fallback_no_surplus {T = T} f (single k q group gap) h = fallback_once T group gap h f
 fallback_no_surplus f (complete k q value) h = tt
-fallback_no_surplus f (product q fields) h = tt
+fallback_no_surplus f (product named q fields) h = tt
 
 -- whether `catch` is set changes nothing there
 pub unless_no_surplus : {T : Type 0} (catch : Bool) (s : FlatForm T) → HasNoSurplus s

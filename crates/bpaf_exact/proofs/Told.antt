@@ -1,13 +1,13 @@
 -- What a repeat's values say, piece by piece.
-use Rattle.std.proofs.Common.{◌≡◌, ℕ, Bool, false, List, [], ◌∷◌, ◌++◌, Option, None}
+use Rattle.std.proofs.Common.{◌≡◌, ℕ, Bool, true, false, List, [], ◌∷◌, ◌++◌, Option, None}
 use Rattle.std.proofs.Common.{sym, ap, ◌∙◌, subst, true≢false}
 use Rattle.std.specs.List.{AllZip}
 use Rattle.bpaf_exact.specs.Pieces.{LinePiece, One, Two}
-use Rattle.bpaf_exact.specs.Leaves.{FlagValue, ArgumentValue, WordValue}
+use Rattle.bpaf_exact.specs.Leaves.{FlagValue, ArgumentValue, WordValue, stands_behind}
 use Rattle.bpaf_exact.specs.Single.{Own, own_none, own_more}
 use Rattle.bpaf_exact.specs.Says.{Said, FlagSays, says_present, says_absent, ArgumentSays}
 use Rattle.bpaf_exact.specs.Says.{says_text, says_last_text, WordSays, FrontSays, RepeatSays}
-use Rattle.bpaf_exact.specs.Says.{says_in_turn, says_alone}
+use Rattle.bpaf_exact.specs.Says.{first_item, says_in_turn, says_alone}
 
 -- a value that is said of one piece
 record OfOnePiece {T : Type 0} (one : LinePiece → T → Type 0) (os : List LinePiece)
@@ -56,9 +56,17 @@ flag_values {T} {clones} {present} {absent} {os} {vs} required told =
     of_one os v (says_present k e m) = record { piece = One k; is = e; said = m }
     of_one os v (says_absent a e some m) = absurd cc
 
+-- a word on an accepted side means what its text means
+abbrev pub AcceptedWord : {T : Type 0} → (Bool → Bool) → (List ℕ → T → Type 0) → LinePiece → T
+    → Type 0
+AcceptedWord accepts means o v =
+    (accepts (stands_behind (first_item o)) ≡ true) × WordValue means o v
+
 -- Of repeated words: what their texts mean, in line order.
 pub word_values : {T : Type 0} {means : List ℕ → T → Type 0} {os : List LinePiece} {vs : List T}
-    → RepeatSays (WordSays means) os vs → AllZip (WordValue means) os vs
-word_values {T} {means} {os} {vs} told =
-    one_by_one (WordSays means) (WordValue means)
-    (λ os v said. record { piece = One said.word; is = said.is; said = said.meant }) os vs told
+    {accepts : Bool → Bool} → RepeatSays (WordSays accepts means) os vs
+    → AllZip (AcceptedWord accepts means) os vs
+word_values {T} {means} {os} {vs} {accepts} told =
+    one_by_one (WordSays accepts means) (AcceptedWord accepts means)
+    (λ os v said. record { piece = One said.word; is = said.is; said = (said.side, said.meant) }) os
+    vs told

@@ -130,11 +130,11 @@ pub optional_law : (T : Type 0) (inner : Outcome T) (catch : Bool) (names : List
     (words : List (List ℕ)) (s : ProgramForm T) → ProgramFormLaw inner names words s
     → ProgramFormLaw (TurnOutcome inner catch true) names [] (program_optional catch s)
 optional_law T inner catch names words no_program l = tt
-optional_law T inner true names words (plain s) l = tt
+optional_law T inner true names words (plain wide s) l = tt
 optional_law T inner true names words (commands r value) l = tt
-optional_law T inner false names words (plain s) l =
+optional_law T inner false names words (plain wide s) l =
     narrower_program_form (Option T) _ _ (optional_within T inner) names []
-    (program_optional false (plain s)) (program_optional_law T inner names words (plain s) l)
+    (program_optional false (plain wide s)) (program_optional_law T inner names words (plain wide s) l)
 optional_law T inner false names words (commands r value) l =
     narrower_program_form (Option T) _ _ (optional_within T inner) names []
     (program_optional false (commands r value))

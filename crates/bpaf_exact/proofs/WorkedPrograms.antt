@@ -16,12 +16,12 @@ use Rattle.bpaf_exact.proofs.WorkedRows.{one_front}
 
 -- the command `a X`
 abbrev a_command : ProgramForm (List ℕ)
-a_command = program_command false true (named_only (97 ∷ [])) (plain (word_field itself))
+a_command = program_command false true (named_only (97 ∷ [])) (plain false (word_field itself))
 
 -- the switch `-v`
 abbrev v_switch : ProgramForm Bool
 v_switch =
-    plain (single ByName v_roles (FrontOf Bool (FlagValue (exactly true)))
+    plain false (single ByName v_roles (FrontOf Bool (FlagValue (exactly true)))
     (switch_gap (exactly false)))
 
 -- `[-v] [a X]`

@@ -67,7 +67,7 @@ HasNoSurplus not_flat = Unit {0}
 HasNoSurplus (alternative q value) = Unit {0}
 HasNoSurplus (single k q group gap) = OneByOne group
 HasNoSurplus (complete k q value) = AtMostOne value
-HasNoSurplus (product q fields) = Unit {0}
+HasNoSurplus (product named q fields) = Unit {0}
 
 -- A part of a record, with its share of the pieces: where each field has a value, so it is with the
 -- part.

@@ -1,5 +1,5 @@
 -- What a flat field is: how it reads its pieces, and the law that this puts on its outcome.
-use Rattle.std.specs.Prelude.{ℕ, Bool, true, false, List, [], ◌∷◌, Option}
+use Rattle.std.specs.Prelude.{ℕ, Bool, true, false, ◌&&◌, List, [], ◌∷◌, Option}
 use Rattle.std.specs.Global.{Vec}
 use Rattle.bpaf_doc.specs.Names.{Names}
 use Rattle.bpaf_laws.specs.Reading.{Outcome}
@@ -26,8 +26,15 @@ pub data FlatForm (T : Type 0) : Type 1 where
   single : FieldKind → Roles → Groups T → Gap T → FlatForm T
   -- a field with a repeat or default
   complete : FieldKind → Roles → (List LinePiece → T → Type 0) → FlatForm T
-  -- a product of flat fields: a record, and no field of another
-  product : Roles → FieldsReading T → FlatForm T
+  -- a product of flat fields, by whether all are named: a record; and a field of another product
+  -- where they are
+  product : (named : Bool) → Roles → FieldsReading T → FlatForm T
+
+-- fields that are all named keep to the laws of a named field together
+abbrev pub NamedLaw : {T : Type 0} → Bool → Outcome T → Roles → (List LinePiece → T → Type 0)
+    → Type 0
+NamedLaw {T = T} true outcome q value = FieldLaw T outcome ByName q value
+NamedLaw false outcome q value = Unit {0}
 
 -- the laws of each, of a parser with these keys
 abbrev pub FormLaw : {T : Type 0} → Outcome T → List Names → FlatForm T → Type 0
@@ -38,7 +45,8 @@ FormLaw {T = T} outcome names (single k q group gap) =
     SingleLaw T outcome k q group gap × Owns (keys k q) names
 FormLaw {T = T} outcome names (complete k q value) =
     FieldLaw T outcome k q value × Owns (keys k q) names
-FormLaw {T = T} outcome names (product q fields) = FieldsLaw T outcome q fields × Owns q names
+FormLaw {T = T} outcome names (product named q fields) =
+    FieldsLaw T outcome q fields × Owns q names × NamedLaw named outcome q fields.value
 
 -- the premise of exactness: whether a closure accepts depends on the pieces alone, also where they
 -- have several values
@@ -48,7 +56,7 @@ Agrees f (alternative q value) = (o : LinePiece) → AgreesOn (value o) f
 Agrees f (single k q group gap) =
     ((os rest : List LinePiece) → AgreesOn (λ v. group os v rest) f) × AgreesOn gap.absent f
 Agrees f (complete k q value) = (os : List LinePiece) → AgreesOn (value os) f
-Agrees f (product q fields) = (os : List LinePiece) → AgreesOn (fields.value os) f
+Agrees f (product named q fields) = (os : List LinePiece) → AgreesOn (fields.value os) f
 
 -- the premises of all parsers of a list
 abbrev pub EachAgrees : {P : Type 0} → (P → Type 0) → List P → Type 0
@@ -67,15 +75,7 @@ flat_closed {A = A} {B = B} f (alternative q value) = alternative q (ClosedPiece
 flat_closed {A = A} {B = B} f (single k q group gap) =
     single k q (ClosedGroup A B group f) (closed_gap gap f)
 flat_closed {A = A} {B = B} f (complete k q value) = complete k q (ClosedValue A B value f)
-flat_closed f (product q fields) = not_flat
-
--- another look round a field; a product with something round it is no record
-abbrev pub flat_dressed : {T : Type 0} → FlatForm T → FlatForm T
-flat_dressed not_flat = not_flat
-flat_dressed (alternative q value) = alternative q value
-flat_dressed (single k q group gap) = single k q group gap
-flat_dressed (complete k q value) = complete k q value
-flat_dressed (product q fields) = not_flat
+flat_closed f (product named q fields) = not_flat
 
 -- a choice of two alternatives
 abbrev pub flat_either : {T : Type 0} → FlatForm T → FlatForm T → FlatForm T
@@ -93,7 +93,7 @@ alternative_only not_flat = not_flat
 alternative_only (alternative q value) = alternative q value
 alternative_only (single k q group gap) = not_flat
 alternative_only (complete k q value) = not_flat
-alternative_only (product q fields) = not_flat
+alternative_only (product named q fields) = not_flat
 
 -- the values of a repeat, as a list
 abbrev pub flat_repeat : {T : Type 0} → FlatForm T → FlatForm (List T)
@@ -102,7 +102,7 @@ flat_repeat {T = T} (alternative q value) =
     complete ByName q (OwnList T (FrontOf T value) (no_gap T))
 flat_repeat {T = T} (single k q group gap) = complete (repeated k) q (OwnList T group gap)
 flat_repeat (complete k q value) = not_flat
-flat_repeat (product q fields) = not_flat
+flat_repeat (product named q fields) = not_flat
 
 -- many, some, count and collect
 abbrev pub flat_many : {T : Type 0} → FlatForm T → FlatForm (Vec T)
@@ -126,7 +126,7 @@ flat_last not_flat = not_flat
 flat_last {T = T} (alternative q value) = complete ByName q (LastOf T (FrontOf T value) (no_gap T))
 flat_last {T = T} (single k q group gap) = complete (repeated k) q (LastOf T group gap)
 flat_last (complete k q value) = not_flat
-flat_last (product q fields) = not_flat
+flat_last (product named q fields) = not_flat
 
 -- what may be left out
 abbrev pub flat_optional : {T : Type 0} → FlatForm T → FlatForm (Option T)
@@ -135,7 +135,7 @@ flat_optional {T = T} (alternative q value) =
     complete ByName q (OptionalValue T (FrontOf T value) (no_gap T))
 flat_optional {T = T} (single k q group gap) = complete k q (OptionalValue T group gap)
 flat_optional (complete k q value) = not_flat
-flat_optional (product q fields) = not_flat
+flat_optional (product named q fields) = not_flat
 
 -- what has a value that stands for it
 abbrev pub flat_fallback : {T : Type 0} → Closure (Unit {0}) T → FlatForm T → FlatForm T
@@ -144,7 +144,7 @@ flat_fallback {T = T} f (alternative q value) =
     complete ByName q (FallbackValue T (FrontOf T value) (no_gap T) f)
 flat_fallback {T = T} f (single k q group gap) = complete k q (FallbackValue T group gap f)
 flat_fallback f (complete k q value) = not_flat
-flat_fallback f (product q fields) = not_flat
+flat_fallback f (product named q fields) = not_flat
 
 -- without `catch`
 abbrev pub unless : {T : Type 0} → Bool → FlatForm T → FlatForm T
@@ -158,7 +158,16 @@ flat_field {T = T} (alternative q value) =
     complete ByName q (SingleValue T (FrontOf T value) (no_gap T))
 flat_field {T = T} (single k q group gap) = complete k q (SingleValue T group gap)
 flat_field (complete k q value) = complete k q value
-flat_field (product q fields) = not_flat
+flat_field (product named q fields) = not_flat
+
+-- a field of a product, which may be a product of named fields too
+abbrev pub inner_field : {T : Type 0} → FlatForm T → FlatForm T
+inner_field not_flat = not_flat
+inner_field (alternative q value) = flat_field (alternative q value)
+inner_field (single k q group gap) = flat_field (single k q group gap)
+inner_field (complete k q value) = complete k q value
+inner_field (product true q fields) = complete ByName q fields.value
+inner_field (product false q fields) = not_flat
 
 -- keys may stand after a field: those that are apart from its own; after a positional field none
 abbrev pub may_follow : FieldKind → List Names → List Names → Bool
@@ -168,18 +177,24 @@ may_follow OneWord own (names ∷ others) = false
 may_follow EachWord own [] = true
 may_follow EachWord own (names ∷ others) = false
 
+-- a field is named
+abbrev pub is_named : FieldKind → Bool
+is_named ByName = true
+is_named OneWord = false
+is_named EachWord = false
+
 -- a field before others, each with its keys
 abbrev pub flat_both : {A B : Type 0} → List Names → List Names → FlatForm A → FlatForm B
     → FlatForm (A × B)
-flat_both own others (complete k q first) (product r rest) =
+flat_both own others (complete k q first) (product named r rest) =
     only_if (may_follow k own others)
-    (product (either (keys k q) r) (both_reading k q first rest))
+    (product (is_named k && named) (either (keys k q) r) (both_reading k q first rest))
 flat_both _ _ _ _ = not_flat
 
 -- the last field, or one alone
 abbrev pub flat_alone : {T : Type 0} → FlatForm T → FlatForm T
 flat_alone {T = T} (complete k q value) =
-    product (either (keys k q) no_roles) (last_reading k q value)
+    product (is_named k) (either (keys k q) no_roles) (last_reading k q value)
 flat_alone _ = not_flat
 
 -- what a constructor makes of the fields' values
@@ -189,16 +204,24 @@ made_reading {A = A} {B = B} f fields =
 
 -- the constructor of a product
 abbrev pub flat_con : {A B : Type 0} → Closure A B → FlatForm A → FlatForm B
-flat_con f (product q fields) = product q (made_reading f fields)
+flat_con f (product named q fields) = product named q (made_reading f fields)
 flat_con _ _ = not_flat
 
 -- a flat record: a product, or one field
 abbrev pub flat_record : {T : Type 0} → FlatForm T → FlatForm T
-flat_record (product q fields) = product q fields
+flat_record (product named q fields) = product named q fields
 flat_record not_flat = not_flat
 flat_record (alternative q value) = flat_alone (flat_field (alternative q value))
 flat_record (single k q group gap) = flat_alone (flat_field (single k q group gap))
 flat_record (complete k q value) = flat_alone (complete k q value)
+
+-- it is a product
+abbrev pub is_product : {T : Type 0} → FlatForm T → Bool
+is_product not_flat = false
+is_product (alternative q value) = false
+is_product (single k q group gap) = false
+is_product (complete k q value) = false
+is_product (product named q fields) = true
 
 -- it is a flat record: a field or a product of fields
 abbrev pub is_record : {T : Type 0} → FlatForm T → Bool
@@ -206,7 +229,7 @@ is_record not_flat = false
 is_record (alternative q value) = true
 is_record (single k q group gap) = true
 is_record (complete k q value) = true
-is_record (product q fields) = true
+is_record (product named q fields) = true
 
 -- the items of a flat record
 abbrev pub product_roles : {T : Type 0} → FlatForm T → Roles
@@ -214,7 +237,7 @@ product_roles not_flat = no_roles
 product_roles (alternative q value) = no_roles
 product_roles (single k q group gap) = no_roles
 product_roles (complete k q value) = no_roles
-product_roles (product q fields) = q
+product_roles (product named q fields) = q
 
 -- how the fields of a flat record read the pieces
 abbrev pub product_reading : {T : Type 0} → FlatForm T → FieldsReading T
@@ -222,4 +245,4 @@ product_reading not_flat = record { value = λ os v. ⊥; each = λ os. ⊥ }
 product_reading (alternative q value) = record { value = λ os v. ⊥; each = λ os. ⊥ }
 product_reading (single k q group gap) = record { value = λ os v. ⊥; each = λ os. ⊥ }
 product_reading (complete k q value) = record { value = λ os v. ⊥; each = λ os. ⊥ }
-product_reading (product q fields) = fields
+product_reading (product named q fields) = fields

@@ -25,7 +25,7 @@ HasOneView see not_flat = Unit {0}
 HasOneView see (alternative q value) = (o : LinePiece) → Alike see (value o)
 HasOneView see (single k q group gap) = OneGroup see group × Alike see gap.absent
 HasOneView see (complete k q value) = (os : List LinePiece) → Alike see (value os)
-HasOneView see (product q fields) = (os : List LinePiece) → Alike see (fields.value os)
+HasOneView see (product named q fields) = (os : List LinePiece) → Alike see (fields.value os)
 
 -- A closure that can't tell values apart that look alike: it accepts both or refuses both, and its
 -- answers look alike.

@@ -1,5 +1,5 @@
 -- What a parser is to a program with commands, and the law that this puts on its outcome.
-use Rattle.std.specs.Prelude.{ℕ, Bool, true, false, not, ◌&&◌, List, [], ◌∷◌, ◌++◌, Option}
+use Rattle.std.specs.Prelude.{ℕ, Bool, true, false, not, ◌&&◌, ◌||◌, List, [], ◌∷◌, ◌++◌, Option}
 use Rattle.std.specs.Prelude.{bytes_eq}
 use Rattle.std.specs.List.{list_all}
 use Rattle.bpaf_doc.specs.Names.{Names}
@@ -9,9 +9,9 @@ use Rattle.bpaf_exact.specs.Pieces.{Cells, Roles, either, no_roles}
 use Rattle.bpaf_exact.specs.Flat.{ByName, ReadOff}
 use Rattle.bpaf_exact.specs.FlatForm.{FlatForm, FormLaw, Agrees, complete, is_record, not_flat}
 use Rattle.bpaf_exact.specs.FlatForm.{product_roles, product_reading, flat_record, flat_closed}
-use Rattle.bpaf_exact.specs.FlatForm.{flat_optional, flat_choice, flat_field, flat_alone, flat_both}
-use Rattle.bpaf_exact.specs.FlatForm.{flat_con, flat_dressed, flat_fallback, flat_last, flat_repeat}
-use Rattle.bpaf_exact.specs.FlatForm.{alternative_only, unless}
+use Rattle.bpaf_exact.specs.FlatForm.{flat_optional, flat_choice, flat_alone, flat_both}
+use Rattle.bpaf_exact.specs.FlatForm.{flat_con, flat_fallback, flat_last, flat_repeat, inner_field}
+use Rattle.bpaf_exact.specs.FlatForm.{alternative_only, is_product, unless}
 use Rattle.bpaf_exact.specs.Names.{Owns, are_all_apart}
 use Rattle.bpaf_exact.specs.Programs.{CellsValue, CommandValue, ChoiceValue, OptionalCommands}
 use Rattle.bpaf_exact.specs.Programs.{ClosedCells, FieldThen, ProgramLaw, CommandsLaw, are_plain}
@@ -21,8 +21,8 @@ use Rattle.bpaf_exact.specs.Wrappers.{Closure, AgreesOn}
 pub data ProgramForm (T : Type 0) : Type 1 where
   -- nothing
   no_program : ProgramForm T
-  -- what it is to a flat record
-  plain : FlatForm T → ProgramForm T
+  -- a flat field or record; a wide one may stand in a program alone, and in no flat record
+  plain : (wide : Bool) → FlatForm T → ProgramForm T
   -- a command or a choice of them
   commands : Roles → CellsValue T → ProgramForm T
   -- commands that may be left out
@@ -34,7 +34,7 @@ pub data ProgramForm (T : Type 0) : Type 1 where
 abbrev pub ProgramFormLaw : {T : Type 0} → Outcome T → List Names → List (List ℕ) → ProgramForm T
     → Type 0
 ProgramFormLaw outcome names words no_program = Unit {0}
-ProgramFormLaw outcome names words (plain s) = FormLaw outcome names s
+ProgramFormLaw outcome names words (plain wide s) = FormLaw outcome names s
 ProgramFormLaw {T = T} outcome names words (commands r value) =
     CommandsLaw T outcome r words value × Owns r names
 ProgramFormLaw {T = T} outcome names words (left_out r value) =
@@ -45,7 +45,7 @@ ProgramFormLaw {T = T} outcome names words (before_commands r value) =
 -- the premise of exactness: whether a closure accepts depends on the cells alone
 abbrev pub ProgramAgrees : {A B : Type 0} → Closure A B → ProgramForm A → Type 0
 ProgramAgrees f no_program = Unit {0}
-ProgramAgrees f (plain s) = Agrees f s
+ProgramAgrees f (plain wide s) = Agrees f s
 ProgramAgrees f (commands r value) = (cs : Cells) → AgreesOn (value cs) f
 ProgramAgrees f (left_out r value) = (cs : Cells) → AgreesOn (value cs) f
 ProgramAgrees f (before_commands r value) = Unit {0}
@@ -58,7 +58,7 @@ program_if false s = no_program
 -- a closure round a field or commands
 abbrev pub program_closed : {A B : Type 0} → Closure A B → ProgramForm A → ProgramForm B
 program_closed f no_program = no_program
-program_closed f (plain s) = plain (flat_closed f s)
+program_closed f (plain wide s) = plain wide (flat_closed f s)
 program_closed {A = A} {B = B} f (commands r value) =
     commands r (ClosedCells A B value f)
 program_closed {A = A} {B = B} f (left_out r value) = left_out r (ClosedCells A B value f)
@@ -67,7 +67,7 @@ program_closed f (before_commands r value) = no_program
 -- what a combinator makes that takes flat fields alone
 abbrev pub flat_only : {A B : Type 0} → (FlatForm A → FlatForm B) → ProgramForm A → ProgramForm B
 flat_only g no_program = no_program
-flat_only g (plain s) = plain (g s)
+flat_only g (plain wide s) = plain wide (g s)
 flat_only g (commands r value) = no_program
 flat_only g (left_out r value) = no_program
 flat_only g (before_commands r value) = no_program
@@ -85,10 +85,10 @@ program_last = flat_only (λ s. flat_last s)
 abbrev pub program_fallback : {T : Type 0} → Closure (Unit {0}) T → ProgramForm T → ProgramForm T
 program_fallback f = flat_only (λ s. flat_fallback f s)
 
--- another look
+-- another look; a record with such a look round it is a wide one
 abbrev pub program_dressed : {T : Type 0} → ProgramForm T → ProgramForm T
 program_dressed no_program = no_program
-program_dressed (plain s) = plain (flat_dressed s)
+program_dressed (plain wide s) = plain (wide || is_product s) s
 program_dressed (commands r value) = commands r value
 program_dressed (left_out r value) = left_out r value
 program_dressed (before_commands r value) = no_program
@@ -96,7 +96,7 @@ program_dressed (before_commands r value) = no_program
 -- what may be left out; with `catch` it is none
 abbrev pub program_optional : {T : Type 0} → Bool → ProgramForm T → ProgramForm (Option T)
 program_optional catch no_program = no_program
-program_optional catch (plain s) = plain (unless catch (flat_optional s))
+program_optional catch (plain wide s) = plain wide (unless catch (flat_optional s))
 program_optional {T = T} catch (commands r value) =
     program_if (not catch) (left_out r (OptionalCommands T value))
 program_optional catch (left_out r value) = no_program
@@ -110,7 +110,8 @@ are_words_apart words others =
 -- a choice of two, each with its keys and its words
 abbrev pub program_choice : {T : Type 0} → List Names → List Names → List (List ℕ)
     → List (List ℕ) → ProgramForm T → ProgramForm T → ProgramForm T
-program_choice own others words more (plain s) (plain t) = plain (flat_choice own others s t)
+program_choice own others words more (plain wide s) (plain other t) =
+    plain (wide || other) (flat_choice own others s t)
 program_choice {T = T} own others words more (commands q a) (commands r b) =
     program_if (are_words_apart words more) (commands (either q r) (ChoiceValue T a b))
 program_choice own others words more _ _ = no_program
@@ -126,7 +127,7 @@ program_rest names words form own said before (p ∷ ps) =
 -- what may stand first in a choice
 abbrev pub first_only : {T : Type 0} → ProgramForm T → ProgramForm T
 first_only no_program = no_program
-first_only (plain s) = plain (alternative_only s)
+first_only (plain wide s) = plain wide (alternative_only s)
 first_only (commands r value) = commands r value
 first_only (left_out r value) = no_program
 first_only (before_commands r value) = no_program
@@ -141,7 +142,7 @@ program_choices names words form (p ∷ ps) =
 -- a whole program: a flat record, commands, or what ends in such
 abbrev pub whole_program : {T : Type 0} → ProgramForm T → ProgramForm T
 whole_program no_program = no_program
-whole_program {T = T} (plain s) =
+whole_program {T = T} (plain wide s) =
     program_if (is_record s) (before_commands (product_roles (flat_record s))
     (ReadOff T (product_roles (flat_record s)) (product_reading (flat_record s)).value))
 whole_program (commands r value) = before_commands r value
@@ -161,10 +162,10 @@ abbrev pub program_command : {T : Type 0} → (adjacent apart : Bool) → Called
 program_command adjacent apart called s =
     program_if (not adjacent && apart) (opened_form (opening_words called) (whole_program s))
 
--- a field of a product
+-- a field of a product; a product of named fields is a wide one
 abbrev pub program_field : {T : Type 0} → ProgramForm T → ProgramForm T
 program_field no_program = no_program
-program_field (plain s) = plain (flat_field s)
+program_field (plain wide s) = plain (wide || is_product s) (inner_field s)
 program_field (commands r value) = commands r value
 program_field (left_out r value) = left_out r value
 program_field (before_commands r value) = no_program
@@ -172,7 +173,7 @@ program_field (before_commands r value) = no_program
 -- the last field
 abbrev pub program_alone : {T : Type 0} → ProgramForm T → ProgramForm T
 program_alone no_program = no_program
-program_alone (plain s) = plain (flat_alone s)
+program_alone (plain wide s) = plain wide (flat_alone s)
 program_alone (commands r value) = before_commands r value
 program_alone (left_out r value) = before_commands r value
 program_alone (before_commands r value) = no_program
@@ -180,8 +181,9 @@ program_alone (before_commands r value) = no_program
 -- a field before others, each with its keys
 abbrev pub program_both : {A B : Type 0} → List Names → List Names → ProgramForm A → ProgramForm B
     → ProgramForm (A × B)
-program_both own others (plain s) (plain t) = plain (flat_both own others s t)
-program_both {A = A} {B = B} own others (plain (complete ByName q first)) (before_commands r rest) =
+program_both own others (plain wide s) (plain other t) =
+    plain (wide || other) (flat_both own others s t)
+program_both {A = A} {B = B} own others (plain wide (complete ByName q first)) (before_commands r rest) =
     program_if (are_all_apart own others)
     (before_commands (either q r) (FieldThen A B q first rest))
 program_both own others _ _ = no_program
@@ -189,7 +191,7 @@ program_both own others _ _ = no_program
 -- the constructor of a product
 abbrev pub program_con : {A B : Type 0} → Closure A B → ProgramForm A → ProgramForm B
 program_con f no_program = no_program
-program_con f (plain s) = plain (flat_con f s)
+program_con f (plain wide s) = plain wide (flat_con f s)
 program_con f (commands r value) = no_program
 program_con f (left_out r value) = no_program
 program_con {A = A} {B = B} f (before_commands r value) =
@@ -198,7 +200,7 @@ program_con {A = A} {B = B} f (before_commands r value) =
 -- it is a program
 abbrev pub is_program : {T : Type 0} → ProgramForm T → Bool
 is_program no_program = false
-is_program (plain s) = is_record s
+is_program (plain wide s) = is_record s
 is_program (commands r value) = true
 is_program (left_out r value) = true
 is_program (before_commands r value) = true
@@ -206,7 +208,7 @@ is_program (before_commands r value) = true
 -- the keys that may stand in a program
 abbrev pub program_roles : {T : Type 0} → ProgramForm T → Roles
 program_roles no_program = no_roles
-program_roles (plain s) = product_roles (flat_record s)
+program_roles (plain wide s) = product_roles (flat_record s)
 program_roles (commands r value) = r
 program_roles (left_out r value) = r
 program_roles (before_commands r value) = r
@@ -214,7 +216,7 @@ program_roles (before_commands r value) = r
 -- its values on cells
 abbrev pub program_value : {T : Type 0} → ProgramForm T → CellsValue T
 program_value no_program = λ cs v. ⊥
-program_value {T = T} (plain s) =
+program_value {T = T} (plain wide s) =
     ReadOff T (product_roles (flat_record s)) (product_reading (flat_record s)).value
 program_value (commands r value) = value
 program_value (left_out r value) = value
@@ -223,7 +225,7 @@ program_value (before_commands r value) = value
 -- what it is to a flat record
 abbrev pub flat_form : {T : Type 0} → ProgramForm T → FlatForm T
 flat_form no_program = not_flat
-flat_form (plain s) = s
+flat_form (plain wide s) = unless wide s
 flat_form (commands r value) = not_flat
 flat_form (left_out r value) = not_flat
 flat_form (before_commands r value) = not_flat

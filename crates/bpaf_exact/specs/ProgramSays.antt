@@ -163,8 +163,8 @@ IsSaid {T = T} value said = (cs : Cells) (v : T) → value cs v → said cs v
 abbrev pub ProgramFormSays : {P T : Type 0} → ProgramForm T → FieldKind → ProgramSaid P T → P
     → Type 0
 ProgramFormSays no_program kind said p = Unit {0}
-ProgramFormSays (plain s) kind (of_pieces said) p = Says s kind (said p)
-ProgramFormSays (plain s) kind (of_cells said) p = ⊥
+ProgramFormSays (plain wide s) kind (of_pieces said) p = Says s kind (said p)
+ProgramFormSays (plain wide s) kind (of_cells said) p = ⊥
 ProgramFormSays (commands r value) kind (of_pieces said) p = ⊥
 ProgramFormSays (commands r value) kind (of_cells said) p = IsSaid value (said p)
 ProgramFormSays (left_out r value) kind (of_pieces said) p = ⊥
@@ -181,8 +181,8 @@ pub record ProgramSays {P T : Type 0} (form : ProgramForm T) (kind : FieldKind)
 abbrev pub ProgramFieldsFormSay : {P V : Type 0} → ProgramForm V → ProgramFieldsSaid P V → P
     → Type 0
 ProgramFieldsFormSay no_program said p = Unit {0}
-ProgramFieldsFormSay (plain s) (of_all_pieces said) p = FieldsSay s (said p)
-ProgramFieldsFormSay (plain s) (of_all_cells said) p = ⊥
+ProgramFieldsFormSay (plain wide s) (of_all_pieces said) p = FieldsSay s (said p)
+ProgramFieldsFormSay (plain wide s) (of_all_cells said) p = ⊥
 ProgramFieldsFormSay (commands r value) said p = Unit {0}
 ProgramFieldsFormSay (left_out r value) said p = Unit {0}
 ProgramFieldsFormSay (before_commands r value) (of_all_pieces said) p = ⊥

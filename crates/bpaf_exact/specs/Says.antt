@@ -10,7 +10,7 @@ use Rattle.bpaf_exact.specs.Pieces.{LinePiece, One, Two, mine, others}
 use Rattle.bpaf_exact.specs.Names.{is_key_of_any}
 use Rattle.bpaf_exact.specs.Flat.{FieldKind, ByName, OneWord, EachWord, front, back}
 use Rattle.bpaf_exact.specs.Single.{Own}
-use Rattle.bpaf_exact.specs.Leaves.{HaveValues}
+use Rattle.bpaf_exact.specs.Leaves.{HaveValues, stands_behind}
 use Rattle.bpaf_exact.specs.Wrappers.{Closure}
 use Rattle.bpaf_exact.specs.Derived.{IsLast}
 use Rattle.bpaf_exact.specs.FlatForm.{FlatForm, not_flat, alternative, single, complete, product}
@@ -69,11 +69,12 @@ pub data ArgumentSays {T : Type 0} (means : List ℕ → T → Type 0) (last : B
   says_last_text : (before : List LinePiece) (k w : Arg) → last ≡ true → HaveValues before
       → os ≡ before ++ Two k w ∷ [] → means (item_text w) v → ArgumentSays means last os v
 
--- a positional word: what its text means
-pub record WordSays {T : Type 0} (means : List ℕ → T → Type 0) (os : List LinePiece)
-    (v : T) : Type 0 where
+-- a positional word on a side of `--` that is accepted: what its text means
+pub record WordSays {T : Type 0} (accepts : Bool → Bool) (means : List ℕ → T → Type 0)
+    (os : List LinePiece) (v : T) : Type 0 where
   pub word : Arg
   pub is : os ≡ One word ∷ []
+  pub side : accepts (stands_behind word) ≡ true
   pub meant : means (item_text word) v
 
 -- a choice: what one of its branches says
@@ -150,8 +151,8 @@ FormSays {T = T} (single k q group gap) kind said =
     × ((v : T) → gap.absent v → said [] v)
 FormSays {T = T} (complete k q value) kind said =
     (kind ≡ k) × ((os : List LinePiece) (v : T) → value os v → said os v)
-FormSays {T = T} (product r fields) kind said =
-    (os : List LinePiece) (v : T) → fields.value os v → said os v
+FormSays {T = T} (product named r fields) kind said =
+    (kind ≡ ByName) × ((os : List LinePiece) (v : T) → fields.value os v → said os v)
 
 -- a value of such a parser does
 pub record Says {T : Type 0} (form : FlatForm T) (kind : FieldKind) (said : Said T) : Type 0 where
@@ -160,7 +161,7 @@ pub record Says {T : Type 0} (form : FlatForm T) (kind : FieldKind) (said : Said
 -- values of such fields say so of all pieces of a line, of which those that they are read off are
 -- all that begin with their keys
 abbrev pub FieldsFormSays : {V : Type 0} → FlatForm V → FieldsSaid V → Type 0
-FieldsFormSays {V = V} (product r fields) said =
+FieldsFormSays {V = V} (product named r fields) said =
     (whole os : List LinePiece) (v : V) → fields.value os v → mine r whole ≡ mine r os
     → said whole (others r os) v
 FieldsFormSays _ said = Unit {0}

@@ -1,5 +1,5 @@
 -- An answer of a record's parser is exact by the record's own values, told by known names.
-use Rattle.std.proofs.Common.{◌≡◌, All, IfOk, IsUtf8, List, Ok, Err, Result, inl, refl}
+use Rattle.std.proofs.Common.{◌≡◌, All, Bool, IfOk, IsUtf8, List, Ok, Err, Result, inl, refl}
 use Rattle.bpaf_doc.specs.Names.{Names}
 use Rattle.bpaf_doc.specs.Shape.{Shape}
 use Rattle.bpaf_words.specs.Arguments.{Given}
@@ -22,15 +22,15 @@ use Rattle.bpaf_program.proofs.Shown.{line_context}
 module _ {T V : Type 0} {outcome : Outcome T} {fields : Readings V} {makes : V → T → Type 0}
     {wanted : Readings T} {describes : Shape → Type 0} {shape : Shape}
     (is : IsKnown outcome (ProductReads V T fields makes) describes wanted shape) (given : Given)
-    (make : V → T) (made : (x : V) (v : T) → makes x v → v ≡ make x) (q : Roles)
+    (make : V → T) (made : (x : V) (v : T) → makes x v → v ≡ make x) (named : Bool) (q : Roles)
     (reading : FieldsReading V) where
   -- what the parser's constructor makes of the fields
   abbrev Theirs : FlatForm T
-  Theirs = product q (made_reading (map_closure makes) reading)
+  Theirs = product named q (made_reading (map_closure makes) reading)
 
   -- what the record has of them
   abbrev Own : FlatForm T
-  Own = product q (made_reading (map_closure (λ x v. v ≡ make x)) reading)
+  Own = product named q (made_reading (map_closure (λ x v. v ≡ make x)) reading)
 
   -- a value of the record
   abbrev IsOwn : T → Type 0

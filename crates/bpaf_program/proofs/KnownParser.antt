@@ -83,8 +83,8 @@ pub record_known : {V T : Type 0} (names : List Names) (shorts : ShortNames) (ma
     (ProductOutcome outcome answers) [] (ShowsShorts describes shorts)
 record_known {V} {T} names shorts make fields outcome law only shows = record {
   law = narrower_program_form T _ _ (con_within outcome only) names []
-      (program_con (makes make) (plain fields))
-      (program_con_law V T outcome (λ x v. v ≡ make x) names (plain fields) law);
+      (program_con (makes make) (plain false fields))
+      (program_con_law V T outcome (λ x v. v ≡ make x) names (plain false fields) law);
   shown = shows;
 }
 
@@ -173,8 +173,8 @@ pub both_known : {A B : Type 0} (names : List Names) (shorts : ShortNames) (form
     → IsKnownBy (known_both names shorts form rest) (BothOutcome one outcome) []
     (FieldsShowShorts (BothDescribes describes describe) (joined shorts rest.shorts))
 both_known {A} {B} names shorts form rest one law shown {outcome} more = record {
-  law = program_both_law A B one outcome names rest.all [] (program_field (plain form)) rest.form
-      (program_field_law A one names [] (plain form) law) more.law;
+  law = program_both_law A B one outcome names rest.all [] (program_field (plain false form)) rest.form
+      (program_field_law A one names [] (plain false form) law) more.law;
   shown = both_show shown more.shown;
 }
 
@@ -195,7 +195,7 @@ con_known {A} {B} make known {outcome} fields {answers} only = record {
 pub commands_are : {T : Type 0} (form : ProgramForm T) → part_of form ≡ Commands
     → (r : Roles) × (value : CellsValue T) × (form ≡ commands r value)
 commands_are no_program is = absurd cc
-commands_are (plain form) is = absurd cc
+commands_are (plain wide form) is = absurd cc
 commands_are (commands r value) is = (r, value, refl)
 commands_are (left_out r value) is = absurd cc
 commands_are (before_commands r value) is = absurd cc

@@ -109,7 +109,7 @@ module _ {T X : Type 0} {outcome : Outcome T} {see : T → X} {names : List Name
   pub optional_seen : IsSeen (TurnOutcome outcome false true) (option_map see) names
       (flat_optional form)
   optional_seen = record {
-    law = optional_law T outcome false names [] (plain form) is.law;
+    law = optional_law T outcome false names [] (plain false form) is.law;
     view = optional_field_view T X see outcome names form is.law is.view;
   }
 
@@ -118,7 +118,7 @@ module _ {T X : Type 0} {outcome : Outcome T} {see : T → X} {names : List Name
       → IsSeen (FallbackOutcome outcome (GivesClone clones kept)) see names
       (flat_fallback (kept_closure (clones kept)) form)
   fallback_seen clones kept one = record {
-    law = fallback_law T outcome clones kept names [] (plain form) is.law;
+    law = fallback_law T outcome clones kept names [] (plain false form) is.law;
     view = fallback_view T X see outcome (kept_closure (clones kept)) one names form is.law is.view;
   }
 

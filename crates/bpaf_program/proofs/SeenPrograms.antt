@@ -1,5 +1,5 @@
 -- Programs all of whose values on the same words look alike.
-use Rattle.std.proofs.Common.{◌≡◌, All, true, IsUtf8, List, [], ◌∷◌, ◌++◌, ℕ, ap, ap₂}
+use Rattle.std.proofs.Common.{◌≡◌, All, true, false, IsUtf8, List, [], ◌∷◌, ◌++◌, ℕ, ap, ap₂}
 use Rattle.std.proofs.Common.{subst, sym, ◌∙◌}
 use Rattle.bpaf_doc.specs.Names.{Names}
 use Rattle.bpaf_words.specs.Arguments.{Given}
@@ -35,7 +35,8 @@ pub record AreSeen {T X : Type 0} (see : T → X) (words : List (List ℕ)) (val
 
 -- a flat record
 pub record_look : {T X : Type 0} {outcome : Outcome T} {see : T → X} {names : List Names}
-    {form : FlatForm T} → IsSeen outcome see names form → is_record form ≡ true → LooksOne see (program_value (plain form))
+    {form : FlatForm T} → IsSeen outcome see names form → is_record form ≡ true
+    → LooksOne see (program_value (plain false form))
 record_look {T} {X} {outcome} {see} {names} {form} is record_is =
     record_looks_one T X see outcome names form record_is is.law is.view
 

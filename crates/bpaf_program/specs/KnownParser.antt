@@ -56,7 +56,7 @@ known_record names shorts form = record {
   all = names;
   words = [];
   shorts = shorts;
-  form = plain form;
+  form = plain false form;
 }
 
 -- a command over a program
@@ -107,7 +107,7 @@ known_both names shorts form rest = record {
   all = names ++ rest.all;
   words = [];
   shorts = joined shorts rest.shorts;
-  form = program_both names rest.all (program_field (plain form)) rest.form;
+  form = program_both names rest.all (program_field (plain false form)) rest.form;
 }
 
 -- with a constructor that makes this of the fields

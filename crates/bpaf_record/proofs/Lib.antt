@@ -1,5 +1,4 @@
 pub mod Forms
-pub mod Products
 pub mod Parts
 pub mod OneLine
 pub mod Running
@@ -9,3 +8,4 @@ pub mod Spelled
 pub mod OwnWords
 pub mod Answered
 pub mod Called
+pub mod PassedOn

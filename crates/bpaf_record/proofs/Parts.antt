@@ -1,15 +1,16 @@
 -- What the combinators make of a part of a program.
-use Rattle.std.proofs.Common.{◌≡◌, ℕ, ◌+◌, ◌<◌, ◌≤◌, Bool, true, false, not, ◌&&◌, List, [], ◌∷◌}
+use Rattle.std.proofs.Common.{◌≡◌, ℕ, ◌+◌, ◌<◌, ◌≤◌, Bool, true, false, not, ◌&&◌, ◌||◌, List, [], ◌∷◌}
 use Rattle.std.proofs.Common.{◌++◌, length, take, drop, flat_map, slice_index_or, refl, sym, ap}
 use Rattle.std.proofs.Common.{◌∙◌, ap₂, arith, append-nil, if◌then◌else◌}
 use Rattle.std.specs.List.{list_all}
 use Rattle.std.proofs.lemmas.List.{drop_more, take_more}
 use Rattle.std.proofs.lemmas.List.Concat.{flat_map-append}
+use Rattle.std.proofs.lemmas.List.Folds.{list_all-append}
 use Rattle.bpaf_doc.specs.Names.{Names}
 use Rattle.bpaf_laws.specs.Command.{Called, opening_words}
 use Rattle.bpaf_exact.specs.Flat.{ByName, OneWord, EachWord, ReadOff}
-use Rattle.bpaf_exact.specs.FlatForm.{FlatForm, not_flat, alternative, single, complete, product}
-use Rattle.bpaf_exact.specs.FlatForm.{flat_field, flat_record, is_record, product_reading}
+use Rattle.bpaf_exact.specs.FlatForm.{FlatForm, complete}
+use Rattle.bpaf_exact.specs.FlatForm.{flat_record, is_record, product_reading}
 use Rattle.bpaf_exact.specs.FlatForm.{product_roles}
 use Rattle.bpaf_exact.specs.Names.{are_all_apart}
 use Rattle.bpaf_exact.specs.ProgramForm.{ProgramForm, no_program, plain, commands, left_out}
@@ -27,14 +28,15 @@ use Rattle.bpaf_record.specs.declared.part.ProgramPart.{ProgramPart}
 use Rattle.bpaf_record.specs.declared.part.ProgramPart.TheVariants.{NoPart, Flat, Commands}
 use Rattle.bpaf_record.specs.declared.part.ProgramPart.TheVariants.{BeforeCommands}
 use Rattle.bpaf_record.specs.Commands.{keys_inside}
-use Rattle.bpaf_record.specs.Form.{field_form, form_of, is_record_form}
+use Rattle.bpaf_record.specs.Form.{form_of, is_record_form}
 use Rattle.bpaf_record.specs.Part.{part_of, part_if, flat_part, closed_part, completed_part}
+use Rattle.bpaf_record.specs.Part.{dressed_part}
 use Rattle.bpaf_record.specs.Part.{optional_part, chosen_part, first_part, is_program_part}
 use Rattle.bpaf_record.specs.Part.{command_part, field_part, last_part, before_part, made_part}
 use Rattle.bpaf_record.specs.Part.{parts_rest}
-use Rattle.bpaf_record.proofs.Forms.{closed_is, dressed_is, fallback_is, last_is, listed_unless}
-use Rattle.bpaf_record.proofs.Forms.{optional_unless, record_is}
-use Rattle.bpaf_record.proofs.Products.{alone_is, both_is, choice_is, con_is, only_is}
+use Rattle.bpaf_record.proofs.Forms.{alone_is, both_is, choice_is, closed_is, con_is, fallback_is}
+use Rattle.bpaf_record.proofs.Forms.{field_is, last_is, listed_unless, only_is, optional_unless}
+use Rattle.bpaf_record.proofs.Forms.{product_is, record_is}
 
 -- where a test holds
 if_is : {T : Type 0} (b : Bool) (s : ProgramForm T)
@@ -46,16 +48,16 @@ if_is false s = refl
 pub closed_part_is : {A B : Type 0} (f : Closure A B) (s : ProgramForm A)
     → closed_part (part_of s) ≡ part_of (program_closed f s)
 closed_part_is f no_program = refl
-closed_part_is f (plain s) = ap Flat (closed_is f s)
+closed_part_is f (plain wide s) = ap (Flat wide) (closed_is f s)
 closed_part_is f (commands r value) = refl
 closed_part_is f (left_out r value) = refl
 closed_part_is f (before_commands r value) = refl
 
 -- another look
 pub dressed_part_is : {T : Type 0} (s : ProgramForm T)
-    → closed_part (part_of s) ≡ part_of (program_dressed s)
+    → dressed_part (part_of s) ≡ part_of (program_dressed s)
 dressed_part_is no_program = refl
-dressed_part_is (plain s) = ap Flat (dressed_is s)
+dressed_part_is (plain wide s) = ap (λ other. Flat (wide || other) (form_of s)) (product_is s)
 dressed_part_is (commands r value) = refl
 dressed_part_is (left_out r value) = refl
 dressed_part_is (before_commands r value) = refl
@@ -64,7 +66,7 @@ dressed_part_is (before_commands r value) = refl
 pub repeat_part_is : {T B : Type 0} (catch : Bool) (f : Closure (List T) B) (s : ProgramForm T)
     → completed_part catch (part_of s) ≡ part_of (program_repeat catch f s)
 repeat_part_is catch f no_program = refl
-repeat_part_is catch f (plain s) = ap Flat (listed_unless catch f s)
+repeat_part_is catch f (plain wide s) = ap (Flat wide) (listed_unless catch f s)
 repeat_part_is catch f (commands r value) = refl
 repeat_part_is catch f (left_out r value) = refl
 repeat_part_is catch f (before_commands r value) = refl
@@ -73,7 +75,7 @@ repeat_part_is catch f (before_commands r value) = refl
 pub last_part_is : {T : Type 0} (s : ProgramForm T)
     → completed_part false (part_of s) ≡ part_of (program_last s)
 last_part_is no_program = refl
-last_part_is (plain s) = ap Flat (last_is s)
+last_part_is (plain wide s) = ap (Flat wide) (last_is s)
 last_part_is (commands r value) = refl
 last_part_is (left_out r value) = refl
 last_part_is (before_commands r value) = refl
@@ -82,7 +84,7 @@ last_part_is (before_commands r value) = refl
 pub fallback_part_is : {T : Type 0} (f : Closure (Unit {0}) T) (s : ProgramForm T)
     → completed_part false (part_of s) ≡ part_of (program_fallback f s)
 fallback_part_is f no_program = refl
-fallback_part_is f (plain s) = ap Flat (fallback_is f s)
+fallback_part_is f (plain wide s) = ap (Flat wide) (fallback_is f s)
 fallback_part_is f (commands r value) = refl
 fallback_part_is f (left_out r value) = refl
 fallback_part_is f (before_commands r value) = refl
@@ -91,7 +93,7 @@ fallback_part_is f (before_commands r value) = refl
 pub optional_part_is : {T : Type 0} (catch : Bool) (s : ProgramForm T)
     → optional_part catch (part_of s) ≡ part_of (program_optional catch s)
 optional_part_is catch no_program = refl
-optional_part_is catch (plain s) = ap Flat (optional_unless catch s)
+optional_part_is catch (plain wide s) = ap (Flat wide) (optional_unless catch s)
 optional_part_is true (commands r value) = refl
 optional_part_is false (commands r value) = refl
 optional_part_is catch (left_out r value) = refl
@@ -102,7 +104,8 @@ pub choice_part_is : {T : Type 0} (own others : List Names) (words more : List (
     (s t : ProgramForm T)
     → chosen_part (are_all_apart own others) (are_words_apart words more) (part_of s) (part_of t)
     ≡ part_of (program_choice own others words more s t)
-choice_part_is own others words more (plain s) (plain t) = ap Flat (choice_is own others s t)
+choice_part_is own others words more (plain wide s) (plain other t) =
+    ap (Flat (wide || other)) (choice_is own others s t)
 choice_part_is own others words more (commands q a) (commands r b) =
     if_is (are_words_apart words more) _
 choice_part_is own others words more _ _ = refl
@@ -110,7 +113,7 @@ choice_part_is own others words more _ _ = refl
 -- a choice of one alone
 first_part_is : {T : Type 0} (s : ProgramForm T) → first_part (part_of s) ≡ part_of (first_only s)
 first_part_is no_program = refl
-first_part_is (plain s) = ap Flat (only_is s)
+first_part_is (plain wide s) = ap (Flat wide) (only_is s)
 first_part_is (commands r value) = refl
 first_part_is (left_out r value) = refl
 first_part_is (before_commands r value) = refl
@@ -119,7 +122,8 @@ first_part_is (before_commands r value) = refl
 pub record_part_is : {T : Type 0} (s : ProgramForm T)
     → is_record_form (flat_part (part_of s)) ≡ is_record (flat_form s)
 record_part_is no_program = refl
-record_part_is (plain s) = record_is s
+record_part_is (plain true s) = refl
+record_part_is (plain false s) = record_is s
 record_part_is (commands r value) = refl
 record_part_is (left_out r value) = refl
 record_part_is (before_commands r value) = refl
@@ -127,7 +131,7 @@ record_part_is (before_commands r value) = refl
 -- a program
 pub program_part_is : {T : Type 0} (s : ProgramForm T) → is_program_part (part_of s) ≡ is_program s
 program_part_is no_program = refl
-program_part_is (plain s) = record_is s
+program_part_is (plain wide s) = record_is s
 program_part_is (commands r value) = refl
 program_part_is (left_out r value) = refl
 program_part_is (before_commands r value) = refl
@@ -160,7 +164,7 @@ module _ {T : Type 0} (words : List (List ℕ)) where
       → part_if (are_plain words && is_program_part (part_of s)) Commands
       ≡ part_of (opened_form words (whole_program s))
   opened_part_is no_program = over_none (are_plain words)
-  opened_part_is (plain s) = over_record s (is_record_form (form_of s)) (is_record s) (record_is s)
+  opened_part_is (plain wide s) = over_record s (is_record_form (form_of s)) (is_record s) (record_is s)
   opened_part_is (commands r value) = over_program r value (are_plain words)
   opened_part_is (left_out r value) = over_program r value (are_plain words)
   opened_part_is (before_commands r value) = over_program r value (are_plain words)
@@ -173,6 +177,11 @@ command_part_is true apart called s = refl
 command_part_is false true called s = opened_part_is (opening_words called) s
 command_part_is false false called s = refl
 
+-- a test of the keys of two
+pub all_joined : {X : Type 0} (test : X → Bool) (xs ys : List X)
+    → (list_all test xs && list_all test ys) ≡ list_all test (xs ++ ys)
+all_joined test xs ys = sym (list_all-append test xs ys)
+
 -- a test of the keys inside a command
 pub keys_entered : (test : Names → Bool) (deep : Bool) (names : List Names) (b : Bool)
     → b ≡ list_all test names
@@ -180,48 +189,61 @@ pub keys_entered : (test : Names → Bool) (deep : Bool) (names : List Names) (b
 keys_entered test true names b e = e
 keys_entered test false names b e = refl
 
+-- a field of a product
+field_part_is : {T : Type 0} (s : ProgramForm T) → field_part (part_of s) ≡ part_of (program_field s)
+field_part_is no_program = refl
+field_part_is (plain wide s) =
+    ap₂ (λ other form. Flat (wide || other) form) (product_is s) (field_is s)
+field_part_is (commands r value) = refl
+field_part_is (left_out r value) = refl
+field_part_is (before_commands r value) = refl
+
 -- the last field
 pub alone_part_is : {T : Type 0} (s : ProgramForm T)
     → last_part (field_part (part_of s)) ≡ part_of (program_alone (program_field s))
-alone_part_is no_program = refl
-alone_part_is (plain s) = ap Flat (alone_is s)
-alone_part_is (commands r value) = refl
-alone_part_is (left_out r value) = refl
-alone_part_is (before_commands r value) = refl
+alone_part_is {T} s = ap last_part (field_part_is s) ∙ by_field (program_field s)
+  where
+    by_field : (s : ProgramForm T) → last_part (part_of s) ≡ part_of (program_alone s)
+    by_field no_program = refl
+    by_field (plain wide s) = ap (Flat wide) (alone_is s)
+    by_field (commands r value) = refl
+    by_field (left_out r value) = refl
+    by_field (before_commands r value) = refl
 
 -- a named field before commands
-named_part_is : {A B : Type 0} (own others : List Names) (s : FlatForm A) (r : Roles)
-    (value : CellsValue B) (none : Bool)
-    → before_part (Flat (field_form (form_of s))) BeforeCommands (are_all_apart own others) none
-    ≡ part_of (program_both own others (plain (flat_field s)) (before_commands r value))
-named_part_is own others not_flat r value none = refl
-named_part_is own others (alternative q own_value) r value none =
+named_part_is : {A B : Type 0} (own others : List Names) (wide : Bool) (s : FlatForm A)
+    (r : Roles) (value : CellsValue B) (none : Bool)
+    → before_part (Flat wide (form_of s)) BeforeCommands (are_all_apart own others) none
+    ≡ part_of (program_both own others (plain wide s) (before_commands r value))
+named_part_is own others wide (complete ByName q first) r value none =
     if_is (are_all_apart own others) _
-named_part_is own others (single ByName q group gap) r value none =
-    if_is (are_all_apart own others) _
-named_part_is own others (single OneWord q group gap) r value none = refl
-named_part_is own others (single EachWord q group gap) r value none = refl
-named_part_is own others (complete ByName q own_value) r value none =
-    if_is (are_all_apart own others) _
-named_part_is own others (complete OneWord q own_value) r value none = refl
-named_part_is own others (complete EachWord q own_value) r value none = refl
-named_part_is own others (product q fields) r value none = refl
+named_part_is own others wide (complete OneWord q first) r value none = refl
+named_part_is own others wide (complete EachWord q first) r value none = refl
+named_part_is own others wide _ r value none = refl
 
 -- a field before others
 pub both_part_is : {A B : Type 0} (own others : List Names) (s : ProgramForm A)
     (t : ProgramForm B)
     → before_part (field_part (part_of s)) (part_of t) (are_all_apart own others)
     (list_all (λ names. false) others) ≡ part_of (program_both own others (program_field s) t)
-both_part_is own others (plain s) (plain t) = ap Flat (both_is own others s t)
-both_part_is own others (plain s) (before_commands r value) =
-    named_part_is own others s r value (list_all (λ names. false) others)
-both_part_is own others _ _ = refl
+both_part_is {A} {B} own others s t =
+    ap (λ part. before_part part (part_of t) (are_all_apart own others)
+    (list_all (λ names. false) others)) (field_part_is s)
+    ∙ by_field (program_field s) t
+  where
+    by_field : (s : ProgramForm A) (t : ProgramForm B)
+        → before_part (part_of s) (part_of t) (are_all_apart own others)
+        (list_all (λ names. false) others) ≡ part_of (program_both own others s t)
+    by_field (plain wide s) (plain other t) = ap (Flat (wide || other)) (both_is own others s t)
+    by_field (plain wide s) (before_commands r value) =
+        named_part_is own others wide s r value (list_all (λ names. false) others)
+    by_field _ _ = refl
 
 -- a constructor
 pub con_part_is : {A B : Type 0} (f : Closure A B) (s : ProgramForm A)
     → made_part (part_of s) ≡ part_of (program_con f s)
 con_part_is f no_program = refl
-con_part_is f (plain s) = ap Flat (con_is f s)
+con_part_is f (plain wide s) = ap (Flat wide) (con_is f s)
 con_part_is f (commands r value) = refl
 con_part_is f (left_out r value) = refl
 con_part_is f (before_commands r value) = refl

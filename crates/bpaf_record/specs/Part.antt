@@ -1,22 +1,23 @@
 -- What a parser is to a program with commands, as the program tells it.
-use Rattle.std.specs.Prelude.{Bool, true, false, ◌&&◌, List, [], ◌∷◌, ◌++◌, ℕ}
+use Rattle.std.specs.Prelude.{Bool, true, false, ◌&&◌, ◌||◌, List, [], ◌∷◌, ◌++◌, ℕ}
 use Rattle.bpaf_doc.specs.Names.{Names}
 use Rattle.bpaf_exact.specs.Names.{are_all_apart}
 use Rattle.bpaf_exact.specs.ProgramForm.{ProgramForm, no_program, plain, commands, left_out}
 use Rattle.bpaf_exact.specs.ProgramForm.{before_commands, are_words_apart}
 use Rattle.bpaf_record.specs.declared.form.Form.{Form}
-use Rattle.bpaf_record.specs.declared.form.Form.TheVariants.{NotFlat, NamedComplete}
+use Rattle.bpaf_record.specs.declared.form.Form.TheVariants.{Complete, NotFlat}
+use Rattle.bpaf_record.specs.declared.form.Kind.TheVariants.{Named}
 use Rattle.bpaf_record.specs.declared.part.ProgramPart.{ProgramPart}
 use Rattle.bpaf_record.specs.declared.part.ProgramPart.TheVariants.{NoPart, Flat, Commands, LeftOut}
 use Rattle.bpaf_record.specs.declared.part.ProgramPart.TheVariants.{BeforeCommands}
 use Rattle.bpaf_record.specs.Form.{form_of, closed_form, completed_form, unless_form, joined_form}
 use Rattle.bpaf_record.specs.Form.{alternative_form, field_form, alone_form, before_form, made_form}
-use Rattle.bpaf_record.specs.Form.{is_record_form}
+use Rattle.bpaf_record.specs.Form.{is_product_form, is_record_form}
 
 -- that of a form, without its items
 abbrev pub part_of : {T : Type 0} → ProgramForm T → ProgramPart
 part_of no_program = NoPart
-part_of (plain s) = Flat (form_of s)
+part_of (plain wide s) = Flat wide (form_of s)
 part_of (commands r value) = Commands
 part_of (left_out r value) = LeftOut
 part_of (before_commands r value) = BeforeCommands
@@ -28,42 +29,49 @@ part_if false part = NoPart
 
 -- what it is to a flat record
 abbrev pub flat_part : ProgramPart → Form
-flat_part (Flat form) = form
+flat_part (Flat wide form) = unless_form wide form
 flat_part _ = NotFlat
 
--- with a closure round it, or with another look
+-- with a closure round it
 abbrev pub closed_part : ProgramPart → ProgramPart
-closed_part (Flat form) = Flat (closed_form form)
+closed_part (Flat wide form) = Flat wide (closed_form form)
 closed_part BeforeCommands = NoPart
 closed_part other = other
 
+-- with another look
+abbrev pub dressed_part : ProgramPart → ProgramPart
+dressed_part (Flat wide form) = Flat (wide || is_product_form form) form
+dressed_part BeforeCommands = NoPart
+dressed_part other = other
+
 -- with a repeat or a default that may catch
 abbrev pub completed_part : Bool → ProgramPart → ProgramPart
-completed_part catch (Flat form) = Flat (unless_form catch (completed_form form))
+completed_part catch (Flat wide form) = Flat wide (unless_form catch (completed_form form))
 completed_part catch _ = NoPart
 
 -- what may be left out
 abbrev pub optional_part : Bool → ProgramPart → ProgramPart
-optional_part catch (Flat form) = Flat (unless_form catch (completed_form form))
+optional_part catch (Flat wide form) = Flat wide (unless_form catch (completed_form form))
 optional_part false Commands = LeftOut
 optional_part catch _ = NoPart
 
 -- the choice of two, by whether their keys and their words are apart
 abbrev pub chosen_part : Bool → Bool → ProgramPart → ProgramPart → ProgramPart
-chosen_part keys words (Flat this) (Flat that) = Flat (joined_form keys this that)
+chosen_part keys words (Flat wide this) (Flat other that) =
+    Flat (wide || other) (joined_form keys this that)
 chosen_part keys words Commands Commands = part_if words Commands
 chosen_part keys words _ _ = NoPart
 
 -- the choice of one alone
 abbrev pub first_part : ProgramPart → ProgramPart
-first_part (Flat form) = Flat (alternative_form form)
+first_part (Flat wide form) = Flat wide (alternative_form form)
 first_part Commands = Commands
 first_part _ = NoPart
 
 -- a program
 abbrev pub is_program_part : ProgramPart → Bool
 is_program_part NoPart = false
-is_program_part (Flat form) = is_record_form form
+is_program_part (Flat wide form) = is_record_form form
 is_program_part _ = true
 
 -- behind the word of a command
@@ -72,26 +80,27 @@ command_part opens part = part_if (opens && is_program_part part) Commands
 
 -- as a field of a product
 abbrev pub field_part : ProgramPart → ProgramPart
-field_part (Flat form) = Flat (field_form form)
+field_part (Flat wide form) = Flat (wide || is_product_form form) (field_form form)
 field_part BeforeCommands = NoPart
 field_part other = other
 
 -- as the last field
 abbrev pub last_part : ProgramPart → ProgramPart
-last_part (Flat form) = Flat (alone_form form)
+last_part (Flat wide form) = Flat wide (alone_form form)
 last_part Commands = BeforeCommands
 last_part LeftOut = BeforeCommands
 last_part _ = NoPart
 
 -- as a field before others
 abbrev pub before_part : ProgramPart → ProgramPart → Bool → Bool → ProgramPart
-before_part (Flat first) (Flat rest) apart none = Flat (before_form first rest apart none)
-before_part (Flat NamedComplete) BeforeCommands apart none = part_if apart BeforeCommands
+before_part (Flat wide first) (Flat other rest) apart none =
+    Flat (wide || other) (before_form first rest apart none)
+before_part (Flat wide (Complete Named)) BeforeCommands apart none = part_if apart BeforeCommands
 before_part _ _ apart none = NoPart
 
 -- with a constructor
 abbrev pub made_part : ProgramPart → ProgramPart
-made_part (Flat form) = Flat (made_form form)
+made_part (Flat wide form) = Flat wide (made_form form)
 made_part BeforeCommands = BeforeCommands
 made_part _ = NoPart
 

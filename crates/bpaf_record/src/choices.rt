@@ -50,14 +50,14 @@ impl<T: Drop, A: ProgramField<T>, B: ProgramField<T>> ProgramField<T> for ParseO
             .or_else(self.that.part(), keys_apart, words_apart)
     }
 
-    #[tactic(auto, using(crate::proofs::Products::all_joined))]
+    #[tactic(auto, using(crate::proofs::Parts::all_joined))]
     fn all_keys<N: KeyTest>(&self, test: &N) -> bool {
         let this = self.this.all_keys(test);
         let that = self.that.all_keys(test);
         this && that
     }
 
-    #[tactic(auto, using(crate::proofs::Products::all_joined))]
+    #[tactic(auto, using(crate::proofs::Parts::all_joined))]
     fn all_words<W: WordTest>(&self, test: &W) -> bool {
         let this = self.this.all_words(test);
         let that = self.that.all_words(test);
@@ -78,7 +78,7 @@ impl<T: Drop, A: ProgramField<T>, B: ProgramField<T>> ProgramField<T> for ParseO
 impl<T: Drop, A: FlatField<T>, B: FlatField<T>> FlatField<T> for ParseOrElse<A, B> {}
 
 /// Whether each key of each of these parsers passes a test.
-#[tactic(auto, using(crate::proofs::Products::all_joined))]
+#[tactic(auto, using(crate::proofs::Parts::all_joined))]
 fn all_keys_of<T, P: ProgramField<T>, N: KeyTest>(parsers: &[P], test: &N) -> bool
     ensures { result ≡ list_all (N.accepts test.now)
         (flat_map (λ p. P.keys p (N.deep test.now)) parsers.now) }
@@ -94,7 +94,7 @@ fn all_keys_of<T, P: ProgramField<T>, N: KeyTest>(parsers: &[P], test: &N) -> bo
 }
 
 /// Whether each word of the commands of each of these parsers passes a test.
-#[tactic(auto, using(crate::proofs::Products::all_joined))]
+#[tactic(auto, using(crate::proofs::Parts::all_joined))]
 fn all_words_of<T, P: ProgramField<T>, W: WordTest>(parsers: &[P], test: &W) -> bool
     ensures { result ≡ list_all (W.accepts test.now) (flat_map P.words parsers.now) }
 {

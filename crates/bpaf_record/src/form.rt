@@ -2,7 +2,37 @@
 ghost use Rattle.std.specs.Prelude.{◌≡◌};
 ghost use Rattle.bpaf_record.specs.Form.{closed_form, joined_form, completed_form, field_form};
 ghost use Rattle.bpaf_record.specs.Form.{alternative_form, alone_form, before_form, unless_form};
-ghost use Rattle.bpaf_record.specs.Form.{made_form, is_record_form};
+ghost use Rattle.bpaf_record.specs.Form.{is_named_kind, is_product_form, made_form, is_record_form};
+ghost use Rattle.bpaf_record.specs.Form.{may_stand};
+
+/// What the items of a field are.
+#[derive(Clone, Copy)]
+pub enum Kind {
+    /// Keys with one of its names.
+    Named,
+    /// Positional words.
+    Word,
+}
+
+impl Kind {
+    /// Whether they are keys.
+    fn is_named(self) -> bool
+        ensures { result ≡ is_named_kind self }
+    {
+        matches!(self, Kind::Named)
+    }
+
+    /// Whether others may stand behind it, whose keys are apart from its own or not: behind a
+    /// positional word no key may.
+    fn may_stand(self, apart: bool, no_key_behind: bool) -> bool
+        ensures { result ≡ may_stand self apart no_key_behind }
+    {
+        match self {
+            Kind::Named => apart,
+            Kind::Word => no_key_behind,
+        }
+    }
+}
 
 /// What a parser is to a flat record.
 #[derive(Clone, Copy)]
@@ -11,25 +41,21 @@ pub enum Form {
     NotFlat,
     /// A required flag or argument, or a choice of them.
     Alternative,
-    /// Another named field without a repeat or default.
-    Named,
-    /// A positional word without a repeat or default.
-    Word,
-    /// A named field with a repeat or default.
-    NamedComplete,
-    /// A positional word with a repeat or default.
-    WordComplete,
-    /// A product of flat fields.
-    Product,
+    /// Another field without a repeat or default.
+    Single(Kind),
+    /// A field with a repeat or default.
+    Complete(Kind),
+    /// A product of flat fields, which are all named or aren't.
+    Product { named: bool },
 }
 
 impl Form {
-    /// With a closure round it, or with another look: a field stays what it is.
+    /// With a closure round it: a field stays what it is.
     pub(crate) fn closed(self) -> Form
         ensures { result ≡ closed_form self }
     {
         match self {
-            Form::Product => Form::NotFlat,
+            Form::Product { .. } => Form::NotFlat,
             other => other,
         }
     }
@@ -59,8 +85,8 @@ impl Form {
         ensures { result ≡ completed_form self }
     {
         match self {
-            Form::Alternative | Form::Named => Form::NamedComplete,
-            Form::Word => Form::WordComplete,
+            Form::Alternative => Form::Complete(Kind::Named),
+            Form::Single(kind) => Form::Complete(kind),
             _ => Form::NotFlat,
         }
     }
@@ -81,9 +107,9 @@ impl Form {
         ensures { result ≡ field_form self }
     {
         match self {
-            Form::Alternative | Form::Named | Form::NamedComplete => Form::NamedComplete,
-            Form::Word | Form::WordComplete => Form::WordComplete,
-            Form::NotFlat | Form::Product => Form::NotFlat,
+            Form::Alternative | Form::Product { named: true } => Form::Complete(Kind::Named),
+            Form::Single(kind) | Form::Complete(kind) => Form::Complete(kind),
+            Form::NotFlat | Form::Product { named: false } => Form::NotFlat,
         }
     }
 
@@ -92,7 +118,9 @@ impl Form {
         ensures { result ≡ alone_form self }
     {
         match self {
-            Form::NamedComplete | Form::WordComplete => Form::Product,
+            Form::Complete(kind) => Form::Product {
+                named: kind.is_named(),
+            },
             _ => Form::NotFlat,
         }
     }
@@ -103,8 +131,11 @@ impl Form {
         ensures { result ≡ before_form self rest apart no_key_behind }
     {
         match (self, rest) {
-            (Form::NamedComplete, Form::Product) if apart => Form::Product,
-            (Form::WordComplete, Form::Product) if no_key_behind => Form::Product,
+            (Form::Complete(kind), Form::Product { named })
+                if kind.may_stand(apart, no_key_behind) => {
+                let named = kind.is_named() && named;
+                Form::Product { named }
+            }
             _ => Form::NotFlat,
         }
     }
@@ -114,9 +145,16 @@ impl Form {
         ensures { result ≡ made_form self }
     {
         match self {
-            Form::Product => Form::Product,
+            Form::Product { named } => Form::Product { named },
             _ => Form::NotFlat,
         }
+    }
+
+    /// Whether it is a product.
+    pub(crate) fn is_product(self) -> bool
+        ensures { result ≡ is_product_form self }
+    {
+        matches!(self, Form::Product { .. })
     }
 
     /// Whether it is a flat record: one field, or a product.

@@ -1,8 +1,8 @@
 //! Flags, arguments and words as fields.
-ghost use Rattle.std.specs.Prelude.{◌≡◌, [], ◌∷◌};
+ghost use Rattle.std.specs.Prelude.{◌≡◌, [], ◌∷◌, false, true};
 
 use crate::field::{FlatField, ProgramField};
-use crate::form::Form;
+use crate::form::{Form, Kind};
 use crate::keys::KeyTest;
 use crate::part::ProgramPart;
 use crate::words::WordTest;
@@ -25,7 +25,7 @@ impl<T: Clone> ProgramField<T> for ParseFlag<T> {
 
     ghost words = { λ p. [] };
 
-    ghost program_form = { λ p. plain (flag_field T.is_clone p.named p.present p.absent) };
+    ghost program_form = { λ p. plain false (flag_field T.is_clone p.named p.present p.absent) };
 
     ghost kind = { λ p. ByName };
 
@@ -34,11 +34,12 @@ impl<T: Clone> ProgramField<T> for ParseFlag<T> {
     ghost agrees = { λ p. Unit {0} };
 
     fn part(&self) -> ProgramPart {
-        ProgramPart::Flat(match (self.named.envs(), &self.absent) {
+        let form = match (self.named.envs(), &self.absent) {
             ([_, ..], _) => Form::NotFlat,
-            ([], Some(_)) => Form::Named,
+            ([], Some(_)) => Form::Single(Kind::Named),
             ([], None) => Form::Alternative,
-        })
+        };
+        ProgramPart::Flat { wide: false, form }
     }
 
     #[tactic(auto, using(crate::proofs::Forms::and_true))]
@@ -76,7 +77,7 @@ impl<T: FromText> ProgramField<T> for ParseArgument<T> {
 
     ghost words = { λ p. [] };
 
-    ghost program_form = { λ p. plain (argument_field T.means p) };
+    ghost program_form = { λ p. plain false (argument_field T.means p) };
 
     ghost kind = { λ p. ByName };
 
@@ -85,11 +86,12 @@ impl<T: FromText> ProgramField<T> for ParseArgument<T> {
     ghost agrees = { λ p. Unit {0} };
 
     fn part(&self) -> ProgramPart {
-        ProgramPart::Flat(match (self.named.envs(), self.adjacent, self.last) {
+        let form = match (self.named.envs(), self.adjacent, self.last) {
             ([], false, false) => Form::Alternative,
-            ([], false, true) => Form::Named,
+            ([], false, true) => Form::Single(Kind::Named),
             _ => Form::NotFlat,
-        })
+        };
+        ProgramPart::Flat { wide: false, form }
     }
 
     #[tactic(auto, using(crate::proofs::Forms::and_true))]
@@ -110,11 +112,13 @@ impl<T: FromText> ProgramField<T> for ParseArgument<T> {
 
 impl<T: FromText> FlatField<T> for ParseArgument<T> {}
 
-/// With `strict` or `non_strict` it is no flat field.
+/// With `strict` or `non_strict` it may stand in a program, but in no flat record; with `non_strict`
+/// under no repeat and no default.
 impl<T: FromText> ProgramField<T> for ParsePositional<T> {
     ghost use Rattle.bpaf_exact.specs.Flat.{OneWord};
     ghost use Rattle.bpaf_exact.specs.Says.{WordSays};
-    ghost use Rattle.bpaf_record.specs.Positional.{positional_says, positional_field, positional_field_law};
+    ghost use Rattle.bpaf.specs.Positional.{accepts};
+    ghost use Rattle.bpaf_record.specs.Positional.{is_sided, positional_says, positional_field, positional_field_law};
     ghost use Rattle.bpaf_exact.proofs.SameParts.{one_shape};
     ghost use Rattle.bpaf.specs.Positional.{positional_shape};
     ghost use Rattle.bpaf_exact.specs.ProgramForm.{plain};
@@ -124,19 +128,21 @@ impl<T: FromText> ProgramField<T> for ParsePositional<T> {
 
     ghost words = { λ p. [] };
 
-    ghost program_form = { λ p. plain (positional_field T.means p.position) };
+    ghost program_form = { λ p. plain (is_sided p.position) (positional_field T.means p.position) };
 
     ghost kind = { λ p. OneWord };
 
-    ghost says = { of_pieces (λ p. WordSays T.means) };
+    ghost says = { of_pieces (λ p. WordSays (accepts p.position) T.means) };
 
     ghost agrees = { λ p. Unit {0} };
 
     fn part(&self) -> ProgramPart {
-        ProgramPart::Flat(match self.position {
-            Position::Unrestricted => Form::Word,
-            Position::Strict | Position::NonStrict => Form::NotFlat,
-        })
+        let (wide, form) = match self.position {
+            Position::Unrestricted => (false, Form::Single(Kind::Word)),
+            Position::Strict => (true, Form::Single(Kind::Word)),
+            Position::NonStrict => (true, Form::Complete(Kind::Word)),
+        };
+        ProgramPart::Flat { wide, form }
     }
 
     fn all_keys<N: KeyTest>(&self, _test: &N) -> bool {
@@ -170,7 +176,7 @@ impl<T: Clone> ProgramField<T> for ParsePure<T> {
 
     ghost words = { λ p. [] };
 
-    ghost program_form = { λ p. plain (pure_field (T.is_clone p.value)) };
+    ghost program_form = { λ p. plain true (pure_field (T.is_clone p.value)) };
 
     ghost kind = { λ p. ByName };
 
@@ -179,7 +185,10 @@ impl<T: Clone> ProgramField<T> for ParsePure<T> {
     ghost agrees = { λ p. Unit {0} };
 
     fn part(&self) -> ProgramPart {
-        ProgramPart::Flat(Form::NamedComplete)
+        ProgramPart::Flat {
+            wide: true,
+            form: Form::Complete(Kind::Named),
+        }
     }
 
     fn all_keys<N: KeyTest>(&self, _test: &N) -> bool {

@@ -65,7 +65,7 @@ mod words;
 
 pub use command_line::CommandLine;
 pub use field::{FlatField, FlatFields, ProgramField, ProgramFields};
-pub use form::Form;
+pub use form::{Form, Kind};
 pub use keys::KeyTest;
 pub use part::ProgramPart;
 pub use record::Record;

@@ -1,18 +1,18 @@
 //! What a parser is to a program with commands.
 ghost use Rattle.std.specs.Prelude.{◌≡◌};
 ghost use Rattle.bpaf_record.specs.Part.{before_part, chosen_part, closed_part, command_part};
-ghost use Rattle.bpaf_record.specs.Part.{completed_part, field_part, first_part, flat_part};
+ghost use Rattle.bpaf_record.specs.Part.{completed_part, dressed_part, field_part, first_part, flat_part};
 ghost use Rattle.bpaf_record.specs.Part.{is_program_part, last_part, made_part, optional_part};
 
-use crate::form::Form;
+use crate::form::{Form, Kind};
 
 /// What a parser is to a program with commands.
 #[derive(Clone, Copy)]
 pub enum ProgramPart {
     /// Nothing.
     NoPart,
-    /// What it is to a flat record.
-    Flat(Form),
+    /// A flat field or record. A wide one may stand in a program alone, and in no flat record.
+    Flat { wide: bool, form: Form },
     /// A command, or a choice of commands.
     Commands,
     /// Commands that may be left out.
@@ -27,17 +27,34 @@ impl ProgramPart {
         ensures { result ≡ flat_part self }
     {
         match self {
-            ProgramPart::Flat(form) => form,
+            ProgramPart::Flat { wide: false, form } => form,
             _ => Form::NotFlat,
         }
     }
 
-    /// With a closure round it, or with another look: a field and commands stay what they are.
+    /// With a closure round it: a field and commands stay what they are.
     pub(crate) fn closed(self) -> ProgramPart
         ensures { result ≡ closed_part self }
     {
         match self {
-            ProgramPart::Flat(form) => ProgramPart::Flat(form.closed()),
+            ProgramPart::Flat { wide, form } => {
+                let form = form.closed();
+                ProgramPart::Flat { wide, form }
+            }
+            ProgramPart::BeforeCommands => ProgramPart::NoPart,
+            other => other,
+        }
+    }
+
+    /// With another look: what it is, but that a flat record is a wide one then.
+    pub(crate) fn dressed(self) -> ProgramPart
+        ensures { result ≡ dressed_part self }
+    {
+        match self {
+            ProgramPart::Flat { wide, form } => ProgramPart::Flat {
+                wide: wide || form.is_product(),
+                form,
+            },
             ProgramPart::BeforeCommands => ProgramPart::NoPart,
             other => other,
         }
@@ -48,7 +65,10 @@ impl ProgramPart {
         ensures { result ≡ completed_part catch self }
     {
         match self {
-            ProgramPart::Flat(form) => ProgramPart::Flat(form.completed_unless(catch)),
+            ProgramPart::Flat { wide, form } => {
+                let form = form.completed_unless(catch);
+                ProgramPart::Flat { wide, form }
+            }
             _ => ProgramPart::NoPart,
         }
     }
@@ -58,7 +78,10 @@ impl ProgramPart {
         ensures { result ≡ optional_part catch self }
     {
         match self {
-            ProgramPart::Flat(form) => ProgramPart::Flat(form.completed_unless(catch)),
+            ProgramPart::Flat { wide, form } => {
+                let form = form.completed_unless(catch);
+                ProgramPart::Flat { wide, form }
+            }
             ProgramPart::Commands if !catch => ProgramPart::LeftOut,
             _ => ProgramPart::NoPart,
         }
@@ -74,8 +97,16 @@ impl ProgramPart {
         ensures { result ≡ chosen_part keys_apart words_apart self other }
     {
         match (self, other) {
-            (ProgramPart::Flat(this), ProgramPart::Flat(that)) => {
-                ProgramPart::Flat(this.or_else(that, keys_apart))
+            (
+                ProgramPart::Flat { wide, form },
+                ProgramPart::Flat {
+                    wide: other,
+                    form: that,
+                },
+            ) => {
+                let wide = wide || other;
+                let form = form.or_else(that, keys_apart);
+                ProgramPart::Flat { wide, form }
             }
             (ProgramPart::Commands, ProgramPart::Commands) if words_apart => ProgramPart::Commands,
             _ => ProgramPart::NoPart,
@@ -87,7 +118,10 @@ impl ProgramPart {
         ensures { result ≡ first_part self }
     {
         match self {
-            ProgramPart::Flat(form) => ProgramPart::Flat(form.alternative()),
+            ProgramPart::Flat { wide, form } => {
+                let form = form.alternative();
+                ProgramPart::Flat { wide, form }
+            }
             ProgramPart::Commands => ProgramPart::Commands,
             _ => ProgramPart::NoPart,
         }
@@ -109,7 +143,10 @@ impl ProgramPart {
         ensures { result ≡ field_part self }
     {
         match self {
-            ProgramPart::Flat(form) => ProgramPart::Flat(form.field()),
+            ProgramPart::Flat { wide, form } => ProgramPart::Flat {
+                wide: wide || form.is_product(),
+                form: form.field(),
+            },
             ProgramPart::BeforeCommands => ProgramPart::NoPart,
             other => other,
         }
@@ -120,7 +157,10 @@ impl ProgramPart {
         ensures { result ≡ last_part self }
     {
         match self {
-            ProgramPart::Flat(form) => ProgramPart::Flat(form.alone()),
+            ProgramPart::Flat { wide, form } => {
+                let form = form.alone();
+                ProgramPart::Flat { wide, form }
+            }
             ProgramPart::Commands | ProgramPart::LeftOut => ProgramPart::BeforeCommands,
             _ => ProgramPart::NoPart,
         }
@@ -132,12 +172,24 @@ impl ProgramPart {
         ensures { result ≡ before_part self rest apart no_key_behind }
     {
         match (self, rest) {
-            (ProgramPart::Flat(first), ProgramPart::Flat(rest)) => {
-                ProgramPart::Flat(first.before(rest, apart, no_key_behind))
+            (
+                ProgramPart::Flat { wide, form },
+                ProgramPart::Flat {
+                    wide: other,
+                    form: rest,
+                },
+            ) => {
+                let wide = wide || other;
+                let form = form.before(rest, apart, no_key_behind);
+                ProgramPart::Flat { wide, form }
             }
-            (ProgramPart::Flat(Form::NamedComplete), ProgramPart::BeforeCommands) if apart => {
-                ProgramPart::BeforeCommands
-            }
+            (
+                ProgramPart::Flat {
+                    form: Form::Complete(Kind::Named),
+                    ..
+                },
+                ProgramPart::BeforeCommands,
+            ) if apart => ProgramPart::BeforeCommands,
             _ => ProgramPart::NoPart,
         }
     }
@@ -147,7 +199,10 @@ impl ProgramPart {
         ensures { result ≡ made_part self }
     {
         match self {
-            ProgramPart::Flat(form) => ProgramPart::Flat(form.made()),
+            ProgramPart::Flat { wide, form } => {
+                let form = form.made();
+                ProgramPart::Flat { wide, form }
+            }
             ProgramPart::BeforeCommands => ProgramPart::BeforeCommands,
             _ => ProgramPart::NoPart,
         }
@@ -159,7 +214,7 @@ impl ProgramPart {
     {
         match self {
             ProgramPart::NoPart => false,
-            ProgramPart::Flat(form) => form.is_record(),
+            ProgramPart::Flat { form, .. } => form.is_record(),
             _ => true,
         }
     }

@@ -77,7 +77,7 @@ impl<T: Drop, V, A: ProgramField<T>, R: ProgramFields<V>> ProgramFields<(T, V)> 
         self.first.part().field().then(rest, apart, no_key_behind)
     }
 
-    #[tactic(auto, using(crate::proofs::Products::all_joined))]
+    #[tactic(auto, using(crate::proofs::Parts::all_joined))]
     fn all_keys<N: KeyTest>(&self, test: &N) -> bool {
         let first = self.first.all_keys(test);
         let rest = self.rest.all_keys(test);

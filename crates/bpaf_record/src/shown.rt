@@ -29,7 +29,7 @@ impl<T, P: ProgramField<T>> ProgramField<T> for ParseUsage<P> {
 
     #[tactic(auto, using(crate::proofs::Parts::dressed_part_is))]
     fn part(&self) -> ProgramPart {
-        self.inner.part().closed()
+        self.inner.part().dressed()
     }
 
     fn all_keys<N: KeyTest>(&self, test: &N) -> bool {
@@ -72,7 +72,7 @@ impl<T, P: ProgramField<T>> ProgramField<T> for ParseGroupHelp<P> {
 
     #[tactic(auto, using(crate::proofs::Parts::dressed_part_is))]
     fn part(&self) -> ProgramPart {
-        self.inner.part().closed()
+        self.inner.part().dressed()
     }
 
     fn all_keys<N: KeyTest>(&self, test: &N) -> bool {
@@ -118,7 +118,7 @@ impl<T, P: ProgramField<T>> ProgramField<T> for ParseHide<P> {
 
     #[tactic(auto, using(crate::proofs::Parts::dressed_part_is))]
     fn part(&self) -> ProgramPart {
-        self.inner.part().closed()
+        self.inner.part().dressed()
     }
 
     fn all_keys<N: KeyTest>(&self, test: &N) -> bool {

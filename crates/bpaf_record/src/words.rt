@@ -95,7 +95,7 @@ fn shorts_pass<W: WordTest>(shorts: &[char], test: &W) -> bool
 }
 
 /// Whether all words of these names but the first pass a test.
-#[tactic(auto, using(crate::proofs::Products::all_joined))]
+#[tactic(auto, using(crate::proofs::Parts::all_joined))]
 fn others_pass<W: WordTest>(names: &CommandNames, test: &W) -> bool
     ensures { result ≡ list_all (W.accepts test.now)
         (names.now.longs ++ map encode_utf8 names.now.shorts) }

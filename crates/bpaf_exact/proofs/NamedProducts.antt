@@ -1,0 +1,300 @@
+-- A product of named fields keeps to the laws of a named field, so it may stand in another product.
+use Rattle.std.proofs.Common.{◌≡◌, true, false, List, [], ◌∷◌, Some, None, Result, Ok, Err}
+use Rattle.std.proofs.Common.{refl, sym, ap, ap₂, ◌∙◌, subst, inl, inr, if◌then◌else◌}
+use Rattle.bpaf_items.specs.declared.arg.Arg.{Arg}
+use Rattle.bpaf_line.specs.declared.error.Error.{Error}
+use Rattle.bpaf_line.specs.Situation.{Situation}
+use Rattle.bpaf_laws.specs.Product.{BothOutcome, ProductOutcome, joined}
+use Rattle.bpaf_laws.specs.Reading.{Outcome}
+use Rattle.bpaf_laws.specs.Spared.{IsNotMemory}
+use Rattle.bpaf_exact.specs.Flat.{ByName, FieldLaw, FieldTook, FieldsReading, Gives, NoneOutside}
+use Rattle.bpaf_exact.specs.Flat.{OfMemory, both_reading, cells, class}
+use Rattle.bpaf_exact.specs.Pieces.{Alone, Apart, Cells, Foreign, LinePiece, One, Role, Roles}
+use Rattle.bpaf_exact.specs.Pieces.{TakesPieces, WithNext, begin_piece, either, is_own_role, mine}
+use Rattle.bpaf_exact.specs.Pieces.{no_roles, others, pieces, takes_more, takes_none, with_next}
+use Rattle.bpaf_exact.specs.Record.{LastValue}
+use Rattle.bpaf_exact.specs.Wrappers.{ClosedValue, map_closure}
+use Rattle.bpaf_exact.proofs.Cells.{begin_foreign, keeps_other_some}
+use Rattle.bpaf_exact.proofs.Classes.{memory_class, not_memory}
+use Rattle.bpaf_exact.proofs.First.{Belongs, Union, belongs, both_nil, either_union, own_next}
+use Rattle.bpaf_exact.proofs.First.{swap_union, takes_left, to_first, to_none, to_second}
+use Rattle.bpaf_exact.proofs.First.{union_named}
+use Rattle.bpaf_exact.proofs.Product.{none_outside_after, steady_trans, values_of_both}
+use Rattle.bpaf_exact.proofs.Records.{before_none, current_cells, same_steady}
+use Rattle.bpaf_exact.proofs.Repeat.{some_trans}
+
+-- The pieces of two fields together.
+
+module _ (q : Roles) (k : Arg) (cs : Cells) (os : List LinePiece) where
+  -- an own item begins an own piece
+  mine_begin : (x : Role) → is_own_role (q k) ≡ true
+      → mine q (begin_piece x k cs os) ≡ begin_piece x k cs (mine q os)
+  mine_begin Foreign h = refl
+  mine_begin Alone h = ap (λ b. if b then (One k ∷ mine q os) else mine q os) h
+  mine_begin WithNext h =
+      ap (λ b. if b then (with_next k cs ∷ mine q os) else mine q os) (own_next q k cs ∙ h)
+
+  -- another item begins none
+  mine_passes : (x : Role) → is_own_role (q k) ≡ false
+      → mine q (begin_piece x k cs os) ≡ mine q os
+  mine_passes Foreign h = refl
+  mine_passes Alone h = ap (λ b. if b then (One k ∷ mine q os) else mine q os) h
+  mine_passes WithNext h =
+      ap (λ b. if b then (with_next k cs ∷ mine q os) else mine q os) (own_next q k cs ∙ h)
+
+  -- an own item begins no piece of others
+  others_pass : (x : Role) → is_own_role (q k) ≡ true
+      → others q (begin_piece x k cs os) ≡ others q os
+  others_pass Foreign h = refl
+  others_pass Alone h = ap (λ b. if b then others q os else (One k ∷ others q os)) h
+  others_pass WithNext h =
+      ap (λ b. if b then others q os else (with_next k cs ∷ others q os)) (own_next q k cs ∙ h)
+
+  -- another item begins one
+  others_begin : (x : Role) → is_own_role (q k) ≡ false
+      → others q (begin_piece x k cs os) ≡ begin_piece x k cs (others q os)
+  others_begin Foreign h = refl
+  others_begin Alone h = ap (λ b. if b then others q os else (One k ∷ others q os)) h
+  others_begin WithNext h =
+      ap (λ b. if b then others q os else (with_next k cs ∷ others q os)) (own_next q k cs ∙ h)
+
+module _ (p q r : Roles) (u : Union p q r) where
+  -- of the pieces of both the first one's are its own,
+  pub mine_of_both : (cs : Cells) → mine p (pieces r cs) ≡ pieces p cs
+  mine_of_both [] = refl
+  mine_of_both (None ∷ cs) = mine_of_both cs
+  mine_of_both (Some k ∷ cs) = by_owner (belongs p q r k u) (mine_of_both cs)
+    where
+      by_owner : Belongs p q r k → mine p (pieces r cs) ≡ pieces p cs
+          → mine p (pieces r (Some k ∷ cs)) ≡ pieces p (Some k ∷ cs)
+      by_owner (to_first h g f) behind =
+          mine_begin p k cs (pieces r cs) (r k) h
+          ∙ ap₂ (λ x os. begin_piece x k cs os) g behind
+      by_owner (to_second h g f) behind =
+          mine_passes p k cs (pieces r cs) (r k) (ap is_own_role f)
+          ∙ (behind ∙ sym (begin_foreign k cs (pieces p cs) f))
+      by_owner (to_none f g h) behind =
+          mine_passes p k cs (pieces r cs) (r k) (ap is_own_role f)
+          ∙ (behind ∙ sym (begin_foreign k cs (pieces p cs) f))
+
+  -- and the others the second one's
+  pub others_of_both : (cs : Cells) → others p (pieces r cs) ≡ pieces q cs
+  others_of_both [] = refl
+  others_of_both (None ∷ cs) = others_of_both cs
+  others_of_both (Some k ∷ cs) = by_owner (belongs p q r k u) (others_of_both cs)
+    where
+      by_owner : Belongs p q r k → others p (pieces r cs) ≡ pieces q cs
+          → others p (pieces r (Some k ∷ cs)) ≡ pieces q (Some k ∷ cs)
+      by_owner (to_first h g f) behind =
+          others_pass p k cs (pieces r cs) (r k) h
+          ∙ (behind ∙ sym (begin_foreign k cs (pieces q cs) f))
+      by_owner (to_second h g f) behind =
+          others_begin p k cs (pieces r cs) (r k) (ap is_own_role f)
+          ∙ ap₂ (λ x os. begin_piece x k cs os) g behind
+      by_owner (to_none f g h) behind =
+          others_begin p k cs (pieces r cs) (r k) (ap is_own_role f)
+          ∙ ap₂ (λ x os. begin_piece x k cs os) (h ∙ sym g) behind
+
+  -- what the first takes both take
+  takes_some_left : {cs ds : Cells} → TakesPieces p cs ds → TakesPieces r cs ds
+  takes_some_left takes_none = takes_none
+  takes_some_left (takes_more t more) = takes_more (takes_left p q r u t) (takes_some_left more)
+
+-- A named field before other named fields.
+module _ (A B : Type 0) (first : Outcome A) (rest : Outcome B) (q r : Roles)
+    (fv : List LinePiece → A → Type 0) (read : FieldsReading B) (lf : FieldLaw A first ByName q fv)
+    (lr : FieldLaw B rest ByName r read.value) (apart : Apart q r) where
+  -- the values of both
+  abbrev value : List LinePiece → A × B → Type 0
+  value = (both_reading ByName q fv read).value
+
+  -- the items of both
+  abbrev both : Roles
+  both = either q r
+
+  together : Union q r both
+  together = either_union q r lf.own lr.own apart
+
+  -- both have a value on their own pieces where each has one on its own
+  both_value : (cs : Cells) (v : A × B) → fv (pieces q cs) v.0 → read.value (pieces r cs) v.1
+      → value (pieces both cs) v
+  both_value cs v a b = (
+    subst (λ os. fv os v.0) (sym (mine_of_both q r both together cs)) a,
+    subst (λ os. read.value os v.1) (sym (others_of_both q r both together cs)) b,
+  )
+
+  -- and the other way
+  each_value : (cs : Cells) (v : A × B) → value (pieces both cs) v
+      → fv (pieces q cs) v.0 × read.value (pieces r cs) v.1
+  each_value cs v h = (
+    subst (λ os. fv os v.0) (mine_of_both q r both together cs) h.0,
+    subst (λ os. read.value os v.1) (others_of_both q r both together cs) h.1,
+  )
+
+  -- what the first takes leaves the pieces of the rest,
+  rest_kept : {cs ds : Cells} → TakesPieces q cs ds → pieces r ds ≡ pieces r cs
+  rest_kept t = keeps_other_some q r lf.own lr.own apart t
+
+  -- and what they take leaves its own
+  first_kept : {cs ds : Cells} → TakesPieces r cs ds → pieces q ds ≡ pieces q cs
+  first_kept t =
+      keeps_other_some r q lr.own lf.own (record { left = apart.right; right = apart.left }) t
+
+  -- a value, where nothing of either's own is left
+  both_took : (s t : Situation) (v : A × B) → NoneOutside s → BothOutcome first rest s (Ok v) t
+      → FieldTook (A × B) ByName both value s v t
+  both_took s t v w o =
+      let h = values_of_both A B first rest s t v o in
+      let i = lf.ok s h.middle v.0 w h.first_ran in
+      let j = lr.ok h.middle t v.1 (none_outside_after s h.middle w i.steady) h.rest_ran in
+      record {
+        steady = steady_trans i.steady j.steady;
+        takes = some_trans both (takes_some_left q r both together i.takes)
+            (takes_some_left r q both (swap_union q r both together) j.takes);
+        read = λ none. both_value (cells s) v
+            (i.read (sym (first_kept j.takes)
+            ∙ (sym (mine_of_both q r both together (cells t)) ∙ ap (mine q) none)))
+            (subst (λ os. read.value os v.1) (rest_kept i.takes)
+            (j.read (sym (others_of_both q r both together (cells t)) ∙ ap (others q) none)));
+        rest = λ none. none;
+      }
+
+  -- where both have a value, so do the others after the first
+  rest_gives : (s m t : Situation) (x : A) (y : Result B Error) (u : A × B) → NoneOutside s
+      → first s (Ok x) m → rest m y t → value (pieces both (cells s)) u
+      → (fv (pieces q (cells s)) x × (pieces q (cells m) ≡ []))
+      × Gives r (read.value (pieces r (cells s))) [] y t
+  rest_gives s m t x y u w f g h =
+      let each = each_value (cells s) u h in
+      let i = lf.ok s m x w f in (
+        lf.answers s m (Ok x) u.0 w f each.0,
+        subst (λ os. Gives r (read.value os) [] y t) (rest_kept i.takes)
+            (lr.answers m t y u.1 (none_outside_after s m w i.steady) g
+            (subst (λ os. read.value os u.1) (sym (rest_kept i.takes)) each.1)),
+      )
+
+  -- then a refusal is want of memory
+  both_fails : (s m t : Situation) (x : Result A Error) (y : Result B Error) (e : Error) (u : A × B)
+      → NoneOutside s → first s x m → rest m y t → IsNotMemory x → Err e ≡ joined x y
+      → value (pieces both (cells s)) u → class e ≡ OfMemory
+  both_fails s m t (Ok x) (Ok y) e u w f g spared i h = absurd cc
+  both_fails s m t (Ok x) (Err y) e u w f g spared i h =
+      let d : e ≡ y = cc in
+      ap class d ∙ (rest_gives s m t x (Err y) u w f g h).1
+  both_fails s m t (Err x) y e u w f g spared i h =
+      absurd (not_memory x.0 spared
+      (lf.answers s m (Err x) u.0 w f (each_value (cells s) u h).0))
+
+  -- each answer
+  both_gives : (s t : Situation) (a : Result (A × B) Error) (u : A × B) → NoneOutside s
+      → BothOutcome first rest s a t → value (pieces both (cells s)) u
+      → Gives both (value (pieces both (cells s))) [] a t
+  both_gives s t (Ok v) u w o h =
+      let i = values_of_both A B first rest s t v o in
+      let j = rest_gives s i.middle t v.0 (Ok v.1) u w i.first_ran i.rest_ran h in
+      let l = lr.ok i.middle t v.1
+      (none_outside_after s i.middle w (lf.ok s i.middle v.0 w i.first_ran).steady) i.rest_ran in (
+        both_value (cells s) v j.0.0 j.1.0,
+        both_nil q r both (cells t) together (first_kept l.takes ∙ j.0.1) j.1.1,
+      )
+  both_gives s t (Err e) u w (inl o) h =
+      both_fails s o.middle t o.a o.b e u w o.first_ran o.rest_ran o.spared o.answer h
+  both_gives s t (Err e) u w (inr o) h = memory_class e.0 o.1
+
+  -- together they keep to the laws of a named field
+  pub named_both_law : FieldLaw (A × B) (BothOutcome first rest) ByName both value
+  named_both_law = record {
+    own = union_named q r both together;
+    ok = both_took;
+    answers = both_gives;
+  }
+
+-- no item is nobody's own
+none_of_nobody : (cs : Cells) → pieces no_roles cs ≡ []
+none_of_nobody [] = refl
+none_of_nobody (None ∷ cs) = none_of_nobody cs
+none_of_nobody (Some k ∷ cs) = none_of_nobody cs
+
+-- The last of named fields.
+module _ (T : Type 0) (outcome : Outcome T) (q : Roles) (value : List LinePiece → T → Type 0)
+    (l : FieldLaw T outcome ByName q value) where
+  -- its items
+  abbrev alone : Roles
+  alone = either q no_roles
+
+  by_itself : Union q no_roles alone
+  by_itself = either_union q no_roles l.own (record { only_keys = λ k h. refl })
+      (before_none T outcome ByName q value l)
+
+  -- its value is that of a last field
+  last_value : (cs : Cells) (v : T) → value (pieces q cs) v
+      → LastValue T ByName q value (pieces alone cs) v
+  last_value cs v h = record {
+    read = subst (λ os. value os v) (sym (mine_of_both q no_roles alone by_itself cs)) h;
+    none_left = others_of_both q no_roles alone by_itself cs ∙ none_of_nobody cs;
+  }
+
+  -- a last field keeps to the laws of a named one
+  pub named_last_law : FieldLaw T outcome ByName alone (LastValue T ByName q value)
+  named_last_law = record {
+    own = union_named q no_roles alone by_itself;
+    ok = λ s t v w o. let i = l.ok s t v w o in record {
+      steady = i.steady;
+      takes = takes_some_left q no_roles alone by_itself i.takes;
+      read = λ none. last_value (cells s) v
+          (i.read (sym (mine_of_both q no_roles alone by_itself (cells t)) ∙ ap (mine q) none));
+      rest = λ none. none;
+    };
+    answers = last_gives;
+  }
+    where
+      last_gives : (s t : Situation) (a : Result T Error) (u : T) → NoneOutside s → outcome s a t
+          → LastValue T ByName q value (pieces alone (cells s)) u
+          → Gives alone (LastValue T ByName q value (pieces alone (cells s))) [] a t
+      last_gives s t (Ok v) u w o h =
+          let j = l.answers s t (Ok v) u w o
+          (subst (λ os. value os u) (mine_of_both q no_roles alone by_itself (cells s)) h.read) in (
+            last_value (cells s) v j.0,
+            both_nil q no_roles alone (cells t) by_itself j.1 (none_of_nobody (cells t)),
+          )
+      last_gives s t (Err e) u w o h =
+          l.answers s t (Err e) u w o
+          (subst (λ os. value os u) (mine_of_both q no_roles alone by_itself (cells s)) h.read)
+
+-- The constructor of named fields.
+module _ (A B : Type 0) (fields : Outcome A) (makes : A → B → Type 0) (q : Roles)
+    (value : List LinePiece → A → Type 0) (l : FieldLaw A fields ByName q value) where
+  -- what it makes of their values
+  abbrev made : List LinePiece → B → Type 0
+  made = ClosedValue A B value (map_closure makes)
+
+  -- a value is made of one
+  con_took : (s t : Situation) (v : B) → NoneOutside s → ProductOutcome fields makes s (Ok v) t
+      → FieldTook B ByName q made s v t
+  con_took s t v w o =
+      let i = l.ok s o.0 o.1 w o.2 in
+      subst (FieldTook B ByName q made s v) (sym o.4) (record {
+        steady = same_steady i.steady;
+        takes = subst (TakesPieces q (cells s)) (sym (current_cells o.0)) i.takes;
+        read = λ none. record {
+          from = o.1;
+          read = i.read (sym (ap (pieces q) (current_cells o.0)) ∙ none);
+          made = o.3;
+        };
+        rest = λ none. none;
+      })
+
+  -- each answer
+  con_gives : (s t : Situation) (a : Result B Error) (u : B) → NoneOutside s
+      → ProductOutcome fields makes s a t → made (pieces q (cells s)) u
+      → Gives q (made (pieces q (cells s))) [] a t
+  con_gives s t (Ok v) u w o h =
+      let j = l.answers s o.0 (Ok o.1) h.from w o.2 h.read in (
+        record { from = o.1; read = j.0; made = o.3 },
+        ap (pieces q) (ap cells o.4 ∙ current_cells o.0) ∙ j.1,
+      )
+  con_gives s t (Err e) u w o h = l.answers s o.0 (Err e) h.from w o.1 h.read
+
+  -- with its constructor a product keeps to the laws of a named field
+  pub named_con_law : FieldLaw B (ProductOutcome fields makes) ByName q made
+  named_con_law = record { own = l.own; ok = con_took; answers = con_gives }
