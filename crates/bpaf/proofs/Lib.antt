@@ -4,7 +4,6 @@ pub mod Sides
 pub mod Asking
 pub mod Handing
 pub mod Helps
-pub mod PassingOn
 pub mod Searching
 pub mod Attempting
 pub mod Trying

@@ -1,90 +1,208 @@
--- From what a run says of the record's parser to a launch that the words ask for.
-use Rattle.std.proofs.Common.{◌≡◌, ℕ, Bool, true≢false, List, Result, Ok, Err}
-use Rattle.std.proofs.Common.{IfOk, ap, string_bytes, subst, sym}
+-- The parser's fields are a program; and a value that a run deals out of the words, and that its
+-- fields say so of, is a launch that the words ask for.
+use Rattle.std.proofs.Common.{◌≡◌, All, IsUtf8, Bool, true, false, ℕ, List, [], ◌∷◌, Some, Result, Ok, Err, IfOk, ap}
+use Rattle.std.proofs.Common.{codes, map, refl, string_bytes, subst, sym, true≢false, ◌∙◌}
+use Rattle.std.specs.Global.{Vec}
 use Rattle.std.specs.List.{Contains}
-use Rattle.bpaf_doc.specs.Shape.{Shape}
-use Rattle.bpaf_line.specs.declared.failure.ParseFailure.{ParseFailure}
-use Rattle.bpaf_text.specs.declared.params.ParseFlag.{ParseFlag}
-use Rattle.bpaf_laws.specs.Flag.{FlagOutcome, FlagReads}
-use Rattle.bpaf_laws.specs.Laws.{Lawful}
-use Rattle.bpaf_laws.specs.Product.{BothOutcome, ProductOutcome}
+use Rattle.bpaf_laws.specs.Flag.{FlagOutcome, flag_shape}
+use Rattle.bpaf_laws.specs.Product.{BothDescribes, BothOutcome, LastDescribes, ProductDescribes}
+use Rattle.bpaf_laws.specs.Product.{ProductOutcome}
 use Rattle.bpaf_laws.specs.Reading.{Outcome}
-use Rattle.bpaf_laws.specs.Repeat.{ManyOutcome}
-use Rattle.bpaf_laws.proofs.FlagLaws.{flag_lawful}
-use Rattle.bpaf_keys.specs.Info.{RunInfo}
+use Rattle.bpaf_laws.specs.Repeat.{ManyDescribes, ManyOutcome}
 use Rattle.bpaf_core.specs.Run.{RunsWords}
-use Rattle.bpaf.specs.declared.leaves.positional.Position.{Position}
+use Rattle.bpaf.specs.Positional.{PositionalOutcome, positional_shape}
+use Rattle.bpaf_exact.proofs.Flags.{flag_field_law}
+use Rattle.bpaf_exact.proofs.Twins.{many_field_law}
+use Rattle.bpaf_text.specs.Named.{key_named, with_help}
+use Rattle.bpaf_record.specs.Positional.{positional_field_law}
+use Rattle.bpaf_program.specs.KnownParser.{known_last}
+use Rattle.bpaf_program.proofs.KnownParser.{both_known, con_known, last_known, program_exactly}
+use Rattle.bpaf_program.proofs.ShownShorts.{many_shows, one_shows}
+use Rattle.bpaf_launch.specs.Exact.{AnswersLaunch, after_verbose, fields, launcher, passed, switch}
+use Rattle.bpaf_launch.specs.Exact.{words as words_known}
+use Rattle.bpaf_doc.specs.declared.doc.Piece.{Piece}
+use Rattle.bpaf_doc.specs.Names.{Names}
+use Rattle.bpaf_doc.specs.Shape.{Shape}
+use Rattle.bpaf_text.specs.declared.params.ParseFlag.{ParseFlag}
+use Rattle.bpaf_words.specs.Arguments.{Given}
+use Rattle.bpaf_line.specs.declared.failure.ParseFailure.{ParseFailure}
+use Rattle.bpaf_keys.specs.Info.{RunInfo, plain_info}
 use Rattle.bpaf.specs.declared.leaves.positional.Position.TheVariants.{Strict, NonStrict}
-use Rattle.bpaf.specs.Marker.{words_before}
-use Rattle.bpaf.specs.Positional.{PositionalOutcome}
-use Rattle.bpaf.specs.PositionalLaws.{positional_lawful}
-use Rattle.bpaf.proofs.PassingOn.{PassesOn, ReadsBefore, both_passes, flag_reads_before}
-use Rattle.bpaf.proofs.PassingOn.{many_passes}
-use Rattle.bpaf.proofs.PassingOn.{product_passes, texts_passed, word_reads_before}
+use Rattle.bpaf.specs.Marker.{words_before, words_behind}
+use Rattle.bpaf.specs.Positional.{accepts}
+use Rattle.bpaf.specs.declared.leaves.positional.ParsePositional.{ParsePositional}
+use Rattle.bpaf_exact.specs.Derived.{list_closure}
+use Rattle.bpaf_exact.specs.Flat.{OneWord, back, front}
+use Rattle.bpaf_exact.specs.Leaves.{flag_field, non_strict_field, strict_field}
+use Rattle.bpaf_exact.specs.ProgramForm.{ProgramForm, plain, program_alone, program_both, program_con}
+use Rattle.bpaf_exact.specs.ProgramForm.{program_field, program_repeat}
+use Rattle.bpaf_exact.specs.ProgramSays.{CutSays}
+use Rattle.bpaf_exact.specs.Says.{FieldsSaid, FlagSays, MadeSays, RecordSays, RepeatSays, WordSays}
+use Rattle.bpaf_exact.specs.Says.{keyed, unkeyed}
+use Rattle.bpaf_exact.specs.Wrappers.{map_closure}
+use Rattle.bpaf_record.specs.Positional.{is_sided, positional_field}
+use Rattle.bpaf_record.specs.Program.{TellsOfWords, is_whole_program}
+use Rattle.bpaf_record.proofs.PassedOn.{name_before, strict_words, words_read}
+use Rattle.bpaf_program.specs.Fields.{IsSwitch, IsWord}
 use Rattle.bpaf_program.specs.Values.{IsKept, MeansText, String}
 use Rattle.bpaf_program.proofs.Before.{word_before}
+use Rattle.bpaf_program.proofs.Texts.{texts_are}
 use Rattle.bpaf_launch.specs.declared.options.Launch.{Launch}
 use Rattle.bpaf_launch.specs.Dealing.{FieldValues, IsDealtLaunch, IsLaunchOf, launch_of}
-use Rattle.bpaf_launch.specs.Dealing.{program_given, program_known}
+use Rattle.bpaf_launch.specs.Dealing.{dry_run_names, program_given, program_known, verbose_names}
 
--- which records a constructor makes of the fields' values
-abbrev pub Makes : Type 1
-Makes = FieldValues → Launch → Type 0
+-- The parser's fields.
+module _ {verbose_help dry_run_help name_help words_help : List Piece}
+    {verbose dry_run : ParseFlag Bool} {name words : ParsePositional String} {catches : Bool}
+    (is_verbose : IsSwitch verbose_names (codes "Print more") verbose_help verbose)
+    (is_dry_run : IsSwitch dry_run_names (codes "Start nothing") dry_run_help dry_run)
+    (is_name : IsWord NonStrict (codes "NAME") (codes "Program to start") name_help name)
+    (is_words : IsWord Strict (codes "WORD") (codes "Words to pass on") words_help words)
+    (no_catch : catches ≡ false) where
+  -- what a word that is passed on is to a program, and a repeat of such
+  abbrev WordForm : ProgramForm String
+  WordForm = plain (is_sided words.position) (positional_field MeansText words.position)
 
--- what a switch answers
-abbrev SwitchOutcome : ParseFlag Bool → Outcome Bool
-SwitchOutcome switch = FlagOutcome IsKept switch.named switch.present switch.absent
+  abbrev WordsForm : ProgramForm (Vec String)
+  WordsForm = program_repeat catches (list_closure String) WordForm
 
--- what the record's parser answers
-abbrev pub RecordOutcome : Makes → (verbose dry_run : ParseFlag Bool) → (name words : Position)
-    → (metavar passed : List ℕ) → Bool → Outcome Launch
-RecordOutcome makes verbose dry_run name words metavar passed catches =
-    ProductOutcome
-    (BothOutcome (SwitchOutcome verbose)
-    (BothOutcome (SwitchOutcome dry_run)
-    (BothOutcome (PositionalOutcome {T = String} MeansText name metavar)
-    (ManyOutcome (PositionalOutcome {T = String} MeansText words passed) catches)))) makes
+  -- what the fields are to one
+  abbrev PartsForm : ProgramForm FieldValues
+  PartsForm =
+      program_both (verbose.named.names ∷ []) (dry_run.named.names ∷ [])
+      (program_field (plain false (flag_field IsKept verbose.named verbose.present verbose.absent)))
+      (program_both (dry_run.named.names ∷ []) []
+      (program_field (plain false (flag_field IsKept dry_run.named dry_run.present dry_run.absent)))
+      (program_both [] []
+      (program_field (plain (is_sided name.position) (positional_field MeansText name.position)))
+      (program_alone (program_field WordsForm))))
 
-module _ (makes : Makes) (made : (x : FieldValues) (v : Launch) → makes x v → v ≡ launch_of x)
-    (verbose dry_run : ParseFlag Bool) (metavar passed : List ℕ) (catches : Bool) where
-  -- the record's parser passes on all words behind the first `--`
-  record_passes : PassesOn
-      (RecordOutcome makes verbose dry_run NonStrict Strict metavar passed catches) MeansText
-      (λ launch. launch.words.items)
-  record_passes =
-      product_passes makes MeansText (λ x. x.1.1.1.items) (λ launch. launch.words.items)
-      (λ x v is. ap (λ launch. launch.words.items) (made x v is))
-      (both_passes MeansText (λ x. x.1.1.items) (switch_lawful verbose) (switch_before verbose)
-      (both_passes MeansText (λ x. x.1.items) (switch_lawful dry_run) (switch_before dry_run)
-      (both_passes MeansText (λ words. words.items)
-      (positional_lawful String MeansText NonStrict metavar) (word_reads_before String MeansText)
-      (many_passes MeansText passed catches))))
-    where
-      switch_lawful : (it : ParseFlag Bool) → Lawful Bool (SwitchOutcome it)
-          (FlagReads Bool IsKept it.named it.present it.absent)
-      switch_lawful it = flag_lawful Bool IsKept it.named it.present it.absent
+  -- so they are a program
+  pub launch_program : (makes : FieldValues → Launch → Type 0) {info : RunInfo}
+      → info ≡ plain_info
+      → is_whole_program (program_con (map_closure makes) PartsForm)
+      (verbose.named.names ∷ dry_run.named.names ∷ []) info ≡ true
+  launch_program makes info_is =
+      rw (
+        is_verbose.absent_is,
+        is_verbose.named_is,
+        is_dry_run.absent_is,
+        is_dry_run.named_is,
+        is_name.position_is,
+        is_words.position_is,
+        no_catch,
+        info_is,
+      ) refl
 
-      switch_before : (it : ParseFlag Bool)
-          → ReadsBefore (FlagReads Bool IsKept it.named it.present it.absent)
-      switch_before it = flag_reads_before Bool IsKept it.named it.present it.absent
+  -- what they say: each switch of its own keys, the name of the first word, and the words that are
+  -- passed on of the others
+  abbrev PartsSay : FieldsSaid FieldValues
+  PartsSay os ws v =
+      FlagSays IsKept verbose.present verbose.absent (keyed (verbose.named.names ∷ []) os) v.0
+      × (FlagSays IsKept dry_run.present dry_run.absent (keyed (dry_run.named.names ∷ []) os) v.1.0
+      × (WordSays (accepts name.position) MeansText (front OneWord ws) v.1.1.0
+      × MadeSays (RepeatSays (WordSays (accepts words.position) MeansText)) (list_closure String)
+      (back OneWord ws) v.1.1.1))
 
-  -- a launch that is dealt out of the words, where a run answers it, is one that they ask for
-  pub launch_asked : {describes : Shape → Type 0} {info : RunInfo} (words : List (List ℕ))
-      (r : Result Launch ParseFailure) → IfOk r (IsDealtLaunch words)
-      → RunsWords Launch
-      (RecordOutcome makes verbose dry_run NonStrict Strict metavar passed catches) describes info
-      (program_given words) r
-      → IfOk r (IsLaunchOf words)
-  launch_asked words (Ok v) dealt run =
-      let name = dealt.read.read.rest_read.rest_read.first_read in
-      record {
-        dealt = dealt;
-        named = subst (λ launch. Contains (words_before words) (string_bytes launch.name))
-            (sym dealt.read.made)
-            (subst (Contains (words_before words)) (sym name.meant)
-            (word_before program_known (λ c is. absurd (true≢false (sym is.argument)))
-            (program_given words) dealt.is_context name));
-        passed = texts_passed (λ launch. launch.words.items) record_passes (program_given words) v
-            run;
-      }
-  launch_asked words (Err f) dealt run = tt
+  module _ {makes : FieldValues → Launch → Type 0}
+      (made : (x : FieldValues) (v : Launch) → makes x v → v ≡ launch_of x)
+      (describes : Shape → Type 0) (info : RunInfo) (form : ProgramForm Launch)
+      (names : List Names) where
+    -- what the parser says of words
+    abbrev Tells : Given → Launch → Type 0
+    Tells = TellsOfWords describes info form
+        (CutSays (RecordSays PartsSay names (map_closure makes)))
+
+    -- what is passed on are all words behind the first `--`
+    launch_passes : (given : Given) (v : Launch) → Tells given v
+        → map string_bytes v.words.items ≡ words_behind given.words
+    launch_passes given v tells =
+        let value = tells.is_value in
+        let told = tells.told.told in
+        let said = told.fields.1.1 in
+        let one : WordSays (accepts NonStrict) MeansText (front OneWord (unkeyed names
+        tells.told.cut_into)) told.from.1.1.0 = rw is_name.position_is at said.0 in
+        let more : RepeatSays (WordSays (accepts Strict) MeansText) (back OneWord (unkeyed names
+        tells.told.cut_into)) said.1.from = rw is_words.position_is at said.1.told in
+        ap (λ launch. map string_bytes launch.words.items) (made told.from v told.made)
+        ∙ (ap (map string_bytes) said.1.made
+        ∙ (texts_are _ said.1.from (strict_words more)
+        ∙ (name_before _ one
+        ∙ words_read describes info given value.context value.on_line tells.told.cut names)))
+
+    -- so the words ask for the launch that is dealt out of them
+    pub launch_asked : (given : Given) (own : List (List ℕ)) → given ≡ program_given own
+        → (r : Result Launch ParseFailure) → IfOk r (IsDealtLaunch own) → IfOk r (Tells given)
+        → IfOk r (IsLaunchOf own)
+    launch_asked given own is (Ok v) dealt tells =
+        let found = dealt.read.read.rest_read.rest_read.first_read in
+        record {
+          dealt = dealt;
+          named = subst (λ launch. Contains (words_before own) (string_bytes launch.name))
+              (sym dealt.read.made)
+              (subst (Contains (words_before own)) (sym found.meant)
+              (word_before program_known (λ c is. absurd (true≢false (sym is.argument)))
+              (program_given own) dealt.is_context found));
+          passed = launch_passes given v tells ∙ ap (λ given. words_behind given.words) is;
+        }
+    launch_asked given own is (Err f) dealt tells = tt
+
+  -- what a word that is passed on answers, and a repeat of such
+  abbrev WordOutcome : Outcome String
+  WordOutcome = PositionalOutcome MeansText words.position words.metavar.0.now
+
+  abbrev WordsOutcome : Outcome (Vec String)
+  WordsOutcome = ManyOutcome WordOutcome catches
+
+  -- what the parser answers
+  abbrev PartsOutcome : Outcome FieldValues
+  PartsOutcome =
+      BothOutcome (FlagOutcome IsKept verbose.named verbose.present verbose.absent)
+      (BothOutcome (FlagOutcome IsKept dry_run.named dry_run.present dry_run.absent)
+      (BothOutcome (PositionalOutcome MeansText name.position name.metavar.0.now)
+      WordsOutcome))
+
+  -- what it shows
+  abbrev PartsDescribe : Shape → Type 0
+  PartsDescribe =
+      ProductDescribes (BothDescribes (λ s. s ≡ flag_shape verbose.named verbose.absent)
+      (BothDescribes (λ s. s ≡ flag_shape dry_run.named dry_run.absent)
+      (BothDescribes (λ s. s ≡ positional_shape name.position name.metavar.0.now name.help)
+      (LastDescribes (ManyDescribes
+      (λ s. s ≡ positional_shape words.position words.metavar.0.now words.help))))))
+
+  -- its answers are exact
+  pub launch_exact : {made : FieldValues → Launch → Type 0}
+      → ((x : FieldValues) (v : Launch) → made x v → v ≡ launch_of x) → {info : RunInfo}
+      → info ≡ plain_info → {given : Given} (own : List (List ℕ)) → given ≡ program_given own
+      → All IsUtf8 own → (r : Result Launch ParseFailure)
+      → RunsWords Launch (ProductOutcome PartsOutcome made) PartsDescribe info given r
+      → AnswersLaunch own r
+  launch_exact {made} only info_is own given_is texts r runs =
+      program_exactly launcher
+      (con_known launch_of fields
+      (both_known _ _ (switch verbose_names) after_verbose _
+      (flag_field_law Bool IsKept (with_help (key_named verbose_names) verbose_help) true
+      (Some false)) (one_shows _)
+      (both_known _ _ (switch dry_run_names) words_known _
+      (flag_field_law Bool IsKept (with_help (key_named dry_run_names) dry_run_help) true
+      (Some false)) (one_shows _)
+      (both_known [] _ (non_strict_field MeansText) (known_last passed) _
+      (positional_field_law String MeansText NonStrict name.metavar.0.now) (one_shows _)
+      (last_known passed {words = []} (record {
+        law = many_field_law String _ false [] (strict_field MeansText)
+            (positional_field_law String MeansText Strict words.metavar.0.now);
+        shown = many_shows (one_shows _);
+      }))))) only)
+      info_is refl given_is texts r
+      (rw (
+        is_verbose.named_is,
+        is_verbose.present_is,
+        is_verbose.absent_is,
+        is_dry_run.named_is,
+        is_dry_run.present_is,
+        is_dry_run.absent_is,
+        is_name.position_is,
+        is_words.position_is,
+        no_catch,
+      ) at runs)

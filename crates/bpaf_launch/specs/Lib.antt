@@ -1,4 +1,5 @@
 pub mod Dealing
+pub mod Exact
 pub mod Lines
 pub mod Running
 pub mod Shown

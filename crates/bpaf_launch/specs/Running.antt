@@ -1,9 +1,13 @@
 -- What a run of the program answers.
-use Rattle.std.specs.Prelude.{ℕ, Bool, List}
+use Rattle.std.specs.Prelude.{ℕ, Bool, List, Result}
 use Rattle.bpaf_doc.specs.declared.doc.Piece.{Piece}
 use Rattle.bpaf_doc.specs.Print.{printed}
 use Rattle.bpaf_launch.specs.declared.options.Launch.{Launch}
+use Rattle.bpaf_line.specs.declared.failure.ParseFailure.{ParseFailure}
+use Rattle.bpaf_program.specs.Running.{AnswersText, AnswersTextOf}
+use Rattle.bpaf_program.specs.Values.{String}
 use Rattle.bpaf_launch.specs.Dealing.{IsLaunchOf}
+use Rattle.bpaf_launch.specs.Exact.{IsLaunchValue}
 use Rattle.bpaf_launch.specs.Lines.{lines}
 use Rattle.bpaf_launch.specs.Shown.{IsHelpAsked}
 
@@ -13,3 +17,9 @@ pub data Answers (words : List (List ℕ)) : List ℕ → Type 0 where
   launch : (v : Launch) → IsLaunchOf words v → Answers words (lines v)
   help : (doc : List Piece) (full : Bool) → IsHelpAsked words doc full
       → Answers words (printed full doc)
+
+-- An answer to words is such a text; where they have a launch it is the lines of that, or want of
+-- memory. All launches that the same words have print the same lines.
+pub record AnswersLines (words : List (List ℕ)) (r : Result String ParseFailure) : Type 0 where
+  pub answer : AnswersText (Answers words) r
+  pub exact : AnswersTextOf (IsLaunchValue words) lines r

@@ -1,14 +1,16 @@
 //! The words of a launcher, and those that it passes on.
-ghost use Rattle.std.specs.Prelude.{IfOk, codes, map, string_bytes};
+ghost use Rattle.std.specs.Prelude.{◌≡◌, IfOk, codes, false, map, string_bytes};
 ghost use Rattle.std.specs.Result.{IfErr};
 ghost use Rattle.bpaf.specs.declared.leaves.positional.Position.TheVariants.{NonStrict, Strict};
 ghost use Rattle.bpaf_program.specs.Fields.{HasSwitch, HasWord};
 ghost use Rattle.bpaf_launch.specs.Dealing.{IsLaunchOf, dry_run_names, verbose_names};
+ghost use Rattle.bpaf_launch.specs.Exact.{AnswersLaunch};
 ghost use Rattle.bpaf_launch.specs.Shown.{ShowsHelpAsked};
 
 use bpaf::params::{ParseFlag, ParsePositional};
 use bpaf::parsers::ParseMany;
 use bpaf::{Args, Doc, ParseFailure, Parser, construct, long, positional, short};
+use bpaf_record::CommandLine;
 use std::alloc::{AllocError, Global};
 
 /// What is to be started, and how.
@@ -27,6 +29,7 @@ pub struct Launch {
 /// The launch that the words ask for; refused where they ask for none, or for want of memory. Help
 /// is answered as a refusal that shows it, and only where the words ask for it.
 pub fn read_launch(alloc: Global, words: &[String]) -> Result<Launch, ParseFailure>
+    ensures exact { AnswersLaunch (map string_bytes words.now) result }
     ensures launch { IfOk result (λ launch. IsLaunchOf (map string_bytes words.now) launch) }
     ensures asked { IfErr result (λ f. ShowsHelpAsked (map string_bytes words.now) f) }
 {
@@ -42,7 +45,7 @@ pub fn read_launch(alloc: Global, words: &[String]) -> Result<Launch, ParseFailu
     });
     launch
         .to_options(alloc)?
-        .run_inner(Args::from(words).set_name("launch"))
+        .run_program(Args::from(words).set_name("launch"))
 }
 
 /// The switch, `-v` or `--verbose`; refused only for want of memory.
@@ -71,8 +74,9 @@ fn name(alloc: Global) -> Result<ParsePositional<String>, AllocError>
 
 /// The words behind `--`; refused only for want of memory.
 fn passed(alloc: Global) -> Result<ParseMany<ParsePositional<String>>, AllocError>
-    ensures { IfOk result (λ words.
+    ensures word { IfOk result (λ words.
         HasWord Strict (codes "WORD") (codes "Words to pass on") words.inner) }
+    ensures catch { IfOk result (λ words. words.catch ≡ false) }
 {
     let help = Doc::from_text(alloc, "Words to pass on")?;
     Ok(positional::<String>("WORD").strict().help(help).many())

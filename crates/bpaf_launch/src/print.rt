@@ -1,8 +1,7 @@
 //! What the launcher prints.
 ghost use Rattle.std.specs.Prelude.{◌≡◌, IfOk, map, string_bytes};
-ghost use Rattle.bpaf_program.specs.Running.{AnswersText};
 ghost use Rattle.bpaf_launch.specs.Lines.{lines};
-ghost use Rattle.bpaf_launch.specs.Running.{Answers};
+ghost use Rattle.bpaf_launch.specs.Running.{AnswersLines};
 
 use crate::options::{Launch, read_launch};
 use bpaf::ParseFailure;
@@ -11,7 +10,7 @@ use std::alloc::{AllocError, Global};
 
 /// The lines that the words ask for: those of their launch; refused where they ask for none.
 pub fn lines_of(alloc: Global, words: &[String]) -> Result<String, ParseFailure>
-    ensures { AnswersText (Answers (map string_bytes words.now)) result }
+    ensures { AnswersLines (map string_bytes words.now) result }
 {
     let launch = read_launch(alloc, words)?;
     Ok(text_of(alloc, &launch)?)

@@ -12,3 +12,4 @@ pub mod ShownShorts
 pub mod KnownParser
 pub mod SeenPrograms
 pub mod OfCommands
+pub mod Texts

@@ -20,7 +20,8 @@ use Rattle.bpaf_exact.specs.FlatForm.{FlatForm, FormLaw, flat_alone, flat_both, 
 use Rattle.bpaf_exact.specs.FlatForm.{flat_fallback, flat_field, flat_optional}
 use Rattle.bpaf_exact.specs.FlatForm.{flat_many, flat_record, is_record, product_reading}
 use Rattle.bpaf_exact.specs.FlatForm.{product_roles}
-use Rattle.bpaf_exact.specs.Leaves.{argument_field, flag_field, word_field}
+use Rattle.bpaf_exact.specs.Leaves.{SideValue, WordEval, argument_field, flag_field, word_by}
+use Rattle.bpaf_exact.specs.Leaves.{word_field}
 use Rattle.bpaf_exact.specs.ProgramForm.{plain}
 use Rattle.bpaf_exact.specs.OneView.{Alike, HasOneView, pair_view}
 use Rattle.bpaf_exact.specs.Record.{RecordValue, line_cells}
@@ -31,12 +32,13 @@ use Rattle.bpaf_exact.proofs.FlatForm.{flat_field_law}
 use Rattle.bpaf_exact.proofs.Flags.{flag_field_law}
 use Rattle.bpaf_exact.proofs.OneView.{alone_view, argument_view, both_view, con_view, field_view}
 use Rattle.bpaf_exact.proofs.OneView.{fallback_view, flag_view, many_view, optional_field_view}
-use Rattle.bpaf_exact.proofs.OneView.{record_looks_one, word_view}
+use Rattle.bpaf_exact.proofs.OneView.{record_looks_one, side_view, word_view}
+use Rattle.bpaf_exact.proofs.Positionals.{word_by_law}
 use Rattle.bpaf_exact.proofs.Twins.{fallback_law, many_field_law, optional_law}
 use Rattle.bpaf_record.specs.Positional.{positional_field_law}
 use Rattle.bpaf_record.proofs.OneLine.{same_context}
 use Rattle.bpaf_program.specs.ReadBy.{IsReadBy}
-use Rattle.bpaf_program.specs.Values.{IsKept, MeansText}
+use Rattle.bpaf_program.specs.Values.{IsKept, MeansText, String}
 
 -- a form that this outcome, of a parser with these keys, keeps to, and whose values look alike
 pub record IsSeen {T X : Type 0} (outcome : Outcome T) (see : T → X) (names : List Names)
@@ -94,6 +96,15 @@ pub text_word_seen : (metavar : List ℕ)
     → IsSeen (PositionalOutcome MeansText Unrestricted metavar) string_bytes []
     (word_field MeansText)
 text_word_seen = word_seen string_bytes MeansText one_text
+
+-- one that has to stand behind `--`, or before it
+pub side_word_seen : (behind : Bool)
+    → IsSeen (WordEval String (SideValue behind MeansText)) string_bytes []
+    (word_by (SideValue behind MeansText))
+side_word_seen behind = record {
+  law = word_by_law _ (SideValue behind MeansText);
+  view = side_view _ (List ℕ) string_bytes behind MeansText one_text;
+}
 
 module _ {T X : Type 0} {outcome : Outcome T} {see : T → X} {names : List Names}
     {form : FlatForm T} (is : IsSeen outcome see names form) where

@@ -25,6 +25,10 @@ makes make = map_closure (λ x v. v ≡ make x)
 abbrev pub shorts_of : List Part → ShortNames
 shorts_of shown = record { flags = shorts_of_flags shown; arguments = shorts_of_arguments shown }
 
+-- none
+abbrev pub no_shorts : ShortNames
+no_shorts = record { flags = []; arguments = [] }
+
 -- those of the one, and of the other
 abbrev pub joined : ShortNames → ShortNames → ShortNames
 joined one other = record {

@@ -1,0 +1,13 @@
+-- Texts that words mean, each of which means itself, are the texts of those words.
+use Rattle.std.proofs.Common.{◌≡◌, List, [], ◌∷◌, ap₂, map, refl, string_bytes, ℕ}
+use Rattle.std.specs.List.{AllZip}
+use Rattle.bpaf_program.specs.Values.{MeansText, String}
+
+-- the texts of words are those that they are read off
+pub texts_are : (texts : List (List ℕ)) (words : List String) → AllZip MeansText texts words
+    → map string_bytes words ≡ texts
+texts_are [] [] all = refl
+texts_are [] (word ∷ words) all = absurd all
+texts_are (text ∷ texts) [] all = absurd all
+texts_are (text ∷ texts) (word ∷ words) all =
+    ap₂ (λ first rest. first ∷ rest) all.0 (texts_are texts words all.1)
