@@ -2,7 +2,7 @@
 use bpaf::params::{ParseFlag, ParsePositional};
 use bpaf::parsers::ParseCommand;
 use bpaf::{Parser, choice, construct, positional};
-use bpaf_answers::{number, switch};
+use bpaf_answers::switch;
 use bpaf_record::{CommandLine, ProgramField};
 use std::alloc::{AllocError, Global};
 use std::test::Fail;
@@ -125,11 +125,12 @@ fn is_round_whole<T: Drop, P: ProgramField<T> + Drop>(
     }
 }
 
-/// Of products that stand where none may, whether one is.
+/// Of products that stand where none may, whether one is: with a word, before a command; and with a
+/// closure round it.
 fn is_one_inside(alloc: Global) -> Result<bool, AllocError> {
     let verbose = switch(alloc, 'v')?;
-    let num = number(alloc, 'n')?;
-    let fields = construct!(verbose, num);
+    let file = word();
+    let fields = construct!(verbose, file);
     let quiet = switch(alloc, 'q')?;
     let add = add(alloc)?;
     let ends = construct!(quiet, add);

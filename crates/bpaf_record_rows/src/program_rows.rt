@@ -406,3 +406,42 @@ fn a_hidden_command_runs_as_a_program(rt: HostRuntime) -> Result<(), Fail> {
     let alloc = rt.alloc();
     compare_behind(alloc, build(alloc)?.hide(), HIDDEN_COMMAND)
 }
+
+const STRICT_WORD: &[Row<'static>] = &[
+    ("a", "err expected `FILE` to be on the right side of `--`"),
+    ("-- a", "ok \"a\""),
+];
+
+const NON_STRICT_WORD: &[Row<'static>] = &[
+    ("a", "ok \"a\""),
+    (
+        "-- a",
+        "err expected `FILE` to be on the left side of `--`",
+    ),
+];
+
+#[test]
+fn words_on_one_side_run_as_programs(rt: HostRuntime) -> Result<(), Fail> {
+    let alloc = rt.alloc();
+    compare(alloc, word().strict(), STRICT_WORD)?;
+    compare(alloc, word().non_strict(), NON_STRICT_WORD)
+}
+
+const GROUP: &[Row<'static>] = &[
+    ("a -v -n 3", "ok ((true, 3), \"a\")"),
+    ("-n3 a", "ok ((false, 3), \"a\")"),
+    ("-v -n 3", "refused"),
+    ("-n 3 -v -v a", "refused"),
+    ("-n a", "refused"),
+    ("-n 3 a b", "refused"),
+];
+
+#[test]
+fn a_group_of_options_runs_as_a_program(rt: HostRuntime) -> Result<(), Fail> {
+    let alloc = rt.alloc();
+    let verbose = switch(alloc, 'v')?;
+    let num = number(alloc, 'n')?;
+    let group = construct!(verbose, num).group_help(Doc::new(alloc));
+    let file = word();
+    compare(alloc, construct!(group, file), GROUP)
+}
