@@ -414,10 +414,7 @@ const STRICT_WORD: &[Row<'static>] = &[
 
 const NON_STRICT_WORD: &[Row<'static>] = &[
     ("a", "ok \"a\""),
-    (
-        "-- a",
-        "err expected `FILE` to be on the left side of `--`",
-    ),
+    ("-- a", "err expected `FILE` to be on the left side of `--`"),
 ];
 
 #[test]
