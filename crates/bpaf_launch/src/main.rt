@@ -1,6 +1,6 @@
 //! A launcher: options of its own, the name of a program, and words that are passed on unread.
 //!
-//! It stands on `bpaf` and `bpaf_program`, and has no contract for a layer above: it is the top.
+//! It stands on `bpaf`, `bpaf_record` and `bpaf_program`, and has no contract for a layer above: it is the top.
 //! `run` is the whole program over two writers; `main` hands it the words, standard output and
 //! standard error, and ends with its status. It starts nothing: it prints what it would start, with
 //! which words.
@@ -23,7 +23,9 @@
 //! where the words ask for help and its page was printed (specs/Shown.antt, specs/Running.antt).
 //! Where the status is 1, a beginning of the lines of such a launch or of that page was printed,
 //! not all, and nothing on standard error; or nothing was, and there a message, or a beginning of
-//! it.
+//! it. It runs as a program with words on one side of `--`, exactly: where the words have a launch
+//! (specs/Exact.antt), its lines are printed, or a part of them where a write failed, or nothing
+//! but that memory was wanted; and all launches that the same words have print the same lines.
 #![tactic(auto)]
 
 mod options;

@@ -26,8 +26,10 @@ pub struct Launch {
     pub words: Vec<String>,
 }
 
-/// The launch that the words ask for; refused where they ask for none, or for want of memory. Help
-/// is answered as a refusal that shows it, and only where the words ask for it.
+/// The launch that the words ask for; refused where they ask for none, or for want of memory. The
+/// options are a program, so each answer is exact; and what is passed on are all words behind the
+/// first `--`, as the last field says. Help is answered as a refusal that shows it, and only where
+/// the words ask for it.
 pub fn read_launch(alloc: Global, words: &[String]) -> Result<Launch, ParseFailure>
     ensures exact { AnswersLaunch (map string_bytes words.now) result }
     ensures launch { IfOk result (λ launch. IsLaunchOf (map string_bytes words.now) launch) }

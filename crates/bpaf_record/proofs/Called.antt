@@ -13,18 +13,17 @@ use Rattle.bpaf_laws.specs.Command.{is_one_of}
 use Rattle.bpaf.specs.Info.{RunInfo}
 use Rattle.bpaf.specs.Known.{IsLineContext}
 use Rattle.bpaf_exact.specs.Names.{Owns}
-use Rattle.bpaf_exact.specs.Pieces.{Cells, Roles, Role, Foreign, Alone, WithNext, LinePiece, Cut}
+use Rattle.bpaf_exact.specs.Pieces.{Cells, Roles, Role, Foreign, Alone, WithNext}
 use Rattle.bpaf_exact.specs.Pieces.{pieces, begin_piece, is_own_role, is_value}
 use Rattle.bpaf_exact.specs.ProgramForm.{ProgramForm}
 use Rattle.bpaf_exact.specs.Programs.{CellsValue, ChoiceValue, first_value, second_value}
 use Rattle.bpaf_exact.specs.Programs.{CommandValue, Opens, opens_here, opens_later, without}
 use Rattle.bpaf_exact.specs.Programs.{without_piece, without_value}
 use Rattle.bpaf_exact.specs.Record.{line_cells}
-use Rattle.bpaf_exact.specs.Says.{keyed}
 use Rattle.bpaf_record.specs.Program.{TellsOfWords}
 use Rattle.bpaf_record.specs.Spelled.{WasCalled}
 use Rattle.bpaf_record.proofs.Answered.{OwnOf}
-use Rattle.bpaf_record.proofs.Spelled.{keyed_on, keys_on, was_spelled}
+use Rattle.bpaf_record.proofs.Spelled.{keys_on, was_spelled}
 
 -- what is left of cells: at each place what was there, or nothing
 pub data IsLeft : Cells → Cells → Type 0 where
@@ -148,7 +147,7 @@ told_line told = record {
 
 module _ {describes : Shape → Type 0} {info : RunInfo} {given : Given} {cs : Cells}
     (line : LeftOfLine describes info given cs) where
-  -- So it is without the pieces of a field,
+  -- So it is without the pieces of a field.
   pub without_field : (q : Roles) → LeftOfLine describes info given (without q cs)
   without_field q = record {
     context = line.context;
@@ -156,28 +155,11 @@ module _ {describes : Shape → Type 0} {info : RunInfo} {given : Given} {cs : C
     left = left_again (without_left q cs) line.left;
   }
 
-  -- and behind the word of a command.
-  pub behind_word : {words : List (List ℕ)} {ds : Cells} → Opens words cs ds
-      → LeftOfLine describes info given ds
-  behind_word o = record {
-    context = line.context;
-    on_line = line.on_line;
-    left = left_again (opens_left o) line.left;
-  }
-
-  -- The pieces of a named field are its key's own there,
+  -- The pieces of a named field are its key's own there.
   pub of_field : {key : Names} (q : Roles) → Owns q (key ∷ []) → OwnOf given key (pieces q cs)
   of_field {key} q owns = record {
     spelled = λ some. was_spelled (is_key_of key) (λ text. refl) info given line.context
         line.on_line (kept_on (is_key_of key) line.left (owned_on q key owns cs some));
-  }
-
-  -- as are those of the record that a command runs, which begin with a key.
-  pub of_record : {key : Names} {r : Roles} {os : List LinePiece} → Cut r cs os
-      → OwnOf given key (keyed (key ∷ []) os)
-  of_record {key} {r} cut = record {
-    spelled = λ some. was_spelled (is_key_of key) (λ text. refl) info given line.context
-        line.on_line (kept_on (is_key_of key) line.left (keyed_on key r cut some));
   }
 
   -- The word of a command that has the value was spelled.

@@ -1,11 +1,12 @@
 -- The words behind the first `--` are what a repeat of strict words at the end of a record reads, all
 -- of them and in order.
-use Rattle.std.proofs.Common.{◌≡◌, ◌≢◌, ◌+◌, ◌<◌, ℕ, zero, suc, Bool, true, false, List, [], ◌∷◌}
-use Rattle.std.proofs.Common.{◌++◌, Option, Some, None, length, map, refl, sym, ap, ◌∙◌, arith, ap₂}
-use Rattle.std.proofs.Common.{codes, slice_get, if◌then◌else◌, ⊎_elim}
+use Rattle.std.proofs.Common.{◌≡◌, ◌≢◌, ℕ, zero, suc, Bool, true, false, List, [], ◌∷◌}
+use Rattle.std.proofs.Common.{◌++◌, Option, Some, None, length, map, refl, sym, ap, ◌∙◌, arith}
+use Rattle.std.proofs.Common.{codes, slice_get, if◌then◌else◌, ⊎_elim, option_and_then, ◌==◌}
+use Rattle.std.proofs.Common.{append-nil, append_assoc}
 use Rattle.std.specs.List.{AllZip, AllByRecursion}
-use Rattle.std.proofs.lemmas.Bool.{eq-eqb, ne_eqb}
-use Rattle.std.proofs.lemmas.List.{length-append, length-map}
+use Rattle.std.proofs.lemmas.Bool.{cases_eq, eq-eqb, ne_eqb}
+use Rattle.std.proofs.lemmas.List.{length-append}
 use Rattle.bpaf_doc.specs.Names.{Names}
 use Rattle.bpaf_items.specs.declared.arg.Arg.{Arg}
 use Rattle.bpaf_items.specs.declared.arg.Arg.TheVariants.{Short, Long, ArgWord, Word, PosWord}
@@ -20,7 +21,7 @@ use Rattle.bpaf.specs.Marker.{words_behind}
 use Rattle.bpaf.specs.Positional.{accepts}
 use Rattle.bpaf.specs.declared.leaves.positional.Position.TheVariants.{NonStrict, Strict}
 use Rattle.bpaf.proofs.Sides.{IsBefore, all_before, behind_with_marker, behind_without_marker}
-use Rattle.bpaf.proofs.Sides.{text_behind}
+use Rattle.bpaf.proofs.Sides.{each_append, text_behind}
 use Rattle.bpaf_exact.specs.Flat.{OneWord, back, first_cells, front}
 use Rattle.bpaf_exact.specs.Leaves.{stands_behind}
 use Rattle.bpaf_exact.specs.Names.{is_key_of_any}
@@ -67,97 +68,88 @@ cut_behind (word {w = w} h c) = ap (put (text_behind w)) (cut_behind c)
 
 -- The line.
 
--- cells that are the same at each place
-same_cells : (at next : ℕ → Option Arg) (n : ℕ) → ((p : ℕ) → at p ≡ next p)
-    → first_cells at n ≡ first_cells next n
-same_cells at next zero same = refl
-same_cells at next (suc n) same =
-    ap₂ (λ cell cells. cell ∷ cells) (same 0)
-    (same_cells (λ p. at (suc p)) (λ p. next (suc p)) n (λ p. same (suc p)))
+-- and of items
+abbrev items_behind : List Arg → List (List ℕ)
+items_behind [] = []
+items_behind (k ∷ items) = put (text_behind k) (items_behind items)
 
--- items of which none stands behind `--`, on the first cells
-before_passes : (at next : ℕ → Option Arg) (items : List Arg) (n : ℕ)
-    → AllByRecursion IsBefore items → ((p : ℕ) → p < length items → at p ≡ slice_get items p)
-    → ((p : ℕ) → at (length items + p) ≡ next p)
-    → cells_behind (first_cells at (length items + n)) ≡ cells_behind (first_cells next n)
-before_passes at next [] n before is behind =
-    ap cells_behind (ap (first_cells at) (omega arith)
-    ∙ same_cells at next n (λ p. ap at (omega arith) ∙ behind p))
-before_passes at next (x ∷ xs) n before is behind =
-    let size : length (x ∷ xs) + n ≡ suc (length xs + n) = omega arith in
-    ap (λ m. cells_behind (first_cells at m)) size
-    ∙ (ap (λ cell. cells_behind (cell ∷ first_cells (λ p. at (suc p)) (length xs + n)))
-    (is 0 (omega arith))
-    ∙ (ap (λ text. put text (cells_behind (first_cells (λ p. at (suc p)) (length xs + n)))) before.0
-    ∙ before_passes (λ p. at (suc p)) next xs n before.1 (λ p within. is (suc p) (omega arith))
-    (λ p. let place : suc (length xs + p) ≡ length (x ∷ xs) + p = omega arith in
-    ap at place ∙ behind p)))
+-- the text behind `--` at a place
+abbrev behind_at : Option Arg → Option (List ℕ)
+behind_at = option_and_then text_behind
 
--- words behind `--`, on all cells
-behind_stays : (at : ℕ → Option Arg) (texts : List (List ℕ))
-    → ((p : ℕ) → at p ≡ slice_get (map PosWord texts) p)
-    → cells_behind (first_cells at (length texts)) ≡ texts
-behind_stays at [] is = refl
-behind_stays at (text ∷ texts) is =
-    ap (λ cell. cells_behind (cell ∷ first_cells (λ p. at (suc p)) (length texts))) (is 0)
-    ∙ ap (λ rest. text ∷ rest) (behind_stays (λ p. at (suc p)) texts (λ p. is (suc p)))
+-- cells have what stands behind `--` on items, where each place has what its item has
+as_items : (at : ℕ → Option Arg) (items : List Arg)
+    → ((p : ℕ) → behind_at (at p) ≡ behind_at (slice_get items p))
+    → cells_behind (first_cells at (length items)) ≡ items_behind items
+as_items at [] same = refl
+as_items at (k ∷ items) same =
+    first (at 0) (first_cells (λ p. at (suc p)) (length items)) (same 0)
+    ∙ ap (put (text_behind k)) (as_items (λ p. at (suc p)) items (λ p. same (suc p)))
+  where
+    first : (cell : Option Arg) (cs : Cells) → behind_at cell ≡ text_behind k
+        → cells_behind (cell ∷ cs) ≡ put (text_behind k) (cells_behind cs)
+    first None cs e = ap (λ text. put text (cells_behind cs)) e
+    first (Some x) cs e = ap (λ text. put text (cells_behind cs)) e
 
--- the front of two lists together is the first
-front_of : {X : Type 0} (xs ys : List X) (p : ℕ) → p < length xs
-    → slice_get (xs ++ ys) p ≡ slice_get xs p
-front_of [] ys p within = absurd (omega arith)
-front_of (x ∷ xs) ys zero within = refl
-front_of (x ∷ xs) ys (suc p) within = front_of xs ys p (omega arith)
+-- words behind items of which none stands there
+behind_is : (items : List Arg) (texts : List (List ℕ)) → AllByRecursion IsBefore items
+    → items_behind (items ++ map PosWord texts) ≡ texts
+behind_is [] [] before = refl
+behind_is [] (text ∷ texts) before = ap (λ rest. text ∷ rest) (behind_is [] texts tt)
+behind_is (k ∷ items) texts before =
+    ap (λ text. put text (items_behind (items ++ map PosWord texts))) before.0
+    ∙ behind_is items texts before.1
 
--- and what is behind that is the second
-back_of : {X : Type 0} (xs ys : List X) (p n : ℕ) → p ≡ length xs + n
-    → slice_get (xs ++ ys) p ≡ slice_get ys n
-back_of [] ys p n is = let same : p ≡ n = omega arith in ap (slice_get ys) same
-back_of (x ∷ xs) ys zero n is = absurd (omega arith)
-back_of (x ∷ xs) ys (suc p) n is = back_of xs ys p n (omega arith)
+-- the marker's place has none
+at_marker : (items : List Arg) (marker : Arg) (texts : List (List ℕ)) (p : ℕ)
+    → behind_at (if p == length items then None else slice_get (items ++ marker ∷ map PosWord texts) p)
+    ≡ behind_at (slice_get (items ++ Word [] ∷ map PosWord texts) p)
+at_marker items marker texts p = ⊎_elim
+    (λ (here : p ≡ length items). ap (λ b. behind_at (if b then None else
+    slice_get (items ++ marker ∷ map PosWord texts) p)) (eq-eqb p (length items) here)
+    ∙ sym (ap behind_at (hole items p here)))
+    (λ (other : p ≢ length items). ap (λ b. behind_at (if b then None else
+    slice_get (items ++ marker ∷ map PosWord texts) p)) (ne_eqb p (length items) other)
+    ∙ ap behind_at (beside items p other))
+    (cases_eq p (length items))
+  where
+    hole : (items : List Arg) (p : ℕ) → p ≡ length items
+        → slice_get (items ++ Word [] ∷ map PosWord texts) p ≡ Some (Word [])
+    hole [] zero here = refl
+    hole [] (suc p) here = absurd (omega arith)
+    hole (k ∷ items) zero here = absurd (omega arith)
+    hole (k ∷ items) (suc p) here = hole items p (omega arith)
 
--- the items of a line with a marker
-abbrev item_on : List Arg → Option ℕ → ℕ → Option Arg
-item_on line marker p = if is_marker marker p then None else slice_get line p
+    beside : (items : List Arg) (p : ℕ) → p ≢ length items
+        → slice_get (items ++ marker ∷ map PosWord texts) p
+        ≡ slice_get (items ++ Word [] ∷ map PosWord texts) p
+    beside [] zero other = absurd (other refl)
+    beside [] (suc p) other = refl
+    beside (k ∷ items) zero other = refl
+    beside (k ∷ items) (suc p) other = beside items p (λ same. other (omega arith))
 
 -- what stands behind `--` on the line of words are the words there
 by_line : (known : Known) (words : List (List ℕ)) (line : List Arg) (marker : Option ℕ)
     → IsLine known words line marker
-    → cells_behind (first_cells (item_on line marker) (length line)) ≡ words_behind words
+    → cells_behind (first_cells (λ p. if is_marker marker p then None else slice_get line p)
+    (length line)) ≡ words_behind words
 by_line known words line None (without_marker items none spelled) =
-    ap (λ n. cells_behind (first_cells (slice_get items) n)) (omega arith)
-    ∙ (before_passes (slice_get items) (λ p. slice_get items (length items + p)) items 0
-    (all_before known words items spelled) (λ p within. refl) (λ p. refl)
-    ∙ sym (behind_without_marker words none))
+    as_items (slice_get items) items (λ p. refl)
+    ∙ (ap items_behind (sym (append-nil items))
+    ∙ (behind_is items [] (all_before known words items spelled)
+    ∙ sym (behind_without_marker words none)))
 by_line known words line (Some place) (with_marker before after items cut none spelled) =
-    ap (λ n. cells_behind (first_cells at n)) size
-    ∙ (before_passes at (λ p. at (length items + p)) items (suc (length after))
-    (all_before known before items spelled)
-    (λ p within. other p (λ same. omega arith)
-    ∙ front_of items (PosWord (codes "--") ∷ map PosWord after) p within) (λ p. refl)
-    ∙ (ap (λ cell. cells_behind (cell ∷ first_cells (λ p. at (length items + suc p)) (length after)))
-    here
-    ∙ (behind_stays (λ p. at (length items + suc p)) after
-    (λ p. other (length items + suc p) (λ same. omega arith)
-    ∙ back_of items (PosWord (codes "--") ∷ map PosWord after) (length items + suc p) (suc p) refl)
+    let hole = Word [] ∷ map PosWord after in
+    let at : ℕ → Option Arg = λ p. if p == length items then None
+    else slice_get (items ++ PosWord (codes "--") ∷ map PosWord after) p in
+    ap (λ n. cells_behind (first_cells at n))
+    (length-append items (PosWord (codes "--") ∷ map PosWord after)
+    ∙ sym (length-append items hole))
+    ∙ (as_items at (items ++ hole) (at_marker items (PosWord (codes "--")) after)
+    ∙ (ap items_behind (sym (append_assoc items (Word [] ∷ []) (map PosWord after)))
+    ∙ (behind_is (items ++ Word [] ∷ []) after
+    (each_append IsBefore items (Word [] ∷ []) (all_before known before items spelled) (refl, tt))
     ∙ sym (ap words_behind cut ∙ behind_with_marker before after none))))
-  where
-    whole : List Arg
-    whole = items ++ PosWord (codes "--") ∷ map PosWord after
-
-    at : ℕ → Option Arg
-    at = item_on whole (Some (length items))
-
-    size : length whole ≡ length items + suc (length after)
-    size = length-append items (PosWord (codes "--") ∷ map PosWord after)
-        ∙ ap (λ n. length items + suc n) (length-map after PosWord)
-
-    other : (p : ℕ) → p ≢ length items → at p ≡ slice_get whole p
-    other p apart = ap (λ b. if b then None else slice_get whole p) (ne_eqb p (length items) apart)
-
-    here : at (length items + 0) ≡ None
-    here = ap (λ b. if b then None else slice_get whole (length items + 0))
-        (eq-eqb (length items + 0) (length items) (omega arith))
 
 -- For programs.
 

@@ -1,5 +1,6 @@
 //! What changes only what is shown: a field stays what it is inside, as does a command or a choice
-//! of such; a product with such a look round it is no record and no program.
+//! of such. A product of flat fields with such a look round it may stand in a program, but is no
+//! flat record; one that ends in commands is no program then.
 ghost use Rattle.std.specs.Prelude.{◌≡◌, true};
 
 use crate::field::{FlatField, ProgramField};
