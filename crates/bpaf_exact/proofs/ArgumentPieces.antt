@@ -1,10 +1,10 @@
 -- A key of an argument and its value are a piece.
-use Rattle.std.proofs.Common.{◌≡◌, ℕ, Bool, true, false, not, ◌&&◌, List, [], None, refl, sym, ap}
+use Rattle.std.proofs.Common.{◌≡◌, ℕ, true, List, [], None, sym, ap}
 use Rattle.std.proofs.Common.{◌∙◌}
-use Rattle.std.proofs.Common.{subst}
+use Rattle.std.proofs.Common.{subst, ◌∷◌}
 use Rattle.bpaf_text.specs.Named.{KeyWithValue}
 use Rattle.bpaf_items.specs.declared.arg.Arg.{Arg}
-use Rattle.bpaf_items.specs.Items.{is_key_of, is_attached, item_text}
+use Rattle.bpaf_items.specs.Items.{is_key_of, item_text}
 use Rattle.bpaf_line.specs.Situation.{Situation}
 use Rattle.bpaf_laws.specs.Argument.{TakesKeyWithText, IsVariable, is_key_with_value}
 use Rattle.bpaf_laws.specs.Environment.{first_set}
@@ -12,7 +12,9 @@ use Rattle.bpaf_exact.specs.Pieces.{WithNext, Roles, Two, IsNamed}
 use Rattle.bpaf_exact.specs.Flat.{cells, Steady}
 use Rattle.bpaf_exact.specs.Alternative.{TakesFirst}
 use Rattle.bpaf_exact.specs.Leaves.{argument_roles}
-use Rattle.bpaf_exact.proofs.Matching.{match_of, ByTest, by_test, names_named, behind_of}
+use Rattle.std.proofs.lemmas.Bool.{and_parts}
+use Rattle.bpaf_exact.specs.Names.{Owns}
+use Rattle.bpaf_exact.proofs.Matching.{match_of, ByTest, by_test, test_named, test_owns, behind_of}
 use Rattle.bpaf_exact.proofs.Matching.{pair_is, two_taken, two_steady}
 
 -- no name is set in the environment where there is none
@@ -31,33 +33,27 @@ pub record TookPair (q : Roles) (s t : Situation) (text : List ℕ) : Type 0 whe
   pub takes : TakesFirst q (cells s) (Two key word) (cells t)
   pub steady : Steady s t
 
-module _ (argument : KeyWithValue) (plain : argument.adjacent ≡ false) where
+module _ (argument : KeyWithValue) where
   -- the items of the argument
   abbrev q : Roles
-  q = argument_roles argument.named.names
+  q = argument_roles argument.adjacent argument.named.names
 
-  -- each key with one of the names counts
-  plain_key : (k : Arg) → is_key_with_value argument k ≡ is_key_of argument.named.names k
-  plain_key k = ap (λ b. is_key_of argument.named.names k && not (b && not (is_attached k))) plain
-      ∙ and_true (is_key_of argument.named.names k)
-    where
-      and_true : (b : Bool) → (b && true) ≡ b
-      and_true true = refl
-      and_true false = refl
+  -- each has one of its names
+  named_item : (k : Arg) → is_key_with_value argument k ≡ true
+      → is_key_of argument.named.names k ≡ true
+  named_item k e = (and_parts (is_key_of argument.named.names k) _ e).0
 
   -- they are the keys that the argument looks for
   pub test : ByTest (is_key_with_value argument) q WithNext
-  test =
-      let t = by_test (is_key_of argument.named.names) WithNext in
-      record {
-        yes = λ k e. t.yes k (sym (plain_key k) ∙ e);
-        no =
-            λ k e. t.no k (sym (plain_key k) ∙ e);
-      }
+  test = by_test (is_key_with_value argument) WithNext
 
   -- they are keys
   pub named : IsNamed q
-  named = names_named argument.named.names WithNext
+  named = test_named (is_key_with_value argument) argument.named.names WithNext named_item
+
+  -- with its names
+  pub owns : Owns q (argument.named.names ∷ [])
+  owns = test_owns (is_key_with_value argument) argument.named.names WithNext named_item
 
   -- a key that was taken with its text
   pub took_pair : (s t : Situation) (text : List ℕ) → TakesKeyWithText argument s text t

@@ -14,21 +14,21 @@ use Rattle.bpaf_exact.specs.Alternative.{AlternativeOk, AlternativeErr}
 use Rattle.bpaf_exact.specs.Alternative.{alternative_memory, AlternativeLaw}
 use Rattle.bpaf_exact.specs.Leaves.{argument_roles, ArgumentValue, argument_by, argument_field}
 use Rattle.bpaf_exact.specs.FlatForm.{FormLaw}
-use Rattle.bpaf_exact.proofs.ArgumentPieces.{never_set, TookPair, test, named, took_pair}
+use Rattle.bpaf_exact.proofs.ArgumentPieces.{never_set, TookPair, test, named, owns, took_pair}
 use Rattle.bpaf_exact.proofs.Classes.{missing_class}
 use Rattle.bpaf_exact.proofs.First.{first_pieces}
 use Rattle.bpaf_exact.proofs.LastArguments.{last_argument_law}
 use Rattle.bpaf_exact.proofs.Matching.{match_of, no_pieces, bare_taken}
 use Rattle.bpaf_exact.proofs.Matching.{first_alternative, first_refused, missing_same}
-use Rattle.bpaf_exact.proofs.Matching.{absence_missing, names_own}
+use Rattle.bpaf_exact.proofs.Matching.{absence_missing}
 
 -- an argument
 module _ (T : Type 0) (means : List ℕ → T → Type 0) (argument : KeyWithValue)
-    (no_envs : argument.named.envs ≡ []) (plain : argument.adjacent ≡ false)
+    (no_envs : argument.named.envs ≡ [])
     (once : argument.last ≡ false) where
   -- the items of the argument
   abbrev q : Roles
-  q = argument_roles argument.named.names
+  q = argument_roles argument.adjacent argument.named.names
 
   -- what its pieces mean
   abbrev value : LinePiece → T → Type 0
@@ -40,7 +40,7 @@ module _ (T : Type 0) (means : List ℕ → T → Type 0) (argument : KeyWithVal
   gets_pair s t text gets =
       ⊎_elim
       (λ takes.
-      took_pair argument plain s t text (subst (λ b. TakesOwnText b argument s text t) once takes))
+      took_pair argument s t text (subst (λ b. TakesOwnText b argument s text t) once takes))
       (λ variable. absurd (never_set argument no_envs s text variable.set)) gets
 
   -- a value is that of the first piece
@@ -58,26 +58,26 @@ module _ (T : Type 0) (means : List ℕ → T → Type 0) (argument : KeyWithVal
   argument_err s t e (ParseFailed place fault) c o =
       let m = gets_pair s t o.0 o.1 in
       first_refused T q value s t e (Two m.key m.word) (pieces q (cells t)) c m.steady.path
-      (first_pieces q (named argument plain) m.takes)
+      (first_pieces q (named argument) m.takes)
       (λ v y. o.2.0 v (subst (λ z. means z v) m.text_is y))
   argument_err s t e (NoArgument key metavar) c o =
       let same = subst (λ b. TakesBefore b argument s t) once o.1 in
       let lacks = subst (λ z. LacksText argument z (NoArgument key metavar)) same o.0 in
       let m = match_of (is_key_with_value argument) s key lacks.0.matches in
       let b = bare_taken (is_key_with_value argument) q s key
-      (test argument plain) lacks.0 m lacks.1 in
+      (test argument) lacks.0 m lacks.1 in
       first_refused T q value s t e (One m.item) b.tail c (ap (λ z. z.path) same) b.is (λ v y. y)
   argument_err s t e other c o =
       missing_same T q value s t e
       (c ∙ missing_class other
       (absence_missing s (argument_part argument) argument.named.envs no_envs other o.1.1))
-      (no_pieces (is_key_with_value argument) q WithNext s (test argument plain) o.0) o.2
+      (no_pieces (is_key_with_value argument) q WithNext s (test argument) o.0) o.2
 
   -- an argument keeps to the laws of an alternative
   argument_law : AlternativeLaw T (ArgumentOutcome means argument) q value
   argument_law =
       record {
-        named = named argument plain;
+        named = named argument;
         ok = argument_ok;
         err = λ s t e w o. argument_err s t e e.0 refl o;
       }
@@ -87,15 +87,11 @@ pub argument_field_law : (T : Type 0) (means : List ℕ → T → Type 0) (argum
     → FormLaw (ArgumentOutcome means argument) (argument.named.names ∷ [])
     (argument_field means argument)
 argument_field_law T means argument =
-    by_parts argument.named.envs argument.adjacent argument.last refl refl refl
+    by_parts argument.named.envs argument.last refl refl
   where
-    by_parts : (envs : List (List ℕ)) (adjacent last : Bool) → argument.named.envs ≡ envs
-        → argument.adjacent ≡ adjacent → argument.last ≡ last
-        → FormLaw (ArgumentOutcome means argument) (argument.named.names ∷ [])
-        (argument_by means argument.named.names envs adjacent last)
-    by_parts (env ∷ envs) adjacent last e f g = tt
-    by_parts [] true last e f g = tt
-    by_parts [] false false e f g =
-        (argument_law T means argument e f g, names_own argument.named.names WithNext refl)
-    by_parts [] false true e f g =
-        (last_argument_law T means argument e f g, names_own argument.named.names WithNext refl)
+    by_parts : (envs : List (List ℕ)) (last : Bool) → argument.named.envs ≡ envs
+        → argument.last ≡ last → FormLaw (ArgumentOutcome means argument) (argument.named.names ∷ [])
+        (argument_by means argument.named.names envs argument.adjacent last)
+    by_parts (env ∷ envs) last e g = tt
+    by_parts [] false e g = (argument_law T means argument e g, owns argument)
+    by_parts [] true e g = (last_argument_law T means argument e g, owns argument)

@@ -23,8 +23,8 @@ use Rattle.bpaf_exact.proofs.Product.{steady_refl}
 use Rattle.bpaf_exact.proofs.First.{first_pieces}
 use Rattle.bpaf_exact.proofs.Alternative.{took_front}
 use Rattle.bpaf_exact.proofs.Places.{take_steady}
-use Rattle.bpaf_exact.proofs.Matching.{match_of, ByTest, by_test, names_named, no_pieces, one_taken}
-use Rattle.bpaf_exact.proofs.Matching.{first_alternative, missing_same, absence_missing, names_own}
+use Rattle.bpaf_exact.proofs.Matching.{match_of, ByTest, by_test, test_named, no_pieces, one_taken}
+use Rattle.bpaf_exact.proofs.Matching.{first_alternative, missing_same, absence_missing, test_owns}
 
 -- a flag
 module _ (T : Type 0) (clones : T → T → Type 0) (key : Key) (present : T)
@@ -43,7 +43,7 @@ module _ (T : Type 0) (clones : T → T → Type 0) (key : Key) (present : T)
 
   -- they are keys
   named : IsNamed q
-  named = names_named key.names Alone
+  named = test_named (is_key_of key.names) key.names Alone (λ k e. e)
 
   -- no name is set in the environment
   never_set : (s : Situation) → is_set s.context.env key.envs ≡ true → ⊥
@@ -138,6 +138,6 @@ flag_field_law T clones key present absent = by_envs key.envs refl absent
         → FormLaw (FlagOutcome clones key present absent) (key.names ∷ [])
         (flag_by clones key.names present envs absent)
     by_envs (env ∷ envs) e absent = tt
-    by_envs [] e None = (flag_law T clones key present e, names_own key.names Alone refl)
+    by_envs [] e None = (flag_law T clones key present e, test_owns (is_key_of key.names) key.names Alone (λ k e. e))
     by_envs [] e (Some absent) =
-        (switch_law T clones key present e absent, names_own key.names Alone refl)
+        (switch_law T clones key present e absent, test_owns (is_key_of key.names) key.names Alone (λ k e. e))

@@ -1,5 +1,6 @@
 -- Each form that is made of flat fields keeps to its laws.
 use Rattle.std.proofs.Common.{◌≡◌, Bool, true, false, ◌&&◌, List, [], ◌∷◌, ◌++◌, refl, subst, append-nil}
+use Rattle.std.proofs.lemmas.Bool.{false_from_ne_true}
 use Rattle.bpaf_doc.specs.Names.{Names}
 use Rattle.bpaf_laws.specs.Choice.{ChoiceOutcome}
 use Rattle.bpaf_laws.specs.Product.{BothOutcome, ProductOutcome}
@@ -185,14 +186,18 @@ inner_field_law T outcome names (complete k q value) l = l
 inner_field_law T outcome names (product true q fields) l = (l.2, l.1)
 inner_field_law T outcome names (product false q fields) l = tt
 
+-- no is no yes
+nobody : false ≡ true → ⊥
+nobody e = cc
+
 -- fields that may follow keep apart
 follows : (k : FieldKind) (q r : Roles) (own others : List Names) → Owns (keys k q) own
     → Owns r others
     → may_follow k own others ≡ true → Before k q r
 follows ByName q r own others a b h = apart_of_names q r own others a b h
-follows OneWord q r own [] a b h = λ i. foreign_of (r i) (b.own i)
+follows OneWord q r own [] a b h = λ i. foreign_of (r i) (false_from_ne_true _ (λ e. nobody (b.own i e)))
 follows OneWord q r own (names ∷ others) a b h = absurd cc
-follows EachWord q r own [] a b h = λ i. foreign_of (r i) (b.own i)
+follows EachWord q r own [] a b h = λ i. foreign_of (r i) (false_from_ne_true _ (λ e. nobody (b.own i e)))
 follows EachWord q r own (names ∷ others) a b h = absurd cc
 
 -- a field before others
@@ -227,7 +232,7 @@ flat_both_law A B first rest own others (product named q v) t la lb = tt
 
 -- no item without a key
 pub no_names : Owns no_roles []
-no_names = record { own = λ k. refl }
+no_names = record { own = λ k e. absurd cc }
 
 -- the last field, or one alone
 pub flat_alone_law : (T : Type 0) (outcome : Outcome T) (names : List Names) (s : FlatForm T)

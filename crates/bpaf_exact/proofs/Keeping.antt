@@ -14,19 +14,19 @@ use Rattle.bpaf_exact.proofs.ProgramSays.{program_both_say}
 pub record FieldsKeep {P V : Type 0} (outcome : Outcome V) (names : List Names) (s : ProgramForm V)
     (said : ProgramFieldsSaid P V) (p : P) : Type 0 where
   pub law : ProgramFormLaw outcome names [] s
-  pub says : ProgramFieldsSay s said p
+  pub says : ProgramFieldsSay names s said p
 
 -- the last ones
 pub keep : {P V : Type 0} (outcome : Outcome V) (names : List Names) (s : ProgramForm V)
     (said : ProgramFieldsSaid P V) (p : P) → ProgramFormLaw outcome names [] s
-    → ProgramFieldsSay s said p → FieldsKeep outcome names s said p
+    → ProgramFieldsSay names s said p → FieldsKeep outcome names s said p
 keep outcome names s said p law says = record { law = law; says = says }
 
 -- a field before such fields
 pub keep_before : {P Q R A B : Type 0} (first : R → P) (rest : R → Q) (r : R) (outcome : Outcome A)
     (kind : P → FieldKind) (names : P → List Names) (words : List (List ℕ)) (s : ProgramForm A)
     (said : ProgramSaid P A) → ProgramFormLaw outcome (names (first r)) words s
-    → ProgramSays s (kind (first r)) said (first r)
+    → ProgramSays (names (first r)) s (kind (first r)) said (first r)
     → {behind : Outcome B} {others : List Names} {t : ProgramForm B}
     {more : ProgramFieldsSaid Q B} → FieldsKeep behind others t more (rest r)
     → FieldsKeep (BothOutcome outcome behind) (names (first r) ++ others)

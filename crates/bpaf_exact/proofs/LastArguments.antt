@@ -1,5 +1,5 @@
 -- An argument that takes all its keys at once keeps to the laws of a field.
-use Rattle.std.proofs.Common.{◌≡◌, ℕ, true, false, List, [], ◌∷◌, ◌++◌, Ok, refl, sym, ap, ◌∙◌}
+use Rattle.std.proofs.Common.{◌≡◌, ℕ, true, List, [], ◌∷◌, ◌++◌, Ok, refl, sym, ap, ◌∙◌}
 use Rattle.std.proofs.Common.{subst, ⊎_elim}
 use Rattle.bpaf_text.specs.Named.{KeyWithValue, argument_part}
 use Rattle.bpaf_items.specs.declared.arg.Arg.{Arg}
@@ -50,11 +50,11 @@ bare_spoils (o ∷ pairs) tail before k j w (one_more {os = os} h) e =
     bare_spoils pairs tail os k j w h cc
 
 module _ (T : Type 0) (means : List ℕ → T → Type 0) (argument : KeyWithValue)
-    (no_envs : argument.named.envs ≡ []) (plain : argument.adjacent ≡ false)
+    (no_envs : argument.named.envs ≡ [])
     (all : argument.last ≡ true) where
   -- the items of the argument
   abbrev q : Roles
-  q = argument_roles argument.named.names
+  q = argument_roles argument.adjacent argument.named.names
 
   -- keys that were taken with their texts are the first pieces
   record TookSome (s t : Situation) : Type 0 where
@@ -67,12 +67,12 @@ module _ (T : Type 0) (means : List ℕ → T → Type 0) (argument : KeyWithVal
   took_some s t [] same =
       record { pairs = []; is = ap (λ z. pieces q (cells z)) (sym same) }
   took_some s t (text ∷ texts) o =
-      let m = took_pair argument plain s o.0 text o.1 in
+      let m = took_pair argument s o.0 text o.1 in
       let rest = took_some o.0 t texts o.2 in
       record {
         pairs = Two m.key m.word ∷ rest.pairs;
         is =
-            first_pieces q (named argument plain) m.takes
+            first_pieces q (named argument) m.takes
             ∙ ap (λ z. Two m.key m.word ∷ z) rest.is;
       }
 
@@ -95,7 +95,7 @@ module _ (T : Type 0) (means : List ℕ → T → Type 0) (argument : KeyWithVal
     word = m.word;
     text_is = m.text_is;
     have_values = no_more;
-    is = first_pieces q (named argument plain) m.takes;
+    is = first_pieces q (named argument) m.takes;
     any = record {
       piece = Two m.key m.word;
       middle = cells t;
@@ -115,7 +115,7 @@ module _ (T : Type 0) (means : List ℕ → T → Type 0) (argument : KeyWithVal
     text_is = rest.text_is;
     have_values = one_more rest.have_values;
     is =
-        first_pieces q (named argument plain) first.takes
+        first_pieces q (named argument) first.takes
         ∙ ap (λ z. Two first.key first.word ∷ z) rest.is;
     any = record {
       piece = Two first.key first.word;
@@ -131,9 +131,9 @@ module _ (T : Type 0) (means : List ℕ → T → Type 0) (argument : KeyWithVal
       → TakesKeysWithTexts argument s (before ++ text ∷ []) t → TookAll s t text
   took_texts s t text [] o =
       subst (λ z. TookAll s z text) (sym o.2)
-      (all_one s o.0 text (took_pair argument plain s o.0 text o.1))
+      (all_one s o.0 text (took_pair argument s o.0 text o.1))
   took_texts s t text (x ∷ before) o =
-      all_more s o.0 t x text (took_pair argument plain s o.0 x o.1)
+      all_more s o.0 t x text (took_pair argument s o.0 x o.1)
       (took_texts o.0 t text before o.2)
 
   -- the text of an argument is that of the last of its pieces, of which none is left
@@ -150,7 +150,7 @@ module _ (T : Type 0) (means : List ℕ → T → Type 0) (argument : KeyWithVal
       record {
         pieces_are = took_texts s t text last.before last.taken;
         none =
-            no_pieces (is_key_with_value argument) q WithNext t (test argument plain) last.no_more;
+            no_pieces (is_key_with_value argument) q WithNext t (test argument) last.no_more;
       })
       (λ variable. absurd (never_set argument no_envs s text variable.set)) gets
 
@@ -226,21 +226,21 @@ module _ (T : Type 0) (means : List ℕ → T → Type 0) (argument : KeyWithVal
   last_err s t e (NoArgument key metavar) c o =
       let before = subst (λ b. TakesBefore b argument s t) all o.1 in
       let m = match_of (is_key_with_value argument) t key o.0.0.matches in
-      let b = bare_taken (is_key_with_value argument) q t key (test argument plain) o.0.0 m o.0.1 in
+      let b = bare_taken (is_key_with_value argument) q t key (test argument) o.0.0 m o.0.1 in
       bare_refused s t e m.item b.tail c (took_some s t before.0 before.1) b.is
   last_err s t e other c o =
       subst (λ z. SingleErr T ByName q (LastGroup T means) (no_gap T) s e z) (sym o.2)
       (of_missing
       (c ∙ missing_class other
       (absence_missing s (argument_part argument) argument.named.envs no_envs other o.1.1))
-      refl (no_pieces (is_key_with_value argument) q WithNext s (test argument plain) o.0) refl
+      refl (no_pieces (is_key_with_value argument) q WithNext s (test argument) o.0) refl
       (steady_refl s))
 
   -- such an argument keeps to the laws of a field
   pub last_argument_law : SingleLaw T (ArgumentOutcome means argument) ByName q (LastGroup T means)
       (no_gap T)
   last_argument_law = record {
-    own = named argument plain;
+    own = named argument;
     words = tt;
     starts = λ v rest g. not_nil g.before (Two g.key g.word) (sym g.is);
     no_absent = λ v none a. a;

@@ -67,11 +67,12 @@ by_test test own =
           λ k e. ap (λ b. if b then own else Foreign) e;
     }
 
--- only keys have a role by their names
-pub names_named : (names : Names) (own : Role)
-    → IsNamed (λ k. if is_key_of names k then own else Foreign)
-names_named names own =
-    record { only_keys = λ k h. by_key k (is_key_of names k) h (λ e. named_key names k e) }
+-- only keys have a role by a test that asks for names
+pub test_named : (test : Arg → Bool) (names : Names) (own : Role)
+    → ((k : Arg) → test k ≡ true → is_key_of names k ≡ true)
+    → IsNamed (λ k. if test k then own else Foreign)
+test_named test names own asks =
+    record { only_keys = λ k h. by_key k (test k) h (λ e. named_key names k (asks k e)) }
   where
     by_key : (k : Arg) (b : Bool) → is_key k ≡ false → (b ≡ true → is_key k ≡ true)
         → (if b then own else Foreign) ≡ Foreign
@@ -232,17 +233,14 @@ absence_missing s None [] e m o = misses s None m o
 absence_missing s None (env ∷ envs) e m o = absurd cc
 
 -- a role that a test gives is one of the field's own where the test holds
-own_test : (b : Bool) (x : Role) → is_own_role x ≡ true → is_own_role (if b then x else Foreign) ≡ b
-own_test true x h = h
-own_test false x h = refl
+own_test : (b : Bool) (x : Role) → is_own_role (if b then x else Foreign) ≡ true → b ≡ true
+own_test true x e = refl
+own_test false x e = absurd cc
 
--- one test alone
-or_false : (b : Bool) → b ≡ (b || false)
-or_false true = refl
-or_false false = refl
-
--- the items of a flag or an argument are those with one of its names
-pub names_own : (names : Names) (own : Role) → is_own_role own ≡ true
-    → Owns (λ k. if is_key_of names k then own else Foreign) (names ∷ [])
-names_own names own h =
-    record { own = λ k. own_test (is_key_of names k) own h ∙ or_false (is_key_of names k) }
+-- and each of these has one of the names
+pub test_owns : (test : Arg → Bool) (names : Names) (own : Role)
+    → ((k : Arg) → test k ≡ true → is_key_of names k ≡ true)
+    → Owns (λ k. if test k then own else Foreign) (names ∷ [])
+test_owns test names own asks = record {
+  own = λ k e. ap (λ b. b || false) (asks k (own_test (test k) own e));
+}

@@ -56,7 +56,7 @@ none_owner names (other ∷ others) k apart e f = ⊎_elim
     (or_cases (is_key_of other k) (is_key_of_any others k) f)
 
 -- an item is a key of at most one of two lists that are apart
-one_list : (keys others : List Names) (k : Arg) → are_all_apart keys others ≡ true
+pub one_list : (keys others : List Names) (k : Arg) → are_all_apart keys others ≡ true
     → is_key_of_any keys k ≡ true → is_key_of_any others k ≡ true → ⊥
 one_list [] others k apart e f = cc
 one_list (names ∷ keys) others k apart e f = ⊎_elim
@@ -77,9 +77,9 @@ pub apart_of_names : (q r : Roles) (keys others : List Names) → Owns q keys �
     → are_all_apart keys others ≡ true → Apart q r
 apart_of_names q r keys others a b h = record {
   left = λ k e. foreign_of (r k) (false_from_ne_true (is_own_role (r k))
-      (λ f. one_list keys others k h (sym (a.own k) ∙ e) (sym (b.own k) ∙ f)));
+      (λ f. one_list keys others k h (a.own k e) (b.own k f)));
   right = λ k e. foreign_of (q k) (false_from_ne_true (is_own_role (q k))
-      (λ f. one_list keys others k h (sym (a.own k) ∙ f) (sym (b.own k) ∙ e)));
+      (λ f. one_list keys others k h (a.own k f) (b.own k e)));
 }
 
 -- an item of both is one of either
@@ -88,15 +88,22 @@ either_own Foreign y = refl
 either_own Alone y = refl
 either_own WithNext y = refl
 
+-- either, where the second holds
+pub or_true : (b : Bool) → (b || true) ≡ true
+or_true true = refl
+or_true false = refl
+
 -- the keys of two fields together
 pub either_owns : (q r : Roles) (keys others : List Names) → Owns q keys → Owns r others
     → Owns (either q r) (keys ++ others)
 either_owns q r keys others a b = record {
-  own = λ k.
-      either_own (q k) (r k)
-      ∙ (ap (λ z. z || is_own_role (r k)) (a.own k)
-      ∙ (ap (λ z. is_key_of_any keys k || z) (b.own k)
-      ∙ sym (list_any-append (λ names. is_key_of names k) keys others)));
+  own = λ k e.
+      list_any-append (λ names. is_key_of names k) keys others
+      ∙ ⊎_elim
+      (λ (one : is_own_role (q k) ≡ true). ap (λ z. z || is_key_of_any others k) (a.own k one))
+      (λ (other : is_own_role (r k) ≡ true).
+      ap (λ z. is_key_of_any keys k || z) (b.own k other) ∙ or_true (is_key_of_any keys k))
+      (or_cases (is_own_role (q k)) (is_own_role (r k)) (sym (either_own (q k) (r k)) ∙ e));
 }
 
 -- only keys have names

@@ -144,9 +144,8 @@ argument_view T X see means u argument =
     by_parts : (envs : List (List ℕ)) (adjacent last : Bool)
         → HasOneView see (argument_by means argument.named.names envs adjacent last)
     by_parts (env ∷ envs) adjacent last = tt
-    by_parts [] true last = tt
-    by_parts [] false false = argument_piece T X see means u
-    by_parts [] false true = (last_group T X see means u, λ v w a b. absurd a)
+    by_parts [] adjacent false = argument_piece T X see means u
+    by_parts [] adjacent true = (last_group T X see means u, λ v w a b. absurd a)
 
 -- a word
 word_piece : (T X : Type 0) (see : T → X) (means : List ℕ → T → Type 0)

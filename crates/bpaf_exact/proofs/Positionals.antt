@@ -149,4 +149,4 @@ module _ (T : Type 0) (value : LinePiece → T → Type 0) where
 -- a positional keeps to the laws of its form
 pub word_by_law : (T : Type 0) (value : LinePiece → T → Type 0)
     → FormLaw (WordEval T value) [] (word_by value)
-word_by_law T value = (word_law T value, record { own = λ k. refl })
+word_by_law T value = (word_law T value, record { own = λ k e. absurd cc })

@@ -52,7 +52,7 @@ program_if_law T outcome names words s true f = f refl
 program_if_law T outcome names words s false f = tt
 
 -- a flat record owns its keys
-record_owns : (T : Type 0) (outcome : Outcome T) (names : List Names) (s : FlatForm T)
+pub record_owns : (T : Type 0) (outcome : Outcome T) (names : List Names) (s : FlatForm T)
     → is_record s ≡ true → FormLaw outcome names (flat_record s)
     → Owns (product_roles (flat_record s)) names
 record_owns T outcome names not_flat h l = absurd cc

@@ -39,26 +39,29 @@ use Rattle.bpaf_exact.proofs.Says.{FormOwns, alone_says, both_say, by_name, choi
 use Rattle.bpaf_exact.proofs.Says.{choice_says, closed_says, con_says, field_owned}
 use Rattle.bpaf_exact.proofs.Says.{field_says, optional_says, owned, record_says, unless_says}
 use Rattle.bpaf_exact.proofs.Says.{fallback_says, last_says, listed_says}
+use Rattle.bpaf_exact.proofs.FlatForm.{flat_record_law}
+use Rattle.bpaf_exact.proofs.ProgramForm.{record_owns}
+use Rattle.bpaf_exact.proofs.Sharing.{cut_fit, pieces_own}
 
 -- where a test holds
-if_says : {P T : Type 0} (b : Bool) (s : ProgramForm T) (kind : FieldKind) (said : ProgramSaid P T)
-    (p : P) → (b ≡ true → ProgramFormSays s kind said p)
-    → ProgramFormSays (program_if b s) kind said p
-if_says true s kind said p h = h refl
-if_says false s kind said p h = tt
+if_says : {P T : Type 0} (names : List Names) (b : Bool) (s : ProgramForm T) (kind : FieldKind) (said : ProgramSaid P T)
+    (p : P) → (b ≡ true → ProgramFormSays names s kind said p)
+    → ProgramFormSays names (program_if b s) kind said p
+if_says names true s kind said p h = h refl
+if_says names false s kind said p h = tt
 
 module _ {P Q A B : Type 0} (inside : Q → P) (q : Q) where
   -- a combinator that takes flat fields alone
   pub flat_only_says : (pieces : Q → Said A → Said B) {s : ProgramForm A} {said : ProgramSaid P A}
-      {kind outer : FieldKind} (g : FlatForm A → FlatForm B)
-      → ((s : FlatForm A) (said : Said A) → Says s kind said → Says (g s) outer (pieces q said))
-      → ProgramSays s kind said (inside q)
-      → ProgramSays (flat_only g s) outer (said_flat inside pieces said) q
-  flat_only_says pieces {s} {said} {kind} {outer} g each h = record { by = by_form s said h.by }
+      {kind outer : FieldKind} {names : List Names} (g : FlatForm A → FlatForm B)
+      → ((s : FlatForm A) (said : Said A) → Says names s kind said → Says names (g s) outer (pieces q said))
+      → ProgramSays names s kind said (inside q)
+      → ProgramSays names (flat_only g s) outer (said_flat inside pieces said) q
+  flat_only_says pieces {s} {said} {kind} {outer} {names} g each h = record { by = by_form s said h.by }
     where
       by_form : (s : ProgramForm A) (said : ProgramSaid P A)
-          → ProgramFormSays s kind said (inside q)
-          → ProgramFormSays (flat_only g s) outer (said_flat inside pieces said) q
+          → ProgramFormSays names s kind said (inside q)
+          → ProgramFormSays names (flat_only g s) outer (said_flat inside pieces said) q
       by_form no_program said h = tt
       by_form (plain wide s) (of_pieces said) h = each s (said (inside q)) h
       by_form (plain wide s) (of_cells said) h = absurd h
@@ -67,11 +70,11 @@ module _ {P Q A B : Type 0} (inside : Q → P) (q : Q) where
       by_form (before_commands r value) said h = tt
 
   -- a closure
-  pub program_closed_says : {s : ProgramForm A} {said : ProgramSaid P A} {kind : FieldKind}
-      (f : Q → Closure A B) → ProgramSays s kind said (inside q)
-      → ProgramSays (program_closed (f q) s) kind
+  pub program_closed_says : {s : ProgramForm A} {said : ProgramSaid P A} {kind : FieldKind} {names : List Names}
+      (f : Q → Closure A B) → ProgramSays names s kind said (inside q)
+      → ProgramSays names (program_closed (f q) s) kind
       (said_closed inside f said) q
-  program_closed_says {s} {said} {kind} f h = record { by = by_form s said h.by }
+  program_closed_says {s} {said} {kind} {names} f h = record { by = by_form s said h.by }
     where
       made : (value said : CellsValue A) → IsSaid value said
           → IsSaid (ClosedCells A B value (f q)) (ClosedCells A B said (f q))
@@ -79,8 +82,8 @@ module _ {P Q A B : Type 0} (inside : Q → P) (q : Q) where
           record { from = c.from; read = h cs c.from c.read; made = c.made }
 
       by_form : (s : ProgramForm A) (said : ProgramSaid P A)
-          → ProgramFormSays s kind said (inside q)
-          → ProgramFormSays (program_closed (f q) s) kind
+          → ProgramFormSays names s kind said (inside q)
+          → ProgramFormSays names (program_closed (f q) s) kind
           (said_closed inside f said) q
       by_form no_program said h = tt
       by_form (plain wide s) (of_pieces said) h = closed_says (f q) h
@@ -93,9 +96,9 @@ module _ {P Q A B : Type 0} (inside : Q → P) (q : Q) where
 
 -- what is made of a repeat
 pub program_repeat_says : {P Q T B : Type 0} (inside : Q → P) (q : Q) (catch : Bool)
-    (f : Closure (List T) B) {s : ProgramForm T} {said : ProgramSaid P T} {kind : FieldKind}
-    → ProgramSays s kind said (inside q)
-    → ProgramSays (program_repeat catch f s) (repeated kind) (said_repeat inside f said) q
+    (f : Closure (List T) B) {s : ProgramForm T} {said : ProgramSaid P T} {kind : FieldKind} {names : List Names}
+    → ProgramSays names s kind said (inside q)
+    → ProgramSays names (program_repeat catch f s) (repeated kind) (said_repeat inside f said) q
 program_repeat_says inside q catch f h =
     flat_only_says inside q (λ q said. MadeSays (RepeatSays said) f)
     (λ s. unless catch (flat_closed f (flat_repeat s)))
@@ -103,8 +106,8 @@ program_repeat_says inside q catch f h =
 
 -- its last value
 pub program_last_says : {P Q T : Type 0} (inside : Q → P) (q : Q) {s : ProgramForm T}
-    {said : ProgramSaid P T} {kind : FieldKind} → ProgramSays s kind said (inside q)
-    → ProgramSays (program_last s) (repeated kind) (said_last inside said) q
+    {said : ProgramSaid P T} {kind : FieldKind} {names : List Names} → ProgramSays names s kind said (inside q)
+    → ProgramSays names (program_last s) (repeated kind) (said_last inside said) q
 program_last_says inside q h =
     flat_only_says inside q (λ q said. LastSays said) (λ s. flat_last s) (λ s said h. last_says h)
     h
@@ -112,23 +115,23 @@ program_last_says inside q h =
 -- a fallback
 pub program_fallback_says : {P Q T : Type 0} (inside : Q → P) (q : Q)
     (f : Q → Closure (Unit {0}) T) {s : ProgramForm T} {said : ProgramSaid P T}
-    {kind : FieldKind} → ProgramSays s kind said (inside q)
-    → ProgramSays (program_fallback (f q) s) kind (said_fallback inside f said) q
+    {kind : FieldKind} {names : List Names} → ProgramSays names s kind said (inside q)
+    → ProgramSays names (program_fallback (f q) s) kind (said_fallback inside f said) q
 program_fallback_says inside q f h =
     flat_only_says inside q (λ q said. FallbackSays said ((f q).yes tt))
     (λ s. flat_fallback (f q) s) (λ s said h. fallback_says (f q) h) h
 
 module _ {P Q T : Type 0} (inside : Q → P) (q : Q) where
   -- another look
-  pub program_dressed_says : {s : ProgramForm T} {said : ProgramSaid P T} {kind : FieldKind}
-      → ProgramSays s kind said (inside q)
-      → ProgramSays (program_dressed s) kind
+  pub program_dressed_says : {s : ProgramForm T} {said : ProgramSaid P T} {kind : FieldKind} {names : List Names}
+      → ProgramSays names s kind said (inside q)
+      → ProgramSays names (program_dressed s) kind
       (said_dressed inside said) q
-  program_dressed_says {s} {said} {kind} h = record { by = by_form s said h.by }
+  program_dressed_says {s} {said} {kind} {names} h = record { by = by_form s said h.by }
     where
       by_form : (s : ProgramForm T) (said : ProgramSaid P T)
-          → ProgramFormSays s kind said (inside q)
-          → ProgramFormSays (program_dressed s) kind
+          → ProgramFormSays names s kind said (inside q)
+          → ProgramFormSays names (program_dressed s) kind
           (said_dressed inside said) q
       by_form no_program said h = tt
       by_form (plain wide s) (of_pieces said) h = h
@@ -140,11 +143,11 @@ module _ {P Q T : Type 0} (inside : Q → P) (q : Q) where
       by_form (before_commands r value) said h = tt
 
   -- what may be left out
-  pub program_optional_says : {s : ProgramForm T} {said : ProgramSaid P T} {kind : FieldKind}
-      (catch : Bool) → ProgramSays s kind said (inside q)
-      → ProgramSays (program_optional catch s) kind
+  pub program_optional_says : {s : ProgramForm T} {said : ProgramSaid P T} {kind : FieldKind} {names : List Names}
+      (catch : Bool) → ProgramSays names s kind said (inside q)
+      → ProgramSays names (program_optional catch s) kind
       (said_optional inside said) q
-  program_optional_says {s} {said} {kind} catch h = record { by = by_form s said h.by }
+  program_optional_says {s} {said} {kind} {names} catch h = record { by = by_form s said h.by }
     where
       optional : (value said : CellsValue T) → IsSaid value said
           → IsSaid (OptionalCommands T value) (OptionalCommands T said)
@@ -152,45 +155,51 @@ module _ {P Q T : Type 0} (inside : Q → P) (q : Q) where
       optional value said h cs None (no_command none) = no_command none
 
       by_form : (s : ProgramForm T) (said : ProgramSaid P T)
-          → ProgramFormSays s kind said (inside q)
-          → ProgramFormSays (program_optional catch s) kind
+          → ProgramFormSays names s kind said (inside q)
+          → ProgramFormSays names (program_optional catch s) kind
           (said_optional inside said) q
       by_form no_program said h = tt
       by_form (plain wide s) (of_pieces said) h = unless_says catch (optional_says h)
       by_form (plain wide s) (of_cells said) h = absurd h
       by_form (commands r value) (of_pieces said) h = absurd h
       by_form (commands r value) (of_cells said) h =
-          if_says (not catch) _ kind _ q (λ on. optional value (said (inside q)) h)
+          if_says names (not catch) _ kind _ q (λ on. optional value (said (inside q)) h)
       by_form (left_out r value) said h = tt
       by_form (before_commands r value) said h = tt
 
   -- a value of a whole program says so of the cells
-  whole_says : (s : ProgramForm T) (kind : FieldKind) (said : ProgramSaid P T) (p : P)
-      → ProgramFormSays s kind said p → is_program s ≡ true
+  whole_says : (outcome : Outcome T) (names : List Names) (words : List (List ℕ))
+      (s : ProgramForm T) (kind : FieldKind) (said : ProgramSaid P T) (p : P)
+      → ProgramFormLaw outcome names words s → ProgramFormSays names s kind said p → is_program s ≡ true
       → IsSaid (program_value s) (cells_said said p)
-  whole_says no_program kind said p h is = absurd cc
-  whole_says (plain wide s) kind (of_pieces said) p h is = λ cs v read. record {
+  whole_says outcome names words no_program kind said p law h is = absurd cc
+  whole_says outcome names words (plain wide s) kind (of_pieces said) p law h is = λ cs v read. record {
     roles = product_roles (flat_record s);
     cut_into = read.cut_into;
     cut = read.cut;
-    told = record_says s h read.cut_into v read.read;
+    told = record_says s h read.cut_into v
+        (cut_fit (product_roles (flat_record s)) names
+        (record_owns T outcome names s is (flat_record_law T outcome names s law)) read.cut)
+        read.read;
   }
-  whole_says (plain wide s) kind (of_cells said) p h is = absurd h
-  whole_says (commands r value) kind (of_pieces said) p h is = absurd h
-  whole_says (commands r value) kind (of_cells said) p h is = h
-  whole_says (left_out r value) kind (of_pieces said) p h is = absurd h
-  whole_says (left_out r value) kind (of_cells said) p h is = h
-  whole_says (before_commands r value) kind (of_pieces said) p h is = absurd h
-  whole_says (before_commands r value) kind (of_cells said) p h is = h
+  whole_says outcome names words (plain wide s) kind (of_cells said) p law h is = absurd h
+  whole_says outcome names words (commands r value) kind (of_pieces said) p law h is = absurd h
+  whole_says outcome names words (commands r value) kind (of_cells said) p law h is = h
+  whole_says outcome names words (left_out r value) kind (of_pieces said) p law h is = absurd h
+  whole_says outcome names words (left_out r value) kind (of_cells said) p law h is = h
+  whole_says outcome names words (before_commands r value) kind (of_pieces said) p law h is = absurd h
+  whole_says outcome names words (before_commands r value) kind (of_cells said) p law h is = h
 
   -- a command
-  pub program_command_says : {s : ProgramForm T} {said : ProgramSaid P T} {kind : FieldKind}
-      (adjacent apart : Bool) (called : Q → Called) → ProgramSays s kind said (inside q)
-      → ProgramSays (program_command adjacent apart (called q) s) ByName
+  pub program_command_says : (outcome : Outcome T) (words : List (List ℕ)) {s : ProgramForm T}
+      {said : ProgramSaid P T} {kind : FieldKind} {names : List Names} (adjacent apart : Bool)
+      (called : Q → Called) → ProgramFormLaw outcome names words s
+      → ProgramSays names s kind said (inside q)
+      → ProgramSays names (program_command adjacent apart (called q) s) ByName
       (said_command inside called said) q
-  program_command_says {s} {said} {kind} adjacent apart called h = record {
-    by = if_says (not adjacent && apart) _ ByName _ q (λ on. by_form s (whole_says s kind said
-        (inside q) h.by));
+  program_command_says outcome words {s} {said} {kind} {names} adjacent apart called law h = record {
+    by = if_says names (not adjacent && apart) _ ByName _ q (λ on. by_form s
+        (whole_says outcome names words s kind said (inside q) law h.by));
   }
     where
       Told : CellsValue T
@@ -203,21 +212,21 @@ module _ {P Q T : Type 0} (inside : Q → P) (q : Q) where
           record { behind = c.behind; opens = c.opens; read = h c.behind v c.read }
 
       by_whole : (r : Roles) (value : CellsValue T) → IsSaid value Told
-          → ProgramFormSays (opened_form (opening_words (called q)) (before_commands r value))
+          → ProgramFormSays names (opened_form (opening_words (called q)) (before_commands r value))
           ByName
           (said_command inside called said) q
       by_whole r value h =
-          if_says (are_plain (opening_words (called q))) _ ByName _ q (λ on. opened value h)
+          if_says names (are_plain (opening_words (called q))) _ ByName _ q (λ on. opened value h)
 
       by_form : (s : ProgramForm T)
           → (is_program s ≡ true → IsSaid (program_value s) Told)
-          → ProgramFormSays (opened_form (opening_words (called q)) (whole_program s)) ByName
+          → ProgramFormSays names (opened_form (opening_words (called q)) (whole_program s)) ByName
           (said_command inside called said) q
       by_form no_program h = tt
       by_form (plain wide s) h = by_test (is_record s) refl
         where
           by_test : (b : Bool) → is_record s ≡ b
-              → ProgramFormSays (opened_form (opening_words (called q))
+              → ProgramFormSays names (opened_form (opening_words (called q))
               (program_if b (before_commands (product_roles (flat_record s))
               (program_value (plain wide s))))) ByName
               (said_command inside called said) q
@@ -232,38 +241,39 @@ module _ {P Q T : Type 0} (inside : Q → P) (q : Q) where
 module _ {Q T : Type 0} (q : Q) where
   -- one more parser, which says so of pieces, into what is said of them
   more_pieces : {P : Type 0} (said : Q → Said T) (says : P → Said T) (p : P) (kind : FieldKind)
-      (own others : List Names) (words more : List (List ℕ)) (before s : ProgramForm T)
-      → ProgramFormSays before ByName (of_pieces said) q
-      → ProgramFormSays s kind (of_pieces says) p
+      (names own others : List Names) (words more : List (List ℕ)) (before s : ProgramForm T)
+      → ProgramFormSays names before ByName (of_pieces said) q
+      → ProgramFormSays others s kind (of_pieces says) p
       → ((os : List LinePiece) (v : T) → says p os v → said q os v)
-      → ProgramFormSays (program_choice own others words more before s) ByName (of_pieces said) q
-  more_pieces said says p kind own others words more (plain wide a) (plain other b) h g into = record {
-    by = choice_into own others kind (said q) (said q) (says p) (λ os v m. m) into a b h.by g.by;
+      → ProgramFormSays names (program_choice own others words more before s) ByName
+      (of_pieces said) q
+  more_pieces said says p kind names own others words more (plain wide a) (plain other b) h g into = record {
+    by = choice_into names others names own others kind (said q) (said q) (says p) (λ os v m. m) into a b h.by g.by;
   }
-  more_pieces said says p kind own others words more (commands r a) s h g into = absurd h
-  more_pieces said says p kind own others words more _ _ h g into = tt
+  more_pieces said says p kind names own others words more (commands r a) s h g into = absurd h
+  more_pieces said says p kind names own others words more _ _ h g into = tt
 
   -- one more, which says so of cells
   more_cells : {P : Type 0} (said : Q → CellsValue T) (says : P → CellsValue T) (p : P)
-      (kind : FieldKind) (own others : List Names) (words more : List (List ℕ))
-      (before s : ProgramForm T) → ProgramFormSays before ByName (of_cells said) q
-      → ProgramFormSays s kind (of_cells says) p → IsSaid (says p) (said q)
-      → ProgramFormSays (program_choice own others words more before s) ByName (of_cells said) q
-  more_cells said says p kind own others words more (plain wide a) (plain other b) h g into = absurd h
-  more_cells said says p kind own others words more (commands r a) (commands u b) h g into =
-      if_says (are_words_apart words more) _ ByName _ q (λ on. either)
+      (kind : FieldKind) (names own others : List Names) (words more : List (List ℕ))
+      (before s : ProgramForm T) → ProgramFormSays names before ByName (of_cells said) q
+      → ProgramFormSays others s kind (of_cells says) p → IsSaid (says p) (said q)
+      → ProgramFormSays names (program_choice own others words more before s) ByName (of_cells said) q
+  more_cells said says p kind names own others words more (plain wide a) (plain other b) h g into = absurd h
+  more_cells said says p kind names own others words more (commands r a) (commands u b) h g into =
+      if_says names (are_words_apart words more) _ ByName _ q (λ on. either)
     where
       either : IsSaid (ChoiceValue T a b) (said q)
       either cs v (first_value c) = h cs v c
       either cs v (second_value c) = into cs v (g cs v c)
-  more_cells said says p kind own others words more _ _ h g into = tt
+  more_cells said says p kind names own others words more _ _ h g into = tt
 
 -- of two
 pub program_choice_says : {P Q R T : Type 0} (this : R → P) (that : R → Q) (r : R)
     (own others : List Names) (words more : List (List ℕ)) {s t : ProgramForm T}
-    {a : ProgramSaid P T} {b : ProgramSaid Q T} {j k : FieldKind} → ProgramSays s j a (this r)
-    → ProgramSays t k b (that r)
-    → ProgramSays (program_choice own others words more s t) ByName
+    {a : ProgramSaid P T} {b : ProgramSaid Q T} {j k : FieldKind} → ProgramSays own s j a (this r)
+    → ProgramSays others t k b (that r)
+    → ProgramSays (own ++ others) (program_choice own others words more s t) ByName
     (said_choice this that a b) r
 program_choice_says {P} {Q} {R} {T} this that r own others words more {s} {t} {a} {b} {j} {k} h g =
     record { by = by_form s t a b h.by g.by }
@@ -274,50 +284,51 @@ program_choice_says {P} {Q} {R} {T} this that r own others words more {s} {t} {a
     either u v x y h g cs w (second_value c) = second_value (g cs w c)
 
     by_form : (s t : ProgramForm T) (a : ProgramSaid P T) (b : ProgramSaid Q T)
-        → ProgramFormSays s j a (this r) → ProgramFormSays t k b (that r)
-        → ProgramFormSays (program_choice own others words more s t) ByName
+        → ProgramFormSays own s j a (this r) → ProgramFormSays others t k b (that r)
+        → ProgramFormSays (own ++ others) (program_choice own others words more s t) ByName
         (said_choice this that a b) r
     by_form (plain wide s) (plain other t) (of_pieces a) (of_pieces b) h g = choice_says own others h g
     by_form (plain wide s) (plain other t) (of_cells a) b h g = absurd h
     by_form (plain wide s) (plain other t) (of_pieces a) (of_cells b) h g = absurd g
     by_form (commands q va) (commands u vb) (of_cells a) (of_cells b) h g =
-        if_says (are_words_apart words more) _ ByName _ r
+        if_says (own ++ others) (are_words_apart words more) _ ByName _ r
         (λ on. either va vb (a (this r)) (b (that r)) h g)
     by_form (commands q va) (commands u vb) (of_pieces a) b h g = absurd h
     by_form (commands q va) (commands u vb) (of_cells a) (of_pieces b) h g = absurd g
     by_form _ _ a b h g = tt
 
 -- of any number
-module _ {P Q T : Type 0} (names : P → List Names) (words : P → List (List ℕ))
-    (form : P → ProgramForm T) (kind : P → FieldKind) (agrees : P → Type 0) (q : Q) where
+module _ {P Q T : Type 0} (keys : P → List Names) (words : P → List (List ℕ))
+    (form : P → ProgramForm T) (kind : P → FieldKind) (agrees : P → Type 0) (q : Q)
+    (names : List Names) where
   module _ (says : P → Said T)
-      (each : (p : P) → agrees p → ProgramFormSays (form p) (kind p) (of_pieces says) p) where
+      (each : (p : P) → agrees p → ProgramFormSays (keys p) (form p) (kind p) (of_pieces says) p) where
     -- of what stands before and of more, by their pieces
     rest_pieces : (said : Q → Said T) (own : List Names) (heard : List (List ℕ))
-        (before : ProgramForm T) (ps : List P) → ProgramFormSays before ByName (of_pieces said) q
+        (before : ProgramForm T) (ps : List P) → ProgramFormSays names before ByName (of_pieces said) q
         → EachAgrees agrees ps
         → ((p : P) → Contains ps p → (os : List LinePiece) (v : T) → says p os v → said q os v)
-        → ProgramFormSays (program_rest names words form own heard before ps) ByName
+        → ProgramFormSays names (program_rest keys words form own heard before ps) ByName
         (of_pieces said) q
     rest_pieces said own heard before [] h agree into = h
     rest_pieces said own heard before (p ∷ ps) h agree into =
-        rest_pieces said (own ++ names p) (heard ++ words p)
-        (program_choice own (names p) heard (words p) before (form p)) ps
-        (more_pieces q said says p (kind p) own (names p) heard (words p) before (form p) h
+        rest_pieces said (own ++ keys p) (heard ++ words p)
+        (program_choice own (keys p) heard (words p) before (form p)) ps
+        (more_pieces q said says p (kind p) names own (keys p) heard (words p) before (form p) h
         (each p agree.0) (into p (zero, omega arith, refl))) agree.1
         (λ r there. into r (suc there.0, omega arith, there.2))
 
     -- the first of them
     first_pieces : (said : Q → Said T) (p : P) (s : ProgramForm T)
-        → ProgramFormSays s (kind p) (of_pieces says) p
+        → ProgramFormSays (keys p) s (kind p) (of_pieces says) p
         → ((os : List LinePiece) (v : T) → says p os v → said q os v)
-        → ProgramFormSays (first_only s) ByName (of_pieces said) q
+        → ProgramFormSays names (first_only s) ByName (of_pieces said) q
     first_pieces said p no_program h into = tt
     first_pieces said p (plain wide s) h into =
-        record { by = by_flat s (by_name s (kind p) (says p) h.by) }
+        record { by = by_flat s (by_name (keys p) s (kind p) (says p) h.by) }
       where
-        by_flat : (s : FlatForm T) → FormSays (alternative_only s) ByName (says p)
-            → FormSays (alternative_only s) ByName (said q)
+        by_flat : (s : FlatForm T) → FormSays (keys p) (alternative_only s) ByName (says p)
+            → FormSays names (alternative_only s) ByName (said q)
         by_flat not_flat h = tt
         by_flat (alternative r value) h = (refl, λ o v m. into (o ∷ []) v (h.1 o v m))
         by_flat (single k r group gap) h = tt
@@ -328,25 +339,25 @@ module _ {P Q T : Type 0} (names : P → List Names) (words : P → List (List �
     first_pieces said p (before_commands r value) h into = tt
 
   module _ (says : P → CellsValue T)
-      (each : (p : P) → agrees p → ProgramFormSays (form p) (kind p) (of_cells says) p) where
+      (each : (p : P) → agrees p → ProgramFormSays (keys p) (form p) (kind p) (of_cells says) p) where
     -- of what stands before and of more, by the cells
     rest_cells : (said : Q → CellsValue T) (own : List Names) (heard : List (List ℕ))
-        (before : ProgramForm T) (ps : List P) → ProgramFormSays before ByName (of_cells said) q
+        (before : ProgramForm T) (ps : List P) → ProgramFormSays names before ByName (of_cells said) q
         → EachAgrees agrees ps → ((p : P) → Contains ps p → IsSaid (says p) (said q))
-        → ProgramFormSays (program_rest names words form own heard before ps) ByName
+        → ProgramFormSays names (program_rest keys words form own heard before ps) ByName
         (of_cells said) q
     rest_cells said own heard before [] h agree into = h
     rest_cells said own heard before (p ∷ ps) h agree into =
-        rest_cells said (own ++ names p) (heard ++ words p)
-        (program_choice own (names p) heard (words p) before (form p)) ps
-        (more_cells q said says p (kind p) own (names p) heard (words p) before (form p) h
+        rest_cells said (own ++ keys p) (heard ++ words p)
+        (program_choice own (keys p) heard (words p) before (form p)) ps
+        (more_cells q said says p (kind p) names own (keys p) heard (words p) before (form p) h
         (each p agree.0) (into p (zero, omega arith, refl))) agree.1
         (λ r there. into r (suc there.0, omega arith, there.2))
 
     -- the first of them
     first_cells : (said : Q → CellsValue T) (p : P) (s : ProgramForm T)
-        → ProgramFormSays s (kind p) (of_cells says) p → IsSaid (says p) (said q)
-        → ProgramFormSays (first_only s) ByName (of_cells said) q
+        → ProgramFormSays (keys p) s (kind p) (of_cells says) p → IsSaid (says p) (said q)
+        → ProgramFormSays names (first_only s) ByName (of_cells said) q
     first_cells said p no_program h into = tt
     first_cells said p (plain wide s) h into = absurd h
     first_cells said p (commands r value) h into = λ cs v c. into cs v (h cs v c)
@@ -355,16 +366,16 @@ module _ {P Q T : Type 0} (names : P → List Names) (words : P → List (List �
 
   -- of all
   pub program_choices_says : (parsers : Q → List P) (said : ProgramSaid P T)
-      → ((p : P) → agrees p → ProgramSays (form p) (kind p) said p)
+      → ((p : P) → agrees p → ProgramSays (keys p) (form p) (kind p) said p)
       → EachAgrees agrees (parsers q)
-      → ProgramSays (program_choices names words form (parsers q)) ByName
+      → ProgramSays names (program_choices keys words form (parsers q)) ByName
       (said_choices parsers said) q
   program_choices_says parsers said each agree =
       record { by = by_said said (λ p a. (each p a).by) }
     where
       by_said : (said : ProgramSaid P T)
-          → ((p : P) → agrees p → ProgramFormSays (form p) (kind p) said p)
-          → ProgramFormSays (program_choices names words form (parsers q)) ByName
+          → ((p : P) → agrees p → ProgramFormSays (keys p) (form p) (kind p) said p)
+          → ProgramFormSays names (program_choices keys words form (parsers q)) ByName
           (said_choices parsers said) q
       by_said (of_pieces said) each = by_list (parsers q) agree (λ p there os v m.
           record { parser = p; among = there; told = m })
@@ -372,11 +383,11 @@ module _ {P Q T : Type 0} (names : P → List Names) (words : P → List (List �
           by_list : (ps : List P) → EachAgrees agrees ps
               → ((p : P) → Contains ps p → (os : List LinePiece) (v : T) → said p os v
               → OneOfSays said (parsers q) os v)
-              → ProgramFormSays (program_choices names words form ps) ByName
+              → ProgramFormSays names (program_choices keys words form ps) ByName
               (of_pieces (λ (q : Q). OneOfSays said (parsers q))) q
           by_list [] agree into = tt
           by_list (p ∷ ps) agree into =
-              rest_pieces said each (λ q. OneOfSays said (parsers q)) (names p) (words p)
+              rest_pieces said each (λ q. OneOfSays said (parsers q)) (keys p) (words p)
               (first_only (form p)) ps
               (first_pieces said each (λ q. OneOfSays said (parsers q)) p (form p)
               (each p agree.0) (into p (zero, omega arith, refl))) agree.1
@@ -386,11 +397,11 @@ module _ {P Q T : Type 0} (names : P → List Names) (words : P → List (List �
         where
           by_list : (ps : List P) → EachAgrees agrees ps
               → ((p : P) → Contains ps p → IsSaid (said p) (OneOfCells said (parsers q)))
-              → ProgramFormSays (program_choices names words form ps) ByName
+              → ProgramFormSays names (program_choices keys words form ps) ByName
               (of_cells (λ (q : Q). OneOfCells said (parsers q))) q
           by_list [] agree into = tt
           by_list (p ∷ ps) agree into =
-              rest_cells said each (λ q. OneOfCells said (parsers q)) (names p) (words p)
+              rest_cells said each (λ q. OneOfCells said (parsers q)) (keys p) (words p)
               (first_only (form p)) ps
               (first_cells said each (λ q. OneOfCells said (parsers q)) p (form p)
               (each p agree.0) (into p (zero, omega arith, refl))) agree.1
@@ -402,19 +413,20 @@ module _ {P Q T : Type 0} (names : P → List Names) (words : P → List (List �
 pub program_alone_says : {P Q T : Type 0} (last : Q → P) (q : Q) (outcome : Outcome T)
     (kind : P → FieldKind) (names : P → List Names) (words : List (List ℕ)) {s : ProgramForm T}
     {said : ProgramSaid P T} → ProgramFormLaw outcome (names (last q)) words s
-    → ProgramSays s (kind (last q)) said (last q)
-    → ProgramFieldsSay (program_alone (program_field s)) (said_alone last kind names said) q
+    → ProgramSays (names (last q)) s (kind (last q)) said (last q)
+    → ProgramFieldsSay (names (last q)) (program_alone (program_field s)) (said_alone last kind names said) q
 program_alone_says {P} {Q} {T} last q outcome kind names words {s} {said} law h =
     record { by = by_form s said law h.by }
   where
     by_form : (s : ProgramForm T) (said : ProgramSaid P T)
         → ProgramFormLaw outcome (names (last q)) words s
-        → ProgramFormSays s (kind (last q)) said (last q)
-        → ProgramFieldsFormSay (program_alone (program_field s))
+        → ProgramFormSays (names (last q)) s (kind (last q)) said (last q)
+        → ProgramFieldsFormSay (names (last q)) (program_alone (program_field s))
         (said_alone last kind names said) q
     by_form no_program said law h = tt
     by_form (plain wide s) (of_pieces said) law h =
-        alone_says (field_owned outcome (names (last q)) s law) (field_says h)
+        alone_says (field_owned outcome (names (last q)) s law)
+        (field_says (owned outcome (names (last q)) s law) h)
     by_form (plain wide s) (of_cells said) law h = absurd h
     by_form (commands r value) (of_pieces said) law h = absurd h
     by_form (commands r value) (of_cells said) law h = h
@@ -423,11 +435,11 @@ program_alone_says {P} {Q} {T} last q outcome kind names words {s} {said} law h 
     by_form (before_commands r value) said law h = tt
 
 -- where a test holds
-fields_if_say : {P V : Type 0} (b : Bool) (s : ProgramForm V) (said : ProgramFieldsSaid P V)
-    (p : P) → (b ≡ true → ProgramFieldsFormSay s said p)
-    → ProgramFieldsFormSay (program_if b s) said p
-fields_if_say true s said p h = h refl
-fields_if_say false s said p h = tt
+fields_if_say : {P V : Type 0} (names : List Names) (b : Bool) (s : ProgramForm V) (said : ProgramFieldsSaid P V)
+    (p : P) → (b ≡ true → ProgramFieldsFormSay names s said p)
+    → ProgramFieldsFormSay names (program_if b s) said p
+fields_if_say names true s said p h = h refl
+fields_if_say names false s said p h = tt
 
 -- a field before others
 module _ {P Q R A B : Type 0} (first : R → P) (rest : R → Q) (r : R) (outcome : Outcome A)
@@ -436,24 +448,25 @@ module _ {P Q R A B : Type 0} (first : R → P) (rest : R → Q) (r : R) (outcom
   -- a named one before what ends in commands
   before_says : (said : P → Said A) (more : Q → CellsValue B) (wide : Bool) (s : FlatForm A)
       (u : Roles) (value : CellsValue B) → FormOwns (names (first r)) s
-      → Says s (kind (first r)) (said (first r)) → IsSaid value (more (rest r))
-      → ProgramFieldsFormSay (program_both (names (first r)) others (plain wide s)
+      → Says (names (first r)) s (kind (first r)) (said (first r)) → IsSaid value (more (rest r))
+      → ProgramFieldsFormSay (names (first r) ++ others) (program_both (names (first r)) others
+      (plain wide s)
       (before_commands u value))
       (said_both first rest kind names (of_pieces said) (of_all_cells more)) r
   before_says said more wide (complete ByName q reads) u value own h g =
-      fields_if_say (are_all_apart (names (first r)) others) _ _ r (λ on cs v read. record {
+      fields_if_say _ (are_all_apart (names (first r)) others) _ _ r (λ on cs v read. record {
         roles = q;
         owns = own;
-        own = h.by.1 (pieces q cs) v.0 read.own;
+        own = h.by.1 (pieces q cs) v.0 (pieces_own q cs) read.own;
         left = g (without q cs) v.1 read.left;
       })
   before_says said more wide _ u value own h g = tt
 
   pub program_both_say : {s : ProgramForm A} {t : ProgramForm B} {said : ProgramSaid P A}
       {more : ProgramFieldsSaid Q B} → ProgramFormLaw outcome (names (first r)) words s
-      → ProgramFormLaw behind others [] t → ProgramSays s (kind (first r)) said (first r)
-      → ProgramFieldsSay t more (rest r)
-      → ProgramFieldsSay (program_both (names (first r)) others (program_field s) t)
+      → ProgramFormLaw behind others [] t → ProgramSays (names (first r)) s (kind (first r)) said (first r)
+      → ProgramFieldsSay others t more (rest r)
+      → ProgramFieldsSay (names (first r) ++ others) (program_both (names (first r)) others (program_field s) t)
       (said_both first rest kind names said more) r
   program_both_say {s} {t} {said} {more} law laws h g =
       record { by = by_form s t said more law laws h.by g.by }
@@ -461,33 +474,34 @@ module _ {P Q R A B : Type 0} (first : R → P) (rest : R → Q) (r : R) (outcom
       by_form : (s : ProgramForm A) (t : ProgramForm B) (said : ProgramSaid P A)
           (more : ProgramFieldsSaid Q B) → ProgramFormLaw outcome (names (first r)) words s
           → ProgramFormLaw behind others [] t
-          → ProgramFormSays s (kind (first r)) said (first r)
-          → ProgramFieldsFormSay t more (rest r)
-          → ProgramFieldsFormSay (program_both (names (first r)) others (program_field s) t)
+          → ProgramFormSays (names (first r)) s (kind (first r)) said (first r)
+          → ProgramFieldsFormSay others t more (rest r)
+          → ProgramFieldsFormSay (names (first r) ++ others) (program_both (names (first r)) others (program_field s) t)
           (said_both first rest kind names said more) r
       by_form (plain wide s) (plain other t) (of_pieces said) (of_all_pieces more) law laws h g =
           both_say (field_owned outcome (names (first r)) s law) (owned behind others t laws)
-          (field_says h) g
+          (field_says (owned outcome (names (first r)) s law) h) g
       by_form (plain wide s) (plain other t) (of_pieces said) (of_all_cells more) law laws h g = absurd g
       by_form (plain wide s) (plain other t) (of_cells said) more law laws h g = absurd h
       by_form (plain wide s) (before_commands u value) (of_pieces said) (of_all_cells more) law laws h
           g =
           before_says said more (wide || is_product s) (inner_field s) u value
-          (field_owned outcome (names (first r)) s law).by (field_says h) g
+          (field_owned outcome (names (first r)) s law).by
+          (field_says (owned outcome (names (first r)) s law) h) g
       by_form (plain wide s) (before_commands u value) (of_pieces said) (of_all_pieces more) law laws h
           g = absurd g
       by_form (plain wide s) (before_commands u value) (of_cells said) more law laws h g = absurd h
       by_form _ _ said more law laws h g = tt
 
 -- fields that stand inside
-pub inside_say : {P Q V : Type 0} (inside : Q → P) (q : Q) {s : ProgramForm V}
-    {said : ProgramFieldsSaid P V} → ProgramFieldsSay s said (inside q)
-    → ProgramFieldsSay s (fields_said_inside inside said) q
-inside_say {P} {Q} {V} inside q {s} {said} h = record { by = by_form s said h.by }
+pub inside_say : {P Q V : Type 0} (inside : Q → P) (q : Q) {names : List Names}
+    {s : ProgramForm V} {said : ProgramFieldsSaid P V} → ProgramFieldsSay names s said (inside q)
+    → ProgramFieldsSay names s (fields_said_inside inside said) q
+inside_say {P} {Q} {V} inside q {names} {s} {said} h = record { by = by_form s said h.by }
   where
     by_form : (s : ProgramForm V) (said : ProgramFieldsSaid P V)
-        → ProgramFieldsFormSay s said (inside q)
-        → ProgramFieldsFormSay s (fields_said_inside inside said) q
+        → ProgramFieldsFormSay names s said (inside q)
+        → ProgramFieldsFormSay names s (fields_said_inside inside said) q
     by_form no_program said h = tt
     by_form (plain wide s) (of_all_pieces said) h = h
     by_form (plain wide s) (of_all_cells said) h = absurd h
@@ -500,15 +514,15 @@ inside_say {P} {Q} {V} inside q {s} {said} h = record { by = by_form s said h.by
 pub program_con_says : {P Q A B : Type 0} (fields : Q → P) (q : Q) (outcome : Outcome A)
     (names : P → List Names) (makes : Q → Closure A B) {s : ProgramForm A}
     {said : ProgramFieldsSaid P A} → ProgramFormLaw outcome (names (fields q)) [] s
-    → ProgramFieldsSay s said (fields q)
-    → ProgramSays (program_con (makes q) s) ByName (said_con fields names makes said) q
+    → ProgramFieldsSay (names (fields q)) s said (fields q)
+    → ProgramSays (names (fields q)) (program_con (makes q) s) ByName (said_con fields names makes said) q
 program_con_says {P} {Q} {A} {B} fields q outcome names makes {s} {said} law g =
     record { by = by_form s said law g.by }
   where
     by_form : (s : ProgramForm A) (said : ProgramFieldsSaid P A)
         → ProgramFormLaw outcome (names (fields q)) [] s
-        → ProgramFieldsFormSay s said (fields q)
-        → ProgramFormSays (program_con (makes q) s) ByName
+        → ProgramFieldsFormSay (names (fields q)) s said (fields q)
+        → ProgramFormSays (names (fields q)) (program_con (makes q) s) ByName
         (said_con fields names makes said) q
     by_form no_program said law g = tt
     by_form (plain wide s) (of_all_pieces said) law g =
@@ -526,18 +540,20 @@ program_con_says {P} {Q} {A} {B} fields q outcome names makes {s} {said} law g =
 -- The whole.
 
 -- a value of a program says so of the cells
-pub program_says : {P T : Type 0} (s : ProgramForm T) {kind : FieldKind} {said : ProgramSaid P T}
-    {p : P} → ProgramSays s kind said p → is_program s ≡ true
+pub program_says : {P T : Type 0} (outcome : Outcome T) (words : List (List ℕ))
+    (s : ProgramForm T) {kind : FieldKind} {names : List Names} {said : ProgramSaid P T} {p : P}
+    → ProgramFormLaw outcome names words s → ProgramSays names s kind said p → is_program s ≡ true
     → IsSaid (program_value s) (cells_said said p)
-program_says s {kind} {said} {p} h is = whole_says (λ q. q) p s kind said p h.by is
+program_says outcome words s {kind} {names} {said} {p} law h is =
+    whole_says (λ q. q) p outcome names words s kind said p law h.by is
 
 -- a value of a flat record says so of the pieces
-pub flat_says : {P T : Type 0} (s : ProgramForm T) {kind : FieldKind} {said : ProgramSaid P T}
-    {p : P} → ProgramSays s kind said p → Says (flat_form s) kind (pieces_said said p)
-flat_says {P} {T} s {kind} {said} {p} h = by_form s said h.by
+pub flat_says : {P T : Type 0} (s : ProgramForm T) {kind : FieldKind} {names : List Names} {said : ProgramSaid P T}
+    {p : P} → ProgramSays names s kind said p → Says names (flat_form s) kind (pieces_said said p)
+flat_says {P} {T} s {kind} {names} {said} {p} h = by_form s said h.by
   where
-    by_form : (s : ProgramForm T) (said : ProgramSaid P T) → ProgramFormSays s kind said p
-        → Says (flat_form s) kind (pieces_said said p)
+    by_form : (s : ProgramForm T) (said : ProgramSaid P T) → ProgramFormSays names s kind said p
+        → Says names (flat_form s) kind (pieces_said said p)
     by_form no_program said h = record { by = tt }
     by_form (plain wide s) (of_pieces said) h = unless_says wide h
     by_form (plain wide s) (of_cells said) h = absurd h

@@ -4,6 +4,7 @@ use Rattle.bpaf_line.specs.Situation.{Situation}
 use Rattle.bpaf_line.specs.declared.error.Error.{Error}
 use Rattle.bpaf_laws.specs.Default.{GivesClone}
 use Rattle.bpaf_laws.specs.Pure.{PureOutcome}
+use Rattle.bpaf_doc.specs.Names.{Names}
 use Rattle.bpaf_exact.specs.Flat.{ByName, FieldTook, Gives, NoneOutside, cells}
 use Rattle.bpaf_exact.specs.FlatForm.{FormLaw}
 use Rattle.bpaf_exact.specs.Leaves.{pure_field}
@@ -61,6 +62,6 @@ module _ (T : Type 0) (clones : T → T → Type 0) (kept : T) where
   )
 
 -- its value says what it is, whatever the pieces are
-pub pure_says : {T : Type 0} (given : T → Type 0)
-    → Says (pure_field given) ByName (λ os v. given v)
-pure_says given = record { by = (refl, λ os v h. h) }
+pub pure_says : {T : Type 0} {names : List Names} (given : T → Type 0)
+    → Says names (pure_field given) ByName (λ os v. given v)
+pure_says given = record { by = (refl, λ os v all h. h) }

@@ -24,9 +24,9 @@ use Rattle.bpaf_exact.specs.FlatForm.{FlatForm, FormLaw, not_flat, alternative, 
 use Rattle.bpaf_exact.specs.FlatForm.{product, only_if, flat_closed, flat_either}
 use Rattle.bpaf_exact.specs.FlatForm.{flat_choice, alternative_only, flat_repeat, flat_last}
 use Rattle.bpaf_exact.specs.FlatForm.{flat_optional, flat_fallback, unless, inner_field, is_named}
-use Rattle.bpaf_exact.specs.FlatForm.{may_follow}
+use Rattle.bpaf_exact.specs.FlatForm.{may_follow, product_roles}
 use Rattle.bpaf_exact.specs.FlatForm.{flat_both, flat_alone, flat_con, flat_record, product_reading}
-use Rattle.bpaf_exact.specs.Says.{Said, FlagSays, says_present, says_absent, ArgumentSays}
+use Rattle.bpaf_exact.specs.Says.{AllOwn, Fits, Said, FlagSays, says_present, says_absent, ArgumentSays}
 use Rattle.bpaf_exact.specs.Says.{says_text, says_last_text, WordSays, EitherSays, says_this}
 use Rattle.bpaf_exact.specs.Says.{says_that, MadeSays, OptionalSays, says_some, says_none}
 use Rattle.bpaf_exact.specs.Says.{FallbackSays, says_own, says_kept, FrontSays, RepeatSays}
@@ -34,6 +34,8 @@ use Rattle.bpaf_exact.specs.Says.{says_in_turn, says_alone, LastSays, FieldsSaid
 use Rattle.bpaf_exact.specs.Says.{FormSays, Says, FieldsFormSays, FieldsSay, its_pieces}
 use Rattle.bpaf_exact.specs.Says.{words_after}
 use Rattle.bpaf_exact.proofs.Names.{apart_of_names}
+use Rattle.bpaf_exact.specs.Says.{AllOwn, Fits}
+use Rattle.bpaf_exact.proofs.Sharing.{apart_none, each_own, first_fits, no_fits, own_fit, second_fits}
 use Rattle.bpaf_exact.proofs.Sharing.{mine_keyed, others_unkeyed, mine_within, first_within}
 use Rattle.bpaf_exact.proofs.Sharing.{second_within, mine_of_others, mine_none, others_none}
 use Rattle.bpaf_exact.proofs.Sharing.{all_mine, others_both, none_behind}
@@ -52,9 +54,9 @@ front_says value said each os rest v h = record {
 }
 
 -- a flag
-pub flag_says : {T : Type 0} (clones : T → T → Type 0) (key : Key) (present : T) (absent : Option T)
-    → Says (flag_field clones key present absent) ByName (FlagSays clones present absent)
-flag_says {T} clones key present absent = record { by = by_envs key.envs absent }
+pub flag_says : {T : Type 0} {names : List Names} (clones : T → T → Type 0) (key : Key) (present : T) (absent : Option T)
+    → Says names (flag_field clones key present absent) ByName (FlagSays clones present absent)
+flag_says {T} {names} clones key present absent = record { by = by_envs key.envs absent }
   where
     piece : (absent : Option T) (o : LinePiece) (v : T) → FlagValue (clones present) o v
         → FlagSays clones present absent (o ∷ []) v
@@ -62,7 +64,7 @@ flag_says {T} clones key present absent = record { by = by_envs key.envs absent 
     piece absent (Two k w) v m = absurd m
 
     by_envs : (envs : List (List ℕ)) (absent : Option T)
-        → FormSays (flag_by clones key.names present envs absent) ByName
+        → FormSays names (flag_by clones key.names present envs absent) ByName
         (FlagSays clones present absent)
     by_envs (env ∷ envs) absent = tt
     by_envs [] None = (refl, piece None)
@@ -73,9 +75,9 @@ flag_says {T} clones key present absent = record { by = by_envs key.envs absent 
     )
 
 -- an argument
-pub argument_says : {T : Type 0} (means : List ℕ → T → Type 0) (argument : KeyWithValue)
-    → Says (argument_field means argument) ByName (ArgumentSays means argument.last)
-argument_says {T} means argument =
+pub argument_says : {T : Type 0} {names : List Names} (means : List ℕ → T → Type 0) (argument : KeyWithValue)
+    → Says names (argument_field means argument) ByName (ArgumentSays means argument.last)
+argument_says {T} {names} means argument =
     record { by = by_envs argument.named.envs argument.adjacent argument.last }
   where
     piece : (last : Bool) (o : LinePiece) (v : T) → ArgumentValue means o v
@@ -97,12 +99,11 @@ argument_says {T} means argument =
     }
 
     by_envs : (envs : List (List ℕ)) (adjacent last : Bool)
-        → FormSays (argument_by means argument.named.names envs adjacent last) ByName
+        → FormSays names (argument_by means argument.named.names envs adjacent last) ByName
         (ArgumentSays means last)
     by_envs (env ∷ envs) adjacent last = tt
-    by_envs [] true last = tt
-    by_envs [] false false = (refl, piece false)
-    by_envs [] false true = (refl, all_at_once, λ v none. absurd none)
+    by_envs [] adjacent false = (refl, piece false)
+    by_envs [] adjacent true = (refl, all_at_once, λ v none. absurd none)
 
 -- what the value of a word by itself says
 abbrev pub OneWordSays : {T : Type 0} → (Bool → Bool) → (List ℕ → T → Type 0)
@@ -111,9 +112,9 @@ OneWordSays {T = T} accepts means value =
     (o : LinePiece) (v : T) → value o v → WordSays accepts means (o ∷ []) v
 
 -- a word with such values
-pub word_by_says : {T : Type 0} (accepts : Bool → Bool) (means : List ℕ → T → Type 0)
+pub word_by_says : {T : Type 0} {names : List Names} (accepts : Bool → Bool) (means : List ℕ → T → Type 0)
     (value : LinePiece → T → Type 0) → OneWordSays accepts means value
-    → Says (word_by value) OneWord (WordSays accepts means)
+    → Says names (word_by value) OneWord (WordSays accepts means)
 word_by_says accepts means value piece = record {
   by = (refl, front_says value (WordSays accepts means) piece, λ v none. absurd none);
 }
@@ -135,15 +136,15 @@ side_says accepts behind means accepted (Two k w) v m = absurd m
 -- Closures, and what changes only what is shown.
 
 -- with a closure round it
-pub closed_says : {A B : Type 0} (f : Closure A B) {s : FlatForm A} {kind : FieldKind}
-    {said : Said A} → Says s kind said → Says (flat_closed f s) kind (MadeSays said f)
-closed_says {A} {B} f {s} {kind} {said} h = record { by = by_form s h.by }
+pub closed_says : {A B : Type 0} (f : Closure A B) {s : FlatForm A} {kind : FieldKind} {names : List Names}
+    {said : Said A} → Says names s kind said → Says names (flat_closed f s) kind (MadeSays said f)
+closed_says {A} {B} f {s} {kind} {names} {said} h = record { by = by_form s h.by }
   where
     made : (os : List LinePiece) (x : A) (v : B) → said os x → f.yes x v → MadeSays said f os v
     made os x v m answer = record { from = x; told = m; made = answer }
 
-    by_form : (s : FlatForm A) → FormSays s kind said
-        → FormSays (flat_closed f s) kind (MadeSays said f)
+    by_form : (s : FlatForm A) → FormSays names s kind said
+        → FormSays names (flat_closed f s) kind (MadeSays said f)
     by_form not_flat h = tt
     by_form (alternative q value) h =
         (h.0, λ o v m. made (o ∷ []) m.from v (h.1 o m.from m.read) m.made)
@@ -159,19 +160,19 @@ closed_says {A} {B} f {s} {kind} {said} h = record { by = by_form s h.by }
       λ v m. made [] m.0 v (h.2 m.0 m.1) m.2,
     )
     by_form (complete k q value) h =
-        (h.0, λ os v m. made os m.from v (h.1 os m.from m.read) m.made)
+        (h.0, λ os v all m. made os m.from v (h.1 os m.from all m.read) m.made)
     by_form (product named q fields) h = tt
 
 -- Choices.
 
 -- of two, into what each says more of
-pub choice_into : {T : Type 0} (own others : List Names) (kind : FieldKind)
+pub choice_into : {T : Type 0} (m n names own others : List Names) (kind : FieldKind)
     (said this that : Said T)
     → ((os : List LinePiece) (v : T) → this os v → said os v)
     → ((os : List LinePiece) (v : T) → that os v → said os v)
-    → (a b : FlatForm T) → FormSays a ByName this → FormSays b kind that
-    → FormSays (flat_choice own others a b) ByName said
-choice_into {T} own others kind said this that from_this from_that a b g h =
+    → (a b : FlatForm T) → FormSays m a ByName this → FormSays n b kind that
+    → FormSays names (flat_choice own others a b) ByName said
+choice_into {T} m n names own others kind said this that from_this from_that a b g h =
     by_names (are_all_apart own others) a b g h
   where
     piece : (q : Roles) (first second : LinePiece → T → Type 0)
@@ -182,8 +183,8 @@ choice_into {T} own others kind said this that from_this from_that a b g h =
     piece q first second g h o v true m = from_this (o ∷ []) v (g o v m)
     piece q first second g h o v false m = from_that (o ∷ []) v (h o v m)
 
-    by_names : (apart : Bool) (a b : FlatForm T) → FormSays a ByName this → FormSays b kind that
-        → FormSays (only_if apart (flat_either a b)) ByName said
+    by_names : (apart : Bool) (a b : FlatForm T) → FormSays m a ByName this → FormSays n b kind that
+        → FormSays names (only_if apart (flat_either a b)) ByName said
     by_names false a b g h = tt
     by_names true not_flat b g h = tt
     by_names true (single k q group gap) b g h = tt
@@ -197,23 +198,23 @@ choice_into {T} own others kind said this that from_this from_that a b g h =
         (refl, λ o v m. piece q first second g.1 h.1 o v (is_own q o) m)
 
 -- a parser that says so by whichever kind is an alternative or says nothing
-pub by_name : {T : Type 0} (s : FlatForm T) (kind : FieldKind) (said : Said T)
-    → FormSays s kind said → FormSays (alternative_only s) ByName said
-by_name not_flat kind said h = tt
-by_name (alternative q value) kind said h = (refl, h.1)
-by_name (single k q group gap) kind said h = tt
-by_name (complete k q value) kind said h = tt
-by_name (product named q fields) kind said h = tt
+pub by_name : {T : Type 0} (names : List Names) (s : FlatForm T) (kind : FieldKind) (said : Said T)
+    → FormSays names s kind said → FormSays names (alternative_only s) ByName said
+by_name names not_flat kind said h = tt
+by_name names (alternative q value) kind said h = (refl, h.1)
+by_name names (single k q group gap) kind said h = tt
+by_name names (complete k q value) kind said h = tt
+by_name names (product named q fields) kind said h = tt
 
 -- a choice is of alternatives alone
-only_alternatives : {T : Type 0} (own others : List Names) (said : Said T) (a b : FlatForm T)
-    → FormSays (flat_choice own others (alternative_only a) b) ByName said
-    → FormSays (flat_choice own others a b) ByName said
-only_alternatives {T} own others said a b h = by_names (are_all_apart own others) a h
+only_alternatives : {T : Type 0} (names own others : List Names) (said : Said T) (a b : FlatForm T)
+    → FormSays names (flat_choice own others (alternative_only a) b) ByName said
+    → FormSays names (flat_choice own others a b) ByName said
+only_alternatives {T} names own others said a b h = by_names (are_all_apart own others) a h
   where
     by_names : (apart : Bool) (a : FlatForm T)
-        → FormSays (only_if apart (flat_either (alternative_only a) b)) ByName said
-        → FormSays (only_if apart (flat_either a b)) ByName said
+        → FormSays names (only_if apart (flat_either (alternative_only a) b)) ByName said
+        → FormSays names (only_if apart (flat_either a b)) ByName said
     by_names false a h = tt
     by_names true not_flat h = tt
     by_names true (alternative q value) h = h
@@ -222,13 +223,13 @@ only_alternatives {T} own others said a b h = by_names (are_all_apart own others
     by_names true (product named q fields) h = tt
 
 -- of two
-pub choice_says : {T : Type 0} (own others : List Names) {a b : FlatForm T} {j k : FieldKind}
-    {this that : Said T} → Says a j this → Says b k that
-    → Says (flat_choice own others a b) ByName (EitherSays this that)
-choice_says own others {a} {b} {j} {k} {this} {that} g h = record {
-  by = only_alternatives own others (EitherSays this that) a b
-      (choice_into own others k (EitherSays this that) this that (λ os v m. says_this m)
-      (λ os v m. says_that m) (alternative_only a) b (by_name a j this g.by) h.by);
+pub choice_says : {T : Type 0} {m n names : List Names} (own others : List Names)
+    {a b : FlatForm T} {j k : FieldKind} {this that : Said T} → Says m a j this → Says n b k that
+    → Says names (flat_choice own others a b) ByName (EitherSays this that)
+choice_says {T} {m} {n} {names} own others {a} {b} {j} {k} {this} {that} g h = record {
+  by = only_alternatives names own others (EitherSays this that) a b
+      (choice_into m n names own others k (EitherSays this that) this that (λ os v m. says_this m)
+      (λ os v m. says_that m) (alternative_only a) b (by_name m a j this g.by) h.by);
 }
 
 -- Repeats and defaults.
@@ -282,115 +283,6 @@ module _ {T : Type 0} (said : Said T) (value : LinePiece → T → Type 0)
   no_absent : (v : T) → (no_gap T).absent v → said [] v
   no_absent v none = absurd none
 
--- as a field
-pub field_says : {T : Type 0} {s : FlatForm T} {kind : FieldKind} {said : Said T}
-    → Says s kind said → Says (inner_field s) kind said
-field_says {T} {s} {kind} {said} h = record { by = by_form s h.by }
-  where
-    by_form : (s : FlatForm T) → FormSays s kind said → FormSays (inner_field s) kind said
-    by_form not_flat h = tt
-    by_form (alternative q value) h = (
-      h.0,
-      whole_says said (FrontOf T value) (no_gap T) (piece_fronts said value h.1)
-          (no_absent said value h.1),
-    )
-    by_form (single k q group gap) h = (h.0, whole_says said group gap h.1 h.2)
-    by_form (complete k q value) h = h
-    by_form (product true q fields) h = h
-    by_form (product false q fields) h = tt
-
--- under `optional`
-pub optional_says : {T : Type 0} {s : FlatForm T} {kind : FieldKind} {said : Said T}
-    → Says s kind said → Says (flat_optional s) kind (OptionalSays said)
-optional_says {T} {s} {kind} {said} h = record { by = by_form s h.by }
-  where
-    by_form : (s : FlatForm T) → FormSays s kind said
-        → FormSays (flat_optional s) kind (OptionalSays said)
-    by_form not_flat h = tt
-    by_form (alternative q value) h = (
-      h.0,
-      optional_by said (FrontOf T value) (no_gap T) (piece_fronts said value h.1)
-          (no_absent said value h.1),
-    )
-    by_form (single k q group gap) h = (h.0, optional_by said group gap h.1 h.2)
-    by_form (complete k q value) h = tt
-    by_form (product named q fields) h = tt
-
--- under a fallback
-pub fallback_says : {T : Type 0} (f : Closure (Unit {0}) T) {s : FlatForm T} {kind : FieldKind}
-    {said : Said T} → Says s kind said → Says (flat_fallback f s) kind (FallbackSays said (f.yes tt))
-fallback_says {T} f {s} {kind} {said} h = record { by = by_form s h.by }
-  where
-    by_form : (s : FlatForm T) → FormSays s kind said
-        → FormSays (flat_fallback f s) kind (FallbackSays said (f.yes tt))
-    by_form not_flat h = tt
-    by_form (alternative q value) h = (
-      h.0,
-      fallback_by said (FrontOf T value) (no_gap T) (piece_fronts said value h.1)
-          (no_absent said value h.1) f,
-    )
-    by_form (single k q group gap) h = (h.0, fallback_by said group gap h.1 h.2 f)
-    by_form (complete k q value) h = tt
-    by_form (product named q fields) h = tt
-
--- under a repeat, as a list
-repeat_says : {T : Type 0} {s : FlatForm T} {kind : FieldKind} {said : Said T}
-    → Says s kind said → Says (flat_repeat s) (repeated kind) (RepeatSays said)
-repeat_says {T} {s} {kind} {said} h = record { by = by_form s h.by }
-  where
-    by_form : (s : FlatForm T) → FormSays s kind said
-        → FormSays (flat_repeat s) (repeated kind) (RepeatSays said)
-    by_form not_flat h = tt
-    by_form (alternative q value) h = (
-      ap repeated h.0,
-      list_says said (FrontOf T value) (no_gap T) (piece_fronts said value h.1)
-          (no_absent said value h.1),
-    )
-    by_form (single k q group gap) h = (ap repeated h.0, list_says said group gap h.1 h.2)
-    by_form (complete k q value) h = tt
-    by_form (product named q fields) h = tt
-
--- under `many`, `some`, `collect` or `count`
-pub listed_says : {T B : Type 0} (f : Closure (List T) B) {s : FlatForm T} {kind : FieldKind}
-    {said : Said T} → Says s kind said
-    → Says (flat_closed f (flat_repeat s)) (repeated kind) (MadeSays (RepeatSays said) f)
-listed_says f h = closed_says f (repeat_says h)
-
--- under `last`
-pub last_says : {T : Type 0} {s : FlatForm T} {kind : FieldKind} {said : Said T}
-    → Says s kind said → Says (flat_last s) (repeated kind) (LastSays said)
-last_says {T} {s} {kind} {said} h = record { by = by_form s h.by }
-  where
-    last_by : (group : Groups T) (gap : Gap T)
-        → ((os rest : List LinePiece) (v : T) → group os v rest → FrontSays said os v rest)
-        → ((v : T) → gap.absent v → said [] v) → (os : List LinePiece) (v : T)
-        → LastOf T group gap os v → LastSays said os v
-    last_by group gap fronts absent os v m = record {
-      values = m.list;
-      told = list_says said group gap fronts absent os m.list m.own;
-      is = m.is;
-    }
-
-    by_form : (s : FlatForm T) → FormSays s kind said
-        → FormSays (flat_last s) (repeated kind) (LastSays said)
-    by_form not_flat h = tt
-    by_form (alternative q value) h = (
-      ap repeated h.0,
-      last_by (FrontOf T value) (no_gap T) (piece_fronts said value h.1)
-          (no_absent said value h.1),
-    )
-    by_form (single k q group gap) h = (ap repeated h.0, last_by group gap h.1 h.2)
-    by_form (complete k q value) h = tt
-    by_form (product named q fields) h = tt
-
--- without `catch`
-pub unless_says : {T : Type 0} (catch : Bool) {s : FlatForm T} {kind : FieldKind} {said : Said T}
-    → Says s kind said → Says (unless catch s) kind said
-unless_says true h = record { by = tt }
-unless_says false h = h
-
--- Products.
-
 -- own items are those with one of these names
 abbrev pub FormOwns : {T : Type 0} → List Names → FlatForm T → Type 0
 FormOwns names (complete k q value) = Owns (keys k q) names
@@ -410,6 +302,118 @@ owned outcome names (single k q group gap) law = record { by = tt }
 owned outcome names (complete k q value) law = record { by = law.1 }
 owned outcome names (product named q fields) law = record { by = law.1 }
 
+-- as a field
+pub field_says : {T : Type 0} {s : FlatForm T} {kind : FieldKind} {names : List Names} {said : Said T}
+    → OwnsKeys names s → Says names s kind said → Says names (inner_field s) kind said
+field_says {T} {s} {kind} {names} {said} own h = record { by = by_form s own.by h.by }
+  where
+    by_form : (s : FlatForm T) → FormOwns names s → FormSays names s kind said
+        → FormSays names (inner_field s) kind said
+    by_form not_flat own h = tt
+    by_form (alternative q value) own h = (
+      h.0,
+      λ os v all. whole_says said (FrontOf T value) (no_gap T) (piece_fronts said value h.1)
+          (no_absent said value h.1) os v,
+    )
+    by_form (single k q group gap) own h =
+        (h.0, λ os v all. whole_says said group gap h.1 h.2 os v)
+    by_form (complete k q value) own h = h
+    by_form (product true q fields) own h =
+        (h.0, λ os v all. h.1 os v (own_fit q names own os all))
+    by_form (product false q fields) own h = tt
+
+-- under `optional`
+pub optional_says : {T : Type 0} {s : FlatForm T} {kind : FieldKind} {names : List Names} {said : Said T}
+    → Says names s kind said → Says names (flat_optional s) kind (OptionalSays said)
+optional_says {T} {s} {kind} {names} {said} h = record { by = by_form s h.by }
+  where
+    by_form : (s : FlatForm T) → FormSays names s kind said
+        → FormSays names (flat_optional s) kind (OptionalSays said)
+    by_form not_flat h = tt
+    by_form (alternative q value) h = (
+      h.0,
+      λ os v all. optional_by said (FrontOf T value) (no_gap T) (piece_fronts said value h.1)
+          (no_absent said value h.1) os v,
+    )
+    by_form (single k q group gap) h = (h.0, λ os v all. optional_by said group gap h.1 h.2 os v)
+    by_form (complete k q value) h = tt
+    by_form (product named q fields) h = tt
+
+-- under a fallback
+pub fallback_says : {T : Type 0} (f : Closure (Unit {0}) T) {s : FlatForm T} {kind : FieldKind} {names : List Names}
+    {said : Said T} → Says names s kind said → Says names (flat_fallback f s) kind (FallbackSays said (f.yes tt))
+fallback_says {T} f {s} {kind} {names} {said} h = record { by = by_form s h.by }
+  where
+    by_form : (s : FlatForm T) → FormSays names s kind said
+        → FormSays names (flat_fallback f s) kind (FallbackSays said (f.yes tt))
+    by_form not_flat h = tt
+    by_form (alternative q value) h = (
+      h.0,
+      λ os v all. fallback_by said (FrontOf T value) (no_gap T) (piece_fronts said value h.1)
+          (no_absent said value h.1) f os v,
+    )
+    by_form (single k q group gap) h = (h.0, λ os v all. fallback_by said group gap h.1 h.2 f os v)
+    by_form (complete k q value) h = tt
+    by_form (product named q fields) h = tt
+
+-- under a repeat, as a list
+repeat_says : {T : Type 0} {s : FlatForm T} {kind : FieldKind} {names : List Names} {said : Said T}
+    → Says names s kind said → Says names (flat_repeat s) (repeated kind) (RepeatSays said)
+repeat_says {T} {s} {kind} {names} {said} h = record { by = by_form s h.by }
+  where
+    by_form : (s : FlatForm T) → FormSays names s kind said
+        → FormSays names (flat_repeat s) (repeated kind) (RepeatSays said)
+    by_form not_flat h = tt
+    by_form (alternative q value) h = (
+      ap repeated h.0,
+      λ os v all. list_says said (FrontOf T value) (no_gap T) (piece_fronts said value h.1)
+          (no_absent said value h.1) os v,
+    )
+    by_form (single k q group gap) h = (ap repeated h.0, λ os v all. list_says said group gap h.1 h.2 os v)
+    by_form (complete k q value) h = tt
+    by_form (product named q fields) h = tt
+
+-- under `many`, `some`, `collect` or `count`
+pub listed_says : {T B : Type 0} (f : Closure (List T) B) {s : FlatForm T} {kind : FieldKind} {names : List Names}
+    {said : Said T} → Says names s kind said
+    → Says names (flat_closed f (flat_repeat s)) (repeated kind) (MadeSays (RepeatSays said) f)
+listed_says f h = closed_says f (repeat_says h)
+
+-- under `last`
+pub last_says : {T : Type 0} {s : FlatForm T} {kind : FieldKind} {names : List Names} {said : Said T}
+    → Says names s kind said → Says names (flat_last s) (repeated kind) (LastSays said)
+last_says {T} {s} {kind} {names} {said} h = record { by = by_form s h.by }
+  where
+    last_by : (group : Groups T) (gap : Gap T)
+        → ((os rest : List LinePiece) (v : T) → group os v rest → FrontSays said os v rest)
+        → ((v : T) → gap.absent v → said [] v) → (os : List LinePiece) (v : T)
+        → LastOf T group gap os v → LastSays said os v
+    last_by group gap fronts absent os v m = record {
+      values = m.list;
+      told = list_says said group gap fronts absent os m.list m.own;
+      is = m.is;
+    }
+
+    by_form : (s : FlatForm T) → FormSays names s kind said
+        → FormSays names (flat_last s) (repeated kind) (LastSays said)
+    by_form not_flat h = tt
+    by_form (alternative q value) h = (
+      ap repeated h.0,
+      λ os v all. last_by (FrontOf T value) (no_gap T) (piece_fronts said value h.1)
+          (no_absent said value h.1) os v,
+    )
+    by_form (single k q group gap) h = (ap repeated h.0, λ os v all. last_by group gap h.1 h.2 os v)
+    by_form (complete k q value) h = tt
+    by_form (product named q fields) h = tt
+
+-- without `catch`
+pub unless_says : {T : Type 0} (catch : Bool) {s : FlatForm T} {kind : FieldKind} {names : List Names} {said : Said T}
+    → Says names s kind said → Says names (unless catch s) kind said
+unless_says true h = record { by = tt }
+unless_says false h = h
+
+-- Products.
+
 -- also as a field
 pub field_owned : {T : Type 0} (outcome : Outcome T) (names : List Names) (s : FlatForm T)
     → FormLaw outcome names s → OwnsKeys names (inner_field s)
@@ -422,85 +426,94 @@ field_owned outcome names (product false q fields) law = record { by = tt }
 
 -- the last field
 pub alone_says : {T : Type 0} {names : List Names} {s : FlatForm T} {kind : FieldKind}
-    {said : Said T} → OwnsKeys names s → Says s kind said
-    → FieldsSay (flat_alone s) (λ os words v. said (its_pieces kind names os words) v)
+    {said : Said T} → OwnsKeys names s → Says names s kind said
+    → FieldsSay names (flat_alone s) (λ os words v. said (its_pieces kind names os words) v)
 alone_says {T} {names} {s} {kind} {said} own_keys h =
     record { by = by_form s own_keys.by h.by }
   where
     own : (k : FieldKind) (q : Roles) (value : List LinePiece → T → Type 0)
-        → Owns (keys k q) names → ((os : List LinePiece) (v : T) → value os v → said os v)
-        → (whole os : List LinePiece) (v : T) → LastValue T k q value os v
+        → Owns (keys k q) names
+        → ((os : List LinePiece) (v : T) → AllOwn k q os → value os v → said os v)
+        → (whole os : List LinePiece) (v : T)
+        → Fits names (either (keys k q) no_roles) whole → LastValue T k q value os v
         → mine (either (keys k q) no_roles) whole ≡ mine (either (keys k q) no_roles) os
         → said (its_pieces k names whole (others (either (keys k q) no_roles) os)) v
-    own ByName q value owned each whole os v m same =
+    own ByName q value owned each whole os v fits m same =
         subst (λ z. said z v)
         (sym (mine_within q (either q no_roles) (first_within q no_roles) os)
         ∙ (ap (mine q) (sym same)
         ∙ (mine_within q (either q no_roles) (first_within q no_roles) whole
-        ∙ mine_keyed q names owned whole)))
-        (each (mine q os) v m.read)
-    own OneWord q value owned each whole os v m same =
+        ∙ mine_keyed q names whole (first_fits q no_roles names [] owned (record { own = λ k e. absurd cc }) (apart_none names)
+        whole (subst (λ own. Fits own (either q no_roles) whole) (sym (append-nil names)) fits)))))
+        (each (mine q os) v (each_own q os) m.read)
+    own OneWord q value owned each whole os v fits m same =
         subst (λ z. said (front OneWord z) v)
         (sym (others_none (either no_roles no_roles) (λ k. refl) os))
-        (each (front OneWord os) v m.read)
-    own EachWord q value owned each whole os v m same =
+        (each (front OneWord os) v tt m.read)
+    own EachWord q value owned each whole os v fits m same =
         subst (λ z. said z v) (sym (others_none (either no_roles no_roles) (λ k. refl) os))
-        (each os v m.read)
+        (each os v tt m.read)
 
-    by_form : (s : FlatForm T) → FormOwns names s → FormSays s kind said
-        → FieldsFormSays (flat_alone s) (λ os words v. said (its_pieces kind names os words) v)
+    by_form : (s : FlatForm T) → FormOwns names s → FormSays names s kind said
+        → FieldsFormSays names (flat_alone s) (λ os words v. said (its_pieces kind names os words) v)
     by_form not_flat law h = tt
     by_form (alternative q value) law h = tt
     by_form (single k q group gap) law h = tt
     by_form (product named q fields) law h = tt
-    by_form (complete k q value) law h = λ whole os v m same.
+    by_form (complete k q value) law h = λ whole os v fits m same.
         subst (λ j. said (its_pieces j names whole (others (either (keys k q) no_roles) os)) v)
         (sym h.0)
-        (own k q value law h.1 whole os v m same)
+        (own k q value law h.1 whole os v fits m same)
 
 -- a field before others, by its kind
 module _ {A B : Type 0} (own behind : List Names) (said : Said A) (rest_said : FieldsSaid B)
     (q r : Roles) (first : List LinePiece → A → Type 0) (fields : FieldsReading B)
     (owned_behind : Owns r behind)
-    (each : (os : List LinePiece) (v : A) → first os v → said os v)
-    (rest_each : FieldsFormSays (product true r fields) rest_said) where
-  -- what a field of a kind and those behind it say
+    (rest_each : FieldsFormSays behind (product true r fields) rest_said) where
+  -- what a field of a kind says
+  abbrev FirstSays : FieldKind → Type 0
+  FirstSays k = (os : List LinePiece) (v : A) → AllOwn k q os → first os v → said os v
+
+  -- what it and those behind it say
   abbrev KindSays : FieldKind → Type 0
   KindSays k =
-      (whole os : List LinePiece) (v : A × B) → (both_reading k q first fields).value os v
-      → mine (either (keys k q) r) whole ≡ mine (either (keys k q) r) os
+      (whole os : List LinePiece) (v : A × B) → Fits (own ++ behind) (either (keys k q) r) whole
+      → (both_reading k q first fields).value os v → mine (either (keys k q) r) whole ≡ mine (either (keys k q) r) os
       → said (its_pieces k own whole (others (either (keys k q) r) os)) v.0
       × rest_said whole (words_after k (others (either (keys k q) r) os)) v.1
 
-  kind_says : (k : FieldKind) → Owns (keys k q) own → may_follow k own behind ≡ true → KindSays k
-  kind_says ByName owned may whole os v m same =
+  kind_says : (k : FieldKind) → FirstSays k → Owns (keys k q) own → may_follow k own behind ≡ true
+      → KindSays k
+  kind_says ByName each owned may whole os v fits m same =
       let apart = apart_of_names q r own behind owned owned_behind may in
       let both = either q r in (
         subst (λ z. said z v.0)
             (sym (mine_within q both (first_within q r) os)
             ∙ (ap (mine q) (sym same)
-            ∙ (mine_within q both (first_within q r) whole ∙ mine_keyed q own owned whole)))
-            (each (mine q os) v.0 m.0),
+            ∙ (mine_within q both (first_within q r) whole
+            ∙ mine_keyed q own whole (first_fits q r own behind owned owned_behind may whole fits))))
+            (each (mine q os) v.0 (each_own q os) m.0),
         subst (λ z. rest_said whole z v.1) (others_both q r os)
-            (rest_each whole (others q os) v.1 m.1
+            (rest_each whole (others q os) v.1
+            (second_fits q r own behind owned owned_behind may whole fits) m.1
             (sym (mine_within r both (second_within q r) whole)
             ∙ (ap (mine r) same
             ∙ (mine_within r both (second_within q r) os
             ∙ sym (mine_of_others q r (λ k e. apart.right k e) os))))),
       )
-  kind_says OneWord owned may whole os v m same =
+  kind_says OneWord each owned may whole os v fits m same =
       let none = none_behind r own behind owned_behind may in
       let left_to = others_none r none os in (
-        subst (λ z. said (front OneWord z) v.0) (sym left_to) (each (front OneWord os) v.0 m.0),
+        subst (λ z. said (front OneWord z) v.0) (sym left_to) (each (front OneWord os) v.0 tt m.0),
         subst (λ z. rest_said whole z v.1)
             (others_none r none (back OneWord os) ∙ ap (back OneWord) (sym left_to))
-            (rest_each whole (back OneWord os) v.1 m.1
+            (rest_each whole (back OneWord os) v.1 (no_fits r own behind may none whole) m.1
             (mine_none r none whole ∙ sym (mine_none r none (back OneWord os)))),
       )
-  kind_says EachWord owned may whole os v m same =
+  kind_says EachWord each owned may whole os v fits m same =
       let none = none_behind r own behind owned_behind may in (
-        subst (λ z. said z v.0) (sym (others_none r none os)) (each os v.0 m.0),
-        rest_each whole [] v.1 m.1 (mine_none r none whole),
+        subst (λ z. said z v.0) (sym (others_none r none os)) (each os v.0 tt m.0),
+        rest_each whole [] v.1 (no_fits r own behind may none whole) m.1 (mine_none r none whole),
       )
 
 -- what a field and those behind it say
@@ -512,8 +525,8 @@ BothSaid own kind said rest_said os words v =
 -- a field before others
 pub both_say : {A B : Type 0} {own behind : List Names} {a : FlatForm A} {s : FlatForm B}
     {kind : FieldKind} {said : Said A} {rest_said : FieldsSaid B} → OwnsKeys own a
-    → OwnsKeys behind s → Says a kind said → FieldsSay s rest_said
-    → FieldsSay (flat_both own behind a s)
+    → OwnsKeys behind s → Says own a kind said → FieldsSay behind s rest_said
+    → FieldsSay (own ++ behind) (flat_both own behind a s)
     (λ os words v.
     said (its_pieces kind own os words) v.0 × rest_said os (words_after kind words) v.1)
 both_say {A} {B} {own} {behind} {a} {s} {kind} {said} {rest_said} own_keys behind_keys h g =
@@ -521,23 +534,23 @@ both_say {A} {B} {own} {behind} {a} {s} {kind} {said} {rest_said} own_keys behin
   where
     by_test : (k : FieldKind) (named : Bool) (q r : Roles) (first : List LinePiece → A → Type 0)
         (fields : FieldsReading B) → Owns (keys k q) own → Owns r behind → kind ≡ k
-        → ((os : List LinePiece) (v : A) → first os v → said os v)
-        → FieldsFormSays (product named r fields) rest_said
+        → ((os : List LinePiece) (v : A) → AllOwn k q os → first os v → said os v)
+        → FieldsFormSays behind (product named r fields) rest_said
         → (may : Bool) → may_follow k own behind ≡ may
-        → FieldsFormSays (only_if may (product (is_named k && named) (either (keys k q) r)
+        → FieldsFormSays (own ++ behind) (only_if may (product (is_named k && named) (either (keys k q) r)
         (both_reading k q first fields))) (BothSaid own kind said rest_said)
     by_test k named q r first fields owned owned_behind is each rest_each false may = tt
-    by_test k named q r first fields owned owned_behind is each rest_each true may = λ whole os v m
-        same. subst
+    by_test k named q r first fields owned owned_behind is each rest_each true may = λ whole os
+        v fits m same. subst
         (λ j. said (its_pieces j own whole (others (either (keys k q) r) os)) v.0
         × rest_said whole (words_after j (others (either (keys k q) r) os)) v.1)
         (sym is)
-        (kind_says own behind said rest_said q r first fields owned_behind each rest_each k owned may
-        whole os v m same)
+        (kind_says own behind said rest_said q r first fields owned_behind rest_each k each owned may
+        whole os v fits m same)
 
     by_form : (a : FlatForm A) (s : FlatForm B) → FormOwns own a
-        → FormOwns behind s → FormSays a kind said → FieldsFormSays s rest_said
-        → FieldsFormSays (flat_both own behind a s) (BothSaid own kind said rest_said)
+        → FormOwns behind s → FormSays own a kind said → FieldsFormSays behind s rest_said
+        → FieldsFormSays (own ++ behind) (flat_both own behind a s) (BothSaid own kind said rest_said)
     by_form not_flat s law rest_law h g = tt
     by_form (alternative q value) s law rest_law h g = tt
     by_form (single k q group gap) s law rest_law h g = tt
@@ -551,32 +564,33 @@ both_say {A} {B} {own} {behind} {a} {s} {kind} {said} {rest_said} own_keys behin
 
 -- what a constructor makes of the values of fields
 pub con_says : {A B : Type 0} {names : List Names} {s : FlatForm A} {said : FieldsSaid A}
-    (f : Closure A B) → OwnsKeys names s → FieldsSay s said
-    → Says (flat_con f s) ByName (RecordSays said names f)
+    (f : Closure A B) → OwnsKeys names s → FieldsSay names s said
+    → Says names (flat_con f s) ByName (RecordSays said names f)
 con_says {A} {B} {names} {s} {said} f own_keys g =
     record { by = by_form s own_keys.by g.by }
   where
-    by_form : (s : FlatForm A) → FormOwns names s → FieldsFormSays s said
-        → FormSays (flat_con f s) ByName (RecordSays said names f)
+    by_form : (s : FlatForm A) → FormOwns names s → FieldsFormSays names s said
+        → FormSays names (flat_con f s) ByName (RecordSays said names f)
     by_form not_flat law g = tt
     by_form (alternative q value) law g = tt
     by_form (single k q group gap) law g = tt
     by_form (complete k q value) law g = tt
     by_form (product named q fields) law g = (
       refl,
-      λ os v m. record {
+      λ os v fits m. record {
         from = m.from;
-        fields = subst (λ z. said os z m.from) (others_unkeyed q names law os)
-            (g os os m.from m.read refl);
+        fields = subst (λ z. said os z m.from) (others_unkeyed q names os fits)
+            (g os os m.from fits m.read refl);
         made = m.made;
       },
     )
 
 -- A value of a flat record says what its parser says of all pieces of the line.
-pub record_says : {T : Type 0} (s : FlatForm T) {kind : FieldKind} {said : Said T}
-    → Says s kind said
-    → (os : List LinePiece) (v : T) → (product_reading (flat_record s)).value os v → said os v
-record_says {T} s {kind} {said} h = by_form s h.by
+pub record_says : {T : Type 0} (s : FlatForm T) {kind : FieldKind} {names : List Names} {said : Said T}
+    → Says names s kind said
+    → (os : List LinePiece) (v : T) → Fits names (product_roles (flat_record s)) os
+    → (product_reading (flat_record s)).value os v → said os v
+record_says {T} s {kind} {names} {said} h = by_form s h.by
   where
     one_word : (os : List LinePiece) → back OneWord os ≡ [] → front OneWord os ≡ os
     one_word [] e = refl
@@ -584,21 +598,22 @@ record_says {T} s {kind} {said} h = by_form s h.by
     one_word (o ∷ (p ∷ os)) e = cc
 
     all_own : (k : FieldKind) (q : Roles) (value : List LinePiece → T → Type 0)
-        → ((os : List LinePiece) (v : T) → value os v → said os v)
+        → ((os : List LinePiece) (v : T) → AllOwn k q os → value os v → said os v)
         → (os : List LinePiece) (v : T) → LastValue T k q value os v → said os v
     all_own ByName q value each os v m =
-        subst (λ z. said z v) (all_mine q os m.none_left) (each (mine q os) v m.read)
+        subst (λ z. said z v) (all_mine q os m.none_left) (each (mine q os) v (each_own q os) m.read)
     all_own OneWord q value each os v m =
-        subst (λ z. said z v) (one_word os m.none_left) (each (front OneWord os) v m.read)
-    all_own EachWord q value each os v m = each os v m.read
+        subst (λ z. said z v) (one_word os m.none_left) (each (front OneWord os) v tt m.read)
+    all_own EachWord q value each os v m = each os v tt m.read
 
-    by_form : (s : FlatForm T) → FormSays s kind said
-        → (os : List LinePiece) (v : T) → (product_reading (flat_record s)).value os v → said os v
-    by_form not_flat h os v m = absurd m
-    by_form (alternative q value) h os v m = all_own ByName q _
-        (whole_says said (FrontOf T value) (no_gap T) (piece_fronts said value h.1)
-        (no_absent said value h.1)) os v m
-    by_form (single k q group gap) h os v m =
-        all_own k q _ (whole_says said group gap h.1 h.2) os v m
-    by_form (complete k q value) h os v m = all_own k q value h.1 os v m
-    by_form (product named q fields) h os v m = h.1 os v m
+    by_form : (s : FlatForm T) → FormSays names s kind said
+        → (os : List LinePiece) (v : T) → Fits names (product_roles (flat_record s)) os
+        → (product_reading (flat_record s)).value os v → said os v
+    by_form not_flat h os v fits m = absurd m
+    by_form (alternative q value) h os v fits m = all_own ByName q _
+        (λ os v all. whole_says said (FrontOf T value) (no_gap T) (piece_fronts said value h.1)
+        (no_absent said value h.1) os v) os v m
+    by_form (single k q group gap) h os v fits m =
+        all_own k q _ (λ os v all. whole_says said group gap h.1 h.2 os v) os v m
+    by_form (complete k q value) h os v fits m = all_own k q value h.1 os v m
+    by_form (product named q fields) h os v fits m = h.1 os v fits m

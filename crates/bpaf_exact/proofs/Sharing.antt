@@ -1,6 +1,16 @@
 -- Pieces that are shared out by roles are shared out by names.
 use Rattle.std.proofs.Common.{◌≡◌, Bool, true, false, List, [], ◌∷◌}
 use Rattle.std.proofs.Common.{refl, sym, ap, ◌∙◌, if◌then◌else◌}
+use Rattle.std.proofs.Common.{◌++◌, ◌||◌, ◌⊎◌, ⊎_elim, None, Some, inl, inr}
+use Rattle.std.proofs.lemmas.List.Folds.{list_any-append}
+use Rattle.bpaf_items.specs.Items.{is_key_of, is_positional}
+use Rattle.bpaf_items.specs.declared.arg.Arg.TheVariants.{Short, Long, ArgWord, Word, PosWord}
+use Rattle.bpaf_exact.specs.Names.{are_all_apart}
+use Rattle.bpaf_exact.specs.Pieces.{Cells, Cut, argument, at_end, begin_piece, flag, passed, pieces}
+use Rattle.bpaf_exact.specs.Pieces.{word}
+use Rattle.bpaf_exact.specs.Says.{EachOwn, Fits}
+use Rattle.bpaf_exact.proofs.First.{own_next}
+use Rattle.bpaf_exact.proofs.Names.{one_list, or_true}
 use Rattle.bpaf_doc.specs.Names.{Names}
 use Rattle.bpaf_items.specs.declared.arg.Arg.{Arg}
 use Rattle.bpaf_exact.specs.Pieces.{Role, Foreign, Alone, WithNext, Roles, LinePiece, One, Two}
@@ -15,29 +25,131 @@ fails : (c : Bool) → (c ≡ true → true ≡ false) → c ≡ false
 fails true h = h refl
 fails false h = refl
 
+-- two tests that hold of the same are one
+same_truth : (a b : Bool) → (a ≡ true → b ≡ true) → (b ≡ true → a ≡ true) → a ≡ b
+same_truth true b f g = sym (f refl)
+same_truth false true f g = g refl
+same_truth false false f g = refl
+
+-- a word is no key
+no_key : (names : List Names) (w : Arg) → is_positional w ≡ true → is_key_of_any names w ≡ false
+no_key names (Short c attached text) h = absurd cc
+no_key names (Long name attached text) h = absurd cc
+no_key names (ArgWord text) h = absurd cc
+no_key [] (Word text) h = refl
+no_key (own ∷ names) (Word text) h = no_key names (Word text) h
+no_key [] (PosWord text) h = refl
+no_key (own ∷ names) (PosWord text) h = no_key names (PosWord text) h
+
 -- a piece is one's own by its first item
 own_first : (r : Roles) (o : LinePiece) → is_own r o ≡ is_own_role (r (first_item o))
 own_first r (One k) = refl
 own_first r (Two k w) = refl
 
-module _ (r : Roles) (names : List Names) (owned : Owns r names) where
-  -- a piece is one's own where it begins with a key of one's names
-  own_named : (o : LinePiece) → is_own r o ≡ is_key_of_any names (first_item o)
-  own_named o = own_first r o ∙ owned.own (first_item o)
-
-  -- so one's own pieces are those,
-  pub mine_keyed : (os : List LinePiece) → mine r os ≡ keyed names os
-  mine_keyed [] = refl
-  mine_keyed (o ∷ os) =
-      ap (λ c. if c then (o ∷ mine r os) else mine r os) (own_named o)
-      ∙ ap (λ z. if is_key_of_any names (first_item o) then (o ∷ z) else z) (mine_keyed os)
+module _ (r : Roles) (names : List Names) where
+  -- where the own pieces are those that begin with a key of one's names, they are those,
+  pub mine_keyed : (os : List LinePiece) → Fits names r os → mine r os ≡ keyed names os
+  mine_keyed [] fits = refl
+  mine_keyed (o ∷ os) fits =
+      ap (λ c. if c then (o ∷ mine r os) else mine r os) fits.0
+      ∙ ap (λ z. if is_key_of_any names (first_item o) then (o ∷ z) else z)
+      (mine_keyed os fits.1)
 
   -- and those of others the rest
-  pub others_unkeyed : (os : List LinePiece) → others r os ≡ unkeyed names os
-  others_unkeyed [] = refl
-  others_unkeyed (o ∷ os) =
-      ap (λ c. if c then others r os else (o ∷ others r os)) (own_named o)
-      ∙ ap (λ z. if is_key_of_any names (first_item o) then z else (o ∷ z)) (others_unkeyed os)
+  pub others_unkeyed : (os : List LinePiece) → Fits names r os → others r os ≡ unkeyed names os
+  others_unkeyed [] fits = refl
+  others_unkeyed (o ∷ os) fits =
+      ap (λ c. if c then others r os else (o ∷ others r os)) fits.0
+      ∙ ap (λ z. if is_key_of_any names (first_item o) then z else (o ∷ z))
+      (others_unkeyed os fits.1)
+
+  module _ (owned : Owns r names) where
+    -- an own piece begins with one
+    own_keyed : (o : LinePiece) → is_own r o ≡ true → is_key_of_any names (first_item o) ≡ true
+    own_keyed o e = owned.own (first_item o) (sym (own_first r o) ∙ e)
+
+    -- pieces that are all one's own do
+    pub own_fit : (os : List LinePiece) → EachOwn r os → Fits names r os
+    own_fit [] all = tt
+    own_fit (o ∷ os) all = (all.0 ∙ sym (own_keyed o all.0), own_fit os all.1)
+
+    -- so do those of a cut by one's keys
+    pub cut_fit : {cs : Cells} {os : List LinePiece} → Cut r cs os → Fits names r os
+    cut_fit at_end = tt
+    cut_fit (passed c) = cut_fit c
+    cut_fit (flag {k = k} e c) = let own = ap is_own_role e in (own ∙ sym (owned.own k own), cut_fit c)
+    cut_fit (argument {k = k} e v c) =
+        let own = ap is_own_role e in (own ∙ sym (owned.own k own), cut_fit c)
+    cut_fit (word {w = w} h c) =
+        let none = no_key names w h in (
+          fails (is_own_role (r w)) (λ e. sym (owned.own w e) ∙ none) ∙ sym none,
+          cut_fit c,
+        )
+
+-- of two whose names are apart, each has the pieces that begin with its own
+module _ (q r : Roles) (own behind : List Names) (owned : Owns q own) (owned_behind : Owns r behind)
+    (apart : are_all_apart own behind ≡ true) where
+  -- one of both is one of either
+  either_first : (o : LinePiece) → is_own (either q r) o ≡ true
+      → (is_own q o ≡ true) ⊎ (is_own r o ≡ true)
+  either_first o e = by_role (q (first_item o)) refl
+    where
+      by_role : (x : Role) → q (first_item o) ≡ x → (is_own q o ≡ true) ⊎ (is_own r o ≡ true)
+      by_role Alone f = inl (own_first q o ∙ ap is_own_role f)
+      by_role WithNext f = inl (own_first q o ∙ ap is_own_role f)
+      by_role Foreign f = inr (own_first r o ∙ (sym (ap (λ x. is_own_role
+          (either_role x (r (first_item o)))) f) ∙ (sym (own_first (either q r) o) ∙ e)))
+
+  both_names : (o : LinePiece) → is_own (either q r) o ≡ is_key_of_any (own ++ behind) (first_item o)
+      → is_key_of_any own (first_item o) ≡ true → is_own q o ≡ true
+  both_names o e f = ⊎_elim (λ one. one)
+      (λ other. absurd (one_list own behind (first_item o) apart f
+      (own_keyed r behind owned_behind o other)))
+      (either_first o (e ∙ (list_any-append (λ names. is_key_of names (first_item o)) own behind
+      ∙ ap (λ b. b || is_key_of_any behind (first_item o)) f)))
+
+  -- the first
+  pub first_fits : (os : List LinePiece) → Fits (own ++ behind) (either q r) os → Fits own q os
+  first_fits [] fits = tt
+  first_fits (o ∷ os) fits =
+      (same_truth _ _ (own_keyed q own owned o) (both_names o fits.0), first_fits os fits.1)
+
+  other_names : (o : LinePiece) → is_own (either q r) o ≡ is_key_of_any (own ++ behind) (first_item o)
+      → is_key_of_any behind (first_item o) ≡ true → is_own r o ≡ true
+  other_names o e f = ⊎_elim
+      (λ one. absurd (one_list own behind (first_item o) apart (own_keyed q own owned o one) f))
+      (λ other. other)
+      (either_first o (e ∙ (list_any-append (λ names. is_key_of names (first_item o)) own behind
+      ∙ (ap (λ b. is_key_of_any own (first_item o) || b) f
+      ∙ or_true (is_key_of_any own (first_item o))))))
+
+  -- the second
+  pub second_fits : (os : List LinePiece) → Fits (own ++ behind) (either q r) os → Fits behind r os
+  second_fits [] fits = tt
+  second_fits (o ∷ os) fits =
+      (same_truth _ _ (own_keyed r behind owned_behind o) (other_names o fits.0), second_fits os fits.1)
+
+-- the own ones of pieces are all one's own
+pub each_own : (q : Roles) (os : List LinePiece) → EachOwn q (mine q os)
+each_own q [] = tt
+each_own q (o ∷ os) = by_own (is_own q o) refl (each_own q os)
+  where
+    by_own : (b : Bool) → is_own q o ≡ b → EachOwn q (mine q os)
+        → EachOwn q (if b then (o ∷ mine q os) else mine q os)
+    by_own true e all = (e, all)
+    by_own false e all = all
+
+-- so are those on cells
+pub pieces_own : (q : Roles) (cs : Cells) → EachOwn q (pieces q cs)
+pieces_own q [] = tt
+pieces_own q (None ∷ cs) = pieces_own q cs
+pieces_own q (Some k ∷ cs) = by_role (q k) refl (pieces_own q cs)
+  where
+    by_role : (x : Role) → q k ≡ x → EachOwn q (pieces q cs)
+        → EachOwn q (begin_piece x k cs (pieces q cs))
+    by_role Foreign e all = all
+    by_role Alone e all = (ap is_own_role e, all)
+    by_role WithNext e all = (own_next q k cs ∙ ap is_own_role e, all)
 
 -- where each own item of the one is one of the other, its pieces are among the other's
 pub mine_within : (q r : Roles)
@@ -152,5 +264,18 @@ others_both q r (o ∷ os) =
 -- behind a positional field no item is another field's own
 pub none_behind : (r : Roles) (own behind : List Names) → Owns r behind
     → may_follow OneWord own behind ≡ true → (k : Arg) → is_own_role (r k) ≡ false
-none_behind r own [] owned e k = owned.own k
+none_behind r own [] owned e k = fails (is_own_role (r k)) (λ own. let none = owned.own k own in absurd cc)
 none_behind r own (names ∷ behind) owned e k = absurd cc
+
+-- behind a positional field nothing begins with another's key
+pub no_fits : (r : Roles) (own behind : List Names) → may_follow OneWord own behind ≡ true
+    → ((k : Arg) → is_own_role (r k) ≡ false) → (os : List LinePiece) → Fits behind r os
+no_fits r own [] may none [] = tt
+no_fits r own [] may none (o ∷ os) =
+    (own_first r o ∙ none (first_item o), no_fits r own [] may none os)
+no_fits r own (names ∷ behind) may none os = absurd cc
+
+-- all names are apart from none
+pub apart_none : (names : List Names) → are_all_apart names [] ≡ true
+apart_none [] = refl
+apart_none (own ∷ names) = apart_none names

@@ -97,8 +97,7 @@ pub argument_no_surplus : {T : Type 0} (means : List ℕ → T → Type 0) (name
     (envs : List (List ℕ)) (adjacent : Bool)
     → HasNoSurplus (argument_by means names envs adjacent false)
 argument_no_surplus means names (env ∷ envs) adjacent = tt
-argument_no_surplus means names [] true = tt
-argument_no_surplus means names [] false = tt
+argument_no_surplus means names [] adjacent = tt
 
 -- nor a word
 pub word_no_surplus : {T : Type 0} (means : List ℕ → T → Type 0) → HasNoSurplus (word_field means)

@@ -53,7 +53,7 @@ v_roles = flag_roles (short 118)
 
 -- those of the argument `-n`
 abbrev n_roles : Roles
-n_roles = argument_roles (short 110)
+n_roles = argument_roles false (short 110)
 
 -- the value of the switch
 abbrev SwitchValue : List LinePiece → Bool → Type 0
@@ -297,11 +297,11 @@ all_words_taken v os h = nothing [] v.1 refl h.1.read
 
 -- the items of the arguments `-a` and `-b`
 abbrev choice_roles : Roles
-choice_roles = either (argument_roles (short 97)) (argument_roles (short 98))
+choice_roles = either (argument_roles false (short 97)) (argument_roles false (short 98))
 
 -- what a piece of either means
 abbrev ChoiceValue : LinePiece → ℕ → Type 0
-ChoiceValue = either_value (argument_roles (short 97)) (ArgumentValue number) (ArgumentValue number)
+ChoiceValue = either_value (argument_roles false (short 97)) (ArgumentValue number) (ArgumentValue number)
 
 -- the key `-a`
 abbrev a_key : Arg

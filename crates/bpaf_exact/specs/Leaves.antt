@@ -5,7 +5,8 @@ use Rattle.bpaf_doc.specs.Names.{Names}
 use Rattle.bpaf_text.specs.Named.{Named as Key, KeyWithValue}
 use Rattle.bpaf_items.specs.declared.arg.Arg.{Arg}
 use Rattle.bpaf_items.specs.declared.arg.Arg.TheVariants.{Short, Long, ArgWord, Word, PosWord}
-use Rattle.bpaf_items.specs.Items.{is_key_of, is_positional, item_text, word_text}
+use Rattle.bpaf_items.specs.Items.{is_argument_key, is_key_of, is_positional, item_text}
+use Rattle.bpaf_items.specs.Items.{word_text}
 use Rattle.bpaf_line.specs.declared.error.Error.{Error}
 use Rattle.bpaf_line.specs.Situation.{Situation}
 use Rattle.bpaf_line.specs.Taking.{TakesText, HasNone}
@@ -20,9 +21,11 @@ use Rattle.bpaf_exact.specs.FlatForm.{single}
 abbrev pub flag_roles : Names → Roles
 flag_roles names k = if is_key_of names k then Alone else Foreign
 
--- the items of an argument: keys with one of its names, each with its value
-abbrev pub argument_roles : Names → Roles
-argument_roles names k = if is_key_of names k then WithNext else Foreign
+-- the items of an argument: keys with one of its names, each with its value; of an adjacent one
+-- those whose value is attached
+abbrev pub argument_roles : (adjacent : Bool) → Names → Roles
+argument_roles adjacent names k =
+    if is_argument_key names adjacent k then WithNext else Foreign
 
 -- a key means a present value
 abbrev pub FlagValue : {T : Type 0} → (T → Type 0) → LinePiece → T → Type 0
@@ -88,17 +91,17 @@ pub record LastGroup (T : Type 0) (means : List ℕ → T → Type 0) (os : List
   pub none_left : rest ≡ []
 
 -- an argument that takes all its keys at once
-abbrev pub last_argument : {T : Type 0} → (List ℕ → T → Type 0) → Names → FlatForm T
-last_argument {T = T} means names =
-    single ByName (argument_roles names) (LastGroup T means) (no_gap T)
+abbrev pub last_argument : {T : Type 0} → (List ℕ → T → Type 0) → Bool → Names → FlatForm T
+last_argument {T = T} means adjacent names =
+    single ByName (argument_roles adjacent names) (LastGroup T means) (no_gap T)
 
--- an argument, but for one with a name in the environment, and one that wants an attached value
+-- an argument, but for one with a name in the environment
 abbrev pub argument_by : {T : Type 0} → (List ℕ → T → Type 0) → Names → List (List ℕ) → Bool → Bool
     → FlatForm T
 argument_by means names (env ∷ envs) adjacent last = not_flat
-argument_by means names [] true last = not_flat
-argument_by means names [] false false = alternative (argument_roles names) (ArgumentValue means)
-argument_by means names [] false true = last_argument means names
+argument_by means names [] adjacent false =
+    alternative (argument_roles adjacent names) (ArgumentValue means)
+argument_by means names [] adjacent true = last_argument means adjacent names
 
 -- an argument
 abbrev pub argument_field : {T : Type 0} → (List ℕ → T → Type 0) → KeyWithValue → FlatForm T

@@ -1,5 +1,5 @@
 -- Keys of flags and arguments, by their names, and whether they are apart.
-use Rattle.std.specs.Prelude.{◌≡◌, Bool, not, ◌&&◌, List}
+use Rattle.std.specs.Prelude.{◌≡◌, Bool, true, not, ◌&&◌, List}
 use Rattle.std.specs.List.{list_all, list_any}
 use Rattle.bpaf_doc.specs.Names.{Names}
 use Rattle.bpaf_items.specs.declared.arg.Arg.{Arg}
@@ -20,6 +20,6 @@ are_apart own others =
 abbrev pub are_all_apart : List Names → List Names → Bool
 are_all_apart keys others = list_all (λ names. list_all (are_apart names) others) keys
 
--- a field's own items are those with one of its names
+-- each of a field's own items is a key with one of its names
 pub record Owns (r : Roles) (keys : List Names) : Type 0 where
-  pub own : (k : Arg) → is_own_role (r k) ≡ is_key_of_any keys k
+  pub own : (k : Arg) → is_own_role (r k) ≡ true → is_key_of_any keys k ≡ true

@@ -160,35 +160,35 @@ abbrev pub IsSaid : {T : Type 0} → CellsValue T → CellsValue T → Type 0
 IsSaid {T = T} value said = (cs : Cells) (v : T) → value cs v → said cs v
 
 -- a value of this form does
-abbrev pub ProgramFormSays : {P T : Type 0} → ProgramForm T → FieldKind → ProgramSaid P T → P
-    → Type 0
-ProgramFormSays no_program kind said p = Unit {0}
-ProgramFormSays (plain wide s) kind (of_pieces said) p = Says s kind (said p)
-ProgramFormSays (plain wide s) kind (of_cells said) p = ⊥
-ProgramFormSays (commands r value) kind (of_pieces said) p = ⊥
-ProgramFormSays (commands r value) kind (of_cells said) p = IsSaid value (said p)
-ProgramFormSays (left_out r value) kind (of_pieces said) p = ⊥
-ProgramFormSays (left_out r value) kind (of_cells said) p = IsSaid value (said p)
-ProgramFormSays (before_commands r value) kind (of_pieces said) p = ⊥
-ProgramFormSays (before_commands r value) kind (of_cells said) p = IsSaid value (said p)
+abbrev pub ProgramFormSays : {P T : Type 0} → List Names → ProgramForm T → FieldKind
+    → ProgramSaid P T → P → Type 0
+ProgramFormSays names no_program kind said p = Unit {0}
+ProgramFormSays names (plain wide s) kind (of_pieces said) p = Says names s kind (said p)
+ProgramFormSays names (plain wide s) kind (of_cells said) p = ⊥
+ProgramFormSays names (commands r value) kind (of_pieces said) p = ⊥
+ProgramFormSays names (commands r value) kind (of_cells said) p = IsSaid value (said p)
+ProgramFormSays names (left_out r value) kind (of_pieces said) p = ⊥
+ProgramFormSays names (left_out r value) kind (of_cells said) p = IsSaid value (said p)
+ProgramFormSays names (before_commands r value) kind (of_pieces said) p = ⊥
+ProgramFormSays names (before_commands r value) kind (of_cells said) p = IsSaid value (said p)
 
 -- a value of such a parser does
-pub record ProgramSays {P T : Type 0} (form : ProgramForm T) (kind : FieldKind)
-    (said : ProgramSaid P T) (p : P) : Type 0 where
-  pub by : ProgramFormSays form kind said p
+pub record ProgramSays {P T : Type 0} (names : List Names) (form : ProgramForm T)
+    (kind : FieldKind) (said : ProgramSaid P T) (p : P) : Type 0 where
+  pub by : ProgramFormSays names form kind said p
 
 -- values of fields of this form do
-abbrev pub ProgramFieldsFormSay : {P V : Type 0} → ProgramForm V → ProgramFieldsSaid P V → P
-    → Type 0
-ProgramFieldsFormSay no_program said p = Unit {0}
-ProgramFieldsFormSay (plain wide s) (of_all_pieces said) p = FieldsSay s (said p)
-ProgramFieldsFormSay (plain wide s) (of_all_cells said) p = ⊥
-ProgramFieldsFormSay (commands r value) said p = Unit {0}
-ProgramFieldsFormSay (left_out r value) said p = Unit {0}
-ProgramFieldsFormSay (before_commands r value) (of_all_pieces said) p = ⊥
-ProgramFieldsFormSay (before_commands r value) (of_all_cells said) p = IsSaid value (said p)
+abbrev pub ProgramFieldsFormSay : {P V : Type 0} → List Names → ProgramForm V
+    → ProgramFieldsSaid P V → P → Type 0
+ProgramFieldsFormSay names no_program said p = Unit {0}
+ProgramFieldsFormSay names (plain wide s) (of_all_pieces said) p = FieldsSay names s (said p)
+ProgramFieldsFormSay names (plain wide s) (of_all_cells said) p = ⊥
+ProgramFieldsFormSay names (commands r value) said p = Unit {0}
+ProgramFieldsFormSay names (left_out r value) said p = Unit {0}
+ProgramFieldsFormSay names (before_commands r value) (of_all_pieces said) p = ⊥
+ProgramFieldsFormSay names (before_commands r value) (of_all_cells said) p = IsSaid value (said p)
 
 -- the values of such fields do
-pub record ProgramFieldsSay {P V : Type 0} (form : ProgramForm V) (said : ProgramFieldsSaid P V)
-    (p : P) : Type 0 where
-  pub by : ProgramFieldsFormSay form said p
+pub record ProgramFieldsSay {P V : Type 0} (names : List Names) (form : ProgramForm V)
+    (said : ProgramFieldsSaid P V) (p : P) : Type 0 where
+  pub by : ProgramFieldsFormSay names form said p

@@ -6,7 +6,7 @@ use Rattle.std.specs.List.{Contains}
 use Rattle.bpaf_doc.specs.Names.{Names}
 use Rattle.bpaf_items.specs.Items.{item_text}
 use Rattle.bpaf_items.specs.declared.arg.Arg.{Arg}
-use Rattle.bpaf_exact.specs.Pieces.{LinePiece, One, Two, mine, others}
+use Rattle.bpaf_exact.specs.Pieces.{LinePiece, One, Roles, Two, is_own, mine, others}
 use Rattle.bpaf_exact.specs.Names.{is_key_of_any}
 use Rattle.bpaf_exact.specs.Flat.{FieldKind, ByName, OneWord, EachWord, front, back}
 use Rattle.bpaf_exact.specs.Single.{Own}
@@ -141,31 +141,50 @@ pub record RecordSays {V T : Type 0} (said : FieldsSaid V) (names : List Names) 
 
 -- That a value says so.
 
--- a value of this form says so of the pieces that it is read off
-abbrev pub FormSays : {T : Type 0} → FlatForm T → FieldKind → Said T → Type 0
-FormSays not_flat kind said = Unit {0}
-FormSays {T = T} (alternative q value) kind said =
+-- each piece is a field's own
+abbrev pub EachOwn : Roles → List LinePiece → Type 0
+EachOwn q [] = Unit {0}
+EachOwn q (o ∷ os) = (is_own q o ≡ true) × EachOwn q os
+
+-- so it is of a named field
+abbrev pub AllOwn : FieldKind → Roles → List LinePiece → Type 0
+AllOwn ByName q os = EachOwn q os
+AllOwn OneWord q os = Unit {0}
+AllOwn EachWord q os = Unit {0}
+
+-- the own ones of these pieces are those that begin with a key with one of the names
+abbrev pub Fits : List Names → Roles → List LinePiece → Type 0
+Fits names r [] = Unit {0}
+Fits names r (o ∷ os) = (is_own r o ≡ is_key_of_any names (first_item o)) × Fits names r os
+
+-- a value of this form, of a parser with these keys, says so of the pieces that it is read off
+abbrev pub FormSays : {T : Type 0} → List Names → FlatForm T → FieldKind → Said T → Type 0
+FormSays names not_flat kind said = Unit {0}
+FormSays {T = T} names (alternative q value) kind said =
     (kind ≡ ByName) × ((o : LinePiece) (v : T) → value o v → said (o ∷ []) v)
-FormSays {T = T} (single k q group gap) kind said =
+FormSays {T = T} names (single k q group gap) kind said =
     (kind ≡ k) × ((os rest : List LinePiece) (v : T) → group os v rest → FrontSays said os v rest)
     × ((v : T) → gap.absent v → said [] v)
-FormSays {T = T} (complete k q value) kind said =
-    (kind ≡ k) × ((os : List LinePiece) (v : T) → value os v → said os v)
-FormSays {T = T} (product named r fields) kind said =
-    (kind ≡ ByName) × ((os : List LinePiece) (v : T) → fields.value os v → said os v)
+FormSays {T = T} names (complete k q value) kind said =
+    (kind ≡ k) × ((os : List LinePiece) (v : T) → AllOwn k q os → value os v → said os v)
+FormSays {T = T} names (product named r fields) kind said =
+    (kind ≡ ByName)
+    × ((os : List LinePiece) (v : T) → Fits names r os → fields.value os v → said os v)
 
 -- a value of such a parser does
-pub record Says {T : Type 0} (form : FlatForm T) (kind : FieldKind) (said : Said T) : Type 0 where
-  pub by : FormSays form kind said
+pub record Says {T : Type 0} (names : List Names) (form : FlatForm T) (kind : FieldKind)
+    (said : Said T) : Type 0 where
+  pub by : FormSays names form kind said
 
 -- values of such fields say so of all pieces of a line, of which those that they are read off are
 -- all that begin with their keys
-abbrev pub FieldsFormSays : {V : Type 0} → FlatForm V → FieldsSaid V → Type 0
-FieldsFormSays {V = V} (product named r fields) said =
-    (whole os : List LinePiece) (v : V) → fields.value os v → mine r whole ≡ mine r os
-    → said whole (others r os) v
-FieldsFormSays _ said = Unit {0}
+abbrev pub FieldsFormSays : {V : Type 0} → List Names → FlatForm V → FieldsSaid V → Type 0
+FieldsFormSays {V = V} names (product named r fields) said =
+    (whole os : List LinePiece) (v : V) → Fits names r whole → fields.value os v
+    → mine r whole ≡ mine r os → said whole (others r os) v
+FieldsFormSays names _ said = Unit {0}
 
 -- the values of fields do
-pub record FieldsSay {V : Type 0} (form : FlatForm V) (said : FieldsSaid V) : Type 0 where
-  pub by : FieldsFormSays form said
+pub record FieldsSay {V : Type 0} (names : List Names) (form : FlatForm V) (said : FieldsSaid V)
+    : Type 0 where
+  pub by : FieldsFormSays names form said

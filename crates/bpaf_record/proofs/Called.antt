@@ -120,11 +120,11 @@ owned_on q key owns (Some k ∷ cs) some =
         behind (subst (λ r. begin_piece r k cs (pieces q cs) ≢ []) is some)
     by_role Alone is false e behind =
         let wrong : true ≡ false =
-        sym (ap is_own_role is) ∙ (owns.own k ∙ ap (λ b. b || false) e) in
+        sym (owns.own k (ap is_own_role is)) ∙ ap (λ b. b || false) e in
         absurd cc
     by_role WithNext is false e behind =
         let wrong : true ≡ false =
-        sym (ap is_own_role is) ∙ (owns.own k ∙ ap (λ b. b || false) e) in
+        sym (owns.own k (ap is_own_role is)) ∙ ap (λ b. b || false) e in
         absurd cc
 
 -- what is left of the line of words

@@ -80,12 +80,14 @@ is_program_form form names info e = (and_parts (is_program form) _ e).0
 -- a value of an exact answer says what its parser says
 pub tells_of_words : {P T : Type 0} {describes : Shape → Type 0} {info : RunInfo}
     {form : ProgramForm T} {kind : FieldKind} {said : ProgramSaid P T} {p : P}
-    → ProgramSays form kind said p → is_program form ≡ true → {given : Given}
+    (outcome : Outcome T) {names : List Names} (words : List (List ℕ))
+    → ProgramFormLaw outcome names words form → ProgramSays names form kind said p
+    → is_program form ≡ true → {given : Given}
     (r : Result T ParseFailure) → AnswersAsProgram T describes info form given r
     → IfOk r (TellsOfWords describes info form (cells_said said p) given)
-tells_of_words {form = form} says is (Ok v) exact =
+tells_of_words {form = form} outcome words law says is (Ok v) exact =
     let value = exact.sound in record {
       is_value = value;
-      told = program_says form says is (line_cells value.context) v value.read;
+      told = program_says outcome words form law says is (line_cells value.context) v value.read;
     }
-tells_of_words says is (Err f) exact = tt
+tells_of_words outcome words law says is (Err f) exact = tt

@@ -29,6 +29,9 @@ use Rattle.bpaf_exact.proofs.FlatForm.{record_law}
 use Rattle.bpaf_exact.proofs.Says.{record_says}
 use Rattle.bpaf_exact.specs.SameParts.{ShowsTheSame}
 use Rattle.bpaf_exact.specs.Says.{Said, Says}
+use Rattle.bpaf_exact.proofs.FlatForm.{flat_record_law}
+use Rattle.bpaf_exact.proofs.ProgramForm.{record_owns}
+use Rattle.bpaf_exact.proofs.Sharing.{cut_fit}
 use Rattle.bpaf_record.specs.Record.{is_flat_record, answer_of, AnswersExactly, RunsWordsExactly}
 use Rattle.bpaf_record.specs.Record.{IsValueOf, IsValueOrWant, HasWholeLine, PiecesOf, SaysOfWords}
 use Rattle.bpaf_record.specs.Commands.{left_over}
@@ -177,11 +180,17 @@ is_flat_form form names info e = (and_parts (is_record form) _ e).0
 
 -- a value of an exact answer says what its parser says
 pub says_of_words : {T : Type 0} {describes : Shape → Type 0} {info : RunInfo} {form : FlatForm T}
-    {kind : FieldKind} {said : Said T} → Says form kind said → {given : Given}
-    (r : Result T ParseFailure)
-    → AnswersExactly T describes info form given r
+    {kind : FieldKind} {said : Said T} (outcome : Outcome T) {names : List Names}
+    → is_record form ≡ true → FormLaw outcome names form → Says names form kind said
+    → {given : Given} (r : Result T ParseFailure) → AnswersExactly T describes info form given r
     → IfOk r (SaysOfWords describes info form said given)
-says_of_words {form = form} says (Ok v) exact =
+says_of_words {T} {form = form} outcome {names} flat law says (Ok v) exact =
     let value = exact.sound.is_value in
-    record { is_value = value; told = record_says form says value.read.cut_into v value.read.read }
-says_of_words says (Err f) exact = tt
+    record {
+      is_value = value;
+      told = record_says form says value.read.cut_into v
+          (cut_fit (product_roles (flat_record form)) names
+          (record_owns T outcome names form flat (flat_record_law T outcome names form law))
+          value.read.cut) value.read.read;
+    }
+says_of_words outcome flat law says (Err f) exact = tt

@@ -143,7 +143,7 @@ positional_field_law T means NonStrict metavar =
 
 -- its value says what its word's text means, and on which side it stands
 pub positional_says : {T : Type 0} (means : List ℕ → T → Type 0) (position : Position)
-    → Says (positional_field means position) OneWord (WordSays (accepts position) means)
+    → Says [] (positional_field means position) OneWord (WordSays (accepts position) means)
 positional_says means Unrestricted =
     word_by_says (accepts Unrestricted) means (WordValue means)
     (word_says (accepts Unrestricted) means (λ behind. refl))
@@ -151,5 +151,5 @@ positional_says means Strict =
     word_by_says (accepts Strict) means (SideValue true means)
     (side_says (accepts Strict) true means refl)
 positional_says means NonStrict =
-    field_says (word_by_says (accepts NonStrict) means (SideValue false means)
+    field_says (record { by = tt }) (word_by_says (accepts NonStrict) means (SideValue false means)
     (side_says (accepts NonStrict) false means refl))

@@ -185,7 +185,7 @@ impl<T: Drop, P: ProgramField<T> + Drop> ProgramField<T> for ParseChoice<P> {
     ghost shows = { λ p. choices_show P.describes P.shows p.parsers.items };
 
     ghost said = { λ p a. program_choices_says (λ q. P.keys q true) P.words P.program_form P.kind
-        P.agrees p (λ p. p.parsers.items) P.says P.said a };
+        P.agrees p _ (λ p. p.parsers.items) P.says P.said a };
 }
 
 impl<T: Drop, P: FlatField<T> + Drop> FlatField<T> for ParseChoice<P> {}

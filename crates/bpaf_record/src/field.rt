@@ -59,7 +59,8 @@ pub trait ProgramField<T>: Parser<T> {
     ghost shows: { (p : Self) → ShowsTheSame (Self.Parser.describes p) };
 
     /// Its value says so.
-    ghost said: { (p : Self) → agrees p → ProgramSays (program_form p) (kind p) says p };
+    ghost said: { (p : Self) → agrees p
+        → ProgramSays (keys p true) (program_form p) (kind p) says p };
 }
 
 /// The mark of a parser that may be a field of a flat record, or a flat record itself. It has no
@@ -106,7 +107,7 @@ pub trait ProgramFields<V>: Fields<V> {
     ghost shows: { (p : Self) → FieldsShowTheSame (Self.Fields.describes p) };
 
     /// Their values say so.
-    ghost said: { (p : Self) → agrees p → ProgramFieldsSay (program_form p) says p };
+    ghost said: { (p : Self) → agrees p → ProgramFieldsSay (keys p true) (program_form p) says p };
 }
 
 /// The mark of the fields of a flat record.

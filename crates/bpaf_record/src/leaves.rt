@@ -60,8 +60,8 @@ impl<T: Clone> ProgramField<T> for ParseFlag<T> {
 
 impl<T: Clone> FlatField<T> for ParseFlag<T> {}
 
-/// With a name in the environment, or with `adjacent`, it is no flat field. With `take_last` it is
-/// a field by itself, and no alternative of a choice.
+/// With a name in the environment it is no flat field; with `adjacent` it may stand in a program,
+/// but in no flat record. With `take_last` it is a field by itself, and no alternative of a choice.
 impl<T: FromText> ProgramField<T> for ParseArgument<T> {
     ghost use Rattle.bpaf_exact.specs.Flat.{ByName};
     ghost use Rattle.bpaf_exact.specs.Says.{ArgumentSays};
@@ -77,7 +77,7 @@ impl<T: FromText> ProgramField<T> for ParseArgument<T> {
 
     ghost words = { λ p. [] };
 
-    ghost program_form = { λ p. plain false (argument_field T.means p) };
+    ghost program_form = { λ p. plain p.adjacent (argument_field T.means p) };
 
     ghost kind = { λ p. ByName };
 
@@ -86,12 +86,15 @@ impl<T: FromText> ProgramField<T> for ParseArgument<T> {
     ghost agrees = { λ p. Unit {0} };
 
     fn part(&self) -> ProgramPart {
-        let form = match (self.named.envs(), self.adjacent, self.last) {
-            ([], false, false) => Form::Alternative,
-            ([], false, true) => Form::Single(Kind::Named),
-            _ => Form::NotFlat,
+        let form = match (self.named.envs(), self.last) {
+            ([_, ..], _) => Form::NotFlat,
+            ([], false) => Form::Alternative,
+            ([], true) => Form::Single(Kind::Named),
         };
-        ProgramPart::Flat { wide: false, form }
+        ProgramPart::Flat {
+            wide: self.adjacent,
+            form,
+        }
     }
 
     #[tactic(auto, using(crate::proofs::Forms::and_true))]

@@ -30,9 +30,10 @@ returns-clause-fields g c agrees =
     let parser = c.args.self.now.inner in
     let program = is_program_form (g.P.ProgramField.program_form parser)
     (g.P.ProgramField.keys parser false) c.args.self.now.info c.requires.program in
-    tells_of_words (g.met.P.ProgramField.said parser agrees) program _
+    let law = g.met.P.ProgramField.law parser agrees in
+    tells_of_words (g.P.Parser.outcome parser) (g.P.ProgramField.words parser) law
+    (g.met.P.ProgramField.said parser agrees) program _
     (answers_as_program g.row.T.Denot (g.P.Parser.outcome parser)
     (g.P.Parser.describes parser) c.args.self.now.info (g.P.ProgramField.keys parser true)
-    (g.P.ProgramField.words parser) (g.P.ProgramField.program_form parser)
-    (g.met.P.ProgramField.law parser agrees) program
+    (g.P.ProgramField.words parser) (g.P.ProgramField.program_form parser) law program
     (g.met.P.ProgramField.shows parser) (given_of c.args.args) _ c.run_inner.ensures.outcome)

@@ -35,14 +35,14 @@ returns-clause-exact g c agrees =
 pub returns-clause-fields : goal.returns-clause-fields
 returns-clause-fields g c agrees =
     let parser = c.args.self.now.inner in
-    says_of_words (flat_says (g.P.ProgramField.program_form parser)
-    (g.met.P.ProgramField.said parser agrees)) _
+    let law = flat_form_law g.row.T.Denot (g.P.Parser.outcome parser)
+    (g.P.ProgramField.keys parser true) (g.P.ProgramField.words parser)
+    (g.P.ProgramField.program_form parser) (g.met.P.ProgramField.law parser agrees) in
+    let flat = is_flat_form (flat_form (g.P.ProgramField.program_form parser))
+    (g.P.ProgramField.keys parser false) c.args.self.now.info c.requires.record in
+    says_of_words (g.P.Parser.outcome parser) flat law
+    (flat_says (g.P.ProgramField.program_form parser) (g.met.P.ProgramField.said parser agrees)) _
     (answers_exactly g.row.T.Denot (g.P.Parser.outcome parser)
     (g.P.Parser.describes parser) c.args.self.now.info (g.P.ProgramField.keys parser true)
-    (flat_form (g.P.ProgramField.program_form parser))
-    (flat_form_law g.row.T.Denot (g.P.Parser.outcome parser) (g.P.ProgramField.keys parser true)
-    (g.P.ProgramField.words parser) (g.P.ProgramField.program_form parser)
-    (g.met.P.ProgramField.law parser agrees))
-    (is_flat_form (flat_form (g.P.ProgramField.program_form parser))
-    (g.P.ProgramField.keys parser false) c.args.self.now.info c.requires.record)
+    (flat_form (g.P.ProgramField.program_form parser)) law flat
     (g.met.P.ProgramField.shows parser) (given_of c.args.args) _ c.run_inner.ensures.outcome)
