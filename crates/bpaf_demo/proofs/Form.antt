@@ -46,7 +46,7 @@ module _ {verbose_help num_help file_help : List Piece} {verbose : ParseFlag Boo
       program_both (verbose.named.names ∷ []) (num.named.names ∷ [])
       (program_field (plain false (flag_field IsKept verbose.named verbose.present verbose.absent)))
       (program_both (num.named.names ∷ []) []
-      (program_field (plain false (argument_field (SpellsUnsigned 64) num)))
+      (program_field (plain num.adjacent (argument_field (SpellsUnsigned 64) num)))
       (program_alone (program_field (program_repeat files.catch (list_closure String)
       (plain (is_sided files.inner.position)
       (positional_field MeansText files.inner.position))))))
