@@ -20,7 +20,7 @@ to the kit's Prelude, whose names (as `List`, `map` and `Result`) aren't told he
 `tools/statement.py`, and `tools/check_docs.py` refuses a page that differs from them.
 
 A definition stands below those that it is made of, with its crate and its file, where none above has it. A type of Rust stands as it is
-declared, and its specs are made of that; one that has a model, as a `Doc` is seen as the list of its pieces, is that to them.
+declared, and its specs are made of that; one that has a model, as a `Doc` has the list of its pieces, is to all specs what its `view` gives.
 `x.now` is the value of `x` when a call is made, `x.entry` that of a parameter, and `P.reads` what the type `P` gives by its own impl.
 
 | Part | definitions | types of Rust | lines |
@@ -39,7 +39,11 @@ PARTS = (
 is, it has proved `lawful`: the places that an evaluation newly takes are a reading of the value that it answers.""",
         """bpaf_core/src/options/running.rt; impl<T: Drop, P: Parser<T>> OptionParser; run_inner dealt
         bpaf_core/src/options/running.rt; impl<T: Drop, P: Parser<T> + Drop> OptionParser; run_once dealt
-        bpaf_core/src/parser.rt; pub trait Parser; ; can_eval describes reads outcome lawful""",
+        bpaf_core/src/parser.rt; pub trait Parser; ; can_eval describes reads outcome lawful
+        bpaf_keys/src/info.rt; impl Model for Info; ; Value view
+        bpaf_text/src/named.rt; impl Model for NamedArg; ; Value view
+        bpaf_doc/src/doc.rt; impl Model for Doc; ; Value view
+        bpaf_base/src/text.rt; impl Model for Text; ; Value view""",
         "",
     ),
     (
@@ -62,7 +66,9 @@ flat record and to a program. A kind without `program_form` stands in neither.""
         f"""bpaf/src/product.rt; pub trait Fields; ; {MEANINGS}
         bpaf_record/src/field.rt; pub trait ProgramFields; ; {MEANINGS}
         bpaf_text/src/from_text.rt; pub trait FromText; ; {MEANINGS}
-        bpaf_text/src/from_list.rt; pub trait FromList; ; {MEANINGS}""",
+        bpaf_text/src/from_list.rt; pub trait FromList; ; {MEANINGS}
+        bpaf_text/src/params.rt; impl<T> Model for ParseArgument; ; Value view
+        bpaf_keys/src/names.rt; impl Model for CommandNames; ; Value view""",
         MEANINGS,
     ),
     (
@@ -70,7 +76,9 @@ flat record and to a program. A kind without `program_form` stands in neither.""
         """The rest of what `each_exact` and `lawful` speak of: every answer that a run may give, its pages and messages byte for byte, and every one
 that a parser may give inside it. `dealt` and `exact` say what they do without these.""",
         f"""bpaf_record/src/command_line.rt; impl<T: Drop, P: ProgramField<T>> CommandLine; ; answers
-        bpaf/src/product.rt; pub trait Fields; ; {TABLES}""",
+        bpaf/src/product.rt; pub trait Fields; ; {TABLES}
+        bpaf_line/src/state.rt; impl Model for State; ; Value view
+        bpaf_line/src/missing.rt; impl Model for MissingItems; ; Value view""",
         TABLES,
     ),
 )
