@@ -2,7 +2,7 @@
 //! flat record once, on lines of words, each with its whole answer. Both run as `run_inner` does, on
 //! which rows.txt has them all.
 use bpaf::params::{ParseArgument, ParsePositional};
-use bpaf::{Args, Doc, OptionParser, ParseFailure, Parser, choice, construct, positional, short};
+use bpaf::{Args, Doc, OptionParser, ParseFailure, Parser, choice, construct, positional};
 use bpaf_answers::{number, switch};
 use bpaf_record::{CommandLine, FlatField, ProgramField, Record};
 use bpaf_trial::reads;
