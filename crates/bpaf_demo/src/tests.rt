@@ -52,6 +52,10 @@ fn refusals_print_no_options(rt: HostRuntime) -> Result<(), Fail> {
         ("-n 3 -n", "`-n` requires an argument `NUM`"),
         ("x", missing),
         ("--verbos -n 3", unknown),
+        (
+            "--verbose=yes -n 3",
+            "`yes` is not expected in this context",
+        ),
     ];
     for (words, message) in rows {
         assert!(rt; ran(rt.alloc(), &Demo, words)?.is_message(message));

@@ -50,19 +50,6 @@ fn compare_behind<T: Debug + Drop, P: ProgramField<T> + Drop>(
     compare(alloc, construct!(verbose, last), rows)
 }
 
-/// The same with a name between them.
-fn compare_triple<T: Debug + Drop, P: ProgramField<T> + Drop>(
-    alloc: Global,
-    name: ParseArgument<String>,
-    last: P,
-    rows: &[Row<'_>],
-) -> Result<(), Fail>
-    requires { P.can_eval last }
-{
-    let verbose = switch(alloc, 'v')?;
-    compare(alloc, construct!(verbose, name, last), rows)
-}
-
 /// A command over a number.
 type Counted = ParseCommand<u64, ParseArgument<u64>>;
 
@@ -133,8 +120,8 @@ fn commands_left_out_run_as_programs(rt: HostRuntime) -> Result<(), Fail> {
 }
 
 const COMMAND_CLOSED: &[Row<'static>] = &[
-    ("", "ok (false, None)"),
-    ("build -n 3", "ok (false, Some(6))"),
+    ("", "ok None"),
+    ("build -n 3", "ok Some(6)"),
     ("build -n 12", "refused"),
     ("build -n 5", "refused"),
 ];
@@ -154,7 +141,7 @@ fn compare_doubled<P: ProgramField<u64> + Drop>(
         Some(10) => Err("ten"),
         other => Ok(other),
     });
-    compare_behind(alloc, even.hide_usage().group_help(Doc::new(alloc)), rows)
+    compare(alloc, even.hide_usage().group_help(Doc::new(alloc)), rows)
 }
 
 #[test]
@@ -186,39 +173,23 @@ fn forced(
     force.to_options(alloc)?.command(word)
 }
 
-/// Compares the answers of `[-v] -n NAME`, and `add [-f]` or `rm [-f]`.
+/// Compares the answers of `add [-f]` or `rm [-f]`.
 fn compare_tasks(alloc: Global, rows: &[Row<'_>]) -> Result<(), Fail> {
     let mut tasks = Vec::new(alloc);
     tasks.push(forced(alloc, "add", ('a', 'A'))?)?;
     tasks.push(forced(alloc, "rm", ('r', 'R'))?)?;
-    compare_triple(
-        alloc,
-        short(alloc, 'n')?.argument("NAME"),
-        choice(tasks),
-        rows,
-    )
+    compare(alloc, choice(tasks), rows)
 }
 
 const SHARED_KEY: &[Row<'static>] = &[
-    ("-n x add -f", "ok (false, \"x\", 'A')"),
-    ("-n x rm -f", "ok (false, \"x\", 'R')"),
-    ("-n add rm", "ok (false, \"add\", 'r')"),
-    ("rm -n add", "ok (false, \"add\", 'r')"),
-    ("add -f -n=rm", "ok (false, \"rm\", 'A')"),
-    ("-nadd add", "ok (false, \"add\", 'a')"),
-    ("-n add add", "ok (false, \"add\", 'a')"),
-    ("add -v -n=x -f", "ok (true, \"x\", 'A')"),
-    ("-n add", "refused"),
-    ("add", "refused"),
-    ("add -n", "refused"),
-    ("-n -- add", "refused"),
-    ("-n x -- add", "refused"),
-    ("-f add -n x", "refused"),
-    ("-n rm -f add", "refused"),
-    ("-n x add rm", "refused"),
-    ("-n x add -f -f", "refused"),
-    ("-n x add -f y", "refused"),
-    ("-n x -n y add", "refused"),
+    ("add -f", "ok 'A'"),
+    ("rm -f", "ok 'R'"),
+    ("add", "ok 'a'"),
+    ("rm", "ok 'r'"),
+    ("", "refused"),
+    ("-f add", "refused"),
+    ("add rm", "refused"),
+    ("add -f -f", "refused"),
 ];
 
 #[test]
@@ -226,26 +197,7 @@ fn commands_that_share_a_key_run_as_programs(rt: HostRuntime) -> Result<(), Fail
     compare_tasks(rt.alloc(), SHARED_KEY)
 }
 
-/// What is done to a remote.
-#[derive(Debug, Drop)]
-enum Remote {
-    Add { name: String, url: String },
-    Remove { name: String },
-}
-
-/// Compares the answers of `[-v] remote add NAME URL` or `remote remove NAME`.
-fn compare_remotes(alloc: Global, rows: &[Row<'_>]) -> Result<(), Fail> {
-    let add = construct!(Remote::Add {
-        name(word()),
-        url(word()),
-    });
-    let add = add.to_options(alloc)?.command("add")?;
-    let remove = word().map(|name| Remote::Remove { name });
-    let remove = remove.to_options(alloc)?.command("remove")?;
-    compare_inside(alloc, "remote", construct!([add, remove]), rows)
-}
-
-/// The same of the switch `-v`, and a command of this word over a program.
+/// Compares the answers of the switch `-v`, and a command of this word over a program.
 fn compare_inside<T: Debug + Drop, P: ProgramField<T> + Drop>(
     alloc: Global,
     word: &str,
@@ -257,85 +209,23 @@ fn compare_inside<T: Debug + Drop, P: ProgramField<T> + Drop>(
     compare_behind(alloc, parser.to_options(alloc)?.command(word)?, rows)
 }
 
-const REMOTES: &[Row<'static>] = &[
-    (
-        "remote add origin x",
-        "ok (false, Add { name: \"origin\", url: \"x\" })",
-    ),
-    (
-        "-v remote remove origin",
-        "ok (true, Remove { name: \"origin\" })",
-    ),
-    (
-        "remote -v remove origin",
-        "ok (true, Remove { name: \"origin\" })",
-    ),
-    (
-        "remote add -v origin x",
-        "ok (true, Add { name: \"origin\", url: \"x\" })",
-    ),
-    (
-        "remote remove origin -v",
-        "ok (true, Remove { name: \"origin\" })",
-    ),
-    (
-        "remote add remove add",
-        "ok (false, Add { name: \"remove\", url: \"add\" })",
-    ),
-    (
-        "remote add -- -v x",
-        "ok (false, Add { name: \"-v\", url: \"x\" })",
-    ),
-    (
-        "remote add origin -- x",
-        "ok (false, Add { name: \"origin\", url: \"x\" })",
-    ),
-    ("remote", "refused"),
-    ("add origin x", "refused"),
-    ("remote add origin", "refused"),
-    ("remote add origin x y", "refused"),
-    ("remote remove", "refused"),
-    ("remote remove origin x", "refused"),
-    ("remote rename origin x", "refused"),
-    ("remote remote add origin x", "refused"),
-    ("origin remote remove", "refused"),
-    ("remote origin remove", "refused"),
-    ("-v remote remove origin -v", "refused"),
-    ("remote -- remove origin", "refused"),
-    ("-- remote remove origin", "refused"),
-    ("remote remove --help", "shown"),
+const INSIDE_A_COMMAND: &[Row<'static>] = &[
+    ("tool build -n 3", "ok (false, 3)"),
+    ("-v tool run -n 3", "ok (true, 3)"),
+    ("tool -v run -n 3", "ok (true, 3)"),
+    ("tool run -n 3 -v", "ok (true, 3)"),
+    ("tool", "refused"),
+    ("build -n 3", "refused"),
+    ("tool -n 3 build", "refused"),
+    ("tool tool build -n 3", "refused"),
+    ("tool build -n 3 run", "refused"),
+    ("tool run --help", "shown"),
 ];
 
 #[test]
 fn commands_of_a_command_run_as_programs(rt: HostRuntime) -> Result<(), Fail> {
-    compare_remotes(rt.alloc(), REMOTES)
-}
-
-/// Compares the answers of `[-v] a [-x] b [-y]`.
-fn compare_nested(alloc: Global, rows: &[Row<'_>]) -> Result<(), Fail> {
-    let x = switch(alloc, 'x')?;
-    let y = switch(alloc, 'y')?.to_options(alloc)?.command("b")?;
-    compare_inside(alloc, "a", construct!(x, y), rows)
-}
-
-const NESTED: &[Row<'static>] = &[
-    ("a b", "ok (false, (false, false))"),
-    ("-v a -x b -y", "ok (true, (true, true))"),
-    ("a b -y -x -v", "ok (true, (true, true))"),
-    ("a -vx b", "ok (true, (true, false))"),
-    ("-x a b", "refused"),
-    ("a -y b", "refused"),
-    ("a", "refused"),
-    ("b", "refused"),
-    ("b a", "refused"),
-    ("a a b", "refused"),
-    ("a b c", "refused"),
-    ("a -x b -x", "refused"),
-];
-
-#[test]
-fn fields_at_each_level_run_as_programs(rt: HostRuntime) -> Result<(), Fail> {
-    compare_nested(rt.alloc(), NESTED)
+    let alloc = rt.alloc();
+    compare_inside(alloc, "tool", build_or_run(alloc)?, INSIDE_A_COMMAND)
 }
 
 const WORDS_OF_A_COMMAND: &[Row<'static>] = &[

@@ -2,7 +2,7 @@
 //! flat record once, on lines of words, each with its whole answer. Both run as `run_inner` does, on
 //! which rows.txt has them all.
 use bpaf::params::{ParseArgument, ParsePositional};
-use bpaf::{Args, Doc, OptionParser, ParseFailure, Parser, choice, construct, positional, short};
+use bpaf::{Args, Doc, OptionParser, ParseFailure, Parser, choice, construct, positional};
 use bpaf_answers::{number, switch};
 use bpaf_record::{CommandLine, FlatField, ProgramField, Record};
 use bpaf_trial::reads;
@@ -91,19 +91,6 @@ fn compare_triple<
     compare(alloc, construct!(first, second, third), rows)
 }
 
-/// The same of a product of two fields.
-fn compare_pair<
-    A: Debug + Drop,
-    B: Debug + Drop,
-    P: ProgramField<A> + FlatField<A> + Drop,
-    Q: ProgramField<B> + FlatField<B> + Drop,
->(alloc: Global, first: P, second: Q, rows: &[Row<'_>]) -> Result<(), Fail>
-    requires first { P.can_eval first }
-    requires second { Q.can_eval second }
-{
-    compare(alloc, construct!(first, second), rows)
-}
-
 const NUMBER: &[Row<'static>] = &[
     (
         "-n 3 -n 4",
@@ -151,41 +138,6 @@ const LAST_NUMBER_ALONE: &[Row<'static>] = &[
 fn last_numbers_run_as_records(rt: HostRuntime) -> Result<(), Fail> {
     let a = rt.alloc();
     compare(a, number(a, 'n')?.take_last(), LAST_NUMBER_ALONE)
-}
-
-const LONG_SWITCH: &[Row<'static>] = &[
-    ("--verbose", "ok true"),
-    ("--verbose=yes", "err `yes` is not expected in this context"),
-];
-
-#[test]
-fn switches_run_as_records(rt: HostRuntime) -> Result<(), Fail> {
-    let a = rt.alloc();
-    let verbose = short(a, 'v')?.long("verbose")?.switch();
-    compare(a, verbose, LONG_SWITCH)
-}
-
-const SWITCH_AND_WORD: &[Row<'static>] = &[("-vx", "ok (false, \"-vx\")")];
-
-const NUMBER_AND_WORD: &[Row<'static>] = &[(
-    "-n 3 -n 4",
-    "err argument `-n` cannot be used multiple times in this context",
-)];
-
-const TWO_SWITCHES: &[Row<'static>] = &[("", "ok (false, false)"), ("-a -b", "ok (true, true)")];
-
-const WORDS_AND_WORD: &[Row<'static>] = &[(
-    "x y",
-    "err expected `Q`, pass `--help` for usage information",
-)];
-
-#[test]
-fn products_of_two_run_as_records(rt: HostRuntime) -> Result<(), Fail> {
-    let a = rt.alloc();
-    compare_pair(a, switch(a, 'v')?, word(), SWITCH_AND_WORD)?;
-    compare_pair(a, number(a, 'n')?, word(), NUMBER_AND_WORD)?;
-    compare_pair(a, switch(a, 'a')?, switch(a, 'b')?, TWO_SWITCHES)?;
-    compare_pair(a, word().many(), positional::<String>("Q"), WORDS_AND_WORD)
 }
 
 const OPTIONS_AND_WORDS: &[Row<'static>] = &[
@@ -237,8 +189,6 @@ fn fields_in_any_order_run_as_records(rt: HostRuntime) -> Result<(), Fail> {
     compare_triple(a, nums, verbose, word().optional(), ANY_ORDER)
 }
 
-const BELOW_TEN: &[Row<'static>] = &[("-n 12", "err `12`: below 10"), ("-n 3", "ok 3")];
-
 const CLOSED: &[Row<'static>] = &[
     ("", "ok 7"),
     ("-n 3", "ok 6"),
@@ -265,7 +215,6 @@ fn compare_doubled<P: ProgramField<u64> + FlatField<u64> + Drop>(
 #[test]
 fn closures_run_as_records(rt: HostRuntime) -> Result<(), Fail> {
     let a = rt.alloc();
-    compare(a, number(a, 'n')?.guard(|n| *n < 10, "below 10"), BELOW_TEN)?;
     let num = number(a, 'n')?.guard(|n| *n < 10, "below 10");
     compare_doubled(a, num, CLOSED)
 }
@@ -312,8 +261,6 @@ const COUNTED_SWITCHES: &[Row<'static>] = &[
     ("-vv=1", "err `v=1` is not expected in this context"),
 ];
 
-const LAST_NUMBER: &[Row<'static>] = &[("-n 1 -n 2", "ok 2")];
-
 const NUMBER_SET: &[Row<'static>] = &[("-n 3 -n 1 -n 3", "ok {1, 3}")];
 
 const SOME_WORDS: &[Row<'static>] = &[
@@ -326,7 +273,6 @@ fn repeats_run_as_records(rt: HostRuntime) -> Result<(), Fail> {
     let a = rt.alloc();
     compare(a, switch(a, 'v')?.count(), COUNTED_SWITCHES)?;
     compare(a, switch(a, 'v')?.last(), LAST_SWITCH)?;
-    compare(a, number(a, 'n')?.last(), LAST_NUMBER)?;
     let numbers = number(a, 'n')?.collect::<BTreeSet<u64>>();
     compare(a, numbers, NUMBER_SET)?;
     compare(a, word().some("need one"), SOME_WORDS)
@@ -359,35 +305,6 @@ fn repeated_choices_run_as_records(rt: HostRuntime) -> Result<(), Fail> {
     let alloc = rt.alloc();
     let a = number(alloc, 'a')?;
     compare_choices(alloc, a, number(alloc, 'b')?, REPEATED_CHOICE)
-}
-
-const TWO_NUMBERS: &[Row<'static>] = &[
-    (
-        "-a 12 -b 3",
-        "err `-b` cannot be used at the same time as `-a`",
-    ),
-    ("-b 13", "ok 13"),
-    (
-        "",
-        "err expected `-a=NUM` or `-b=NUM`, pass `--help` for usage information",
-    ),
-];
-
-/// Compares the answers of a choice of two numbers.
-fn compare_either<
-    P: ProgramField<u64> + FlatField<u64> + Drop,
-    Q: ProgramField<u64> + FlatField<u64> + Drop,
->(alloc: Global, a: P, b: Q) -> Result<(), Fail>
-    requires a { P.can_eval a }
-    requires b { Q.can_eval b }
-{
-    compare(alloc, construct!([a, b]), TWO_NUMBERS)
-}
-
-#[test]
-fn choices_of_two_run_as_records(rt: HostRuntime) -> Result<(), Fail> {
-    let alloc = rt.alloc();
-    compare_either(alloc, number(alloc, 'a')?, number(alloc, 'b')?)
 }
 
 const THREE_NUMBERS: &[Row<'static>] = &[
