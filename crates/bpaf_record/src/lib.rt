@@ -13,8 +13,8 @@
 //!   stands in no program: the compiler tells.
 //! - [`FlatField`] and [`FlatFields`], marks without members, are written for those that may stand
 //!   in a flat record: all but commands, `hide` and `pure`. What such a type is to a flat record may
-//!   be told by its value alone: a positional word with `strict` is a field of a program, and of no
-//!   flat record (`wide`).
+//!   be told by its value alone: an adjacent argument or a positional word with `strict` is a field
+//!   of a program, and of no flat record (`wide`).
 //! - Its premise is `agrees`: whether a closure of `parse`, `guard` or `fallback_with` accepts
 //!   depends on the pieces alone. `map` and constructors need none, nor do kept values and
 //!   `from_text`.

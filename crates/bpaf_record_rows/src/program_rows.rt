@@ -314,6 +314,19 @@ fn words_on_one_side_run_as_programs(rt: HostRuntime) -> Result<(), Fail> {
     compare(alloc, word().non_strict(), NON_STRICT_WORD)
 }
 
+const ADJACENT: &[Row<'static>] = &[
+    ("-n3", "ok 3"),
+    ("-n=3", "ok 3"),
+    ("-n 3", "refused"),
+    ("-n3 -n=3", "refused"),
+];
+
+#[test]
+fn an_adjacent_argument_runs_as_a_program(rt: HostRuntime) -> Result<(), Fail> {
+    let alloc = rt.alloc();
+    compare(alloc, number(alloc, 'n')?.adjacent(), ADJACENT)
+}
+
 const GROUP: &[Row<'static>] = &[
     ("a -v -n 3", "ok ((true, 3), \"a\")"),
     ("-n3 a", "ok ((false, 3), \"a\")"),
