@@ -6,7 +6,7 @@ use Rattle.bpaf_words.specs.Arguments.{Given}
 use Rattle.bpaf_words.specs.Spelling.{Known}
 use Rattle.bpaf_laws.specs.Reading.{Outcome}
 use Rattle.bpaf_exact.specs.Flat.{ByName}
-use Rattle.bpaf_exact.specs.FlatForm.{FlatForm, complete, is_record}
+use Rattle.bpaf_exact.specs.FlatForm.{FlatForm, complete, flat_con, is_record}
 use Rattle.bpaf_exact.specs.OneView.{Alike, HasOneView, pair_view}
 use Rattle.bpaf_exact.specs.Pieces.{Cells, LinePiece, Roles}
 use Rattle.bpaf_exact.specs.ProgramForm.{are_words_apart, plain, program_value}
@@ -21,7 +21,7 @@ use Rattle.bpaf_exact.specs.Record.{line_cells}
 use Rattle.bpaf_record.proofs.OneLine.{same_context}
 use Rattle.bpaf_program.specs.KnownParser.{makes}
 use Rattle.bpaf_program.specs.ReadBy.{IsProgramReadBy}
-use Rattle.bpaf_program.proofs.Seen.{IsSeen}
+use Rattle.bpaf_program.proofs.Seen.{IsSeen, con_seen}
 
 -- all values on the same cells look alike
 abbrev pub LooksOne : {T X : Type 0} → (T → X) → CellsValue T → Type 0
@@ -34,8 +34,9 @@ pub record AreSeen {T X : Type 0} (see : T → X) (words : List (List ℕ)) (val
   pub opened : (cs : Cells) (v : T) → value cs v → (ds : Cells) × Opens words cs ds
 
 -- a flat record
-pub record_look : {T X : Type 0} {outcome : Outcome T} {see : T → X} {names : List Names}
-    {form : FlatForm T} → IsSeen outcome see names form → is_record form ≡ true → LooksOne see (program_value (plain form))
+record_look : {T X : Type 0} {outcome : Outcome T} {see : T → X} {names : List Names}
+    {form : FlatForm T} → IsSeen outcome see names form → is_record form ≡ true
+    → LooksOne see (program_value (plain form))
 record_look {T} {X} {outcome} {see} {names} {form} is record_is =
     record_looks_one T X see outcome names form record_is is.law is.view
 
@@ -73,6 +74,17 @@ module _ {T X : Type 0} {see : T → X} where
           let o = one.opened cs v a in (o.0, opens_left words more o.1)
       choice_opened cs v (second_value a) =
           let o = other.opened cs v a in (o.0, opens_right words more o.1)
+
+-- a command over a flat record, whose constructor makes this of the fields
+pub record_seen : {V T X Y : Type 0} {outcome : Outcome V} {see : V → X} {names : List Names}
+    {fields : FlatForm V} (word : List ℕ) (make : V → T) (look : T → Y)
+    → IsSeen outcome see names fields
+    → ((x y : V) → see x ≡ see y → look (make x) ≡ look (make y))
+    → is_record (flat_con (makes make) fields) ≡ true
+    → AreSeen look (word ∷ [])
+    (CommandValue T (word ∷ []) (program_value (plain (flat_con (makes make) fields))))
+record_seen word make look is same record_is =
+    command_seen word (record_look (con_seen is make look same) record_is)
 
 module _ {T X B Y : Type 0} {see : T → X} (make : T → B) (look : B → Y)
     (same : (x y : T) → see x ≡ see y → look (make x) ≡ look (make y)) where

@@ -12,7 +12,8 @@ use Rattle.bpaf_laws.specs.Default.{DefaultDescribes, OptionalDescribes}
 use Rattle.bpaf_laws.specs.Product.{BothDescribes, LastDescribes, ProductDescribes}
 use Rattle.bpaf_laws.specs.Repeat.{ManyDescribes}
 use Rattle.bpaf_exact.proofs.SameParts as same
-use Rattle.bpaf_program.specs.KnownParser.{FieldsShowShorts, ShowsShorts, joined, shorts_of}
+use Rattle.bpaf_program.specs.KnownFields.{joined, shorts_of}
+use Rattle.bpaf_program.specs.KnownParser.{FieldsShowShorts, ShowsShorts}
 
 -- those of two lists of parts
 of_joined : (first second : List Part)
