@@ -86,12 +86,12 @@ argument_known {T} means key is =
 
 -- a word
 pub word_known : {T : Type 0} (means : List ℕ → T → Type 0) {position : Position}
-    → position ≡ Unrestricted → (metavar : List ℕ) (help : Option (List Piece))
+    → position ≡ Unrestricted → {metavar : List ℕ} (help : Option (List Piece))
     → IsField (known_word means) (PositionalOutcome means position metavar)
     (plain (positional_field means position)) (λ deep. [])
     (ShowsShorts (λ shape. shape ≡ positional_shape position metavar help)
     (known_word means).shorts)
-word_known {T} means is metavar help =
+word_known {T} means is {metavar} help =
     rw is (record {
       law = positional_field_law T means Unrestricted metavar;
       part_is = refl;

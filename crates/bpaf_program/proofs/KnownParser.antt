@@ -3,14 +3,14 @@ use Rattle.std.proofs.Common.{◌≡◌, All, Bool, true, false, List, [], ◌++
 use Rattle.std.proofs.Common.{Result, Ok, Err, IfOk, IsUtf8, ap, ap₂, inl, refl, subst, sym, ◌∙◌}
 use Rattle.bpaf_doc.specs.declared.doc.Piece.{Piece}
 use Rattle.bpaf_doc.specs.Names.{Names}
-use Rattle.bpaf_doc.specs.Shape.{Part, Shape}
+use Rattle.bpaf_doc.specs.Shape.{Shape}
 use Rattle.bpaf_words.specs.Arguments.{Given}
 use Rattle.bpaf_line.specs.Constructing.{IsContext}
 use Rattle.bpaf_line.specs.Situation.{Situation}
 use Rattle.bpaf_line.specs.declared.error.Error.{Error}
 use Rattle.bpaf_line.specs.declared.failure.ParseFailure.{ParseFailure}
 use Rattle.bpaf_laws.specs.Choice.{ChoiceDescribes, ChoiceOutcome}
-use Rattle.bpaf_laws.specs.Command.{Called, CommandDescribes, named_only, opening_words}
+use Rattle.bpaf_laws.specs.Command.{Called, CommandDescribes, CommandPart, named_only, opening_words}
 use Rattle.bpaf_laws.specs.Product.{BothDescribes, BothOutcome, LastDescribes, ProductDescribes}
 use Rattle.bpaf_laws.specs.Product.{ProductOutcome}
 use Rattle.bpaf_laws.specs.Reading.{Outcome}
@@ -95,17 +95,18 @@ module _ {T : Type 0} (word : List ℕ) (known : KnownParser T) {outcome : Outco
     {form : ProgramForm T} {keys : Bool → List Names} {words : List (List ℕ)}
     {describes : Shape → Type 0} (is : IsKnownParser known outcome form keys words describes) where
   -- a command over a program
-  pub command_known : (help : Option (List Piece)) (shows : Part → Type 0)
-      → are_unusual known.own plain_info ≡ true → {called : Called} → called ≡ named_only word
-      → {adjacent : Bool} → adjacent ≡ false → {info : RunInfo} → info ≡ plain_info
+  pub command_known : {help : Option (List Piece)} → are_unusual known.own plain_info ≡ true
+      → {called : Called} → called ≡ named_only word → {adjacent : Bool} → adjacent ≡ false
+      → {info : RunInfo} → info ≡ plain_info
       → IsKnownParser (known_command word known)
-      (EitherCommandOutcome adjacent T outcome (EndsRun describes info) called shows)
+      (EitherCommandOutcome adjacent T outcome (EndsRun describes info) called
+      (CommandPart called help describes))
       (program_command adjacent (are_unusual (keys false) info) called form)
       (λ deep. keys_inside deep (keys deep)) (opening_words called)
       (CommandDescribes called help describes)
-  command_known help shows unusual called_is plain_is info_is =
+  command_known {help} unusual called_is plain_is info_is =
       rw (called_is, plain_is, info_is) (record {
-        law = either_command_law T outcome describes plain_info (named_only word) shows false true
+        law = either_command_law T outcome describes plain_info (named_only word) _ false true
             known.all known.words known.form is.law;
         part_is = sym (command_part_is false _ (named_only word) form)
             ∙ (ap₂ command_part

@@ -158,20 +158,12 @@ module _ {V : Type 0} {value : V → Type 0} {text_of : V → List ℕ} (alike :
           exact = record { alike = alike; complete = exact.complete };
         }))
 
-    -- where memory is wanted for its text, that is
-    pub wanted_text : {r : Result (String Global) ParseFailure}
-        → IsErr r × IsErrAnd r (λ g. g ≡ Memory) → AnswersByText value text_of r
-    wanted_text {r} is =
-        handed_on (AnswersByText value text_of) r is
-        (λ g same. rw same (record {
-          given = tt;
-          exact = record { alike = alike; complete = λ w there. refl };
-        }))
-
-    -- else its text is
-    pub given_text : {v : V} → IsExactFor value (Ok v) → {text : String Global}
-        → string_bytes text ≡ text_of v → AnswersByText value text_of (Ok text)
-    given_text {v} exact {text} is = record {
+    -- else the text of the value is, or memory is wanted for it
+    pub given_text : {v : V} → IsExactFor value (Ok v) → (r : Result (String Global) ParseFailure)
+        → IsTextOrWant (text_of v) r → AnswersByText value text_of r
+    given_text {v} exact (Ok text) is = record {
       given = (v, exact.sound, is);
       exact = text_answered text_of alike v exact.sound text is;
     }
+    given_text exact (Err f) is =
+        record { given = tt; exact = record { alike = alike; complete = λ w there. is } }

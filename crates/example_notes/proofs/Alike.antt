@@ -10,17 +10,16 @@ use Rattle.example_notes.specs.Notes as notes
 -- of all values the lines are seen
 pub same_lines : (words : List String) → of.Alike lines (notes.IsNotesOf (map string_bytes words))
 same_lines words =
-    let name = of.alone_seen (of.field_seen (of.text_word_seen [])) in
+    let name = of.last_seen (of.text_word_seen []) in
     of.program_looks_one (of.made_look notes.notes_of lines
     (λ x y same. rw (ap (λ p. p.0) same, ap (λ p. p.1.0) same, ap (λ p. p.1.1) same) refl)
     (of.then_look (of.field_seen (of.switch_seen notes.verbose_names)).view
     (of.then_look (of.field_seen (of.optional_seen (of.text_seen notes.dir_key))).view
     (of.choice_seen (of.record_seen (codes "add") notes.add_of task_lines
-    (of.both_seen (of.field_seen (of.many_seen (of.text_seen notes.tag_key)))
-    (of.alone_seen (of.field_seen (of.many_seen (of.text_word_seen [])))))
-    (λ x y same. rw (ap (λ p. p.0) same, ap (λ p. p.1) same) refl) refl)
-    (of.choice_seen (of.record_seen (codes "list") task.List task_lines (of.alone_seen
-    (of.field_seen (of.default_seen (of.number_seen 64 notes.max_key) 10))) (λ x y same. cc) refl)
+    (of.fields_seen (of.many_seen (of.text_seen notes.tag_key)) (of.last_seen (of.many_seen
+    (of.text_word_seen [])))) (λ x y same. rw (ap (λ p. p.0) same, ap (λ p. p.1) same) refl) refl)
+    (of.choice_seen (of.record_seen (codes "list") task.List task_lines (of.last_seen
+    (of.default_seen (of.number_seen 64 notes.max_key) 10)) (λ x y same. cc) refl)
     (of.made_seen task.Tag task_lines (λ x y same. same) (of.command_seen (codes "tag")
     (of.choice_seen (of.record_seen (codes "add") tag.Add tag_lines name (λ x y same. cc) refl)
     (of.record_seen (codes "remove") tag.Remove tag_lines name (λ x y same. cc) refl) refl).look))

@@ -1,5 +1,5 @@
-//! The options of the program. Each command stands in a function of its own, which is handed the
-//! parsers of those before it; the last one runs all.
+//! The options of the program. They are made in several functions, each of which is handed a parser
+//! of what was made before; the last one runs all.
 ghost use Rattle.std.specs.Prelude.{◌≡◌, IfOk, false, map, string_bytes};
 ghost use Rattle.bpaf.specs.Info.{plain_info};
 ghost use Rattle.bpaf_laws.specs.Command.{named_only};
@@ -67,9 +67,9 @@ fn with_tag<P: ProgramField<Tag> + Drop>(
         (P.words tag) (P.describes tag) }
     ensures { AnswersNotes (map string_bytes words.now) result }
 {
-    let tag = command(alloc, "tag", tag)?.map(|tag| Task::Tag(tag));
     let max = max(alloc)?;
     let list = command(alloc, "list", construct!(Task::List { max }))?;
+    let tag = command(alloc, "tag", tag)?.map(|tag| Task::Tag(tag));
     with_others(alloc, words, construct!([list, tag]))
 }
 

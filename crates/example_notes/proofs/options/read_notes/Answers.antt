@@ -8,8 +8,8 @@ pub with_tag-requires-clause-tag : goal.with_tag-requires-clause-tag
 with_tag-requires-clause-tag c =
     of.choice_known add_name remove_name
     (of.command_known (codes "add") (name_record tag.Add)
-    (of.record_known tag.Add name (of.alone_known (of.word_known of.MeansText (search rules) _ _))
-    (λ x v e. search rules)) _ _ refl (search rules) (search rules) (search rules))
+    (of.record_known tag.Add name (of.alone_known (of.word_known of.MeansText (search rules) _))
+    (λ x v e. search rules)) refl (search rules) (search rules) (search rules))
     (of.command_known (codes "remove") (name_record tag.Remove)
-    (of.record_known tag.Remove name (of.alone_known (of.word_known of.MeansText (search rules) _ _))
-    (λ x v e. search rules)) _ _ refl (search rules) (search rules) (search rules))
+    (of.record_known tag.Remove name (of.alone_known (of.word_known of.MeansText (search rules) _))
+    (λ x v e. search rules)) refl (search rules) (search rules) (search rules))

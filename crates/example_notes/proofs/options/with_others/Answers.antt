@@ -9,6 +9,6 @@ with_task-requires-clause-task g c =
     of.choice_known notes.add_command notes.other_commands
     (of.command_known (codes "add") notes.add_record (of.record_known notes.add_of notes.add_fields
     (of.fields_known (of.many_known (of.argument_known of.MeansText notes.tag_key (search rules))
-    (search rules)) (of.alone_known (of.many_known (of.word_known of.MeansText (search rules) _ _)
-    (search rules)))) (λ x v e. search rules)) _ _ refl (search rules) (search rules)
+    (search rules)) (of.alone_known (of.many_known (of.word_known of.MeansText (search rules) _)
+    (search rules)))) (λ x v e. search rules)) refl (search rules) (search rules)
     (search rules)) (rw (← others) at c.requires.others)

@@ -10,7 +10,7 @@ with_others-requires-clause-others g c =
     of.choice_known list_command (of.known_map task.Tag on_tag)
     (of.command_known (codes "list") list_record (of.record_known task.List max (of.alone_known
     (of.default_known (of.argument_known (of.SpellsUnsigned 64) max_key (search rules)) 10
-    (search rules) _)) (λ x v e. search rules)) _ _ refl (search rules) (search rules)
+    (search rules) _)) (λ x v e. search rules)) refl (search rules) (search rules)
     (search rules)) (of.map_known task.Tag on_tag (of.command_known (codes "tag") tag_commands
-    (rw (← tag) at c.requires.tag) _ _ refl (search rules) (search rules) (search rules))
+    (rw (← tag) at c.requires.tag) refl (search rules) (search rules) (search rules))
     (λ x v e. search rules))

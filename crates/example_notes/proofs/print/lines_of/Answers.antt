@@ -6,9 +6,5 @@ pub returns-in_err-notes : goal.returns-in_err-notes
 returns-in_err-notes c =
     of.refused_text (same_lines c.args.words.now) c.in_err-notes.ensures c.from_residual.ensures
 
-pub returns-in_err-text_of : goal.returns-in_err-text_of
-returns-in_err-text_of c =
-    of.wanted_text (same_lines c.args.words.now) c.from_residual-in_err-text_of.ensures
-
 pub returns : goal.returns
-returns c = of.given_text (same_lines c.args.words.now) c.in_ok-notes.ensures c.in_ok-text_of.ensures
+returns c = of.given_text (same_lines c.args.words.now) c.in_ok-notes.ensures _ c.text_of.ensures
