@@ -25,8 +25,8 @@ joined one other = record {
   arguments = one.arguments ++ other.arguments;
 }
 
--- a field, or fields: the names of its keys, the short names that it shows, and what it is to a flat
--- record
+-- a field, or fields: the names of its keys, the short names that it shows, and what it is to a
+-- flat record
 pub record KnownField (T : Type 0) : Type 1 where
   pub names : List Names
   pub shorts : ShortNames

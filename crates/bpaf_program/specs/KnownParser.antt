@@ -1,5 +1,5 @@
--- What is known of the parsers that a function of a program is handed: keys, words of commands, short
--- names and form, each told by the program alone.
+-- What is known of the parsers that a function of a program is handed: keys, words of commands,
+-- short names and form, each told by the program alone.
 use Rattle.std.specs.Prelude.{◌≡◌, Bool, true, false, List, [], ◌∷◌, ◌++◌, ℕ, codes}
 use Rattle.bpaf_doc.specs.Names.{Names}
 use Rattle.bpaf_doc.specs.Shape.{Shape, members}
@@ -20,7 +20,8 @@ use Rattle.bpaf_program.specs.KnownFields.{KnownField, joined, shorts_of}
 abbrev pub makes : {A B : Type 0} → (A → B) → Closure A B
 makes make = map_closure (λ x v. v ≡ make x)
 
--- the names by which the words of a program that shows these are read: with those of help and version
+-- the names by which the words of a program that shows these are read: with those of help and
+-- version
 abbrev pub program_names : ShortNames → Known
 program_names shorts =
     knowing (record {
