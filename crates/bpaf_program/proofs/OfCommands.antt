@@ -1,7 +1,6 @@
 -- What the proofs of a program with commands cite, in one place.
 pub use Rattle.bpaf_text.specs.Meaning.{SpellsUnsigned}
 pub use Rattle.bpaf_exact.specs.OneView.{Alike}
-pub use Rattle.bpaf_program.specs.KnownFields.{known_argument, known_optional, known_switch}
 pub use Rattle.bpaf_program.specs.KnownParser.{known_last, known_map, program_names}
 pub use Rattle.bpaf_program.specs.Values.{MeansText}
 pub use Rattle.bpaf_program.proofs.KnownFields.{alone_known, argument_known, default_known}
@@ -13,8 +12,7 @@ pub use Rattle.bpaf_program.proofs.KnownParser.{record_known, whole_known}
 pub use Rattle.bpaf_program.proofs.Running.{are_texts, given_text, prints_text, refused_text}
 pub use Rattle.bpaf_program.proofs.Running.{runs_to_said}
 pub use Rattle.bpaf_program.proofs.Seen.{default_seen, field_seen, many_seen, number_seen}
-pub use Rattle.bpaf_program.proofs.Seen.{optional_seen, switch_seen}
-pub use Rattle.bpaf_program.proofs.Seen.{text_seen, text_word_seen}
+pub use Rattle.bpaf_program.proofs.Seen.{optional_seen, switch_seen, text_seen, text_word_seen}
 pub use Rattle.bpaf_program.proofs.SeenPrograms.{choice_seen, command_seen, fields_seen}
 pub use Rattle.bpaf_program.proofs.SeenPrograms.{last_seen, made_look, made_seen}
 pub use Rattle.bpaf_program.proofs.SeenPrograms.{program_looks_one, record_seen, then_look}
