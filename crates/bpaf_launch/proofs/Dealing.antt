@@ -11,15 +11,10 @@ use Rattle.bpaf_laws.specs.Reading.{Outcome}
 use Rattle.bpaf_laws.specs.Repeat.{ManyDescribes, ManyOutcome}
 use Rattle.bpaf_core.specs.Run.{RunsWords}
 use Rattle.bpaf.specs.Positional.{PositionalOutcome, positional_shape}
-use Rattle.bpaf_exact.proofs.Flags.{flag_field_law}
-use Rattle.bpaf_exact.proofs.Twins.{many_field_law}
-use Rattle.bpaf_text.specs.Named.{key_named, with_help}
-use Rattle.bpaf_record.specs.Positional.{positional_field_law}
-use Rattle.bpaf_program.specs.KnownParser.{known_last}
+use Rattle.bpaf_program.specs.KnownFields.{known_switch, known_word}
+use Rattle.bpaf_program.proofs.KnownFields.{many_known, switch_known, word_known}
 use Rattle.bpaf_program.proofs.KnownParser.{both_known, con_known, last_known, program_exactly}
-use Rattle.bpaf_program.proofs.ShownShorts.{many_shows, one_shows}
-use Rattle.bpaf_launch.specs.Exact.{AnswersLaunch, after_verbose, fields, launcher, passed, switch}
-use Rattle.bpaf_launch.specs.Exact.{words as words_known}
+use Rattle.bpaf_launch.specs.Exact.{AnswersLaunch, fields, launcher}
 use Rattle.bpaf_doc.specs.declared.doc.Piece.{Piece}
 use Rattle.bpaf_doc.specs.Names.{Names}
 use Rattle.bpaf_doc.specs.Shape.{Shape}
@@ -33,7 +28,7 @@ use Rattle.bpaf.specs.Positional.{accepts}
 use Rattle.bpaf.specs.declared.leaves.positional.ParsePositional.{ParsePositional}
 use Rattle.bpaf_exact.specs.Derived.{list_closure}
 use Rattle.bpaf_exact.specs.Flat.{OneWord, back, front}
-use Rattle.bpaf_exact.specs.Leaves.{flag_field, non_strict_field, strict_field}
+use Rattle.bpaf_exact.specs.Leaves.{flag_field}
 use Rattle.bpaf_exact.specs.ProgramForm.{ProgramForm, plain, program_alone, program_both, program_con}
 use Rattle.bpaf_exact.specs.ProgramForm.{program_field, program_repeat}
 use Rattle.bpaf_exact.specs.ProgramSays.{CutSays}
@@ -181,28 +176,14 @@ module _ {verbose_help dry_run_help name_help words_help : List Piece}
   launch_exact {made} only info_is own given_is texts r runs =
       program_exactly launcher
       (con_known launch_of fields
-      (both_known _ _ (switch verbose_names) after_verbose _
-      (flag_field_law Bool IsKept (with_help (key_named verbose_names) verbose_help) true
-      (Some false)) (one_shows _)
-      (both_known _ _ (switch dry_run_names) words_known _
-      (flag_field_law Bool IsKept (with_help (key_named dry_run_names) dry_run_help) true
-      (Some false)) (one_shows _)
-      (both_known [] _ (non_strict_field MeansText) (known_last passed) _
-      (positional_field_law String MeansText NonStrict name.metavar.0.now) (one_shows _)
-      (last_known passed {words = []} (record {
-        law = many_field_law String _ false [] (strict_field MeansText)
-            (positional_field_law String MeansText Strict words.metavar.0.now);
-        shown = many_shows (one_shows _);
-      }))))) only)
-      info_is refl given_is texts r
-      (rw (
-        is_verbose.named_is,
-        is_verbose.present_is,
-        is_verbose.absent_is,
-        is_dry_run.named_is,
-        is_dry_run.present_is,
-        is_dry_run.absent_is,
-        is_name.position_is,
-        is_words.position_is,
-        no_catch,
-      ) at runs)
+      (both_known (known_switch verbose_names) _
+      (switch_known verbose_names (Some verbose_help) is_verbose.named_is is_verbose.present_is
+      is_verbose.absent_is)
+      (both_known (known_switch dry_run_names) _
+      (switch_known dry_run_names (Some dry_run_help) is_dry_run.named_is is_dry_run.present_is
+      is_dry_run.absent_is)
+      (both_known (known_word MeansText NonStrict) _
+      (word_known MeansText NonStrict is_name.position_is name.help)
+      (last_known _ (many_known (word_known MeansText Strict is_words.position_is words.help)
+      no_catch))))) only)
+      _ info_is refl given_is texts r runs

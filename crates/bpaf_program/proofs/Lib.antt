@@ -9,6 +9,7 @@ pub mod Running
 pub mod Seen
 pub mod Shown
 pub mod ShownShorts
+pub mod KnownFields
 pub mod KnownParser
 pub mod SeenPrograms
 pub mod OfCommands

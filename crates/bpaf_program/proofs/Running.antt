@@ -14,7 +14,10 @@ use Rattle.bpaf_line.specs.declared.failure.ParseFailure.TheVariants.{Stdout, St
 use Rattle.bpaf.specs.Asked.{IfShown}
 use Rattle.bpaf_program.specs.Ending.{AppendsPart, IsPrinted, IsTold, no_memory, printed_in_part}
 use Rattle.bpaf_program.specs.Ending.{printed_whole, refused, shown, shown_in_part, told}
-use Rattle.bpaf_program.specs.Running.{AnswersText, AnswersTextOf, FailsToWrite, IsTextOrWant}
+use Rattle.bpaf_exact.specs.OneView.{Alike}
+use Rattle.bpaf_program.specs.ReadBy.{IsExactFor}
+use Rattle.bpaf_program.specs.Running.{AnswersByText, AnswersText, AnswersTextOf, FailsToWrite}
+use Rattle.bpaf_program.specs.Running.{IsTextOrWant}
 use Rattle.bpaf_program.specs.Running.{OrPage, Prints, PrintsTextOf, RunsTo, WritesText, in_part}
 use Rattle.bpaf_program.specs.Running.{memory_wanted, message, write_failed, written}
 
@@ -141,3 +144,26 @@ text_answered text_of alike v there text is = record {
   alike = alike;
   complete = λ w other. is ∙ alike v w there other;
 }
+
+module _ {V : Type 0} {value : V → Type 0} {text_of : V → List ℕ} (alike : Alike text_of value)
+  where
+    -- where no value is answered, the refusal is
+    pub refused_text : {f : ParseFailure} → IsExactFor value (Err f)
+        → {r : Result (String Global) ParseFailure} → IsErr r × IsErrAnd r (λ g. g ≡ f)
+        → AnswersByText value text_of r
+    refused_text exact {r} is =
+        handed_on (AnswersByText value text_of) r is
+        (λ g same. rw same (record {
+          given = tt;
+          exact = record { alike = alike; complete = exact.complete };
+        }))
+
+    -- else the text of the value is, or memory is wanted for it
+    pub given_text : {v : V} → IsExactFor value (Ok v) → (r : Result (String Global) ParseFailure)
+        → IsTextOrWant (text_of v) r → AnswersByText value text_of r
+    given_text {v} exact (Ok text) is = record {
+      given = (v, exact.sound, is);
+      exact = text_answered text_of alike v exact.sound text is;
+    }
+    given_text exact (Err f) is =
+        record { given = tt; exact = record { alike = alike; complete = λ w there. is } }

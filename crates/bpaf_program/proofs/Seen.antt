@@ -133,6 +133,12 @@ module _ {T X : Type 0} {outcome : Outcome T} {see : T → X} {names : List Name
     view = fallback_view T X see outcome (kept_closure (clones kept)) one names form is.law is.view;
   }
 
+  -- what is this value where it is left out
+  pub default_seen : (value : T)
+      → IsSeen (FallbackOutcome outcome (GivesClone (λ own v. v ≡ own) value)) see names
+      (flat_fallback (kept_closure (λ v. v ≡ value)) form)
+  default_seen value = fallback_seen (λ own v. v ≡ own) value (λ v w a b. ap see (a ∙ sym b))
+
   -- a field
   pub field_seen : IsSeen outcome see names (flat_field form)
   field_seen = record {

@@ -4,9 +4,11 @@ use Rattle.std.proofs.Common.{subst, sym, ◌∙◌}
 use Rattle.bpaf_doc.specs.Names.{Names}
 use Rattle.bpaf_words.specs.Arguments.{Given}
 use Rattle.bpaf_words.specs.Spelling.{Known}
+use Rattle.bpaf_laws.specs.Product.{BothOutcome}
 use Rattle.bpaf_laws.specs.Reading.{Outcome}
 use Rattle.bpaf_exact.specs.Flat.{ByName}
-use Rattle.bpaf_exact.specs.FlatForm.{FlatForm, complete, is_record}
+use Rattle.bpaf_exact.specs.FlatForm.{FlatForm, complete, flat_alone, flat_both, flat_con}
+use Rattle.bpaf_exact.specs.FlatForm.{flat_field, is_record}
 use Rattle.bpaf_exact.specs.OneView.{Alike, HasOneView, pair_view}
 use Rattle.bpaf_exact.specs.Pieces.{Cells, LinePiece, Roles}
 use Rattle.bpaf_exact.specs.ProgramForm.{are_words_apart, plain, program_value}
@@ -21,7 +23,7 @@ use Rattle.bpaf_exact.specs.Record.{line_cells}
 use Rattle.bpaf_record.proofs.OneLine.{same_context}
 use Rattle.bpaf_program.specs.KnownParser.{makes}
 use Rattle.bpaf_program.specs.ReadBy.{IsProgramReadBy}
-use Rattle.bpaf_program.proofs.Seen.{IsSeen}
+use Rattle.bpaf_program.proofs.Seen.{IsSeen, alone_seen, both_seen, con_seen, field_seen}
 
 -- all values on the same cells look alike
 abbrev pub LooksOne : {T X : Type 0} → (T → X) → CellsValue T → Type 0
@@ -74,6 +76,31 @@ module _ {T X : Type 0} {see : T → X} where
           let o = one.opened cs v a in (o.0, opens_left words more o.1)
       choice_opened cs v (second_value a) =
           let o = other.opened cs v a in (o.0, opens_right words more o.1)
+
+-- a last field of a record
+pub last_seen : {T X : Type 0} {outcome : Outcome T} {see : T → X} {names : List Names}
+    {form : FlatForm T} → IsSeen outcome see names form
+    → IsSeen outcome see names (flat_alone (flat_field form))
+last_seen is = alone_seen (field_seen is)
+
+-- one before other fields
+pub fields_seen : {A B X Y : Type 0} {see : A → X} {look : B → Y} {own others : List Names}
+    {first : FlatForm A} {rest : FlatForm B} {outcome : Outcome A} {outcomes : Outcome B}
+    → IsSeen outcome see own first → IsSeen outcomes look others rest
+    → IsSeen (BothOutcome outcome outcomes) (pair_view see look) (own ++ others)
+    (flat_both own others (flat_field first) rest)
+fields_seen one more = both_seen (field_seen one) more
+
+-- a command over a flat record, whose constructor makes this of the fields
+pub record_seen : {V T X Y : Type 0} {outcome : Outcome V} {see : V → X} {names : List Names}
+    {fields : FlatForm V} (word : List ℕ) (make : V → T) (look : T → Y)
+    → IsSeen outcome see names fields
+    → ((x y : V) → see x ≡ see y → look (make x) ≡ look (make y))
+    → is_record (flat_con (makes make) fields) ≡ true
+    → AreSeen look (word ∷ [])
+    (CommandValue T (word ∷ []) (program_value (plain false (flat_con (makes make) fields))))
+record_seen word make look is same record_is =
+    command_seen word (record_look (con_seen is make look same) record_is)
 
 module _ {T X B Y : Type 0} {see : T → X} (make : T → B) (look : B → Y)
     (same : (x y : T) → see x ≡ see y → look (make x) ≡ look (make y)) where

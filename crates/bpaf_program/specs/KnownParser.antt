@@ -1,25 +1,18 @@
--- What is known of the parsers that a function of a program is handed: keys, words of commands, short
--- names and form, each told by the program alone.
+-- What is known of the parsers that a function of a program is handed: keys, words of commands,
+-- short names and form, each told by the program alone.
 use Rattle.std.specs.Prelude.{◌≡◌, Bool, true, false, List, [], ◌∷◌, ◌++◌, ℕ, codes}
 use Rattle.bpaf_doc.specs.Names.{Names}
-use Rattle.bpaf_doc.specs.Shape.{Shape, members}
+use Rattle.bpaf_doc.specs.Shape.{Part, Shape, members}
 use Rattle.bpaf_doc.specs.Walks.{parts, parts_of_all, shorts_of_arguments, shorts_of_flags}
-use Rattle.bpaf_doc.specs.Shape.{Part}
 use Rattle.bpaf_words.specs.Spelling.{Known, ShortNames, knowing}
 use Rattle.bpaf_laws.specs.Command.{named_only}
 use Rattle.bpaf_laws.specs.Reading.{Outcome}
-use Rattle.bpaf_exact.specs.FlatForm.{FlatForm}
-use Rattle.bpaf_exact.specs.ProgramForm.{ProgramForm, ProgramFormLaw, plain}
+use Rattle.bpaf_exact.specs.ProgramForm.{ProgramForm, ProgramFormLaw}
 use Rattle.bpaf_exact.specs.ProgramForm.{program_alone, program_both, program_choice, program_closed}
 use Rattle.bpaf_exact.specs.ProgramForm.{program_command, program_con, program_field}
 use Rattle.bpaf_exact.specs.SameParts.{FieldsShowTheSame, ShowsTheSame}
 use Rattle.bpaf_exact.specs.Wrappers.{Closure, map_closure}
 use Rattle.bpaf_record.specs.Part.{part_of}
-use Rattle.bpaf_record.specs.declared.part.ProgramPart.TheVariants.{Commands}
-
--- a closure that makes this of a value
-abbrev pub makes : {A B : Type 0} → (A → B) → Closure A B
-makes make = map_closure (λ x v. v ≡ make x)
 
 -- the short names of flags and of arguments among parts
 abbrev pub shorts_of : List Part → ShortNames
@@ -36,7 +29,12 @@ joined one other = record {
   arguments = one.arguments ++ other.arguments;
 }
 
--- the names by which the words of a program that shows these are read: with those of help and version
+-- a closure that makes this of a value
+abbrev pub makes : {A B : Type 0} → (A → B) → Closure A B
+makes make = map_closure (λ x v. v ≡ make x)
+
+-- the names by which the words of a program that shows these are read: with those of help and
+-- version
 abbrev pub program_names : ShortNames → Known
 program_names shorts =
     knowing (record {
@@ -52,16 +50,6 @@ pub record KnownParser (T : Type 0) : Type 1 where
   pub words : List (List ℕ)
   pub shorts : ShortNames
   pub form : ProgramForm T
-
--- a flat record
-abbrev pub known_record : {T : Type 0} → List Names → ShortNames → FlatForm T → KnownParser T
-known_record names shorts form = record {
-  own = names;
-  all = names;
-  words = [];
-  shorts = shorts;
-  form = plain false form;
-}
 
 -- a command over a program
 abbrev pub known_command : {T : Type 0} → List ℕ → KnownParser T → KnownParser T
@@ -93,36 +81,33 @@ known_map make inner = record {
   form = program_closed (makes make) inner.form;
 }
 
--- as the last field
-abbrev pub known_last : {T : Type 0} → KnownParser T → KnownParser T
-known_last inner = record {
+-- with this form in place of its own, and without the words of its commands
+abbrev pub known_as : {A B : Type 0} → ProgramForm B → KnownParser A → KnownParser B
+known_as form inner = record {
   own = inner.own;
   all = inner.all;
   words = [];
   shorts = inner.shorts;
-  form = program_alone (program_field inner.form);
+  form = form;
 }
 
--- behind a field of this form, with these names
-abbrev pub known_both : {A B : Type 0} → List Names → ShortNames → FlatForm A → KnownParser B
-    → KnownParser (A × B)
-known_both names shorts form rest = record {
-  own = names ++ rest.own;
-  all = names ++ rest.all;
+-- as the last field
+abbrev pub known_last : {T : Type 0} → KnownParser T → KnownParser T
+known_last inner = known_as (program_alone (program_field inner.form)) inner
+
+-- a field in front of others
+abbrev pub known_both : {A B : Type 0} → KnownParser A → KnownParser B → KnownParser (A × B)
+known_both first rest = record {
+  own = first.own ++ rest.own;
+  all = first.all ++ rest.all;
   words = [];
-  shorts = joined shorts rest.shorts;
-  form = program_both names rest.all (program_field (plain false form)) rest.form;
+  shorts = joined first.shorts rest.shorts;
+  form = program_both first.all rest.all (program_field first.form) rest.form;
 }
 
 -- with a constructor that makes this of the fields
 abbrev pub known_con : {A B : Type 0} → (A → B) → KnownParser A → KnownParser B
-known_con make fields = record {
-  own = fields.own;
-  all = fields.all;
-  words = [];
-  shorts = fields.shorts;
-  form = program_con (makes make) fields.form;
-}
+known_con make fields = known_as (program_con (makes make) fields.form) fields
 
 -- a parser shows these short names, in each shape
 pub record ShowsShorts (describes : Shape → Type 0) (names : ShortNames) : Type 0 where
@@ -138,18 +123,20 @@ pub record FieldsShowShorts (describe : List Shape → Type 0) (names : ShortNam
   pub are : shorts_of (parts_of_all (members shapes)) ≡ names
   pub same : FieldsShowTheSame describe
 
--- a parser, or fields, keep to the law of what is known, with these words of commands, and show it
+-- a parser, or fields, keep to the law of what is known; their part, keys and words are the known
+-- ones, and what they show is
 pub record IsKnownBy {T : Type 0} (known : KnownParser T) (outcome : Outcome T)
-    (words : List (List ℕ)) (shows : Type 0) : Type 0 where
-  pub law : ProgramFormLaw outcome known.all words known.form
-  pub shown : shows
-
--- a parser is these commands, and has these keys and words
-pub record AreCommands {T : Type 0} (known : KnownParser T) (outcome : Outcome T)
-    (form : ProgramForm T) (keys : Bool → List Names) (words : List (List ℕ))
-    (describes : Shape → Type 0) : Type 0 where
-  pub by : IsKnownBy known outcome known.words (ShowsShorts describes known.shorts)
-  pub part_is : part_of form ≡ Commands
+    (form : ProgramForm T) (keys : Bool → List Names) (words : List (List ℕ)) (shows : Type 0)
+    : Type 0 where
+  pub law : ProgramFormLaw outcome known.all known.words known.form
+  pub part_is : part_of form ≡ part_of known.form
   pub own_are : keys false ≡ known.own
   pub all_are : keys true ≡ known.all
   pub words_are : words ≡ known.words
+  pub shown : shows
+
+-- a parser is known, and shows the known short names
+abbrev pub IsKnownParser : {T : Type 0} → KnownParser T → Outcome T → ProgramForm T
+    → (Bool → List Names) → List (List ℕ) → (Shape → Type 0) → Type 0
+IsKnownParser known outcome form keys words describes =
+    IsKnownBy known outcome form keys words (ShowsShorts describes known.shorts)

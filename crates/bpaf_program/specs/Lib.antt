@@ -7,4 +7,5 @@ pub mod ReadBy
 pub mod Values
 pub mod Fields
 pub mod Texts
+pub mod KnownFields
 pub mod KnownParser

@@ -1,6 +1,6 @@
 -- What a program writes that answers its words with a text.
 use Rattle.std.specs.Prelude.{◌≡◌, ◌⊎◌, ℕ, Bool, List, Option, Result, Ok, Err, String}
-use Rattle.std.specs.Prelude.{string_bytes}
+use Rattle.std.specs.Prelude.{IfOk, string_bytes}
 use Rattle.std.specs.declared.alloc.Global.{Global}
 use Rattle.std.specs.Io.KnownBytes.{Keeps, Appends}
 use Rattle.bpaf_doc.specs.declared.doc.Piece.{Piece}
@@ -56,6 +56,16 @@ pub record AnswersTextOf {V : Type 0} (value : V → Type 0) (text_of : V → Li
     (r : Result (String Global) ParseFailure) : Type 0 where
   pub alike : (v w : V) → value v → value w → text_of v ≡ text_of w
   pub complete : (v : V) → value v → IsTextOrWant (text_of v) r
+
+-- a text is that of one of these values
+abbrev pub IsTextOf : {V : Type 0} → (V → Type 0) → (V → List ℕ) → List ℕ → Type 0
+IsTextOf {V = V} value text_of text = (v : V) × value v × (text ≡ text_of v)
+
+-- what is given is the text of one of these values; and where there is one, the answer is exact
+pub record AnswersByText {V : Type 0} (value : V → Type 0) (text_of : V → List ℕ)
+    (r : Result (String Global) ParseFailure) : Type 0 where
+  pub given : IfOk r (λ text. IsTextOf value text_of (string_bytes text))
+  pub exact : AnswersTextOf value text_of r
 
 -- a run prints a text: it is written; or a write failed, and a beginning of it is; or memory was
 -- wanted, which alone is told

@@ -1,12 +1,14 @@
-//! The options of the program. Each command stands in a function of its own, which is handed the
-//! parsers of those before it; the last one runs all.
+//! The options of the program. They are made in several functions, each of which is handed a parser
+//! of what was made before; the last one runs all.
 ghost use Rattle.std.specs.Prelude.{◌≡◌, IfOk, false, map, string_bytes};
-ghost use Rattle.bpaf_program.specs.KnownParser.{AreCommands};
-ghost use Rattle.example_notes.specs.Notes.{AnswersNotes, add_command, commands, dir_key};
-ghost use Rattle.example_notes.specs.Notes.{list_command, max_key, name_commands, tag_key};
+ghost use Rattle.bpaf.specs.Info.{plain_info};
+ghost use Rattle.bpaf_laws.specs.Command.{named_only};
+ghost use Rattle.bpaf_program.specs.KnownParser.{IsKnownParser};
+ghost use Rattle.example_notes.specs.Notes.{AnswersNotes, commands, dir_key, max_key};
+ghost use Rattle.example_notes.specs.Notes.{notes_parser, other_commands, tag_commands, tag_key};
 
 use bpaf::params::ParseArgument;
-use bpaf::parsers::{ParseFallback, ParseMany, ParseOptional};
+use bpaf::parsers::{ParseCommand, ParseFallback, ParseMany, ParseOptional};
 use bpaf::{Args, ParseFailure, Parser, construct, positional, short};
 use bpaf_record::{CommandLine, ProgramField};
 use std::alloc::{AllocError, Global};
@@ -47,89 +49,90 @@ pub enum Tag {
 pub fn read_notes(alloc: Global, words: &[String]) -> Result<Notes, ParseFailure>
     ensures { AnswersNotes (map string_bytes words.now) result }
 {
-    let tags = tags(alloc)?;
-    let texts = positional::<String>("TEXT").many();
-    let add = construct!(Task::Add { tags, texts }).to_options(alloc)?;
-    with_list(alloc, words, add.command("add")?)
+    let name = positional::<String>("NAME");
+    let add = command(alloc, "add", construct!(Tag::Add { name }))?;
+    let name = positional::<String>("NAME");
+    let remove = command(alloc, "remove", construct!(Tag::Remove { name }))?;
+    with_tag(alloc, words, construct!([add, remove]))
 }
 
-/// The same by `add [-t TAG].. [TEXT]..`, and `list [-n NUM]`.
-fn with_list<A: ProgramField<Task> + Drop>(
+/// The same by `tag add NAME` and `tag remove NAME`, and `list [-n NUM]`.
+fn with_tag<P: ProgramField<Tag> + Drop>(
     alloc: Global,
     words: &[String],
-    add: A,
+    tag: P,
 ) -> Result<Notes, ParseFailure>
-    requires can { A.can_eval add }
-    requires add { AreCommands add_command (A.outcome add) (A.program_form add) (A.keys add) (A.words add)
-        (A.describes add) }
+    requires can { P.can_eval tag }
+    requires tag { IsKnownParser tag_commands (P.outcome tag) (P.program_form tag) (P.keys tag)
+        (P.words tag) (P.describes tag) }
     ensures { AnswersNotes (map string_bytes words.now) result }
 {
     let max = max(alloc)?;
-    let list = construct!(Task::List { max }).to_options(alloc)?;
-    with_tag(alloc, words, add, list.command("list")?)
+    let list = command(alloc, "list", construct!(Task::List { max }))?;
+    let tag = command(alloc, "tag", tag)?.map(|tag| Task::Tag(tag));
+    with_others(alloc, words, construct!([list, tag]))
 }
 
-/// The same by these two, `tag add NAME`, and `tag remove NAME`.
-fn with_tag<A: ProgramField<Task> + Drop, L: ProgramField<Task> + Drop>(
+/// The same by these, and `add [-t TAG].. [TEXT]..`.
+fn with_others<P: ProgramField<Task> + Drop>(
     alloc: Global,
     words: &[String],
-    add: A,
-    list: L,
+    others: P,
 ) -> Result<Notes, ParseFailure>
-    requires can_add { A.can_eval add }
-    requires can_list { L.can_eval list }
-    requires add { AreCommands add_command (A.outcome add) (A.program_form add) (A.keys add) (A.words add)
-        (A.describes add) }
-    requires list { AreCommands list_command (L.outcome list) (L.program_form list) (L.keys list)
-        (L.words list) (L.describes list) }
+    requires can { P.can_eval others }
+    requires others { IsKnownParser other_commands (P.outcome others) (P.program_form others)
+        (P.keys others) (P.words others) (P.describes others) }
     ensures { AnswersNotes (map string_bytes words.now) result }
 {
-    let name = positional::<String>("NAME");
-    let add_name = construct!(Tag::Add { name }).to_options(alloc)?;
-    let add_name = add_name.command("add")?;
-    let name = positional::<String>("NAME");
-    let remove_name = construct!(Tag::Remove { name }).to_options(alloc)?;
-    let remove_name = remove_name.command("remove")?;
-    with_commands(alloc, words, add, list, construct!([add_name, remove_name]))
-}
-
-/// The same by all of these.
-fn with_commands<
-    A: ProgramField<Task> + Drop,
-    L: ProgramField<Task> + Drop,
-    N: ProgramField<Tag> + Drop,
->(alloc: Global, words: &[String], add: A, list: L, name: N) -> Result<Notes, ParseFailure>
-    requires can_add { A.can_eval add }
-    requires can_list { L.can_eval list }
-    requires can_name { N.can_eval name }
-    requires add { AreCommands add_command (A.outcome add) (A.program_form add) (A.keys add) (A.words add)
-        (A.describes add) }
-    requires list { AreCommands list_command (L.outcome list) (L.program_form list) (L.keys list)
-        (L.words list) (L.describes list) }
-    requires name { AreCommands name_commands (N.outcome name) (N.program_form name) (N.keys name)
-        (N.words name) (N.describes name) }
-    ensures { AnswersNotes (map string_bytes words.now) result }
-{
-    let tag = name.to_options(alloc)?.command("tag")?;
-    let tag = tag.map(|tag| Task::Tag(tag));
-    run_commands(alloc, words, construct!([add, list, tag]))
+    let tags = tags(alloc)?;
+    let texts = positional::<String>("TEXT").many();
+    let add = command(alloc, "add", construct!(Task::Add { tags, texts }))?;
+    with_task(alloc, words, construct!([add, others]))
 }
 
 /// The same by a task, with the switch and the argument in front of it or behind.
-fn run_commands<P: ProgramField<Task> + Drop>(
+fn with_task<P: ProgramField<Task> + Drop>(
     alloc: Global,
     words: &[String],
     task: P,
 ) -> Result<Notes, ParseFailure>
     requires can { P.can_eval task }
-    requires task { AreCommands commands (P.outcome task) (P.program_form task) (P.keys task)
+    requires task { IsKnownParser commands (P.outcome task) (P.program_form task) (P.keys task)
         (P.words task) (P.describes task) }
     ensures { AnswersNotes (map string_bytes words.now) result }
 {
     let verbose = short(alloc, 'v')?.long("verbose")?.switch();
     let dir = dir(alloc)?;
-    let options = construct!(Notes { verbose, dir, task }).to_options(alloc)?;
+    run_options(alloc, words, construct!(Notes { verbose, dir, task }))
+}
+
+/// The same by all that is asked for.
+fn run_options<P: ProgramField<Notes> + Drop>(
+    alloc: Global,
+    words: &[String],
+    notes: P,
+) -> Result<Notes, ParseFailure>
+    requires can { P.can_eval notes }
+    requires known { IsKnownParser notes_parser (P.outcome notes) (P.program_form notes)
+        (P.keys notes) (P.words notes) (P.describes notes) }
+    ensures { AnswersNotes (map string_bytes words.now) result }
+{
+    let options = notes.to_options(alloc)?;
     options.run_program(Args::from(words).set_name("notes"))
+}
+
+/// The command of this name over a parser; refused only for want of memory.
+fn command<T: Drop, P: Parser<T> + Drop>(
+    alloc: Global,
+    name: &str,
+    parser: P,
+) -> Result<ParseCommand<T, P>, AllocError>
+    ensures inner { IfOk result (λ command. command.inner ≡ parser) }
+    ensures names { IfOk result (λ command. command.names ≡ named_only name.now) }
+    ensures adjacent { IfOk result (λ command. command.adjacent ≡ false) }
+    ensures info { IfOk result (λ command. command.info ≡ plain_info) }
+{
+    parser.to_options(alloc)?.command(name)
 }
 
 /// The directory, behind `-d` or `--dir`, or none; refused only for want of memory.

@@ -1,6 +1,7 @@
 //! What the program prints.
-ghost use Rattle.std.specs.Prelude.{◌≡◌, ◌++◌, IfOk, OnOk, map, string_bytes};
-ghost use Rattle.example_notes.specs.Lines.{lines, tag_lines, task_lines};
+ghost use Rattle.std.specs.Prelude.{◌≡◌, ◌++◌, OnOk, map, string_bytes};
+ghost use Rattle.bpaf_program.specs.Running.{IsTextOrWant};
+ghost use Rattle.example_notes.specs.Lines.{lines, task_lines};
 ghost use Rattle.example_notes.specs.Running.{AnswersLines};
 
 use crate::options::{Notes, Tag, Task, read_notes};
@@ -13,12 +14,12 @@ pub fn lines_of(alloc: Global, words: &[String]) -> Result<String, ParseFailure>
     ensures { AnswersLines (map string_bytes words.now) result }
 {
     let notes = read_notes(alloc, words)?;
-    Ok(text_of(alloc, &notes)?)
+    text_of(alloc, &notes)
 }
 
 /// The lines of what is asked for; refused only for want of memory.
-fn text_of(alloc: Global, notes: &Notes) -> Result<String, AllocError>
-    ensures { IfOk result (λ text. string_bytes text ≡ lines notes.now) }
+fn text_of(alloc: Global, notes: &Notes) -> Result<String, ParseFailure>
+    ensures { IsTextOrWant (lines notes.now) result }
 {
     let verbose = notes.verbose;
     let mut text = String::new(alloc);
@@ -41,16 +42,7 @@ fn push_task(text: &mut String, task: &Task) -> Result<(), AllocError>
             push_lines(text, "text: ", texts.as_slice())
         }
         Task::List { max } => Ok(writeln!(text, "list: {max}")?),
-        Task::Tag(tag) => push_tag(text, tag),
-    }
-}
-
-/// Appends the line of a tag; refused only for want of memory.
-fn push_tag(text: &mut String, tag: &Tag) -> Result<(), AllocError>
-    ensures { OnOk result (string_bytes text.new ≡ string_bytes text.old ++ tag_lines tag.now) }
-{
-    match tag {
-        Tag::Add { name } => Ok(writeln!(text, "tag add: {name}")?),
-        Tag::Remove { name } => Ok(writeln!(text, "tag remove: {name}")?),
+        Task::Tag(Tag::Add { name }) => Ok(writeln!(text, "tag add: {name}")?),
+        Task::Tag(Tag::Remove { name }) => Ok(writeln!(text, "tag remove: {name}")?),
     }
 }
