@@ -1,5 +1,6 @@
 -- What the proofs of a program with commands cite, in one place.
 pub use Rattle.bpaf_text.specs.Meaning.{SpellsUnsigned}
+pub use Rattle.bpaf.specs.declared.leaves.positional.Position.TheVariants.{Unrestricted}
 pub use Rattle.bpaf_exact.specs.OneView.{Alike}
 pub use Rattle.bpaf_program.specs.KnownParser.{known_last, known_map, program_names}
 pub use Rattle.bpaf_program.specs.Values.{MeansText}

@@ -1,5 +1,4 @@
 use Rattle.std.proofs.Common.{codes, refl, rules}
-use Rattle.bpaf.specs.declared.leaves.positional.Position.TheVariants.{Unrestricted}
 use Rattle.bpaf_program.proofs.OfCommands as of
 use Rattle.example_notes.specs.Notes.{add_name, name, name_record, remove_name}
 use Rattle.example_notes.specs.declared.options.Tag.TheVariants as tag
@@ -9,8 +8,8 @@ pub with_tag-requires-clause-tag : goal.with_tag-requires-clause-tag
 with_tag-requires-clause-tag c =
     of.choice_known add_name remove_name
     (of.command_known (codes "add") (name_record tag.Add)
-    (of.con_known tag.Add name (of.last_known _ (of.word_known of.MeansText Unrestricted (search rules) _))
-    (λ x v e. search rules)) refl (search rules) (search rules) (search rules))
+    (of.con_known tag.Add name (of.last_known _ (of.word_known of.MeansText of.Unrestricted
+    (search rules) _)) (λ x v e. search rules)) refl (search rules) (search rules) (search rules))
     (of.command_known (codes "remove") (name_record tag.Remove)
-    (of.con_known tag.Remove name (of.last_known _ (of.word_known of.MeansText Unrestricted (search rules) _))
-    (λ x v e. search rules)) refl (search rules) (search rules) (search rules))
+    (of.con_known tag.Remove name (of.last_known _ (of.word_known of.MeansText of.Unrestricted
+    (search rules) _)) (λ x v e. search rules)) refl (search rules) (search rules) (search rules))

@@ -1,5 +1,4 @@
 use Rattle.std.proofs.Common.{◌≡◌, codes, refl, rules}
-use Rattle.bpaf.specs.declared.leaves.positional.Position.TheVariants.{Unrestricted}
 use Rattle.bpaf_program.proofs.OfCommands as of
 use Rattle.example_notes.specs.Notes as notes
 use Rattle.example_notes.proofs.options.with_others.Goals as goal
@@ -10,6 +9,6 @@ with_task-requires-clause-task g c =
     of.choice_known notes.add_command notes.other_commands
     (of.command_known (codes "add") notes.add_record (of.con_known notes.add_of notes.add_fields
     (of.both_known _ _ (of.many_known (of.argument_known of.MeansText notes.tag_key (search rules))
-    (search rules)) (of.last_known _ (of.many_known (of.word_known of.MeansText Unrestricted (search rules) _)
-    (search rules)))) (λ x v e. search rules)) refl (search rules) (search rules)
+    (search rules)) (of.last_known _ (of.many_known (of.word_known of.MeansText of.Unrestricted
+    (search rules) _) (search rules)))) (λ x v e. search rules)) refl (search rules) (search rules)
     (search rules)) (rw (← others) at c.requires.others)
