@@ -1,7 +1,8 @@
 #!/usr/bin/env python3
 """Holds the documents to the tree: names in backticks stand somewhere in crates/, and where a page says
 so; each row of docs/ROWS.md runs as it says, by its tests or as data; and docs/STATEMENT.md has the
-definitions as they stand. It prints what doesn't, and then exits with 1.
+definitions as they stand. No source keeps a value from being dropped. It prints what doesn't hold,
+and then exits with 1.
 
 A name is an identifier or a path of them. Of docs/DIFFERENCES.md, whose first column and whose last
 lists are of Rust, only what is said to stand here is looked at.
@@ -18,6 +19,7 @@ import statement
 
 NAME = re.compile(r"[A-Za-z_]\w*(::[A-Za-z_]\w*)*(\(\))?")
 IDENTIFIER = re.compile(r"[A-Za-z_]\w*")
+UNDROPPED = re.compile(r"\b(forget|leak|ManuallyDrop)\b")
 
 
 def text_of(path):
@@ -60,6 +62,9 @@ def main():
     words |= {word for it in os.listdir(".") for word in IDENTIFIER.findall(it)}
     named = {cells[0] for cells, _ in rows.tables() if len(cells) == 5}
     lost = [*(f"{rows.ROWS}: {it}" for it in rows.faults()), *places.faults(), *statement.faults()]
+    for path, text in found.items():
+        if path.endswith(".rt") and UNDROPPED.search(text):
+            lost.append(f"{path}: a value may be left undropped")
     for path in [*sorted(glob.glob("docs/*.md")), "README.md"]:
         for name in sorted({*names(path, named)}):
             if any(it not in words for it in IDENTIFIER.findall(name)):

@@ -2,6 +2,7 @@
 ghost use Rattle.std.specs.Prelude.{◌≡◌, IfOk, true};
 ghost use Rattle.std.specs.Result.{IfErr};
 ghost use Rattle.bpaf_words.specs.Arguments.{given_of};
+ghost use Rattle.bpaf.specs.Run.{IsNotWant};
 ghost use Rattle.bpaf_program.specs.Ending.{Ends};
 
 use crate::ending::end;
@@ -75,7 +76,9 @@ pub fn run_record<T: Drop, R: Record<T>, W: Write, E: Write>(
     ensures { Ends (λ r. R.answers options.now (given_of args.entry) r
         × (IfErr r (R.refuses options.now (given_of args.entry))
         × (IfOk r (R.deals options.now (given_of args.entry))
-        × (R.agrees options.now → R.answers_exactly options.now (given_of args.entry) r))))
+        × ((IsNotWant r → R.answers_spared options.now (given_of args.entry) r)
+        × ((R.agrees options.now → IfOk r (R.says options.now (given_of args.entry)))
+        × (R.agrees options.now → R.answers_exactly options.now (given_of args.entry) r))))))
         (W.contents out.old) (W.contents out.new) (E.contents err.old) (E.contents err.new) result }
 {
     end(options.run_record(args), out, err)
@@ -101,7 +104,9 @@ pub fn run_program<T: Drop, R: CommandLine<T>, W: Write, E: Write>(
     ensures { Ends (λ r. R.answers options.now (given_of args.entry) r
         × (IfErr r (R.refuses options.now (given_of args.entry))
         × (IfOk r (R.deals options.now (given_of args.entry))
-        × (R.agrees options.now → R.answers_as_program options.now (given_of args.entry) r))))
+        × ((IsNotWant r → R.answers_spared options.now (given_of args.entry) r)
+        × ((R.agrees options.now → IfOk r (R.tells options.now (given_of args.entry)))
+        × (R.agrees options.now → R.answers_as_program options.now (given_of args.entry) r))))))
         (W.contents out.old) (W.contents out.new) (E.contents err.old) (E.contents err.new) result }
 {
     end(options.run_program(args), out, err)

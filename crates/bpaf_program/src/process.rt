@@ -1,8 +1,10 @@
 //! The words that the process was given.
-ghost use Rattle.std.specs.Prelude.{◌≡◌, ◌⊎◌, List, codes};
+ghost use Rattle.std.specs.Prelude.{◌≡◌, ◌⊎◌, IfOk, List, codes, drop};
+ghost use Rattle.std.specs.Vec.Iter.{into_iter_items};
 ghost use Rattle.std.specs.Result.{IfErr};
 ghost use Rattle.bpaf_doc.specs.declared.doc.Piece.{Piece};
 ghost use Rattle.bpaf_doc.specs.Fold.{TextPieces};
+ghost use Rattle.std.specs.declared.io.ErrorKind.TheVariants.{OutOfMemory};
 ghost use Rattle.bpaf_line.specs.declared.failure.ParseFailure.TheVariants.{Memory, Stderr};
 ghost use Rattle.bpaf_program.specs.Words.{IsUnread};
 
@@ -12,6 +14,9 @@ use std::{env, io};
 
 /// The words that the process is called with, without its own name; refused for want of memory, and
 /// where one is no text in UTF-8.
+///
+/// Which words a process is called with is told by no contract of the standard library, so this one
+/// says of its refusals alone.
 pub fn words(rt: &HostRuntime) -> Result<Vec<String>, ParseFailure>
     ensures { IfErr result IsUnread }
 {
@@ -21,18 +26,20 @@ pub fn words(rt: &HostRuntime) -> Result<Vec<String>, ParseFailure>
     }
 }
 
-/// All words but the first, which is the name of the program; refused only for want of memory.
-fn behind_the_first(alloc: Global, all: env::Args) -> Result<Vec<String>, AllocError> {
-    let mut words = Vec::new(alloc);
-    for word in all.skip(1) {
-        words.push(word)?;
-    }
-    Ok(words)
+/// All words but the first, which is the name of the program, in order; refused only for want of
+/// memory.
+fn behind_the_first(alloc: Global, mut all: env::Args) -> Result<Vec<String>, AllocError>
+    ensures { IfOk result (λ words. words.items ≡ drop 1 (into_iter_items all)) }
+{
+    all.next();
+    all.collect(alloc)
 }
 
-/// What is told of words that can't be had.
+/// What is told of words that can't be had: want of memory where the error is one, else a message,
+/// or want of memory for it.
 fn unread(alloc: Global, kind: io::ErrorKind) -> ParseFailure
-    ensures { IsUnread result }
+    ensures told { IsUnread result }
+    ensures memory { kind ≡ OutOfMemory → result ≡ Memory }
 {
     if kind == io::ErrorKind::OutOfMemory {
         return ParseFailure::Memory;
