@@ -19,7 +19,7 @@ options_seen = (
   _,
   con_seen
       (both_seen (field_seen (switch_seen verbose_names))
-      (both_seen (field_seen (number_seen 64 number_key))
+      (both_seen (field_seen (number_seen 64 number_key refl))
       (alone_seen (field_seen (many_seen (text_word_seen (codes "FILE"))))))) options_of lines
       (λ x y same. ap (λ (seen : Bool × (ℕ × List (List ℕ))).
       line (codes "verbose: " ++ truth seen.0) ++ line (codes "num: " ++ decimal seen.1.0)

@@ -20,7 +20,7 @@ use Rattle.bpaf_exact.specs.Derived.{list_closure}
 use Rattle.bpaf_exact.specs.FlatForm.{product_reading, product_roles}
 use Rattle.bpaf_exact.specs.ProgramForm.{ProgramForm, flat_form, plain, program_alone, program_both}
 use Rattle.bpaf_exact.specs.ProgramForm.{program_con, program_field, program_repeat}
-use Rattle.bpaf_exact.specs.Leaves.{argument_field, flag_field}
+use Rattle.bpaf_exact.specs.Variables.{Variables, argument_form, flag_form}
 use Rattle.bpaf_exact.specs.Wrappers.{map_closure}
 use Rattle.bpaf_record.specs.Positional.{is_sided, positional_field}
 use Rattle.bpaf_record.specs.Record.{AnswersExactly, is_flat_record}
@@ -39,14 +39,15 @@ module _ {verbose_help num_help file_help : List Piece} {verbose : ParseFlag Boo
     (is_verbose : IsSwitch verbose_names (codes "Print more") verbose_help verbose)
     (is_num : IsArgument number_key (codes "A number") num_help num)
     (is_files : IsWord Unrestricted (codes "FILE") (codes "Files to read") file_help files.inner)
-    (no_catch : files.catch ≡ false) where
+    (no_catch : files.catch ≡ false) (variables : Variables) where
   -- the form of the parser's fields
   abbrev PartsForm : ProgramForm FieldValues
   PartsForm =
       program_both (verbose.named.names ∷ []) (num.named.names ∷ [])
-      (program_field (plain false (flag_field IsKept verbose.named verbose.present verbose.absent)))
+      (program_field
+      (flag_form IsKept verbose.named verbose.present verbose.absent variables))
       (program_both (num.named.names ∷ []) []
-      (program_field (plain num.adjacent (argument_field (SpellsUnsigned 64) num)))
+      (program_field (argument_form (SpellsUnsigned 64) num variables))
       (program_alone (program_field (program_repeat files.catch (list_closure String)
       (plain (is_sided files.inner.position)
       (positional_field MeansText files.inner.position))))))

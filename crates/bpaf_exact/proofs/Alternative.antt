@@ -9,7 +9,7 @@ use Rattle.bpaf_exact.specs.Flat.{OneWord}
 use Rattle.bpaf_exact.specs.Flat.{EachWord}
 use Rattle.bpaf_exact.specs.Single.{Groups, FrontOf, Own, own_none, own_more, Readable, Gap, no_gap}
 use Rattle.bpaf_exact.specs.Single.{TookGroup, SingleOk, gave_absent, took, SingleErr, of_memory}
-use Rattle.bpaf_exact.specs.Single.{of_missing, of_absent, of_piece, ReadsWords, SingleLaw}
+use Rattle.bpaf_exact.specs.Single.{catch_missing, of_missing, of_absent, of_piece, ReadsWords, SingleLaw}
 use Rattle.bpaf_exact.specs.Wrappers.{Closure, AgreesOn, ClosedEval, closed_yes, closed_no}
 use Rattle.bpaf_exact.specs.Wrappers.{closed_memory, closed_err, ClosedGroup, closed_gap}
 use Rattle.bpaf_exact.specs.Wrappers.{ClosedPiece}
@@ -85,7 +85,8 @@ module _ (T : Type 0) (outcome : Outcome T) (q : Roles) (value : LinePiece → T
   alternative_err : (s t : Situation) (e : Error) → AlternativeErr T q value s e t
       → SingleErr T ByName q (FrontOf T value) (no_gap T) s e t
   alternative_err s t e (alternative_memory c) = of_memory c
-  alternative_err s t e (alternative_missing c p same st) = of_missing c refl p same st
+  alternative_err s t e (alternative_missing c p same st) =
+      of_missing (catch_missing c) refl p same st
   alternative_err s t e (alternative_refused c p b n) =
       of_piece c (bad_nonempty T value _ b) (λ w rest g. n g.piece rest w g.is g.means)
 

@@ -1,29 +1,27 @@
 -- A key of an argument and its value are a piece.
-use Rattle.std.proofs.Common.{◌≡◌, ℕ, true, List, [], None, sym, ap}
-use Rattle.std.proofs.Common.{◌∙◌}
-use Rattle.std.proofs.Common.{subst, ◌∷◌}
-use Rattle.bpaf_text.specs.Named.{KeyWithValue}
+use Rattle.std.proofs.Common.{◌≡◌, ℕ, true, false, List, [], ◌∷◌, Option, Some, None, refl, sym}
+use Rattle.std.proofs.Common.{ap, ◌∙◌, subst}
+use Rattle.std.proofs.lemmas.Bool.{and_parts}
+use Rattle.bpaf_text.specs.Named.{KeyWithValue, argument_part}
 use Rattle.bpaf_items.specs.declared.arg.Arg.{Arg}
 use Rattle.bpaf_items.specs.Items.{is_key_of, item_text}
-use Rattle.bpaf_line.specs.Situation.{Situation}
-use Rattle.bpaf_laws.specs.Argument.{TakesKeyWithText, IsVariable, is_key_with_value}
+use Rattle.bpaf_line.specs.declared.error.Error.{Error}
+use Rattle.bpaf_line.specs.declared.error.Message.{Message}
+use Rattle.bpaf_line.specs.Situation.{Situation, with_current}
+use Rattle.bpaf_laws.specs.Argument.{TakesKeyWithText, HasNoKey, IsNowhere, ReadsVariable}
+use Rattle.bpaf_laws.specs.Argument.{is_key_with_value}
 use Rattle.bpaf_laws.specs.Environment.{first_set}
-use Rattle.bpaf_exact.specs.Pieces.{WithNext, Roles, Two, IsNamed}
-use Rattle.bpaf_exact.specs.Flat.{cells, Steady}
+use Rattle.bpaf_exact.specs.Pieces.{WithNext, Roles, Two, IsNamed, pieces}
+use Rattle.bpaf_exact.specs.Flat.{ByName, Refused, Steady, cells, class, class_of}
 use Rattle.bpaf_exact.specs.Alternative.{TakesFirst}
-use Rattle.bpaf_exact.specs.Leaves.{argument_roles}
-use Rattle.std.proofs.lemmas.Bool.{and_parts}
+use Rattle.bpaf_exact.specs.Leaves.{argument_gap, argument_roles}
 use Rattle.bpaf_exact.specs.Names.{Owns}
+use Rattle.bpaf_exact.specs.Single.{Groups, SingleErr, SingleOk, gave_absent, of_absent, of_missing}
+use Rattle.bpaf_exact.specs.Variables.{Variables}
 use Rattle.bpaf_exact.proofs.Matching.{match_of, ByTest, by_test, test_named, test_owns, behind_of}
-use Rattle.bpaf_exact.proofs.Matching.{pair_is, two_taken, two_steady}
-
--- no name is set in the environment where there is none
-pub never_set : (argument : KeyWithValue) → argument.named.envs ≡ [] → (s : Situation)
-    (text : List ℕ) → IsVariable argument s.context text → ⊥
-never_set argument no_envs s text e =
-    let h : first_set s.context.env argument.named.envs ≡ None =
-    ap (first_set s.context.env) no_envs in
-    cc
+use Rattle.bpaf_exact.proofs.Matching.{pair_is, two_taken, two_steady, no_pieces, absence_caught}
+use Rattle.bpaf_exact.proofs.Product.{steady_refl}
+use Rattle.bpaf_exact.proofs.Records.{current_cells, same_steady}
 
 -- the first key of some roles and its value, which has this text, are the first piece
 pub record TookPair (q : Roles) (s t : Situation) (text : List ℕ) : Type 0 where
@@ -68,3 +66,59 @@ module _ (argument : KeyWithValue) where
         takes = two_taken (is_key_with_value argument) q s takes.key text test takes.first m b;
         steady = two_steady s takes.key;
       })
+
+  -- no key: there is no piece
+  pub no_key : (s : Situation) → HasNoKey argument s → pieces q (cells s) ≡ []
+  no_key s none = no_pieces (is_key_with_value argument) q WithNext s test none
+
+-- What an argument with these pieces answers where no key is there, by its variable.
+module _ (T : Type 0) (means : List ℕ → T → Type 0) (argument : KeyWithValue) (group : Groups T)
+    (variables : Variables) where
+  abbrev roles : Roles
+  roles = argument_roles argument.adjacent argument.named.names
+
+  -- the text that is set there
+  abbrev set : Option (List ℕ)
+  set = first_set variables argument.named.envs
+
+  -- the text of a variable stands for no piece
+  pub variable_read : (s t : Situation) (text : List ℕ) (v : T) → s.context.env ≡ variables
+      → ReadsVariable argument s text t → means text v
+      → SingleOk T ByName roles group (argument_gap means set) s v t
+  variable_read s t text v same read m =
+      let here = subst (λ z. first_set z argument.named.envs ≡ Some text) same read.set in
+      subst (SingleOk T ByName roles group (argument_gap means set) s v) (sym read.left)
+      (subst (λ gap. SingleOk T ByName roles group gap s v (with_current s None))
+      (ap (argument_gap means) (sym here))
+      (gave_absent refl (no_key argument s read.no_key) m (current_cells s)
+      (same_steady (steady_refl s))))
+
+  -- one that means no value is refused
+  pub variable_fault : (s t : Situation) (e : Error) (text : List ℕ) → s.context.env ≡ variables
+      → ReadsVariable argument s text t → class e ≡ Refused → ((v : T) → means text v → ⊥)
+      → SingleErr T ByName roles group (argument_gap means set) s e t
+  variable_fault s t e text same read c none =
+      let here = subst (λ z. first_set z argument.named.envs ≡ Some text) same read.set in
+      subst (λ gap. SingleErr T ByName roles group gap s e t)
+      (ap (argument_gap means) (sym here))
+      (of_absent c refl (no_key argument s read.no_key) none)
+
+  -- without one there is no value
+  pub nowhere : (s t : Situation) (e : Error) (m : Message) → class e ≡ class_of m
+      → s.context.env ≡ variables → HasNoKey argument s → IsNowhere argument s m → t ≡ s
+      → SingleErr T ByName roles group (argument_gap means set) s e t
+  nowhere s t e m c same none unset left =
+      let here = subst (λ z. first_set z argument.named.envs ≡ None) same unset.0 in
+      subst (SingleErr T ByName roles group (argument_gap means set) s e) (sym left)
+      (of_missing (absence_caught s (argument_part argument) argument.named.envs e m c unset.1)
+      (ap (λ z. (argument_gap means z).has) here) (no_key argument s none) refl (steady_refl s))
+
+  -- no value stands for no piece where none is set
+  pub gap_empty : (v : T) → (argument_gap means set).has ≡ false
+      → (argument_gap means set).absent v → ⊥
+  gap_empty v h a = by_text set h a
+    where
+      by_text : (z : Option (List ℕ)) → (argument_gap means z).has ≡ false
+          → (argument_gap means z).absent v → ⊥
+      by_text None h a = a
+      by_text (Some text) h a = cc

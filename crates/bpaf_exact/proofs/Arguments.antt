@@ -1,28 +1,43 @@
 -- Arguments keep to the laws.
 use Rattle.std.proofs.Common.{◌≡◌, ℕ, Bool, true, false, List, [], ◌∷◌, Ok, refl, sym, ap, ◌∙◌}
-use Rattle.std.proofs.Common.{subst, ⊎_elim}
+use Rattle.std.proofs.Common.{None, subst, ⊎_elim}
 use Rattle.bpaf_text.specs.Named.{KeyWithValue, argument_part}
 use Rattle.bpaf_line.specs.declared.error.Error.{Error}
 use Rattle.bpaf_line.specs.declared.error.Message.{Message}
 use Rattle.bpaf_line.specs.declared.error.Message.TheVariants.{Memory, NoArgument, ParseFailed}
 use Rattle.bpaf_line.specs.Situation.{Situation}
 use Rattle.bpaf_laws.specs.Argument.{ArgumentOutcome, ArgumentFails, TakesOwnText, TakesBefore}
-use Rattle.bpaf_laws.specs.Argument.{GetsText, LacksText, is_key_with_value}
-use Rattle.bpaf_exact.specs.Pieces.{WithNext, Roles, LinePiece, One, Two, pieces}
-use Rattle.bpaf_exact.specs.Flat.{class, class_of, cells, NoneOutside}
+use Rattle.bpaf_laws.specs.Argument.{GetsText, IsVariable, LacksText, is_key_with_value}
+use Rattle.bpaf_laws.specs.Environment.{first_set}
+use Rattle.bpaf_exact.specs.Pieces.{Roles, LinePiece, One, Two, pieces}
+use Rattle.bpaf_exact.specs.Flat.{ByName, class, class_of, cells, NoneOutside}
 use Rattle.bpaf_exact.specs.Alternative.{AlternativeOk, AlternativeErr}
 use Rattle.bpaf_exact.specs.Alternative.{alternative_memory, AlternativeLaw}
+use Rattle.bpaf_exact.specs.Single.{FrontOf, Gap, Groups, SingleErr, SingleLaw, SingleOk, took}
+use Rattle.bpaf_exact.specs.Single.{of_memory, of_piece}
 use Rattle.bpaf_exact.specs.Leaves.{argument_roles, ArgumentValue, argument_by, argument_field}
+use Rattle.bpaf_exact.specs.Leaves.{argument_gap, argument_group, argument_with, variable_argument}
 use Rattle.bpaf_exact.specs.FlatForm.{FormLaw}
-use Rattle.bpaf_exact.proofs.ArgumentPieces.{never_set, TookPair, test, named, owns, took_pair}
+use Rattle.bpaf_exact.specs.ProgramForm.{ProgramFormLaw}
+use Rattle.bpaf_exact.specs.Variables.{Variables, WithVariables, argument_form, key_form}
+use Rattle.bpaf_exact.proofs.Alternative.{took_front}
+use Rattle.bpaf_exact.proofs.ArgumentPieces.{TookPair, gap_empty, named, nowhere, owns, took_pair}
+use Rattle.bpaf_exact.proofs.ArgumentPieces.{test, no_key, variable_fault, variable_read}
 use Rattle.bpaf_exact.proofs.Classes.{missing_class}
-use Rattle.bpaf_exact.proofs.First.{first_pieces}
+use Rattle.bpaf_exact.proofs.First.{first_pieces, first_takes, takes_nonempty}
 use Rattle.bpaf_exact.proofs.LastArguments.{last_argument_law}
-use Rattle.bpaf_exact.proofs.Matching.{match_of, no_pieces, bare_taken}
-use Rattle.bpaf_exact.proofs.Matching.{first_alternative, first_refused, missing_same}
-use Rattle.bpaf_exact.proofs.Matching.{absence_missing}
+use Rattle.bpaf_exact.proofs.Matching.{match_of, bare_taken, first_alternative, first_refused}
+use Rattle.bpaf_exact.proofs.Matching.{missing_same, absence_missing}
+use Rattle.bpaf_exact.proofs.Variables.{each_single, form_with}
 
--- an argument
+-- the text of an argument behind its key
+takes_pair : (argument : KeyWithValue) → argument.last ≡ false → (s t : Situation) (text : List ℕ)
+    → TakesOwnText argument.last argument s text t
+    → TookPair (argument_roles argument.adjacent argument.named.names) s t text
+takes_pair argument once s t text takes =
+    took_pair argument s t text (subst (λ b. TakesOwnText b argument s text t) once takes)
+
+-- an argument without a name in the environment
 module _ (T : Type 0) (means : List ℕ → T → Type 0) (argument : KeyWithValue)
     (no_envs : argument.named.envs ≡ [])
     (once : argument.last ≡ false) where
@@ -34,14 +49,18 @@ module _ (T : Type 0) (means : List ℕ → T → Type 0) (argument : KeyWithVal
   abbrev value : LinePiece → T → Type 0
   value = ArgumentValue means
 
-  -- the text of an argument stands behind its key
+  -- no name is set in the environment
+  never_set : (s : Situation) (text : List ℕ) → IsVariable argument s.context text → ⊥
+  never_set s text e =
+      let h : first_set s.context.env argument.named.envs ≡ None =
+      ap (first_set s.context.env) no_envs in
+      cc
+
+  -- the text stands behind its key
   gets_pair : (s t : Situation) (text : List ℕ) → GetsText argument s text t
       → TookPair q s t text
-  gets_pair s t text gets =
-      ⊎_elim
-      (λ takes.
-      took_pair argument s t text (subst (λ b. TakesOwnText b argument s text t) once takes))
-      (λ variable. absurd (never_set argument no_envs s text variable.set)) gets
+  gets_pair s t text gets = ⊎_elim (takes_pair argument once s t text)
+      (λ variable. absurd (never_set s text variable.set)) gets
 
   -- a value is that of the first piece
   argument_ok : (s t : Situation) (v : T) → NoneOutside s → ArgumentOutcome means argument s (Ok v) t
@@ -71,7 +90,7 @@ module _ (T : Type 0) (means : List ℕ → T → Type 0) (argument : KeyWithVal
       missing_same T q value s t e
       (c ∙ missing_class other
       (absence_missing s (argument_part argument) argument.named.envs no_envs other o.1.1))
-      (no_pieces (is_key_with_value argument) q WithNext s (test argument) o.0) o.2
+      (no_key argument s o.0) o.2
 
   -- an argument keeps to the laws of an alternative
   argument_law : AlternativeLaw T (ArgumentOutcome means argument) q value
@@ -82,16 +101,110 @@ module _ (T : Type 0) (means : List ℕ → T → Type 0) (argument : KeyWithVal
         err = λ s t e w o. argument_err s t e e.0 refl o;
       }
 
--- an argument keeps to the laws of its form
+-- an argument with names there, where the environment has these variables
+module _ (T : Type 0) (means : List ℕ → T → Type 0) (argument : KeyWithValue)
+    (once : argument.last ≡ false) (variables : Variables) where
+  abbrev roles : Roles
+  roles = argument_roles argument.adjacent argument.named.names
+
+  abbrev group : Groups T
+  group = FrontOf T (ArgumentValue means)
+
+  abbrev gap : Gap T
+  gap = argument_gap means (first_set variables argument.named.envs)
+
+  -- a value is that of the first piece, or of the variable
+  variable_ok : (s t : Situation) (v : T) → NoneOutside s
+      → WithVariables variables (ArgumentOutcome means argument) s (Ok v) t
+      → SingleOk T ByName roles group gap s v t
+  variable_ok s t v w o = ⊎_elim
+      (λ takes. let m = takes_pair argument once s t o.1.0 takes in
+      took (took_front T (ArgumentValue means) ByName roles s t v (Two m.key m.word) m.steady
+      m.takes (first_pieces roles (named argument) m.takes)
+      (subst (λ z. means z v) (sym m.text_is) o.1.2)))
+      (λ read. variable_read T means argument group variables s t o.1.0 v o.0 read o.1.2) o.1.1
+
+  -- a refusal: neither, or what can't be read
+  variable_err : (s t : Situation) (e : Error) (m : Message) → class e ≡ class_of m
+      → s.context.env ≡ variables → ArgumentFails means argument s m t
+      → SingleErr T ByName roles group gap s e t
+  variable_err s t e Memory c same o = of_memory c
+  variable_err s t e (ParseFailed place fault) c same o = ⊎_elim
+      (λ takes. let m = takes_pair argument once s t o.0 takes in
+      of_piece c (takes_nonempty roles (first_takes roles m.takes))
+      (λ v rest g. let d : Two m.key m.word ∷ pieces roles (cells t) ≡ g.piece ∷ rest =
+      sym (first_pieces roles (named argument) m.takes) ∙ g.is in
+      let j : g.piece ≡ Two m.key m.word = cc in
+      o.2.0 v (subst (λ z. means z v) m.text_is
+      (subst (λ z. ArgumentValue means z v) j g.means))))
+      (λ read. variable_fault T means argument group variables s t e o.0 same read c o.2.0) o.1
+  variable_err s t e (NoArgument key metavar) c same o =
+      let left = subst (λ b. TakesBefore b argument s t) once o.1 in
+      let lacks = subst (λ z. LacksText argument z (NoArgument key metavar)) left o.0 in
+      let m = match_of (is_key_with_value argument) s key lacks.0.matches in
+      let b = bare_taken (is_key_with_value argument) roles s key (test argument) lacks.0 m
+      lacks.1 in
+      of_piece c (λ none. let d : One m.item ∷ b.tail ≡ [] = sym b.is ∙ none in cc)
+      (λ v rest g. let d : One m.item ∷ b.tail ≡ g.piece ∷ rest = sym b.is ∙ g.is in
+      let j : g.piece ≡ One m.item = cc in subst (λ z. ArgumentValue means z v) j g.means)
+  variable_err s t e other c same o =
+      nowhere T means argument group variables s t e other c same o.0 o.1 o.2
+
+  variable_law : SingleLaw T (WithVariables variables (ArgumentOutcome means argument)) ByName
+      roles group gap
+  variable_law = record {
+    own = named argument;
+    words = tt;
+    starts = λ v rest g. let e = g.is in cc;
+    no_absent = gap_empty T means argument group variables;
+    ok = variable_ok;
+    err = λ s t e w o. variable_err s t e e.0 refl o.0 o.1;
+  }
+
+-- an argument without a name in the environment keeps to the laws of its form
 pub argument_field_law : (T : Type 0) (means : List ℕ → T → Type 0) (argument : KeyWithValue)
+    → argument.named.envs ≡ []
     → FormLaw (ArgumentOutcome means argument) (argument.named.names ∷ [])
     (argument_field means argument)
-argument_field_law T means argument =
-    by_parts argument.named.envs argument.last refl refl
+argument_field_law T means argument e = by_last argument.last refl
   where
-    by_parts : (envs : List (List ℕ)) (last : Bool) → argument.named.envs ≡ envs
-        → argument.last ≡ last → FormLaw (ArgumentOutcome means argument) (argument.named.names ∷ [])
-        (argument_by means argument.named.names envs argument.adjacent last)
-    by_parts (env ∷ envs) last e g = tt
-    by_parts [] false e g = (argument_law T means argument e g, owns argument)
-    by_parts [] true e g = (last_argument_law T means argument e g, owns argument)
+    by_last : (last : Bool) → argument.last ≡ last
+        → FormLaw (ArgumentOutcome means argument) (argument.named.names ∷ [])
+        (argument_by means argument.named.names argument.adjacent last)
+    by_last false g = (argument_law T means argument e g, owns argument)
+    by_last true g = (
+      each_single T _ ByName _ _ _ (λ variables.
+          subst (λ envs. SingleLaw T (WithVariables variables (ArgumentOutcome means argument))
+          ByName (argument_roles argument.adjacent argument.named.names)
+          (argument_group means true) (argument_gap means (first_set variables envs))) e
+          (last_argument_law T means argument g variables)),
+      owns argument,
+    )
+
+-- an argument keeps to the laws of its form
+pub argument_form_law : (T : Type 0) (means : List ℕ → T → Type 0) (argument : KeyWithValue)
+    (variables : Variables) (words : List (List ℕ))
+    → ProgramFormLaw (WithVariables variables (ArgumentOutcome means argument))
+    (argument.named.names ∷ []) words (argument_form means argument variables)
+argument_form_law T means argument variables words = by_envs argument.named.envs refl
+  where
+    by_last : (last : Bool) → argument.last ≡ last
+        → FormLaw (WithVariables variables (ArgumentOutcome means argument))
+        (argument.named.names ∷ [])
+        (argument_with means argument.named.names argument.adjacent last
+        (argument_gap means (first_set variables argument.named.envs)))
+    by_last false g = (variable_law T means argument g variables, owns argument)
+    by_last true g = (last_argument_law T means argument g variables, owns argument)
+
+    by_envs : (envs : List (List ℕ)) → argument.named.envs ≡ envs
+        → ProgramFormLaw (WithVariables variables (ArgumentOutcome means argument))
+        (argument.named.names ∷ []) words
+        (key_form argument.adjacent (argument_field means argument)
+        (variable_argument means argument) variables envs)
+    by_envs [] e = form_with T _ variables (argument.named.names ∷ []) _
+        (argument_field_law T means argument e)
+    by_envs (env ∷ envs) e =
+        subst (λ names. FormLaw (WithVariables variables (ArgumentOutcome means argument))
+        (argument.named.names ∷ [])
+        (variable_argument means argument (first_set variables names))) e
+        (by_last argument.last refl)

@@ -1,6 +1,7 @@
 -- Flags keep to the laws.
-use Rattle.std.proofs.Common.{◌≡◌, ℕ, true, List, [], ◌∷◌, Option, Some, None, Ok, refl, sym, ap}
-use Rattle.std.proofs.Common.{◌∙◌, subst, ⊎_elim, true≢false}
+use Rattle.std.proofs.Common.{◌≡◌, ℕ, Bool, true, false, List, [], ◌∷◌, Option, Some, None, Ok}
+use Rattle.std.proofs.Common.{refl, sym, ap, ◌∙◌, subst, ⊎_elim, true≢false}
+use Rattle.std.specs.Option.{is_some}
 use Rattle.bpaf_text.specs.Named.{Named as Key, flag_part}
 use Rattle.bpaf_items.specs.Items.{is_key_of}
 use Rattle.bpaf_line.specs.declared.error.Error.{Error}
@@ -8,16 +9,19 @@ use Rattle.bpaf_line.specs.declared.error.Message.{Message}
 use Rattle.bpaf_line.specs.declared.error.Message.TheVariants.{Memory}
 use Rattle.bpaf_line.specs.Situation.{Situation, take_place}
 use Rattle.bpaf_line.specs.Taking.{HasNone, TakesFlag}
-use Rattle.bpaf_laws.specs.Environment.{is_set}
-use Rattle.bpaf_laws.specs.Flag.{FlagOutcome, FlagFails}
+use Rattle.bpaf_laws.specs.Environment.{first_set, is_set}
+use Rattle.bpaf_laws.specs.Flag.{FlagOutcome, FlagFails, IsAbsentValue}
 use Rattle.bpaf_exact.specs.Pieces.{Alone, Roles, LinePiece, One, IsNamed}
 use Rattle.bpaf_exact.specs.Flat.{class, class_of, NoneOutside, ByName}
+use Rattle.bpaf_exact.specs.Names.{Owns}
 use Rattle.bpaf_exact.specs.Single.{Groups, Gap, FrontOf, SingleOk, gave_absent, took, SingleErr}
-use Rattle.bpaf_exact.specs.Single.{of_memory, SingleLaw}
+use Rattle.bpaf_exact.specs.Single.{of_memory, of_missing, SingleLaw}
 use Rattle.bpaf_exact.specs.Alternative.{AlternativeOk, AlternativeErr, alternative_memory}
 use Rattle.bpaf_exact.specs.Alternative.{AlternativeLaw}
-use Rattle.bpaf_exact.specs.Leaves.{flag_roles, FlagValue, switch_gap, flag_by, flag_field}
+use Rattle.bpaf_exact.specs.Leaves.{flag_roles, FlagValue, flag_gap, flag_field, variable_flag}
 use Rattle.bpaf_exact.specs.FlatForm.{FormLaw}
+use Rattle.bpaf_exact.specs.ProgramForm.{ProgramFormLaw}
+use Rattle.bpaf_exact.specs.Variables.{Variables, WithVariables, key_form, flag_form}
 use Rattle.bpaf_exact.proofs.Classes.{missing_class}
 use Rattle.bpaf_exact.proofs.Product.{steady_refl}
 use Rattle.bpaf_exact.proofs.First.{first_pieces}
@@ -25,10 +29,11 @@ use Rattle.bpaf_exact.proofs.Alternative.{took_front}
 use Rattle.bpaf_exact.proofs.Places.{take_steady}
 use Rattle.bpaf_exact.proofs.Matching.{match_of, ByTest, by_test, test_named, no_pieces, one_taken}
 use Rattle.bpaf_exact.proofs.Matching.{first_alternative, missing_same, absence_missing, test_owns}
+use Rattle.bpaf_exact.proofs.Matching.{absence_caught}
+use Rattle.bpaf_exact.proofs.Variables.{each_single, form_with}
 
 -- a flag
-module _ (T : Type 0) (clones : T → T → Type 0) (key : Key) (present : T)
-    (no_envs : key.envs ≡ []) where
+module _ (T : Type 0) (clones : T → T → Type 0) (key : Key) (present : T) where
   -- the items of the flag
   abbrev q : Roles
   q = flag_roles key.names
@@ -45,9 +50,9 @@ module _ (T : Type 0) (clones : T → T → Type 0) (key : Key) (present : T)
   named : IsNamed q
   named = test_named (is_key_of key.names) key.names Alone (λ k e. e)
 
-  -- no name is set in the environment
-  never_set : (s : Situation) → is_set s.context.env key.envs ≡ true → ⊥
-  never_set s e = true≢false (sym e ∙ ap (is_set s.context.env) no_envs)
+  -- with its names
+  owned : Owns q (key.names ∷ [])
+  owned = test_owns (is_key_of key.names) key.names Alone (λ k e. e)
 
   -- a taken key is an answer
   flag_found : (s t : Situation) (v : T) → TakesFlag key.names s true t → clones present v
@@ -58,86 +63,180 @@ module _ (T : Type 0) (clones : T → T → Type 0) (key : Key) (present : T)
       (first_alternative T q value s (take_place s takes.0) v (One m.item) (take_steady s takes.0) y
       (one_taken (is_key_of key.names) q s takes.0 test takes.1 m))
 
+-- a flag that must be there
+module _ (T : Type 0) (clones : T → T → Type 0) (key : Key) (present : T)
+    (no_envs : key.envs ≡ []) where
+  -- no name is set in the environment
+  never_set : (s : Situation) → is_set s.context.env key.envs ≡ true → ⊥
+  never_set s e = true≢false (sym e ∙ ap (is_set s.context.env) no_envs)
+
   -- a value is that of the first piece
   flag_ok : (s t : Situation) (v : T) → NoneOutside s → FlagOutcome clones key present None s (Ok v) t
-      → AlternativeOk T q value s v t
+      → AlternativeOk T (flag_roles key.names) (FlagValue (clones present)) s v t
   flag_ok s t v w o = ⊎_elim
-      (λ here. ⊎_elim (λ takes. flag_found s t v takes here.1)
+      (λ here. ⊎_elim (λ takes. flag_found T clones key present s t v takes here.1)
       (λ set. absurd (never_set s set.1)) here.0)
       (λ none. absurd none.1) o
 
   -- a refusal: there is no piece
   flag_err : (s t : Situation) (e : Error) (m : Message) → class e ≡ class_of m
-      → FlagFails {T = T} key None s m t → AlternativeErr T q value s e t
+      → FlagFails {T = T} key None s m t
+      → AlternativeErr T (flag_roles key.names) (FlagValue (clones present)) s e t
   flag_err s t e Memory c o = alternative_memory c
   flag_err s t e other c o =
-      missing_same T q value s t e
+      missing_same T (flag_roles key.names) (FlagValue (clones present)) s t e
       (c ∙ missing_class other (absence_missing s (flag_part key) key.envs no_envs other o.2))
-      (no_pieces (is_key_of key.names) q Alone s test o.0.0.0) o.0.0.1
+      (no_pieces (is_key_of key.names) (flag_roles key.names) Alone s (test T clones key present)
+      o.0.0.0) o.0.0.1
 
   -- a flag that must be there
-  flag_law : AlternativeLaw T (FlagOutcome clones key present None) q value
-  flag_law = record { named = named; ok = flag_ok; err = λ s t e w o. flag_err s t e e.0 refl o }
+  flag_law : AlternativeLaw T (FlagOutcome clones key present None) (flag_roles key.names)
+      (FlagValue (clones present))
+  flag_law = record {
+    named = named T clones key present;
+    ok = flag_ok;
+    err = λ s t e w o. flag_err s t e e.0 refl o;
+  }
 
-  -- a flag with an absent value
-  module _ (absent : T) where
-    abbrev group : Groups T
-    group = FrontOf T value
+-- where no key of a flag is there
+module _ (T : Type 0) (clones : T → T → Type 0) (present : T) where
+  -- a value stands for that
+  abbrev StandsForNone : Option T → Option (List ℕ) → T → Type 0
+  StandsForNone absent set v =
+      ((flag_gap clones present absent set).has ≡ true)
+      × (flag_gap clones present absent set).absent v
 
-    abbrev gap : Gap T
-    gap = switch_gap (clones absent)
+  -- where its variable is set, the present one
+  gap_set : (absent : Option T) (set : Option (List ℕ)) (v : T) → is_some set ≡ true
+      → clones present v → StandsForNone absent set v
+  gap_set absent None v e y = absurd cc
+  gap_set absent (Some text) v e y = (refl, y)
 
-    switch_found : (s t : Situation) (v : T) → TakesFlag key.names s true t → clones present v
-        → SingleOk T ByName q group gap s v t
-    switch_found s t v takes y =
-        let m = match_of (is_key_of key.names) s takes.0 takes.1.matches in
-        let h = one_taken (is_key_of key.names) q s takes.0 test takes.1 m in
-        let e = first_pieces q named h in
-        subst (SingleOk T ByName q group gap s v) (sym takes.2)
-        (took (took_front T value ByName q s (take_place s takes.0) v (One m.item)
-        (take_steady s takes.0) h e y))
+  -- else the absent one
+  gap_unset : (absent : Option T) (set : Option (List ℕ)) (v : T) → is_some set ≡ false
+      → IsAbsentValue clones absent v → StandsForNone absent set v
+  gap_unset None None v e y = absurd y
+  gap_unset (Some kept) None v e y = (refl, y)
+  gap_unset absent (Some text) v e y = absurd cc
 
-    switch_none : (s t : Situation) (v : T) → HasNone (is_key_of key.names) s → t ≡ s
-        → clones absent v → SingleOk T ByName q group gap s v t
-    switch_none s t v none same y =
-        subst (SingleOk T ByName q group gap s v) (sym same)
-        (gave_absent refl (no_pieces (is_key_of key.names) q Alone s test none) y refl
-        (steady_refl s))
+  -- without either none does
+  gap_none : (absent : Option T) (set : Option (List ℕ)) → is_some set ≡ false → absent ≡ None
+      → (flag_gap clones present absent set).has ≡ false
+  gap_none None None e f = refl
+  gap_none (Some kept) None e f = absurd cc
+  gap_none absent (Some text) e f = absurd cc
 
-    switch_ok : (s t : Situation) (v : T) → NoneOutside s
-        → FlagOutcome clones key present (Some absent) s (Ok v) t
-        → SingleOk T ByName q group gap s v t
-    switch_ok s t v w o = ⊎_elim
-        (λ here. ⊎_elim (λ takes. switch_found s t v takes here.1)
-        (λ set. absurd (never_set s set.1)) here.0)
-        (λ none. switch_none s t v none.0.0.0 none.0.0.1 none.1) o
+  -- and then no value
+  gap_empty : (absent : Option T) (set : Option (List ℕ)) (v : T)
+      → (flag_gap clones present absent set).has ≡ false
+      → (flag_gap clones present absent set).absent v → ⊥
+  gap_empty None None v h a = a
+  gap_empty (Some kept) None v h a = cc
+  gap_empty absent (Some text) v h a = cc
 
-    switch_err : (s t : Situation) (e : Error) (m : Message) → class e ≡ class_of m
-        → FlagFails key (Some absent) s m t → SingleErr T ByName q group gap s e t
-    switch_err s t e Memory c o = of_memory c
-    switch_err s t e other c o = let h = o.1 in absurd cc
+-- a flag that may be absent, where the environment has these variables
+module _ (T : Type 0) (clones : T → T → Type 0) (key : Key) (present : T) (absent : Option T)
+    (variables : Variables) where
+  abbrev roles : Roles
+  roles = flag_roles key.names
 
-    switch_law : SingleLaw T (FlagOutcome clones key present (Some absent)) ByName q group gap
-    switch_law = record {
-      own = named;
-      words = tt;
-      starts = λ v rest g. let e = g.is in cc;
-      no_absent = λ v h a. cc;
-      ok = switch_ok;
-      err = λ s t e w o. switch_err s t e e.0 refl o;
-    }
+  abbrev group : Groups T
+  group = FrontOf T (FlagValue (clones present))
 
--- a flag keeps to the laws of its form
+  abbrev gap : Gap T
+  gap = flag_gap clones present absent (first_set variables key.envs)
+
+  switch_found : (s t : Situation) (v : T) → TakesFlag key.names s true t → clones present v
+      → SingleOk T ByName roles group gap s v t
+  switch_found s t v takes y =
+      let own = test T clones key present in
+      let m = match_of (is_key_of key.names) s takes.0 takes.1.matches in
+      let h = one_taken (is_key_of key.names) roles s takes.0 own takes.1 m in
+      let e = first_pieces roles (named T clones key present) h in
+      subst (SingleOk T ByName roles group gap s v) (sym takes.2)
+      (took (took_front T (FlagValue (clones present)) ByName roles s (take_place s takes.0) v
+      (One m.item) (take_steady s takes.0) h e y))
+
+  switch_none : (s t : Situation) (v : T) → HasNone (is_key_of key.names) s → t ≡ s
+      → (gap.has ≡ true) × gap.absent v → SingleOk T ByName roles group gap s v t
+  switch_none s t v none same g =
+      subst (SingleOk T ByName roles group gap s v) (sym same)
+      (gave_absent g.0
+      (no_pieces (is_key_of key.names) roles Alone s (test T clones key present) none) g.1 refl
+      (steady_refl s))
+
+  -- a name that is set here is set in these variables
+  set_here : (s : Situation) (b : Bool) → s.context.env ≡ variables
+      → is_set s.context.env key.envs ≡ b → is_some (first_set variables key.envs) ≡ b
+  set_here s b e f = subst (λ z. is_set z key.envs ≡ b) e f
+
+  switch_ok : (s t : Situation) (v : T) → NoneOutside s
+      → WithVariables variables (FlagOutcome clones key present absent) s (Ok v) t
+      → SingleOk T ByName roles group gap s v t
+  switch_ok s t v w o = ⊎_elim
+      (λ here. ⊎_elim (λ takes. switch_found s t v takes here.1)
+      (λ set. switch_none s t v set.0.0 set.0.1
+      (gap_set T clones present absent _ v (set_here s true o.0 set.1) here.1)) here.0)
+      (λ none. switch_none s t v none.0.0.0 none.0.0.1
+      (gap_unset T clones present absent _ v (set_here s false o.0 none.0.1) none.1)) o.1
+
+  switch_err : (s t : Situation) (e : Error) (m : Message) → class e ≡ class_of m
+      → s.context.env ≡ variables → FlagFails {T = T} key absent s m t
+      → SingleErr T ByName roles group gap s e t
+  switch_err s t e Memory c same o = of_memory c
+  switch_err s t e other c same o =
+      subst (λ z. SingleErr T ByName roles group gap s e z) (sym o.0.0.1)
+      (of_missing (absence_caught s (flag_part key) key.envs e other c o.2)
+      (gap_none T clones present absent _ (set_here s false same o.0.1) o.1)
+      (no_pieces (is_key_of key.names) roles Alone s (test T clones key present) o.0.0.0) refl
+      (steady_refl s))
+
+  pub switch_law : SingleLaw T (WithVariables variables (FlagOutcome clones key present absent))
+      ByName roles group gap
+  switch_law = record {
+    own = named T clones key present;
+    words = tt;
+    starts = λ v rest g. let e = g.is in cc;
+    no_absent = λ v h a. gap_empty T clones present absent _ v h a;
+    ok = switch_ok;
+    err = λ s t e w o. switch_err s t e e.0 refl o.0 o.1;
+  }
+
+-- a flag without a name in the environment keeps to the laws of its form
 pub flag_field_law : (T : Type 0) (clones : T → T → Type 0) (key : Key) (present : T)
-    (absent : Option T)
+    (absent : Option T) → key.envs ≡ []
     → FormLaw (FlagOutcome clones key present absent) (key.names ∷ [])
     (flag_field clones key present absent)
-flag_field_law T clones key present absent = by_envs key.envs refl absent
+flag_field_law T clones key present None e =
+    (flag_law T clones key present e, owned T clones key present)
+flag_field_law T clones key present (Some absent) e = (
+  each_single T _ ByName _ _ _ (λ variables.
+      subst (λ envs. SingleLaw T
+      (WithVariables variables (FlagOutcome clones key present (Some absent))) ByName
+      (flag_roles key.names) (FrontOf T (FlagValue (clones present)))
+      (flag_gap clones present (Some absent) (first_set variables envs))) e
+      (switch_law T clones key present (Some absent) variables)),
+  owned T clones key present,
+)
+
+-- a flag keeps to the laws of its form
+pub flag_form_law : (T : Type 0) (clones : T → T → Type 0) (key : Key) (present : T)
+    (absent : Option T) (variables : Variables) (words : List (List ℕ))
+    → ProgramFormLaw (WithVariables variables (FlagOutcome clones key present absent))
+    (key.names ∷ []) words (flag_form clones key present absent variables)
+flag_form_law T clones key present absent variables words = by_envs key.envs refl
   where
-    by_envs : (envs : List (List ℕ)) → key.envs ≡ envs → (absent : Option T)
-        → FormLaw (FlagOutcome clones key present absent) (key.names ∷ [])
-        (flag_by clones key.names present envs absent)
-    by_envs (env ∷ envs) e absent = tt
-    by_envs [] e None = (flag_law T clones key present e, test_owns (is_key_of key.names) key.names Alone (λ k e. e))
-    by_envs [] e (Some absent) =
-        (switch_law T clones key present e absent, test_owns (is_key_of key.names) key.names Alone (λ k e. e))
+    by_envs : (envs : List (List ℕ)) → key.envs ≡ envs
+        → ProgramFormLaw (WithVariables variables (FlagOutcome clones key present absent))
+        (key.names ∷ []) words (key_form false (flag_field clones key present absent)
+        (variable_flag clones key present absent) variables envs)
+    by_envs [] e = form_with T _ variables (key.names ∷ []) _
+        (flag_field_law T clones key present absent e)
+    by_envs (env ∷ envs) e = (
+      subst (λ names. SingleLaw T
+          (WithVariables variables (FlagOutcome clones key present absent)) ByName
+          (flag_roles key.names) (FrontOf T (FlagValue (clones present)))
+          (flag_gap clones present absent (first_set variables names))) e
+          (switch_law T clones key present absent variables),
+      owned T clones key present,
+    )

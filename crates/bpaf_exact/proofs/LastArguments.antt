@@ -1,7 +1,7 @@
 -- An argument that takes all its keys at once keeps to the laws of a field.
 use Rattle.std.proofs.Common.{◌≡◌, ℕ, true, List, [], ◌∷◌, ◌++◌, Ok, refl, sym, ap, ◌∙◌}
 use Rattle.std.proofs.Common.{subst, ⊎_elim}
-use Rattle.bpaf_text.specs.Named.{KeyWithValue, argument_part}
+use Rattle.bpaf_text.specs.Named.{KeyWithValue}
 use Rattle.bpaf_items.specs.declared.arg.Arg.{Arg}
 use Rattle.bpaf_items.specs.Items.{item_text}
 use Rattle.bpaf_line.specs.declared.error.Error.{Error}
@@ -9,18 +9,20 @@ use Rattle.bpaf_line.specs.declared.error.Message.{Message}
 use Rattle.bpaf_line.specs.declared.error.Message.TheVariants.{Memory, NoArgument, ParseFailed}
 use Rattle.bpaf_line.specs.Situation.{Situation}
 use Rattle.bpaf_laws.specs.Argument.{ArgumentOutcome, ArgumentFails, TakesKeysWithTexts}
-use Rattle.bpaf_laws.specs.Argument.{TakesOwnText, TakesBefore, GetsText, is_key_with_value}
-use Rattle.bpaf_exact.specs.Pieces.{WithNext, Roles, LinePiece, One, Two, pieces}
-use Rattle.bpaf_exact.specs.Pieces.{takes_none, takes_more}
+use Rattle.bpaf_laws.specs.Argument.{TakesOwnText, TakesBefore, is_key_with_value}
+use Rattle.bpaf_laws.specs.Environment.{first_set}
+use Rattle.bpaf_exact.specs.Pieces.{Roles, LinePiece, One, Two, pieces, takes_none, takes_more}
 use Rattle.bpaf_exact.specs.Flat.{class, class_of, cells, NoneOutside, ByName, Steady, Refused}
-use Rattle.bpaf_exact.specs.Single.{no_gap, TakesAny, SingleOk, took, SingleErr, of_memory}
-use Rattle.bpaf_exact.specs.Single.{of_missing, of_piece, SingleLaw}
-use Rattle.bpaf_exact.specs.Leaves.{argument_roles, HaveValues, no_more, one_more, LastGroup}
-use Rattle.bpaf_exact.proofs.ArgumentPieces.{never_set, TookPair, test, named, took_pair}
-use Rattle.bpaf_exact.proofs.Classes.{missing_class}
+use Rattle.bpaf_exact.specs.Single.{Gap, TakesAny, SingleOk, took, SingleErr, of_memory, of_piece}
+use Rattle.bpaf_exact.specs.Single.{SingleLaw}
+use Rattle.bpaf_exact.specs.Leaves.{argument_gap, argument_roles, HaveValues, no_more, one_more}
+use Rattle.bpaf_exact.specs.Leaves.{LastGroup}
+use Rattle.bpaf_exact.specs.Variables.{Variables, WithVariables}
+use Rattle.bpaf_exact.proofs.ArgumentPieces.{TookPair, test, named, took_pair, no_key, nowhere}
+use Rattle.bpaf_exact.proofs.ArgumentPieces.{variable_read, variable_fault, gap_empty}
 use Rattle.bpaf_exact.proofs.First.{first_takes, first_pieces, takes_nonempty}
-use Rattle.bpaf_exact.proofs.Matching.{match_of, no_pieces, bare_taken, absence_missing}
-use Rattle.bpaf_exact.proofs.Product.{steady_refl, steady_trans}
+use Rattle.bpaf_exact.proofs.Matching.{match_of, bare_taken}
+use Rattle.bpaf_exact.proofs.Product.{steady_trans}
 
 -- a list with a last element isn't empty
 not_nil : {T : Type 0} (xs : List T) (x : T) → xs ++ x ∷ [] ≡ [] → ⊥
@@ -50,8 +52,7 @@ bare_spoils (o ∷ pairs) tail before k j w (one_more {os = os} h) e =
     bare_spoils pairs tail os k j w h cc
 
 module _ (T : Type 0) (means : List ℕ → T → Type 0) (argument : KeyWithValue)
-    (no_envs : argument.named.envs ≡ [])
-    (all : argument.last ≡ true) where
+    (all : argument.last ≡ true) (variables : Variables) where
   -- the items of the argument
   abbrev q : Roles
   q = argument_roles argument.adjacent argument.named.names
@@ -142,17 +143,14 @@ module _ (T : Type 0) (means : List ℕ → T → Type 0) (argument : KeyWithVal
     none : pieces q (cells t) ≡ []
 
   -- all its keys were taken
-  gets_all : (s t : Situation) (text : List ℕ) → GetsText argument s text t → GotAll s t text
-  gets_all s t text gets =
-      ⊎_elim
-      (λ takes.
+  takes_all : (s t : Situation) (text : List ℕ) → TakesOwnText argument.last argument s text t
+      → GotAll s t text
+  takes_all s t text takes =
       let last = subst (λ b. TakesOwnText b argument s text t) all takes in
       record {
         pieces_are = took_texts s t text last.before last.taken;
-        none =
-            no_pieces (is_key_with_value argument) q WithNext t (test argument) last.no_more;
-      })
-      (λ variable. absurd (never_set argument no_envs s text variable.set)) gets
+        none = no_key argument t last.no_more;
+      }
 
   -- the pieces of a text, up to the last one
   whole : (s t : Situation) (text : List ℕ) (got : GotAll s t text)
@@ -162,20 +160,23 @@ module _ (T : Type 0) (means : List ℕ → T → Type 0) (argument : KeyWithVal
       let a = got.pieces_are in
       a.is ∙ ap (λ z. a.before ++ Two a.key a.word ∷ z) got.none
 
+  -- where no key is there
+  abbrev gap : Gap T
+  gap = argument_gap means (first_set variables argument.named.envs)
+
   -- a value is that of the last piece
-  last_ok : (s t : Situation) (v : T) → NoneOutside s → ArgumentOutcome means argument s (Ok v) t
-      → SingleOk T ByName q (LastGroup T means) (no_gap T) s v t
-  last_ok s t v w o =
-      let got = gets_all s t o.0 o.1 in
+  last_read : (s t : Situation) (text : List ℕ) (v : T) → GotAll s t text → means text v
+      → SingleOk T ByName q (LastGroup T means) gap s v t
+  last_read s t text v got m =
       let a = got.pieces_are in
       let group : (rest : List LinePiece) → rest ≡ []
       → LastGroup T means (pieces q (cells s)) v rest = (λ rest none. record {
         before = a.before;
         key = a.key;
         word = a.word;
-        is = whole s t o.0 got;
+        is = whole s t text got;
         have_values = a.have_values;
-        meant = subst (λ z. means z v) (sym a.text_is) o.2;
+        meant = subst (λ z. means z v) (sym a.text_is) m;
         none_left = none;
       }) in
       took (record {
@@ -185,6 +186,16 @@ module _ (T : Type 0) (means : List ℕ → T → Type 0) (argument : KeyWithVal
         read = λ r. group (pieces q (cells t)) got.none;
         readable = λ x rest g. (group rest g.none_left, got.none ∙ sym g.none_left);
       })
+
+  -- or that of the variable
+  last_ok : (s t : Situation) (v : T) → NoneOutside s
+      → WithVariables variables (ArgumentOutcome means argument) s (Ok v) t
+      → SingleOk T ByName q (LastGroup T means) gap s v t
+  last_ok s t v w o = ⊎_elim
+      (λ takes. last_read s t o.1.0 v (takes_all s t o.1.0 takes) o.1.2)
+      (λ read. variable_read T means argument (LastGroup T means) variables s t o.1.0 v o.0 read
+      o.1.2)
+      o.1.1
 
   -- where a last text means no value, the pieces have none
   fault_group : (s t : Situation) (text : List ℕ) → GotAll s t text
@@ -201,7 +212,7 @@ module _ (T : Type 0) (means : List ℕ → T → Type 0) (argument : KeyWithVal
   -- where a key has no value, the pieces have none
   bare_refused : (s t : Situation) (e : Error) (k : Arg) (tail : List LinePiece) → class e ≡ Refused
       → TookSome s t → pieces q (cells t) ≡ One k ∷ tail
-      → SingleErr T ByName q (LastGroup T means) (no_gap T) s e t
+      → SingleErr T ByName q (LastGroup T means) gap s e t
   bare_refused s t e k tail c some is =
       let there : pieces q (cells s) ≡ some.pairs ++ One k ∷ tail =
       some.is ∙ ap (λ z. some.pairs ++ z) is in
@@ -216,34 +227,31 @@ module _ (T : Type 0) (means : List ℕ → T → Type 0) (argument : KeyWithVal
 
   -- a refusal: no piece, one without a value, or a last one that means none
   last_err : (s t : Situation) (e : Error) (m : Message) → class e ≡ class_of m
-      → ArgumentFails means argument s m t
-      → SingleErr T ByName q (LastGroup T means) (no_gap T) s e t
-  last_err s t e Memory c o = of_memory c
-  last_err s t e (ParseFailed place fault) c o =
-      let got = gets_all s t o.0 o.1 in
-      let a = got.pieces_are in
-      of_piece c (takes_nonempty q a.any.one) (fault_group s t o.0 got o.2.0)
-  last_err s t e (NoArgument key metavar) c o =
+      → s.context.env ≡ variables → ArgumentFails means argument s m t
+      → SingleErr T ByName q (LastGroup T means) gap s e t
+  last_err s t e Memory c same o = of_memory c
+  last_err s t e (ParseFailed place fault) c same o = ⊎_elim
+      (λ takes. let got = takes_all s t o.0 takes in
+      of_piece c (takes_nonempty q got.pieces_are.any.one) (fault_group s t o.0 got o.2.0))
+      (λ read. variable_fault T means argument (LastGroup T means) variables s t e o.0 same read c
+      o.2.0)
+      o.1
+  last_err s t e (NoArgument key metavar) c same o =
       let before = subst (λ b. TakesBefore b argument s t) all o.1 in
       let m = match_of (is_key_with_value argument) t key o.0.0.matches in
       let b = bare_taken (is_key_with_value argument) q t key (test argument) o.0.0 m o.0.1 in
       bare_refused s t e m.item b.tail c (took_some s t before.0 before.1) b.is
-  last_err s t e other c o =
-      subst (λ z. SingleErr T ByName q (LastGroup T means) (no_gap T) s e z) (sym o.2)
-      (of_missing
-      (c ∙ missing_class other
-      (absence_missing s (argument_part argument) argument.named.envs no_envs other o.1.1))
-      refl (no_pieces (is_key_with_value argument) q WithNext s (test argument) o.0) refl
-      (steady_refl s))
+  last_err s t e other c same o =
+      nowhere T means argument (LastGroup T means) variables s t e other c same o.0 o.1 o.2
 
   -- such an argument keeps to the laws of a field
-  pub last_argument_law : SingleLaw T (ArgumentOutcome means argument) ByName q (LastGroup T means)
-      (no_gap T)
+  pub last_argument_law : SingleLaw T (WithVariables variables (ArgumentOutcome means argument))
+      ByName q (LastGroup T means) gap
   last_argument_law = record {
     own = named argument;
     words = tt;
     starts = λ v rest g. not_nil g.before (Two g.key g.word) (sym g.is);
-    no_absent = λ v none a. a;
+    no_absent = gap_empty T means argument (LastGroup T means) variables;
     ok = last_ok;
-    err = λ s t e w o. last_err s t e e.0 refl o;
+    err = λ s t e w o. last_err s t e e.0 refl o.0 o.1;
   }

@@ -10,7 +10,7 @@ use Rattle.bpaf_items.specs.declared.arg.Arg.TheVariants.{Short, Long, ArgWord, 
 use Rattle.bpaf_items.specs.Items.{is_key_of, value_text, item_text}
 use Rattle.bpaf_line.specs.declared.error.Error.{Error}
 use Rattle.bpaf_line.specs.declared.error.Message.{Message}
-use Rattle.bpaf_line.specs.declared.error.Message.TheVariants.{Missing}
+use Rattle.bpaf_line.specs.declared.error.Message.TheVariants.{Missing, NoEnv}
 use Rattle.bpaf_line.specs.Situation.{Situation, take_place}
 use Rattle.bpaf_line.specs.Taking.{open_item, is_match, IsFirst, HasNone, value_after}
 use Rattle.bpaf_line.proofs.Places.{open_in_line}
@@ -18,10 +18,13 @@ use Rattle.bpaf_line.proofs.Matches.{open_item_there}
 use Rattle.bpaf_laws.specs.Environment.{IsAbsence, MissesItem}
 use Rattle.bpaf_exact.specs.Pieces.{Role, Foreign, Alone, WithNext, Roles, LinePiece, One, Two}
 use Rattle.bpaf_exact.specs.Pieces.{is_value, is_key, is_own_role, IsNamed, pieces}
-use Rattle.bpaf_exact.specs.Flat.{OfMissing, Refused, is_missing, class, cells, Steady}
+use Rattle.bpaf_exact.specs.Flat.{OfMissing, Refused, is_missing, class, class_of, cells}
+use Rattle.bpaf_exact.specs.Flat.{Steady}
 use Rattle.bpaf_exact.specs.Names.{Owns}
 use Rattle.bpaf_exact.specs.Alternative.{NotOwn, TakesFirst, HasBad, bad_here, AlternativeOk}
 use Rattle.bpaf_exact.specs.Alternative.{AlternativeErr, alternative_missing, alternative_refused}
+use Rattle.bpaf_exact.specs.Single.{CanCatch, catch_missing, catch_other}
+use Rattle.bpaf_exact.proofs.Classes.{missing_class}
 use Rattle.bpaf_exact.proofs.Product.{steady_refl, steady_trans}
 use Rattle.bpaf_exact.proofs.First.{first_takes}
 use Rattle.bpaf_exact.proofs.Names.{named_key}
@@ -231,6 +234,15 @@ pub absence_missing : (s : Situation) (part : Option Part) (envs : List (List �
 absence_missing s (Some part) envs e m o = misses s (Some part) m o
 absence_missing s None [] e m o = misses s None m o
 absence_missing s None (env ∷ envs) e m o = absurd cc
+
+-- that of any key can be caught
+pub absence_caught : (s : Situation) (part : Option Part) (envs : List (List ℕ)) (e : Error)
+    (m : Message) → class e ≡ class_of m → IsAbsence s part envs m → CanCatch e
+absence_caught s (Some part) envs e m c o =
+    catch_missing (c ∙ missing_class m (misses s (Some part) m o))
+absence_caught s None [] e m c o = catch_missing (c ∙ missing_class m (misses s None m o))
+absence_caught s None (env ∷ envs) e (NoEnv name) c o = catch_other c
+absence_caught s None (env ∷ envs) e m c o = absurd o
 
 -- a role that a test gives is one of the field's own where the test holds
 own_test : (b : Bool) (x : Role) → is_own_role (if b then x else Foreign) ≡ true → b ≡ true

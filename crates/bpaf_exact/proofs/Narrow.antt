@@ -11,8 +11,8 @@ use Rattle.bpaf_exact.specs.Flat.{NoneOutside, OfMemory, back, cells, class, fro
 use Rattle.bpaf_exact.specs.FlatForm.{FlatForm, not_flat, alternative, single, complete, product}
 use Rattle.bpaf_exact.specs.FlatForm.{FormLaw, NamedLaw}
 use Rattle.bpaf_exact.specs.Pieces.{LinePiece, Roles, pieces}
-use Rattle.bpaf_exact.specs.Single.{Gap, Groups, SingleErr, of_absent, of_memory, of_missing}
-use Rattle.bpaf_exact.specs.Single.{of_piece}
+use Rattle.bpaf_exact.specs.Single.{CanCatch, Gap, Groups, SingleErr, catch_missing, catch_other}
+use Rattle.bpaf_exact.specs.Single.{of_absent, of_memory, of_missing, of_piece}
 
 -- what b allows a allows too, of a refusal one of the same class
 pub record AllowsNoMore (T : Type 0) (a b : Outcome T) : Type 0 where
@@ -38,12 +38,17 @@ module _ (T : Type 0) (d e : Error) (same : class d ≡ class e) where
   alternative_like q value s t (alternative_refused h path bad unread) =
       alternative_refused (sym same ∙ h) path bad unread
 
+  -- the one can be caught where the other can
+  catch_like : CanCatch d → CanCatch e
+  catch_like (catch_missing h) = catch_missing (sym same ∙ h)
+  catch_like (catch_other h) = catch_other (sym same ∙ h)
+
   -- so is one of another field
   single_like : (k : FieldKind) (q : Roles) (group : Groups T) (gap : Gap T) (s t : Situation)
       → SingleErr T k q group gap s d t → SingleErr T k q group gap s e t
   single_like k q group gap s t (of_memory h) = of_memory (sym same ∙ h)
   single_like k q group gap s t (of_missing h has none kept steady) =
-      of_missing (sym same ∙ h) has none kept steady
+      of_missing (catch_like h) has none kept steady
   single_like k q group gap s t (of_absent h has none refused) =
       of_absent (sym same ∙ h) has none refused
   single_like k q group gap s t (of_piece h some refused) = of_piece (sym same ∙ h) some refused

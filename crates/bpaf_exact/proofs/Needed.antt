@@ -2,6 +2,7 @@
 use Rattle.std.proofs.Common.{◌≡◌, ◌≢◌, ℕ, Bool, List, [], ◌∷◌, ◌++◌, Option, None, refl, sym, ◌∙◌}
 use Rattle.bpaf_exact.specs.Pieces.{LinePiece, Two}
 use Rattle.bpaf_exact.specs.Says.{Said, FlagSays, says_present, says_absent, ArgumentSays}
+use Rattle.bpaf_exact.specs.Says.{says_variable, says_variable_text}
 use Rattle.bpaf_exact.specs.Says.{says_text, says_last_text, MadeSays, FrontSays, RepeatSays}
 use Rattle.bpaf_exact.specs.Says.{says_in_turn, says_alone, LastSays}
 use Rattle.bpaf_exact.specs.Single.{Own, own_none, own_more}
@@ -21,23 +22,26 @@ no_part : {X : Type 0} (xs ys : List X) → [] ≡ xs ++ ys → xs ≡ []
 no_part [] ys e = refl
 no_part (x ∷ xs) ys e = absurd cc
 
--- An argument's value needs a piece,
+-- An argument's value needs a piece, where no variable of its is set,
 pub argument_needs : {T : Type 0} {means : List ℕ → T → Type 0} {last : Bool}
-    → NeedsPiece (ArgumentSays means last)
-argument_needs {T} {means} {last} = record { some = by_case }
+    {set : Option (List ℕ)} → set ≡ None → NeedsPiece (ArgumentSays means last set)
+argument_needs {T} {means} {last} {set} unset = record { some = by_case }
   where
-    by_case : (v : T) → ¬ (ArgumentSays means last [] v)
+    by_case : (v : T) → ¬ (ArgumentSays means last set [] v)
     by_case v (says_text k w e m) = cc
     by_case v (says_last_text before k w all each e m) = not_empty before (Two k w) [] e
+    by_case v (says_variable_text text none is m) = cc
 
--- a required flag's,
+-- a required flag's then,
 pub flag_needs : {T : Type 0} {clones : T → T → Type 0} {present : T} {absent : Option T}
-    → absent ≡ None → NeedsPiece (FlagSays clones present absent)
-flag_needs {T} {clones} {present} {absent} required = record { some = by_case }
+    {set : Option (List ℕ)} → absent ≡ None → set ≡ None
+    → NeedsPiece (FlagSays clones present absent set)
+flag_needs {T} {clones} {present} {absent} {set} required unset = record { some = by_case }
   where
-    by_case : (v : T) → ¬ (FlagSays clones present absent [] v)
+    by_case : (v : T) → ¬ (FlagSays clones present absent set [] v)
     by_case v (says_present k e m) = cc
-    by_case v (says_absent a none kept m) = cc
+    by_case v (says_variable text none is m) = cc
+    by_case v (says_absent a none is kept m) = cc
 
 -- with a closure round it one that does inside,
 pub made_needs : {A B : Type 0} {said : Said A} {f : Closure A B} → NeedsPiece said

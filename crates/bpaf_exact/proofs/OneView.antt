@@ -19,7 +19,7 @@ use Rattle.bpaf_exact.specs.Wrappers.{Closure, OptionalValue, some_value, no_val
 use Rattle.bpaf_exact.specs.Wrappers.{own_value, kept_value}
 use Rattle.bpaf_exact.specs.Derived.{LastOf, list_closure}
 use Rattle.bpaf_exact.specs.Alternative.{pick_type}
-use Rattle.bpaf_exact.specs.Leaves.{FlagValue, ArgumentValue, WordValue, flag_by, flag_field}
+use Rattle.bpaf_exact.specs.Leaves.{FlagValue, ArgumentValue, WordValue, flag_field}
 use Rattle.bpaf_exact.specs.Leaves.{LastGroup, SideValue, argument_by, argument_field, word_by}
 use Rattle.bpaf_exact.specs.Leaves.{word_field}
 use Rattle.bpaf_exact.specs.Record.{RunAnswer, Accepted, NoMemory, Refusal, RecordValue, IsExact}
@@ -107,14 +107,9 @@ flag_piece T X see present u (Two k x) v w a b = absurd a
 pub flag_view : (T X : Type 0) (see : T → X) (clones : T → T → Type 0)
     → ((kept : T) → Alike see (clones kept)) → (key : Key) (present : T) (absent : Option T)
     → HasOneView see (flag_field clones key present absent)
-flag_view T X see clones u key present absent = by_envs key.envs absent
-  where
-    by_envs : (envs : List (List ℕ)) (absent : Option T)
-        → HasOneView see (flag_by clones key.names present envs absent)
-    by_envs (env ∷ envs) absent = tt
-    by_envs [] None = flag_piece T X see (clones present) (u present)
-    by_envs [] (Some kept) =
-        (front_view T X see _ (flag_piece T X see (clones present) (u present)), u kept)
+flag_view T X see clones u key present None = flag_piece T X see (clones present) (u present)
+flag_view T X see clones u key present (Some kept) =
+    (front_view T X see _ (flag_piece T X see (clones present) (u present)), u kept)
 
 -- a key and its value
 argument_piece : (T X : Type 0) (see : T → X) (means : List ℕ → T → Type 0)
@@ -138,14 +133,12 @@ last_group T X see means u os rest others v w a b =
 pub argument_view : (T X : Type 0) (see : T → X) (means : List ℕ → T → Type 0)
     → ((text : List ℕ) → Alike see (means text)) → (argument : KeyWithValue)
     → HasOneView see (argument_field means argument)
-argument_view T X see means u argument =
-    by_parts argument.named.envs argument.adjacent argument.last
+argument_view T X see means u argument = by_last argument.last
   where
-    by_parts : (envs : List (List ℕ)) (adjacent last : Bool)
-        → HasOneView see (argument_by means argument.named.names envs adjacent last)
-    by_parts (env ∷ envs) adjacent last = tt
-    by_parts [] adjacent false = argument_piece T X see means u
-    by_parts [] adjacent true = (last_group T X see means u, λ v w a b. absurd a)
+    by_last : (last : Bool)
+        → HasOneView see (argument_by means argument.named.names argument.adjacent last)
+    by_last false = argument_piece T X see means u
+    by_last true = (last_group T X see means u, λ v w a b. absurd a)
 
 -- a word
 word_piece : (T X : Type 0) (see : T → X) (means : List ℕ → T → Type 0)

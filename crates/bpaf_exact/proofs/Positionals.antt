@@ -13,7 +13,7 @@ use Rattle.bpaf_exact.specs.Pieces.{Cells, Foreign, Alone, WithNext, LinePiece, 
 use Rattle.bpaf_exact.specs.Pieces.{pieces}
 use Rattle.bpaf_exact.specs.Flat.{cells, NoneOutside, Steady, OneWord, front, back}
 use Rattle.bpaf_exact.specs.Single.{Groups, FrontOf, no_gap, SingleOk, took, SingleErr, of_memory}
-use Rattle.bpaf_exact.specs.Single.{of_missing, of_piece, WordByWord, SingleLaw}
+use Rattle.bpaf_exact.specs.Single.{catch_missing, of_missing, of_piece, WordByWord, SingleLaw}
 use Rattle.bpaf_exact.specs.Alternative.{TakesFirst, first_one, first_two, first_later}
 use Rattle.bpaf_exact.specs.Leaves.{WordEval, stands_behind, word_by, word_fault, word_memory}
 use Rattle.bpaf_exact.specs.Leaves.{word_missing, word_read}
@@ -111,7 +111,7 @@ module _ (T : Type 0) (value : LinePiece → T → Type 0) where
       let j : y.piece ≡ One m.word = cc in
       n m.word x m.text_is (subst (λ z. value z x) j y.means))
   word_err s t e w (word_missing none c) =
-      of_missing c refl (no_pieces is_positional word_roles Alone s test none) refl (steady_refl s)
+      of_missing (catch_missing c) refl (no_pieces is_positional word_roles Alone s test none) refl (steady_refl s)
   word_err s t e w (word_memory c) = of_memory c
 
   -- the first word alone is read

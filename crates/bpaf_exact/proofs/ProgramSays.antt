@@ -1,9 +1,10 @@
 -- Of each combinator: its values say what is told of them, where those of its inner parsers do.
 use Rattle.std.proofs.Common.{◌≡◌, ℕ, zero, suc, Bool, true, false, List, [], ◌∷◌, ◌++◌, Some, None}
-use Rattle.std.proofs.Common.{not, ◌&&◌, ◌||◌, refl, arith}
+use Rattle.std.proofs.Common.{Option, not, ◌&&◌, ◌||◌, refl, sym, subst, arith}
 use Rattle.std.specs.List.{Contains}
 use Rattle.bpaf_doc.specs.Names.{Names}
 use Rattle.bpaf_laws.specs.Command.{Called, opening_words}
+use Rattle.bpaf_laws.specs.Environment.{first_set}
 use Rattle.bpaf_laws.specs.Reading.{Outcome}
 use Rattle.bpaf_exact.specs.Pieces.{Roles, LinePiece, pieces}
 use Rattle.bpaf_exact.specs.Flat.{FieldKind, ByName}
@@ -34,6 +35,7 @@ use Rattle.bpaf_exact.specs.ProgramSays.{said_alone, said_both, said_con, said_c
 use Rattle.bpaf_exact.specs.ProgramSays.{said_command, said_dressed, said_flat, said_optional}
 use Rattle.bpaf_exact.specs.ProgramSays.{said_fallback, said_last, said_repeat, fields_said_inside}
 use Rattle.bpaf_exact.specs.Single.{repeated}
+use Rattle.bpaf_exact.specs.Variables.{Variables, key_form}
 use Rattle.bpaf_exact.specs.Wrappers.{Closure}
 use Rattle.bpaf_exact.proofs.Says.{FormOwns, alone_says, both_say, by_name, choice_into}
 use Rattle.bpaf_exact.proofs.Says.{choice_says, closed_says, con_says, field_owned}
@@ -44,7 +46,8 @@ use Rattle.bpaf_exact.proofs.ProgramForm.{record_owns}
 use Rattle.bpaf_exact.proofs.Sharing.{cut_fit, pieces_own}
 
 -- where a test holds
-if_says : {P T : Type 0} (names : List Names) (b : Bool) (s : ProgramForm T) (kind : FieldKind) (said : ProgramSaid P T)
+if_says : {P T : Type 0} (names : List Names) (b : Bool) (s : ProgramForm T) (kind : FieldKind)
+    (said : ProgramSaid P T)
     (p : P) → (b ≡ true → ProgramFormSays names s kind said p)
     → ProgramFormSays names (program_if b s) kind said p
 if_says names true s kind said p h = h refl
@@ -54,10 +57,12 @@ module _ {P Q A B : Type 0} (inside : Q → P) (q : Q) where
   -- a combinator that takes flat fields alone
   pub flat_only_says : (pieces : Q → Said A → Said B) {s : ProgramForm A} {said : ProgramSaid P A}
       {kind outer : FieldKind} {names : List Names} (g : FlatForm A → FlatForm B)
-      → ((s : FlatForm A) (said : Said A) → Says names s kind said → Says names (g s) outer (pieces q said))
+      → ((s : FlatForm A) (said : Said A) → Says names s kind said
+      → Says names (g s) outer (pieces q said))
       → ProgramSays names s kind said (inside q)
       → ProgramSays names (flat_only g s) outer (said_flat inside pieces said) q
-  flat_only_says pieces {s} {said} {kind} {outer} {names} g each h = record { by = by_form s said h.by }
+  flat_only_says pieces {s} {said} {kind} {outer} {names} g each h =
+      record { by = by_form s said h.by }
     where
       by_form : (s : ProgramForm A) (said : ProgramSaid P A)
           → ProgramFormSays names s kind said (inside q)
@@ -70,7 +75,8 @@ module _ {P Q A B : Type 0} (inside : Q → P) (q : Q) where
       by_form (before_commands r value) said h = tt
 
   -- a closure
-  pub program_closed_says : {s : ProgramForm A} {said : ProgramSaid P A} {kind : FieldKind} {names : List Names}
+  pub program_closed_says : {s : ProgramForm A} {said : ProgramSaid P A} {kind : FieldKind}
+      {names : List Names}
       (f : Q → Closure A B) → ProgramSays names s kind said (inside q)
       → ProgramSays names (program_closed (f q) s) kind
       (said_closed inside f said) q
@@ -96,7 +102,8 @@ module _ {P Q A B : Type 0} (inside : Q → P) (q : Q) where
 
 -- what is made of a repeat
 pub program_repeat_says : {P Q T B : Type 0} (inside : Q → P) (q : Q) (catch : Bool)
-    (f : Closure (List T) B) {s : ProgramForm T} {said : ProgramSaid P T} {kind : FieldKind} {names : List Names}
+    (f : Closure (List T) B) {s : ProgramForm T} {said : ProgramSaid P T} {kind : FieldKind}
+    {names : List Names}
     → ProgramSays names s kind said (inside q)
     → ProgramSays names (program_repeat catch f s) (repeated kind) (said_repeat inside f said) q
 program_repeat_says inside q catch f h =
@@ -106,7 +113,8 @@ program_repeat_says inside q catch f h =
 
 -- its last value
 pub program_last_says : {P Q T : Type 0} (inside : Q → P) (q : Q) {s : ProgramForm T}
-    {said : ProgramSaid P T} {kind : FieldKind} {names : List Names} → ProgramSays names s kind said (inside q)
+    {said : ProgramSaid P T} {kind : FieldKind} {names : List Names}
+    → ProgramSays names s kind said (inside q)
     → ProgramSays names (program_last s) (repeated kind) (said_last inside said) q
 program_last_says inside q h =
     flat_only_says inside q (λ q said. LastSays said) (λ s. flat_last s) (λ s said h. last_says h)
@@ -123,7 +131,8 @@ program_fallback_says inside q f h =
 
 module _ {P Q T : Type 0} (inside : Q → P) (q : Q) where
   -- another look
-  pub program_dressed_says : {s : ProgramForm T} {said : ProgramSaid P T} {kind : FieldKind} {names : List Names}
+  pub program_dressed_says : {s : ProgramForm T} {said : ProgramSaid P T} {kind : FieldKind}
+      {names : List Names}
       → ProgramSays names s kind said (inside q)
       → ProgramSays names (program_dressed s) kind
       (said_dressed inside said) q
@@ -143,7 +152,8 @@ module _ {P Q T : Type 0} (inside : Q → P) (q : Q) where
       by_form (before_commands r value) said h = tt
 
   -- what may be left out
-  pub program_optional_says : {s : ProgramForm T} {said : ProgramSaid P T} {kind : FieldKind} {names : List Names}
+  pub program_optional_says : {s : ProgramForm T} {said : ProgramSaid P T} {kind : FieldKind}
+      {names : List Names}
       (catch : Bool) → ProgramSays names s kind said (inside q)
       → ProgramSays names (program_optional catch s) kind
       (said_optional inside said) q
@@ -170,24 +180,27 @@ module _ {P Q T : Type 0} (inside : Q → P) (q : Q) where
   -- a value of a whole program says so of the cells
   whole_says : (outcome : Outcome T) (names : List Names) (words : List (List ℕ))
       (s : ProgramForm T) (kind : FieldKind) (said : ProgramSaid P T) (p : P)
-      → ProgramFormLaw outcome names words s → ProgramFormSays names s kind said p → is_program s ≡ true
+      → ProgramFormLaw outcome names words s → ProgramFormSays names s kind said p
+      → is_program s ≡ true
       → IsSaid (program_value s) (cells_said said p)
   whole_says outcome names words no_program kind said p law h is = absurd cc
-  whole_says outcome names words (plain wide s) kind (of_pieces said) p law h is = λ cs v read. record {
-    roles = product_roles (flat_record s);
-    cut_into = read.cut_into;
-    cut = read.cut;
-    told = record_says s h read.cut_into v
-        (cut_fit (product_roles (flat_record s)) names
-        (record_owns T outcome names s is (flat_record_law T outcome names s law)) read.cut)
-        read.read;
-  }
+  whole_says outcome names words (plain wide s) kind (of_pieces said) p law h is =
+      λ cs v read. record {
+        roles = product_roles (flat_record s);
+        cut_into = read.cut_into;
+        cut = read.cut;
+        told = record_says s h read.cut_into v
+            (cut_fit (product_roles (flat_record s)) names
+            (record_owns T outcome names s is (flat_record_law T outcome names s law)) read.cut)
+            read.read;
+      }
   whole_says outcome names words (plain wide s) kind (of_cells said) p law h is = absurd h
   whole_says outcome names words (commands r value) kind (of_pieces said) p law h is = absurd h
   whole_says outcome names words (commands r value) kind (of_cells said) p law h is = h
   whole_says outcome names words (left_out r value) kind (of_pieces said) p law h is = absurd h
   whole_says outcome names words (left_out r value) kind (of_cells said) p law h is = h
-  whole_says outcome names words (before_commands r value) kind (of_pieces said) p law h is = absurd h
+  whole_says outcome names words (before_commands r value) kind (of_pieces said) p law h is =
+      absurd h
   whole_says outcome names words (before_commands r value) kind (of_cells said) p law h is = h
 
   -- a command
@@ -197,10 +210,11 @@ module _ {P Q T : Type 0} (inside : Q → P) (q : Q) where
       → ProgramSays names s kind said (inside q)
       → ProgramSays names (program_command adjacent apart (called q) s) ByName
       (said_command inside called said) q
-  program_command_says outcome words {s} {said} {kind} {names} adjacent apart called law h = record {
-    by = if_says names (not adjacent && apart) _ ByName _ q (λ on. by_form s
-        (whole_says outcome names words s kind said (inside q) law h.by));
-  }
+  program_command_says outcome words {s} {said} {kind} {names} adjacent apart called law h =
+      record {
+        by = if_says names (not adjacent && apart) _ ByName _ q (λ on. by_form s
+            (whole_says outcome names words s kind said (inside q) law h.by));
+      }
     where
       Told : CellsValue T
       Told = cells_said said (inside q)
@@ -247,9 +261,12 @@ module _ {Q T : Type 0} (q : Q) where
       → ((os : List LinePiece) (v : T) → says p os v → said q os v)
       → ProgramFormSays names (program_choice own others words more before s) ByName
       (of_pieces said) q
-  more_pieces said says p kind names own others words more (plain wide a) (plain other b) h g into = record {
-    by = choice_into names others names own others kind (said q) (said q) (says p) (λ os v m. m) into a b h.by g.by;
-  }
+  more_pieces said says p kind names own others words more (plain wide a) (plain other b)
+      h g into = record {
+        by =
+            choice_into names others names own others kind (said q) (said q) (says p) (λ os v m. m)
+            into a b h.by g.by;
+      }
   more_pieces said says p kind names own others words more (commands r a) s h g into = absurd h
   more_pieces said says p kind names own others words more _ _ h g into = tt
 
@@ -258,8 +275,10 @@ module _ {Q T : Type 0} (q : Q) where
       (kind : FieldKind) (names own others : List Names) (words more : List (List ℕ))
       (before s : ProgramForm T) → ProgramFormSays names before ByName (of_cells said) q
       → ProgramFormSays others s kind (of_cells says) p → IsSaid (says p) (said q)
-      → ProgramFormSays names (program_choice own others words more before s) ByName (of_cells said) q
-  more_cells said says p kind names own others words more (plain wide a) (plain other b) h g into = absurd h
+      → ProgramFormSays names (program_choice own others words more before s) ByName
+      (of_cells said) q
+  more_cells said says p kind names own others words more (plain wide a) (plain other b) h g into =
+      absurd h
   more_cells said says p kind names own others words more (commands r a) (commands u b) h g into =
       if_says names (are_words_apart words more) _ ByName _ q (λ on. either)
     where
@@ -287,7 +306,8 @@ program_choice_says {P} {Q} {R} {T} this that r own others words more {s} {t} {a
         → ProgramFormSays own s j a (this r) → ProgramFormSays others t k b (that r)
         → ProgramFormSays (own ++ others) (program_choice own others words more s t) ByName
         (said_choice this that a b) r
-    by_form (plain wide s) (plain other t) (of_pieces a) (of_pieces b) h g = choice_says own others h g
+    by_form (plain wide s) (plain other t) (of_pieces a) (of_pieces b) h g =
+        choice_says own others h g
     by_form (plain wide s) (plain other t) (of_cells a) b h g = absurd h
     by_form (plain wide s) (plain other t) (of_pieces a) (of_cells b) h g = absurd g
     by_form (commands q va) (commands u vb) (of_cells a) (of_cells b) h g =
@@ -302,67 +322,71 @@ module _ {P Q T : Type 0} (keys : P → List Names) (words : P → List (List �
     (form : P → ProgramForm T) (kind : P → FieldKind) (agrees : P → Type 0) (q : Q)
     (names : List Names) where
   module _ (says : P → Said T)
-      (each : (p : P) → agrees p → ProgramFormSays (keys p) (form p) (kind p) (of_pieces says) p) where
-    -- of what stands before and of more, by their pieces
-    rest_pieces : (said : Q → Said T) (own : List Names) (heard : List (List ℕ))
-        (before : ProgramForm T) (ps : List P) → ProgramFormSays names before ByName (of_pieces said) q
-        → EachAgrees agrees ps
-        → ((p : P) → Contains ps p → (os : List LinePiece) (v : T) → says p os v → said q os v)
-        → ProgramFormSays names (program_rest keys words form own heard before ps) ByName
-        (of_pieces said) q
-    rest_pieces said own heard before [] h agree into = h
-    rest_pieces said own heard before (p ∷ ps) h agree into =
-        rest_pieces said (own ++ keys p) (heard ++ words p)
-        (program_choice own (keys p) heard (words p) before (form p)) ps
-        (more_pieces q said says p (kind p) names own (keys p) heard (words p) before (form p) h
-        (each p agree.0) (into p (zero, omega arith, refl))) agree.1
-        (λ r there. into r (suc there.0, omega arith, there.2))
+      (each : (p : P) → agrees p → ProgramFormSays (keys p) (form p) (kind p) (of_pieces says) p)
+    where
+      -- of what stands before and of more, by their pieces
+      rest_pieces : (said : Q → Said T) (own : List Names) (heard : List (List ℕ))
+          (before : ProgramForm T) (ps : List P)
+          → ProgramFormSays names before ByName (of_pieces said) q
+          → EachAgrees agrees ps
+          → ((p : P) → Contains ps p → (os : List LinePiece) (v : T) → says p os v → said q os v)
+          → ProgramFormSays names (program_rest keys words form own heard before ps) ByName
+          (of_pieces said) q
+      rest_pieces said own heard before [] h agree into = h
+      rest_pieces said own heard before (p ∷ ps) h agree into =
+          rest_pieces said (own ++ keys p) (heard ++ words p)
+          (program_choice own (keys p) heard (words p) before (form p)) ps
+          (more_pieces q said says p (kind p) names own (keys p) heard (words p) before (form p) h
+          (each p agree.0) (into p (zero, omega arith, refl))) agree.1
+          (λ r there. into r (suc there.0, omega arith, there.2))
 
-    -- the first of them
-    first_pieces : (said : Q → Said T) (p : P) (s : ProgramForm T)
-        → ProgramFormSays (keys p) s (kind p) (of_pieces says) p
-        → ((os : List LinePiece) (v : T) → says p os v → said q os v)
-        → ProgramFormSays names (first_only s) ByName (of_pieces said) q
-    first_pieces said p no_program h into = tt
-    first_pieces said p (plain wide s) h into =
-        record { by = by_flat s (by_name (keys p) s (kind p) (says p) h.by) }
-      where
-        by_flat : (s : FlatForm T) → FormSays (keys p) (alternative_only s) ByName (says p)
-            → FormSays names (alternative_only s) ByName (said q)
-        by_flat not_flat h = tt
-        by_flat (alternative r value) h = (refl, λ o v m. into (o ∷ []) v (h.1 o v m))
-        by_flat (single k r group gap) h = tt
-        by_flat (complete k r value) h = tt
-        by_flat (product named r fields) h = tt
-    first_pieces said p (commands r value) h into = absurd h
-    first_pieces said p (left_out r value) h into = tt
-    first_pieces said p (before_commands r value) h into = tt
+      -- the first of them
+      first_pieces : (said : Q → Said T) (p : P) (s : ProgramForm T)
+          → ProgramFormSays (keys p) s (kind p) (of_pieces says) p
+          → ((os : List LinePiece) (v : T) → says p os v → said q os v)
+          → ProgramFormSays names (first_only s) ByName (of_pieces said) q
+      first_pieces said p no_program h into = tt
+      first_pieces said p (plain wide s) h into =
+          record { by = by_flat s (by_name (keys p) s (kind p) (says p) h.by) }
+        where
+          by_flat : (s : FlatForm T) → FormSays (keys p) (alternative_only s) ByName (says p)
+              → FormSays names (alternative_only s) ByName (said q)
+          by_flat not_flat h = tt
+          by_flat (alternative r value) h = (refl, λ o v m. into (o ∷ []) v (h.1 o v m))
+          by_flat (single k r group gap) h = tt
+          by_flat (complete k r value) h = tt
+          by_flat (product named r fields) h = tt
+      first_pieces said p (commands r value) h into = absurd h
+      first_pieces said p (left_out r value) h into = tt
+      first_pieces said p (before_commands r value) h into = tt
 
   module _ (says : P → CellsValue T)
-      (each : (p : P) → agrees p → ProgramFormSays (keys p) (form p) (kind p) (of_cells says) p) where
-    -- of what stands before and of more, by the cells
-    rest_cells : (said : Q → CellsValue T) (own : List Names) (heard : List (List ℕ))
-        (before : ProgramForm T) (ps : List P) → ProgramFormSays names before ByName (of_cells said) q
-        → EachAgrees agrees ps → ((p : P) → Contains ps p → IsSaid (says p) (said q))
-        → ProgramFormSays names (program_rest keys words form own heard before ps) ByName
-        (of_cells said) q
-    rest_cells said own heard before [] h agree into = h
-    rest_cells said own heard before (p ∷ ps) h agree into =
-        rest_cells said (own ++ keys p) (heard ++ words p)
-        (program_choice own (keys p) heard (words p) before (form p)) ps
-        (more_cells q said says p (kind p) names own (keys p) heard (words p) before (form p) h
-        (each p agree.0) (into p (zero, omega arith, refl))) agree.1
-        (λ r there. into r (suc there.0, omega arith, there.2))
+      (each : (p : P) → agrees p → ProgramFormSays (keys p) (form p) (kind p) (of_cells says) p)
+    where
+      -- of what stands before and of more, by the cells
+      rest_cells : (said : Q → CellsValue T) (own : List Names) (heard : List (List ℕ))
+          (before : ProgramForm T) (ps : List P)
+          → ProgramFormSays names before ByName (of_cells said) q
+          → EachAgrees agrees ps → ((p : P) → Contains ps p → IsSaid (says p) (said q))
+          → ProgramFormSays names (program_rest keys words form own heard before ps) ByName
+          (of_cells said) q
+      rest_cells said own heard before [] h agree into = h
+      rest_cells said own heard before (p ∷ ps) h agree into =
+          rest_cells said (own ++ keys p) (heard ++ words p)
+          (program_choice own (keys p) heard (words p) before (form p)) ps
+          (more_cells q said says p (kind p) names own (keys p) heard (words p) before (form p) h
+          (each p agree.0) (into p (zero, omega arith, refl))) agree.1
+          (λ r there. into r (suc there.0, omega arith, there.2))
 
-    -- the first of them
-    first_cells : (said : Q → CellsValue T) (p : P) (s : ProgramForm T)
-        → ProgramFormSays (keys p) s (kind p) (of_cells says) p → IsSaid (says p) (said q)
-        → ProgramFormSays names (first_only s) ByName (of_cells said) q
-    first_cells said p no_program h into = tt
-    first_cells said p (plain wide s) h into = absurd h
-    first_cells said p (commands r value) h into = λ cs v c. into cs v (h cs v c)
-    first_cells said p (left_out r value) h into = tt
-    first_cells said p (before_commands r value) h into = tt
+      -- the first of them
+      first_cells : (said : Q → CellsValue T) (p : P) (s : ProgramForm T)
+          → ProgramFormSays (keys p) s (kind p) (of_cells says) p → IsSaid (says p) (said q)
+          → ProgramFormSays names (first_only s) ByName (of_cells said) q
+      first_cells said p no_program h into = tt
+      first_cells said p (plain wide s) h into = absurd h
+      first_cells said p (commands r value) h into = λ cs v c. into cs v (h cs v c)
+      first_cells said p (left_out r value) h into = tt
+      first_cells said p (before_commands r value) h into = tt
 
   -- of all
   pub program_choices_says : (parsers : Q → List P) (said : ProgramSaid P T)
@@ -414,7 +438,8 @@ pub program_alone_says : {P Q T : Type 0} (last : Q → P) (q : Q) (outcome : Ou
     (kind : P → FieldKind) (names : P → List Names) (words : List (List ℕ)) {s : ProgramForm T}
     {said : ProgramSaid P T} → ProgramFormLaw outcome (names (last q)) words s
     → ProgramSays (names (last q)) s (kind (last q)) said (last q)
-    → ProgramFieldsSay (names (last q)) (program_alone (program_field s)) (said_alone last kind names said) q
+    → ProgramFieldsSay (names (last q)) (program_alone (program_field s))
+    (said_alone last kind names said) q
 program_alone_says {P} {Q} {T} last q outcome kind names words {s} {said} law h =
     record { by = by_form s said law h.by }
   where
@@ -435,7 +460,8 @@ program_alone_says {P} {Q} {T} last q outcome kind names words {s} {said} law h 
     by_form (before_commands r value) said law h = tt
 
 -- where a test holds
-fields_if_say : {P V : Type 0} (names : List Names) (b : Bool) (s : ProgramForm V) (said : ProgramFieldsSaid P V)
+fields_if_say : {P V : Type 0} (names : List Names) (b : Bool) (s : ProgramForm V)
+    (said : ProgramFieldsSaid P V)
     (p : P) → (b ≡ true → ProgramFieldsFormSay names s said p)
     → ProgramFieldsFormSay names (program_if b s) said p
 fields_if_say names true s said p h = h refl
@@ -464,9 +490,11 @@ module _ {P Q R A B : Type 0} (first : R → P) (rest : R → Q) (r : R) (outcom
 
   pub program_both_say : {s : ProgramForm A} {t : ProgramForm B} {said : ProgramSaid P A}
       {more : ProgramFieldsSaid Q B} → ProgramFormLaw outcome (names (first r)) words s
-      → ProgramFormLaw behind others [] t → ProgramSays (names (first r)) s (kind (first r)) said (first r)
+      → ProgramFormLaw behind others [] t
+      → ProgramSays (names (first r)) s (kind (first r)) said (first r)
       → ProgramFieldsSay others t more (rest r)
-      → ProgramFieldsSay (names (first r) ++ others) (program_both (names (first r)) others (program_field s) t)
+      → ProgramFieldsSay (names (first r) ++ others)
+      (program_both (names (first r)) others (program_field s) t)
       (said_both first rest kind names said more) r
   program_both_say {s} {t} {said} {more} law laws h g =
       record { by = by_form s t said more law laws h.by g.by }
@@ -476,19 +504,23 @@ module _ {P Q R A B : Type 0} (first : R → P) (rest : R → Q) (r : R) (outcom
           → ProgramFormLaw behind others [] t
           → ProgramFormSays (names (first r)) s (kind (first r)) said (first r)
           → ProgramFieldsFormSay others t more (rest r)
-          → ProgramFieldsFormSay (names (first r) ++ others) (program_both (names (first r)) others (program_field s) t)
+          → ProgramFieldsFormSay (names (first r) ++ others)
+          (program_both (names (first r)) others (program_field s) t)
           (said_both first rest kind names said more) r
       by_form (plain wide s) (plain other t) (of_pieces said) (of_all_pieces more) law laws h g =
           both_say (field_owned outcome (names (first r)) s law) (owned behind others t laws)
           (field_says (owned outcome (names (first r)) s law) h) g
-      by_form (plain wide s) (plain other t) (of_pieces said) (of_all_cells more) law laws h g = absurd g
+      by_form (plain wide s) (plain other t) (of_pieces said) (of_all_cells more) law laws h g =
+          absurd g
       by_form (plain wide s) (plain other t) (of_cells said) more law laws h g = absurd h
-      by_form (plain wide s) (before_commands u value) (of_pieces said) (of_all_cells more) law laws h
+      by_form (plain wide s) (before_commands u value) (of_pieces said) (of_all_cells more)
+          law laws h
           g =
           before_says said more (wide || is_product s) (inner_field s) u value
           (field_owned outcome (names (first r)) s law).by
           (field_says (owned outcome (names (first r)) s law) h) g
-      by_form (plain wide s) (before_commands u value) (of_pieces said) (of_all_pieces more) law laws h
+      by_form (plain wide s) (before_commands u value) (of_pieces said) (of_all_pieces more)
+          law laws h
           g = absurd g
       by_form (plain wide s) (before_commands u value) (of_cells said) more law laws h g = absurd h
       by_form _ _ said more law laws h g = tt
@@ -515,7 +547,8 @@ pub program_con_says : {P Q A B : Type 0} (fields : Q → P) (q : Q) (outcome : 
     (names : P → List Names) (makes : Q → Closure A B) {s : ProgramForm A}
     {said : ProgramFieldsSaid P A} → ProgramFormLaw outcome (names (fields q)) [] s
     → ProgramFieldsSay (names (fields q)) s said (fields q)
-    → ProgramSays (names (fields q)) (program_con (makes q) s) ByName (said_con fields names makes said) q
+    → ProgramSays (names (fields q)) (program_con (makes q) s) ByName
+    (said_con fields names makes said) q
 program_con_says {P} {Q} {A} {B} fields q outcome names makes {s} {said} law g =
     record { by = by_form s said law g.by }
   where
@@ -548,7 +581,8 @@ program_says outcome words s {kind} {names} {said} {p} law h is =
     whole_says (λ q. q) p outcome names words s kind said p law h.by is
 
 -- a value of a flat record says so of the pieces
-pub flat_says : {P T : Type 0} (s : ProgramForm T) {kind : FieldKind} {names : List Names} {said : ProgramSaid P T}
+pub flat_says : {P T : Type 0} (s : ProgramForm T) {kind : FieldKind} {names : List Names}
+    {said : ProgramSaid P T}
     {p : P} → ProgramSays names s kind said p → Says names (flat_form s) kind (pieces_said said p)
 flat_says {P} {T} s {kind} {names} {said} {p} h = by_form s said h.by
   where
@@ -560,3 +594,23 @@ flat_says {P} {T} s {kind} {names} {said} {p} h = by_form s said h.by
     by_form (commands r value) said h = record { by = tt }
     by_form (left_out r value) said h = record { by = tt }
     by_form (before_commands r value) said h = record { by = tt }
+
+-- a key, by what its field says without a name in the environment and with some
+pub key_says : {P T : Type 0} {names : List Names} {kind : FieldKind}
+    (told : P → Option (List ℕ) → Said T) (envs_of : P → List (List ℕ)) (p : P) (wide : Bool)
+    (bare : FlatForm T) (by_text : Option (List ℕ) → FlatForm T) (variables : Variables)
+    → Says names bare kind (told p None)
+    → ((set : Option (List ℕ)) → Says names (by_text set) kind (told p set))
+    → ProgramSays names (key_form wide bare by_text variables (envs_of p)) kind
+    (of_pieces (λ q. told q (first_set variables (envs_of q)))) p
+key_says {P} {T} {names} {kind} told envs_of p wide bare by_text variables here there =
+    record { by = by_envs (envs_of p) refl }
+  where
+    by_envs : (envs : List (List ℕ)) → envs_of p ≡ envs
+        → ProgramFormSays names (key_form wide bare by_text variables envs) kind
+        (of_pieces (λ q. told q (first_set variables (envs_of q)))) p
+    by_envs [] e =
+        subst (λ z. Says names bare kind (told p (first_set variables z))) (sym e) here
+    by_envs (name ∷ envs) e = subst
+        (λ z. Says names (by_text (first_set variables (name ∷ envs))) kind
+        (told p (first_set variables z))) (sym e) (there (first_set variables (name ∷ envs)))

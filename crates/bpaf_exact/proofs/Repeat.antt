@@ -16,7 +16,8 @@ use Rattle.bpaf_exact.specs.Single.{Groups, Own, own_none, own_more, TakesAny, R
 use Rattle.bpaf_exact.specs.Single.{TookGroup, SingleOk, gave_absent, took, SingleErr, of_memory}
 use Rattle.bpaf_exact.specs.Single.{of_missing, of_absent, of_piece, SingleLaw, OwnList, listed}
 use Rattle.bpaf_exact.specs.Single.{listed_and_absent, only_absent, repeated, Stops, nothing_found}
-use Rattle.bpaf_exact.specs.Single.{caught, RepeatOutcome, present_count}
+use Rattle.bpaf_exact.specs.Single.{caught, CanCatch, catch_missing, catch_other, RepeatOutcome}
+use Rattle.bpaf_exact.specs.Single.{present_count}
 use Rattle.bpaf_exact.proofs.Classes.{memory_class, stops_at, goes_on}
 use Rattle.bpaf_exact.proofs.Product.{none_outside_after, steady_refl, steady_trans}
 use Rattle.bpaf_exact.proofs.Counts.{open_present, takes_any_fewer}
@@ -45,6 +46,11 @@ readable EachWord group o = tt
 -- where the cells are the same as many items are present
 pub same_count : (s m : Situation) → cells m ≡ cells s → open_count m ≡ open_count s
 same_count s m e = open_present m ∙ (ap present_count e ∙ sym (open_present s))
+
+-- a turn that took nothing stops at what can be caught
+pub stops_by : (s m : Situation) (e : Error) → CanCatch e → cells m ≡ cells s → Stops e s m
+stops_by s m e (catch_missing c) same = nothing_found c (same_count s m same)
+stops_by s m e (catch_other c) same = caught c
 
 -- a turn stops only where something is missing or the error can be caught otherwise
 pub no_stop : (s m : Situation) (e : Error) (c : ErrorClass) → Stops e s m → class e ≡ c
@@ -306,7 +312,7 @@ module _ (T : Type 0) (inner : Outcome T) (k : FieldKind) (q : Roles) (group : G
       → SingleErr T k q group gap s e t → class e ≡ OfMemory
   failed_gives s t e ws w ab o n (of_memory c) = c
   failed_gives s t e ws w ab o n (of_missing c g p same st) =
-      absurd (n (nothing_found c (same_count s t same)))
+      absurd (n (stops_by s t e c same))
   failed_gives s t e ws w ab o n (of_absent c g p none) = let a = ab g in absurd (none a.0 a.1)
   failed_gives s t e ws w ab (view_none p x) n (of_piece c ne none) = absurd (ne p)
   failed_gives s t e ws w ab (view_more v rest us x g o) n (of_piece c ne none) =

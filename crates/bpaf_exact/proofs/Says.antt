@@ -16,8 +16,9 @@ use Rattle.bpaf_exact.specs.Wrappers.{Closure, OptionalValue, some_value, no_val
 use Rattle.bpaf_exact.specs.Wrappers.{own_value, kept_value}
 use Rattle.bpaf_exact.specs.Derived.{LastOf}
 use Rattle.bpaf_exact.specs.Alternative.{pick_type}
-use Rattle.bpaf_exact.specs.Leaves.{flag_field, flag_by, FlagValue, argument_field, argument_by}
-use Rattle.bpaf_exact.specs.Leaves.{ArgumentValue, LastGroup, SideValue, WordValue, stands_behind}
+use Rattle.bpaf_exact.specs.Leaves.{flag_field, flag_gap, FlagValue, argument_field, argument_by}
+use Rattle.bpaf_exact.specs.Leaves.{argument_gap, argument_group, variable_argument, variable_flag}
+use Rattle.bpaf_exact.specs.Leaves.{ArgumentValue, SideValue, WordValue, stands_behind}
 use Rattle.bpaf_exact.specs.Leaves.{word_by}
 use Rattle.bpaf_exact.specs.Record.{LastValue}
 use Rattle.bpaf_exact.specs.FlatForm.{FlatForm, FormLaw, not_flat, alternative, single, complete}
@@ -26,7 +27,8 @@ use Rattle.bpaf_exact.specs.FlatForm.{flat_choice, alternative_only, flat_repeat
 use Rattle.bpaf_exact.specs.FlatForm.{flat_optional, flat_fallback, unless, inner_field, is_named}
 use Rattle.bpaf_exact.specs.FlatForm.{may_follow, product_roles}
 use Rattle.bpaf_exact.specs.FlatForm.{flat_both, flat_alone, flat_con, flat_record, product_reading}
-use Rattle.bpaf_exact.specs.Says.{AllOwn, Fits, Said, FlagSays, says_present, says_absent, ArgumentSays}
+use Rattle.bpaf_exact.specs.Says.{AllOwn, Fits, Said, FlagSays, says_present, says_absent}
+use Rattle.bpaf_exact.specs.Says.{says_variable, ArgumentSays, says_variable_text}
 use Rattle.bpaf_exact.specs.Says.{says_text, says_last_text, WordSays, EitherSays, says_this}
 use Rattle.bpaf_exact.specs.Says.{says_that, MadeSays, OptionalSays, says_some, says_none}
 use Rattle.bpaf_exact.specs.Says.{FallbackSays, says_own, says_kept, FrontSays, RepeatSays}
@@ -34,7 +36,6 @@ use Rattle.bpaf_exact.specs.Says.{says_in_turn, says_alone, LastSays, FieldsSaid
 use Rattle.bpaf_exact.specs.Says.{FormSays, Says, FieldsFormSays, FieldsSay, its_pieces}
 use Rattle.bpaf_exact.specs.Says.{words_after}
 use Rattle.bpaf_exact.proofs.Names.{apart_of_names}
-use Rattle.bpaf_exact.specs.Says.{AllOwn, Fits}
 use Rattle.bpaf_exact.proofs.Sharing.{apart_none, each_own, first_fits, no_fits, own_fit, second_fits}
 use Rattle.bpaf_exact.proofs.Sharing.{mine_keyed, others_unkeyed, mine_within, first_within}
 use Rattle.bpaf_exact.proofs.Sharing.{second_within, mine_of_others, mine_none, others_none}
@@ -54,56 +55,90 @@ front_says value said each os rest v h = record {
 }
 
 -- a flag
-pub flag_says : {T : Type 0} {names : List Names} (clones : T → T → Type 0) (key : Key) (present : T) (absent : Option T)
-    → Says names (flag_field clones key present absent) ByName (FlagSays clones present absent)
-flag_says {T} {names} clones key present absent = record { by = by_envs key.envs absent }
-  where
-    piece : (absent : Option T) (o : LinePiece) (v : T) → FlagValue (clones present) o v
-        → FlagSays clones present absent (o ∷ []) v
-    piece absent (One k) v m = says_present k refl m
-    piece absent (Two k w) v m = absurd m
+module _ {T : Type 0} (clones : T → T → Type 0) (present : T) where
+  -- its key
+  present_piece : {absent : Option T} {set : Option (List ℕ)} (o : LinePiece) (v : T)
+      → FlagValue (clones present) o v → FlagSays clones present absent set (o ∷ []) v
+  present_piece (One k) v m = says_present k refl m
+  present_piece (Two k w) v m = absurd m
 
-    by_envs : (envs : List (List ℕ)) (absent : Option T)
-        → FormSays names (flag_by clones key.names present envs absent) ByName
-        (FlagSays clones present absent)
-    by_envs (env ∷ envs) absent = tt
-    by_envs [] None = (refl, piece None)
-    by_envs [] (Some a) = (
+  -- no key
+  flag_gap_says : (absent : Option T) (set : Option (List ℕ)) (v : T)
+      → (flag_gap clones present absent set).absent v
+      → FlagSays clones present absent set [] v
+  flag_gap_says None None v m = absurd m
+  flag_gap_says (Some a) None v m = says_absent a refl refl refl m
+  flag_gap_says absent (Some text) v m = says_variable text refl refl m
+
+  -- with names in the environment
+  pub variable_flag_says : {names : List Names} (key : Key) (absent : Option T)
+      (set : Option (List ℕ))
+      → Says names (variable_flag clones key present absent set) ByName
+      (FlagSays clones present absent set)
+  variable_flag_says key absent set = record {
+    by = (
       refl,
-      front_says (FlagValue (clones present)) (FlagSays clones present (Some a)) (piece (Some a)),
-      λ v m. says_absent a refl refl m,
-    )
+      front_says (FlagValue (clones present)) (FlagSays clones present absent set) present_piece,
+      flag_gap_says absent set,
+    );
+  }
+
+  -- without one
+  pub flag_field_says : {names : List Names} (key : Key) (absent : Option T)
+      → Says names (flag_field clones key present absent) ByName
+      (FlagSays clones present absent None)
+  flag_field_says key None = record { by = (refl, present_piece) }
+  flag_field_says key (Some a) = variable_flag_says key (Some a) None
 
 -- an argument
-pub argument_says : {T : Type 0} {names : List Names} (means : List ℕ → T → Type 0) (argument : KeyWithValue)
-    → Says names (argument_field means argument) ByName (ArgumentSays means argument.last)
-argument_says {T} {names} means argument =
-    record { by = by_envs argument.named.envs argument.adjacent argument.last }
-  where
-    piece : (last : Bool) (o : LinePiece) (v : T) → ArgumentValue means o v
-        → ArgumentSays means last (o ∷ []) v
-    piece last (One k) v m = absurd m
-    piece last (Two k w) v m = says_text k w refl m
+module _ {T : Type 0} (means : List ℕ → T → Type 0) where
+  -- its key and the value behind that
+  pair_piece : {last : Bool} {set : Option (List ℕ)} (o : LinePiece) (v : T)
+      → ArgumentValue means o v → ArgumentSays means last set (o ∷ []) v
+  pair_piece (One k) v m = absurd m
+  pair_piece (Two k w) v m = says_text k w refl m
 
-    not_none : (before : List LinePiece) (o : LinePiece) → before ++ o ∷ [] ≡ [] → ⊥
-    not_none [] o e = cc
-    not_none (p ∷ before) o e = cc
+  -- no piece behind others is none
+  not_none : (before : List LinePiece) (o : LinePiece) → before ++ o ∷ [] ≡ [] → ⊥
+  not_none [] o e = cc
+  not_none (p ∷ before) o e = cc
 
-    all_at_once : (os rest : List LinePiece) (v : T) → LastGroup T means os v rest
-        → FrontSays (ArgumentSays means true) os v rest
-    all_at_once os rest v g = record {
-      part = os;
-      is = sym (ap (λ z. os ++ z) g.none_left ∙ append-nil os);
-      some = λ e. not_none g.before (Two g.key g.word) (sym g.is ∙ e);
-      told = says_last_text g.before g.key g.word refl g.have_values g.is g.meant;
-    }
+  -- all its keys
+  argument_group_says : {set : Option (List ℕ)} (last : Bool) (os rest : List LinePiece) (v : T)
+      → argument_group means last os v rest → FrontSays (ArgumentSays means last set) os v rest
+  argument_group_says {set} false os rest v g =
+      front_says (ArgumentValue means) (ArgumentSays means false set) pair_piece os rest v g
+  argument_group_says true os rest v g = record {
+    part = os;
+    is = sym (ap (λ z. os ++ z) g.none_left ∙ append-nil os);
+    some = λ e. not_none g.before (Two g.key g.word) (sym g.is ∙ e);
+    told = says_last_text g.before g.key g.word refl g.have_values g.is g.meant;
+  }
 
-    by_envs : (envs : List (List ℕ)) (adjacent last : Bool)
-        → FormSays names (argument_by means argument.named.names envs adjacent last) ByName
-        (ArgumentSays means last)
-    by_envs (env ∷ envs) adjacent last = tt
-    by_envs [] adjacent false = (refl, piece false)
-    by_envs [] adjacent true = (refl, all_at_once, λ v none. absurd none)
+  -- no key
+  argument_gap_says : {last : Bool} (set : Option (List ℕ)) (v : T)
+      → (argument_gap means set).absent v → ArgumentSays means last set [] v
+  argument_gap_says None v m = absurd m
+  argument_gap_says (Some text) v m = says_variable_text text refl refl m
+
+  -- with names in the environment
+  pub variable_argument_says : {names : List Names} (argument : KeyWithValue)
+      (set : Option (List ℕ)) → Says names (variable_argument means argument set) ByName
+      (ArgumentSays means argument.last set)
+  variable_argument_says argument set = record {
+    by = (refl, argument_group_says argument.last, argument_gap_says set);
+  }
+
+  -- without one
+  pub argument_field_says : {names : List Names} (argument : KeyWithValue)
+      → Says names (argument_field means argument) ByName (ArgumentSays means argument.last None)
+  argument_field_says {names} argument = by_last argument.last
+    where
+      by_last : (last : Bool)
+          → Says names (argument_by means argument.named.names argument.adjacent last) ByName
+          (ArgumentSays means last None)
+      by_last false = record { by = (refl, pair_piece) }
+      by_last true = record { by = (refl, argument_group_says true, λ v none. absurd none) }
 
 -- what the value of a word by itself says
 abbrev pub OneWordSays : {T : Type 0} → (Bool → Bool) → (List ℕ → T → Type 0)
@@ -112,7 +147,8 @@ OneWordSays {T = T} accepts means value =
     (o : LinePiece) (v : T) → value o v → WordSays accepts means (o ∷ []) v
 
 -- a word with such values
-pub word_by_says : {T : Type 0} {names : List Names} (accepts : Bool → Bool) (means : List ℕ → T → Type 0)
+pub word_by_says : {T : Type 0} {names : List Names} (accepts : Bool → Bool)
+    (means : List ℕ → T → Type 0)
     (value : LinePiece → T → Type 0) → OneWordSays accepts means value
     → Says names (word_by value) OneWord (WordSays accepts means)
 word_by_says accepts means value piece = record {
@@ -136,7 +172,8 @@ side_says accepts behind means accepted (Two k w) v m = absurd m
 -- Closures, and what changes only what is shown.
 
 -- with a closure round it
-pub closed_says : {A B : Type 0} (f : Closure A B) {s : FlatForm A} {kind : FieldKind} {names : List Names}
+pub closed_says : {A B : Type 0} (f : Closure A B) {s : FlatForm A} {kind : FieldKind}
+    {names : List Names}
     {said : Said A} → Says names s kind said → Says names (flat_closed f s) kind (MadeSays said f)
 closed_says {A} {B} f {s} {kind} {names} {said} h = record { by = by_form s h.by }
   where
@@ -303,7 +340,8 @@ owned outcome names (complete k q value) law = record { by = law.1 }
 owned outcome names (product named q fields) law = record { by = law.1 }
 
 -- as a field
-pub field_says : {T : Type 0} {s : FlatForm T} {kind : FieldKind} {names : List Names} {said : Said T}
+pub field_says : {T : Type 0} {s : FlatForm T} {kind : FieldKind} {names : List Names}
+    {said : Said T}
     → OwnsKeys names s → Says names s kind said → Says names (inner_field s) kind said
 field_says {T} {s} {kind} {names} {said} own h = record { by = by_form s own.by h.by }
   where
@@ -323,7 +361,8 @@ field_says {T} {s} {kind} {names} {said} own h = record { by = by_form s own.by 
     by_form (product false q fields) own h = tt
 
 -- under `optional`
-pub optional_says : {T : Type 0} {s : FlatForm T} {kind : FieldKind} {names : List Names} {said : Said T}
+pub optional_says : {T : Type 0} {s : FlatForm T} {kind : FieldKind} {names : List Names}
+    {said : Said T}
     → Says names s kind said → Says names (flat_optional s) kind (OptionalSays said)
 optional_says {T} {s} {kind} {names} {said} h = record { by = by_form s h.by }
   where
@@ -340,8 +379,10 @@ optional_says {T} {s} {kind} {names} {said} h = record { by = by_form s h.by }
     by_form (product named q fields) h = tt
 
 -- under a fallback
-pub fallback_says : {T : Type 0} (f : Closure (Unit {0}) T) {s : FlatForm T} {kind : FieldKind} {names : List Names}
-    {said : Said T} → Says names s kind said → Says names (flat_fallback f s) kind (FallbackSays said (f.yes tt))
+pub fallback_says : {T : Type 0} (f : Closure (Unit {0}) T) {s : FlatForm T} {kind : FieldKind}
+    {names : List Names}
+    {said : Said T} → Says names s kind said
+    → Says names (flat_fallback f s) kind (FallbackSays said (f.yes tt))
 fallback_says {T} f {s} {kind} {names} {said} h = record { by = by_form s h.by }
   where
     by_form : (s : FlatForm T) → FormSays names s kind said
@@ -369,18 +410,21 @@ repeat_says {T} {s} {kind} {names} {said} h = record { by = by_form s h.by }
       λ os v all. list_says said (FrontOf T value) (no_gap T) (piece_fronts said value h.1)
           (no_absent said value h.1) os v,
     )
-    by_form (single k q group gap) h = (ap repeated h.0, λ os v all. list_says said group gap h.1 h.2 os v)
+    by_form (single k q group gap) h =
+        (ap repeated h.0, λ os v all. list_says said group gap h.1 h.2 os v)
     by_form (complete k q value) h = tt
     by_form (product named q fields) h = tt
 
 -- under `many`, `some`, `collect` or `count`
-pub listed_says : {T B : Type 0} (f : Closure (List T) B) {s : FlatForm T} {kind : FieldKind} {names : List Names}
+pub listed_says : {T B : Type 0} (f : Closure (List T) B) {s : FlatForm T} {kind : FieldKind}
+    {names : List Names}
     {said : Said T} → Says names s kind said
     → Says names (flat_closed f (flat_repeat s)) (repeated kind) (MadeSays (RepeatSays said) f)
 listed_says f h = closed_says f (repeat_says h)
 
 -- under `last`
-pub last_says : {T : Type 0} {s : FlatForm T} {kind : FieldKind} {names : List Names} {said : Said T}
+pub last_says : {T : Type 0} {s : FlatForm T} {kind : FieldKind} {names : List Names}
+    {said : Said T}
     → Says names s kind said → Says names (flat_last s) (repeated kind) (LastSays said)
 last_says {T} {s} {kind} {names} {said} h = record { by = by_form s h.by }
   where
@@ -407,7 +451,8 @@ last_says {T} {s} {kind} {names} {said} h = record { by = by_form s h.by }
     by_form (product named q fields) h = tt
 
 -- without `catch`
-pub unless_says : {T : Type 0} (catch : Bool) {s : FlatForm T} {kind : FieldKind} {names : List Names} {said : Said T}
+pub unless_says : {T : Type 0} (catch : Bool) {s : FlatForm T} {kind : FieldKind}
+    {names : List Names} {said : Said T}
     → Says names s kind said → Says names (unless catch s) kind said
 unless_says true h = record { by = tt }
 unless_says false h = h
@@ -443,7 +488,8 @@ alone_says {T} {names} {s} {kind} {said} own_keys h =
         (sym (mine_within q (either q no_roles) (first_within q no_roles) os)
         ∙ (ap (mine q) (sym same)
         ∙ (mine_within q (either q no_roles) (first_within q no_roles) whole
-        ∙ mine_keyed q names whole (first_fits q no_roles names [] owned (record { own = λ k e. absurd cc }) (apart_none names)
+        ∙ mine_keyed q names whole
+        (first_fits q no_roles names [] owned (record { own = λ k e. absurd cc }) (apart_none names)
         whole (subst (λ own. Fits own (either q no_roles) whole) (sym (append-nil names)) fits)))))
         (each (mine q os) v (each_own q os) m.read)
     own OneWord q value owned each whole os v fits m same =
@@ -455,7 +501,8 @@ alone_says {T} {names} {s} {kind} {said} own_keys h =
         (each os v tt m.read)
 
     by_form : (s : FlatForm T) → FormOwns names s → FormSays names s kind said
-        → FieldsFormSays names (flat_alone s) (λ os words v. said (its_pieces kind names os words) v)
+        → FieldsFormSays names (flat_alone s)
+        (λ os words v. said (its_pieces kind names os words) v)
     by_form not_flat law h = tt
     by_form (alternative q value) law h = tt
     by_form (single k q group gap) law h = tt
@@ -478,7 +525,8 @@ module _ {A B : Type 0} (own behind : List Names) (said : Said A) (rest_said : F
   abbrev KindSays : FieldKind → Type 0
   KindSays k =
       (whole os : List LinePiece) (v : A × B) → Fits (own ++ behind) (either (keys k q) r) whole
-      → (both_reading k q first fields).value os v → mine (either (keys k q) r) whole ≡ mine (either (keys k q) r) os
+      → (both_reading k q first fields).value os v
+      → mine (either (keys k q) r) whole ≡ mine (either (keys k q) r) os
       → said (its_pieces k own whole (others (either (keys k q) r) os)) v.0
       × rest_said whole (words_after k (others (either (keys k q) r) os)) v.1
 
@@ -491,7 +539,8 @@ module _ {A B : Type 0} (own behind : List Names) (said : Said A) (rest_said : F
             (sym (mine_within q both (first_within q r) os)
             ∙ (ap (mine q) (sym same)
             ∙ (mine_within q both (first_within q r) whole
-            ∙ mine_keyed q own whole (first_fits q r own behind owned owned_behind may whole fits))))
+            ∙ mine_keyed q own whole
+            (first_fits q r own behind owned owned_behind may whole fits))))
             (each (mine q os) v.0 (each_own q os) m.0),
         subst (λ z. rest_said whole z v.1) (others_both q r os)
             (rest_each whole (others q os) v.1
@@ -537,7 +586,8 @@ both_say {A} {B} {own} {behind} {a} {s} {kind} {said} {rest_said} own_keys behin
         → ((os : List LinePiece) (v : A) → AllOwn k q os → first os v → said os v)
         → FieldsFormSays behind (product named r fields) rest_said
         → (may : Bool) → may_follow k own behind ≡ may
-        → FieldsFormSays (own ++ behind) (only_if may (product (is_named k && named) (either (keys k q) r)
+        → FieldsFormSays (own ++ behind)
+        (only_if may (product (is_named k && named) (either (keys k q) r)
         (both_reading k q first fields))) (BothSaid own kind said rest_said)
     by_test k named q r first fields owned owned_behind is each rest_each false may = tt
     by_test k named q r first fields owned owned_behind is each rest_each true may = λ whole os
@@ -550,7 +600,8 @@ both_say {A} {B} {own} {behind} {a} {s} {kind} {said} {rest_said} own_keys behin
 
     by_form : (a : FlatForm A) (s : FlatForm B) → FormOwns own a
         → FormOwns behind s → FormSays own a kind said → FieldsFormSays behind s rest_said
-        → FieldsFormSays (own ++ behind) (flat_both own behind a s) (BothSaid own kind said rest_said)
+        → FieldsFormSays (own ++ behind) (flat_both own behind a s)
+        (BothSaid own kind said rest_said)
     by_form not_flat s law rest_law h g = tt
     by_form (alternative q value) s law rest_law h g = tt
     by_form (single k q group gap) s law rest_law h g = tt
@@ -586,7 +637,8 @@ con_says {A} {B} {names} {s} {said} f own_keys g =
     )
 
 -- A value of a flat record says what its parser says of all pieces of the line.
-pub record_says : {T : Type 0} (s : FlatForm T) {kind : FieldKind} {names : List Names} {said : Said T}
+pub record_says : {T : Type 0} (s : FlatForm T) {kind : FieldKind} {names : List Names}
+    {said : Said T}
     → Says names s kind said
     → (os : List LinePiece) (v : T) → Fits names (product_roles (flat_record s)) os
     → (product_reading (flat_record s)).value os v → said os v
@@ -601,7 +653,8 @@ record_says {T} s {kind} {names} {said} h = by_form s h.by
         → ((os : List LinePiece) (v : T) → AllOwn k q os → value os v → said os v)
         → (os : List LinePiece) (v : T) → LastValue T k q value os v → said os v
     all_own ByName q value each os v m =
-        subst (λ z. said z v) (all_mine q os m.none_left) (each (mine q os) v (each_own q os) m.read)
+        subst (λ z. said z v) (all_mine q os m.none_left)
+        (each (mine q os) v (each_own q os) m.read)
     all_own OneWord q value each os v m =
         subst (λ z. said z v) (one_word os m.none_left) (each (front OneWord os) v tt m.read)
     all_own EachWord q value each os v m = each os v tt m.read

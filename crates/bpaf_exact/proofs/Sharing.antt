@@ -77,7 +77,8 @@ module _ (r : Roles) (names : List Names) where
     pub cut_fit : {cs : Cells} {os : List LinePiece} → Cut r cs os → Fits names r os
     cut_fit at_end = tt
     cut_fit (passed c) = cut_fit c
-    cut_fit (flag {k = k} e c) = let own = ap is_own_role e in (own ∙ sym (owned.own k own), cut_fit c)
+    cut_fit (flag {k = k} e c) = let own =
+        ap is_own_role e in (own ∙ sym (owned.own k own), cut_fit c)
     cut_fit (argument {k = k} e v c) =
         let own = ap is_own_role e in (own ∙ sym (owned.own k own), cut_fit c)
     cut_fit (word {w = w} h c) =
@@ -100,7 +101,8 @@ module _ (q r : Roles) (own behind : List Names) (owned : Owns q own) (owned_beh
       by_role Foreign f = inr (own_first r o ∙ (sym (ap (λ x. is_own_role
           (either_role x (r (first_item o)))) f) ∙ (sym (own_first (either q r) o) ∙ e)))
 
-  both_names : (o : LinePiece) → is_own (either q r) o ≡ is_key_of_any (own ++ behind) (first_item o)
+  both_names : (o : LinePiece)
+      → is_own (either q r) o ≡ is_key_of_any (own ++ behind) (first_item o)
       → is_key_of_any own (first_item o) ≡ true → is_own q o ≡ true
   both_names o e f = ⊎_elim (λ one. one)
       (λ other. absurd (one_list own behind (first_item o) apart f
@@ -114,7 +116,8 @@ module _ (q r : Roles) (own behind : List Names) (owned : Owns q own) (owned_beh
   first_fits (o ∷ os) fits =
       (same_truth _ _ (own_keyed q own owned o) (both_names o fits.0), first_fits os fits.1)
 
-  other_names : (o : LinePiece) → is_own (either q r) o ≡ is_key_of_any (own ++ behind) (first_item o)
+  other_names : (o : LinePiece)
+      → is_own (either q r) o ≡ is_key_of_any (own ++ behind) (first_item o)
       → is_key_of_any behind (first_item o) ≡ true → is_own r o ≡ true
   other_names o e f = ⊎_elim
       (λ one. absurd (one_list own behind (first_item o) apart (own_keyed q own owned o one) f))
@@ -264,7 +267,8 @@ others_both q r (o ∷ os) =
 -- behind a positional field no item is another field's own
 pub none_behind : (r : Roles) (own behind : List Names) → Owns r behind
     → may_follow OneWord own behind ≡ true → (k : Arg) → is_own_role (r k) ≡ false
-none_behind r own [] owned e k = fails (is_own_role (r k)) (λ own. let none = owned.own k own in absurd cc)
+none_behind r own [] owned e k =
+    fails (is_own_role (r k)) (λ own. let none = owned.own k own in absurd cc)
 none_behind r own (names ∷ behind) owned e k = absurd cc
 
 -- behind a positional field nothing begins with another's key

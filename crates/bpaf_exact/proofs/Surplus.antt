@@ -86,18 +86,14 @@ unless_no_surplus false s h = h
 
 -- a flag has none
 pub flag_no_surplus : {T : Type 0} (clones : T → T → Type 0) (names : Names) (present : T)
-    (envs : List (List ℕ)) (absent : Option T)
-    → HasNoSurplus (flag_by clones names present envs absent)
-flag_no_surplus clones names present (env ∷ envs) absent = tt
-flag_no_surplus clones names present [] None = tt
-flag_no_surplus {T = T} clones names present [] (Some absent) = front_one T _
+    (absent : Option T) → HasNoSurplus (flag_by clones names present absent)
+flag_no_surplus clones names present None = tt
+flag_no_surplus {T = T} clones names present (Some absent) = front_one T _
 
 -- nor an argument, but for one that takes all its keys at once
 pub argument_no_surplus : {T : Type 0} (means : List ℕ → T → Type 0) (names : Names)
-    (envs : List (List ℕ)) (adjacent : Bool)
-    → HasNoSurplus (argument_by means names envs adjacent false)
-argument_no_surplus means names (env ∷ envs) adjacent = tt
-argument_no_surplus means names [] adjacent = tt
+    (adjacent : Bool) → HasNoSurplus (argument_by means names adjacent false)
+argument_no_surplus means names adjacent = tt
 
 -- nor a word
 pub word_no_surplus : {T : Type 0} (means : List ℕ → T → Type 0) → HasNoSurplus (word_field means)

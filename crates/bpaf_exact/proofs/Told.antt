@@ -6,6 +6,7 @@ use Rattle.bpaf_exact.specs.Pieces.{LinePiece, One, Two}
 use Rattle.bpaf_exact.specs.Leaves.{FlagValue, ArgumentValue, WordValue, stands_behind}
 use Rattle.bpaf_exact.specs.Single.{Own, own_none, own_more}
 use Rattle.bpaf_exact.specs.Says.{Said, FlagSays, says_present, says_absent, ArgumentSays}
+use Rattle.bpaf_exact.specs.Says.{says_variable, says_variable_text}
 use Rattle.bpaf_exact.specs.Says.{says_text, says_last_text, WordSays, FrontSays, RepeatSays}
 use Rattle.bpaf_exact.specs.Says.{first_item, says_in_turn, says_alone}
 
@@ -31,30 +32,33 @@ module _ {T : Type 0} (said : Said T) (one : LinePiece → T → Type 0)
   one_by_one os vs (says_in_turn turns) = in_turn os vs turns
   one_by_one os vs (says_alone a none is told) = let first = of_one [] a told in absurd cc
 
--- Of a repeated argument: what the texts behind its keys mean, in line order, one for each key.
+-- Of a repeated argument none of whose variables is set: what the texts behind its keys mean, in
+-- line order, one for each key.
 pub argument_values : {T : Type 0} {means : List ℕ → T → Type 0} {last : Bool}
-    {os : List LinePiece} {vs : List T} → last ≡ false → RepeatSays (ArgumentSays means last) os vs
-    → AllZip (ArgumentValue means) os vs
-argument_values {T} {means} {last} {os} {vs} once told =
-    one_by_one (ArgumentSays means last) (ArgumentValue means) of_one os vs told
+    {set : Option (List ℕ)} {os : List LinePiece} {vs : List T} → last ≡ false → set ≡ None
+    → RepeatSays (ArgumentSays means last set) os vs → AllZip (ArgumentValue means) os vs
+argument_values {T} {means} {last} {set} {os} {vs} once unset told =
+    one_by_one (ArgumentSays means last set) (ArgumentValue means) of_one os vs told
   where
-    of_one : (os : List LinePiece) (v : T) → ArgumentSays means last os v
+    of_one : (os : List LinePiece) (v : T) → ArgumentSays means last set os v
         → OfOnePiece (ArgumentValue means) os v
     of_one os v (says_text k w e m) = record { piece = Two k w; is = e; said = m }
+    of_one os v (says_variable_text text none is m) = absurd cc
     of_one os v (says_last_text before k w all each e m) = absurd (true≢false (sym all ∙ once))
 
--- Of a repeated required flag: its present value, once for each key.
+-- Of a repeated required flag of that kind: its present value, once for each key.
 pub flag_values : {T : Type 0} {clones : T → T → Type 0} {present : T} {absent : Option T}
-    {os : List LinePiece} {vs : List T} → absent ≡ None
-    → RepeatSays (FlagSays clones present absent) os vs
+    {set : Option (List ℕ)} {os : List LinePiece} {vs : List T} → absent ≡ None → set ≡ None
+    → RepeatSays (FlagSays clones present absent set) os vs
     → AllZip (FlagValue (clones present)) os vs
-flag_values {T} {clones} {present} {absent} {os} {vs} required told =
-    one_by_one (FlagSays clones present absent) (FlagValue (clones present)) of_one os vs told
+flag_values {T} {clones} {present} {absent} {set} {os} {vs} required unset told =
+    one_by_one (FlagSays clones present absent set) (FlagValue (clones present)) of_one os vs told
   where
-    of_one : (os : List LinePiece) (v : T) → FlagSays clones present absent os v
+    of_one : (os : List LinePiece) (v : T) → FlagSays clones present absent set os v
         → OfOnePiece (FlagValue (clones present)) os v
     of_one os v (says_present k e m) = record { piece = One k; is = e; said = m }
-    of_one os v (says_absent a e some m) = absurd cc
+    of_one os v (says_variable text none is m) = absurd cc
+    of_one os v (says_absent a e is some m) = absurd cc
 
 -- a word on an accepted side means what its text means
 abbrev pub AcceptedWord : {T : Type 0} → (Bool → Bool) → (List ℕ → T → Type 0) → LinePiece → T

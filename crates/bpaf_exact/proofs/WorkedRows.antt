@@ -344,7 +344,7 @@ failed_alternative =
 
 -- the switch
 abbrev switch : FlatForm Bool
-switch = flag_by (λ kept v. v ≡ kept) (short 118) true [] (Some false)
+switch = flag_by (λ kept v. v ≡ kept) (short 118) true (Some false)
 
 -- `-v -v` to the switch and a word: one occurrence too many
 switch_twice : ¬ ((both_reading ByName v_roles SwitchValue
@@ -357,11 +357,11 @@ switch_twice =
 
 -- an argument of this name
 abbrev number_of : ℕ → FlatForm ℕ
-number_of c = argument_by number (short c) [] false false
+number_of c = argument_by number (short c) false false
 
 -- one that takes its last value
 abbrev last_number_of : ℕ → FlatForm ℕ
-last_number_of c = argument_by number (short c) [] false true
+last_number_of c = argument_by number (short c) false true
 
 -- a word
 abbrev text : FlatForm (List ℕ)

@@ -11,16 +11,16 @@ use Rattle.bpaf_exact.specs.Flat.{LeavesNone, FieldTook, FieldLaw, Gives}
 use Rattle.bpaf_exact.specs.Single.{Groups, Own, own_none, Readable, Gap, SingleOk, gave_absent}
 use Rattle.bpaf_exact.specs.Single.{took, SingleErr, of_memory, of_missing, of_absent, of_piece}
 use Rattle.bpaf_exact.specs.Single.{ReadsWords, SingleLaw, SingleValue, of_group, of_gap, Stops}
-use Rattle.bpaf_exact.specs.Single.{nothing_found}
+use Rattle.bpaf_exact.specs.Single.{CanCatch, catch_missing, catch_other}
 use Rattle.bpaf_exact.specs.Wrappers.{Closure, Decides, AgreesOn, ClosedEval, closed_yes, closed_no}
 use Rattle.bpaf_exact.specs.Wrappers.{closed_memory, closed_err, ClosedValue, OptionalEval}
 use Rattle.bpaf_exact.specs.Wrappers.{optional_some, optional_none, optional_err, optional_memory}
-use Rattle.bpaf_exact.specs.Wrappers.{OptionalValue, some_value, no_value, CanCatch, catch_missing}
-use Rattle.bpaf_exact.specs.Wrappers.{catch_other, FallbackEval, fallback_ok, fallback_given}
+use Rattle.bpaf_exact.specs.Wrappers.{OptionalValue, some_value, no_value}
+use Rattle.bpaf_exact.specs.Wrappers.{FallbackEval, fallback_ok, fallback_given}
 use Rattle.bpaf_exact.specs.Wrappers.{fallback_no, fallback_memory, fallback_err, FallbackValue}
 use Rattle.bpaf_exact.specs.Wrappers.{own_value, kept_value}
 use Rattle.bpaf_exact.proofs.Product.{steady_refl}
-use Rattle.bpaf_exact.proofs.Repeat.{any_some, same_takes, same_count, no_stop}
+use Rattle.bpaf_exact.proofs.Repeat.{any_some, same_takes, no_stop, stops_by}
 
 -- of no piece none is taken
 front_nil : (k : FieldKind) → front k [] ≡ []
@@ -272,7 +272,7 @@ module _ (T : Type 0) (inner : Outcome T) (k : FieldKind) (q : Roles) (group : G
       → class e ≡ OfMemory
   none_fails s t e w n p b (of_memory c) = c
   none_fails s t e w n p b (of_missing c g p' same st) =
-      absurd (n (nothing_found c (same_count s t same)))
+      absurd (n (stops_by s t e c same))
   none_fails s t e w n p b (of_absent c g p' x) = absurd cc
   none_fails s t e w n p b (of_piece c ne x) = absurd (ne (nil_front k _ p))
 
@@ -362,7 +362,7 @@ module _ (T : Type 0) (inner : Outcome T) (k : FieldKind) (q : Roles) (group : G
         → front k (pieces q (cells s)) ≡ [] → gap.has ≡ false → SingleErr T k q group gap s e t
         → class e ≡ OfMemory
     kept_fails s t e n p b (of_memory c) = c
-    kept_fails s t e n p b (of_missing c g p' same st) = absurd (n (catch_missing c))
+    kept_fails s t e n p b (of_missing c g p' same st) = absurd (n c)
     kept_fails s t e n p b (of_absent c g p' x) = absurd cc
     kept_fails s t e n p b (of_piece c ne x) = absurd (ne (nil_front k _ p))
 

@@ -13,8 +13,8 @@ use Rattle.bpaf_line.specs.Taking.{TakesText, HasNone}
 use Rattle.bpaf_exact.specs.Pieces.{Roles, Foreign, Alone, WithNext, LinePiece, One, Two}
 use Rattle.bpaf_exact.specs.Pieces.{no_roles, word_roles}
 use Rattle.bpaf_exact.specs.Flat.{ByName, OneWord, OfMemory, OfMissing, Refused, class}
-use Rattle.bpaf_exact.specs.Single.{Gap, FrontOf, no_gap}
-use Rattle.bpaf_exact.specs.FlatForm.{FlatForm, not_flat, alternative, complete, flat_field}
+use Rattle.bpaf_exact.specs.Single.{Gap, Groups, FrontOf, no_gap}
+use Rattle.bpaf_exact.specs.FlatForm.{FlatForm, alternative, complete, flat_field}
 use Rattle.bpaf_exact.specs.FlatForm.{single}
 
 -- the items of a flag: keys with one of its names, each by itself
@@ -55,23 +55,42 @@ abbrev pub SideValue : {T : Type 0} → Bool → (List ℕ → T → Type 0) →
 SideValue behind means (One w) v = (stands_behind w ≡ behind) × means (item_text w) v
 SideValue behind means (Two k w) v = ⊥
 
--- where no key is there, one of the absent values
+-- where no key is there, one of these values
 abbrev pub switch_gap : {T : Type 0} → (T → Type 0) → Gap T
 switch_gap absent = record { has = true; absent = absent }
 
--- a flag that must be there, or one with an absent value; with a name in the environment neither
-abbrev pub flag_by : {T : Type 0} → (T → T → Type 0) → Names → T → List (List ℕ) → Option T
-    → FlatForm T
-flag_by clones names present (env ∷ envs) absent = not_flat
-flag_by clones names present [] None =
-    alternative (flag_roles names) (FlagValue (clones present))
-flag_by {T = T} clones names present [] (Some absent) =
-    single ByName (flag_roles names) (FrontOf T (FlagValue (clones present)))
-    (switch_gap (clones absent))
+-- the absent value, where there is one
+abbrev pub absent_gap : {T : Type 0} → (T → T → Type 0) → Option T → Gap T
+absent_gap {T = T} clones None = no_gap T
+absent_gap clones (Some absent) = switch_gap (clones absent)
 
--- a flag
+-- where no key of a flag is there, by the text of its variable: the present value where that is
+-- set, else the absent one
+abbrev pub flag_gap : {T : Type 0} → (T → T → Type 0) → T → Option T → Option (List ℕ) → Gap T
+flag_gap clones present absent None = absent_gap clones absent
+flag_gap clones present absent (Some text) = switch_gap (clones present)
+
+-- a flag with such values where no key is there
+abbrev pub flag_with : {T : Type 0} → (T → T → Type 0) → Names → T → Gap T → FlatForm T
+flag_with {T = T} clones names present gap =
+    single ByName (flag_roles names) (FrontOf T (FlagValue (clones present))) gap
+
+-- a flag that must be there, or one with an absent value
+abbrev pub flag_by : {T : Type 0} → (T → T → Type 0) → Names → T → Option T → FlatForm T
+flag_by clones names present None =
+    alternative (flag_roles names) (FlagValue (clones present))
+flag_by clones names present (Some absent) =
+    flag_with clones names present (switch_gap (clones absent))
+
+-- a flag without a name in the environment
 abbrev pub flag_field : {T : Type 0} → (T → T → Type 0) → Key → T → Option T → FlatForm T
-flag_field clones key present absent = flag_by clones key.names present key.envs absent
+flag_field clones key present absent = flag_by clones key.names present absent
+
+-- a flag with such names, by the text of the first that is set
+abbrev pub variable_flag : {T : Type 0} → (T → T → Type 0) → Key → T → Option T
+    → Option (List ℕ) → FlatForm T
+variable_flag clones key present absent set =
+    flag_with clones key.names present (flag_gap clones present absent set)
 
 -- each of these pieces is a key with its value
 pub data HaveValues : List LinePiece → Type 0 where
@@ -90,23 +109,40 @@ pub record LastGroup (T : Type 0) (means : List ℕ → T → Type 0) (os : List
   pub meant : means (item_text word) v
   pub none_left : rest ≡ []
 
--- an argument that takes all its keys at once
-abbrev pub last_argument : {T : Type 0} → (List ℕ → T → Type 0) → Bool → Names → FlatForm T
-last_argument {T = T} means adjacent names =
-    single ByName (argument_roles adjacent names) (LastGroup T means) (no_gap T)
+-- where no key of an argument is there, what the text of its variable means
+abbrev pub argument_gap : {T : Type 0} → (List ℕ → T → Type 0) → Option (List ℕ) → Gap T
+argument_gap {T = T} means None = no_gap T
+argument_gap means (Some text) = switch_gap (means text)
 
--- an argument, but for one with a name in the environment
-abbrev pub argument_by : {T : Type 0} → (List ℕ → T → Type 0) → Names → List (List ℕ) → Bool → Bool
-    → FlatForm T
-argument_by means names (env ∷ envs) adjacent last = not_flat
-argument_by means names [] adjacent false =
-    alternative (argument_roles adjacent names) (ArgumentValue means)
-argument_by means names [] adjacent true = last_argument means adjacent names
+-- the pieces that one evaluation of an argument reads: the first, or all at once
+abbrev pub argument_group : {T : Type 0} → (List ℕ → T → Type 0) → (last : Bool) → Groups T
+argument_group {T = T} means false = FrontOf T (ArgumentValue means)
+argument_group {T = T} means true = LastGroup T means
+
+-- an argument with such values where no key is there
+abbrev pub argument_with : {T : Type 0} → (List ℕ → T → Type 0) → Names → (adjacent last : Bool)
+    → Gap T → FlatForm T
+argument_with means names adjacent last gap =
+    single ByName (argument_roles adjacent names) (argument_group means last) gap
 
 -- an argument
+abbrev pub argument_by : {T : Type 0} → (List ℕ → T → Type 0) → Names → (adjacent last : Bool)
+    → FlatForm T
+argument_by means names adjacent false =
+    alternative (argument_roles adjacent names) (ArgumentValue means)
+argument_by {T = T} means names adjacent true = argument_with means names adjacent true (no_gap T)
+
+-- an argument without a name in the environment
 abbrev pub argument_field : {T : Type 0} → (List ℕ → T → Type 0) → KeyWithValue → FlatForm T
 argument_field means argument =
-    argument_by means argument.named.names argument.named.envs argument.adjacent argument.last
+    argument_by means argument.named.names argument.adjacent argument.last
+
+-- an argument with such names, by the text of the first that is set
+abbrev pub variable_argument : {T : Type 0} → (List ℕ → T → Type 0) → KeyWithValue
+    → Option (List ℕ) → FlatForm T
+variable_argument means argument set =
+    argument_with means argument.named.names argument.adjacent argument.last
+    (argument_gap means set)
 
 -- a positional word with such values
 abbrev pub word_by : {T : Type 0} → (LinePiece → T → Type 0) → FlatForm T

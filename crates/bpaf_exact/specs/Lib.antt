@@ -11,6 +11,7 @@ pub mod Leaves
 pub mod Theorem
 pub mod Programs
 pub mod ProgramForm
+pub mod Variables
 pub mod SameParts
 pub mod OneView
 pub mod Accepted

@@ -52,22 +52,28 @@ words_after EachWord words = []
 abbrev pub Said : Type 0 → Type 1
 Said T = List LinePiece → T → Type 0
 
--- a flag: one key and the present value, or none and the absent one
+-- a flag: one key and the present value, or no key; then the present value where its variable is
+-- set, else the absent one
 pub data FlagSays {T : Type 0} (clones : T → T → Type 0) (present : T) (absent : Option T)
-    (os : List LinePiece) (v : T) : Type 0 where
+    (set : Option (List ℕ)) (os : List LinePiece) (v : T) : Type 0 where
   says_present : (k : Arg) → os ≡ One k ∷ [] → clones present v
-      → FlagSays clones present absent os v
-  says_absent : (a : T) → os ≡ [] → absent ≡ Some a → clones a v
-      → FlagSays clones present absent os v
+      → FlagSays clones present absent set os v
+  says_variable : (text : List ℕ) → os ≡ [] → set ≡ Some text → clones present v
+      → FlagSays clones present absent set os v
+  says_absent : (a : T) → os ≡ [] → set ≡ None → absent ≡ Some a → clones a v
+      → FlagSays clones present absent set os v
 
 -- an argument: what the text behind its one key means; or, where the last value counts, what the
--- text behind the last of its keys means, each of which has one
+-- text behind the last of its keys means, each of which has one; or no key, and what the text of its
+-- variable means
 pub data ArgumentSays {T : Type 0} (means : List ℕ → T → Type 0) (last : Bool)
-    (os : List LinePiece) (v : T) : Type 0 where
+    (set : Option (List ℕ)) (os : List LinePiece) (v : T) : Type 0 where
   says_text : (k w : Arg) → os ≡ Two k w ∷ [] → means (item_text w) v
-      → ArgumentSays means last os v
+      → ArgumentSays means last set os v
   says_last_text : (before : List LinePiece) (k w : Arg) → last ≡ true → HaveValues before
-      → os ≡ before ++ Two k w ∷ [] → means (item_text w) v → ArgumentSays means last os v
+      → os ≡ before ++ Two k w ∷ [] → means (item_text w) v → ArgumentSays means last set os v
+  says_variable_text : (text : List ℕ) → os ≡ [] → set ≡ Some text → means text v
+      → ArgumentSays means last set os v
 
 -- a positional word on a side of `--` that is accepted: what its text means
 pub record WordSays {T : Type 0} (accepts : Bool → Bool) (means : List ℕ → T → Type 0)

@@ -69,12 +69,17 @@ pub data SingleOk (T : Type 0) (k : FieldKind) (q : Roles) (group : Groups T) (g
   -- the value of the first group
   took : TookGroup T k q group s v t → SingleOk T k q group gap s v t
 
+-- an error that can be caught, for a missing item or otherwise
+pub data CanCatch (e : Error) : Type 0 where
+  catch_missing : class e ≡ OfMissing → CanCatch e
+  catch_other : class e ≡ Caught → CanCatch e
+
 -- a refusal of one evaluation
 pub data SingleErr (T : Type 0) (k : FieldKind) (q : Roles) (group : Groups T) (gap : Gap T)
     (s : Situation) (e : Error) (t : Situation) : Type 0 where
   of_memory : class e ≡ OfMemory → SingleErr T k q group gap s e t
   -- no piece, and no value for that
-  of_missing : class e ≡ OfMissing → gap.has ≡ false → pieces q (cells s) ≡ [] → cells t ≡ cells s
+  of_missing : CanCatch e → gap.has ≡ false → pieces q (cells s) ≡ [] → cells t ≡ cells s
       → Steady s t → SingleErr T k q group gap s e t
   -- no piece, and the absent value is refused
   of_absent : class e ≡ Refused → gap.has ≡ true → pieces q (cells s) ≡ []

@@ -4,8 +4,8 @@ use Rattle.bpaf_line.specs.declared.error.Error.{Error}
 use Rattle.bpaf_line.specs.Situation.{Situation}
 use Rattle.bpaf_laws.specs.Reading.{Outcome}
 use Rattle.bpaf_exact.specs.Pieces.{LinePiece}
-use Rattle.bpaf_exact.specs.Flat.{ErrorClass, OfMemory, OfMissing, Caught, class}
-use Rattle.bpaf_exact.specs.Single.{Groups, Gap, SingleValue, Stops}
+use Rattle.bpaf_exact.specs.Flat.{ErrorClass, OfMemory, Caught, class}
+use Rattle.bpaf_exact.specs.Single.{CanCatch, Groups, Gap, SingleValue, Stops}
 
 -- what a closure may do with a value: yes, with which answer, or no
 pub record Closure (A B : Type 0) : Type 1 where
@@ -79,11 +79,6 @@ pub data OptionalValue (T : Type 0) (group : Groups T) (gap : Gap T) : List Line
   some_value : {os : List LinePiece} {v : T} → SingleValue T group gap os v
       → OptionalValue T group gap os (Some v)
   no_value : gap.has ≡ false → OptionalValue T group gap [] None
-
--- an error in place of which a fallback gives its value
-pub data CanCatch (e : Error) : Type 0 where
-  catch_missing : class e ≡ OfMissing → CanCatch e
-  catch_other : class e ≡ Caught → CanCatch e
 
 -- what fallback gives: a clone of the value that it keeps
 abbrev pub kept_closure : {T : Type 0} → (T → Type 0) → Closure (Unit {0}) T

@@ -4,6 +4,7 @@ use Rattle.std.proofs.Common.{◌≡◌, All, IsUtf8, Bool, true, false, ℕ, Li
 use Rattle.std.proofs.Common.{codes, map, refl, string_bytes, subst, sym, true≢false, ◌∙◌}
 use Rattle.std.specs.Global.{Vec}
 use Rattle.std.specs.List.{Contains}
+use Rattle.bpaf_laws.specs.Environment.{first_set}
 use Rattle.bpaf_laws.specs.Flag.{FlagOutcome, flag_shape}
 use Rattle.bpaf_laws.specs.Product.{BothDescribes, BothOutcome, LastDescribes, ProductDescribes}
 use Rattle.bpaf_laws.specs.Product.{ProductOutcome}
@@ -28,12 +29,12 @@ use Rattle.bpaf.specs.Positional.{accepts}
 use Rattle.bpaf.specs.declared.leaves.positional.ParsePositional.{ParsePositional}
 use Rattle.bpaf_exact.specs.Derived.{list_closure}
 use Rattle.bpaf_exact.specs.Flat.{OneWord, back, front}
-use Rattle.bpaf_exact.specs.Leaves.{flag_field}
 use Rattle.bpaf_exact.specs.ProgramForm.{ProgramForm, plain, program_alone, program_both, program_con}
 use Rattle.bpaf_exact.specs.ProgramForm.{program_field, program_repeat}
 use Rattle.bpaf_exact.specs.ProgramSays.{CutSays}
 use Rattle.bpaf_exact.specs.Says.{FieldsSaid, FlagSays, MadeSays, RecordSays, RepeatSays, WordSays}
 use Rattle.bpaf_exact.specs.Says.{keyed, unkeyed}
+use Rattle.bpaf_exact.specs.Variables.{Variables, flag_form}
 use Rattle.bpaf_exact.specs.Wrappers.{map_closure}
 use Rattle.bpaf_record.specs.Positional.{is_sided, positional_field}
 use Rattle.bpaf_record.specs.Program.{TellsOfWords, is_whole_program}
@@ -62,22 +63,24 @@ module _ {verbose_help dry_run_help name_help words_help : List Piece}
   WordsForm = program_repeat catches (list_closure String) WordForm
 
   -- what the fields are to one
-  abbrev PartsForm : ProgramForm FieldValues
-  PartsForm =
+  abbrev PartsForm : Variables → ProgramForm FieldValues
+  PartsForm variables =
       program_both (verbose.named.names ∷ []) (dry_run.named.names ∷ [])
-      (program_field (plain false (flag_field IsKept verbose.named verbose.present verbose.absent)))
+      (program_field
+      (flag_form IsKept verbose.named verbose.present verbose.absent variables))
       (program_both (dry_run.named.names ∷ []) []
-      (program_field (plain false (flag_field IsKept dry_run.named dry_run.present dry_run.absent)))
+      (program_field
+      (flag_form IsKept dry_run.named dry_run.present dry_run.absent variables))
       (program_both [] []
       (program_field (plain (is_sided name.position) (positional_field MeansText name.position)))
       (program_alone (program_field WordsForm))))
 
   -- so they are a program
   pub launch_program : (makes : FieldValues → Launch → Type 0) {info : RunInfo}
-      → info ≡ plain_info
-      → is_whole_program (program_con (map_closure makes) PartsForm)
+      → info ≡ plain_info → (variables : Variables)
+      → is_whole_program (program_con (map_closure makes) (PartsForm variables))
       (verbose.named.names ∷ dry_run.named.names ∷ []) info ≡ true
-  launch_program makes info_is =
+  launch_program makes info_is variables =
       rw (
         is_verbose.absent_is,
         is_verbose.named_is,
@@ -91,10 +94,12 @@ module _ {verbose_help dry_run_help name_help words_help : List Piece}
 
   -- what they say: each switch of its own keys, the name of the first word, and the words that are
   -- passed on of the others
-  abbrev PartsSay : FieldsSaid FieldValues
-  PartsSay os ws v =
-      FlagSays IsKept verbose.present verbose.absent (keyed (verbose.named.names ∷ []) os) v.0
-      × (FlagSays IsKept dry_run.present dry_run.absent (keyed (dry_run.named.names ∷ []) os) v.1.0
+  abbrev PartsSay : Variables → FieldsSaid FieldValues
+  PartsSay variables os ws v =
+      FlagSays IsKept verbose.present verbose.absent (first_set variables verbose.named.envs)
+      (keyed (verbose.named.names ∷ []) os) v.0
+      × (FlagSays IsKept dry_run.present dry_run.absent (first_set variables dry_run.named.envs)
+      (keyed (dry_run.named.names ∷ []) os) v.1.0
       × (WordSays (accepts name.position) MeansText (front OneWord ws) v.1.1.0
       × MadeSays (RepeatSays (WordSays (accepts words.position) MeansText)) (list_closure String)
       (back OneWord ws) v.1.1.1))
@@ -105,8 +110,8 @@ module _ {verbose_help dry_run_help name_help words_help : List Piece}
       (names : List Names) where
     -- what the parser says of words
     abbrev Tells : Given → Launch → Type 0
-    Tells = TellsOfWords describes info form
-        (CutSays (RecordSays PartsSay names (map_closure makes)))
+    Tells given = TellsOfWords describes info form
+        (CutSays (RecordSays (PartsSay given.env) names (map_closure makes))) given
 
     -- what is passed on are all words behind the first `--`
     launch_passes : (given : Given) (v : Launch) → Tells given v

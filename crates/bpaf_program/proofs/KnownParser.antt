@@ -25,13 +25,15 @@ use Rattle.bpaf_exact.specs.ProgramForm.{program_alone, program_both, program_ch
 use Rattle.bpaf_exact.specs.ProgramForm.{program_closed, program_command, program_con}
 use Rattle.bpaf_exact.specs.ProgramForm.{program_field, program_value}
 use Rattle.bpaf_exact.specs.Programs.{are_plain}
+use Rattle.bpaf_exact.specs.Variables.{Variables}
 use Rattle.bpaf_exact.specs.Wrappers.{map_closure}
 use Rattle.bpaf_exact.proofs.Narrow.{AllowsNoMore, no_more}
 use Rattle.bpaf_exact.proofs.ProgramForm.{narrower_program_form, program_alone_law}
 use Rattle.bpaf_exact.proofs.ProgramForm.{program_both_law, program_choice_law, program_con_law}
 use Rattle.bpaf_exact.proofs.ProgramForm.{program_field_law}
 use Rattle.bpaf_exact.proofs.Twins.{map_law}
-use Rattle.bpaf_record.specs.Commands.{either_command_law, keys_inside}
+use Rattle.bpaf_exact.proofs.Variables.{program_with}
+use Rattle.bpaf_record.specs.Commands.{keys_inside, plain_command_law}
 use Rattle.bpaf_record.specs.Part.{closed_part, command_part, field_part}
 use Rattle.bpaf_record.specs.Part.{is_program_part, last_part, made_part, part_of}
 use Rattle.bpaf_record.specs.Program.{IsProgramValueOf, is_whole_program}
@@ -70,7 +72,7 @@ module _ {A B : Type 0} (inner : Outcome A) {answers wanted : A → B → Type 0
       by_answer s t (Err e) o = o
 
 module _ {T : Type 0} (word : List ℕ) (known : KnownParser T) {outcome : Outcome T}
-    {form : ProgramForm T} {keys : Bool → List Names} {words : List (List ℕ)}
+    {form : Variables → ProgramForm T} {keys : Bool → List Names} {words : List (List ℕ)}
     {describes : Shape → Type 0} (is : IsKnownParser known outcome form keys words describes) where
   -- a command over a program
   pub command_known : {help : Option (List Piece)} → are_unusual known.own plain_info ≡ true
@@ -79,17 +81,18 @@ module _ {T : Type 0} (word : List ℕ) (known : KnownParser T) {outcome : Outco
       → IsKnownParser (known_command word known)
       (EitherCommandOutcome adjacent T outcome (EndsRun describes info) called
       (CommandPart called help describes))
-      (program_command adjacent (are_unusual (keys false) info) called form)
+      (λ variables. program_command adjacent (are_unusual (keys false) info) called
+      (form variables))
       (λ deep. keys_inside deep (keys deep)) (opening_words called)
       (CommandDescribes called help describes)
   command_known {help} unusual called_is plain_is info_is =
       rw (called_is, plain_is, info_is) (record {
-        law = either_command_law T outcome describes plain_info (named_only word) _ false true
-            known.all known.words known.form is.law;
-        part_is = sym (command_part_is false _ (named_only word) form)
+        law = plain_command_law T outcome describes plain_info (named_only word) _ true known.all
+            known.words known.form is.law;
+        part_is = λ variables. sym (command_part_is false _ (named_only word) (form variables))
             ∙ (ap₂ command_part
             (ap (λ apart. apart && are_plain (opening_words (named_only word)))
-            (ap (λ own. are_unusual own plain_info) is.own_are ∙ unusual)) is.part_is
+            (ap (λ own. are_unusual own plain_info) is.own_are ∙ unusual)) (is.part_is variables)
             ∙ command_part_is false true (named_only word) known.form);
         own_are = refl;
         all_are = is.all_are;
@@ -99,18 +102,20 @@ module _ {T : Type 0} (word : List ℕ) (known : KnownParser T) {outcome : Outco
 
 -- a choice of commands
 pub choice_known : {T : Type 0} (first second : KnownParser T) {one two : Outcome T}
-    {form other : ProgramForm T} {keys others : Bool → List Names} {words more : List (List ℕ)}
+    {form other : Variables → ProgramForm T} {keys others : Bool → List Names} {words more : List (List ℕ)}
     {describes shows : Shape → Type 0} → IsKnownParser first one form keys words describes
     → IsKnownParser second two other others more shows
     → IsKnownParser (known_choice first second) (ChoiceOutcome one two)
-    (program_choice (keys true) (others true) words more form other)
+    (λ variables. program_choice (keys true) (others true) words more (form variables)
+    (other variables))
     (λ deep. keys deep ++ others deep) (words ++ more) (ChoiceDescribes describes shows)
 choice_known {T} first second {one} {two} {form} {other} these those = record {
   law = program_choice_law T one two first.all second.all first.words second.words first.form
       second.form these.law those.law;
-  part_is = rw (these.all_are, those.all_are, these.words_are, those.words_are)
-      (sym (choice_part_is first.all second.all first.words second.words form other)
-      ∙ (rw (these.part_is, those.part_is)
+  part_is = λ variables. rw (these.all_are, those.all_are, these.words_are, those.words_are)
+      (sym (choice_part_is first.all second.all first.words second.words (form variables)
+      (other variables))
+      ∙ (rw (these.part_is variables, those.part_is variables)
       (choice_part_is first.all second.all first.words second.words first.form second.form)));
   own_are = ap₂ (λ xs ys. xs ++ ys) these.own_are those.own_are;
   all_are = ap₂ (λ xs ys. xs ++ ys) these.all_are those.all_are;
@@ -120,16 +125,16 @@ choice_known {T} first second {one} {two} {form} {other} these those = record {
 
 -- commands with a closure round them
 pub map_known : {A B : Type 0} (make : A → B) (known : KnownParser A) {outcome : Outcome A}
-    {form : ProgramForm A} {keys : Bool → List Names} {words : List (List ℕ)}
+    {form : Variables → ProgramForm A} {keys : Bool → List Names} {words : List (List ℕ)}
     {describes : Shape → Type 0} → IsKnownParser known outcome form keys words describes
     → {answers : A → B → Type 0} → ((x : A) (v : B) → answers x v → v ≡ make x)
     → IsKnownParser (known_map make known) (MapOutcome outcome answers)
-    (program_closed (map_closure answers) form) keys words describes
+    (λ variables. program_closed (map_closure answers) (form variables)) keys words describes
 map_known {A} {B} make known {outcome} {form} inner {answers} only = record {
   law = narrower_program_form B _ _ (map_within outcome only) known.all known.words _
       (map_law A B outcome (λ x v. v ≡ make x) known.all known.words known.form inner.law);
-  part_is = sym (closed_part_is (map_closure answers) form)
-      ∙ (ap closed_part inner.part_is ∙ closed_part_is (makes make) known.form);
+  part_is = λ variables. sym (closed_part_is (map_closure answers) (form variables))
+      ∙ (ap closed_part (inner.part_is variables) ∙ closed_part_is (makes make) known.form);
   own_are = inner.own_are;
   all_are = inner.all_are;
   words_are = inner.words_are;
@@ -137,16 +142,18 @@ map_known {A} {B} make known {outcome} {form} inner {answers} only = record {
 }
 
 -- commands as the last field
-pub last_known : {T : Type 0} (known : KnownParser T) {outcome : Outcome T} {form : ProgramForm T}
+pub last_known : {T : Type 0} (known : KnownParser T) {outcome : Outcome T} {form : Variables → ProgramForm T}
     {keys : Bool → List Names} {words : List (List ℕ)} {describes : Shape → Type 0}
     → IsKnownParser known outcome form keys words describes
-    → IsKnownBy (known_last known) outcome (program_alone (program_field form)) keys []
+    → IsKnownBy (known_last known) outcome
+    (λ variables. program_alone (program_field (form variables))) keys []
     (FieldsShowShorts (LastDescribes describes) known.shorts)
 last_known {T} known {outcome} {form} inner = record {
   law = program_alone_law T outcome known.all known.words (program_field known.form)
       (program_field_law T outcome known.all known.words known.form inner.law);
-  part_is = sym (alone_part_is form)
-      ∙ (ap (λ part. last_part (field_part part)) inner.part_is ∙ alone_part_is known.form);
+  part_is = λ variables. sym (alone_part_is (form variables))
+      ∙ (ap (λ part. last_part (field_part part)) (inner.part_is variables)
+      ∙ alone_part_is known.form);
   own_are = inner.own_are;
   all_are = inner.all_are;
   words_are = refl;
@@ -166,21 +173,21 @@ before_part_is {own_known = own} {others_known = others} form known rest known_r
 
 -- a field in front of others
 pub both_known : {A B : Type 0} (first : KnownParser A) (rest : KnownParser B) {one : Outcome A}
-    {outcome : Outcome B} {form : ProgramForm A} {other : ProgramForm B}
+    {outcome : Outcome B} {form : Variables → ProgramForm A} {other : Variables → ProgramForm B}
     {keys others : Bool → List Names} {words : List (List ℕ)} {describes : Shape → Type 0}
     {describe : List Shape → Type 0} → IsKnownParser first one form keys words describes
     → IsKnownBy rest outcome other others [] (FieldsShowShorts describe rest.shorts)
     → IsKnownBy (known_both first rest) (BothOutcome one outcome)
-    (program_both (keys true) (others true) (program_field form) other)
-    (λ deep. keys deep ++ others deep) []
+    (λ variables. program_both (keys true) (others true) (program_field (form variables))
+    (other variables)) (λ deep. keys deep ++ others deep) []
     (FieldsShowShorts (BothDescribes describes describe) (joined first.shorts rest.shorts))
 both_known {A} {B} first rest {one} {outcome} {form} {other} is more = record {
   law = program_both_law A B one outcome first.all rest.all first.words (program_field first.form)
       rest.form (program_field_law A one first.all first.words first.form is.law)
       (subst (λ words. ProgramFormLaw outcome rest.all words rest.form) (sym more.words_are)
       more.law);
-  part_is = before_part_is form first.form other rest.form is.all_are more.all_are is.part_is
-      more.part_is;
+  part_is = λ variables. before_part_is (form variables) first.form (other variables) rest.form
+      is.all_are more.all_are (is.part_is variables) (more.part_is variables);
   own_are = ap₂ (λ xs ys. xs ++ ys) is.own_are more.own_are;
   all_are = ap₂ (λ xs ys. xs ++ ys) is.all_are more.all_are;
   words_are = refl;
@@ -189,35 +196,36 @@ both_known {A} {B} first rest {one} {outcome} {form} {other} is more = record {
 
 -- with a constructor
 pub con_known : {A B : Type 0} (make : A → B) (known : KnownParser A) {outcome : Outcome A}
-    {form : ProgramForm A} {keys : Bool → List Names} {describe : List Shape → Type 0}
+    {form : Variables → ProgramForm A} {keys : Bool → List Names} {describe : List Shape → Type 0}
     → IsKnownBy known outcome form keys [] (FieldsShowShorts describe known.shorts)
     → {answers : A → B → Type 0} → ((x : A) (v : B) → answers x v → v ≡ make x)
     → IsKnownParser (known_con make known) (ProductOutcome outcome answers)
-    (program_con (map_closure answers) form) keys [] (ProductDescribes describe)
+    (λ variables. program_con (map_closure answers) (form variables)) keys []
+    (ProductDescribes describe)
 con_known {A} {B} make known {outcome} {form} fields {answers} only = record {
   law = narrower_program_form B _ _ (con_within outcome only) known.all [] _
       (program_con_law A B outcome (λ x v. v ≡ make x) known.all known.form
       (subst (λ words. ProgramFormLaw outcome known.all words known.form) (sym fields.words_are)
       fields.law));
-  part_is = sym (con_part_is (map_closure answers) form)
-      ∙ (ap made_part fields.part_is ∙ con_part_is (makes make) known.form);
+  part_is = λ variables. sym (con_part_is (map_closure answers) (form variables))
+      ∙ (ap made_part (fields.part_is variables) ∙ con_part_is (makes make) known.form);
   own_are = fields.own_are;
   all_are = fields.all_are;
   words_are = refl;
   shown = product_shows fields.shown;
 }
 
-module _ {T : Type 0} (known : KnownParser T) {outcome : Outcome T} {form : ProgramForm T}
+module _ {T : Type 0} (known : KnownParser T) {outcome : Outcome T} {form : Variables → ProgramForm T}
     {keys : Bool → List Names} {words : List (List ℕ)} {describes : Shape → Type 0}
     (is : IsKnownParser known outcome form keys words describes) (info : RunInfo)
     (info_is : info ≡ plain_info) (program : is_program known.form ≡ true) where
   -- it is a whole program, whose keys are apart from those of help and version
-  pub whole_known : are_unusual known.own plain_info ≡ true
-      → is_whole_program form (keys false) info ≡ true
-  whole_known unusual =
+  pub whole_known : are_unusual known.own plain_info ≡ true → (variables : Variables)
+      → is_whole_program (form variables) (keys false) info ≡ true
+  whole_known unusual variables =
       ap₂ (λ one other. one && other)
-      (sym (program_part_is form)
-      ∙ (ap is_program_part is.part_is ∙ (program_part_is known.form ∙ program)))
+      (sym (program_part_is (form variables))
+      ∙ (ap is_program_part (is.part_is variables) ∙ (program_part_is known.form ∙ program)))
       (ap₂ are_unusual is.own_are info_is ∙ unusual)
 
   module _ {given own : Given} (given_is : given ≡ own) (texts : All IsUtf8 own.words) where
@@ -258,7 +266,8 @@ module _ {T : Type 0} (known : KnownParser T) {outcome : Outcome T} {form : Prog
         → AnswersProgramReadBy (program_names known.shorts) own (program_value known.form) r
     program_exactly r runs =
         let exact = programs.answers_as_program T outcome describes plain_info known.all known.words
-        known.form is.law program is.shown.same own r (rw (info_is, given_is) at runs) in
+        known.form own (program_with T outcome own.env known.all known.words known.form is.law)
+        program is.shown.same r (rw (info_is, given_is) at runs) in
         record {
           sound = own_value r exact.sound;
           complete = λ v value. own_or_want r (exact.answered texts v

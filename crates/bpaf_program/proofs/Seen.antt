@@ -1,5 +1,5 @@
 -- Flat records all of whose values on the same words look alike.
-use Rattle.std.proofs.Common.{◌≡◌, All, Bool, true, false, IsUtf8, List, [], ◌∷◌, ◌++◌, Some, map}
+use Rattle.std.proofs.Common.{refl, ◌≡◌, All, Bool, true, false, IsUtf8, List, [], ◌∷◌, ◌++◌, Some, map}
 use Rattle.std.proofs.Common.{ℕ, ap, string_bytes, subst, sym, ◌∙◌}
 use Rattle.std.specs.Prelude.{option_map}
 use Rattle.bpaf_doc.specs.Names.{Names}
@@ -51,17 +51,17 @@ pub switch_seen : (names : Names)
     → IsSeen (FlagOutcome IsKept (key_named names) true (Some false)) (λ b. b) (names ∷ [])
     (flag_field IsKept (key_named names) true (Some false))
 switch_seen names = record {
-  law = flag_field_law Bool IsKept (key_named names) true (Some false);
+  law = flag_field_law Bool IsKept (key_named names) true (Some false) refl;
   view = flag_view Bool Bool (λ b. b) IsKept (λ kept v w a b. a ∙ sym b) (key_named names) true
       (Some false);
 }
 
--- an argument whose text means values that look alike
+-- an argument without a name in the environment whose text means values that look alike
 pub argument_seen : {T X : Type 0} (see : T → X) (means : List ℕ → T → Type 0)
-    → ((text : List ℕ) → Alike see (means text)) → (key : KeyWithValue)
+    → ((text : List ℕ) → Alike see (means text)) → (key : KeyWithValue) → key.named.envs ≡ []
     → IsSeen (ArgumentOutcome means key) see (key.named.names ∷ []) (argument_field means key)
-argument_seen {T} {X} see means one key = record {
-  law = argument_field_law T means key;
+argument_seen {T} {X} see means one key bare = record {
+  law = argument_field_law T means key bare;
   view = argument_view T X see means one key;
 }
 
@@ -70,13 +70,13 @@ pub one_text : (text : List ℕ) → Alike string_bytes (MeansText text)
 one_text text v w a b = a ∙ sym b
 
 -- an argument that is a text
-pub text_seen : (key : KeyWithValue)
+pub text_seen : (key : KeyWithValue) → key.named.envs ≡ []
     → IsSeen (ArgumentOutcome MeansText key) string_bytes (key.named.names ∷ [])
     (argument_field MeansText key)
 text_seen = argument_seen string_bytes MeansText one_text
 
 -- one that is a number of so many bits
-pub number_seen : (bits : ℕ) (key : KeyWithValue)
+pub number_seen : (bits : ℕ) (key : KeyWithValue) → key.named.envs ≡ []
     → IsSeen (ArgumentOutcome (SpellsUnsigned bits) key) (λ n. n) (key.named.names ∷ [])
     (argument_field (SpellsUnsigned bits) key)
 number_seen bits =

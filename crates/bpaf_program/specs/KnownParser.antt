@@ -11,6 +11,7 @@ use Rattle.bpaf_exact.specs.ProgramForm.{ProgramForm, ProgramFormLaw}
 use Rattle.bpaf_exact.specs.ProgramForm.{program_alone, program_both, program_choice, program_closed}
 use Rattle.bpaf_exact.specs.ProgramForm.{program_command, program_con, program_field}
 use Rattle.bpaf_exact.specs.SameParts.{FieldsShowTheSame, ShowsTheSame}
+use Rattle.bpaf_exact.specs.Variables.{Variables}
 use Rattle.bpaf_exact.specs.Wrappers.{Closure, map_closure}
 use Rattle.bpaf_record.specs.Part.{part_of}
 
@@ -126,17 +127,17 @@ pub record FieldsShowShorts (describe : List Shape → Type 0) (names : ShortNam
 -- a parser, or fields, keep to the law of what is known; their part, keys and words are the known
 -- ones, and what they show is
 pub record IsKnownBy {T : Type 0} (known : KnownParser T) (outcome : Outcome T)
-    (form : ProgramForm T) (keys : Bool → List Names) (words : List (List ℕ)) (shows : Type 0)
-    : Type 0 where
+    (form : Variables → ProgramForm T) (keys : Bool → List Names) (words : List (List ℕ))
+    (shows : Type 0) : Type 0 where
   pub law : ProgramFormLaw outcome known.all known.words known.form
-  pub part_is : part_of form ≡ part_of known.form
+  pub part_is : (variables : Variables) → part_of (form variables) ≡ part_of known.form
   pub own_are : keys false ≡ known.own
   pub all_are : keys true ≡ known.all
   pub words_are : words ≡ known.words
   pub shown : shows
 
 -- a parser is known, and shows the known short names
-abbrev pub IsKnownParser : {T : Type 0} → KnownParser T → Outcome T → ProgramForm T
-    → (Bool → List Names) → List (List ℕ) → (Shape → Type 0) → Type 0
+abbrev pub IsKnownParser : {T : Type 0} → KnownParser T → Outcome T
+    → (Variables → ProgramForm T) → (Bool → List Names) → List (List ℕ) → (Shape → Type 0) → Type 0
 IsKnownParser known outcome form keys words describes =
     IsKnownBy known outcome form keys words (ShowsShorts describes known.shorts)

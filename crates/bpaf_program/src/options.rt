@@ -72,7 +72,7 @@ pub fn run_record<T: Drop, R: Record<T>, W: Write, E: Write>(
     err: &mut E,
 ) -> Result<T, u8>
     requires can { R.can_run options.now }
-    requires record { R.is_flat options.now ≡ true }
+    requires record { R.is_flat options.now (given_of args).env ≡ true }
     ensures { Ends (λ r. R.answers options.now (given_of args.entry) r
         × (IfErr r (R.refuses options.now (given_of args.entry))
         × (IfOk r (R.deals options.now (given_of args.entry))
@@ -100,7 +100,7 @@ pub fn run_program<T: Drop, R: CommandLine<T>, W: Write, E: Write>(
     err: &mut E,
 ) -> Result<T, u8>
     requires can { R.can_run options.now }
-    requires program { R.is_whole options.now ≡ true }
+    requires program { R.is_whole options.now (given_of args).env ≡ true }
     ensures { Ends (λ r. R.answers options.now (given_of args.entry) r
         × (IfErr r (R.refuses options.now (given_of args.entry))
         × (IfOk r (R.deals options.now (given_of args.entry))

@@ -8,7 +8,8 @@ use Rattle.bpaf_line.specs.declared.failure.ParseFailure.{ParseFailure}
 use Rattle.bpaf.specs.Info.{RunInfo}
 use Rattle.bpaf_exact.specs.FlatForm.{FlatForm}
 use Rattle.bpaf_exact.specs.Pieces.{LinePiece}
-use Rattle.bpaf_exact.specs.Says.{Said, FlagSays, says_present, says_absent, ArgumentSays, keyed}
+use Rattle.bpaf_exact.specs.Says.{Said, FlagSays, says_present, says_variable, says_absent}
+use Rattle.bpaf_exact.specs.Says.{ArgumentSays, keyed}
 use Rattle.bpaf_exact.specs.Says.{OptionalSays, says_some, says_none, FallbackSays, says_own}
 use Rattle.bpaf_exact.specs.Says.{says_kept, RepeatSays}
 use Rattle.bpaf_exact.proofs.Needed.{NeedsPiece, argument_needs, no_values, repeat_needs}
@@ -46,29 +47,35 @@ module _ {given : Given} {key : Names} {os : List LinePiece} (own : OwnOf given 
   value_spelled {A} {inside} {x} needs so =
       key_spelled (λ none. needs.some x (subst (λ os. inside os x) none so))
 
-  -- of an argument's value,
+  -- of an argument's value where no variable of its is set,
   pub argument_spelled : {A : Type 0} {means : List ℕ → A → Type 0} {last : Bool}
-      {x : A} → ArgumentSays means last os x → IsKeySpelled
-  argument_spelled {A} {means} {last} {x} so =
-      value_spelled {x = x} (argument_needs {means = means} {last = last}) so
+      {set : Option (List ℕ)} {x : A} → ArgumentSays means last set os x → set ≡ None
+      → IsKeySpelled
+  argument_spelled {A} {means} {last} {set} {x} so unset =
+      value_spelled {x = x} (argument_needs {means = means} {last = last} unset) so
 
-  -- of a switch that is true,
-  pub switch_spelled : {present : Bool} {absent : Option Bool} {b : Bool}
-      → FlagSays (λ kept x. x ≡ kept) present absent os b → absent ≡ Some false
+  -- of a switch that is true then,
+  pub switch_spelled : {present : Bool} {absent : Option Bool} {set : Option (List ℕ)} {b : Bool}
+      → FlagSays (λ kept x. x ≡ kept) present absent set os b → absent ≡ Some false → set ≡ None
       → (names : Names) → key ≡ names → (words : List (List ℕ)) → given.words ≡ words
       → (switch : Bool) → switch ≡ b → switch ≡ true → WasSpelled names words
-  switch_spelled (says_present k one is) off names same words are switch value on =
+  switch_spelled (says_present k one is) off unset names same words are switch value on =
       key_spelled (λ none. cc) names same words are
-  switch_spelled (says_absent a none kept is) off names same words are switch value on = absurd cc
+  switch_spelled (says_variable text none set is) off unset names same words are switch value on =
+      absurd cc
+  switch_spelled (says_absent a none set kept is) off unset names same words are switch value on =
+      absurd cc
 
-  -- of a required flag that has its value,
+  -- of a required flag that has its value then,
   pub flag_spelled : {A : Type 0} {clones : A → A → Type 0} {present : A}
-      {absent : Option A} {x : A} → FlagSays clones present absent os x → absent ≡ None
+      {absent : Option A} {set : Option (List ℕ)} {x : A}
+      → FlagSays clones present absent set os x → absent ≡ None → set ≡ None
       → (names : Names) → key ≡ names → (words : List (List ℕ)) → given.words ≡ words
       → clones present x × WasSpelled names words
-  flag_spelled (says_present k one is) required names same words are =
+  flag_spelled (says_present k one is) required unset names same words are =
       (is, key_spelled (λ none. cc) names same words are)
-  flag_spelled (says_absent a none kept is) required names same words are = absurd cc
+  flag_spelled (says_variable text none set is) required unset names same words are = absurd cc
+  flag_spelled (says_absent a none set kept is) required unset names same words are = absurd cc
 
   -- of an optional value that is Some,
   pub optional_spelled : {A : Type 0} {inside : Said A} {o : Option A}
@@ -125,12 +132,16 @@ module _ {T : Type 0} {describes : Shape → Type 0} {info : RunInfo} {form : Fl
       (subst (λ z. IsSpelledByAny info.numbers z words) (sym same) spelled))
 
   -- so its switch is true,
-  pub spelled_switch : {key : Names} {present : Bool} {absent : Option Bool} {b : Bool}
-      → FlagSays (λ kept x. x ≡ kept) present absent (keyed (key ∷ []) line) b → present ≡ true
+  pub spelled_switch : {key : Names} {present : Bool} {absent : Option Bool}
+      {set : Option (List ℕ)} {b : Bool}
+      → FlagSays (λ kept x. x ≡ kept) present absent set (keyed (key ∷ []) line) b
+      → present ≡ true
       → (switch : Bool) → switch ≡ b → IfKeySpelled key (switch ≡ true)
   spelled_switch (says_present k one is) on switch value names same words are texts spelled = cc
-  spelled_switch (says_absent a none kept is) on switch value names same words are texts spelled =
-      absurd (spelled_key names same words are texts spelled none)
+  spelled_switch (says_variable text none set is) on switch value names same words are texts
+      spelled = cc
+  spelled_switch (says_absent a none set kept is) on switch value names same words are texts
+      spelled = absurd (spelled_key names same words are texts spelled none)
 
   -- an optional value Some,
   pub spelled_optional : {key : Names} {A : Type 0} {inside : Said A} {o : Option A}

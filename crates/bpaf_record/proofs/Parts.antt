@@ -3,7 +3,7 @@ use Rattle.std.proofs.Common.{◌≡◌, ℕ, ◌+◌, ◌<◌, ◌≤◌, Bool,
 use Rattle.std.proofs.Common.{◌++◌, length, take, drop, flat_map, slice_index_or, refl, sym, ap}
 use Rattle.std.proofs.Common.{◌∙◌, ap₂, arith, append-nil, if◌then◌else◌}
 use Rattle.std.specs.List.{list_all}
-use Rattle.std.proofs.lemmas.List.{drop_more, take_more}
+use Rattle.std.proofs.lemmas.List.{drop_all, drop_more, take_more}
 use Rattle.std.proofs.lemmas.List.Concat.{flat_map-append}
 use Rattle.std.proofs.lemmas.List.Folds.{list_all-append}
 use Rattle.bpaf_doc.specs.Names.{Names}
@@ -287,6 +287,13 @@ join_step keys words part f ps i d l =
     (one_more words ps i d l)
     ∙ sym (ap (parts_rest keys words part (flat_map keys (take i ps)) (flat_map words (take i ps))
     f) (drop_more ps i d l))
+
+-- all of them are joined
+pub joined_all : {P : Type 0} (keys : P → List Names) (words : P → List (List ℕ))
+    (part : P → ProgramPart) (own : List Names) (said : List (List ℕ)) (f : ProgramPart)
+    (ps : List P) (i : ℕ) → length ps ≤ i → parts_rest keys words part own said f (drop i ps) ≡ f
+joined_all keys words part own said f ps i l =
+    ap (parts_rest keys words part own said f) (drop_all i ps l)
 
 -- the choice of all parsers
 pub choices_are : {P T : Type 0} (keys : P → List Names) (words : P → List (List ℕ))

@@ -13,6 +13,7 @@ use Rattle.bpaf.specs.Run.{RunsWords, ran, no_line as none_there, no_memory as w
 use Rattle.bpaf_exact.specs.ProgramForm.{ProgramForm, ProgramFormLaw, is_program, program_value}
 use Rattle.bpaf_exact.specs.Record.{Accepted, IsAcceptedOrWant, line_cells}
 use Rattle.bpaf_exact.specs.SameParts.{ShowsTheSame}
+use Rattle.bpaf_exact.specs.Variables.{WithVariables}
 use Rattle.bpaf_exact.proofs.ProgramForm.{runs_as_program}
 use Rattle.std.proofs.lemmas.Bool.{and_parts}
 use Rattle.bpaf_exact.specs.Flat.{FieldKind}
@@ -22,13 +23,13 @@ use Rattle.bpaf_record.specs.Program.{AnswersAsProgram, IsProgramValueOf, TellsO
 use Rattle.bpaf_record.specs.Program.{is_whole_program}
 use Rattle.bpaf_record.specs.Record.{answer_of, IsValueOrWant}
 use Rattle.bpaf_record.proofs.OneLine.{never_without, one_context}
-use Rattle.bpaf_record.proofs.Running.{run_ran}
+use Rattle.bpaf_record.proofs.Running.{given_variables, run_ran, runs_with}
 use Rattle.bpaf_record.proofs.SpelledItems.{context_spelled}
 
 module _ (T : Type 0) (outcome : Outcome T) (describes : Shape → Type 0) (info : RunInfo)
-    (names : List Names) (words : List (List ℕ)) (form : ProgramForm T)
-    (law : ProgramFormLaw outcome names words form)
-    (program : is_program form ≡ true) (shows : ShowsTheSame describes) (given : Given) where
+    (names : List Names) (words : List (List ℕ)) (form : ProgramForm T) (given : Given)
+    (law : ProgramFormLaw (WithVariables given.env outcome) names words form)
+    (program : is_program form ≡ true) (shows : ShowsTheSame describes) where
   -- a value of the program on the words
   abbrev IsValue : T → Type 0
   IsValue = IsProgramValueOf describes info form given
@@ -55,9 +56,12 @@ module _ (T : Type 0) (outcome : Outcome T) (describes : Shape → Type 0) (info
   pub answers_as_program : (r : Result T ParseFailure) → RunsWords T outcome describes info given r
       → AnswersAsProgram T describes info form given r
   answers_as_program r (ran context answer t is run) =
-      let exact = runs_as_program T outcome names words form program law context
+      let here = WithVariables given.env outcome in
+      let exact = runs_as_program T here names words form program law context
       (context_spelled info given context is) (answer_of r)
-      (run_ran T outcome describes info (beginning context) t r run) in
+      (run_ran T here describes info (beginning context) t r
+      (runs_with outcome describes info given.env (beginning context) t r
+      (given_variables info given context is) run)) in
       record {
         sound = sound_on context is r exact.0;
         answered = λ texts v there. answer_on context is r (exact.1 v

@@ -1,6 +1,6 @@
 -- Each answer that the table of a run allows to a flat record is exact.
 use Rattle.std.proofs.Common.{◌≡◌, true, List, Some, None, Result, Ok, Err, IfOk, All, IsUtf8, refl}
-use Rattle.std.proofs.Common.{ap, subst}
+use Rattle.std.proofs.Common.{[], ap, subst, ⊎_elim}
 use Rattle.std.proofs.lemmas.Bool.{and_parts}
 use Rattle.bpaf_doc.specs.Names.{Names}
 use Rattle.bpaf_doc.specs.Shape.{Shape}
@@ -28,6 +28,7 @@ use Rattle.bpaf_exact.proofs.Exact.{runs_exactly}
 use Rattle.bpaf_exact.proofs.FlatForm.{record_law}
 use Rattle.bpaf_exact.proofs.Says.{record_says}
 use Rattle.bpaf_exact.specs.SameParts.{ShowsTheSame}
+use Rattle.bpaf_exact.specs.Variables.{Variables, WithVariables}
 use Rattle.bpaf_exact.specs.Says.{Said, Says}
 use Rattle.bpaf_exact.proofs.FlatForm.{flat_record_law}
 use Rattle.bpaf_exact.proofs.ProgramForm.{record_owns}
@@ -42,6 +43,24 @@ no_value : (T : Type 0) (f : ParseFailure) → IsNoValue (answer_of {T = T} (Err
 no_value T (failure.Stdout doc full) = tt
 no_value T (failure.Stderr doc) = tt
 no_value T failure.Memory = tt
+
+-- the environment of the words' line is the one that is given
+pub given_variables : {describes : Shape → Type 0} (info : RunInfo) (given : Given)
+    (context : Context) → IsLineContext describes info given context → context.env ≡ given.env
+given_variables info given context is = ⊎_elim (λ one. one.2.env)
+    (λ any. (any (record { flags = []; arguments = [] })).env) is
+
+-- a run in an environment is one of what is answered in it
+pub runs_with : {T : Type 0} (outcome : Outcome T) (describes : Shape → Type 0) (info : RunInfo)
+    (variables : Variables) (s t : Situation) (r : Result T ParseFailure)
+    → s.context.env ≡ variables → Runs T outcome (EndsRun describes info) s r t
+    → Runs T (WithVariables variables outcome) (EndsRun describes info) s r t
+runs_with outcome describes info variables s t r same (value v after o none) =
+    value v after (same, o) none
+runs_with outcome describes info variables s t r same (leftover v left f after o ends) =
+    leftover v left f after (same, o) ends
+runs_with outcome describes info variables s t r same (refused e left f after o ends) =
+    refused e left f after (same, o) ends
 
 module _ (T : Type 0) (outcome : Outcome T) (describes : Shape → Type 0) (info : RunInfo) where
   -- a run that leaves items
@@ -68,8 +87,10 @@ module _ (T : Type 0) (outcome : Outcome T) (describes : Shape → Type 0) (info
   run_ran s t r (leftover v left f after o ends) = leftover_ran s left after v f o ends
   run_ran s t r (refused e left f after o ends) = refused_ran s left after e f o ends
 
-  module _ (names : List Names) (form : FlatForm T) (law : FormLaw outcome names form)
-      (flat : is_record form ≡ true) (shows : ShowsTheSame describes) (given : Given) where
+module _ (T : Type 0) (outcome : Outcome T) (describes : Shape → Type 0) (info : RunInfo) where
+  module _ (names : List Names) (form : FlatForm T) (given : Given)
+      (law : FormLaw (WithVariables given.env outcome) names form)
+      (flat : is_record form ≡ true) (shows : ShowsTheSame describes) where
     -- a value of the record on words
     abbrev IsValue : T → Type 0
     IsValue = IsValueOf describes info form given
@@ -83,8 +104,8 @@ module _ (T : Type 0) (outcome : Outcome T) (describes : Shape → Type 0) (info
     reading = product_reading (flat_record form)
 
     -- they keep to the laws
-    fields_law : FieldsLaw T outcome roles reading
-    fields_law = record_law T outcome names form flat law
+    fields_law : FieldsLaw T (WithVariables given.env outcome) roles reading
+    fields_law = record_law T (WithVariables given.env outcome) names form flat law
 
     -- the pieces that the words are cut into
     abbrev Line : Type 0
@@ -148,8 +169,11 @@ module _ (T : Type 0) (outcome : Outcome T) (describes : Shape → Type 0) (info
     -- each answer to words is exact
     pub answers_exactly : RunsWordsExactly outcome describes info form given
     answers_exactly r (ran context answer t is run) =
-        let exact = runs_exactly T outcome names form flat law context (answer_of r)
-        (run_ran (beginning context) t r run) in
+        let here = WithVariables given.env outcome in
+        let exact = runs_exactly T here names form flat law context (answer_of r)
+        (run_ran T here describes info (beginning context) t r
+        (runs_with outcome describes info given.env (beginning context) t r
+        (given_variables info given context is) run)) in
         record {
           sound = sound_on context is r exact r refl;
           complete = complete_on context is r exact;

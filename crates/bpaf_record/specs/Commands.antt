@@ -22,7 +22,10 @@ use Rattle.bpaf_exact.specs.Programs.{command_missing, command_memory}
 use Rattle.bpaf_exact.proofs.Classes.{not_memory}
 use Rattle.bpaf_exact.proofs.Narrow.{no_more}
 use Rattle.bpaf_exact.specs.ProgramForm.{ProgramForm, ProgramFormLaw, program_command}
-use Rattle.bpaf_exact.proofs.ProgramForm.{narrower_program_form, program_command_law}
+use Rattle.bpaf_exact.specs.Variables.{Variables, WithVariables}
+use Rattle.bpaf_exact.proofs.Environments.{command_with}
+use Rattle.bpaf_exact.proofs.ProgramForm.{program_command_law}
+use Rattle.bpaf_exact.proofs.Variables.{kept}
 use Rattle.bpaf.specs.Leftover.{IsLeftover, conflict, only_once, not_expected}
 use Rattle.bpaf_line.specs.declared.error.Message.{Message}
 use Rattle.bpaf_exact.proofs.Counts.{open_counted}
@@ -92,18 +95,31 @@ module _ (T : Type 0) (inner : Outcome T) (describes : Shape → Type 0) (info :
   command_eval s t r (missing e none m) = missing_word s s e none m
   command_eval s t r (no_memory e p at h) = command_memory (ap class_of h)
 
--- A plain command keeps to the law of its form, where what runs behind its word does; an adjacent one
--- has none.
-pub either_command_law : (T : Type 0) (inner : Outcome T) (describes : Shape → Type 0)
-    (info : RunInfo) (called : Called) (shows : Part → Type 0) (adjacent apart : Bool)
+-- A plain command keeps to the law of its form, where what runs behind its word does.
+pub plain_command_law : (T : Type 0) (inner : Outcome T) (describes : Shape → Type 0)
+    (info : RunInfo) (called : Called) (shows : Part → Type 0) (apart : Bool)
     (names : List Names) (words : List (List ℕ)) (form : ProgramForm T)
     → ProgramFormLaw inner names words form
-    → ProgramFormLaw (EitherCommandOutcome adjacent T inner (EndsRun describes info) called shows)
-    names (opening_words called) (program_command adjacent apart called form)
-either_command_law T inner describes info called shows true apart names words form l = tt
-either_command_law T inner describes info called shows false apart names words form l =
-    narrower_program_form T (CommandEval T inner called)
-    (CommandOutcome T inner (EndsRun describes info) called shows)
-    (no_more (λ s t r o. command_eval T inner describes info called shows s t r o)) names
+    → ProgramFormLaw (CommandOutcome T inner (EndsRun describes info) called shows) names
+    (opening_words called) (program_command false apart called form)
+plain_command_law T inner describes info called shows apart names words form l =
+    kept (no_more (λ s t r o. command_eval T inner describes info called shows s t r o)) names
     (opening_words called) (program_command false apart called form)
     (program_command_law T inner apart called names words form l)
+
+-- So it does in an environment; an adjacent one has none.
+pub either_command_law : (T : Type 0) (inner : Outcome T) (describes : Shape → Type 0)
+    (info : RunInfo) (called : Called) (shows : Part → Type 0) (adjacent apart : Bool)
+    (names : List Names) (words : List (List ℕ)) (variables : Variables) (form : ProgramForm T)
+    → ProgramFormLaw (WithVariables variables inner) names words form
+    → ProgramFormLaw (WithVariables variables
+    (EitherCommandOutcome adjacent T inner (EndsRun describes info) called shows)) names
+    (opening_words called) (program_command adjacent apart called form)
+either_command_law T inner describes info called shows true apart names words variables form l = tt
+either_command_law T inner describes info called shows false apart names words variables form l =
+    let command = program_command false apart called form in
+    kept (no_more (λ s t r o.
+    (o.0, command_eval T inner describes info called shows s t r o.1))) names
+    (opening_words called) command
+    (kept (command_with variables inner called) names (opening_words called) command
+    (program_command_law T (WithVariables variables inner) apart called names words form l))

@@ -2,6 +2,7 @@
 ghost use Rattle.std.specs.Prelude.{◌≡◌, ◌≤◌, length, take, drop, flat_map, true};
 ghost use Rattle.std.specs.List.{list_all};
 ghost use Rattle.bpaf_exact.specs.ProgramForm.{program_choices};
+ghost use Rattle.bpaf_exact.specs.Variables.{Variables};
 ghost use Rattle.bpaf_record.specs.Part.{part_of, parts_rest};
 
 use crate::field::{FlatField, ProgramField};
@@ -14,6 +15,8 @@ use std::marker::PhantomData;
 /// Of required flags and arguments alone, whose names are apart; or of commands alone, whose words
 /// are.
 impl<T: Drop, A: ProgramField<T>, B: ProgramField<T>> ProgramField<T> for ParseOrElse<A, B> {
+    ghost use Rattle.bpaf_exact.proofs.Variables.{kept};
+    ghost use Rattle.bpaf_exact.proofs.Environments.{choice_with};
     ghost use Rattle.std.specs.Prelude.{◌++◌};
     ghost use Rattle.bpaf_exact.specs.Flat.{ByName};
     ghost use Rattle.bpaf_exact.specs.ProgramForm.{program_choice};
@@ -26,12 +29,12 @@ impl<T: Drop, A: ProgramField<T>, B: ProgramField<T>> ProgramField<T> for ParseO
 
     ghost words = { λ p. A.words p.this ++ B.words p.that };
 
-    ghost program_form = { λ p. program_choice (A.keys p.this true) (B.keys p.that true)
-        (A.words p.this) (B.words p.that) (A.program_form p.this) (B.program_form p.that) };
+    ghost program_form = { λ p variables. program_choice (A.keys p.this true) (B.keys p.that true)
+        (A.words p.this) (B.words p.that) (A.program_form p.this variables) (B.program_form p.that variables) };
 
     ghost kind = { λ p. ByName };
 
-    ghost says = { said_choice (λ p. p.this) (λ p. p.that) A.says B.says };
+    ghost says = { λ variables. said_choice (λ p. p.this) (λ p. p.that) (A.says variables) (B.says variables) };
 
     ghost agrees = { λ p. A.agrees p.this × B.agrees p.that };
 
@@ -64,15 +67,17 @@ impl<T: Drop, A: ProgramField<T>, B: ProgramField<T>> ProgramField<T> for ParseO
         this && that
     }
 
-    ghost law = { λ p a. program_choice_law T (A.outcome p.this) (B.outcome p.that)
-        (A.keys p.this true) (B.keys p.that true) (A.words p.this) (B.words p.that)
-        (A.program_form p.this) (B.program_form p.that) (A.law p.this a.0) (B.law p.that a.1) };
+    ghost law = { λ p a variables.
+        kept (choice_with variables (A.outcome p.this) (B.outcome p.that)) _ _ _
+        (program_choice_law T _ _ (A.keys p.this true) (B.keys p.that true) (A.words p.this)
+        (B.words p.that) (A.program_form p.this variables) (B.program_form p.that variables)
+        (A.law p.this a.0 variables) (B.law p.that a.1 variables)) };
 
     ghost shows = { λ p. choice_shows (A.shows p.this) (B.shows p.that) };
 
-    ghost said = { λ p a. program_choice_says (λ p. p.this) (λ p. p.that) p (A.keys p.this true)
-        (B.keys p.that true) (A.words p.this) (B.words p.that) (A.said p.this a.0)
-        (B.said p.that a.1) };
+    ghost said = { λ p a variables. program_choice_says (λ p. p.this) (λ p. p.that) p (A.keys p.this true)
+        (B.keys p.that true) (A.words p.this) (B.words p.that) (A.said p.this a.0 variables)
+        (B.said p.that a.1 variables) };
 }
 
 impl<T: Drop, A: FlatField<T>, B: FlatField<T>> FlatField<T> for ParseOrElse<A, B> {}
@@ -111,7 +116,8 @@ fn all_words_of<T, P: ProgramField<T>, W: WordTest>(parsers: &[P], test: &W) -> 
 /// The choice of what the first of these parsers is with all others.
 fn join_rest<T, P: ProgramField<T>>(parsers: &[P], first: ProgramPart) -> ProgramPart
     requires { 1 ≤ length parsers.now }
-    ensures { result ≡ parts_rest (λ p. P.keys p true) P.words (λ p. part_of (P.program_form p))
+    ensures { (variables : Variables) → result
+        ≡ parts_rest (λ p. P.keys p true) P.words (λ p. part_of (P.program_form p variables))
         (flat_map (λ p. P.keys p true) (take 1 parsers.now))
         (flat_map P.words (take 1 parsers.now)) first (drop 1 parsers.now) }
 {
@@ -135,8 +141,8 @@ fn join_rest<T, P: ProgramField<T>>(parsers: &[P], first: ProgramPart) -> Progra
 
 /// The choice of these parsers; of none it is nothing.
 fn join_all<T, P: ProgramField<T>>(parsers: &[P]) -> ProgramPart
-    ensures { result ≡ part_of (program_choices (λ p. P.keys p true) P.words P.program_form
-        parsers.now) }
+    ensures { (variables : Variables) → result ≡ part_of (program_choices (λ p. P.keys p true)
+        P.words (λ p. P.program_form p variables) parsers.now) }
 {
     match parsers {
         [] => ProgramPart::NoPart,
@@ -147,6 +153,9 @@ fn join_all<T, P: ProgramField<T>>(parsers: &[P]) -> ProgramPart
 /// Of required flags and arguments alone, whose names are apart; or of commands alone, whose words
 /// are. A choice of none is nothing.
 impl<T: Drop, P: ProgramField<T> + Drop> ProgramField<T> for ParseChoice<P> {
+    ghost use Rattle.bpaf_exact.specs.Variables.{WithVariables};
+    ghost use Rattle.bpaf_exact.proofs.Variables.{kept};
+    ghost use Rattle.bpaf_exact.proofs.Environments.{choices_with};
     ghost use Rattle.bpaf_exact.specs.Flat.{ByName};
     ghost use Rattle.bpaf_exact.specs.FlatForm.{EachAgrees};
     ghost use Rattle.bpaf_exact.specs.ProgramSays.{said_choices};
@@ -158,12 +167,13 @@ impl<T: Drop, P: ProgramField<T> + Drop> ProgramField<T> for ParseChoice<P> {
 
     ghost words = { λ p. flat_map P.words p.parsers.items };
 
-    ghost program_form = { λ p.
-        program_choices (λ q. P.keys q true) P.words P.program_form p.parsers.items };
+    ghost program_form = { λ p variables.
+        program_choices (λ q. P.keys q true) P.words (λ q. P.program_form q variables)
+        p.parsers.items };
 
     ghost kind = { λ p. ByName };
 
-    ghost says = { said_choices (λ p. p.parsers.items) P.says };
+    ghost says = { λ variables. said_choices (λ p. p.parsers.items) (P.says variables) };
 
     ghost agrees = { λ p. EachAgrees P.agrees p.parsers.items };
 
@@ -179,13 +189,17 @@ impl<T: Drop, P: ProgramField<T> + Drop> ProgramField<T> for ParseChoice<P> {
         all_words_of::<T, P, W>(self.parsers.as_slice(), test)
     }
 
-    ghost law = { λ p a. program_choices_law _ T P.outcome (λ q. P.keys q true) P.words
-        P.program_form P.agrees P.law p.parsers.items a };
+    ghost law = { λ p a variables.
+        kept (choices_with variables P.outcome p.parsers.items) _ _ _
+        (program_choices_law _ T (λ q. WithVariables variables (P.outcome q)) (λ q. P.keys q true)
+        P.words (λ q. P.program_form q variables) P.agrees (λ q b. P.law q b variables)
+        p.parsers.items a) };
 
     ghost shows = { λ p. choices_show P.describes P.shows p.parsers.items };
 
-    ghost said = { λ p a. program_choices_says (λ q. P.keys q true) P.words P.program_form P.kind
-        P.agrees p _ (λ p. p.parsers.items) P.says P.said a };
+    ghost said = { λ p a variables. program_choices_says (λ q. P.keys q true) P.words
+        (λ q. P.program_form q variables) P.kind P.agrees p _ (λ p. p.parsers.items)
+        (P.says variables) (λ q b. P.said q b variables) a };
 }
 
 impl<T: Drop, P: FlatField<T> + Drop> FlatField<T> for ParseChoice<P> {}

@@ -10,6 +10,8 @@ use std::fmt::Display;
 
 /// A closure that never refuses needs no premise.
 impl<T, R, P: ProgramField<T>, F: Fn(T) -> R> ProgramField<R> for ParseMap<T, P, F, R> {
+    ghost use Rattle.bpaf_exact.proofs.Variables.{kept};
+    ghost use Rattle.bpaf_exact.proofs.Environments.{map_with};
     ghost use Rattle.bpaf_exact.specs.Wrappers.{map_closure};
     ghost use Rattle.bpaf_exact.specs.ProgramForm.{program_closed};
     ghost use Rattle.bpaf_exact.specs.ProgramSays.{said_closed};
@@ -20,13 +22,13 @@ impl<T, R, P: ProgramField<T>, F: Fn(T) -> R> ProgramField<R> for ParseMap<T, P,
 
     ghost words = { λ p. P.words p.inner };
 
-    ghost program_form = { λ p.
-        program_closed (map_closure (λ x y. F.post p.map_fn x y)) (P.program_form p.inner) };
+    ghost program_form = { λ p variables.
+        program_closed (map_closure (λ x y. F.post p.map_fn x y)) (P.program_form p.inner variables) };
 
     ghost kind = { λ p. P.kind p.inner };
 
-    ghost says = { said_closed (λ p. p.inner)
-        (λ p. map_closure (λ x y. F.post p.map_fn x y)) P.says };
+    ghost says = { λ variables. said_closed (λ p. p.inner)
+        (λ p. map_closure (λ x y. F.post p.map_fn x y)) (P.says variables) };
 
     ghost agrees = { λ p. P.agrees p.inner };
 
@@ -43,13 +45,15 @@ impl<T, R, P: ProgramField<T>, F: Fn(T) -> R> ProgramField<R> for ParseMap<T, P,
         self.inner.all_words(test)
     }
 
-    ghost law = { λ p a. map_law T R (P.outcome p.inner) (λ x y. F.post p.map_fn x y)
-        (P.keys p.inner true) (P.words p.inner) (P.program_form p.inner) (P.law p.inner a) };
+    ghost law = { λ p a variables.
+        kept (map_with variables (P.outcome p.inner) (λ x y. F.post p.map_fn x y)) _ _ _
+        (map_law T R _ (λ x y. F.post p.map_fn x y) (P.keys p.inner true) (P.words p.inner)
+        (P.program_form p.inner variables) (P.law p.inner a variables)) };
 
     ghost shows = { λ p. P.shows p.inner };
 
-    ghost said = { λ p a. program_closed_says (λ p. p.inner) p
-        (λ p. map_closure (λ x y. F.post p.map_fn x y)) (P.said p.inner a) };
+    ghost said = { λ p a variables. program_closed_says (λ p. p.inner) p
+        (λ p. map_closure (λ x y. F.post p.map_fn x y)) (P.said p.inner a variables) };
 }
 
 impl<T, R, P: FlatField<T>, F> FlatField<R> for ParseMap<T, P, F, R> {}
@@ -58,6 +62,9 @@ impl<T, R, P: FlatField<T>, F> FlatField<R> for ParseMap<T, P, F, R> {}
 /// present.
 impl<T, R, E: Display + Drop, P: ProgramField<T>, F: Fn(T) -> Result<R, E>> ProgramField<R>
     for ParseWith<T, P, F, E, R> {
+    ghost use Rattle.bpaf_exact.specs.Variables.{Variables};
+    ghost use Rattle.bpaf_exact.proofs.Variables.{kept};
+    ghost use Rattle.bpaf_exact.proofs.Environments.{parse_with};
     ghost use Rattle.bpaf_exact.specs.Wrappers.{parse_closure};
     ghost use Rattle.bpaf_exact.specs.ProgramForm.{program_closed, ProgramAgrees};
     ghost use Rattle.bpaf_exact.specs.ProgramSays.{said_closed};
@@ -68,16 +75,16 @@ impl<T, R, E: Display + Drop, P: ProgramField<T>, F: Fn(T) -> Result<R, E>> Prog
 
     ghost words = { λ p. P.words p.inner };
 
-    ghost program_form = { λ p.
-        program_closed (parse_closure (λ x y. F.post p.parse_fn x y)) (P.program_form p.inner) };
+    ghost program_form = { λ p variables.
+        program_closed (parse_closure (λ x y. F.post p.parse_fn x y)) (P.program_form p.inner variables) };
 
     ghost kind = { λ p. P.kind p.inner };
 
-    ghost says = { said_closed (λ p. p.inner)
-        (λ p. parse_closure (λ x y. F.post p.parse_fn x y)) P.says };
+    ghost says = { λ variables. said_closed (λ p. p.inner)
+        (λ p. parse_closure (λ x y. F.post p.parse_fn x y)) (P.says variables) };
 
     ghost agrees = { λ p. P.agrees p.inner
-        × ProgramAgrees (parse_closure (λ x y. F.post p.parse_fn x y)) (P.program_form p.inner) };
+        × ((variables : Variables) → ProgramAgrees (parse_closure (λ x y. F.post p.parse_fn x y)) (P.program_form p.inner variables)) };
 
     #[tactic(auto, using(crate::proofs::Parts::closed_part_is))]
     fn part(&self) -> ProgramPart {
@@ -92,14 +99,16 @@ impl<T, R, E: Display + Drop, P: ProgramField<T>, F: Fn(T) -> Result<R, E>> Prog
         self.inner.all_words(test)
     }
 
-    ghost law = { λ p a. parse_law T R _ (P.outcome p.inner) (λ x y. F.post p.parse_fn x y)
-        E.output (P.keys p.inner true) (P.words p.inner) (P.program_form p.inner) a.1
-        (P.law p.inner a.0) };
+    ghost law = { λ p a variables.
+        kept (parse_with variables (P.outcome p.inner) (λ x y. F.post p.parse_fn x y) E.output) _ _ _
+        (parse_law T R _ _ (λ x y. F.post p.parse_fn x y) E.output (P.keys p.inner true)
+        (P.words p.inner) (P.program_form p.inner variables) (a.1 variables)
+        (P.law p.inner a.0 variables)) };
 
     ghost shows = { λ p. P.shows p.inner };
 
-    ghost said = { λ p a. program_closed_says (λ p. p.inner) p
-        (λ p. parse_closure (λ x y. F.post p.parse_fn x y)) (P.said p.inner a.0) };
+    ghost said = { λ p a variables. program_closed_says (λ p. p.inner) p
+        (λ p. parse_closure (λ x y. F.post p.parse_fn x y)) (P.said p.inner a.0 variables) };
 }
 
 impl<T, R, E: Display + Drop, P: FlatField<T>, F> FlatField<R> for ParseWith<T, P, F, E, R> {}
@@ -107,6 +116,9 @@ impl<T, R, E: Display + Drop, P: FlatField<T>, F> FlatField<R> for ParseWith<T, 
 /// Whether the check is true has to depend on the pieces alone, or round commands on what is
 /// present.
 impl<'m, T: Drop, P: ProgramField<T>, F: Fn(&T) -> bool> ProgramField<T> for ParseGuard<'m, P, F> {
+    ghost use Rattle.bpaf_exact.specs.Variables.{Variables};
+    ghost use Rattle.bpaf_exact.proofs.Variables.{kept};
+    ghost use Rattle.bpaf_exact.proofs.Environments.{guard_with};
     ghost use Rattle.std.specs.Fn.{FnReturnsAt};
     ghost use Rattle.bpaf_exact.specs.Wrappers.{guard_closure};
     ghost use Rattle.bpaf_exact.specs.ProgramForm.{program_closed, ProgramAgrees};
@@ -118,16 +130,16 @@ impl<'m, T: Drop, P: ProgramField<T>, F: Fn(&T) -> bool> ProgramField<T> for Par
 
     ghost words = { λ p. P.words p.inner };
 
-    ghost program_form = { λ p.
-        program_closed (guard_closure (FnReturnsAt F.Fn p.check)) (P.program_form p.inner) };
+    ghost program_form = { λ p variables.
+        program_closed (guard_closure (FnReturnsAt F.Fn p.check)) (P.program_form p.inner variables) };
 
     ghost kind = { λ p. P.kind p.inner };
 
-    ghost says = { said_closed (λ p. p.inner)
-        (λ p. guard_closure (FnReturnsAt F.Fn p.check)) P.says };
+    ghost says = { λ variables. said_closed (λ p. p.inner)
+        (λ p. guard_closure (FnReturnsAt F.Fn p.check)) (P.says variables) };
 
     ghost agrees = { λ p. P.agrees p.inner
-        × ProgramAgrees (guard_closure (FnReturnsAt F.Fn p.check)) (P.program_form p.inner) };
+        × ((variables : Variables) → ProgramAgrees (guard_closure (FnReturnsAt F.Fn p.check)) (P.program_form p.inner variables)) };
 
     #[tactic(auto, using(crate::proofs::Parts::closed_part_is))]
     fn part(&self) -> ProgramPart {
@@ -142,14 +154,16 @@ impl<'m, T: Drop, P: ProgramField<T>, F: Fn(&T) -> bool> ProgramField<T> for Par
         self.inner.all_words(test)
     }
 
-    ghost law = { λ p a. guard_law T (P.outcome p.inner) (FnReturnsAt F.Fn p.check)
-        p.message.now (P.keys p.inner true) (P.words p.inner) (P.program_form p.inner) a.1
-        (P.law p.inner a.0) };
+    ghost law = { λ p a variables.
+        kept (guard_with variables (P.outcome p.inner) (FnReturnsAt F.Fn p.check) p.message.now) _ _ _
+        (guard_law T _ (FnReturnsAt F.Fn p.check) p.message.now (P.keys p.inner true)
+        (P.words p.inner) (P.program_form p.inner variables) (a.1 variables)
+        (P.law p.inner a.0 variables)) };
 
     ghost shows = { λ p. P.shows p.inner };
 
-    ghost said = { λ p a. program_closed_says (λ p. p.inner) p
-        (λ p. guard_closure (FnReturnsAt F.Fn p.check)) (P.said p.inner a.0) };
+    ghost said = { λ p a variables. program_closed_says (λ p. p.inner) p
+        (λ p. guard_closure (FnReturnsAt F.Fn p.check)) (P.said p.inner a.0 variables) };
 }
 
 impl<'m, T: Drop, P: FlatField<T>, F> FlatField<T> for ParseGuard<'m, P, F> {}

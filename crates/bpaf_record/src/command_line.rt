@@ -13,9 +13,10 @@ pub trait CommandLine<T> {
     ghost use Rattle.bpaf_line.specs.declared.failure.ParseFailure.{ParseFailure};
     ghost use Rattle.bpaf_words.specs.Arguments.{Given};
     ghost use Rattle.bpaf.specs.Run.{IsNotWant};
+    ghost use Rattle.bpaf_exact.specs.Variables.{Variables};
 
-    /// Whether they are a program.
-    ghost is_whole: { Self → Bool };
+    /// Whether they are a program, where the environment has some variables.
+    ghost is_whole: { Self → Variables → Bool };
 
     /// Whether they are a program: a flat record, or named fields and then commands, each over a
     /// program again. The commands may stand under `optional`, and closures round each of them,
@@ -27,7 +28,7 @@ pub trait CommandLine<T> {
     /// or a product of named fields, whose fields count as those of the product that it stands in.
     /// It takes no memory.
     fn is_program(&self) -> bool
-        ensures { result ≡ is_whole self.now };
+        ensures { (variables : Variables) → result ≡ is_whole self.now variables };
 
     /// Whether they may run: their closures may be called on every value.
     ghost can_run: { Self → Type 0 };
@@ -73,7 +74,7 @@ pub trait CommandLine<T> {
     /// ```
     fn run_program(&self, args: Args<'_>) -> Result<T, ParseFailure>
         requires can { can_run self.now }
-        requires program { is_whole self.now ≡ true }
+        requires program { is_whole self.now (given_of args).env ≡ true }
         ensures outcome { answers self.now (given_of args.entry) result }
         ensures named { IfErr result (refuses self.now (given_of args.entry)) }
         ensures dealt { IfOk result (deals self.now (given_of args.entry)) }
@@ -96,8 +97,8 @@ impl<T: Drop, P: ProgramField<T>> CommandLine<T> for OptionParser<T, P> {
     ghost use Rattle.bpaf.specs.Run.{RunsWords};
     ghost use Rattle.bpaf_laws.specs.Spared.{WithoutMemory};
 
-    ghost is_whole = { λ p.
-        is_whole_program (P.program_form p.inner) (P.keys p.inner false) p.info };
+    ghost is_whole = { λ p variables.
+        is_whole_program (P.program_form p.inner variables) (P.keys p.inner false) p.info };
 
     #[tactic(auto, using(crate::proofs::Parts::program_part_is))]
     fn is_program(&self) -> bool {
@@ -120,13 +121,13 @@ impl<T: Drop, P: ProgramField<T>> CommandLine<T> for OptionParser<T, P> {
         IsDealtOut T (P.reads p.inner) (P.describes p.inner) p.info given };
 
     ghost tells = { λ p given. TellsOfWords (P.describes p.inner) p.info
-        (P.program_form p.inner) (cells_said P.says p.inner) given };
+        (P.program_form p.inner given.env) (cells_said (P.says given.env) p.inner) given };
 
     ghost answers_spared = { λ p given. RunsWords T (WithoutMemory (P.outcome p.inner))
         (P.describes p.inner) p.info given };
 
-    ghost answers_as_program = { λ p given.
-        AnswersAsProgram T (P.describes p.inner) p.info (P.program_form p.inner) given };
+    ghost answers_as_program = { λ p given. AnswersAsProgram T (P.describes p.inner) p.info
+        (P.program_form p.inner given.env) given };
 
     fn run_program(&self, args: Args<'_>) -> Result<T, ParseFailure> {
         self.run_inner(args)

@@ -11,6 +11,7 @@ use bpaf::parsers::ParseCommand;
 /// A plain command over a program whose own keys are apart from those of its help and version. Its
 /// words aren't empty, and none begins with a dash. An adjacent command is nothing to a program.
 impl<T: Drop, P: ProgramField<T>> ProgramField<T> for ParseCommand<T, P> {
+    ghost use Rattle.bpaf_exact.specs.Variables.{WithVariables};
     ghost use Rattle.bpaf_laws.specs.Command.{CommandPart, opening_words};
     ghost use Rattle.bpaf_exact.specs.Flat.{ByName};
     ghost use Rattle.bpaf_exact.specs.ProgramForm.{program_command};
@@ -24,12 +25,12 @@ impl<T: Drop, P: ProgramField<T>> ProgramField<T> for ParseCommand<T, P> {
 
     ghost words = { λ p. opening_words p.names };
 
-    ghost program_form = { λ p. program_command p.adjacent
-        (are_unusual (P.keys p.inner false) p.info) p.names (P.program_form p.inner) };
+    ghost program_form = { λ p variables. program_command p.adjacent
+        (are_unusual (P.keys p.inner false) p.info) p.names (P.program_form p.inner variables) };
 
     ghost kind = { λ p. ByName };
 
-    ghost says = { said_command (λ p. p.inner) (λ p. p.names) P.says };
+    ghost says = { λ variables. said_command (λ p. p.inner) (λ p. p.names) (P.says variables) };
 
     ghost agrees = { λ p. P.agrees p.inner };
 
@@ -55,14 +56,15 @@ impl<T: Drop, P: ProgramField<T>> ProgramField<T> for ParseCommand<T, P> {
         names_pass(&self.names, test)
     }
 
-    ghost law = { λ p a. either_command_law T (P.outcome p.inner) (P.describes p.inner) p.info
-        p.names (CommandPart p.names p.help (P.describes p.inner)) p.adjacent
-        (are_unusual (P.keys p.inner false) p.info) (P.keys p.inner true) (P.words p.inner)
-        (P.program_form p.inner) (P.law p.inner a) };
+    ghost law = { λ p a variables. either_command_law T (P.outcome p.inner)
+        (P.describes p.inner) p.info p.names (CommandPart p.names p.help (P.describes p.inner))
+        p.adjacent (are_unusual (P.keys p.inner false) p.info) (P.keys p.inner true)
+        (P.words p.inner) variables (P.program_form p.inner variables)
+        (P.law p.inner a variables) };
 
     ghost shows = { λ p. command_shows (P.shows p.inner) p.names p.help };
 
-    ghost said = { λ p a. program_command_says (λ p. p.inner) p (P.outcome p.inner)
+    ghost said = { λ p a variables. program_command_says (λ p. p.inner) p (WithVariables variables (P.outcome p.inner))
         (P.words p.inner) p.adjacent (are_unusual (P.keys p.inner false) p.info) (λ p. p.names)
-        (P.law p.inner a) (P.said p.inner a) };
+        (P.law p.inner a variables) (P.said p.inner a variables) };
 }

@@ -10,6 +10,8 @@ use std::fmt::Display;
 
 /// With `catch` it is no flat field, nor optional commands.
 impl<T: Drop, P: ProgramField<T>> ProgramField<Option<T>> for ParseOptional<P> {
+    ghost use Rattle.bpaf_exact.proofs.Variables.{kept};
+    ghost use Rattle.bpaf_exact.proofs.Environments.{turn_with};
     ghost use Rattle.bpaf_exact.proofs.SameParts.{optional_shows};
     ghost use Rattle.bpaf_exact.specs.ProgramForm.{program_optional};
     ghost use Rattle.bpaf_exact.specs.ProgramSays.{said_optional};
@@ -20,11 +22,11 @@ impl<T: Drop, P: ProgramField<T>> ProgramField<Option<T>> for ParseOptional<P> {
 
     ghost words = { λ p. [] };
 
-    ghost program_form = { λ p. program_optional p.catch (P.program_form p.inner) };
+    ghost program_form = { λ p variables. program_optional p.catch (P.program_form p.inner variables) };
 
     ghost kind = { λ p. P.kind p.inner };
 
-    ghost says = { said_optional (λ p. p.inner) P.says };
+    ghost says = { λ variables. said_optional (λ p. p.inner) (P.says variables) };
 
     ghost agrees = { λ p. P.agrees p.inner };
 
@@ -41,18 +43,23 @@ impl<T: Drop, P: ProgramField<T>> ProgramField<Option<T>> for ParseOptional<P> {
         true
     }
 
-    ghost law = { λ p a. optional_law T (P.outcome p.inner) p.catch (P.keys p.inner true) (P.words p.inner)
-        (P.program_form p.inner) (P.law p.inner a) };
+    ghost law = { λ p a variables.
+        kept (turn_with variables (P.outcome p.inner) p.catch true) _ _ _
+        (optional_law T _ p.catch (P.keys p.inner true) (P.words p.inner)
+        (P.program_form p.inner variables) (P.law p.inner a variables)) };
 
     ghost shows = { λ p. optional_shows (P.shows p.inner) };
 
-    ghost said = { λ p a. program_optional_says (λ p. p.inner) p p.catch (P.said p.inner a) };
+    ghost said = { λ p a variables. program_optional_says (λ p. p.inner) p p.catch (P.said p.inner a variables) };
 }
 
 impl<T: Drop, P: FlatField<T>> FlatField<Option<T>> for ParseOptional<P> {}
 
 impl<T: Clone, P: ProgramField<T>> ProgramField<T> for ParseFallback<P, T> {
+    ghost use Rattle.bpaf_exact.proofs.Variables.{kept};
+    ghost use Rattle.bpaf_exact.proofs.Environments.{fallback_with};
     ghost use Rattle.bpaf_exact.specs.Wrappers.{kept_closure};
+    ghost use Rattle.bpaf_laws.specs.Default.{GivesClone};
     ghost use Rattle.bpaf_exact.proofs.SameParts.{default_shows};
     ghost use Rattle.bpaf_exact.specs.ProgramForm.{program_fallback};
     ghost use Rattle.bpaf_exact.specs.ProgramSays.{said_fallback};
@@ -63,12 +70,12 @@ impl<T: Clone, P: ProgramField<T>> ProgramField<T> for ParseFallback<P, T> {
 
     ghost words = { λ p. [] };
 
-    ghost program_form = { λ p.
-        program_fallback (kept_closure (T.is_clone p.value)) (P.program_form p.inner) };
+    ghost program_form = { λ p variables.
+        program_fallback (kept_closure (T.is_clone p.value)) (P.program_form p.inner variables) };
 
     ghost kind = { λ p. P.kind p.inner };
 
-    ghost says = { said_fallback (λ p. p.inner) (λ p. kept_closure (T.is_clone p.value)) P.says };
+    ghost says = { λ variables. said_fallback (λ p. p.inner) (λ p. kept_closure (T.is_clone p.value)) (P.says variables) };
 
     ghost agrees = { λ p. P.agrees p.inner };
 
@@ -85,13 +92,15 @@ impl<T: Clone, P: ProgramField<T>> ProgramField<T> for ParseFallback<P, T> {
         true
     }
 
-    ghost law = { λ p a. fallback_law T (P.outcome p.inner) T.is_clone p.value (P.keys p.inner true) (P.words p.inner)
-        (P.program_form p.inner) (P.law p.inner a) };
+    ghost law = { λ p a variables.
+        kept (fallback_with variables (P.outcome p.inner) (GivesClone T.is_clone p.value)) _ _ _
+        (fallback_law T _ T.is_clone p.value (P.keys p.inner true) (P.words p.inner)
+        (P.program_form p.inner variables) (P.law p.inner a variables)) };
 
     ghost shows = { λ p. default_shows (P.shows p.inner) p.shown };
 
-    ghost said = { λ p a. program_fallback_says (λ p. p.inner) p
-        (λ p. kept_closure (T.is_clone p.value)) (P.said p.inner a) };
+    ghost said = { λ p a variables. program_fallback_says (λ p. p.inner) p
+        (λ p. kept_closure (T.is_clone p.value)) (P.said p.inner a variables) };
 }
 
 impl<T: Clone, P: FlatField<T>> FlatField<T> for ParseFallback<P, T> {}
@@ -99,7 +108,10 @@ impl<T: Clone, P: FlatField<T>> FlatField<T> for ParseFallback<P, T> {}
 /// The closure must not refuse where it may give a value.
 impl<T, E: Display + Drop, P: ProgramField<T>, F: Fn() -> Result<T, E>> ProgramField<T>
     for ParseFallbackWith<T, P, F, E> {
+    ghost use Rattle.bpaf_exact.proofs.Variables.{kept};
+    ghost use Rattle.bpaf_exact.proofs.Environments.{fallback_with};
     ghost use Rattle.bpaf_exact.specs.Wrappers.{Decides, answer_closure};
+    ghost use Rattle.bpaf_laws.specs.Default.{GivesAnswer};
     ghost use Rattle.bpaf_exact.proofs.SameParts.{default_shows};
     ghost use Rattle.bpaf_exact.specs.ProgramForm.{program_fallback};
     ghost use Rattle.bpaf_exact.specs.ProgramSays.{said_fallback};
@@ -110,12 +122,12 @@ impl<T, E: Display + Drop, P: ProgramField<T>, F: Fn() -> Result<T, E>> ProgramF
 
     ghost words = { λ p. [] };
 
-    ghost program_form = { λ p.
-        program_fallback (answer_closure (λ r. F.post p.fallback r)) (P.program_form p.inner) };
+    ghost program_form = { λ p variables.
+        program_fallback (answer_closure (λ r. F.post p.fallback r)) (P.program_form p.inner variables) };
 
     ghost kind = { λ p. P.kind p.inner };
 
-    ghost says = { said_fallback (λ p. p.inner) (λ p. answer_closure (λ r. F.post p.fallback r)) P.says };
+    ghost says = { λ variables. said_fallback (λ p. p.inner) (λ p. answer_closure (λ r. F.post p.fallback r)) (P.says variables) };
 
     ghost agrees = { λ p. P.agrees p.inner × Decides (answer_closure (λ r. F.post p.fallback r)) };
 
@@ -132,15 +144,16 @@ impl<T, E: Display + Drop, P: ProgramField<T>, F: Fn() -> Result<T, E>> ProgramF
         true
     }
 
-    ghost law = { λ p a.
-        fallback_with_law T _ (P.outcome p.inner) (λ r. F.post p.fallback r)
-        E.output (P.keys p.inner true) (P.words p.inner)
-        (P.program_form p.inner) a.1 (P.law p.inner a.0) };
+    ghost law = { λ p a variables.
+        kept (fallback_with variables (P.outcome p.inner)
+        (GivesAnswer (λ r. F.post p.fallback r) E.output)) _ _ _
+        (fallback_with_law T _ _ (λ r. F.post p.fallback r) E.output (P.keys p.inner true)
+        (P.words p.inner) (P.program_form p.inner variables) a.1 (P.law p.inner a.0 variables)) };
 
     ghost shows = { λ p. default_shows (P.shows p.inner) p.shown };
 
-    ghost said = { λ p a. program_fallback_says (λ p. p.inner) p
-        (λ p. answer_closure (λ r. F.post p.fallback r)) (P.said p.inner a.0) };
+    ghost said = { λ p a variables. program_fallback_says (λ p. p.inner) p
+        (λ p. answer_closure (λ r. F.post p.fallback r)) (P.said p.inner a.0 variables) };
 }
 
 impl<T, E: Display + Drop, P: FlatField<T>, F> FlatField<T> for ParseFallbackWith<T, P, F, E> {}

@@ -15,6 +15,7 @@ pub trait ProgramField<T>: Parser<T> {
     ghost use Rattle.bpaf_exact.specs.Flat.{FieldKind};
     ghost use Rattle.bpaf_exact.specs.ProgramForm.{ProgramForm, ProgramFormLaw};
     ghost use Rattle.bpaf_exact.specs.ProgramSays.{ProgramSaid, ProgramSays};
+    ghost use Rattle.bpaf_exact.specs.Variables.{Variables, WithVariables};
     ghost use Rattle.bpaf_record.specs.Part.{part_of};
 
     /// The names of its flags and arguments, one after the other, with or without those inside its
@@ -24,23 +25,23 @@ pub trait ProgramField<T>: Parser<T> {
     /// The words of its commands, where it is a command or a choice of such.
     ghost words: { Self → List (List ℕ) };
 
-    /// What it is to a program: to a flat record how it reads its pieces, else which values it has
-    /// on the cells of its scope.
-    ghost program_form: { Self → ProgramForm T };
+    /// What it is to a program where the environment has some variables: to a flat record how it
+    /// reads its pieces, else which values it has on the cells of its scope.
+    ghost program_form: { Self → Variables → ProgramForm T };
 
     /// Whether its pieces are keys or words, and how many of the words it takes.
     ghost kind: { Self → FieldKind };
 
     /// What its value says of the pieces that are its own, or of all where it is a record; or of
     /// the cells of its scope, where it ends in commands.
-    ghost says: { ProgramSaid Self T };
+    ghost says: { Variables → ProgramSaid Self T };
 
     /// The premise of exactness: whether its closures accept depends on what is present alone.
     ghost agrees: { Self → Type 0 };
 
-    /// What it is to a program. It takes no memory.
+    /// What it is to a program, which is the same in each environment. It takes no memory.
     fn part(&self) -> ProgramPart
-        ensures { result ≡ part_of (program_form self.now) };
+        ensures { (variables : Variables) → result ≡ part_of (program_form self.now variables) };
 
     /// Whether each of its keys passes a test, which may ask for those inside its commands too. It
     /// takes no memory.
@@ -52,15 +53,16 @@ pub trait ProgramField<T>: Parser<T> {
         ensures { result ≡ list_all (W.accepts test.now) (words self.now) };
 
     /// What it answers and takes depends on what is its own alone, as its form says.
-    ghost law: { (p : Self) → agrees p
-        → ProgramFormLaw (Self.Parser.outcome p) (keys p true) (words p) (program_form p) };
+    ghost law: { (p : Self) → agrees p → (variables : Variables)
+        → ProgramFormLaw (WithVariables variables (Self.Parser.outcome p)) (keys p true) (words p)
+        (program_form p variables) };
 
     /// It shows the same parts, whichever shape it shows, so that words have one line.
     ghost shows: { (p : Self) → ShowsTheSame (Self.Parser.describes p) };
 
     /// Its value says so.
-    ghost said: { (p : Self) → agrees p
-        → ProgramSays (keys p true) (program_form p) (kind p) says p };
+    ghost said: { (p : Self) → agrees p → (variables : Variables)
+        → ProgramSays (keys p true) (program_form p variables) (kind p) (says variables) p };
 }
 
 /// The mark of a parser that may be a field of a flat record, or a flat record itself. It has no
@@ -74,25 +76,26 @@ pub trait ProgramFields<V>: Fields<V> {
     ghost use Rattle.bpaf_exact.specs.SameParts.{FieldsShowTheSame};
     ghost use Rattle.bpaf_exact.specs.ProgramForm.{ProgramForm, ProgramFormLaw};
     ghost use Rattle.bpaf_exact.specs.ProgramSays.{ProgramFieldsSaid, ProgramFieldsSay};
+    ghost use Rattle.bpaf_exact.specs.Variables.{Variables, WithVariables};
     ghost use Rattle.bpaf_record.specs.Part.{part_of};
 
     /// The names of their flags and arguments, one after the other, with or without those inside
     /// commands.
     ghost keys: { Self → Bool → List Names };
 
-    /// What they are to a program.
-    ghost program_form: { Self → ProgramForm V };
+    /// What they are to a program where the environment has some variables.
+    ghost program_form: { Self → Variables → ProgramForm V };
 
     /// What their values say: of the pieces of a line and of the words that are left to them, or of
     /// the cells of their scope, where they end in commands.
-    ghost says: { ProgramFieldsSaid Self V };
+    ghost says: { Variables → ProgramFieldsSaid Self V };
 
     /// The premise of exactness, for each of them.
     ghost agrees: { Self → Type 0 };
 
-    /// What they are to a program. It takes no memory.
+    /// What they are to a program, which is the same in each environment. It takes no memory.
     fn fields_part(&self) -> ProgramPart
-        ensures { result ≡ part_of (program_form self.now) };
+        ensures { (variables : Variables) → result ≡ part_of (program_form self.now variables) };
 
     /// Whether each of their keys passes a test, which may ask for those inside commands too. It
     /// takes no memory.
@@ -100,14 +103,16 @@ pub trait ProgramFields<V>: Fields<V> {
         ensures { result ≡ list_all (N.accepts test.now) (keys self.now (N.deep test.now)) };
 
     /// What they answer and take depends on what is present alone, as their form says.
-    ghost law: { (p : Self) → agrees p
-        → ProgramFormLaw (Self.Fields.outcome p) (keys p true) [] (program_form p) };
+    ghost law: { (p : Self) → agrees p → (variables : Variables)
+        → ProgramFormLaw (WithVariables variables (Self.Fields.outcome p)) (keys p true) []
+        (program_form p variables) };
 
     /// They show the same parts, whichever shapes they show.
     ghost shows: { (p : Self) → FieldsShowTheSame (Self.Fields.describes p) };
 
     /// Their values say so.
-    ghost said: { (p : Self) → agrees p → ProgramFieldsSay (keys p true) (program_form p) says p };
+    ghost said: { (p : Self) → agrees p → (variables : Variables)
+        → ProgramFieldsSay (keys p true) (program_form p variables) (says variables) p };
 }
 
 /// The mark of the fields of a flat record.

@@ -19,6 +19,7 @@ impl<
 > ProgramFields<FourValues<S, T, U, V, W>> for Four<A, B, C, D, R> {
     ghost use Rattle.bpaf_exact.specs.ProgramSays.{fields_said_inside};
     ghost use Rattle.bpaf_exact.proofs.SameParts.{both_show};
+    ghost use Rattle.bpaf_exact.proofs.Environments.{kept_variables};
     ghost use Rattle.bpaf_exact.proofs.Keeping.{keep, keep_before};
     ghost use Rattle.bpaf_exact.proofs.ProgramSays.{inside_say};
     ghost use Rattle.std.specs.Prelude.{true};
@@ -30,8 +31,9 @@ impl<
         ⟦<FourFields<A, B, C, D, R> as ProgramFields<FourValues<S, T, U, V, W>>>⟧.program_form
         p.fields };
 
-    ghost says = { fields_said_inside (λ p. p.fields)
-        ⟦<FourFields<A, B, C, D, R> as ProgramFields<FourValues<S, T, U, V, W>>>⟧.says };
+    ghost says = { λ variables. fields_said_inside (λ p. p.fields)
+        (⟦<FourFields<A, B, C, D, R> as ProgramFields<FourValues<S, T, U, V, W>>>⟧.says
+        variables) };
 
     ghost agrees = { λ p.
         ⟦<FourFields<A, B, C, D, R> as ProgramFields<FourValues<S, T, U, V, W>>>⟧.agrees
@@ -45,22 +47,28 @@ impl<
         self.fields.all_keys(test)
     }
 
-    ghost law = { λ p a.
-        (keep_before (λ q. q.first) (λ q. q.rest) p.fields _ A.kind (λ q. A.keys q true)
-        (A.words p.fields.first) _ A.says (A.law p.fields.first a.0) (A.said p.fields.first a.0)
-        (keep_before (λ q. q.first) (λ q. q.rest) p.fields.rest _ B.kind (λ q. B.keys q true)
-        (B.words p.fields.rest.first) _ B.says (B.law p.fields.rest.first a.1.0)
-        (B.said p.fields.rest.first a.1.0)
-        (keep_before (λ q. q.first) (λ q. q.rest) p.fields.rest.rest _ C.kind
-        (λ q. C.keys q true) (C.words p.fields.rest.rest.first) _ C.says
-        (C.law p.fields.rest.rest.first a.1.1.0) (C.said p.fields.rest.rest.first a.1.1.0)
-        (keep_before (λ q. q.first) (λ q. q.rest) p.fields.rest.rest.rest _ D.kind
-        (λ q. D.keys q true) (D.words p.fields.rest.rest.rest.first) _ D.says
-        (D.law p.fields.rest.rest.rest.first a.1.1.1.0)
-        (D.said p.fields.rest.rest.rest.first a.1.1.1.0)
-        (keep _ _ _ R.says p.fields.rest.rest.rest.rest
-        (R.law p.fields.rest.rest.rest.rest a.1.1.1.1)
-        (R.said p.fields.rest.rest.rest.rest a.1.1.1.1)))))).law };
+    ghost law = { λ p a variables.
+        (keep_before variables (λ q. q.first) (λ q. q.rest) p.fields _
+        (kept_variables (A.lawful p.fields.first)) A.kind (λ q. A.keys q true)
+        (A.words p.fields.first) _ (A.says variables) (A.law p.fields.first a.0 variables)
+        (A.said p.fields.first a.0 variables)
+        (keep_before variables (λ q. q.first) (λ q. q.rest) p.fields.rest _
+        (kept_variables (B.lawful p.fields.rest.first)) B.kind (λ q. B.keys q true)
+        (B.words p.fields.rest.first) _ (B.says variables)
+        (B.law p.fields.rest.first a.1.0 variables) (B.said p.fields.rest.first a.1.0 variables)
+        (keep_before variables (λ q. q.first) (λ q. q.rest) p.fields.rest.rest _
+        (kept_variables (C.lawful p.fields.rest.rest.first)) C.kind (λ q. C.keys q true)
+        (C.words p.fields.rest.rest.first) _ (C.says variables)
+        (C.law p.fields.rest.rest.first a.1.1.0 variables)
+        (C.said p.fields.rest.rest.first a.1.1.0 variables)
+        (keep_before variables (λ q. q.first) (λ q. q.rest) p.fields.rest.rest.rest _
+        (kept_variables (D.lawful p.fields.rest.rest.rest.first)) D.kind (λ q. D.keys q true)
+        (D.words p.fields.rest.rest.rest.first) _ (D.says variables)
+        (D.law p.fields.rest.rest.rest.first a.1.1.1.0 variables)
+        (D.said p.fields.rest.rest.rest.first a.1.1.1.0 variables)
+        (keep _ _ _ (R.says variables) p.fields.rest.rest.rest.rest
+        (R.law p.fields.rest.rest.rest.rest a.1.1.1.1 variables)
+        (R.said p.fields.rest.rest.rest.rest a.1.1.1.1 variables)))))).law };
 
     ghost shows = { λ p. both_show (A.shows p.fields.first)
         (both_show (B.shows p.fields.rest.first)
@@ -68,22 +76,28 @@ impl<
         (both_show (D.shows p.fields.rest.rest.rest.first)
         (R.shows p.fields.rest.rest.rest.rest)))) };
 
-    ghost said = { λ p a. inside_say (λ p. p.fields) p
-        (keep_before (λ q. q.first) (λ q. q.rest) p.fields _ A.kind (λ q. A.keys q true)
-        (A.words p.fields.first) _ A.says (A.law p.fields.first a.0) (A.said p.fields.first a.0)
-        (keep_before (λ q. q.first) (λ q. q.rest) p.fields.rest _ B.kind (λ q. B.keys q true)
-        (B.words p.fields.rest.first) _ B.says (B.law p.fields.rest.first a.1.0)
-        (B.said p.fields.rest.first a.1.0)
-        (keep_before (λ q. q.first) (λ q. q.rest) p.fields.rest.rest _ C.kind
-        (λ q. C.keys q true) (C.words p.fields.rest.rest.first) _ C.says
-        (C.law p.fields.rest.rest.first a.1.1.0) (C.said p.fields.rest.rest.first a.1.1.0)
-        (keep_before (λ q. q.first) (λ q. q.rest) p.fields.rest.rest.rest _ D.kind
-        (λ q. D.keys q true) (D.words p.fields.rest.rest.rest.first) _ D.says
-        (D.law p.fields.rest.rest.rest.first a.1.1.1.0)
-        (D.said p.fields.rest.rest.rest.first a.1.1.1.0)
-        (keep _ _ _ R.says p.fields.rest.rest.rest.rest
-        (R.law p.fields.rest.rest.rest.rest a.1.1.1.1)
-        (R.said p.fields.rest.rest.rest.rest a.1.1.1.1)))))).says };
+    ghost said = { λ p a variables. inside_say (λ p. p.fields) p
+        (keep_before variables (λ q. q.first) (λ q. q.rest) p.fields _
+        (kept_variables (A.lawful p.fields.first)) A.kind (λ q. A.keys q true)
+        (A.words p.fields.first) _ (A.says variables) (A.law p.fields.first a.0 variables)
+        (A.said p.fields.first a.0 variables)
+        (keep_before variables (λ q. q.first) (λ q. q.rest) p.fields.rest _
+        (kept_variables (B.lawful p.fields.rest.first)) B.kind (λ q. B.keys q true)
+        (B.words p.fields.rest.first) _ (B.says variables)
+        (B.law p.fields.rest.first a.1.0 variables) (B.said p.fields.rest.first a.1.0 variables)
+        (keep_before variables (λ q. q.first) (λ q. q.rest) p.fields.rest.rest _
+        (kept_variables (C.lawful p.fields.rest.rest.first)) C.kind (λ q. C.keys q true)
+        (C.words p.fields.rest.rest.first) _ (C.says variables)
+        (C.law p.fields.rest.rest.first a.1.1.0 variables)
+        (C.said p.fields.rest.rest.first a.1.1.0 variables)
+        (keep_before variables (λ q. q.first) (λ q. q.rest) p.fields.rest.rest.rest _
+        (kept_variables (D.lawful p.fields.rest.rest.rest.first)) D.kind (λ q. D.keys q true)
+        (D.words p.fields.rest.rest.rest.first) _ (D.says variables)
+        (D.law p.fields.rest.rest.rest.first a.1.1.1.0 variables)
+        (D.said p.fields.rest.rest.rest.first a.1.1.1.0 variables)
+        (keep _ _ _ (R.says variables) p.fields.rest.rest.rest.rest
+        (R.law p.fields.rest.rest.rest.rest a.1.1.1.1 variables)
+        (R.said p.fields.rest.rest.rest.rest a.1.1.1.1 variables)))))).says };
 }
 
 impl<

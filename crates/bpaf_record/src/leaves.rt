@@ -9,13 +9,16 @@ use crate::words::WordTest;
 use bpaf::parsers::{ParseArgument, ParseFlag, ParsePure};
 use bpaf::{FromText, ParsePositional, Position};
 
-/// With a name in the environment it is no flat field.
+/// With a name in the environment it may stand in a program, but in no flat record.
 impl<T: Clone> ProgramField<T> for ParseFlag<T> {
     ghost use Rattle.bpaf_exact.specs.Flat.{ByName};
     ghost use Rattle.bpaf_exact.specs.Says.{FlagSays};
-    ghost use Rattle.bpaf_exact.proofs.Says.{flag_says};
-    ghost use Rattle.bpaf_exact.specs.Leaves.{flag_field};
-    ghost use Rattle.bpaf_exact.proofs.Flags.{flag_field_law};
+    ghost use Rattle.bpaf_exact.proofs.ProgramSays.{key_says};
+    ghost use Rattle.bpaf_exact.proofs.Says.{flag_field_says, variable_flag_says};
+    ghost use Rattle.bpaf_exact.specs.Leaves.{flag_field, variable_flag};
+    ghost use Rattle.bpaf_exact.specs.Variables.{flag_form};
+    ghost use Rattle.bpaf_exact.proofs.Flags.{flag_form_law};
+    ghost use Rattle.bpaf_laws.specs.Environment.{first_set};
     ghost use Rattle.bpaf_exact.proofs.SameParts.{one_shape};
     ghost use Rattle.bpaf_laws.specs.Flag.{flag_shape};
     ghost use Rattle.bpaf_exact.specs.ProgramForm.{plain};
@@ -25,21 +28,23 @@ impl<T: Clone> ProgramField<T> for ParseFlag<T> {
 
     ghost words = { λ p. [] };
 
-    ghost program_form = { λ p. plain false (flag_field T.is_clone p.named p.present p.absent) };
+    ghost program_form = { λ p variables.
+        flag_form T.is_clone p.named p.present p.absent variables };
 
     ghost kind = { λ p. ByName };
 
-    ghost says = { of_pieces (λ p. FlagSays T.is_clone p.present p.absent) };
+    ghost says = { λ variables. of_pieces (λ p.
+        FlagSays T.is_clone p.present p.absent (first_set variables p.named.envs)) };
 
     ghost agrees = { λ p. Unit {0} };
 
     fn part(&self) -> ProgramPart {
-        let form = match (self.named.envs(), &self.absent) {
-            ([_, ..], _) => Form::NotFlat,
-            ([], Some(_)) => Form::Single(Kind::Named),
-            ([], None) => Form::Alternative,
+        let (wide, form) = match (self.named.envs(), &self.absent) {
+            ([_, ..], _) => (true, Form::Single(Kind::Named)),
+            ([], Some(_)) => (false, Form::Single(Kind::Named)),
+            ([], None) => (false, Form::Alternative),
         };
-        ProgramPart::Flat { wide: false, form }
+        ProgramPart::Flat { wide, form }
     }
 
     #[tactic(auto, using(crate::proofs::Forms::and_true))]
@@ -51,23 +56,32 @@ impl<T: Clone> ProgramField<T> for ParseFlag<T> {
         true
     }
 
-    ghost law = { λ p a. flag_field_law T T.is_clone p.named p.present p.absent };
+    ghost law = { λ p a variables.
+        flag_form_law T T.is_clone p.named p.present p.absent variables [] };
 
     ghost shows = { λ p. one_shape (flag_shape p.named p.absent) };
 
-    ghost said = { λ p a. record { by = flag_says T.is_clone p.named p.present p.absent } };
+    ghost said = { λ p a variables.
+        key_says (λ p set. FlagSays T.is_clone p.present p.absent set) (λ p. p.named.envs) p false
+        (flag_field T.is_clone p.named p.present p.absent)
+        (variable_flag T.is_clone p.named p.present p.absent) variables
+        (flag_field_says T.is_clone p.present p.named p.absent)
+        (variable_flag_says T.is_clone p.present p.named p.absent) };
 }
 
 impl<T: Clone> FlatField<T> for ParseFlag<T> {}
 
-/// With a name in the environment it is no flat field; with `adjacent` it may stand in a program,
-/// but in no flat record. With `take_last` it is a field by itself, and no alternative of a choice.
+/// With a name in the environment, or with `adjacent`, it may stand in a program, but in no flat
+/// record. With such a name or `take_last` it is a field by itself, and no alternative of a choice.
 impl<T: FromText> ProgramField<T> for ParseArgument<T> {
     ghost use Rattle.bpaf_exact.specs.Flat.{ByName};
     ghost use Rattle.bpaf_exact.specs.Says.{ArgumentSays};
-    ghost use Rattle.bpaf_exact.proofs.Says.{argument_says};
-    ghost use Rattle.bpaf_exact.specs.Leaves.{argument_field};
-    ghost use Rattle.bpaf_exact.proofs.Arguments.{argument_field_law};
+    ghost use Rattle.bpaf_exact.proofs.ProgramSays.{key_says};
+    ghost use Rattle.bpaf_exact.proofs.Says.{argument_field_says, variable_argument_says};
+    ghost use Rattle.bpaf_exact.specs.Leaves.{argument_field, variable_argument};
+    ghost use Rattle.bpaf_exact.specs.Variables.{argument_form};
+    ghost use Rattle.bpaf_exact.proofs.Arguments.{argument_form_law};
+    ghost use Rattle.bpaf_laws.specs.Environment.{first_set};
     ghost use Rattle.bpaf_exact.proofs.SameParts.{one_shape};
     ghost use Rattle.bpaf_laws.specs.Argument.{argument_shape};
     ghost use Rattle.bpaf_exact.specs.ProgramForm.{plain};
@@ -77,24 +91,22 @@ impl<T: FromText> ProgramField<T> for ParseArgument<T> {
 
     ghost words = { λ p. [] };
 
-    ghost program_form = { λ p. plain p.adjacent (argument_field T.means p) };
+    ghost program_form = { λ p variables. argument_form T.means p variables };
 
     ghost kind = { λ p. ByName };
 
-    ghost says = { of_pieces (λ p. ArgumentSays T.means p.last) };
+    ghost says = { λ variables. of_pieces (λ p.
+        ArgumentSays T.means p.last (first_set variables p.named.envs)) };
 
     ghost agrees = { λ p. Unit {0} };
 
     fn part(&self) -> ProgramPart {
-        let form = match (self.named.envs(), self.last) {
-            ([_, ..], _) => Form::NotFlat,
-            ([], false) => Form::Alternative,
-            ([], true) => Form::Single(Kind::Named),
+        let (wide, form) = match (self.named.envs(), self.last) {
+            ([_, ..], _) => (true, Form::Single(Kind::Named)),
+            ([], false) => (self.adjacent, Form::Alternative),
+            ([], true) => (self.adjacent, Form::Single(Kind::Named)),
         };
-        ProgramPart::Flat {
-            wide: self.adjacent,
-            form,
-        }
+        ProgramPart::Flat { wide, form }
     }
 
     #[tactic(auto, using(crate::proofs::Forms::and_true))]
@@ -106,11 +118,14 @@ impl<T: FromText> ProgramField<T> for ParseArgument<T> {
         true
     }
 
-    ghost law = { λ p a. argument_field_law T T.means p };
+    ghost law = { λ p a variables. argument_form_law T T.means p variables [] };
 
     ghost shows = { λ p. one_shape (argument_shape p) };
 
-    ghost said = { λ p a. record { by = argument_says T.means p } };
+    ghost said = { λ p a variables.
+        key_says (λ p set. ArgumentSays T.means p.last set) (λ p. p.named.envs) p p.adjacent
+        (argument_field T.means p) (variable_argument T.means p) variables
+        (argument_field_says T.means p) (variable_argument_says T.means p) };
 }
 
 impl<T: FromText> FlatField<T> for ParseArgument<T> {}
@@ -118,6 +133,7 @@ impl<T: FromText> FlatField<T> for ParseArgument<T> {}
 /// With `strict` or `non_strict` it may stand in a program, but in no flat record; with `non_strict`
 /// under no repeat and no default.
 impl<T: FromText> ProgramField<T> for ParsePositional<T> {
+    ghost use Rattle.bpaf_exact.proofs.Variables.{program_with};
     ghost use Rattle.bpaf_exact.specs.Flat.{OneWord};
     ghost use Rattle.bpaf_exact.specs.Says.{WordSays};
     ghost use Rattle.bpaf.specs.Positional.{accepts};
@@ -131,11 +147,11 @@ impl<T: FromText> ProgramField<T> for ParsePositional<T> {
 
     ghost words = { λ p. [] };
 
-    ghost program_form = { λ p. plain (is_sided p.position) (positional_field T.means p.position) };
+    ghost program_form = { λ p variables. plain (is_sided p.position) (positional_field T.means p.position) };
 
     ghost kind = { λ p. OneWord };
 
-    ghost says = { of_pieces (λ p. WordSays (accepts p.position) T.means) };
+    ghost says = { λ variables. of_pieces (λ p. WordSays (accepts p.position) T.means) };
 
     ghost agrees = { λ p. Unit {0} };
 
@@ -156,17 +172,20 @@ impl<T: FromText> ProgramField<T> for ParsePositional<T> {
         true
     }
 
-    ghost law = { λ p a. positional_field_law T T.means p.position p.metavar.0.now };
+    ghost law = { λ p a variables.
+        program_with T _ variables [] [] (plain (is_sided p.position) (positional_field T.means p.position))
+        (positional_field_law T T.means p.position p.metavar.0.now) };
 
     ghost shows = { λ p. one_shape (positional_shape p.position p.metavar.0.now p.help) };
 
-    ghost said = { λ p a. record { by = positional_says T.means p.position } };
+    ghost said = { λ p a variables. record { by = positional_says T.means p.position } };
 }
 
 impl<T: FromText> FlatField<T> for ParsePositional<T> {}
 
 /// A kept value may stand in a program, as a field that takes no piece, but in no flat record.
 impl<T: Clone> ProgramField<T> for ParsePure<T> {
+    ghost use Rattle.bpaf_exact.proofs.Variables.{program_with};
     ghost use Rattle.bpaf_doc.specs.Shape.{Skip};
     ghost use Rattle.bpaf_exact.specs.Flat.{ByName};
     ghost use Rattle.bpaf_exact.specs.Leaves.{pure_field};
@@ -179,11 +198,11 @@ impl<T: Clone> ProgramField<T> for ParsePure<T> {
 
     ghost words = { λ p. [] };
 
-    ghost program_form = { λ p. plain true (pure_field (T.is_clone p.value)) };
+    ghost program_form = { λ p variables. plain true (pure_field (T.is_clone p.value)) };
 
     ghost kind = { λ p. ByName };
 
-    ghost says = { of_pieces (λ p os v. T.is_clone p.value v) };
+    ghost says = { λ variables. of_pieces (λ p os v. T.is_clone p.value v) };
 
     ghost agrees = { λ p. Unit {0} };
 
@@ -202,9 +221,11 @@ impl<T: Clone> ProgramField<T> for ParsePure<T> {
         true
     }
 
-    ghost law = { λ p a. pure_field_law T T.is_clone p.value };
+    ghost law = { λ p a variables.
+        program_with T _ variables [] [] (plain true (pure_field (T.is_clone p.value)))
+        (pure_field_law T T.is_clone p.value) };
 
     ghost shows = { λ p. one_shape Skip };
 
-    ghost said = { λ p a. record { by = pure_says (T.is_clone p.value) } };
+    ghost said = { λ p a variables. record { by = pure_says (T.is_clone p.value) } };
 }

@@ -10,6 +10,7 @@ use bpaf::{Both, Last};
 use std::marker::PhantomData;
 
 impl<T: Drop, A: ProgramField<T>> ProgramFields<T> for Last<A> {
+    ghost use Rattle.bpaf_exact.specs.Variables.{WithVariables};
     ghost use Rattle.bpaf_exact.specs.ProgramForm.{program_alone, program_field};
     ghost use Rattle.bpaf_exact.specs.ProgramSays.{said_alone};
     ghost use Rattle.bpaf_exact.proofs.ProgramForm.{program_alone_law, program_field_law};
@@ -18,9 +19,9 @@ impl<T: Drop, A: ProgramField<T>> ProgramFields<T> for Last<A> {
 
     ghost keys = { λ p deep. A.keys p.last deep };
 
-    ghost program_form = { λ p. program_alone (program_field (A.program_form p.last)) };
+    ghost program_form = { λ p variables. program_alone (program_field (A.program_form p.last variables)) };
 
-    ghost says = { said_alone (λ p. p.last) A.kind (λ q. A.keys q true) A.says };
+    ghost says = { λ variables. said_alone (λ p. p.last) A.kind (λ q. A.keys q true) (A.says variables) };
 
     ghost agrees = { λ p. A.agrees p.last };
 
@@ -33,15 +34,15 @@ impl<T: Drop, A: ProgramField<T>> ProgramFields<T> for Last<A> {
         self.last.all_keys(test)
     }
 
-    ghost law = { λ p a. program_alone_law T (A.outcome p.last) (A.keys p.last true)
-        (A.words p.last) (program_field (A.program_form p.last))
-        (program_field_law T (A.outcome p.last) (A.keys p.last true) (A.words p.last)
-        (A.program_form p.last) (A.law p.last a)) };
+    ghost law = { λ p a variables. program_alone_law T _ (A.keys p.last true) (A.words p.last)
+        (program_field (A.program_form p.last variables))
+        (program_field_law T _ (A.keys p.last true) (A.words p.last)
+        (A.program_form p.last variables) (A.law p.last a variables)) };
 
     ghost shows = { λ p. last_shows (A.shows p.last) };
 
-    ghost said = { λ p a. program_alone_says (λ p. p.last) p (A.outcome p.last) A.kind
-        (λ q. A.keys q true) (A.words p.last) (A.law p.last a) (A.said p.last a) };
+    ghost said = { λ p a variables. program_alone_says (λ p. p.last) p (WithVariables variables (A.outcome p.last)) A.kind
+        (λ q. A.keys q true) (A.words p.last) (A.law p.last a variables) (A.said p.last a variables) };
 }
 
 impl<T: Drop, A: FlatField<T>> FlatFields<T> for Last<A> {}
@@ -49,6 +50,9 @@ impl<T: Drop, A: FlatField<T>> FlatFields<T> for Last<A> {}
 /// Where a named field stands behind a positional one, a positional one before commands, or two
 /// share a name, they are nothing.
 impl<T: Drop, V, A: ProgramField<T>, R: ProgramFields<V>> ProgramFields<(T, V)> for Both<A, R> {
+    ghost use Rattle.bpaf_exact.specs.Variables.{WithVariables};
+    ghost use Rattle.bpaf_exact.proofs.Variables.{kept};
+    ghost use Rattle.bpaf_exact.proofs.Environments.{both_with, kept_variables};
     ghost use Rattle.std.specs.Prelude.{◌++◌};
     ghost use Rattle.bpaf_exact.specs.ProgramForm.{program_both, program_field};
     ghost use Rattle.bpaf_exact.specs.ProgramSays.{said_both};
@@ -58,11 +62,11 @@ impl<T: Drop, V, A: ProgramField<T>, R: ProgramFields<V>> ProgramFields<(T, V)> 
 
     ghost keys = { λ p deep. A.keys p.first deep ++ R.keys p.rest deep };
 
-    ghost program_form = { λ p. program_both (A.keys p.first true) (R.keys p.rest true)
-        (program_field (A.program_form p.first)) (R.program_form p.rest) };
+    ghost program_form = { λ p variables. program_both (A.keys p.first true) (R.keys p.rest true)
+        (program_field (A.program_form p.first variables)) (R.program_form p.rest variables) };
 
-    ghost says = { said_both (λ p. p.first) (λ p. p.rest) A.kind (λ q. A.keys q true) A.says
-        R.says };
+    ghost says = { λ variables. said_both (λ p. p.first) (λ p. p.rest) A.kind (λ q. A.keys q true) (A.says variables)
+        (R.says variables) };
 
     ghost agrees = { λ p. A.agrees p.first × R.agrees p.rest };
 
@@ -84,22 +88,28 @@ impl<T: Drop, V, A: ProgramField<T>, R: ProgramFields<V>> ProgramFields<(T, V)> 
         first && rest
     }
 
-    ghost law = { λ p a. program_both_law T V (A.outcome p.first) (R.outcome p.rest)
-        (A.keys p.first true) (R.keys p.rest true) (A.words p.first)
-        (program_field (A.program_form p.first)) (R.program_form p.rest)
-        (program_field_law T (A.outcome p.first) (A.keys p.first true) (A.words p.first)
-        (A.program_form p.first) (A.law p.first a.0)) (R.law p.rest a.1) };
+    ghost law = { λ p a variables.
+        kept (both_with variables (A.outcome p.first) (kept_variables (A.lawful p.first))
+        (R.outcome p.rest)) _ _ _
+        (program_both_law T V _ _ (A.keys p.first true) (R.keys p.rest true) (A.words p.first)
+        (program_field (A.program_form p.first variables)) (R.program_form p.rest variables)
+        (program_field_law T _ (A.keys p.first true) (A.words p.first)
+        (A.program_form p.first variables) (A.law p.first a.0 variables))
+        (R.law p.rest a.1 variables)) };
 
     ghost shows = { λ p. both_show (A.shows p.first) (R.shows p.rest) };
 
-    ghost said = { λ p a. program_both_say (λ p. p.first) (λ p. p.rest) p (A.outcome p.first)
-        (R.outcome p.rest) A.kind (λ q. A.keys q true) (A.words p.first) (R.keys p.rest true)
-        (A.law p.first a.0) (R.law p.rest a.1) (A.said p.first a.0) (R.said p.rest a.1) };
+    ghost said = { λ p a variables. program_both_say (λ p. p.first) (λ p. p.rest) p (WithVariables variables (A.outcome p.first))
+        (WithVariables variables (R.outcome p.rest)) A.kind (λ q. A.keys q true) (A.words p.first) (R.keys p.rest true)
+        (A.law p.first a.0 variables) (R.law p.rest a.1 variables) (A.said p.first a.0 variables) (R.said p.rest a.1 variables) };
 }
 
 impl<T: Drop, V, A: FlatField<T>, R: FlatFields<V>> FlatFields<(T, V)> for Both<A, R> {}
 
 impl<V, T, P: ProgramFields<V>, F: Fn(V) -> T> ProgramField<T> for ParseCon<V, P, F> {
+    ghost use Rattle.bpaf_exact.specs.Variables.{WithVariables};
+    ghost use Rattle.bpaf_exact.proofs.Variables.{kept};
+    ghost use Rattle.bpaf_exact.proofs.Environments.{product_with};
     ghost use Rattle.bpaf_exact.specs.Flat.{ByName};
     ghost use Rattle.bpaf_exact.specs.ProgramForm.{program_con};
     ghost use Rattle.bpaf_exact.specs.ProgramSays.{said_con};
@@ -112,13 +122,13 @@ impl<V, T, P: ProgramFields<V>, F: Fn(V) -> T> ProgramField<T> for ParseCon<V, P
 
     ghost words = { λ p. [] };
 
-    ghost program_form = { λ p.
-        program_con (map_closure (λ x y. F.post p.make x y)) (P.program_form p.fields) };
+    ghost program_form = { λ p variables.
+        program_con (map_closure (λ x y. F.post p.make x y)) (P.program_form p.fields variables) };
 
     ghost kind = { λ p. ByName };
 
-    ghost says = { said_con (λ p. p.fields) (λ q. P.keys q true)
-        (λ p. map_closure (λ x y. F.post p.make x y)) P.says };
+    ghost says = { λ variables. said_con (λ p. p.fields) (λ q. P.keys q true)
+        (λ p. map_closure (λ x y. F.post p.make x y)) (P.says variables) };
 
     ghost agrees = { λ p. P.agrees p.fields };
 
@@ -135,14 +145,16 @@ impl<V, T, P: ProgramFields<V>, F: Fn(V) -> T> ProgramField<T> for ParseCon<V, P
         true
     }
 
-    ghost law = { λ p a. program_con_law V T (P.outcome p.fields) (λ x y. F.post p.make x y)
-        (P.keys p.fields true) (P.program_form p.fields) (P.law p.fields a) };
+    ghost law = { λ p a variables.
+        kept (product_with variables (P.outcome p.fields) (λ x y. F.post p.make x y)) _ _ _
+        (program_con_law V T _ (λ x y. F.post p.make x y) (P.keys p.fields true)
+        (P.program_form p.fields variables) (P.law p.fields a variables)) };
 
     ghost shows = { λ p. product_shows (P.shows p.fields) };
 
-    ghost said = { λ p a. program_con_says (λ p. p.fields) p (P.outcome p.fields)
-        (λ q. P.keys q true) (λ p. map_closure (λ x y. F.post p.make x y)) (P.law p.fields a)
-        (P.said p.fields a) };
+    ghost said = { λ p a variables. program_con_says (λ p. p.fields) p (WithVariables variables (P.outcome p.fields))
+        (λ q. P.keys q true) (λ p. map_closure (λ x y. F.post p.make x y)) (P.law p.fields a variables)
+        (P.said p.fields a variables) };
 }
 
 impl<V, T, P: FlatFields<V>, F> FlatField<T> for ParseCon<V, P, F> {}

@@ -14,15 +14,16 @@ pub trait Record<T>: CommandLine<T> {
     ghost use Rattle.bpaf_line.specs.declared.failure.ParseFailure.{ParseFailure};
     ghost use Rattle.bpaf_words.specs.Arguments.{Given};
     ghost use Rattle.bpaf.specs.Run.{IsNotWant};
+    ghost use Rattle.bpaf_exact.specs.Variables.{Variables};
 
-    /// Whether they are a flat record.
-    ghost is_flat: { Self → Bool };
+    /// Whether they are a flat record, where the environment has some variables.
+    ghost is_flat: { Self → Variables → Bool };
 
     /// Whether they are a flat record: one flat field, or a product of such with the positional
     /// ones last, none of which shares a name with another or with the keys of help and version.
     /// The names of version count also where no version is set. It takes no memory.
     fn is_record(&self) -> bool
-        ensures { result ≡ is_flat self.now };
+        ensures { (variables : Variables) → result ≡ is_flat self.now variables };
 
     /// What a value says of words, field by field.
     ghost says: { Self → Given → T → Type 0 };
@@ -54,7 +55,7 @@ pub trait Record<T>: CommandLine<T> {
     /// ```
     fn run_record(&self, args: Args<'_>) -> Result<T, ParseFailure>
         requires can { Self.can_run self.now }
-        requires record { is_flat self.now ≡ true }
+        requires record { is_flat self.now (given_of args).env ≡ true }
         ensures outcome { Self.answers self.now (given_of args.entry) result }
         ensures named { IfErr result (Self.refuses self.now (given_of args.entry)) }
         ensures dealt { IfOk result (Self.deals self.now (given_of args.entry)) }
@@ -73,8 +74,8 @@ impl<T: Drop, P: ProgramField<T> + FlatField<T>> Record<T> for OptionParser<T, P
     ghost use Rattle.bpaf_exact.specs.ProgramSays.{pieces_said};
     ghost use Rattle.bpaf_record.specs.Record.{is_flat_record, AnswersExactly, SaysOfWords};
 
-    ghost is_flat = { λ p. is_flat_record (flat_form (P.program_form p.inner))
-        (P.keys p.inner false) p.info };
+    ghost is_flat = { λ p variables. is_flat_record
+        (flat_form (P.program_form p.inner variables)) (P.keys p.inner false) p.info };
 
     #[tactic(auto, using(crate::proofs::Parts::record_part_is))]
     fn is_record(&self) -> bool {
@@ -84,10 +85,11 @@ impl<T: Drop, P: ProgramField<T> + FlatField<T>> Record<T> for OptionParser<T, P
     }
 
     ghost says = { λ p given. SaysOfWords (P.describes p.inner) p.info
-        (flat_form (P.program_form p.inner)) (pieces_said P.says p.inner) given };
+        (flat_form (P.program_form p.inner given.env)) (pieces_said (P.says given.env) p.inner)
+        given };
 
     ghost answers_exactly = { λ p given. AnswersExactly T (P.describes p.inner) p.info
-        (flat_form (P.program_form p.inner)) given };
+        (flat_form (P.program_form p.inner given.env)) given };
 
     fn run_record(&self, args: Args<'_>) -> Result<T, ParseFailure> {
         self.run_inner(args)

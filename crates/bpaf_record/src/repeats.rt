@@ -10,6 +10,8 @@ use bpaf::parsers::{ParseCollect, ParseCount, ParseLast, ParseMany, ParseSome};
 
 /// With `catch` it is no flat field, nor round another repeat or a default.
 impl<T: Drop, P: ProgramField<T>> ProgramField<Vec<T>> for ParseMany<P> {
+    ghost use Rattle.bpaf_exact.proofs.Variables.{kept};
+    ghost use Rattle.bpaf_exact.proofs.Environments.{kept_variables, many_with};
     ghost use Rattle.bpaf_exact.specs.Single.{repeated};
     ghost use Rattle.bpaf_exact.specs.Derived.{list_closure};
     ghost use Rattle.bpaf_exact.proofs.SameParts.{many_shows};
@@ -22,11 +24,11 @@ impl<T: Drop, P: ProgramField<T>> ProgramField<Vec<T>> for ParseMany<P> {
 
     ghost words = { λ p. [] };
 
-    ghost program_form = { λ p. program_repeat p.catch (list_closure T) (P.program_form p.inner) };
+    ghost program_form = { λ p variables. program_repeat p.catch (list_closure T) (P.program_form p.inner variables) };
 
     ghost kind = { λ p. repeated (P.kind p.inner) };
 
-    ghost says = { said_repeat (λ p. p.inner) (list_closure T) P.says };
+    ghost says = { λ variables. said_repeat (λ p. p.inner) (list_closure T) (P.says variables) };
 
     ghost agrees = { λ p. P.agrees p.inner };
 
@@ -43,19 +45,24 @@ impl<T: Drop, P: ProgramField<T>> ProgramField<Vec<T>> for ParseMany<P> {
         true
     }
 
-    ghost law = { λ p a. many_law T (P.outcome p.inner) p.catch (P.keys p.inner true) (P.words p.inner)
-        (P.program_form p.inner) (P.law p.inner a) };
+    ghost law = { λ p a variables.
+        kept (many_with variables (P.outcome p.inner) (kept_variables (P.lawful p.inner))
+        p.catch) _ _ _
+        (many_law T _ p.catch (P.keys p.inner true) (P.words p.inner)
+        (P.program_form p.inner variables) (P.law p.inner a variables)) };
 
     ghost shows = { λ p. many_shows (P.shows p.inner) };
 
-    ghost said = { λ p a. program_repeat_says (λ p. p.inner) p p.catch (list_closure T)
-        (P.said p.inner a) };
+    ghost said = { λ p a variables. program_repeat_says (λ p. p.inner) p p.catch (list_closure T)
+        (P.said p.inner a variables) };
 }
 
 impl<T: Drop, P: FlatField<T>> FlatField<Vec<T>> for ParseMany<P> {}
 
 /// As `many`.
 impl<'m, T: Drop, P: ProgramField<T>> ProgramField<Vec<T>> for ParseSome<'m, P> {
+    ghost use Rattle.bpaf_exact.proofs.Variables.{kept};
+    ghost use Rattle.bpaf_exact.proofs.Environments.{kept_variables, some_with};
     ghost use Rattle.bpaf_exact.specs.Single.{repeated};
     ghost use Rattle.bpaf_exact.specs.Derived.{some_closure};
     ghost use Rattle.bpaf_exact.proofs.SameParts.{some_shows};
@@ -68,11 +75,11 @@ impl<'m, T: Drop, P: ProgramField<T>> ProgramField<Vec<T>> for ParseSome<'m, P> 
 
     ghost words = { λ p. [] };
 
-    ghost program_form = { λ p. program_repeat p.catch (some_closure T) (P.program_form p.inner) };
+    ghost program_form = { λ p variables. program_repeat p.catch (some_closure T) (P.program_form p.inner variables) };
 
     ghost kind = { λ p. repeated (P.kind p.inner) };
 
-    ghost says = { said_repeat (λ p. p.inner) (some_closure T) P.says };
+    ghost says = { λ variables. said_repeat (λ p. p.inner) (some_closure T) (P.says variables) };
 
     ghost agrees = { λ p. P.agrees p.inner };
 
@@ -89,20 +96,24 @@ impl<'m, T: Drop, P: ProgramField<T>> ProgramField<Vec<T>> for ParseSome<'m, P> 
         true
     }
 
-    ghost law = { λ p a. some_law T (P.outcome p.inner) p.catch p.message.now
-        (P.keys p.inner true) (P.words p.inner)
-        (P.program_form p.inner) (P.law p.inner a) };
+    ghost law = { λ p a variables.
+        kept (some_with variables (P.outcome p.inner) (kept_variables (P.lawful p.inner))
+        p.catch p.message.now) _ _ _
+        (some_law T _ p.catch p.message.now (P.keys p.inner true) (P.words p.inner)
+        (P.program_form p.inner variables) (P.law p.inner a variables)) };
 
     ghost shows = { λ p. some_shows (P.shows p.inner) };
 
-    ghost said = { λ p a. program_repeat_says (λ p. p.inner) p p.catch (some_closure T)
-        (P.said p.inner a) };
+    ghost said = { λ p a variables. program_repeat_says (λ p. p.inner) p p.catch (some_closure T)
+        (P.said p.inner a variables) };
 }
 
 impl<'m, T: Drop, P: FlatField<T>> FlatField<Vec<T>> for ParseSome<'m, P> {}
 
 /// As `many`.
 impl<T: Drop, C: FromList<T> + Drop, P: ProgramField<T>> ProgramField<C> for ParseCollect<P, C, T> {
+    ghost use Rattle.bpaf_exact.proofs.Variables.{kept};
+    ghost use Rattle.bpaf_exact.proofs.Environments.{collect_with, kept_variables};
     ghost use Rattle.bpaf_exact.specs.Single.{repeated};
     ghost use Rattle.bpaf_exact.specs.Derived.{collect_closure};
     ghost use Rattle.bpaf_exact.proofs.SameParts.{many_shows};
@@ -115,11 +126,11 @@ impl<T: Drop, C: FromList<T> + Drop, P: ProgramField<T>> ProgramField<C> for Par
 
     ghost words = { λ p. [] };
 
-    ghost program_form = { λ p. program_repeat p.catch (collect_closure C.fills) (P.program_form p.inner) };
+    ghost program_form = { λ p variables. program_repeat p.catch (collect_closure C.fills) (P.program_form p.inner variables) };
 
     ghost kind = { λ p. repeated (P.kind p.inner) };
 
-    ghost says = { said_repeat (λ p. p.inner) (collect_closure C.fills) P.says };
+    ghost says = { λ variables. said_repeat (λ p. p.inner) (collect_closure C.fills) (P.says variables) };
 
     ghost agrees = { λ p. P.agrees p.inner };
 
@@ -136,19 +147,23 @@ impl<T: Drop, C: FromList<T> + Drop, P: ProgramField<T>> ProgramField<C> for Par
         true
     }
 
-    ghost law = { λ p a. collect_law T C (P.outcome p.inner) p.catch C.fills
-        (P.keys p.inner true) (P.words p.inner)
-        (P.program_form p.inner) (P.law p.inner a) };
+    ghost law = { λ p a variables.
+        kept (collect_with variables (P.outcome p.inner) (kept_variables (P.lawful p.inner))
+        p.catch C.fills) _ _ _
+        (collect_law T C _ p.catch C.fills (P.keys p.inner true) (P.words p.inner)
+        (P.program_form p.inner variables) (P.law p.inner a variables)) };
 
     ghost shows = { λ p. many_shows (P.shows p.inner) };
 
-    ghost said = { λ p a. program_repeat_says (λ p. p.inner) p p.catch (collect_closure C.fills)
-        (P.said p.inner a) };
+    ghost said = { λ p a variables. program_repeat_says (λ p. p.inner) p p.catch (collect_closure C.fills)
+        (P.said p.inner a variables) };
 }
 
 impl<T: Drop, C: FromList<T> + Drop, P: FlatField<T>> FlatField<C> for ParseCollect<P, C, T> {}
 
 impl<T: Drop, P: ProgramField<T>> ProgramField<usize> for ParseCount<P, T> {
+    ghost use Rattle.bpaf_exact.proofs.Variables.{kept};
+    ghost use Rattle.bpaf_exact.proofs.Environments.{count_with, kept_variables};
     ghost use Rattle.bpaf_exact.specs.Single.{repeated};
     ghost use Rattle.bpaf_exact.specs.Derived.{count_closure};
     ghost use Rattle.bpaf_exact.proofs.SameParts.{many_shows};
@@ -162,11 +177,11 @@ impl<T: Drop, P: ProgramField<T>> ProgramField<usize> for ParseCount<P, T> {
 
     ghost words = { λ p. [] };
 
-    ghost program_form = { λ p. program_repeat false (count_closure T) (P.program_form p.inner) };
+    ghost program_form = { λ p variables. program_repeat false (count_closure T) (P.program_form p.inner variables) };
 
     ghost kind = { λ p. repeated (P.kind p.inner) };
 
-    ghost says = { said_repeat (λ p. p.inner) (count_closure T) P.says };
+    ghost says = { λ variables. said_repeat (λ p. p.inner) (count_closure T) (P.says variables) };
 
     ghost agrees = { λ p. P.agrees p.inner };
 
@@ -183,18 +198,22 @@ impl<T: Drop, P: ProgramField<T>> ProgramField<usize> for ParseCount<P, T> {
         true
     }
 
-    ghost law = { λ p a. count_law T (P.outcome p.inner) (P.keys p.inner true) (P.words p.inner)
-        (P.program_form p.inner) (P.law p.inner a) };
+    ghost law = { λ p a variables.
+        kept (count_with variables (P.outcome p.inner) (kept_variables (P.lawful p.inner))) _ _ _
+        (count_law T _ (P.keys p.inner true) (P.words p.inner)
+        (P.program_form p.inner variables) (P.law p.inner a variables)) };
 
     ghost shows = { λ p. many_shows (P.shows p.inner) };
 
-    ghost said = { λ p a. program_repeat_says (λ p. p.inner) p false (count_closure T)
-        (P.said p.inner a) };
+    ghost said = { λ p a variables. program_repeat_says (λ p. p.inner) p false (count_closure T)
+        (P.said p.inner a variables) };
 }
 
 impl<T: Drop, P: FlatField<T>> FlatField<usize> for ParseCount<P, T> {}
 
 impl<T: Drop, P: ProgramField<T>> ProgramField<T> for ParseLast<P> {
+    ghost use Rattle.bpaf_exact.proofs.Variables.{kept};
+    ghost use Rattle.bpaf_exact.proofs.Environments.{kept_variables, last_with};
     ghost use Rattle.bpaf_exact.specs.Single.{repeated};
     ghost use Rattle.bpaf_exact.proofs.SameParts.{some_shows};
     ghost use Rattle.bpaf_exact.specs.ProgramForm.{program_last};
@@ -206,11 +225,11 @@ impl<T: Drop, P: ProgramField<T>> ProgramField<T> for ParseLast<P> {
 
     ghost words = { λ p. [] };
 
-    ghost program_form = { λ p. program_last (P.program_form p.inner) };
+    ghost program_form = { λ p variables. program_last (P.program_form p.inner variables) };
 
     ghost kind = { λ p. repeated (P.kind p.inner) };
 
-    ghost says = { said_last (λ p. p.inner) P.says };
+    ghost says = { λ variables. said_last (λ p. p.inner) (P.says variables) };
 
     ghost agrees = { λ p. P.agrees p.inner };
 
@@ -227,12 +246,14 @@ impl<T: Drop, P: ProgramField<T>> ProgramField<T> for ParseLast<P> {
         true
     }
 
-    ghost law = { λ p a. last_law T (P.outcome p.inner) (P.keys p.inner true) (P.words p.inner)
-        (P.program_form p.inner) (P.law p.inner a) };
+    ghost law = { λ p a variables.
+        kept (last_with variables (P.outcome p.inner) (kept_variables (P.lawful p.inner))) _ _ _
+        (last_law T _ (P.keys p.inner true) (P.words p.inner)
+        (P.program_form p.inner variables) (P.law p.inner a variables)) };
 
     ghost shows = { λ p. some_shows (P.shows p.inner) };
 
-    ghost said = { λ p a. program_last_says (λ p. p.inner) p (P.said p.inner a) };
+    ghost said = { λ p a variables. program_last_says (λ p. p.inner) p (P.said p.inner a variables) };
 }
 
 impl<T: Drop, P: FlatField<T>> FlatField<T> for ParseLast<P> {}

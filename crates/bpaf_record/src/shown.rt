@@ -20,11 +20,11 @@ impl<T, P: ProgramField<T>> ProgramField<T> for ParseUsage<P> {
 
     ghost words = { λ p. P.words p.inner };
 
-    ghost program_form = { λ p. program_dressed (P.program_form p.inner) };
+    ghost program_form = { λ p variables. program_dressed (P.program_form p.inner variables) };
 
     ghost kind = { λ p. P.kind p.inner };
 
-    ghost says = { said_dressed (λ p. p.inner) P.says };
+    ghost says = { λ variables. said_dressed (λ p. p.inner) (P.says variables) };
 
     ghost agrees = { λ p. P.agrees p.inner };
 
@@ -41,13 +41,13 @@ impl<T, P: ProgramField<T>> ProgramField<T> for ParseUsage<P> {
         self.inner.all_words(test)
     }
 
-    ghost law = { λ p a.
-        program_dressed_law T (P.outcome p.inner) (P.keys p.inner true) (P.words p.inner)
-        (P.program_form p.inner) (P.law p.inner a) };
+    ghost law = { λ p a variables.
+        program_dressed_law T _ (P.keys p.inner true) (P.words p.inner)
+        (P.program_form p.inner variables) (P.law p.inner a variables) };
 
     ghost shows = { λ p. usage_shows (P.shows p.inner) p.usage };
 
-    ghost said = { λ p a. program_dressed_says (λ p. p.inner) p (P.said p.inner a) };
+    ghost said = { λ p a variables. program_dressed_says (λ p. p.inner) p (P.said p.inner a variables) };
 }
 
 impl<T, P: FlatField<T>> FlatField<T> for ParseUsage<P> {}
@@ -63,11 +63,11 @@ impl<T, P: ProgramField<T>> ProgramField<T> for ParseGroupHelp<P> {
 
     ghost words = { λ p. P.words p.inner };
 
-    ghost program_form = { λ p. program_dressed (P.program_form p.inner) };
+    ghost program_form = { λ p variables. program_dressed (P.program_form p.inner variables) };
 
     ghost kind = { λ p. P.kind p.inner };
 
-    ghost says = { said_dressed (λ p. p.inner) P.says };
+    ghost says = { λ variables. said_dressed (λ p. p.inner) (P.says variables) };
 
     ghost agrees = { λ p. P.agrees p.inner };
 
@@ -84,13 +84,13 @@ impl<T, P: ProgramField<T>> ProgramField<T> for ParseGroupHelp<P> {
         self.inner.all_words(test)
     }
 
-    ghost law = { λ p a.
-        program_dressed_law T (P.outcome p.inner) (P.keys p.inner true) (P.words p.inner)
-        (P.program_form p.inner) (P.law p.inner a) };
+    ghost law = { λ p a variables.
+        program_dressed_law T _ (P.keys p.inner true) (P.words p.inner)
+        (P.program_form p.inner variables) (P.law p.inner a variables) };
 
     ghost shows = { λ p. section_shows (P.shows p.inner) p.message };
 
-    ghost said = { λ p a. program_dressed_says (λ p. p.inner) p (P.said p.inner a) };
+    ghost said = { λ p a variables. program_dressed_says (λ p. p.inner) p (P.said p.inner a variables) };
 }
 
 impl<T, P: FlatField<T>> FlatField<T> for ParseGroupHelp<P> {}
@@ -98,6 +98,8 @@ impl<T, P: FlatField<T>> FlatField<T> for ParseGroupHelp<P> {}
 /// What isn't shown may stand in a program, with the values that it has, but in no flat record: its
 /// short names aren't known in joined words.
 impl<T, P: ProgramField<T>> ProgramField<T> for ParseHide<P> {
+    ghost use Rattle.bpaf_exact.proofs.Variables.{kept};
+    ghost use Rattle.bpaf_exact.proofs.Environments.{hide_with};
     ghost use Rattle.bpaf_doc.specs.Shape.{Skip};
     ghost use Rattle.bpaf_exact.proofs.SameParts.{one_shape};
     ghost use Rattle.bpaf_exact.specs.ProgramForm.{program_dressed};
@@ -109,11 +111,11 @@ impl<T, P: ProgramField<T>> ProgramField<T> for ParseHide<P> {
 
     ghost words = { λ p. P.words p.inner };
 
-    ghost program_form = { λ p. program_dressed (P.program_form p.inner) };
+    ghost program_form = { λ p variables. program_dressed (P.program_form p.inner variables) };
 
     ghost kind = { λ p. P.kind p.inner };
 
-    ghost says = { said_dressed (λ p. p.inner) P.says };
+    ghost says = { λ variables. said_dressed (λ p. p.inner) (P.says variables) };
 
     ghost agrees = { λ p. P.agrees p.inner };
 
@@ -130,11 +132,12 @@ impl<T, P: ProgramField<T>> ProgramField<T> for ParseHide<P> {
         self.inner.all_words(test)
     }
 
-    ghost law = { λ p a.
-        hide_law T (P.outcome p.inner) (P.keys p.inner true) (P.words p.inner)
-        (P.program_form p.inner) (P.law p.inner a) };
+    ghost law = { λ p a variables.
+        kept (hide_with variables (P.outcome p.inner)) _ _ _
+        (hide_law T _ (P.keys p.inner true) (P.words p.inner) (P.program_form p.inner variables)
+        (P.law p.inner a variables)) };
 
     ghost shows = { λ p. one_shape Skip };
 
-    ghost said = { λ p a. program_dressed_says (λ p. p.inner) p (P.said p.inner a) };
+    ghost said = { λ p a variables. program_dressed_says (λ p. p.inner) p (P.said p.inner a variables) };
 }

@@ -24,7 +24,7 @@ run_record-requires-clause-record c =
     fields.rest.rest.last.inner = search rules in
     let catch : fields.rest.rest.last.catch ≡ false = search rules in
     let info : options.info ≡ plain_info = search rules in
-    program_flat verbose.1 num.1 files.1 catch _ info
+    program_flat verbose.1 num.1 files.1 catch _ _ info
 
 pub returns : goal.returns
 returns c =
@@ -56,7 +56,7 @@ returns c =
             is = refl;
           })
           _ c.run_record.ensures.outcome;
-      exact = program_exact verbose.1 num.1 files.1 catch _ info (product_known (λ x v e. e) known)
+      exact = program_exact verbose.1 num.1 files.1 catch _ _ info (product_known (λ x v e. e) known)
           _ (are_texts c.args.words.now) given _ (c.run_record.ensures.exact (tt, (tt, tt)))
           (λ x v e. search rules);
     }

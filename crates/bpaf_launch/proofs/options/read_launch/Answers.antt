@@ -27,7 +27,7 @@ run_program-requires-clause-program c =
     positionals.rest.last.inner = search rules in
     let catch : positionals.rest.last.catch ≡ false = search rules in
     let info : options.info ≡ plain_info = search rules in
-    launch_program verbose.1 dry_run.1 name.1 passed.1 catch _ info
+    launch_program verbose.1 dry_run.1 name.1 passed.1 catch _ info _
 
 pub returns : goal.returns
 returns c =

@@ -6,7 +6,7 @@ use Rattle.example_notes.proofs.options.run_options.Goals as goal
 pub run_program-requires-clause-program : goal.run_program-requires-clause-program
 run_program-requires-clause-program g c =
     let told = c.in_ok-options.ensures in
-    of.whole_known notes_parser (rw (← told.inner) at c.requires.known) _ told.info refl refl
+    of.whole_known notes_parser (rw (← told.inner) at c.requires.known) _ told.info refl refl _
 
 pub returns : goal.returns
 returns g c =

@@ -8,7 +8,7 @@ with_task-requires-clause-task g c =
     let others : c.construct-2.result.that ≡ c.args.others = search rules in
     of.choice_known notes.add_command notes.other_commands
     (of.command_known (codes "add") notes.add_record (of.con_known notes.add_of notes.add_fields
-    (of.both_known _ _ (of.many_known (of.argument_known of.MeansText notes.tag_key (search rules))
+    (of.both_known _ _ (of.many_known (of.argument_known of.MeansText notes.tag_key refl (search rules))
     (search rules)) (of.last_known _ (of.many_known (of.word_known of.MeansText of.Unrestricted
     (search rules) _) (search rules)))) (λ x v e. search rules)) refl (search rules) (search rules)
     (search rules)) (rw (← others) at c.requires.others)

@@ -1,4 +1,4 @@
-use Rattle.std.proofs.Common.{◌≡◌, None, rules}
+use Rattle.std.proofs.Common.{◌≡◌, None, refl, rules}
 use Rattle.bpaf_program.proofs.OfCommands as of
 use Rattle.example_notes.specs.Notes as notes
 use Rattle.example_notes.proofs.options.with_task.Goals as goal
@@ -10,5 +10,5 @@ run_options-requires-clause-known g c =
     (of.both_known notes.verbose notes.dir_fields
     (of.switch_known notes.verbose_names None (search rules) (search rules) (search rules))
     (of.both_known notes.dir (of.known_last notes.commands)
-    (of.optional_known (of.argument_known of.MeansText notes.dir_key (search rules)) (search rules))
+    (of.optional_known (of.argument_known of.MeansText notes.dir_key refl (search rules)) (search rules))
     (of.last_known notes.commands (rw (← task) at c.requires.task)))) (λ x v e. search rules)

@@ -6,7 +6,7 @@ use Rattle.bpaf_record.proofs.Parts.{both_part_is}
 use Rattle.bpaf_record.proofs.product.BothProgramFieldsTuple2.fields_part.Goals as goal
 
 pub returns : goal.returns
-returns g c =
+returns g c variables =
     let p = c.args.self.now in
     c.then.ensures
     ∙ (ap₂ (λ apart none. before_part c.field.result c.fields_part-rest.result apart none)
@@ -14,7 +14,7 @@ returns g c =
     ∙ (ap₂ (λ first rest. before_part first rest
     (are_all_apart (g.A.ProgramField.keys p.first true) (g.R.ProgramFields.keys p.rest true))
     (list_all (λ names. false) (g.R.ProgramFields.keys p.rest true)))
-    (c.field.ensures ∙ ap field_part c.part.ensures) c.fields_part-rest.ensures
+    (c.field.ensures ∙ ap field_part (c.part.ensures variables)) (c.fields_part-rest.ensures variables)
     ∙ both_part_is {A = g.row.T.Denot} {B = g.row.V.Denot} (g.A.ProgramField.keys p.first true)
-    (g.R.ProgramFields.keys p.rest true) (g.A.ProgramField.program_form p.first)
-    (g.R.ProgramFields.program_form p.rest)))
+    (g.R.ProgramFields.keys p.rest true) (g.A.ProgramField.program_form p.first variables)
+    (g.R.ProgramFields.program_form p.rest variables)))
