@@ -1,7 +1,7 @@
 //! The parsers of docs/USERS.md: each piece of code in that guide stands here, and is checked, but
 //! for its programs, which stand in `bpaf_guide_programs`.
 //!
-//! It stands on `bpaf`, and its definitions also cite those of the crates below.
+//! It stands on `bpaf` and `bpaf_record`, and its definitions also cite those of the crates below.
 #![tactic(auto)]
 
 pub mod closures;

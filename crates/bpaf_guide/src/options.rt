@@ -1,7 +1,7 @@
 //! A record of options, and the parser that reads it.
-use crate::toggle::Toggle;
 use crate::types::{Level, Numbers};
 use bpaf::{Args, ParseFailure, Parser, construct, long, short};
+use bpaf_record::CommandLine;
 use std::alloc::Global;
 use std::collections::BTreeMap;
 
@@ -24,18 +24,18 @@ pub fn read_options(
     let size = size.argument::<u64>("KB").map(|n| u128::from(n) * 1024);
     let level = long(alloc, "level")?.argument::<Level>("LEVEL");
     let level = level.fallback(Level::Low);
-    let color = Toggle {
-        on: long(alloc, "color")?,
-        off: long(alloc, "no-color")?,
-    };
+    let on = long(alloc, "color")?.req_flag(true);
+    let off = long(alloc, "no-color")?.req_flag(false);
+    let color = construct!([on, off]).optional();
     let numbers = short(alloc, 'n')?.argument::<u64>("NUM");
     let numbers = numbers.collect::<Numbers>();
-    let parser = construct!(Options {
+    let options = construct!(Options {
         size,
         level,
         color,
         numbers
     });
     let args = Args::from(words).set_name("bpaf_guide");
-    parser.run_once(alloc, args.set_env(variables))
+    let options = options.to_options(alloc)?;
+    options.run_program(args.set_env(variables))
 }

@@ -1,5 +1,5 @@
 //! A parser of one's own.
-use bpaf::{Error, Meta, NamedArg, Parser, State};
+use bpaf::{Args, Error, Meta, NamedArg, ParseFailure, Parser, State, long};
 use std::alloc::{AllocError, Global};
 
 /// Two keys, such as `--color` and `--no-color`: Some(true) for the one, Some(false) for the other,
@@ -43,4 +43,13 @@ impl Parser<Option<bool>> for Toggle {
     }
 
     ghost lawful = { λ p. toggle_lawful p.on.names p.off.names };
+}
+
+/// Whether the words turn the colour on or off, by `--color` and `--no-color`.
+pub fn read_color(alloc: Global, words: &[&str]) -> Result<Option<bool>, ParseFailure> {
+    let color = Toggle {
+        on: long(alloc, "color")?,
+        off: long(alloc, "no-color")?,
+    };
+    color.run_once(alloc, Args::from(words).set_name("color"))
 }

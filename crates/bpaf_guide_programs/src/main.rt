@@ -18,6 +18,7 @@ use bpaf::ParseFailure;
 use bpaf_guide::git::{Command, read_git};
 use bpaf_guide::options::{Options, read_options};
 use bpaf_guide::sum::read_sum;
+use bpaf_guide::toggle::read_color;
 use bpaf_program::{end, words};
 use clean::Task;
 use std::collections::BTreeMap;
@@ -38,6 +39,7 @@ fn main(rt: HostRuntime) -> io::Result<ExitCode> {
             show_archive(&rt)?;
             show_cleaning(&rt)?;
             show_sum(&rt)?;
+            show_color(&rt)?;
             show_commit(&rt)?;
             Ok(ExitCode::SUCCESS)
         }
@@ -160,6 +162,20 @@ fn show_sum(rt: &HostRuntime) -> io::Result<()> {
             let times = sum.times;
             let terms = sum.terms.len();
             println!(rt; "sum: {times} times {terms} terms")
+        }
+        Err(failure) => {
+            drop(failure);
+            Ok(())
+        }
+    }
+}
+
+/// Tells what a parser of one's own reads off words of its own.
+fn show_color(rt: &HostRuntime) -> io::Result<()> {
+    match read_color(rt.alloc(), &["--no-color"]) {
+        Ok(color) => {
+            let on = color.unwrap_or(true);
+            println!(rt; "color: {on}")
         }
         Err(failure) => {
             drop(failure);

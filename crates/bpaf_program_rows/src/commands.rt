@@ -1,5 +1,5 @@
 //! How a run of a program with commands ends.
-ghost use Rattle.std.specs.Prelude.{◌≡◌, true};
+ghost use Rattle.std.specs.Prelude.{◌≡◌, [], true};
 
 use crate::programs::shown;
 use bpaf::{Args, Parser, construct};
@@ -35,7 +35,7 @@ type Values = (bool, bool, u64, bool, u64);
 /// How a run ends, as a row tells it.
 fn ended<R: CommandLine<Values>>(alloc: Global, options: &R, words: &str) -> Result<String, Fail>
     requires can { R.can_run options.now }
-    requires program { R.is_whole options.now ≡ true }
+    requires program { R.is_whole options.now [] ≡ true }
 {
     let words: Vec<&str> = words.split(' ').collect(alloc)?;
     let mut out = Narrow::new(alloc, 400, 0);

@@ -23,8 +23,8 @@ pub trait CommandLine<T> {
     /// round a choice of them and round the optional; their words aren't empty, and none begins
     /// with a dash. No field shares a name with another of its product, with one inside its
     /// commands, or with the keys of help and version of the run that it stands in; no two commands
-    /// of a choice share a word. A field may be hidden, a kept value, an adjacent argument, a
-    /// positional word with `strict`, or one with `non_strict` that has no repeat and no default;
+    /// of a choice share a word. A field may be hidden, a kept value, a key with names in the
+    /// environment, an adjacent argument, a positional word with `strict`, or one with `non_strict` that has no repeat and no default;
     /// or a product of named fields, whose fields count as those of the product that it stands in.
     /// It takes no memory.
     fn is_program(&self) -> bool

@@ -10,3 +10,5 @@ mod numbers;
 mod program_rows;
 #[cfg(test)]
 mod record_rows;
+#[cfg(test)]
+mod variable_rows;

@@ -11,7 +11,7 @@ use std::fmt::Debug;
 use std::test::Fail;
 
 /// Whether an answer is that of a row: its text, or a message where it is refused.
-fn is_answer(found: &str, wanted: &str) -> bool {
+pub(crate) fn is_answer(found: &str, wanted: &str) -> bool {
     found == wanted || (wanted == "refused" && found.starts_with("err "))
 }
 

@@ -11,7 +11,7 @@ returns-clause-forced c =
     answer_says c.run_program.result (c.run_program.ensures.fields (tt, (tt, tt)))
     (λ cleaning told. let force = told.told.read in
     switch_spelled (of_field (told_line told) force.roles force.owns) force.own (search rules)
-    force_names (search rules) (map string_bytes c.args.words.now) (search rules)
+    (search rules) force_names (search rules) (map string_bytes c.args.words.now) (search rules)
     cleaning.force (search rules))
 
 pub returns-clause-called : goal.returns-clause-called

@@ -6,6 +6,6 @@ use Rattle.bpaf_guide_programs.proofs.head.read_head.Goals as goal
 
 pub returns : goal.returns
 returns c = answer_says c.run_record.result (c.run_record.ensures.fields (tt, tt))
-    (λ head told some. optional_spelled (of_line told) argument_needs told.told.fields.0
+    (λ head told some. optional_spelled (of_line told) (argument_needs (search rules)) told.told.fields.0
     head.bytes (search rules) some
     bytes_names (search rules) (map string_bytes c.args.words.now) (search rules))

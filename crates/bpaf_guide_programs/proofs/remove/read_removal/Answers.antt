@@ -6,5 +6,5 @@ use Rattle.bpaf_guide_programs.proofs.remove.read_removal.Goals as goal
 pub returns : goal.returns
 returns c = answer_says c.run_record.result (c.run_record.ensures.fields (tt, (tt, tt)))
     (λ removal told. switch_spelled (of_line told) told.told.fields.1.0 (search rules)
-    force_names (search rules) (map string_bytes c.args.words.now) (search rules)
+    (search rules) force_names (search rules) (map string_bytes c.args.words.now) (search rules)
     removal.force (search rules))

@@ -1,0 +1,115 @@
+//! Worked rows of keys with names in the environment through `run_program`.
+use crate::program_rows::is_answer;
+use crate::record_rows::{Row, told};
+use bpaf::params::ParseArgument;
+use bpaf::{Args, Parser, construct, env, short};
+use bpaf_record::{CommandLine, ProgramField};
+use std::alloc::{AllocError, Global};
+use std::collections::BTreeMap;
+use std::fmt::Debug;
+use std::test::Fail;
+
+/// An environment in which `NUM` is 5 and `BAD` is no number.
+fn variables(alloc: Global) -> Result<BTreeMap<String, String>, AllocError> {
+    let mut variables = BTreeMap::new(alloc);
+    for (name, value) in [("NUM", "5"), ("BAD", "z")] {
+        let name = String::from_str(alloc, name)?;
+        let value = String::from_str(alloc, value)?;
+        variables.insert(name, value)?;
+    }
+    Ok(variables)
+}
+
+/// Runs a program in that environment on the words of each row, and compares the answers.
+fn compare<T: Debug + Drop, P: ProgramField<T> + Drop>(
+    alloc: Global,
+    parser: P,
+    rows: &[Row<'_>],
+) -> Result<(), Fail>
+    requires { P.can_eval parser }
+{
+    let options = parser.to_options(alloc)?;
+    if !options.is_program() {
+        return Err(Fail::new("no program"));
+    }
+    let variables = variables(alloc)?;
+    for (words, wanted) in rows {
+        let line: Vec<&str> = words.split_whitespace().collect(alloc)?;
+        let args = Args::from(line.as_slice()).set_env(&variables);
+        let answer = options.run_program(args);
+        let found = told(alloc, answer)?;
+        if !is_answer(found.as_str(), wanted) {
+            return Err(Fail::new(found));
+        }
+    }
+    Ok(())
+}
+
+/// The argument `NUM` of a name, or of a variable.
+fn number(alloc: Global, name: char, variable: &str) -> Result<ParseArgument<u64>, AllocError> {
+    Ok(short(alloc, name)?.env(variable)?.argument::<u64>("NUM"))
+}
+
+/// A number, one that may be left out, a repeat of one and a switch, each with this variable.
+fn compare_fields(alloc: Global, variable: &str, rows: &[Row<'_>]) -> Result<(), Fail> {
+    let num = number(alloc, 'n', variable)?;
+    let width = number(alloc, 'w', variable)?.optional();
+    let depths = number(alloc, 'd', variable)?.many();
+    let verbose = short(alloc, 'v')?.env(variable)?.switch();
+    compare(alloc, construct!(num, width, depths, verbose), rows)
+}
+
+const SET: &[Row<'static>] = &[
+    ("", "ok (5, Some(5), [5], true)"),
+    ("-n 3", "ok (3, Some(5), [5], true)"),
+    ("-w 4 -d 1 -d 2 -v", "ok (5, Some(4), [1, 2], true)"),
+    ("-n 3 -n 4", "refused"),
+];
+
+const UNREADABLE: &[Row<'static>] = &[
+    ("", "refused"),
+    ("-n 3 -w 4", "refused"),
+    ("-n 3 -w 4 -d 1", "refused"),
+];
+
+const UNSET: &[Row<'static>] = &[
+    ("", "refused"),
+    ("-n 3", "ok (3, None, [], false)"),
+    ("-n 3 -d 1 -v", "ok (3, None, [1], true)"),
+];
+
+#[test]
+fn keys_with_variables_run_as_programs(rt: HostRuntime) -> Result<(), Fail> {
+    let alloc = rt.alloc();
+    compare_fields(alloc, "NUM", SET)?;
+    compare_fields(alloc, "BAD", UNREADABLE)?;
+    compare_fields(alloc, "NONE", UNSET)
+}
+
+const UNREADABLE_ONCE: &[Row<'static>] = &[
+    ("", "refused"),
+    ("-n 3", "refused"),
+    ("-w 4", "refused"),
+    ("-n 3 -w 4", "ok (3, Some(4))"),
+];
+
+#[test]
+fn unreadable_variables_run_as_programs(rt: HostRuntime) -> Result<(), Fail> {
+    let alloc = rt.alloc();
+    let num = number(alloc, 'n', "BAD")?;
+    let width = number(alloc, 'w', "BAD")?.optional();
+    compare(alloc, construct!(num, width), UNREADABLE_ONCE)
+}
+
+const VARIABLES_ALONE: &[Row<'static>] = &[("", "ok (5, None)"), ("5", "refused")];
+
+const VARIABLE_UNSET: &[Row<'static>] = &[("", "err environment variable `K` is not set")];
+
+#[test]
+fn variables_alone_run_as_programs(rt: HostRuntime) -> Result<(), Fail> {
+    let alloc = rt.alloc();
+    let num = env(alloc, "NUM")?.argument::<u64>("NUM");
+    let unset = env(alloc, "K")?.argument::<u64>("K").optional();
+    compare(alloc, construct!(num, unset), VARIABLES_ALONE)?;
+    compare(alloc, env(alloc, "K")?.argument::<u64>("K"), VARIABLE_UNSET)
+}
