@@ -30,6 +30,7 @@ pub mod Twins
 pub mod SameParts
 pub mod WorkedRows
 pub mod OneView
+pub mod Agreeing
 pub mod Accepted
 pub mod Surplus
 pub mod Sharing

@@ -20,12 +20,13 @@ use Rattle.bpaf_exact.specs.Wrappers.{own_value, kept_value}
 use Rattle.bpaf_exact.specs.Derived.{LastOf, list_closure}
 use Rattle.bpaf_exact.specs.Alternative.{pick_type}
 use Rattle.bpaf_exact.specs.Leaves.{FlagValue, ArgumentValue, WordValue, flag_field}
-use Rattle.bpaf_exact.specs.Leaves.{LastGroup, SideValue, argument_by, argument_field, word_by}
+use Rattle.bpaf_exact.specs.Leaves.{LastGroup, SideValue, argument_by, argument_field}
+use Rattle.bpaf_exact.specs.Leaves.{argument_group, variable_argument, word_by}
 use Rattle.bpaf_exact.specs.Leaves.{word_field}
 use Rattle.bpaf_exact.specs.Record.{RunAnswer, Accepted, NoMemory, Refusal, RecordValue, IsExact}
 use Rattle.bpaf_exact.specs.Record.{line_cells}
 use Rattle.bpaf_exact.specs.FlatForm.{FlatForm, not_flat, alternative, single, complete, product}
-use Rattle.bpaf_exact.specs.FlatForm.{FormLaw, Agrees, only_if, flat_closed, flat_either}
+use Rattle.bpaf_exact.specs.FlatForm.{FormLaw, only_if, flat_closed, flat_either}
 use Rattle.bpaf_exact.specs.FlatForm.{flat_choice, alternative_only, flat_repeat, flat_many}
 use Rattle.bpaf_exact.specs.FlatForm.{flat_last, flat_optional, flat_fallback, flat_field}
 use Rattle.bpaf_exact.specs.FlatForm.{may_follow, flat_both, flat_alone, flat_con, flat_record}
@@ -46,24 +47,7 @@ use Rattle.bpaf_exact.proofs.Exact.{runs_exactly}
 
 module _ (A B X Y : Type 0) (see : A → X) (look : B → Y) (f : Closure A B)
     (respects : Respects A B X Y see look f) where
-  -- of values that look alike a closure accepts all or none
-  agrees_on : (value : A → Type 0) → Alike see value → (x y : A) (v : B) → value x → value y
-      → f.yes x v → f.no y → ⊥
-  agrees_on value u x y v a b g n = respects.apart x y v (u x y a b) g n
-
-  -- A closure that can't tell apart what looks alike agrees where values look alike.
-  pub view_agrees : (s : FlatForm A) → HasOneView see s → Agrees f s
-  view_agrees not_flat u = tt
-  view_agrees (alternative q value) u = λ o. agrees_on (value o) (u o)
-  view_agrees (single k q group gap) u = (
-    λ os rest. agrees_on (λ v. group os v rest)
-        (λ v w a b. (u.0 os rest rest v w a b).0),
-    agrees_on gap.absent u.1,
-  )
-  view_agrees (complete k q value) u = λ os. agrees_on (value os) (u os)
-  view_agrees (product named q fields) u = λ os. agrees_on (fields.value os) (u os)
-
-  -- Its answers look alike again.
+  -- What a closure that can't tell apart what looks alike makes of such values looks alike again.
   pub closed_view : (s : FlatForm A) → HasOneView see s → HasOneView look (flat_closed f s)
   closed_view not_flat u = tt
   closed_view (alternative q value) u =
@@ -139,6 +123,22 @@ argument_view T X see means u argument = by_last argument.last
         → HasOneView see (argument_by means argument.named.names argument.adjacent last)
     by_last false = argument_piece T X see means u
     by_last true = (last_group T X see means u, λ v w a b. absurd a)
+
+-- the pieces of one evaluation
+argument_group_view : (T X : Type 0) (see : T → X) (means : List ℕ → T → Type 0)
+    → ((text : List ℕ) → Alike see (means text)) → (last : Bool)
+    → OneGroup see (argument_group means last)
+argument_group_view T X see means u false = front_view T X see _ (argument_piece T X see means u)
+argument_group_view T X see means u true = last_group T X see means u
+
+-- an argument with names in the environment
+pub variable_argument_view : (T X : Type 0) (see : T → X) (means : List ℕ → T → Type 0)
+    → ((text : List ℕ) → Alike see (means text)) → (argument : KeyWithValue)
+    → (set : Option (List ℕ)) → HasOneView see (variable_argument means argument set)
+variable_argument_view T X see means u argument None =
+    (argument_group_view T X see means u argument.last, λ v w a b. absurd a)
+variable_argument_view T X see means u argument (Some text) =
+    (argument_group_view T X see means u argument.last, u text)
 
 -- a word
 word_piece : (T X : Type 0) (see : T → X) (means : List ℕ → T → Type 0)

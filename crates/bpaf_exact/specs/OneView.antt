@@ -3,8 +3,10 @@
 use Rattle.std.specs.Prelude.{◌≡◌, List}
 use Rattle.bpaf_line.specs.Situation.{Context, beginning}
 use Rattle.bpaf_laws.specs.Reading.{Outcome}
-use Rattle.bpaf_exact.specs.Pieces.{LinePiece}
+use Rattle.bpaf_exact.specs.Pieces.{Cells, LinePiece}
 use Rattle.bpaf_exact.specs.Single.{Groups}
+use Rattle.bpaf_exact.specs.ProgramForm.{ProgramForm, no_program, plain, commands, left_out}
+use Rattle.bpaf_exact.specs.ProgramForm.{before_commands}
 use Rattle.bpaf_exact.specs.Wrappers.{Closure}
 use Rattle.bpaf_exact.specs.Record.{RunAnswer, Accepted, NoMemory, Refusal, RecordValue, RunRan}
 use Rattle.bpaf_exact.specs.FlatForm.{FlatForm, not_flat, alternative, single, complete, product}
@@ -26,6 +28,14 @@ HasOneView see (alternative q value) = (o : LinePiece) → Alike see (value o)
 HasOneView see (single k q group gap) = OneGroup see group × Alike see gap.absent
 HasOneView see (complete k q value) = (os : List LinePiece) → Alike see (value os)
 HasOneView see (product named q fields) = (os : List LinePiece) → Alike see (fields.value os)
+
+-- so do those of a parser in a program, or on the same cells
+abbrev pub ProgramOneView : {T X : Type 0} → (T → X) → ProgramForm T → Type 0
+ProgramOneView see no_program = Unit {0}
+ProgramOneView see (plain wide s) = HasOneView see s
+ProgramOneView see (commands r value) = (cs : Cells) → Alike see (value cs)
+ProgramOneView see (left_out r value) = (cs : Cells) → Alike see (value cs)
+ProgramOneView see (before_commands r value) = (cs : Cells) → Alike see (value cs)
 
 -- A closure that can't tell values apart that look alike: it accepts both or refuses both, and its
 -- answers look alike.

@@ -3,3 +3,4 @@ pub mod Remove
 pub mod Head
 pub mod Archive
 pub mod Clean
+pub mod Dim

@@ -1,5 +1,5 @@
-//! The programs of docs/USERS.md, a backup, a remover, a `head`, an archiver and a program with
-//! commands, and one that runs them and the parsers of `bpaf_guide`.
+//! The programs of docs/USERS.md, a backup, a remover, a `head`, an archiver, a dimmer and a program
+//! with commands, and one that runs them and the parsers of `bpaf_guide`.
 //!
 //! It stands on `bpaf_guide`, `bpaf`, `bpaf_record` and `bpaf_program`.
 //!
@@ -11,6 +11,7 @@
 mod archive;
 mod backup;
 mod clean;
+mod dim;
 mod head;
 mod remove;
 
@@ -37,6 +38,7 @@ fn main(rt: HostRuntime) -> io::Result<ExitCode> {
             show_removal(&rt)?;
             show_head(&rt)?;
             show_archive(&rt)?;
+            show_dimming(&rt)?;
             show_cleaning(&rt)?;
             show_sum(&rt)?;
             show_color(&rt)?;
@@ -123,6 +125,25 @@ fn show_archive(rt: &HostRuntime) -> io::Result<()> {
             let jobs = archive.jobs;
             let verbose = archive.verbose;
             println!(rt; "archive: of {root}, {jobs} jobs, told {verbose} times")
+        }
+        Err(failure) => {
+            drop(failure);
+            Ok(())
+        }
+    }
+}
+
+/// Tells what a dimmer reads off words of its own.
+fn show_dimming(rt: &HostRuntime) -> io::Result<()> {
+    let percent = String::from_str(rt.alloc(), "--percent=40")?;
+    let lamp = String::from_str(rt.alloc(), "-l3")?;
+    let words = [percent, lamp];
+    match dim::read_dimming(rt.alloc(), &words) {
+        Ok(dimming) => {
+            let percent = dimming.percent;
+            let lamp = dimming.lamp;
+            let seconds = dimming.seconds;
+            println!(rt; "dimming: lamp {lamp} to {percent} percent, in {seconds} s")
         }
         Err(failure) => {
             drop(failure);
