@@ -35,15 +35,18 @@ mod product;
 
 pub use adjacent::{AdjacentError, ParseAdjacent};
 pub use bpaf_core::{
-    ExtraParams, HelpTexts, Info, OptionParser, Parser, command, earlier_key, leftover, read_text,
-    render, render_help, usage_of,
+    CommandNames, ExtraParams, HelpTexts, Info, OptionParser, Parser, command, earlier_key,
+    leftover, read_text, render, render_help, usage_of, value_or_refusal,
 };
 pub use bpaf_doc::{Doc, Item, Meta, MetaInfo, Metavar, Piece, ShortLong, Style, Text};
 pub use bpaf_line::{
     ArgsIter, Error, Mark, Message, MissingItem, MissingItems, ParseFailure, State, Steps,
 };
-pub use bpaf_text::{FromList, FromText, NamedArg, TextFault, env, long, short};
-pub use bpaf_words::{Arg, Args, LentWord, Words, lines_are_unique, spellings_are_unique};
+pub use bpaf_text::{FromList, FromText, NamedArg, TextFault, copy_texts, env, long, short};
+pub use bpaf_words::{
+    Arg, Args, Front, LentWord, Line, LineFault, SplitFault, Words, line_of, lines_are_unique,
+    spellings_are_unique, split_word,
+};
 pub use cargo::{CargoHelper, cargo_helper};
 pub use choices::{ParseChoice, choice};
 pub use four::{Four, FourFields, FourValues};

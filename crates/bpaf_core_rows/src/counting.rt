@@ -84,3 +84,48 @@ fn adjacent_command_is_evaluated_for_each_attempt(rt: HostRuntime) -> Result<(),
     assert_eq!(rt; calls_of_attempts(a, &["w", "a"])?, 0);
     Ok(())
 }
+
+/// How often the closures of `map`, `parse` and `guard`, one round the other, are called.
+fn calls_of_transforms(alloc: Global, words: &[&str]) -> Result<(u64, u64, u64), AllocError> {
+    let made = Cell::new(0);
+    let parsed = Cell::new(0);
+    let checked = Cell::new(0);
+    let number = num(alloc)?
+        .map(|number| counted(&made, number))
+        .parse(|number| match counted(&parsed, number) {
+            5 => Err("five"),
+            number => Ok(number),
+        })
+        .guard(|number| counted(&checked, *number) < 8, "too big");
+    let _ = value(alloc, number, words)?;
+    Ok((made.get(), parsed.get(), checked.get()))
+}
+
+#[test]
+fn transforms_call_their_closures_once(rt: HostRuntime) -> Result<(), Fail> {
+    let a = rt.alloc();
+    assert_eq!(rt; calls_of_transforms(a, &["-n", "3"])?, (1, 1, 1));
+    assert_eq!(rt; calls_of_transforms(a, &["-n", "9"])?, (1, 1, 1));
+    assert_eq!(rt; calls_of_transforms(a, &["-n", "5"])?, (1, 1, 0));
+    assert_eq!(rt; calls_of_transforms(a, &["-n", "x"])?, (0, 0, 0));
+    assert_eq!(rt; calls_of_transforms(a, &[])?, (0, 0, 0));
+    Ok(())
+}
+
+/// How often the closures of ten `map`s in one another are called.
+fn calls_of_maps(alloc: Global, words: &[&str]) -> Result<u64, AllocError> {
+    let calls = Cell::new(0);
+    let map = |number: u64| counted(&calls, number);
+    let number = num(alloc)?.map(&map).map(&map).map(&map).map(&map);
+    let number = number.map(&map).map(&map).map(&map).map(&map);
+    let _ = value(alloc, number.map(&map).map(&map), words)?;
+    Ok(calls.get())
+}
+
+#[test]
+fn ten_maps_call_ten_closures(rt: HostRuntime) -> Result<(), Fail> {
+    let a = rt.alloc();
+    assert_eq!(rt; calls_of_maps(a, &["-n", "3"])?, 10);
+    assert_eq!(rt; calls_of_maps(a, &["-n", "x"])?, 0);
+    Ok(())
+}

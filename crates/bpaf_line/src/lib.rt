@@ -44,6 +44,7 @@ mod take;
 mod taken;
 mod whole_line;
 
+pub use bpaf_words::{Arg, Args};
 pub use error::{Error, Message};
 pub use failure::ParseFailure;
 pub use iter::ArgsIter;

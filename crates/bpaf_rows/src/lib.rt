@@ -15,6 +15,8 @@ mod groups;
 #[cfg(test)]
 mod items;
 #[cfg(test)]
+mod large;
+#[cfg(test)]
 mod laws;
 #[cfg(test)]
 mod names;
