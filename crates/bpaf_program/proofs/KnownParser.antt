@@ -1,7 +1,6 @@
 -- The parsers of a program are known where what they are made of is.
-use Rattle.std.proofs.Common.{◌≡◌, All, Bool, true, false, List, [], ℕ, Option}
+use Rattle.std.proofs.Common.{◌≡◌, All, true, false, List, [], ℕ}
 use Rattle.std.proofs.Common.{Result, Ok, Err, IfOk, IsUtf8, ap, inl, refl, subst, sym, ◌∙◌}
-use Rattle.bpaf_doc.specs.declared.doc.Piece.{Piece}
 use Rattle.bpaf_doc.specs.Shape.{Shape}
 use Rattle.bpaf_words.specs.Arguments.{Given}
 use Rattle.bpaf_line.specs.Constructing.{IsContext}
@@ -10,7 +9,7 @@ use Rattle.bpaf_line.specs.declared.error.Error.{Error}
 use Rattle.bpaf_line.specs.declared.failure.ParseFailure.{ParseFailure}
 use Rattle.bpaf_core.specs.declared.commands.ParseCommand.{ParseCommand}
 use Rattle.bpaf_laws.specs.Choice.{ChoiceDescribes, ChoiceOutcome}
-use Rattle.bpaf_laws.specs.Command.{Called, CommandDescribes, CommandPart, named_only}
+use Rattle.bpaf_laws.specs.Command.{CommandDescribes, CommandPart, named_only}
 use Rattle.bpaf_laws.specs.Product.{BothDescribes, BothOutcome, LastDescribes, ProductDescribes}
 use Rattle.bpaf_laws.specs.Product.{ProductOutcome}
 use Rattle.bpaf_laws.specs.Reading.{Outcome}
