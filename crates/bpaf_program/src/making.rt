@@ -6,8 +6,9 @@ ghost use Rattle.bpaf_laws.specs.Command.{named_only};
 ghost use Rattle.bpaf_text.specs.Named.{key_named};
 
 use bpaf::parsers::ParseCommand;
-use bpaf::{NamedArg, Parser, short};
+use bpaf::{Info, NamedArg, OptionParser, short};
 use std::alloc::{AllocError, Global};
+use std::marker::PhantomData;
 
 /// The key of this letter and this name, as `short(alloc, letter)?.long(name)`; refused only for
 /// want of memory.
@@ -23,12 +24,12 @@ pub fn key(alloc: Global, letter: char, name: &str) -> Result<NamedArg, AllocErr
 }
 
 /// The command of this name over a parser, as `parser.to_options(alloc)?.command(name)`; refused
-/// only for want of memory.
+/// only for want of memory. Nothing is asked of the parser, so that nothing has to be found of it.
 ///
 /// ```text
 /// command(alloc, "list", construct!(Task::List { max }))?
 /// ```
-pub fn command<T: Drop, P: Parser<T> + Drop>(
+pub fn command<T, P: Drop>(
     alloc: Global,
     name: &str,
     parser: P,
@@ -38,5 +39,11 @@ pub fn command<T: Drop, P: Parser<T> + Drop>(
     ensures adjacent { IfOk result (λ command. command.adjacent ≡ false) }
     ensures info { IfOk result (λ command. command.info ≡ plain_info) }
 {
-    parser.to_options(alloc)?.command(name)
+    let options = OptionParser {
+        inner: parser,
+        info: Info::new(),
+        alloc,
+        of: PhantomData,
+    };
+    options.command(name)
 }

@@ -64,7 +64,7 @@ fn with_tag<P: Parser<Tag> + Drop>(
 {
     let max = key(alloc, 'n', "max")?.argument::<u64>("NUM").fallback(10);
     let list = command(alloc, "list", construct!(Task::List { max }))?;
-    let tag = command(alloc, "tag", tag)?.map(|tag| Task::Tag(tag));
+    let tag = command(alloc, "tag", tag)?.map(Task::Tag);
     with_others(alloc, words, construct!([list, tag]))
 }
 
