@@ -179,7 +179,7 @@ module _ {verbose_help dry_run_help name_help words_help : List Piece}
       → RunsWords Launch (ProductOutcome PartsOutcome made) PartsDescribe info given r
       → AnswersLaunch own r
   launch_exact {made} only info_is own given_is texts r runs =
-      program_exactly launcher
+      program_exactly launcher refl runs
       (con_known launch_of fields
       (both_known (known_switch verbose_names) _
       (switch_known verbose_names (Some verbose_help) is_verbose.named_is is_verbose.present_is
@@ -191,4 +191,4 @@ module _ {verbose_help dry_run_help name_help words_help : List Piece}
       (word_known MeansText NonStrict is_name.position_is name.help)
       (last_known _ (many_known (word_known MeansText Strict is_words.position_is words.help)
       no_catch))))) only)
-      _ info_is refl given_is texts r runs
+      info_is _ given_is texts

@@ -1,6 +1,5 @@
 -- The fields of a program are known where what they are made of is.
-use Rattle.std.proofs.Common.{◌≡◌, Bool, true, false, List, [], ◌∷◌, ℕ, Option, Some, ap, refl, sym}
-use Rattle.std.proofs.Common.{◌∙◌}
+use Rattle.std.proofs.Common.{◌≡◌, Bool, true, false, List, [], ◌∷◌, ℕ, Option, Some, refl}
 use Rattle.bpaf_doc.specs.declared.doc.Piece.{Piece}
 use Rattle.bpaf_doc.specs.Names.{Names}
 use Rattle.bpaf_doc.specs.Shape.{Shape}
@@ -15,18 +14,10 @@ use Rattle.bpaf.specs.declared.leaves.positional.Position.{Position}
 use Rattle.bpaf.specs.declared.leaves.positional.Position.TheVariants.{Unrestricted, Strict}
 use Rattle.bpaf.specs.declared.leaves.positional.Position.TheVariants.{NonStrict}
 use Rattle.bpaf.specs.Positional.{PositionalOutcome, positional_shape}
-use Rattle.bpaf_exact.specs.Derived.{list_closure}
-use Rattle.bpaf_exact.specs.Leaves.{argument_field, variable_argument}
-use Rattle.bpaf_exact.specs.ProgramForm.{ProgramForm, plain, program_fallback, program_optional}
-use Rattle.bpaf_exact.specs.ProgramForm.{program_repeat}
-use Rattle.bpaf_exact.specs.Variables.{Variables, argument_form, flag_form, key_form}
-use Rattle.bpaf_exact.specs.Wrappers.{kept_closure}
 use Rattle.bpaf_exact.proofs.Arguments.{argument_field_law}
 use Rattle.bpaf_exact.proofs.Flags.{flag_field_law}
 use Rattle.bpaf_exact.proofs.Twins.{fallback_law, many_law, optional_law}
-use Rattle.bpaf_record.specs.Part.{completed_part, optional_part, part_of}
-use Rattle.bpaf_record.specs.Positional.{is_sided, positional_field, positional_field_law}
-use Rattle.bpaf_record.proofs.Parts.{fallback_part_is, optional_part_is, repeat_part_is}
+use Rattle.bpaf_record.specs.Positional.{positional_field_law}
 use Rattle.bpaf_program.specs.KnownFields.{known_argument, known_default, known_many}
 use Rattle.bpaf_program.specs.KnownFields.{known_optional, known_switch, known_word}
 use Rattle.bpaf_program.specs.KnownParser.{IsKnownParser, KnownParser, ShowsShorts, no_shorts}
@@ -48,16 +39,11 @@ pub switch_known : (names : Names) (help : Option (List Piece)) {named : Named}
     → named ≡ record (key_named names) { help = help } → {present : Bool} → present ≡ true
     → {absent : Option Bool} → absent ≡ Some false
     → IsKnownParser (known_switch names) (FlagOutcome IsKept named present absent)
-    (flag_form IsKept named present absent) (λ deep. named.names ∷ []) []
     (λ shape. shape ≡ flag_shape named absent)
 switch_known names help named_is present_is absent_is =
     rw (named_is, present_is, absent_is) (record {
       law = flag_field_law Bool IsKept (record (key_named names) { help = help }) true
           (Some false) refl;
-      part_is = λ variables. refl;
-      own_are = refl;
-      all_are = refl;
-      words_are = refl;
       shown = switch_shows names.shorts names.longs help;
     })
 
@@ -65,18 +51,9 @@ switch_known names help named_is present_is absent_is =
 pub argument_known : {T : Type 0} (means : List ℕ → T → Type 0) (key : KeyWithValue)
     → key.named.envs ≡ [] → {argument : KeyWithValue} → argument ≡ key
     → IsKnownParser (known_argument means key) (ArgumentOutcome means argument)
-    (argument_form means argument) (λ deep. argument.named.names ∷ []) []
     (λ shape. shape ≡ argument_shape argument)
 argument_known {T} means key bare is =
-    rw is (record {
-      law = argument_field_law T means key bare;
-      part_is = λ variables. ap (λ envs. part_of (key_form key.adjacent (argument_field means key)
-          (variable_argument means key) variables envs)) bare;
-      own_are = refl;
-      all_are = refl;
-      words_are = refl;
-      shown = one_shows _;
-    })
+    rw is (record { law = argument_field_law T means key bare; shown = one_shows _ })
 
 -- a word shows no short name
 word_shows : (place : Position) (metavar : List ℕ) (help : Option (List Piece))
@@ -89,51 +66,31 @@ word_shows NonStrict metavar help = one_shows _
 pub word_known : {T : Type 0} (means : List ℕ → T → Type 0) (place : Position)
     {position : Position} → position ≡ place → {metavar : List ℕ} (help : Option (List Piece))
     → IsKnownParser (known_word means place) (PositionalOutcome means position metavar)
-    (λ variables. plain (is_sided position) (positional_field means position)) (λ deep. []) []
     (λ shape. shape ≡ positional_shape position metavar help)
 word_known {T} means place is {metavar} help =
     rw is (record {
       law = positional_field_law T means place metavar;
-      part_is = λ variables. refl;
-      own_are = refl;
-      all_are = refl;
-      words_are = refl;
       shown = word_shows place metavar help;
     })
 
-module _ {T : Type 0} {known : KnownParser T} {outcome : Outcome T}
-    {form : Variables → ProgramForm T}
-    {keys : Bool → List Names} {words : List (List ℕ)} {describes : Shape → Type 0}
-    (is : IsKnownParser known outcome form keys words describes) where
+module _ {T : Type 0} {known : KnownParser T} {outcome : Outcome T} {describes : Shape → Type 0}
+    (is : IsKnownParser known outcome describes) where
   -- a repeat
   pub many_known : {catch : Bool} → catch ≡ false
-      → IsKnownParser (known_many known) (ManyOutcome outcome catch)
-      (λ variables. program_repeat catch (list_closure T) (form variables)) keys [] (ManyDescribes describes)
+      → IsKnownParser (known_many known) (ManyOutcome outcome catch) (ManyDescribes describes)
   many_known none =
       rw none (record {
         law = many_law T outcome false known.all known.words known.form is.law;
-        part_is = λ variables. sym (repeat_part_is false (list_closure T) (form variables))
-            ∙ (ap (completed_part false) (is.part_is variables)
-            ∙ repeat_part_is false (list_closure T) known.form);
-        own_are = is.own_are;
-        all_are = is.all_are;
-        words_are = refl;
         shown = many_shows is.shown;
       })
 
   -- what may be left out
   pub optional_known : {catch : Bool} → catch ≡ false
       → IsKnownParser (known_optional known) (TurnOutcome outcome catch true)
-      (λ variables. program_optional catch (form variables)) keys [] (OptionalDescribes describes)
+      (OptionalDescribes describes)
   optional_known none =
       rw none (record {
         law = optional_law T outcome false known.all known.words known.form is.law;
-        part_is = λ variables. sym (optional_part_is false (form variables))
-            ∙ (ap (optional_part false) (is.part_is variables)
-            ∙ optional_part_is false known.form);
-        own_are = is.own_are;
-        all_are = is.all_are;
-        words_are = refl;
         shown = optional_shows is.shown;
       })
 
@@ -141,18 +98,10 @@ module _ {T : Type 0} {known : KnownParser T} {outcome : Outcome T}
   pub default_known : (value : T) {kept : T} → kept ≡ value → (shown : Option (List Piece))
       → IsKnownParser (known_default value known)
       (FallbackOutcome outcome (GivesClone (λ own v. v ≡ own) kept))
-      (λ variables. program_fallback (kept_closure (λ v. v ≡ kept)) (form variables)) keys []
       (DefaultDescribes describes shown)
   default_known value is_kept shown =
       rw is_kept (record {
         law = fallback_law T outcome (λ own v. v ≡ own) value known.all known.words known.form
             is.law;
-        part_is = λ variables.
-            sym (fallback_part_is (kept_closure (λ v. v ≡ value)) (form variables))
-            ∙ (ap (completed_part false) (is.part_is variables)
-            ∙ fallback_part_is (kept_closure (λ v. v ≡ value)) known.form);
-        own_are = is.own_are;
-        all_are = is.all_are;
-        words_are = refl;
         shown = default_shows is.shown shown;
       })

@@ -20,7 +20,6 @@ use Rattle.bpaf_program.specs.Values.{IsKept}
 -- a field with these names, short names and form
 abbrev pub known_field : {T : Type 0} → List Names → ShortNames → ProgramForm T → KnownParser T
 known_field names shorts form = record {
-  own = names;
   all = names;
   words = [];
   shorts = shorts;

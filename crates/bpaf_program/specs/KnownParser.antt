@@ -1,6 +1,6 @@
 -- What is known of the parsers that a function of a program is handed: keys, words of commands,
 -- short names and form, each told by the program alone.
-use Rattle.std.specs.Prelude.{◌≡◌, Bool, true, false, List, [], ◌∷◌, ◌++◌, ℕ, codes}
+use Rattle.std.specs.Prelude.{◌≡◌, true, false, List, [], ◌∷◌, ◌++◌, ℕ, codes}
 use Rattle.bpaf_doc.specs.Names.{Names}
 use Rattle.bpaf_doc.specs.Shape.{Part, Shape, members}
 use Rattle.bpaf_doc.specs.Walks.{parts, parts_of_all, shorts_of_arguments, shorts_of_flags}
@@ -11,9 +11,7 @@ use Rattle.bpaf_exact.specs.ProgramForm.{ProgramForm, ProgramFormLaw}
 use Rattle.bpaf_exact.specs.ProgramForm.{program_alone, program_both, program_choice, program_closed}
 use Rattle.bpaf_exact.specs.ProgramForm.{program_command, program_con, program_field}
 use Rattle.bpaf_exact.specs.SameParts.{FieldsShowTheSame, ShowsTheSame}
-use Rattle.bpaf_exact.specs.Variables.{Variables}
 use Rattle.bpaf_exact.specs.Wrappers.{Closure, map_closure}
-use Rattle.bpaf_record.specs.Part.{part_of}
 
 -- the short names of flags and of arguments among parts
 abbrev pub shorts_of : List Part → ShortNames
@@ -43,10 +41,9 @@ program_names shorts =
       arguments = shorts.arguments;
     })
 
--- a parser: the names of its keys, outside of commands and in all; the words of its commands; the
--- short names that it shows; and what it is to a program
+-- a parser: the names of its keys, those inside commands too; the words of its commands; the short
+-- names that it shows; and what it is to a program
 pub record KnownParser (T : Type 0) : Type 1 where
-  pub own : List Names
   pub all : List Names
   pub words : List (List ℕ)
   pub shorts : ShortNames
@@ -55,7 +52,6 @@ pub record KnownParser (T : Type 0) : Type 1 where
 -- a command over a program
 abbrev pub known_command : {T : Type 0} → List ℕ → KnownParser T → KnownParser T
 known_command word program = record {
-  own = [];
   all = program.all;
   words = word ∷ [];
   shorts = program.shorts;
@@ -65,7 +61,6 @@ known_command word program = record {
 -- a choice of two
 abbrev pub known_choice : {T : Type 0} → KnownParser T → KnownParser T → KnownParser T
 known_choice first second = record {
-  own = first.own ++ second.own;
   all = first.all ++ second.all;
   words = first.words ++ second.words;
   shorts = joined first.shorts second.shorts;
@@ -75,7 +70,6 @@ known_choice first second = record {
 -- with a closure round it that makes this of a value
 abbrev pub known_map : {A B : Type 0} → (A → B) → KnownParser A → KnownParser B
 known_map make inner = record {
-  own = inner.own;
   all = inner.all;
   words = inner.words;
   shorts = inner.shorts;
@@ -85,7 +79,6 @@ known_map make inner = record {
 -- with this form in place of its own, and without the words of its commands
 abbrev pub known_as : {A B : Type 0} → ProgramForm B → KnownParser A → KnownParser B
 known_as form inner = record {
-  own = inner.own;
   all = inner.all;
   words = [];
   shorts = inner.shorts;
@@ -99,7 +92,6 @@ known_last inner = known_as (program_alone (program_field inner.form)) inner
 -- a field in front of others
 abbrev pub known_both : {A B : Type 0} → KnownParser A → KnownParser B → KnownParser (A × B)
 known_both first rest = record {
-  own = first.own ++ rest.own;
   all = first.all ++ rest.all;
   words = [];
   shorts = joined first.shorts rest.shorts;
@@ -124,20 +116,14 @@ pub record FieldsShowShorts (describe : List Shape → Type 0) (names : ShortNam
   pub are : shorts_of (parts_of_all (members shapes)) ≡ names
   pub same : FieldsShowTheSame describe
 
--- a parser, or fields, keep to the law of what is known; their part, keys and words are the known
--- ones, and what they show is
-pub record IsKnownBy {T : Type 0} (known : KnownParser T) (outcome : Outcome T)
-    (form : Variables → ProgramForm T) (keys : Bool → List Names) (words : List (List ℕ))
-    (shows : Type 0) : Type 0 where
+-- a parser is known: it keeps to the law of its form, and shows the known short names
+pub record IsKnownParser {T : Type 0} (known : KnownParser T) (outcome : Outcome T)
+    (describes : Shape → Type 0) : Type 0 where
   pub law : ProgramFormLaw outcome known.all known.words known.form
-  pub part_is : (variables : Variables) → part_of (form variables) ≡ part_of known.form
-  pub own_are : keys false ≡ known.own
-  pub all_are : keys true ≡ known.all
-  pub words_are : words ≡ known.words
-  pub shown : shows
+  pub shown : ShowsShorts describes known.shorts
 
--- a parser is known, and shows the known short names
-abbrev pub IsKnownParser : {T : Type 0} → KnownParser T → Outcome T
-    → (Variables → ProgramForm T) → (Bool → List Names) → List (List ℕ) → (Shape → Type 0) → Type 0
-IsKnownParser known outcome form keys words describes =
-    IsKnownBy known outcome form keys words (ShowsShorts describes known.shorts)
+-- so are fields
+pub record AreKnownFields {T : Type 0} (known : KnownParser T) (outcome : Outcome T)
+    (describe : List Shape → Type 0) : Type 0 where
+  pub law : ProgramFormLaw outcome known.all [] known.form
+  pub shown : FieldsShowShorts describe known.shorts

@@ -11,6 +11,7 @@
 //!   gives the status (`IsPrinted`). [`write_text`] writes a text of which, where a write fails, a
 //!   beginning stands there and nothing behind it.
 //! - [`push_lines`] appends a line for each of some texts.
+//! - [`key`] is a key of a letter and a name, and [`command`] a command over a parser, without help.
 //! - [`words`] are the words of the process.
 //!
 //! ```text
@@ -29,12 +30,14 @@
 
 mod ending;
 mod lines;
+mod making;
 mod options;
 mod process;
 mod writing;
 
 pub use ending::{end, print};
 pub use lines::push_lines;
+pub use making::{command, key};
 pub use options::{Program, run_program, run_record};
 pub use process::words;
 pub use writing::write_text;

@@ -1,7 +1,7 @@
 //! A program with commands: a switch and an argument that stand anywhere, and three commands, one
 //! of which has two of its own.
 //!
-//! It stands on `bpaf`, `bpaf_record` and `bpaf_program`, and has no contract for a layer above: it
+//! It stands on `bpaf` and `bpaf_program`, and has no contract for a layer above: it
 //! is the top. `run` is the whole program over two writers; `main` hands it the words, standard
 //! output and standard error, and ends with its status. It keeps no notes: it prints what it would
 //! do.

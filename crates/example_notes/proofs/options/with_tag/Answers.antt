@@ -1,4 +1,4 @@
-use Rattle.std.proofs.Common.{◌≡◌, codes, refl, rules}
+use Rattle.std.proofs.Common.{ap, codes, refl, rules, ◌∙◌}
 use Rattle.bpaf_program.proofs.OfCommands as of
 use Rattle.example_notes.specs.Notes.{list_command, list_record, max, max_key, on_tag, tag_commands}
 use Rattle.example_notes.specs.declared.options.Task.TheVariants as task
@@ -6,11 +6,13 @@ use Rattle.example_notes.proofs.options.with_tag.Goals as goal
 
 pub with_others-requires-clause-others : goal.with_others-requires-clause-others
 with_others-requires-clause-others g c =
-    let tag : c.construct-2.result.that.inner.inner ≡ c.args.tag = search rules in
+    let told = c.in_ok-command.ensures in
+    let tag = ap (λ x. x.inner) c.construct-2.ensures.that ∙ c.map-tag.ensures.inner in
     of.choice_known list_command (of.known_map task.Tag on_tag)
-    (of.command_known (codes "list") list_record (of.con_known task.List max (of.last_known _
-    (of.default_known (of.argument_known (of.SpellsUnsigned 64) max_key refl (search rules)) 10
-    (search rules) _)) (λ x v e. search rules)) refl (search rules) (search rules)
-    (search rules)) (of.map_known task.Tag on_tag (of.command_known (codes "tag") tag_commands
-    (rw (← tag) at c.requires.tag) refl (search rules) (search rules) (search rules))
+    (of.command_known (codes "list") list_record c.construct-2.ensures.this
+    c.in_ok-list.ensures.names c.in_ok-list.ensures.adjacent c.in_ok-list.ensures.info
+    (of.con_known task.List max (of.last_known _ (of.default_known (of.argument_known
+    (of.SpellsUnsigned 64) max_key refl (search rules)) 10 (search rules) _)) (λ x v e. search rules)))
+    (of.map_known task.Tag on_tag (of.command_known (codes "tag") tag_commands tag told.names
+    told.adjacent told.info (rw (← (ap (λ x. x.inner) tag ∙ told.inner)) at c.requires.tag))
     (λ x v e. search rules))

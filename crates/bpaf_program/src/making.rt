@@ -1,0 +1,50 @@
+//! What the parser of a program with commands is made of: keys by a letter and a name, and commands
+//! without help or texts of their own.
+ghost use Rattle.std.specs.Prelude.{◌≡◌, IfOk, None, [], ◌∷◌, false};
+ghost use Rattle.bpaf.specs.Info.{plain_info};
+ghost use Rattle.bpaf_laws.specs.Command.{named_only};
+ghost use Rattle.bpaf_text.specs.Named.{key_named};
+
+use bpaf::parsers::ParseCommand;
+use bpaf::{Info, NamedArg, OptionParser, short};
+use std::alloc::{AllocError, Global};
+use std::marker::PhantomData;
+
+/// The key of this letter and this name, as `short(alloc, letter)?.long(name)`; refused only for
+/// want of memory.
+///
+/// ```text
+/// key(alloc, 'v', "verbose")?.switch()      true off `-v` and off `--verbose`
+/// ```
+pub fn key(alloc: Global, letter: char, name: &str) -> Result<NamedArg, AllocError>
+    ensures { IfOk result (λ key. key
+        ≡ key_named (record { shorts = letter ∷ []; longs = name.now ∷ [] })) }
+{
+    short(alloc, letter)?.long(name)
+}
+
+/// The command of this name over a parser, as `parser.to_options(alloc)?.command(name)`; refused
+/// only for want of memory. Nothing is asked of the parser, so that nothing has to be found of it.
+///
+/// ```text
+/// command(alloc, "list", construct!(Task::List { max }))?
+/// ```
+pub fn command<T, P: Drop>(
+    alloc: Global,
+    name: &str,
+    parser: P,
+) -> Result<ParseCommand<T, P>, AllocError>
+    ensures inner { IfOk result (λ command. command.inner ≡ parser) }
+    ensures names { IfOk result (λ command. command.names ≡ named_only name.now) }
+    ensures help { IfOk result (λ command. command.help ≡ None) }
+    ensures adjacent { IfOk result (λ command. command.adjacent ≡ false) }
+    ensures info { IfOk result (λ command. command.info ≡ plain_info) }
+{
+    let options = OptionParser {
+        inner: parser,
+        info: Info::new(),
+        alloc,
+        of: PhantomData,
+    };
+    options.command(name)
+}
