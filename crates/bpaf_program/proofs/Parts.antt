@@ -6,7 +6,8 @@ use Rattle.std.proofs.Common.{append_assoc, append-nil}
 use Rattle.std.proofs.KnownBytes.{Appends-trans, Appends-kept}
 use Rattle.std.proofs.lemmas.List.{take_rest, take-append-drop}
 use Rattle.std.specs.Io.KnownBytes.{Appends, Keeps}
-use Rattle.bpaf_program.specs.Ending.{AppendsPart, AppendsUpTo}
+use Rattle.bpaf_program.specs.Sink.{Failed, KnownSink, Writes, WritesPart, WritesUpTo, Written}
+use Rattle.bpaf_program.specs.Sink.{wrote}
 
 -- all of a text is written but this rest
 pub record IsWrittenBut (before after : Option (List ℕ)) (rest text : List ℕ) : Type 0 where
@@ -47,47 +48,52 @@ written_nothing before middle after rest text n so_far none more = record {
   whole = ap (λ x. x ++ rest) (append-nil so_far.front) ∙ so_far.whole;
 }
 
--- where a rest is left, a part is written
-pub part_written : (before after : Option (List ℕ)) (rest text : List ℕ)
-    → IsWrittenBut before after rest text → (length rest ≡ 0 → ⊥) → AppendsPart before after text
-part_written before after [] text so_far some = absurd (some refl)
-part_written before after (next ∷ rest) text so_far some = record {
+-- where a rest is left after a failed write, a part is written
+pub part_written : (sink : Written) (rest text : List ℕ)
+    → IsWrittenBut (sink.known.contents sink.before) (sink.known.contents sink.after) rest text
+    → (length rest ≡ 0 → ⊥) → Failed sink.known sink.after → WritesPart sink text
+part_written sink [] text so_far some failed = absurd (some refl)
+part_written sink (next ∷ rest) text so_far some failed = record {
   front = so_far.front;
   next = next;
   rest = rest;
   whole = so_far.whole;
   written = so_far.written;
+  failed = failed;
 }
 
 -- a part of a text is one of a longer text
-pub part_of_more : (before after : Option (List ℕ)) (text more : List ℕ)
-    → AppendsPart before after text → AppendsPart before after (text ++ more)
-part_of_more before after text more is = record {
+pub part_of_more : (sink : Written) (text more : List ℕ) → WritesPart sink text
+    → WritesPart sink (text ++ more)
+part_of_more sink text more is = record {
   front = is.front;
   next = is.next;
   rest = is.rest ++ more;
   whole = sym (append_assoc is.front (is.next ∷ is.rest) more) ∙ ap (λ x. x ++ more) is.whole;
   written = is.written;
+  failed = is.failed;
 }
 
 -- behind a whole text a part of another is one of both
-pub part_behind : (before middle after : Option (List ℕ)) (text more : List ℕ)
-    → Appends before middle text → AppendsPart middle after more
-    → AppendsPart before after (text ++ more)
-part_behind before middle after text more whole is = record {
+pub part_behind : {S : Type 0} (known : KnownSink S) (before middle after : S)
+    (text more : List ℕ) → Writes (wrote known before middle) text
+    → WritesPart (wrote known middle after) more
+    → WritesPart (wrote known before after) (text ++ more)
+part_behind known before middle after text more whole is = record {
   front = text ++ is.front;
   next = is.next;
   rest = is.rest;
   whole = append_assoc text is.front (is.next ∷ is.rest) ∙ ap (λ x. text ++ x) is.whole;
-  written = Appends-trans before middle after text is.front whole is.written;
+  written = Appends-trans (known.contents before) (known.contents middle) (known.contents after)
+      text is.front whole is.written;
+  failed = is.failed;
 }
 
 -- whether all writes succeed or one fails, the text is written or a part of it
-pub up_to : {A E : Type 0} (r : Result A E) (before after : Option (List ℕ)) (text : List ℕ)
-    → OnOk r (Appends before after text) → OnErr r (AppendsPart before after text)
-    → AppendsUpTo before after text
-up_to (Ok v) before after text whole part = inl whole
-up_to (Err e) before after text whole part = inr part
+pub up_to : {A E : Type 0} (r : Result A E) (sink : Written) (text : List ℕ)
+    → OnOk r (Writes sink text) → OnErr r (WritesPart sink text) → WritesUpTo sink text
+up_to (Ok v) sink text whole part = inl whole
+up_to (Err e) sink text whole part = inr part
 
 -- what holds is so where a result is an error
 pub on_err : {A E : Type 0} {P : Type 0} (r : Result A E) → P → OnErr r P
@@ -110,14 +116,3 @@ kept_then None middle after text kept more = tt
 kept_then (Some xs) None after text kept more = absurd kept
 kept_then (Some xs) (Some ys) None text kept more = absurd more
 kept_then (Some xs) (Some ys) (Some zs) text kept more = more ∙ ap (λ z. z ++ text) kept
-
--- so it is with a part of a text
-pub kept_then_part : (before middle after : Option (List ℕ)) (text : List ℕ) → Keeps before middle
-    → AppendsPart middle after text → AppendsPart before after text
-kept_then_part before middle after text kept is = record {
-  front = is.front;
-  next = is.next;
-  rest = is.rest;
-  whole = is.whole;
-  written = kept_then before middle after is.front kept is.written;
-}

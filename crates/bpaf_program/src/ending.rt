@@ -1,12 +1,12 @@
 //! The end of a program: the value, or its text is written and its status told.
-ghost use Rattle.std.specs.Prelude.{ℕ, List, Option, string_bytes};
-ghost use Rattle.bpaf_line.specs.declared.failure.ParseFailure.{ParseFailure};
-ghost use Rattle.bpaf_line.specs.declared.failure.ParseFailure.TheVariants.{Stderr, Stdout};
-ghost use Rattle.bpaf_program.specs.Ending.{EndsBy, IsPrinted, IsTold};
+ghost use Rattle.std.specs.Prelude.{◌≡◌, string_bytes};
+ghost use Rattle.bpaf_line.specs.declared.failure.ParseFailure.TheVariants.{Memory, Stderr, Stdout};
+ghost use Rattle.bpaf_program.specs.Ending.{EndsBy, IsPrinted, IsRefused, IsTold, error_line};
+ghost use Rattle.bpaf_program.specs.Sink.{WritesUpTo, wrote};
 
+use crate::sink::Sink;
 use crate::writing::{write_error, write_text};
 use bpaf::{Doc, ParseFailure};
-use std::io::Write;
 
 /// The value of an answer; or, where it has none, what it shows on `out` or tells on `err`, and the
 /// status with which the program is to end: 0 after a text that was asked for, else 1.
@@ -18,13 +18,12 @@ use std::io::Write;
 /// ```text
 /// let options = end(options.run_inner(args), out, err)?;
 /// ```
-pub fn end<T, W: Write, E: Write>(
+pub fn end<T, S: Sink, E: Sink>(
     answer: Result<T, ParseFailure>,
-    out: &mut W,
+    out: &mut S,
     err: &mut E,
 ) -> Result<T, u8>
-    ensures { EndsBy (W.contents out.old) (W.contents out.new) (E.contents err.old)
-        (E.contents err.new) answer result }
+    ensures { EndsBy (wrote S.known out.old out.new) (wrote E.known err.old err.new) answer result }
 {
     match answer {
         Ok(value) => Ok(value),
@@ -38,13 +37,9 @@ pub fn end<T, W: Write, E: Write>(
 /// ```text
 /// print(lines_of(alloc, words), out, err)
 /// ```
-pub fn print<W: Write, E: Write>(
-    answer: Result<String, ParseFailure>,
-    out: &mut W,
-    err: &mut E,
-) -> u8
-    ensures { IsPrinted (W.contents out.old) (W.contents out.new) (E.contents err.old)
-        (E.contents err.new) string_bytes answer result }
+pub fn print<S: Sink, E: Sink>(answer: Result<String, ParseFailure>, out: &mut S, err: &mut E) -> u8
+    ensures { IsPrinted (wrote S.known out.old out.new) (wrote E.known err.old err.new)
+        string_bytes answer result }
 {
     match end(answer, out, err) {
         Ok(text) => match write_text(text.as_str().as_bytes(), out) {
@@ -56,9 +51,9 @@ pub fn print<W: Write, E: Write>(
 }
 
 /// Shows what was asked for on `out`, or tells a refusal on `err`, and gives the status.
-fn tell<W: Write, E: Write>(failure: ParseFailure, out: &mut W, err: &mut E) -> u8
-    ensures { IsTold (W.contents out.old) (W.contents out.new) (E.contents err.old)
-        (E.contents err.new) failure result }
+fn tell<S: Sink, E: Sink>(failure: ParseFailure, out: &mut S, err: &mut E) -> u8
+    ensures { IsTold (wrote S.known out.old out.new) (wrote E.known err.old err.new) failure
+        result }
 {
     match failure {
         ParseFailure::Stdout(doc, full) => show(doc, full, out, err),
@@ -68,12 +63,12 @@ fn tell<W: Write, E: Write>(failure: ParseFailure, out: &mut W, err: &mut E) -> 
 }
 
 /// Shows a text that was asked for, as it stands.
-fn show<W: Write, E: Write>(doc: Doc, full: bool, out: &mut W, err: &mut E) -> u8
-    ensures { IsTold (W.contents out.old) (W.contents out.new) (E.contents err.old)
-        (E.contents err.new) (Stdout doc full) result }
+fn show<S: Sink, E: Sink>(doc: Doc, full: bool, out: &mut S, err: &mut E) -> u8
+    ensures { IsTold (wrote S.known out.old out.new) (wrote E.known err.old err.new)
+        (Stdout doc full) result }
 {
     let Ok(text) = doc.monochrome(full) else {
-        return tell_want(err);
+        return tell_line("out of memory", err);
     };
     match write_text(text.as_str().as_bytes(), out) {
         Ok(()) => 0,
@@ -82,22 +77,27 @@ fn show<W: Write, E: Write>(doc: Doc, full: bool, out: &mut W, err: &mut E) -> u
 }
 
 /// Tells a message.
-fn refuse<E: Write>(doc: Doc, err: &mut E) -> u8
-    ensures { (out : Option (List ℕ))
-        → IsTold out out (E.contents err.old) (E.contents err.new) (Stderr doc) result }
+fn refuse<E: Sink>(doc: Doc, err: &mut E) -> u8
+    ensures { IsRefused (wrote E.known err.old err.new) (Stderr doc) result }
 {
-    let Ok(text) = doc.monochrome(true) else {
-        return tell_want(err);
-    };
-    let _ = write_error(text.as_str(), err);
-    1
+    match doc.monochrome(true) {
+        Ok(text) => tell_line(text.as_str(), err),
+        Err(_) => tell_line("out of memory", err),
+    }
 }
 
-/// Tells that memory was wanted.
-fn tell_want<E: Write>(err: &mut E) -> u8
-    ensures { (out : Option (List ℕ)) (f : ParseFailure)
-        → IsTold out out (E.contents err.old) (E.contents err.new) f result }
+/// Tells that the run wanted memory.
+fn tell_want<E: Sink>(err: &mut E) -> u8
+    ensures { IsRefused (wrote E.known err.old err.new) Memory result }
 {
-    let _ = write_error("out of memory", err);
+    tell_line("out of memory", err)
+}
+
+/// Tells a message in a line, and gives the status.
+fn tell_line<E: Sink>(message: &str, err: &mut E) -> u8
+    ensures line { WritesUpTo (wrote E.known err.old err.new) (error_line message.now) }
+    ensures status { result ≡ 1 }
+{
+    let _ = write_error(message, err);
     1
 }

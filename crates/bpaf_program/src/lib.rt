@@ -10,6 +10,8 @@
 //! - [`end`] does so with the answer of any run, and [`print`] prints the text of an answer and
 //!   gives the status (`IsPrinted`). [`write_text`] writes a text of which, where a write fails, a
 //!   beginning stands there and nothing behind it.
+//! - Each takes a [`Sink`], of whose writes a contract can say that the last one failed (`Failed`,
+//!   specs/Sink.antt). Any [`Write`](std::io::Write) is one, of which nothing is known but its bytes.
 //! - [`push_lines`] appends a line for each of some texts.
 //! - [`words`] are the words of the process.
 //!
@@ -31,10 +33,12 @@ mod ending;
 mod lines;
 mod options;
 mod process;
+mod sink;
 mod writing;
 
 pub use ending::{end, print};
 pub use lines::push_lines;
 pub use options::{Program, run_program, run_record};
 pub use process::words;
+pub use sink::Sink;
 pub use writing::write_text;

@@ -4,21 +4,21 @@ use Rattle.bpaf_program.proofs.writing.write_error.Goals as goal
 
 pub returns-in_err-write_text-clause-part : goal.returns-in_err-write_text-clause-part
 returns-in_err-write_text-clause-part g c =
-    on_err _ (part_of_more _ _ (codes "Error: ") (c.args.message.now ++ 10 ∷ [])
+    on_err _ (part_of_more _ (codes "Error: ") (c.args.message.now ++ 10 ∷ [])
     (rw c.as_bytes.ensures.value at c.in_err-write_text.ensures.part))
 
 pub returns-in_err-write_text-2-clause-part : goal.returns-in_err-write_text-2-clause-part
 returns-in_err-write_text-2-clause-part g c =
-    on_err _ (part_behind _ _ _ (codes "Error: ") (c.args.message.now ++ 10 ∷ [])
+    on_err _ (part_behind _ _ _ _ (codes "Error: ") (c.args.message.now ++ 10 ∷ [])
     (rw c.as_bytes.ensures.value at c.in_ok-write_text.ensures.whole)
-    (part_of_more _ _ c.args.message.now (10 ∷ [])
+    (part_of_more _ c.args.message.now (10 ∷ [])
     (rw c.as_bytes-2.ensures.value at c.in_err-write_text-2.ensures.part)))
 
 pub returns-clause-part : goal.returns-clause-part
 returns-clause-part g c =
     on_err_then c.write_text-3.result
-    (λ part. part_behind _ _ _ (codes "Error: ") (c.args.message.now ++ 10 ∷ [])
+    (λ part. part_behind _ _ _ _ (codes "Error: ") (c.args.message.now ++ 10 ∷ [])
     (rw c.as_bytes.ensures.value at c.in_ok-write_text.ensures.whole)
-    (part_behind _ _ _ c.args.message.now (10 ∷ [])
+    (part_behind _ _ _ _ c.args.message.now (10 ∷ [])
     (rw c.as_bytes-2.ensures.value at c.in_ok-write_text-2.ensures.whole) part))
     (rw c.as_bytes-3.ensures.value at c.write_text-3.ensures.part)
