@@ -65,13 +65,17 @@ module _ (answers : List ℕ → Type 0) (out err : Written) where
   runs_to r status (printed_in_part part quiet) answer = in_part _ answer part quiet
   runs_to r status (told {f = f} {status = n} is) answer = told_runs f n is answer
 
+-- a refusal that shows a page shows one, whatever it is
+page_answers : (said : List ℕ → Type 0) (f : ParseFailure) → AnswersText (OrPage said) (Err f)
+page_answers said (Stdout doc full) = inr (doc, full, refl)
+page_answers said (Stderr doc) = tt
+page_answers said Memory = tt
+
 -- where texts of this kind are given, an answer gives one or shows a page
-pub gives_or_shows : (said : List ℕ → Type 0) (r : Result (String Global) ParseFailure)
+gives_or_shows : (said : List ℕ → Type 0) (r : Result (String Global) ParseFailure)
     → IfOk r (λ text. said (string_bytes text)) → AnswersText (OrPage said) r
 gives_or_shows said (Ok text) is = inl is
-gives_or_shows said (Err (Stdout doc full)) is = inr (doc, full, refl)
-gives_or_shows said (Err (Stderr doc)) is = tt
-gives_or_shows said (Err Memory) is = tt
+gives_or_shows said (Err f) is = page_answers said f
 
 -- So it is with what is printed, whatever the page is.
 pub runs_to_said : (said : List ℕ → Type 0) {out err : Written}
@@ -144,3 +148,10 @@ module _ {answers : List ℕ → Type 0} {V : Type 0} {value : V → Type 0} {te
       complete = λ w there. subst (λ text. IsTextOrWant text r) (alike v w exact.sound there) is;
     };
   }
+
+-- so it is where any page may be shown
+pub refused_page : {said : List ℕ → Type 0} {V : Type 0} {value : V → Type 0}
+    {text_of : V → List ℕ} → Alike text_of value → {f : ParseFailure} → IsExactFor value (Err f)
+    → {r : Result (String Global) ParseFailure} → IsErr r × IsErrAnd r (λ g. g ≡ f)
+    → AnswersByText (OrPage said) value text_of r
+refused_page {said} alike {f} exact is = refused_text alike (page_answers said f) exact is

@@ -11,7 +11,7 @@
 //!   gives the status (`IsPrinted`). [`write_text`] writes a text of which, where a write fails, a
 //!   beginning stands there and nothing behind it.
 //! - Each takes a [`Sink`], of whose writes a contract can say that the last one failed (`Failed`,
-//!   specs/Sink.antt). Any [`Write`](std::io::Write) is one, of which nothing is known but its bytes.
+//!   specs/Sink.antt). Any `Write` is one, of which nothing is known but its bytes.
 //! - [`push_lines`] appends a line for each of some texts.
 //! - [`words`] are the words of the process.
 //!
