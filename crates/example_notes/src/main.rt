@@ -31,8 +31,8 @@
 //! - Where the program has a value on the words, its lines are written and the status is 0; or a
 //!   write failed, and a beginning of them stands there, not all; or memory was wanted, nothing
 //!   stands there, and on the error writer `Error: out of memory`, whole unless a write failed
-//!   (`run`, clause `exact`). All values on the same words have the same lines. No other message is told
-//!   there, and no page is shown.
+//!   (`run`, clause `exact`). All values on the same words have the same lines. No other message
+//!   is told there, and no page is shown.
 #![tactic(auto)]
 
 mod options;
