@@ -51,6 +51,7 @@ pub fn print<S: Sink, E: Sink>(answer: Result<String, ParseFailure>, out: &mut S
 }
 
 /// Shows what was asked for on `out`, or tells a refusal on `err`, and gives the status.
+#[tactic(auto, using(crate::proofs::Ended::told_alone))]
 fn tell<S: Sink, E: Sink>(failure: ParseFailure, out: &mut S, err: &mut E) -> u8
     ensures { IsTold (wrote S.known out.old out.new) (wrote E.known err.old err.new) failure
         result }
