@@ -2,8 +2,8 @@
 //!
 //! It stands on `bpaf`, `bpaf_record` and `bpaf_program`, and has no contract for a layer above: it
 //! is the top. `run` is the whole program over two writers; `main` hands it the words, standard
-//! output and standard error, and ends with its status. It starts nothing: it prints what it would start, with
-//! which words.
+//! output and standard error, and ends with its status. It starts nothing: it prints what it would
+//! start, with which words.
 //!
 //! ```text
 //! launch [-v|--verbose] [--dry-run] NAME [-- WORD...]

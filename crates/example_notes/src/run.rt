@@ -14,9 +14,10 @@ use std::alloc::Global;
 ///
 /// Status 0 comes only where the words asked for something and all lines of it were written on
 /// `out`, or where a help page was written there; and then nothing is written on `err`. A refusal
-/// is told on `err`, as `Error: ` and the message, and nothing is written on `out`; its status is 1,
-/// as is that of a write that fails, after a beginning of the lines or of the page. Over two sinks
-/// that tell their failures, less is written only where a write failed, and nothing behind that.
+/// is told on `err`, as `Error: ` and the message, and nothing is written on `out`; its status is
+/// 1, as is that of a write that fails, after a beginning of the lines or of the page. Over two
+/// sinks that tell their failures, less is written only where a write failed, and nothing behind
+/// that.
 pub fn run<S: Sink, E: Sink>(alloc: Global, words: &[String], out: &mut S, err: &mut E) -> u8
     ensures answers { RunsTo (OrPage (AreLinesOf (map string_bytes words.now)))
         (wrote S.known out.old out.new) (wrote E.known err.old err.new) result }
