@@ -1,13 +1,8 @@
--- What an end tells of the answer, and what is told on the error writer alone.
+-- What an end tells of the answer.
 use Rattle.std.proofs.Common.{◌≡◌, ℕ, Result, Ok, Err, refl, ap, subst}
 use Rattle.bpaf_line.specs.declared.failure.ParseFailure.{ParseFailure}
-use Rattle.bpaf_program.specs.Ending.{EndsBy, IsRefused, IsTold, refused, with_status, with_value}
-use Rattle.bpaf_program.specs.Sink.{IsUntouched, KnownSink, Written, wrote}
-
--- a failure that is told on the error writer alone is told
-pub told_alone : {S : Type 0} (known : KnownSink S) (out : S) {err : Written} {f : ParseFailure}
-    {status : ℕ} → IsRefused err f status → IsTold (wrote known out out) err f status
-told_alone known out is = refused refl is
+use Rattle.bpaf_program.specs.Ending.{EndsBy, IsTold, with_status, with_value}
+use Rattle.bpaf_program.specs.Sink.{IsUntouched, Written}
 
 module _ {T : Type 0} (out err : Written) (answer : Result T ParseFailure) (r : Result T ℕ)
     (ends : EndsBy out err answer r) where

@@ -1,13 +1,14 @@
 -- A text of which a part is written.
 use Rattle.std.proofs.Common.{◌≡◌, ◌==◌, Bool, true, false, ℕ, ◌-◌, List, [], ◌∷◌, ◌++◌, Option}
 use Rattle.std.proofs.Common.{Some, None, Result, Ok, Err, OnOk, OnErr}
-use Rattle.std.proofs.Common.{take, drop, length, inl, inr, refl, sym, ap, subst, ◌∙◌}
+use Rattle.std.proofs.Common.{take, drop, length, refl, sym, ap, subst, ◌∙◌}
 use Rattle.std.proofs.Common.{append_assoc, append-nil}
 use Rattle.std.proofs.KnownBytes.{Appends-trans, Appends-kept}
 use Rattle.std.proofs.lemmas.List.{take_rest, take-append-drop}
 use Rattle.std.specs.Io.KnownBytes.{Appends, Keeps}
-use Rattle.bpaf_program.specs.Sink.{Failed, KnownSink, Writes, WritesPart, WritesUpTo, Written}
+use Rattle.bpaf_program.specs.Sink.{Failed, KnownSink, Writes, WritesPart, Written}
 use Rattle.bpaf_program.specs.Sink.{wrote}
+use Rattle.bpaf_program.specs.Ending.{TellsLine, told_in_part, told_whole}
 
 -- all of a text is written but this rest
 pub record IsWrittenBut (before after : Option (List ℕ)) (rest text : List ℕ) : Type 0 where
@@ -89,11 +90,31 @@ part_behind known before middle after text more whole is = record {
   failed = is.failed;
 }
 
--- whether all writes succeed or one fails, the text is written or a part of it
-pub up_to : {A E : Type 0} (r : Result A E) (sink : Written) (text : List ℕ)
-    → OnOk r (Writes sink text) → OnErr r (WritesPart sink text) → WritesUpTo sink text
-up_to (Ok v) sink text whole part = inl whole
-up_to (Err e) sink text whole part = inr part
+-- whether all writes succeed or one fails, the line is told or a part of it
+pub line_told : {A E : Type 0} (r : Result A E) (err : Written) (line : List ℕ)
+    → OnOk r (Writes err line) → OnErr r (WritesPart err line) → TellsLine err line 1
+line_told (Ok v) err line whole part = told_whole whole
+line_told (Err e) err line whole part = told_in_part part
+
+-- the next text of those that are left is written
+pub written_next : (before middle after : Option (List ℕ)) (next rest text : List ℕ)
+    → IsWrittenBut before middle (next ++ rest) text → Appends middle after next
+    → IsWrittenBut before after rest text
+written_next before middle after next rest text so_far more = record {
+  front = so_far.front ++ next;
+  written = Appends-trans before middle after so_far.front next so_far.written more;
+  whole = append_assoc so_far.front next rest ∙ so_far.whole;
+}
+
+-- a part of it is
+pub part_of_next : {S : Type 0} (known : KnownSink S) (before middle after : S)
+    (next rest text : List ℕ)
+    → IsWrittenBut (known.contents before) (known.contents middle) (next ++ rest) text
+    → WritesPart (wrote known middle after) next → WritesPart (wrote known before after) text
+part_of_next known before middle after next rest text so_far part =
+    subst (WritesPart (wrote known before after)) so_far.whole
+    (part_behind known before middle after so_far.front (next ++ rest) so_far.written
+    (part_of_more (wrote known middle after) next rest part))
 
 -- what holds is so where a result is an error
 pub on_err : {A E : Type 0} {P : Type 0} (r : Result A E) → P → OnErr r P

@@ -12,14 +12,12 @@ use Rattle.bpaf_line.specs.declared.failure.ParseFailure.{ParseFailure}
 use Rattle.bpaf_line.specs.declared.failure.ParseFailure.TheVariants.{Stdout, Stderr, Memory}
 use Rattle.bpaf.specs.Asked.{IfShown}
 use Rattle.bpaf_exact.specs.OneView.{Alike}
-use Rattle.bpaf_program.specs.Ending.{IsPrinted, IsRefused, IsTold, message, no_memory, no_message}
-use Rattle.bpaf_program.specs.Ending.{not_shown, printed_in_part, printed_whole, refused, shown}
-use Rattle.bpaf_program.specs.Ending.{shown_in_part, told}
+use Rattle.bpaf_program.specs.Ending.{IsPrinted, IsShown, IsTold, given, told}
 use Rattle.bpaf_program.specs.ReadBy.{IsExactFor}
 use Rattle.bpaf_program.specs.Running.{AnswersByText, AnswersText, AnswersTextOf, IsTextOrWant}
-use Rattle.bpaf_program.specs.Running.{OrPage, Prints, PrintsTextOf, RunsTo, in_part, memory_wanted}
-use Rattle.bpaf_program.specs.Running.{tells, write_failed, writes, written}
-use Rattle.bpaf_program.specs.Sink.{IsUntouched, Writes, WritesPart, Written}
+use Rattle.bpaf_program.specs.Running.{OrPage, Prints, PrintsTextOf, RunsTo, memory_wanted, shows}
+use Rattle.bpaf_program.specs.Running.{tells, written}
+use Rattle.bpaf_program.specs.Sink.{Written}
 
 -- texts are in UTF-8
 pub are_texts : (words : List (String Global)) → All IsUtf8 (map string_bytes words)
@@ -42,27 +40,18 @@ refusal_answers answers asked help (Stderr doc) is = tt
 refusal_answers answers asked help Memory is = tt
 
 module _ (answers : List ℕ → Type 0) (out err : Written) where
-  -- what is told of a refusal is a message
-  refusal_runs : (f : ParseFailure) (status : ℕ) → IsUntouched out → IsRefused err f status
-      → RunsTo answers out err status
-  refusal_runs f status kept (message line) = tells _ kept line
-  refusal_runs f status kept (no_message line) = tells (codes "out of memory") kept line
-  refusal_runs f status kept (no_memory line) = tells (codes "out of memory") kept line
-
   -- what is told of a failure is a text that was asked for, or a message
   told_runs : (f : ParseFailure) (status : ℕ) → IsTold out err f status
       → AnswersText answers (Err f) → RunsTo answers out err status
-  told_runs f status (shown wrote quiet) answer = writes _ answer wrote quiet
-  told_runs f status (shown_in_part part quiet) answer = in_part _ answer part quiet
-  told_runs f status (not_shown kept line) answer = tells (codes "out of memory") kept line
-  told_runs f status (refused kept line) answer = refusal_runs f status kept line
+  told_runs (Stdout doc full) status is answer = shows _ answer is.0 is.1
+  told_runs (Stderr doc) status is answer = tells _ is.0 is.1
+  told_runs Memory status is answer = tells (codes "out of memory") is.0 is.1
 
   -- so it is with what is printed
   pub runs_to : (r : Result (String Global) ParseFailure) (status : ℕ)
       → IsPrinted out err string_bytes r status → AnswersText answers r
       → RunsTo answers out err status
-  runs_to r status (printed_whole wrote quiet) answer = writes _ answer wrote quiet
-  runs_to r status (printed_in_part part quiet) answer = in_part _ answer part quiet
+  runs_to r status (given is quiet) answer = shows _ answer is quiet
   runs_to r status (told {f = f} {status = n} is) answer = told_runs f n is answer
 
 -- a refusal that shows a page shows one, whatever it is
@@ -89,21 +78,16 @@ module _ (out err : Written) where
   -- where memory was wanted, that alone is told
   wants : (text : List ℕ) (f : ParseFailure) (status : ℕ) → IsTold out err f status → f ≡ Memory
       → Prints text out err status
-  wants text f status (shown wrote quiet) is = absurd cc
-  wants text f status (shown_in_part part quiet) is = absurd cc
-  wants text f status (not_shown kept line) is = absurd cc
-  wants text f status (refused kept (message line)) is = absurd cc
-  wants text f status (refused kept (no_message line)) is = absurd cc
-  wants text f status (refused kept (no_memory line)) is = memory_wanted kept line
+  wants text (Stdout doc full) status is own = absurd cc
+  wants text (Stderr doc) status is own = absurd cc
+  wants text Memory status is own = memory_wanted is.0 is.1
 
   -- an answer that is a text, or want of memory, is printed
   prints : (text : List ℕ) (r : Result (String Global) ParseFailure) (status : ℕ)
       → IsPrinted out err string_bytes r status → IsTextOrWant text r
       → Prints text out err status
-  prints text r status (printed_whole wrote quiet) own =
-      written (subst (Writes out) own wrote) quiet
-  prints text r status (printed_in_part part quiet) own =
-      write_failed (subst (WritesPart out) own part) quiet
+  prints text r status (given is quiet) own =
+      written (subst (λ bytes. IsShown out bytes status) own is) quiet
   prints text r status (told {f = f} {status = n} is) own = wants text f n is own
 
   -- so is the text of the values
@@ -119,7 +103,7 @@ module _ (out err : Written) where
 -- an answer that is a text which answers the words, or want of memory, answers them
 pub text_answers : (answers : List ℕ → Type 0) (text : List ℕ) → answers text
     → (r : Result (String Global) ParseFailure) → IsTextOrWant text r → AnswersText answers r
-text_answers answers text own (Ok given) is = subst answers (sym is) own
+text_answers answers text own (Ok made) is = subst answers (sym is) own
 text_answers answers text own (Err (Stdout doc full)) is = absurd cc
 text_answers answers text own (Err (Stderr doc)) is = tt
 text_answers answers text own (Err Memory) is = tt

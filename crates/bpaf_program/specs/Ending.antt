@@ -1,10 +1,9 @@
 -- How a run of a program ends: what is written where it gives no value, and the status.
-use Rattle.std.specs.Prelude.{ℕ, Bool, true, List, [], ◌∷◌, ◌++◌, Result, Ok, Err, codes}
-use Rattle.bpaf_doc.specs.declared.doc.Piece.{Piece}
+use Rattle.std.specs.Prelude.{ℕ, true, List, [], ◌∷◌, ◌++◌, Result, Ok, Err, codes}
 use Rattle.bpaf_doc.specs.Print.{printed, line_break}
 use Rattle.bpaf_line.specs.declared.failure.ParseFailure.{ParseFailure}
 use Rattle.bpaf_line.specs.declared.failure.ParseFailure.TheVariants.{Stdout, Stderr, Memory}
-use Rattle.bpaf_program.specs.Sink.{IsUntouched, Writes, WritesPart, WritesUpTo, Written}
+use Rattle.bpaf_program.specs.Sink.{IsUntouched, Writes, WritesPart, Written}
 
 -- the line that tells a message
 abbrev pub error_line : List ℕ → List ℕ
@@ -14,32 +13,24 @@ error_line message = codes "Error: " ++ (message ++ line_break ∷ [])
 abbrev pub memory_line : List ℕ
 memory_line = error_line (codes "out of memory")
 
--- how a failure is told in a line on the error writer, and the status: whole, or a beginning of it
--- where a write failed
-pub data IsRefused (err : Written) : ParseFailure → ℕ → Type 0 where
-  -- the message
-  message : {doc : List Piece} → WritesUpTo err (error_line (printed true doc))
-      → IsRefused err (Stderr doc) 1
-  -- that memory was wanted for its text
-  no_message : {doc : List Piece} → WritesUpTo err memory_line → IsRefused err (Stderr doc) 1
-  -- that the run wanted memory
-  no_memory : WritesUpTo err memory_line → IsRefused err Memory 1
+-- a text is written, by status 0, or a beginning of it where a write failed, by status 1
+pub data IsShown (out : Written) (text : List ℕ) : ℕ → Type 0 where
+  whole : Writes out text → IsShown out text 0
+  in_part : WritesPart out text → IsShown out text 1
 
--- How a failure is told, and the status: on `out` what was asked for, or a line on `err`. Where a
--- write fails a beginning of that is written, and nothing after it.
-pub data IsTold (out err : Written) : ParseFailure → ℕ → Type 0 where
-  -- all of the text that was asked for
-  shown : {doc : List Piece} {full : Bool} → Writes out (printed full doc) → IsUntouched err
-      → IsTold out err (Stdout doc full) 0
-  -- a beginning of it, where a write failed
-  shown_in_part : {doc : List Piece} {full : Bool} → WritesPart out (printed full doc)
-      → IsUntouched err → IsTold out err (Stdout doc full) 1
-  -- that memory was wanted for it
-  not_shown : {doc : List Piece} {full : Bool} → IsUntouched out → WritesUpTo err memory_line
-      → IsTold out err (Stdout doc full) 1
-  -- a message, or that the run wanted memory
-  refused : {f : ParseFailure} {status : ℕ} → IsUntouched out → IsRefused err f status
-      → IsTold out err f status
+-- a line is told, or a beginning of it where a write failed, by status 1
+pub data TellsLine (err : Written) (line : List ℕ) : ℕ → Type 0 where
+  told_whole : Writes err line → TellsLine err line 1
+  told_in_part : WritesPart err line → TellsLine err line 1
+
+-- How a failure is told, and the status: on `out` what was asked for, or on `err` the line of a
+-- message, or that memory was wanted. Where a write fails a beginning of that is written, and
+-- nothing after it.
+abbrev pub IsTold : (out err : Written) → ParseFailure → ℕ → Type 0
+IsTold out err (Stdout doc full) status = IsShown out (printed full doc) status × IsUntouched err
+IsTold out err (Stderr doc) status =
+    IsUntouched out × TellsLine err (error_line (printed true doc)) status
+IsTold out err Memory status = IsUntouched out × TellsLine err memory_line status
 
 -- how a run ends by an answer: with its value and nothing written, or with the status of what is
 -- told
@@ -56,13 +47,11 @@ pub record Ends {T : Type 0} (answers : Result T ParseFailure → Type 0) (out e
   pub is : answers answer
   pub ends : EndsBy out err answer r
 
--- how a program ends that prints the text of an answer: with all of it, with a beginning where a
+-- how a program ends that prints the text of an answer: with that, or a beginning of it where a
 -- write failed, or with what is told where there is none
 pub data IsPrinted (out err : Written) {A : Type 0} (text_of : A → List ℕ)
     : Result A ParseFailure → ℕ → Type 0 where
-  printed_whole : {v : A} → Writes out (text_of v) → IsUntouched err
-      → IsPrinted out err text_of (Ok v) 0
-  printed_in_part : {v : A} → WritesPart out (text_of v) → IsUntouched err
-      → IsPrinted out err text_of (Ok v) 1
+  given : {v : A} {status : ℕ} → IsShown out (text_of v) status → IsUntouched err
+      → IsPrinted out err text_of (Ok v) status
   told : {f : ParseFailure} {status : ℕ} → IsTold out err f status
       → IsPrinted out err text_of (Err f) status

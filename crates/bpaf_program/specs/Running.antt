@@ -5,8 +5,8 @@ use Rattle.bpaf_doc.specs.declared.doc.Piece.{Piece}
 use Rattle.bpaf_doc.specs.Print.{printed}
 use Rattle.bpaf_line.specs.declared.failure.ParseFailure.{ParseFailure}
 use Rattle.bpaf_line.specs.declared.failure.ParseFailure.TheVariants.{Stdout, Stderr, Memory}
-use Rattle.bpaf_program.specs.Ending.{error_line, memory_line}
-use Rattle.bpaf_program.specs.Sink.{IsUntouched, Writes, WritesPart, WritesUpTo, Written}
+use Rattle.bpaf_program.specs.Ending.{IsShown, TellsLine, error_line, memory_line}
+use Rattle.bpaf_program.specs.Sink.{IsUntouched, Written}
 
 -- an answer gives or shows one of the texts that answer the words, or it refuses
 abbrev pub AnswersText : (List ℕ → Type 0) → Result (String Global) ParseFailure → Type 0
@@ -23,12 +23,10 @@ OrPage said text = said text ⊎ ((doc : List Piece) × (full : Bool) × (text �
 -- and nothing on `err`; by status 1 a beginning of one, where a write failed, and nothing on `err`;
 -- or nothing, and on `err` the line of a message, or a beginning of it where a write failed.
 pub data RunsTo (answers : List ℕ → Type 0) (out err : Written) : ℕ → Type 0 where
-  writes : (text : List ℕ) → answers text → Writes out text → IsUntouched err
-      → RunsTo answers out err 0
-  in_part : (text : List ℕ) → answers text → WritesPart out text → IsUntouched err
-      → RunsTo answers out err 1
-  tells : (message : List ℕ) → IsUntouched out → WritesUpTo err (error_line message)
-      → RunsTo answers out err 1
+  shows : {status : ℕ} (text : List ℕ) → answers text → IsShown out text status
+      → IsUntouched err → RunsTo answers out err status
+  tells : {status : ℕ} (message : List ℕ) → IsUntouched out
+      → TellsLine err (error_line message) status → RunsTo answers out err status
 
 -- an answer is this text, or want of memory
 abbrev pub IsTextOrWant : List ℕ → Result (String Global) ParseFailure → Type 0
@@ -53,12 +51,12 @@ pub record AnswersByText {V : Type 0} (answers : List ℕ → Type 0) (value : V
   pub answer : AnswersText answers r
   pub exact : AnswersTextOf value text_of r
 
--- a run prints a text: it is written; or a write failed, and a beginning of it is; or memory was
+-- a run prints a text: it is written, or a write failed, and a beginning of it is; or memory was
 -- wanted, which alone is told
 pub data Prints (text : List ℕ) (out err : Written) : ℕ → Type 0 where
-  written : Writes out text → IsUntouched err → Prints text out err 0
-  write_failed : WritesPart out text → IsUntouched err → Prints text out err 1
-  memory_wanted : IsUntouched out → WritesUpTo err memory_line → Prints text out err 1
+  written : {status : ℕ} → IsShown out text status → IsUntouched err → Prints text out err status
+  memory_wanted : {status : ℕ} → IsUntouched out → TellsLine err memory_line status
+      → Prints text out err status
 
 -- all these values have the same text; and where there is one, a run prints its text
 pub record PrintsTextOf {V : Type 0} (value : V → Type 0) (text_of : V → List ℕ) (out err : Written)

@@ -1,5 +1,5 @@
 -- Sinks, of whose writes a contract can speak, and what a run writes to one.
-use Rattle.std.specs.Prelude.{◌≡◌, ◌≢◌, ◌⊎◌, ℕ, List, ◌∷◌, ◌++◌, length, Option, Result, Ok, Err}
+use Rattle.std.specs.Prelude.{◌≡◌, ◌≢◌, ℕ, List, ◌∷◌, ◌++◌, length, Option, Result, Ok, Err}
 use Rattle.std.specs.Io.KnownBytes.{Appends}
 use Rattle.std.specs.declared.io.Error.{Error}
 
@@ -54,7 +54,3 @@ pub record WritesPart (sink : Written) (text : List ℕ) : Type 0 where
   pub whole : front ++ (next ∷ rest) ≡ text
   pub written : Writes sink front
   pub failed : Failed sink.known sink.after
-
--- they grow by a text, or where a write failed by a beginning of it
-abbrev pub WritesUpTo : Written → List ℕ → Type 0
-WritesUpTo sink text = Writes sink text ⊎ WritesPart sink text

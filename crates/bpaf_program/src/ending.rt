@@ -1,19 +1,20 @@
 //! The end of a program: the value, or its text is written and its status told.
-ghost use Rattle.std.specs.Prelude.{◌≡◌, string_bytes};
-ghost use Rattle.bpaf_line.specs.declared.failure.ParseFailure.TheVariants.{Memory, Stderr, Stdout};
-ghost use Rattle.bpaf_program.specs.Ending.{EndsBy, IsPrinted, IsRefused, IsTold, error_line};
-ghost use Rattle.bpaf_program.specs.Sink.{WritesUpTo, wrote};
+ghost use Rattle.std.specs.Prelude.{string_bytes, true};
+ghost use Rattle.bpaf_doc.specs.Print.{printed};
+ghost use Rattle.bpaf_program.specs.Ending.{EndsBy, IsPrinted, IsShown, IsTold, TellsLine};
+ghost use Rattle.bpaf_program.specs.Ending.{error_line, memory_line};
+ghost use Rattle.bpaf_program.specs.Sink.{wrote};
 
 use crate::sink::Sink;
-use crate::writing::{write_error, write_text};
+use crate::writing::{write_doc, write_message, write_text};
 use bpaf::{Doc, ParseFailure};
 
 /// The value of an answer; or, where it has none, what it shows on `out` or tells on `err`, and the
 /// status with which the program is to end: 0 after a text that was asked for, else 1.
 ///
 /// A message stands behind `Error: ` on a line of its own; want of memory is told as
-/// `Error: out of memory`, also where it is wanted for the text. No write follows one that failed.
-/// With a value nothing is written.
+/// `Error: out of memory`. No memory is wanted for that. No write follows one that failed. With a
+/// value nothing is written.
 ///
 /// ```text
 /// let options = end(options.run_inner(args), out, err)?;
@@ -51,27 +52,22 @@ pub fn print<S: Sink, E: Sink>(answer: Result<String, ParseFailure>, out: &mut S
 }
 
 /// Shows what was asked for on `out`, or tells a refusal on `err`, and gives the status.
-#[tactic(auto, using(crate::proofs::Ended::told_alone))]
 fn tell<S: Sink, E: Sink>(failure: ParseFailure, out: &mut S, err: &mut E) -> u8
     ensures { IsTold (wrote S.known out.old out.new) (wrote E.known err.old err.new) failure
         result }
 {
     match failure {
-        ParseFailure::Stdout(doc, full) => show(doc, full, out, err),
+        ParseFailure::Stdout(doc, full) => show(doc, full, out),
         ParseFailure::Stderr(doc) => refuse(doc, err),
         ParseFailure::Memory => tell_want(err),
     }
 }
 
 /// Shows a text that was asked for, as it stands.
-fn show<S: Sink, E: Sink>(doc: Doc, full: bool, out: &mut S, err: &mut E) -> u8
-    ensures { IsTold (wrote S.known out.old out.new) (wrote E.known err.old err.new)
-        (Stdout doc full) result }
+fn show<S: Sink>(doc: Doc, full: bool, out: &mut S) -> u8
+    ensures { IsShown (wrote S.known out.old out.new) (printed full doc) result }
 {
-    let Ok(text) = doc.monochrome(full) else {
-        return tell_line("out of memory", err);
-    };
-    match write_text(text.as_str().as_bytes(), out) {
+    match write_doc(&doc, full, out) {
         Ok(()) => 0,
         Err(_) => 1,
     }
@@ -79,26 +75,16 @@ fn show<S: Sink, E: Sink>(doc: Doc, full: bool, out: &mut S, err: &mut E) -> u8
 
 /// Tells a message.
 fn refuse<E: Sink>(doc: Doc, err: &mut E) -> u8
-    ensures { IsRefused (wrote E.known err.old err.new) (Stderr doc) result }
+    ensures { TellsLine (wrote E.known err.old err.new) (error_line (printed true doc)) result }
 {
-    match doc.monochrome(true) {
-        Ok(text) => tell_line(text.as_str(), err),
-        Err(_) => tell_line("out of memory", err),
-    }
+    let _ = write_message(&doc, err);
+    1
 }
 
-/// Tells that the run wanted memory.
+/// Tells that memory was wanted.
 fn tell_want<E: Sink>(err: &mut E) -> u8
-    ensures { IsRefused (wrote E.known err.old err.new) Memory result }
+    ensures { TellsLine (wrote E.known err.old err.new) memory_line result }
 {
-    tell_line("out of memory", err)
-}
-
-/// Tells a message in a line, and gives the status.
-fn tell_line<E: Sink>(message: &str, err: &mut E) -> u8
-    ensures line { WritesUpTo (wrote E.known err.old err.new) (error_line message.now) }
-    ensures status { result ≡ 1 }
-{
-    let _ = write_error(message, err);
+    let _ = write_text("Error: out of memory\n".as_bytes(), err);
     1
 }

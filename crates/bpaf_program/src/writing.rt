@@ -1,9 +1,11 @@
 //! A text that is written, or a beginning of it where a write fails.
-ghost use Rattle.std.specs.Prelude.{OnErr, OnOk};
+ghost use Rattle.std.specs.Prelude.{◌≡◌, ◌||◌, OnErr, OnOk, not, true};
+ghost use Rattle.bpaf_doc.specs.Print.{printed};
 ghost use Rattle.bpaf_program.specs.Ending.{error_line};
 ghost use Rattle.bpaf_program.specs.Sink.{Writes, WritesPart, wrote};
 
 use crate::sink::Sink;
+use bpaf::{Doc, Piece};
 use std::io;
 
 /// Writes a text. An error comes only where a write failed; then a beginning of the text stands
@@ -23,14 +25,36 @@ pub fn write_text<S: Sink>(text: &[u8], out: &mut S) -> io::Result<()>
     Ok(())
 }
 
-/// Writes the line that tells a message, as [`write_text`].
-pub(crate) fn write_error<E: Sink>(message: &str, err: &mut E) -> io::Result<()>
+/// Writes what a document prints, as [`write_text`].
+pub(crate) fn write_doc<S: Sink>(doc: &Doc, full: bool, out: &mut S) -> io::Result<()>
     ensures whole { OnOk result
-        (Writes (wrote E.known err.old err.new) (error_line message.now)) }
+        (Writes (wrote S.known out.old out.new) (printed full doc.now)) }
     ensures part { OnErr result
-        (WritesPart (wrote E.known err.old err.new) (error_line message.now)) }
+        (WritesPart (wrote S.known out.old out.new) (printed full doc.now)) }
+{
+    for piece in doc.pieces() {
+        if is_shown(piece, full) {
+            write_text(piece.text.as_str().as_bytes(), out)?;
+        }
+    }
+    Ok(())
+}
+
+/// Whether a print shows a piece: detail only a full one.
+fn is_shown(piece: &Piece, full: bool) -> bool
+    ensures { result ≡ full || not piece.now.detail }
+{
+    full || !piece.detail
+}
+
+/// Writes the line that tells a message, as [`write_text`].
+pub(crate) fn write_message<E: Sink>(doc: &Doc, err: &mut E) -> io::Result<()>
+    ensures whole { OnOk result
+        (Writes (wrote E.known err.old err.new) (error_line (printed true doc.now))) }
+    ensures part { OnErr result
+        (WritesPart (wrote E.known err.old err.new) (error_line (printed true doc.now))) }
 {
     write_text("Error: ".as_bytes(), err)?;
-    write_text(message.as_bytes(), err)?;
+    write_doc(doc, true, err)?;
     write_text("\n".as_bytes(), err)
 }

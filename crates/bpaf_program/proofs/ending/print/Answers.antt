@@ -1,20 +1,22 @@
-use Rattle.bpaf_program.specs.Ending.{printed_in_part, printed_whole, told}
+use Rattle.bpaf_program.specs.Ending.{given, in_part, told, whole}
 use Rattle.bpaf_program.proofs.Ended.{ended_status, ended_value}
 use Rattle.bpaf_program.proofs.ending.print.Goals as goal
 
 pub returns-in-Ok-write_text : goal.returns-in-Ok-write_text
 returns-in-Ok-write_text g c =
     let i = ended_value _ _ c.args.answer c.end.result c.end.ensures c.in-Ok.text c.in-Ok.is in
-    rw i.0 (printed_whole
+    rw i.0 (given (whole
     (rw (i.1.0, c.as_bytes.ensures.value, c.as_str.ensures.value) at
-    c.in-Ok-write_text.ensures.whole) i.1.1)
+    c.in-Ok-write_text.ensures.whole))
+    i.1.1)
 
 pub returns-in-Ok : goal.returns-in-Ok
 returns-in-Ok g c =
     let i = ended_value _ _ c.args.answer c.end.result c.end.ensures c.in-Ok.text c.in-Ok.is in
-    rw i.0 (printed_in_part
+    rw i.0 (given (in_part
     (rw (i.1.0, c.as_bytes.ensures.value, c.as_str.ensures.value) at
-    c.in-Err-write_text.ensures.part) i.1.1)
+    c.in-Err-write_text.ensures.part))
+    i.1.1)
 
 pub returns : goal.returns
 returns g c =

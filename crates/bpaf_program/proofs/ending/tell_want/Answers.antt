@@ -1,5 +1,7 @@
-use Rattle.bpaf_program.specs.Ending.{no_memory}
+use Rattle.bpaf_program.proofs.Parts.{line_told}
 use Rattle.bpaf_program.proofs.ending.tell_want.Goals as goal
 
 pub returns : goal.returns
-returns g c = rw c.tell_line.ensures.status (no_memory c.tell_line.ensures.line)
+returns g c =
+    line_told c.write_text.result _ _ (rw c.as_bytes.ensures.value at c.write_text.ensures.whole)
+    (rw c.as_bytes.ensures.value at c.write_text.ensures.part)
