@@ -1,6 +1,6 @@
 //! What the steps of a chain print.
-ghost use Rattle.std.specs.Prelude.{◌≡◌, ◌++◌, IfOk, OnOk, map, string_bytes};
-ghost use Rattle.bpaf_program.specs.Running.{AnswersText};
+ghost use Rattle.std.specs.Prelude.{◌≡◌, ◌++◌, OnOk, map, string_bytes};
+ghost use Rattle.bpaf_program.specs.Running.{AnswersText, IsTextOrWant};
 ghost use Rattle.bpaf_chain.specs.Lines.{step_line, step_lines, turn_line};
 ghost use Rattle.bpaf_chain.specs.Running.{Answers};
 
@@ -13,12 +13,12 @@ pub fn lines_of(alloc: Global, words: &[String]) -> Result<String, ParseFailure>
     ensures { AnswersText (Answers (map string_bytes words.now)) result }
 {
     let steps = read_steps(alloc, words)?;
-    Ok(text_of(alloc, steps.as_slice())?)
+    text_of(alloc, steps.as_slice())
 }
 
 /// A line for each step; refused only for want of memory.
-fn text_of(alloc: Global, steps: &[Step]) -> Result<String, AllocError>
-    ensures { IfOk result (λ text. string_bytes text ≡ step_lines steps.now) }
+fn text_of(alloc: Global, steps: &[Step]) -> Result<String, ParseFailure>
+    ensures { IsTextOrWant (step_lines steps.now) result }
 {
     let mut text = String::new(alloc);
     push_steps(&mut text, steps)?;

@@ -1,12 +1,12 @@
 //! The program from its words to its bytes and its status.
 ghost use Rattle.std.specs.Prelude.{map, string_bytes};
 ghost use Rattle.bpaf_program.specs.Running.{RunsTo};
+ghost use Rattle.bpaf_program.specs.Sink.{wrote};
 ghost use Rattle.bpaf_chain.specs.Running.{Answers};
 
 use crate::print::lines_of;
-use bpaf_program::print;
+use bpaf_program::{Sink, print};
 use std::alloc::Global;
-use std::io::Write;
 
 /// Runs the program on its words, and gives its status.
 ///
@@ -14,10 +14,11 @@ use std::io::Write;
 /// page was asked for and written there, that of the program or of a command; and then nothing is
 /// written on `err`. A refusal is told on `err`, as `Error: ` and the message, and nothing is
 /// written on `out`; its status is 1, as is that of a write that fails, after a beginning of the
-/// text.
-pub fn run<W: Write, E: Write>(alloc: Global, words: &[String], out: &mut W, err: &mut E) -> u8
-    ensures { RunsTo (Answers (map string_bytes words.now)) result (W.contents out.old)
-        (W.contents out.new) (E.contents err.old) (E.contents err.new) }
+/// text. Over two sinks that tell their failures, less is written only where a write failed, and
+/// nothing behind that.
+pub fn run<S: Sink, E: Sink>(alloc: Global, words: &[String], out: &mut S, err: &mut E) -> u8
+    ensures { RunsTo (Answers (map string_bytes words.now)) (wrote S.known out.old out.new)
+        (wrote E.known err.old err.new) result }
 {
     print(lines_of(alloc, words), out, err)
 }

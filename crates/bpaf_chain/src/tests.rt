@@ -1,6 +1,6 @@
-//! The rows of the program, and what it writes where there are no steps or a write fails.
+//! The rows of the program, and what it writes where there are no steps.
 use crate::run::run;
-use bpaf_trial::{Tried, ran, stops_where_a_write_fails};
+use bpaf_trial::{Tried, ran};
 use std::alloc::Global;
 use std::io::Write;
 use std::test::Fail;
@@ -91,14 +91,5 @@ Available options:
     -h, --help  Prints help information
 ";
     assert!(rt; ran(rt.alloc(), &Chain, "move --help")?.is_text(page));
-    Ok(())
-}
-
-#[test]
-fn nothing_follows_a_write_that_fails(rt: HostRuntime) -> Result<(), Fail> {
-    for words in ["move 1 2 turn --left 90 repeat 3", "move --help", "go"] {
-        let calls = stops_where_a_write_fails(rt.alloc(), &Chain, words)?;
-        assert!(rt; calls.is_some_and(|calls| calls > 10));
-    }
     Ok(())
 }

@@ -1,9 +1,10 @@
 -- What a run of the program does.
-use Rattle.std.specs.Prelude.{ℕ, Bool, List, Option, Result}
+use Rattle.std.specs.Prelude.{ℕ, Bool, List, Result}
 use Rattle.bpaf_doc.specs.declared.doc.Piece.{Piece}
 use Rattle.bpaf_doc.specs.Print.{printed}
 use Rattle.bpaf_line.specs.declared.failure.ParseFailure.{ParseFailure}
-use Rattle.bpaf_program.specs.Running.{AnswersText, AnswersTextOf, PrintsTextOf}
+use Rattle.bpaf_program.specs.Running.{AnswersByText, PrintsTextOf}
+use Rattle.bpaf_program.specs.Sink.{Written}
 use Rattle.bpaf_program.specs.Values.{String}
 use Rattle.bpaf_demo.specs.declared.options.Options.{Options}
 use Rattle.bpaf_demo.specs.Exact.{IsOptionsOf}
@@ -20,12 +21,10 @@ pub data Answers (words : List (List ℕ)) : List ℕ → Type 0 where
 
 -- An answer to words is such a text; where the record has a value on them it is the lines of that,
 -- or want of memory. All values on the same words have the same lines.
-pub record AnswersLines (words : List (List ℕ)) (r : Result String ParseFailure) : Type 0 where
-  pub answer : AnswersText (Answers words) r
-  pub exact : AnswersTextOf (IsOptionsOf words) lines r
+abbrev pub AnswersLines : List (List ℕ) → Result String ParseFailure → Type 0
+AnswersLines words = AnswersByText (Answers words) (IsOptionsOf words) lines
 
 -- a run on words is exact: all values of the record on them have the same lines, and where it has
 -- one these are written, but for a failed write and want of memory
-abbrev pub PrintsExactly : List (List ℕ) → ℕ → (out out_after err err_after : Option (List ℕ))
-    → Type 0
+abbrev pub PrintsExactly : List (List ℕ) → (out err : Written) → ℕ → Type 0
 PrintsExactly words = PrintsTextOf (IsOptionsOf words) lines

@@ -25,9 +25,9 @@
 //!   lines of the record's value on the words (specs/Lines.antt), or where it has none exactly the
 //!   help page that the words ask for (specs/Shown.antt, `Answers` in specs/Running.antt).
 //! - Where the record has a value on the words, its lines are written and the status is 0; or a
-//!   write failed, and a beginning of them stands there, not all; or memory was wanted, nothing
-//!   stands there, and on the error writer `Error: out of memory`, or a beginning of that
-//!   (`PrintsExactly`, specs/Running.antt). No other message is told there.
+//!   write failed, the last one, and a beginning of them stands there, not all; or memory was
+//!   wanted, nothing stands there, and on the error writer `Error: out of memory`, whole unless a
+//!   write failed (`PrintsExactly`, specs/Running.antt). No other message is told there.
 //! - The value that is printed is dealt out of the words, each place of their line used once
 //!   (specs/Record.antt).
 #![tactic(auto)]

@@ -1,24 +1,25 @@
 //! What the options print.
-ghost use Rattle.std.specs.Prelude.{◌≡◌, IfOk, map, string_bytes};
+ghost use Rattle.std.specs.Prelude.{map, string_bytes};
+ghost use Rattle.bpaf_program.specs.Running.{IsTextOrWant};
 ghost use Rattle.bpaf_demo.specs.Lines.{lines};
 ghost use Rattle.bpaf_demo.specs.Running.{AnswersLines};
 
 use crate::options::{Options, read_options};
 use bpaf::ParseFailure;
 use bpaf_program::push_lines;
-use std::alloc::{AllocError, Global};
+use std::alloc::Global;
 
 /// The lines that the words ask for: those of the options that they give; refused where these are.
 pub fn lines_of(alloc: Global, words: &[String]) -> Result<String, ParseFailure>
     ensures { AnswersLines (map string_bytes words.now) result }
 {
     let options = read_options(alloc, words)?;
-    Ok(text_of(alloc, &options)?)
+    text_of(alloc, &options)
 }
 
 /// The lines of the options; refused only for want of memory.
-fn text_of(alloc: Global, options: &Options) -> Result<String, AllocError>
-    ensures { IfOk result (λ text. string_bytes text ≡ lines options.now) }
+fn text_of(alloc: Global, options: &Options) -> Result<String, ParseFailure>
+    ensures { IsTextOrWant (lines options.now) result }
 {
     let verbose = options.verbose;
     let num = options.num;

@@ -1,6 +1,6 @@
-//! The worked rows of the program, and what it writes where there are no options or a write fails.
+//! The worked rows of the program, and what it writes where there are no options.
 use crate::run::run;
-use bpaf_trial::{Tried, ran, stops_where_a_write_fails};
+use bpaf_trial::{Tried, ran};
 use std::alloc::Global;
 use std::io::Write;
 use std::test::Fail;
@@ -77,14 +77,5 @@ Available options:
 ";
     assert!(rt; ran(rt.alloc(), &Demo, "--help")?.is_text(page));
     assert!(rt; ran(rt.alloc(), &Demo, "-n 3 -v -h")?.is_text(page));
-    Ok(())
-}
-
-#[test]
-fn nothing_follows_a_write_that_fails(rt: HostRuntime) -> Result<(), Fail> {
-    for words in ["-n 3 a -v b", "--help", "-n"] {
-        let calls = stops_where_a_write_fails(rt.alloc(), &Demo, words)?;
-        assert!(rt; calls.is_some_and(|calls| calls > 10));
-    }
     Ok(())
 }

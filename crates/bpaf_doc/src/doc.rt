@@ -262,6 +262,13 @@ impl Doc {
         Ok(Some(doc))
     }
 
+    /// Its pieces, in order.
+    pub fn pieces(&self) -> &[Piece]
+        ensures { result.now ≡ self.now }
+    {
+        self.pieces.as_slice()
+    }
+
     /// Whether it prints nothing, also in full. It takes no memory.
     pub fn is_empty(&self) -> bool
         ensures { result ≡ is_empty (prints self.now) }

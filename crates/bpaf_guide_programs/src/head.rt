@@ -3,15 +3,15 @@
 ghost use Rattle.std.specs.Prelude.{◌≡◌, IfOk, IsSome, codes, map, string_bytes};
 ghost use Rattle.bpaf_program.specs.Fields.{plain_argument};
 ghost use Rattle.bpaf_program.specs.Running.{OrPage, RunsTo};
+ghost use Rattle.bpaf_program.specs.Sink.{wrote};
 ghost use Rattle.bpaf_record.specs.Spelled.{WasSpelled};
 ghost use Rattle.bpaf_guide_programs.specs.Head.{IsHeadText, bytes_names};
 
 use bpaf::params::ParseArgument;
 use bpaf::{Args, ParseFailure, Parser, construct, positional, short};
-use bpaf_program::{print, push_lines};
+use bpaf_program::{Sink, print, push_lines};
 use bpaf_record::Record;
 use std::alloc::{AllocError, Global};
-use std::io::Write;
 
 /// What a `head` is asked for.
 #[derive(Drop)]
@@ -41,9 +41,9 @@ fn bytes(alloc: Global) -> Result<ParseArgument<u64>, AllocError>
 
 /// Runs the program on its words and gives its status. Its files are printed a line each, as
 /// `by bytes: FILE` only where `-c` or `--bytes` was spelled, else as `by lines: FILE`.
-pub fn run<W: Write, E: Write>(alloc: Global, words: &[String], out: &mut W, err: &mut E) -> u8
-    ensures { RunsTo (OrPage (IsHeadText (map string_bytes words.now))) result
-        (W.contents out.old) (W.contents out.new) (E.contents err.old) (E.contents err.new) }
+pub fn run<S: Sink, E: Sink>(alloc: Global, words: &[String], out: &mut S, err: &mut E) -> u8
+    ensures { RunsTo (OrPage (IsHeadText (map string_bytes words.now)))
+        (wrote S.known out.old out.new) (wrote E.known err.old err.new) result }
 {
     print(lines_of(alloc, words), out, err)
 }

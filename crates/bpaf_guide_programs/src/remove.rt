@@ -2,15 +2,15 @@
 //! removed unless its key was spelled.
 ghost use Rattle.std.specs.Prelude.{◌≡◌, true, IfOk, codes, map, string_bytes};
 ghost use Rattle.bpaf_program.specs.Running.{OrPage, RunsTo};
+ghost use Rattle.bpaf_program.specs.Sink.{wrote};
 ghost use Rattle.bpaf_program.specs.Texts.{HasOtherTexts};
 ghost use Rattle.bpaf_record.specs.Spelled.{WasSpelled};
 ghost use Rattle.bpaf_guide_programs.specs.Remove.{IsRemovalText, force_names};
 
 use bpaf::{Args, OptionParser, ParseFailure, Parser, construct, positional, short};
-use bpaf_program::{print, push_lines};
+use bpaf_program::{Sink, print, push_lines};
 use bpaf_record::Record;
 use std::alloc::{AllocError, Global};
-use std::io::Write;
 
 /// What a removal is told.
 #[derive(Drop)]
@@ -53,9 +53,9 @@ fn with_texts<T, P: Drop>(options: OptionParser<T, P>) -> Result<OptionParser<T,
 
 /// Runs the remover on its words and gives its status. Its files are printed a line each, as
 /// `removed: FILE` only where `-f` or `--force` was spelled, else as `kept: FILE`.
-pub fn run<W: Write, E: Write>(alloc: Global, words: &[String], out: &mut W, err: &mut E) -> u8
-    ensures { RunsTo (OrPage (IsRemovalText (map string_bytes words.now))) result
-        (W.contents out.old) (W.contents out.new) (E.contents err.old) (E.contents err.new) }
+pub fn run<S: Sink, E: Sink>(alloc: Global, words: &[String], out: &mut S, err: &mut E) -> u8
+    ensures { RunsTo (OrPage (IsRemovalText (map string_bytes words.now)))
+        (wrote S.known out.old out.new) (wrote E.known err.old err.new) result }
 {
     print(lines_of(alloc, words), out, err)
 }

@@ -4,7 +4,7 @@ use Rattle.bpaf_doc.specs.declared.doc.Piece.{Piece}
 use Rattle.bpaf_doc.specs.Print.{printed}
 use Rattle.bpaf_launch.specs.declared.options.Launch.{Launch}
 use Rattle.bpaf_line.specs.declared.failure.ParseFailure.{ParseFailure}
-use Rattle.bpaf_program.specs.Running.{AnswersText, AnswersTextOf}
+use Rattle.bpaf_program.specs.Running.{AnswersByText}
 use Rattle.bpaf_program.specs.Values.{String}
 use Rattle.bpaf_launch.specs.Dealing.{IsLaunchOf}
 use Rattle.bpaf_launch.specs.Exact.{IsLaunchValue}
@@ -20,6 +20,5 @@ pub data Answers (words : List (List ℕ)) : List ℕ → Type 0 where
 
 -- An answer to words is such a text; where they have a launch it is the lines of that, or want of
 -- memory. All launches that the same words have print the same lines.
-pub record AnswersLines (words : List (List ℕ)) (r : Result String ParseFailure) : Type 0 where
-  pub answer : AnswersText (Answers words) r
-  pub exact : AnswersTextOf (IsLaunchValue words) lines r
+abbrev pub AnswersLines : List (List ℕ) → Result String ParseFailure → Type 0
+AnswersLines words = AnswersByText (Answers words) (IsLaunchValue words) lines

@@ -1,9 +1,9 @@
 //! A launcher: options of its own, the name of a program, and words that are passed on unread.
 //!
-//! It stands on `bpaf`, `bpaf_record` and `bpaf_program`, and has no contract for a layer above: it is the top.
-//! `run` is the whole program over two writers; `main` hands it the words, standard output and
-//! standard error, and ends with its status. It starts nothing: it prints what it would start, with
-//! which words.
+//! It stands on `bpaf`, `bpaf_record` and `bpaf_program`, and has no contract for a layer above: it
+//! is the top. `run` is the whole program over two writers; `main` hands it the words, standard
+//! output and standard error, and ends with its status. It starts nothing: it prints what it would
+//! start, with which words.
 //!
 //! ```text
 //! launch [-v|--verbose] [--dry-run] NAME [-- WORD...]
@@ -21,11 +21,12 @@
 //! that was printed is dealt out of the words, its name stands before the first `--`, and its words
 //! are all words behind that, in order, byte for byte (specs/Dealing.antt, specs/Lines.antt); or
 //! where the words ask for help and its page was printed (specs/Shown.antt, specs/Running.antt).
-//! Where the status is 1, a beginning of the lines of such a launch or of that page was printed,
-//! not all, and nothing on standard error; or nothing was, and there a message, or a beginning of
-//! it. It runs as a program with words on one side of `--`, exactly: where the words have a launch
-//! (specs/Exact.antt), its lines are printed, or a part of them where a write failed, or nothing
-//! but that memory was wanted; and all launches that the same words have print the same lines.
+//! Where the status is 1, a write failed, the last one, and a beginning of the lines of such a
+//! launch or of that page was printed, not all, and nothing on standard error; or nothing was, and
+//! there the line of a message, whole unless a write failed. It runs as a program with words on one
+//! side of `--`, exactly: where the words have a launch (specs/Exact.antt), its lines are printed,
+//! or a part of them where a write failed, or nothing but that memory was wanted; and all launches
+//! that the same words have print the same lines.
 #![tactic(auto)]
 
 mod options;

@@ -1,6 +1,6 @@
-//! The rows of the program, and what it writes where there is no launch or a write fails.
+//! The rows of the program, and what it writes where there is no launch.
 use crate::run::run;
-use bpaf_trial::{Tried, ran, ran_in, stops_where_a_write_fails};
+use bpaf_trial::{Tried, ran};
 use std::alloc::Global;
 use std::io::Write;
 use std::test::Fail;
@@ -85,26 +85,5 @@ fn help_is_printed(rt: HostRuntime) -> Result<(), Fail> {
     let usage = b"Usage: launch [--verbose] [--dry-run] NAME [-- WORD]...\n";
     assert!(rt; asked.out.as_slice().starts_with(usage));
     assert!(rt; asked.err.is_empty() && asked.status == 0);
-    Ok(())
-}
-
-#[test]
-fn a_writer_that_fails_has_a_beginning(rt: HostRuntime) -> Result<(), Fail> {
-    let whole = "verbose: false\ndry run: false\nname: ls\nword: x\n";
-    assert!(rt; ran_in(rt.alloc(), &Launch, "ls -- x", whole.len(), 0)?.is_text(whole));
-    for (room, wanted) in [(17, "verbose: false\ndr"), (0, "")] {
-        let part = ran_in(rt.alloc(), &Launch, "ls -- x", room, 0)?;
-        assert!(rt; part.out.as_slice() == wanted.as_bytes() && part.err.is_empty());
-        assert!(rt; part.status == 1);
-    }
-    Ok(())
-}
-
-#[test]
-fn nothing_follows_a_write_that_fails(rt: HostRuntime) -> Result<(), Fail> {
-    for words in ["-v ls -- x", "ls --help", "ls -l"] {
-        let calls = stops_where_a_write_fails(rt.alloc(), &Launch, words)?;
-        assert!(rt; calls.is_some_and(|calls| calls > 10));
-    }
     Ok(())
 }

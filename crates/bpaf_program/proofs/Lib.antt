@@ -5,6 +5,7 @@ pub mod Ended
 pub mod Exactly
 pub mod Known
 pub mod Parts
+pub mod Pieces
 pub mod Running
 pub mod Seen
 pub mod Shown

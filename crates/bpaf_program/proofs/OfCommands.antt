@@ -9,8 +9,8 @@ pub use Rattle.bpaf_program.proofs.KnownFields.{optional_known}
 pub use Rattle.bpaf_program.proofs.KnownFields.{switch_known, word_known}
 pub use Rattle.bpaf_program.proofs.KnownParser.{both_known, choice_known, command_known, con_known}
 pub use Rattle.bpaf_program.proofs.KnownParser.{last_known, map_known, program_exactly}
-pub use Rattle.bpaf_program.proofs.Running.{are_texts, given_text, prints_text, refused_text}
-pub use Rattle.bpaf_program.proofs.Running.{runs_to_said}
+pub use Rattle.bpaf_program.proofs.Running.{are_texts, given_text, prints_text, refused_page}
+pub use Rattle.bpaf_program.proofs.Running.{runs_to}
 pub use Rattle.bpaf_program.proofs.Seen.{default_seen, field_seen, many_seen, number_seen}
 pub use Rattle.bpaf_program.proofs.Seen.{optional_seen, switch_seen, text_seen, text_word_seen}
 pub use Rattle.bpaf_program.proofs.SeenPrograms.{choice_seen, command_seen, fields_seen}

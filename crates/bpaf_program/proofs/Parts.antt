@@ -1,12 +1,14 @@
 -- A text of which a part is written.
 use Rattle.std.proofs.Common.{◌≡◌, ◌==◌, Bool, true, false, ℕ, ◌-◌, List, [], ◌∷◌, ◌++◌, Option}
 use Rattle.std.proofs.Common.{Some, None, Result, Ok, Err, OnOk, OnErr}
-use Rattle.std.proofs.Common.{take, drop, length, inl, inr, refl, sym, ap, subst, ◌∙◌}
+use Rattle.std.proofs.Common.{take, drop, length, refl, sym, ap, subst, ◌∙◌}
 use Rattle.std.proofs.Common.{append_assoc, append-nil}
 use Rattle.std.proofs.KnownBytes.{Appends-trans, Appends-kept}
 use Rattle.std.proofs.lemmas.List.{take_rest, take-append-drop}
 use Rattle.std.specs.Io.KnownBytes.{Appends, Keeps}
-use Rattle.bpaf_program.specs.Ending.{AppendsPart, AppendsUpTo}
+use Rattle.bpaf_program.specs.Sink.{Failed, KnownSink, Writes, WritesPart, Written}
+use Rattle.bpaf_program.specs.Sink.{wrote}
+use Rattle.bpaf_program.specs.Ending.{TellsLine, told_in_part, told_whole}
 
 -- all of a text is written but this rest
 pub record IsWrittenBut (before after : Option (List ℕ)) (rest text : List ℕ) : Type 0 where
@@ -47,47 +49,72 @@ written_nothing before middle after rest text n so_far none more = record {
   whole = ap (λ x. x ++ rest) (append-nil so_far.front) ∙ so_far.whole;
 }
 
--- where a rest is left, a part is written
-pub part_written : (before after : Option (List ℕ)) (rest text : List ℕ)
-    → IsWrittenBut before after rest text → (length rest ≡ 0 → ⊥) → AppendsPart before after text
-part_written before after [] text so_far some = absurd (some refl)
-part_written before after (next ∷ rest) text so_far some = record {
+-- where a rest is left after a failed write, a part is written
+pub part_written : (sink : Written) (rest text : List ℕ)
+    → IsWrittenBut (sink.known.contents sink.before) (sink.known.contents sink.after) rest text
+    → (length rest ≡ 0 → ⊥) → Failed sink.known sink.after → WritesPart sink text
+part_written sink [] text so_far some failed = absurd (some refl)
+part_written sink (next ∷ rest) text so_far some failed = record {
   front = so_far.front;
   next = next;
   rest = rest;
   whole = so_far.whole;
   written = so_far.written;
+  failed = failed;
 }
 
 -- a part of a text is one of a longer text
-pub part_of_more : (before after : Option (List ℕ)) (text more : List ℕ)
-    → AppendsPart before after text → AppendsPart before after (text ++ more)
-part_of_more before after text more is = record {
+pub part_of_more : (sink : Written) (text more : List ℕ) → WritesPart sink text
+    → WritesPart sink (text ++ more)
+part_of_more sink text more is = record {
   front = is.front;
   next = is.next;
   rest = is.rest ++ more;
   whole = sym (append_assoc is.front (is.next ∷ is.rest) more) ∙ ap (λ x. x ++ more) is.whole;
   written = is.written;
+  failed = is.failed;
 }
 
 -- behind a whole text a part of another is one of both
-pub part_behind : (before middle after : Option (List ℕ)) (text more : List ℕ)
-    → Appends before middle text → AppendsPart middle after more
-    → AppendsPart before after (text ++ more)
-part_behind before middle after text more whole is = record {
+pub part_behind : {S : Type 0} (known : KnownSink S) (before middle after : S)
+    (text more : List ℕ) → Writes (wrote known before middle) text
+    → WritesPart (wrote known middle after) more
+    → WritesPart (wrote known before after) (text ++ more)
+part_behind known before middle after text more whole is = record {
   front = text ++ is.front;
   next = is.next;
   rest = is.rest;
   whole = append_assoc text is.front (is.next ∷ is.rest) ∙ ap (λ x. text ++ x) is.whole;
-  written = Appends-trans before middle after text is.front whole is.written;
+  written = Appends-trans (known.contents before) (known.contents middle) (known.contents after)
+      text is.front whole is.written;
+  failed = is.failed;
 }
 
--- whether all writes succeed or one fails, the text is written or a part of it
-pub up_to : {A E : Type 0} (r : Result A E) (before after : Option (List ℕ)) (text : List ℕ)
-    → OnOk r (Appends before after text) → OnErr r (AppendsPart before after text)
-    → AppendsUpTo before after text
-up_to (Ok v) before after text whole part = inl whole
-up_to (Err e) before after text whole part = inr part
+-- whether all writes succeed or one fails, the line is told or a part of it
+pub line_told : {A E : Type 0} (r : Result A E) (err : Written) (line : List ℕ)
+    → OnOk r (Writes err line) → OnErr r (WritesPart err line) → TellsLine err line 1
+line_told (Ok v) err line whole part = told_whole whole
+line_told (Err e) err line whole part = told_in_part part
+
+-- the next text of those that are left is written
+pub written_next : (before middle after : Option (List ℕ)) (next rest text : List ℕ)
+    → IsWrittenBut before middle (next ++ rest) text → Appends middle after next
+    → IsWrittenBut before after rest text
+written_next before middle after next rest text so_far more = record {
+  front = so_far.front ++ next;
+  written = Appends-trans before middle after so_far.front next so_far.written more;
+  whole = append_assoc so_far.front next rest ∙ so_far.whole;
+}
+
+-- a part of it is
+pub part_of_next : {S : Type 0} (known : KnownSink S) (before middle after : S)
+    (next rest text : List ℕ)
+    → IsWrittenBut (known.contents before) (known.contents middle) (next ++ rest) text
+    → WritesPart (wrote known middle after) next → WritesPart (wrote known before after) text
+part_of_next known before middle after next rest text so_far part =
+    subst (WritesPart (wrote known before after)) so_far.whole
+    (part_behind known before middle after so_far.front (next ++ rest) so_far.written
+    (part_of_more (wrote known middle after) next rest part))
 
 -- what holds is so where a result is an error
 pub on_err : {A E : Type 0} {P : Type 0} (r : Result A E) → P → OnErr r P
@@ -110,14 +137,3 @@ kept_then None middle after text kept more = tt
 kept_then (Some xs) None after text kept more = absurd kept
 kept_then (Some xs) (Some ys) None text kept more = absurd more
 kept_then (Some xs) (Some ys) (Some zs) text kept more = more ∙ ap (λ z. z ++ text) kept
-
--- so it is with a part of a text
-pub kept_then_part : (before middle after : Option (List ℕ)) (text : List ℕ) → Keeps before middle
-    → AppendsPart middle after text → AppendsPart before after text
-kept_then_part before middle after text kept is = record {
-  front = is.front;
-  next = is.next;
-  rest = is.rest;
-  whole = is.whole;
-  written = kept_then before middle after is.front kept is.written;
-}

@@ -1,9 +1,8 @@
 -- A program that prints its answer runs to the texts that answer its words.
-use Rattle.std.proofs.Common.{Ok, ◌≡◌, ◌⊎◌, ℕ, Bool, List, Option, Result, Err, string_bytes, codes}
-use Rattle.std.proofs.Common.{All, IfOk, IsUtf8, inl, inr, map, refl, slice_index_or, subst, ◌∙◌}
+use Rattle.std.proofs.Common.{Ok, ◌≡◌, ℕ, Bool, List, Result, Err, string_bytes, codes}
+use Rattle.std.proofs.Common.{All, IfOk, IsUtf8, inl, inr, map, refl, slice_index_or, subst, sym}
 use Rattle.std.specs.declared.alloc.Global.{Global}
 use Rattle.std.specs.Prelude.{String}
-use Rattle.std.specs.Io.KnownBytes.{Appends}
 use Rattle.std.specs.Result.{IsErr, IsErrAnd}
 use Rattle.std.proofs.lemmas.List.Elements.{All-map}
 use Rattle.std.proofs.lemmas.Str.{IsUtf8-string_bytes}
@@ -12,14 +11,13 @@ use Rattle.bpaf_doc.specs.Print.{printed}
 use Rattle.bpaf_line.specs.declared.failure.ParseFailure.{ParseFailure}
 use Rattle.bpaf_line.specs.declared.failure.ParseFailure.TheVariants.{Stdout, Stderr, Memory}
 use Rattle.bpaf.specs.Asked.{IfShown}
-use Rattle.bpaf_program.specs.Ending.{AppendsPart, IsPrinted, IsTold, no_memory, printed_in_part}
-use Rattle.bpaf_program.specs.Ending.{printed_whole, refused, shown, shown_in_part, told}
 use Rattle.bpaf_exact.specs.OneView.{Alike}
+use Rattle.bpaf_program.specs.Ending.{IsPrinted, IsShown, IsTold, given, told}
 use Rattle.bpaf_program.specs.ReadBy.{IsExactFor}
-use Rattle.bpaf_program.specs.Running.{AnswersByText, AnswersText, AnswersTextOf, FailsToWrite}
-use Rattle.bpaf_program.specs.Running.{IsTextOrWant}
-use Rattle.bpaf_program.specs.Running.{OrPage, Prints, PrintsTextOf, RunsTo, WritesText, in_part}
-use Rattle.bpaf_program.specs.Running.{memory_wanted, message, write_failed, written}
+use Rattle.bpaf_program.specs.Running.{AnswersByText, AnswersText, AnswersTextOf, IsTextOrWant}
+use Rattle.bpaf_program.specs.Running.{OrPage, Prints, PrintsTextOf, RunsTo, memory_wanted, shows}
+use Rattle.bpaf_program.specs.Running.{tells, written}
+use Rattle.bpaf_program.specs.Sink.{Written}
 
 -- texts are in UTF-8
 pub are_texts : (words : List (String Global)) → All IsUtf8 (map string_bytes words)
@@ -41,129 +39,103 @@ refusal_answers answers asked help (Stdout doc full) is = help doc full is
 refusal_answers answers asked help (Stderr doc) is = tt
 refusal_answers answers asked help Memory is = tt
 
-module _ (answers : List ℕ → Type 0) (out out_after err err_after : Option (List ℕ)) where
-  -- the status of what is told is 0 or 1
-  told_by : (f : ParseFailure) (status : ℕ) → IsTold out out_after err err_after f status
-      → (status ≡ 0) ⊎ (status ≡ 1)
-  told_by f status (shown wrote quiet) = inl refl
-  told_by f status (shown_in_part part quiet) = inr refl
-  told_by f status (refused kept line) = inr refl
-  told_by f status (no_memory kept line) = inr refl
-
-  -- by 0 a text was asked for and stands there
-  told_text : (f : ParseFailure) (status : ℕ) → IsTold out out_after err err_after f status
-      → AnswersText answers (Err f) → status ≡ 0 → WritesText answers out out_after err err_after
-  told_text f status (shown wrote quiet) answer zero =
-      record { text = _; answer = answer; written = wrote; quiet = quiet }
-  told_text f status (shown_in_part part quiet) answer zero = absurd cc
-  told_text f status (refused kept line) answer zero = absurd cc
-  told_text f status (no_memory kept line) answer zero = absurd cc
-
-  -- by 1 part of it does, or a message
-  told_none : (f : ParseFailure) (status : ℕ) → IsTold out out_after err err_after f status
-      → AnswersText answers (Err f) → status ≡ 1 → FailsToWrite answers out out_after err err_after
-  told_none f status (shown wrote quiet) answer one = absurd cc
-  told_none f status (shown_in_part part quiet) answer one = in_part _ answer part quiet
-  told_none f status (refused kept line) answer one = message _ kept line
-  told_none f status (no_memory kept line) answer one = message (codes "out of memory") kept line
+module _ (answers : List ℕ → Type 0) (out err : Written) where
+  -- what is told of a failure is a text that was asked for, or a message
+  told_runs : (f : ParseFailure) (status : ℕ) → IsTold out err f status
+      → AnswersText answers (Err f) → RunsTo answers out err status
+  told_runs (Stdout doc full) status is answer = shows _ answer is.0 is.1
+  told_runs (Stderr doc) status is answer = tells _ is.0 is.1
+  told_runs Memory status is answer = tells (codes "out of memory") is.0 is.1
 
   -- so it is with what is printed
   pub runs_to : (r : Result (String Global) ParseFailure) (status : ℕ)
-      → IsPrinted out out_after err err_after string_bytes r status → AnswersText answers r
-      → RunsTo answers status out out_after err err_after
-  runs_to r status (printed_whole wrote quiet) answer = record {
-    by_status = inl refl;
-    succeeds = λ zero. record { text = _; answer = answer; written = wrote; quiet = quiet };
-    fails = λ one. absurd cc;
-  }
-  runs_to r status (printed_in_part part quiet) answer = record {
-    by_status = inr refl;
-    succeeds = λ zero. absurd cc;
-    fails = λ one. in_part _ answer part quiet;
-  }
-  runs_to r status (told {f = f} {status = n} is) answer = record {
-    by_status = told_by f n is;
-    succeeds = told_text f n is answer;
-    fails = told_none f n is answer;
-  }
+      → IsPrinted out err string_bytes r status → AnswersText answers r
+      → RunsTo answers out err status
+  runs_to r status (given is quiet) answer = shows _ answer is quiet
+  runs_to r status (told {f = f} {status = n} is) answer = told_runs f n is answer
+
+-- a refusal that shows a page shows one, whatever it is
+page_answers : (said : List ℕ → Type 0) (f : ParseFailure) → AnswersText (OrPage said) (Err f)
+page_answers said (Stdout doc full) = inr (doc, full, refl)
+page_answers said (Stderr doc) = tt
+page_answers said Memory = tt
 
 -- where texts of this kind are given, an answer gives one or shows a page
 gives_or_shows : (said : List ℕ → Type 0) (r : Result (String Global) ParseFailure)
     → IfOk r (λ text. said (string_bytes text)) → AnswersText (OrPage said) r
 gives_or_shows said (Ok text) is = inl is
-gives_or_shows said (Err (Stdout doc full)) is = inr (doc, full, refl)
-gives_or_shows said (Err (Stderr doc)) is = tt
-gives_or_shows said (Err Memory) is = tt
+gives_or_shows said (Err f) is = page_answers said f
 
 -- So it is with what is printed, whatever the page is.
-pub runs_to_said : (said : List ℕ → Type 0) {out out_after err err_after : Option (List ℕ)}
+pub runs_to_said : (said : List ℕ → Type 0) {out err : Written}
     {r : Result (String Global) ParseFailure} {status : ℕ}
-    → IsPrinted out out_after err err_after string_bytes r status
-    → IfOk r (λ text. said (string_bytes text))
-    → RunsTo (OrPage said) status out out_after err err_after
-runs_to_said said {out} {out_after} {err} {err_after} {r} {status} printed is =
-    runs_to (OrPage said) out out_after err err_after r status printed (gives_or_shows said r is)
+    → IsPrinted out err string_bytes r status → IfOk r (λ text. said (string_bytes text))
+    → RunsTo (OrPage said) out err status
+runs_to_said said {out} {err} {r} {status} printed is =
+    runs_to (OrPage said) out err r status printed (gives_or_shows said r is)
 
-module _ (out out_after err err_after : Option (List ℕ)) where
+module _ (out err : Written) where
   -- where memory was wanted, that alone is told
-  wants : (text : List ℕ) (f : ParseFailure) (status : ℕ)
-      → IsTold out out_after err err_after f status → f ≡ Memory
-      → Prints text out out_after err err_after status
-  wants text f status (shown wrote quiet) is = absurd cc
-  wants text f status (shown_in_part part quiet) is = absurd cc
-  wants text f status (refused kept line) is = absurd cc
-  wants text f status (no_memory kept line) is = memory_wanted kept line
+  wants : (text : List ℕ) (f : ParseFailure) (status : ℕ) → IsTold out err f status → f ≡ Memory
+      → Prints text out err status
+  wants text (Stdout doc full) status is own = absurd cc
+  wants text (Stderr doc) status is own = absurd cc
+  wants text Memory status is own = memory_wanted is.0 is.1
 
   -- an answer that is a text, or want of memory, is printed
   prints : (text : List ℕ) (r : Result (String Global) ParseFailure) (status : ℕ)
-      → IsPrinted out out_after err err_after string_bytes r status → IsTextOrWant text r
-      → Prints text out out_after err err_after status
-  prints text r status (printed_whole wrote quiet) own =
-      written (subst (Appends out out_after) own wrote) quiet
-  prints text r status (printed_in_part part quiet) own =
-      write_failed (subst (AppendsPart out out_after) own part) quiet
+      → IsPrinted out err string_bytes r status → IsTextOrWant text r
+      → Prints text out err status
+  prints text r status (given is quiet) own =
+      written (subst (λ bytes. IsShown out bytes status) own is) quiet
   prints text r status (told {f = f} {status = n} is) own = wants text f n is own
 
   -- so is the text of the values
   pub prints_text : {V : Type 0} {value : V → Type 0} {text_of : V → List ℕ}
       (r : Result (String Global) ParseFailure) (status : ℕ)
-      → IsPrinted out out_after err err_after string_bytes r status
-      → AnswersTextOf value text_of r
-      → PrintsTextOf value text_of status out out_after err err_after
+      → IsPrinted out err string_bytes r status → AnswersTextOf value text_of r
+      → PrintsTextOf value text_of out err status
   prints_text {text_of = text_of} r status is answers = record {
     alike = answers.alike;
     prints = λ v there. prints (text_of v) r status is (answers.complete v there);
   }
 
--- values of one text of which one is printed
-pub text_answered : {V : Type 0} {value : V → Type 0} (text_of : V → List ℕ)
-    → ((v w : V) → value v → value w → text_of v ≡ text_of w) → (v : V) → value v
-    → (text : String Global) → string_bytes text ≡ text_of v
-    → AnswersTextOf value text_of (Ok text)
-text_answered text_of alike v there text is = record {
-  alike = alike;
-  complete = λ w other. is ∙ alike v w there other;
-}
+-- an answer that is a text which answers the words, or want of memory, answers them
+pub text_answers : (answers : List ℕ → Type 0) (text : List ℕ) → answers text
+    → (r : Result (String Global) ParseFailure) → IsTextOrWant text r → AnswersText answers r
+text_answers answers text own (Ok made) is = subst answers (sym is) own
+text_answers answers text own (Err (Stdout doc full)) is = absurd cc
+text_answers answers text own (Err (Stderr doc)) is = tt
+text_answers answers text own (Err Memory) is = tt
 
-module _ {V : Type 0} {value : V → Type 0} {text_of : V → List ℕ} (alike : Alike text_of value)
-  where
-    -- where no value is answered, the refusal is
-    pub refused_text : {f : ParseFailure} → IsExactFor value (Err f)
-        → {r : Result (String Global) ParseFailure} → IsErr r × IsErrAnd r (λ g. g ≡ f)
-        → AnswersByText value text_of r
-    refused_text exact {r} is =
-        handed_on (AnswersByText value text_of) r is
-        (λ g same. rw same (record {
-          given = tt;
-          exact = record { alike = alike; complete = exact.complete };
-        }))
+module _ {answers : List ℕ → Type 0} {V : Type 0} {value : V → Type 0} {text_of : V → List ℕ}
+    (alike : Alike text_of value) where
+  -- where no value is answered, the refusal is
+  pub refused_text : {f : ParseFailure} → AnswersText answers (Err f) → IsExactFor value (Err f)
+      → {r : Result (String Global) ParseFailure} → IsErr r × IsErrAnd r (λ g. g ≡ f)
+      → AnswersByText answers value text_of r
+  refused_text own exact {r} is =
+      handed_on (AnswersByText answers value text_of) r is
+      (λ g same. rw same (record {
+        answer = own;
+        exact = record { alike = alike; complete = exact.complete };
+      }))
 
-    -- else the text of the value is, or memory is wanted for it
-    pub given_text : {v : V} → IsExactFor value (Ok v) → (r : Result (String Global) ParseFailure)
-        → IsTextOrWant (text_of v) r → AnswersByText value text_of r
-    given_text {v} exact (Ok text) is = record {
-      given = (v, exact.sound, is);
-      exact = text_answered text_of alike v exact.sound text is;
-    }
-    given_text exact (Err f) is =
-        record { given = tt; exact = record { alike = alike; complete = λ w there. is } }
+  -- else the text of the value is, or memory is wanted for it
+  pub given_text : {v : V} → answers (text_of v) → IsExactFor value (Ok v)
+      → (r : Result (String Global) ParseFailure) → IsTextOrWant (text_of v) r
+      → AnswersByText answers value text_of r
+  given_text {v} own exact r is = record {
+    answer = text_answers answers (text_of v) own r is;
+    exact = record {
+      alike = alike;
+      complete = λ w there. subst (λ text. IsTextOrWant text r) (alike v w exact.sound there) is;
+    };
+  }
+
+-- so it is where any page may be shown
+pub refused_page : {said : List ℕ → Type 0} {V : Type 0} {value : V → Type 0}
+    {text_of : V → List ℕ} → Alike text_of value → {f : ParseFailure} → IsExactFor value (Err f)
+    → {r : Result (String Global) ParseFailure} → IsErr r × IsErrAnd r (λ g. g ≡ f)
+    → AnswersByText (OrPage said) value text_of r
+refused_page {said} alike {f} exact is = refused_text alike (page_answers said f) exact is

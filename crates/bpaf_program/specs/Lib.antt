@@ -1,3 +1,4 @@
+pub mod Sink
 pub mod Ending
 pub mod Words
 pub mod Running

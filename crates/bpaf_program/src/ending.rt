@@ -1,30 +1,30 @@
 //! The end of a program: the value, or its text is written and its status told.
-ghost use Rattle.std.specs.Prelude.{ℕ, List, Option, string_bytes};
-ghost use Rattle.bpaf_line.specs.declared.failure.ParseFailure.{ParseFailure};
-ghost use Rattle.bpaf_line.specs.declared.failure.ParseFailure.TheVariants.{Stderr, Stdout};
-ghost use Rattle.bpaf_program.specs.Ending.{EndsBy, IsPrinted, IsTold};
+ghost use Rattle.std.specs.Prelude.{string_bytes, true};
+ghost use Rattle.bpaf_doc.specs.Print.{printed};
+ghost use Rattle.bpaf_program.specs.Ending.{EndsBy, IsPrinted, IsShown, IsTold, TellsLine};
+ghost use Rattle.bpaf_program.specs.Ending.{error_line, memory_line};
+ghost use Rattle.bpaf_program.specs.Sink.{wrote};
 
-use crate::writing::{write_error, write_text};
+use crate::sink::Sink;
+use crate::writing::{write_doc, write_message, write_text};
 use bpaf::{Doc, ParseFailure};
-use std::io::Write;
 
 /// The value of an answer; or, where it has none, what it shows on `out` or tells on `err`, and the
 /// status with which the program is to end: 0 after a text that was asked for, else 1.
 ///
 /// A message stands behind `Error: ` on a line of its own; want of memory is told as
-/// `Error: out of memory`, also where it is wanted for the text. No write follows one that failed.
-/// With a value nothing is written.
+/// `Error: out of memory`. No memory is wanted for that. No write follows one that failed. With a
+/// value nothing is written.
 ///
 /// ```text
 /// let options = end(options.run_inner(args), out, err)?;
 /// ```
-pub fn end<T, W: Write, E: Write>(
+pub fn end<T, S: Sink, E: Sink>(
     answer: Result<T, ParseFailure>,
-    out: &mut W,
+    out: &mut S,
     err: &mut E,
 ) -> Result<T, u8>
-    ensures { EndsBy (W.contents out.old) (W.contents out.new) (E.contents err.old)
-        (E.contents err.new) answer result }
+    ensures { EndsBy (wrote S.known out.old out.new) (wrote E.known err.old err.new) answer result }
 {
     match answer {
         Ok(value) => Ok(value),
@@ -38,13 +38,9 @@ pub fn end<T, W: Write, E: Write>(
 /// ```text
 /// print(lines_of(alloc, words), out, err)
 /// ```
-pub fn print<W: Write, E: Write>(
-    answer: Result<String, ParseFailure>,
-    out: &mut W,
-    err: &mut E,
-) -> u8
-    ensures { IsPrinted (W.contents out.old) (W.contents out.new) (E.contents err.old)
-        (E.contents err.new) string_bytes answer result }
+pub fn print<S: Sink, E: Sink>(answer: Result<String, ParseFailure>, out: &mut S, err: &mut E) -> u8
+    ensures { IsPrinted (wrote S.known out.old out.new) (wrote E.known err.old err.new)
+        string_bytes answer result }
 {
     match end(answer, out, err) {
         Ok(text) => match write_text(text.as_str().as_bytes(), out) {
@@ -56,48 +52,39 @@ pub fn print<W: Write, E: Write>(
 }
 
 /// Shows what was asked for on `out`, or tells a refusal on `err`, and gives the status.
-fn tell<W: Write, E: Write>(failure: ParseFailure, out: &mut W, err: &mut E) -> u8
-    ensures { IsTold (W.contents out.old) (W.contents out.new) (E.contents err.old)
-        (E.contents err.new) failure result }
+fn tell<S: Sink, E: Sink>(failure: ParseFailure, out: &mut S, err: &mut E) -> u8
+    ensures { IsTold (wrote S.known out.old out.new) (wrote E.known err.old err.new) failure
+        result }
 {
     match failure {
-        ParseFailure::Stdout(doc, full) => show(doc, full, out, err),
+        ParseFailure::Stdout(doc, full) => show(doc, full, out),
         ParseFailure::Stderr(doc) => refuse(doc, err),
         ParseFailure::Memory => tell_want(err),
     }
 }
 
 /// Shows a text that was asked for, as it stands.
-fn show<W: Write, E: Write>(doc: Doc, full: bool, out: &mut W, err: &mut E) -> u8
-    ensures { IsTold (W.contents out.old) (W.contents out.new) (E.contents err.old)
-        (E.contents err.new) (Stdout doc full) result }
+fn show<S: Sink>(doc: Doc, full: bool, out: &mut S) -> u8
+    ensures { IsShown (wrote S.known out.old out.new) (printed full doc) result }
 {
-    let Ok(text) = doc.monochrome(full) else {
-        return tell_want(err);
-    };
-    match write_text(text.as_str().as_bytes(), out) {
+    match write_doc(&doc, full, out) {
         Ok(()) => 0,
         Err(_) => 1,
     }
 }
 
 /// Tells a message.
-fn refuse<E: Write>(doc: Doc, err: &mut E) -> u8
-    ensures { (out : Option (List ℕ))
-        → IsTold out out (E.contents err.old) (E.contents err.new) (Stderr doc) result }
+fn refuse<E: Sink>(doc: Doc, err: &mut E) -> u8
+    ensures { TellsLine (wrote E.known err.old err.new) (error_line (printed true doc)) result }
 {
-    let Ok(text) = doc.monochrome(true) else {
-        return tell_want(err);
-    };
-    let _ = write_error(text.as_str(), err);
+    let _ = write_message(&doc, err);
     1
 }
 
 /// Tells that memory was wanted.
-fn tell_want<E: Write>(err: &mut E) -> u8
-    ensures { (out : Option (List ℕ)) (f : ParseFailure)
-        → IsTold out out (E.contents err.old) (E.contents err.new) f result }
+fn tell_want<E: Sink>(err: &mut E) -> u8
+    ensures { TellsLine (wrote E.known err.old err.new) memory_line result }
 {
-    let _ = write_error("out of memory", err);
+    let _ = write_text("Error: out of memory\n".as_bytes(), err);
     1
 }

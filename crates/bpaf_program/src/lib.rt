@@ -10,6 +10,8 @@
 //! - [`end`] does so with the answer of any run, and [`print`] prints the text of an answer and
 //!   gives the status (`IsPrinted`). [`write_text`] writes a text of which, where a write fails, a
 //!   beginning stands there and nothing behind it.
+//! - Each takes a [`Sink`], of whose writes a contract can say that the last one failed (`Failed`,
+//!   specs/Sink.antt). Any `Write` is one, of which nothing is known but its bytes.
 //! - [`push_lines`] appends a line for each of some texts.
 //! - [`key`] is a key of a letter and a name, and [`command`] a command over a parser, without help.
 //! - [`words`] are the words of the process.
@@ -33,6 +35,7 @@ mod lines;
 mod making;
 mod options;
 mod process;
+mod sink;
 mod writing;
 
 pub use ending::{end, print};
@@ -40,4 +43,5 @@ pub use lines::push_lines;
 pub use making::{command, key};
 pub use options::{Program, run_program, run_record};
 pub use process::words;
+pub use sink::Sink;
 pub use writing::write_text;

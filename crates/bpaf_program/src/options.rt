@@ -4,11 +4,12 @@ ghost use Rattle.std.specs.Result.{IfErr};
 ghost use Rattle.bpaf_words.specs.Arguments.{given_of};
 ghost use Rattle.bpaf.specs.Run.{IsNotWant};
 ghost use Rattle.bpaf_program.specs.Ending.{Ends};
+ghost use Rattle.bpaf_program.specs.Sink.{wrote};
 
 use crate::ending::end;
+use crate::sink::Sink;
 use bpaf::{Args, OptionParser, ParseFailure, Parser};
 use bpaf_record::{CommandLine, Record};
-use std::io::Write;
 
 /// Options that a program runs over its words.
 pub trait Program<T> {
@@ -28,15 +29,15 @@ pub trait Program<T> {
     /// Status 0: the text that was asked for stands on `out`, and nothing new on `err`. Status 1:
     /// on `out` is nothing, or after a failed write a beginning of that text; on `err` stands
     /// `Error: `, the message and a line break, or a beginning of that where a write failed. Want
-    /// of memory is told as `Error: out of memory`.
+    /// of memory is told as `Error: out of memory`. No write follows one that failed.
     ///
     /// ```text
     /// let options = options.run(Args::from(words), out, err)?;
     /// ```
-    fn run<W: Write, E: Write>(&self, args: Args<'_>, out: &mut W, err: &mut E) -> Result<T, u8>
+    fn run<S: Sink, E: Sink>(&self, args: Args<'_>, out: &mut S, err: &mut E) -> Result<T, u8>
         requires { can_run self.now }
-        ensures { Ends (answers self.now (given_of args.entry)) (W.contents out.old)
-            (W.contents out.new) (E.contents err.old) (E.contents err.new) result };
+        ensures { Ends (answers self.now (given_of args.entry)) (wrote S.known out.old out.new)
+            (wrote E.known err.old err.new) result };
 }
 
 impl<T: Drop, P: Parser<T>> Program<T> for OptionParser<T, P> {
@@ -51,7 +52,7 @@ impl<T: Drop, P: Parser<T>> Program<T> for OptionParser<T, P> {
         × (IfErr r (IsOneOfTwelve (P.outcome p.inner) (P.describes p.inner) p.info given)
         × IfOk r (IsDealtOut T (P.reads p.inner) (P.describes p.inner) p.info given)) };
 
-    fn run<W: Write, E: Write>(&self, args: Args<'_>, out: &mut W, err: &mut E) -> Result<T, u8> {
+    fn run<S: Sink, E: Sink>(&self, args: Args<'_>, out: &mut S, err: &mut E) -> Result<T, u8> {
         end(self.run_inner(args), out, err)
     }
 }
@@ -65,10 +66,10 @@ impl<T: Drop, P: Parser<T>> Program<T> for OptionParser<T, P> {
 /// ```text
 /// let options = run_record(&options, Args::from(words), out, err)?;
 /// ```
-pub fn run_record<T: Drop, R: Record<T>, W: Write, E: Write>(
+pub fn run_record<T: Drop, R: Record<T>, S: Sink, E: Sink>(
     options: &R,
     args: Args<'_>,
-    out: &mut W,
+    out: &mut S,
     err: &mut E,
 ) -> Result<T, u8>
     requires can { R.can_run options.now }
@@ -79,7 +80,7 @@ pub fn run_record<T: Drop, R: Record<T>, W: Write, E: Write>(
         × ((IsNotWant r → R.answers_spared options.now (given_of args.entry) r)
         × ((R.agrees options.now → IfOk r (R.says options.now (given_of args.entry)))
         × (R.agrees options.now → R.answers_exactly options.now (given_of args.entry) r))))))
-        (W.contents out.old) (W.contents out.new) (E.contents err.old) (E.contents err.new) result }
+        (wrote S.known out.old out.new) (wrote E.known err.old err.new) result }
 {
     end(options.run_record(args), out, err)
 }
@@ -87,16 +88,16 @@ pub fn run_record<T: Drop, R: Record<T>, W: Write, E: Write>(
 /// The value that the words give a program with commands, as [`Program::run`], and exactly.
 ///
 /// Where the program has a value on the words' line, only want of memory keeps a value from coming:
-/// the status is 1, and on `err` stands `Error: out of memory`, or a beginning of that where a write
-/// failed.
+/// the status is 1, and on `err` stands `Error: out of memory`, or a beginning of that where a
+/// write failed.
 ///
 /// ```text
 /// let options = run_program(&options, Args::from(words), out, err)?;
 /// ```
-pub fn run_program<T: Drop, R: CommandLine<T>, W: Write, E: Write>(
+pub fn run_program<T: Drop, R: CommandLine<T>, S: Sink, E: Sink>(
     options: &R,
     args: Args<'_>,
-    out: &mut W,
+    out: &mut S,
     err: &mut E,
 ) -> Result<T, u8>
     requires can { R.can_run options.now }
@@ -107,7 +108,7 @@ pub fn run_program<T: Drop, R: CommandLine<T>, W: Write, E: Write>(
         × ((IsNotWant r → R.answers_spared options.now (given_of args.entry) r)
         × ((R.agrees options.now → IfOk r (R.tells options.now (given_of args.entry)))
         × (R.agrees options.now → R.answers_as_program options.now (given_of args.entry) r))))))
-        (W.contents out.old) (W.contents out.new) (E.contents err.old) (E.contents err.new) result }
+        (wrote S.known out.old out.new) (wrote E.known err.old err.new) result }
 {
     end(options.run_program(args), out, err)
 }

@@ -52,8 +52,11 @@ fn answered(
     }
 }
 
-/// What stands on a writer.
+/// What stands on a writer, on which no write followed one that failed.
 fn standing(writer: Narrow) -> Result<String, &'static str> {
+    if writer.late {
+        return Err("a write behind one that failed");
+    }
     String::from_utf8(writer.taken).map_err(|_| "no text")
 }
 
@@ -91,25 +94,31 @@ fn runs_end_with_a_value_or_a_status(rt: HostRuntime) -> Result<(), Fail> {
     Ok(())
 }
 
-/// How a text is printed, or that memory was wanted, on writers with so much room.
-fn printed(alloc: Global, text: Option<&str>, room: usize) -> Result<String, Fail> {
+/// How a text is printed, or that memory was wanted, on writers with so much room, each of which
+/// fails at the call of this number, or at none where it is 0.
+fn printed(alloc: Global, text: Option<&str>, room: usize, failing: u64) -> Result<String, Fail> {
     let answer = match text {
         Some(text) => Ok(String::from_str(alloc, text)?),
         None => Err(ParseFailure::Memory),
     };
-    let mut out = Narrow::new(alloc, room, 0);
-    let mut err = Narrow::new(alloc, room, 0);
+    let mut out = Narrow::new(alloc, room, failing);
+    let mut err = Narrow::new(alloc, room, failing);
     let status = print(answer, &mut out, &mut err);
     shown(alloc, Err::<u64, u8>(status), out, err)
 }
 
 #[test]
 fn texts_are_printed(rt: HostRuntime) -> Result<(), Fail> {
-    let whole = printed(rt.alloc(), Some("a b\n"), 4)?;
-    assert_eq!(rt; whole.as_str(), "Err(0)|a b\n|");
-    let part = printed(rt.alloc(), Some("a b\n"), 3)?;
-    assert_eq!(rt; part.as_str(), "Err(1)|a b|");
-    let want = printed(rt.alloc(), None, 40)?;
-    assert_eq!(rt; want.as_str(), "Err(1)||Error: out of memory\n");
+    let rows = [
+        (Some("a b\n"), 4, 0, "Err(0)|a b\n|"),
+        (Some("a b\n"), 3, 0, "Err(1)|a b|"),
+        (Some("a b\n"), 4, 2, "Err(1)|a |"),
+        (None, 40, 0, "Err(1)||Error: out of memory\n"),
+        (None, 40, 3, "Err(1)||Erro"),
+    ];
+    for (text, room, failing, wanted) in rows {
+        let found = printed(rt.alloc(), text, room, failing)?;
+        assert_eq!(rt; found.as_str(), wanted);
+    }
     Ok(())
 }

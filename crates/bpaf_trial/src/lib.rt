@@ -1,11 +1,11 @@
-//! What tests need: comparisons, and runs of a program over writers that can be made to fail.
+//! What tests need: comparisons, runs of a program, and a writer that can be made to fail.
 //!
 //! It stands on `std` alone, and no library or program stands on it but for tests. It has no
 //! contract but that each call returns: what it tells is compared by tests.
 //!
 //! - [`reads`] compares a text with the wanted one, and [`prints`] what Rust's Debug prints.
-//! - A program gives its `run` by [`Tried`]; then [`ran`] tells what stands on its two writers, and
-//!   [`stops_where_a_write_fails`] tries each of its writes in turn.
+//! - A program gives its `run` by [`Tried`]; then [`ran`] tells what stands on its two writers.
+//! - A [`Narrow`] takes little at a time, and fails where it is told to.
 //!
 //! ```text
 //! struct Program;
@@ -32,4 +32,4 @@ mod outcome;
 
 pub use compared::{prints, reads};
 pub use narrow::Narrow;
-pub use outcome::{Tried, Written, ran, ran_in, stops_where_a_write_fails};
+pub use outcome::{Tried, Written, ran};

@@ -1,4 +1,4 @@
-//! What a program writes on a line of words, and that it stops where a write fails.
+//! What a program writes on a line of words.
 use crate::narrow::Narrow;
 use std::alloc::{AllocError, Global};
 use std::io::Write;
@@ -24,8 +24,6 @@ pub struct Written {
     pub err: Vec<u8>,
     /// The status, from 0 to 255.
     pub status: u8,
-    /// Whether a write followed one that failed.
-    pub late: bool,
 }
 
 impl Written {
@@ -42,20 +40,6 @@ impl Written {
         let line = line.and_then(|rest| rest.strip_suffix(b"\n"));
         self.status == 1 && self.out.is_empty() && line == Some(message.as_bytes())
     }
-
-    /// How many bytes stand on the two writers.
-    pub fn len(&self) -> usize {
-        self.out.len().saturating_add(self.err.len())
-    }
-
-    /// Whether the status is 1, no write followed one that failed, and what stands on the writers
-    /// are beginnings of what stands on those of another run.
-    pub fn stops_within(&self, whole: &Written) -> bool {
-        self.status == 1
-            && !self.late
-            && whole.out.as_slice().starts_with(self.out.as_slice())
-            && whole.err.as_slice().starts_with(self.err.as_slice())
-    }
 }
 
 /// Words that are written with a space between each two; none for the empty text.
@@ -69,49 +53,15 @@ fn owned(alloc: Global, words: &str) -> Result<Vec<String>, AllocError> {
     Ok(all)
 }
 
-/// What a program writes on words, which are parted by single spaces, on two writers with so much
-/// room, each of which fails at the call of this number, or at none where it is 0.
-pub fn ran_in<P: Tried>(
-    alloc: Global,
-    program: &P,
-    words: &str,
-    room: usize,
-    failing: u64,
-) -> Result<Written, AllocError> {
+/// What a program writes on words, which are parted by single spaces.
+pub fn ran<P: Tried>(alloc: Global, program: &P, words: &str) -> Result<Written, AllocError> {
     let words = owned(alloc, words)?;
-    let mut out = Narrow::new(alloc, room, failing);
-    let mut err = Narrow::new(alloc, room, failing);
+    let mut out = Narrow::new(alloc, usize::MAX, 0);
+    let mut err = Narrow::new(alloc, usize::MAX, 0);
     let status = program.run(alloc, words.as_slice(), &mut out, &mut err);
-    let late = out.late || err.late || (out.failed && err.called);
     Ok(Written {
         out: out.taken,
         err: err.taken,
         status,
-        late,
     })
-}
-
-/// What a program writes on words, which are parted by single spaces.
-pub fn ran<P: Tried>(alloc: Global, program: &P, words: &str) -> Result<Written, AllocError> {
-    ran_in(alloc, program, words, usize::MAX, 0)
-}
-
-/// How many writes a program makes on words, where each of them, made to fail, ends it: with the
-/// status 1, a beginning of what it writes otherwise, and no write behind. None where one doesn't.
-pub fn stops_where_a_write_fails<P: Tried>(
-    alloc: Global,
-    program: &P,
-    words: &str,
-) -> Result<Option<u64>, AllocError> {
-    let whole = ran(alloc, program, words)?;
-    for call in 1..u64::MAX {
-        let part = ran_in(alloc, program, words, usize::MAX, call)?;
-        if part.len() == whole.len() {
-            return Ok(Some(call - 1));
-        }
-        if !part.stops_within(&whole) {
-            return Ok(None);
-        }
-    }
-    Ok(None)
 }

@@ -1,7 +1,7 @@
 -- What a run of the program does.
 use Rattle.std.specs.Prelude.{ℕ, List, Result}
 use Rattle.bpaf_line.specs.declared.failure.ParseFailure.{ParseFailure}
-use Rattle.bpaf_program.specs.Running.{AnswersByText, IsTextOf}
+use Rattle.bpaf_program.specs.Running.{AnswersByText, IsTextOf, OrPage}
 use Rattle.bpaf_program.specs.Values.{String}
 use Rattle.example_notes.specs.Lines.{lines}
 use Rattle.example_notes.specs.Notes.{IsNotesOf}
@@ -10,6 +10,7 @@ use Rattle.example_notes.specs.Notes.{IsNotesOf}
 abbrev pub AreLinesOf : (words : List (List ℕ)) (text : List ℕ) → Type 0
 AreLinesOf words = IsTextOf (IsNotesOf words) lines
 
--- an answer to words is the lines of a value; and where there is one, of one, or want of memory
+-- an answer to words is the lines of a value, or a page; and where there is one, its lines, or want
+-- of memory
 abbrev pub AnswersLines : List (List ℕ) → Result String ParseFailure → Type 0
-AnswersLines words = AnswersByText (IsNotesOf words) lines
+AnswersLines words = AnswersByText (OrPage (AreLinesOf words)) (IsNotesOf words) lines

@@ -1,5 +1,5 @@
-use Rattle.std.proofs.Common.{map, string_bytes, subst, sym}
-use Rattle.bpaf_program.proofs.Running.{handed_on, refusal_answers}
+use Rattle.std.proofs.Common.{map, string_bytes}
+use Rattle.bpaf_program.proofs.Running.{handed_on, refusal_answers, text_answers}
 use Rattle.bpaf_program.specs.Running.{AnswersText}
 use Rattle.bpaf_chain.specs.Running.{Answers, help, steps}
 use Rattle.bpaf_chain.specs.Shown.{IsHelpAsked}
@@ -12,13 +12,8 @@ returns-in_err-steps c =
     (λ f is. rw is (refusal_answers (Answers words) (IsHelpAsked words) help _
     c.in_err-steps.ensures.asked))
 
-pub returns-in_err-text_of : goal.returns-in_err-text_of
-returns-in_err-text_of c =
-    handed_on (AnswersText (Answers (map string_bytes c.args.words.now)))
-    c.from_residual-in_err-text_of.result c.from_residual-in_err-text_of.ensures (λ f is. rw is tt)
-
 pub returns : goal.returns
 returns c =
-    subst (Answers (map string_bytes c.args.words.now))
-    (sym (rw c.as_slice.ensures.value at c.in_ok-text_of.ensures))
-    (steps c.in_ok-steps.steps c.in_ok-steps.ensures.dealt)
+    text_answers (Answers (map string_bytes c.args.words.now)) _
+    (steps c.in_ok-steps.steps c.in_ok-steps.ensures.dealt) _
+    (rw c.as_slice.ensures.value at c.text_of.ensures)

@@ -1,23 +1,24 @@
-use Rattle.bpaf_program.specs.Ending.{printed_in_part, printed_whole, told}
+use Rattle.bpaf_program.specs.Ending.{given, in_part, told, whole}
 use Rattle.bpaf_program.proofs.Ended.{ended_status, ended_value}
-use Rattle.bpaf_program.proofs.Parts.{kept_then, kept_then_part}
 use Rattle.bpaf_program.proofs.ending.print.Goals as goal
 
 pub returns-in-Ok-write_text : goal.returns-in-Ok-write_text
 returns-in-Ok-write_text g c =
-    let i = ended_value _ _ _ _ c.args.answer c.end.result c.end.ensures c.in-Ok.text c.in-Ok.is in
-    rw i.0 (printed_whole (kept_then _ _ _ _ i.1.0
-    (rw (c.as_bytes.ensures.value, c.as_str.ensures.value) at c.in-Ok-write_text.ensures.whole))
+    let i = ended_value _ _ c.args.answer c.end.result c.end.ensures c.in-Ok.text c.in-Ok.is in
+    rw i.0 (given (whole
+    (rw (i.1.0, c.as_bytes.ensures.value, c.as_str.ensures.value) at
+    c.in-Ok-write_text.ensures.whole))
     i.1.1)
 
 pub returns-in-Ok : goal.returns-in-Ok
 returns-in-Ok g c =
-    let i = ended_value _ _ _ _ c.args.answer c.end.result c.end.ensures c.in-Ok.text c.in-Ok.is in
-    rw i.0 (printed_in_part (kept_then_part _ _ _ _ i.1.0
-    (rw (c.as_bytes.ensures.value, c.as_str.ensures.value) at
-    c.in-Err-write_text.ensures.part)) i.1.1)
+    let i = ended_value _ _ c.args.answer c.end.result c.end.ensures c.in-Ok.text c.in-Ok.is in
+    rw i.0 (given (in_part
+    (rw (i.1.0, c.as_bytes.ensures.value, c.as_str.ensures.value) at
+    c.in-Err-write_text.ensures.part))
+    i.1.1)
 
 pub returns : goal.returns
 returns g c =
-    let i = ended_status _ _ _ _ c.args.answer c.end.result c.end.ensures _ c.in-Err.is in
+    let i = ended_status _ _ c.args.answer c.end.result c.end.ensures _ c.in-Err.is in
     rw i.1 (told {f = i.0} i.2)

@@ -1,8 +1,7 @@
-use Rattle.std.proofs.KnownBytes.{Keeps-refl}
-use Rattle.bpaf_program.specs.Ending.{no_memory}
-use Rattle.bpaf_program.proofs.Parts.{up_to}
+use Rattle.bpaf_program.proofs.Parts.{line_told}
 use Rattle.bpaf_program.proofs.ending.tell_want.Goals as goal
 
 pub returns : goal.returns
-returns g c = λ out f. no_memory (Keeps-refl out)
-    (up_to c.write_error.result _ _ _ c.write_error.ensures.whole c.write_error.ensures.part)
+returns g c =
+    line_told c.write_text.result _ _ (rw c.as_bytes.ensures.value at c.write_text.ensures.whole)
+    (rw c.as_bytes.ensures.value at c.write_text.ensures.part)
