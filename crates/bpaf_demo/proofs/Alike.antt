@@ -3,8 +3,8 @@ use Rattle.std.proofs.Common.{◌++◌, ℕ, Bool, List, [], ◌∷◌, All, IsU
 use Rattle.std.specs.Fmt.{decimal}
 use Rattle.bpaf_exact.specs.OneView.{Alike}
 use Rattle.bpaf_program.specs.Lines.{line, truth}
-use Rattle.bpaf_program.proofs.Seen.{IsSeen, alone_seen, both_seen, con_seen, field_seen}
-use Rattle.bpaf_program.proofs.Seen.{many_seen, number_seen, reads_one, switch_seen, text_word_seen}
+use Rattle.bpaf_program.proofs.LookAlike.{IsSeen, alone_seen, both_seen, con_seen, field_seen}
+use Rattle.bpaf_program.proofs.LookAlike.{many_seen, number_seen, reads_one, switch_seen, text_word_seen}
 use Rattle.bpaf_demo.specs.Exact.{IsOptionsOf, options_form}
 use Rattle.bpaf_demo.specs.Lines.{file_lines, lines}
 use Rattle.bpaf_demo.specs.Record.{num_names, number_key, options_of, program_given, program_known}

@@ -16,7 +16,7 @@ use Rattle.bpaf_core.specs.declared.repeat.ParseMany.{ParseMany}
 use Rattle.bpaf_core.specs.Known.{known_names}
 use Rattle.bpaf.specs.declared.leaves.positional.ParsePositional.{ParsePositional}
 use Rattle.bpaf.specs.declared.leaves.positional.Position.TheVariants.{Unrestricted}
-use Rattle.bpaf_exact.specs.Derived.{list_closure}
+use Rattle.bpaf_exact.specs.Gathered.{list_closure}
 use Rattle.bpaf_exact.specs.FlatForm.{product_reading, product_roles}
 use Rattle.bpaf_exact.specs.ProgramForm.{ProgramForm, flat_form, plain, program_alone, program_both}
 use Rattle.bpaf_exact.specs.ProgramForm.{program_con, program_field, program_repeat}

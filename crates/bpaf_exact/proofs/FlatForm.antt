@@ -13,7 +13,7 @@ use Rattle.bpaf_exact.specs.Flat.{Before, FieldLaw, FieldsLaw, both_reading, key
 use Rattle.bpaf_exact.specs.Single.{RepeatOutcome, repeated}
 use Rattle.bpaf_exact.specs.Wrappers.{Closure, Decides, map_closure, ClosedEval, OptionalEval}
 use Rattle.bpaf_exact.specs.Wrappers.{FallbackEval}
-use Rattle.bpaf_exact.specs.Derived.{some_closure}
+use Rattle.bpaf_exact.specs.Gathered.{some_closure}
 use Rattle.bpaf_exact.specs.FlatForm.{FlatForm, not_flat, alternative, single, complete, product}
 use Rattle.bpaf_exact.specs.FlatForm.{FormLaw, Agrees, only_if, flat_closed}
 use Rattle.bpaf_exact.specs.FlatForm.{flat_either, flat_choice, alternative_only, flat_repeat}
@@ -27,7 +27,7 @@ use Rattle.bpaf_exact.proofs.Alternative.{alternative_single, closed_alternative
 use Rattle.bpaf_exact.proofs.Choice.{choice_law}
 use Rattle.bpaf_exact.proofs.Repeat.{repeat_law}
 use Rattle.bpaf_exact.proofs.Wrappers.{closed_law, single_law, optional_law, fallback_law}
-use Rattle.bpaf_exact.proofs.Derived.{some_agrees_on, last_of_law}
+use Rattle.bpaf_exact.proofs.Gathered.{some_agrees_on, last_of_law}
 use Rattle.bpaf_exact.proofs.NamedProducts.{named_both_law, named_con_law, named_last_law}
 use Rattle.bpaf_exact.proofs.Product.{both_law}
 use Rattle.bpaf_exact.proofs.Records.{con_law, last_law}

@@ -10,7 +10,7 @@ pub mod Product
 pub mod Repeat
 pub mod Wrappers
 pub mod Alternative
-pub mod Derived
+pub mod Gathered
 pub mod Matching
 pub mod Flags
 pub mod ArgumentPieces
@@ -26,7 +26,7 @@ pub mod Variables
 pub mod Environments
 pub mod FlatForm
 pub mod Exact
-pub mod Twins
+pub mod ByTables
 pub mod SameParts
 pub mod WorkedRows
 pub mod OneView
@@ -36,7 +36,7 @@ pub mod Surplus
 pub mod Sharing
 pub mod Says
 pub mod Keeping
-pub mod Told
+pub mod PieceByPiece
 pub mod Needed
 pub mod Programs
 pub mod BeforeCommands

@@ -17,7 +17,7 @@ use Rattle.bpaf_exact.specs.Single.{SingleValue, of_group, of_gap, OwnList, list
 use Rattle.bpaf_exact.specs.Single.{listed_and_absent, only_absent}
 use Rattle.bpaf_exact.specs.Wrappers.{Closure, OptionalValue, some_value, no_value, FallbackValue}
 use Rattle.bpaf_exact.specs.Wrappers.{own_value, kept_value}
-use Rattle.bpaf_exact.specs.Derived.{LastOf, list_closure}
+use Rattle.bpaf_exact.specs.Gathered.{LastOf, list_closure}
 use Rattle.bpaf_exact.specs.Alternative.{pick_type}
 use Rattle.bpaf_exact.specs.Leaves.{FlagValue, ArgumentValue, WordValue, flag_field}
 use Rattle.bpaf_exact.specs.Leaves.{LastGroup, SideValue, argument_by, argument_field}

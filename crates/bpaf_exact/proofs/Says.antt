@@ -14,7 +14,7 @@ use Rattle.bpaf_exact.specs.Single.{listed_and_absent, only_absent, SingleValue,
 use Rattle.bpaf_exact.specs.Single.{no_gap, repeated}
 use Rattle.bpaf_exact.specs.Wrappers.{Closure, OptionalValue, some_value, no_value, FallbackValue}
 use Rattle.bpaf_exact.specs.Wrappers.{own_value, kept_value}
-use Rattle.bpaf_exact.specs.Derived.{LastOf}
+use Rattle.bpaf_exact.specs.Gathered.{LastOf}
 use Rattle.bpaf_exact.specs.Alternative.{pick_type}
 use Rattle.bpaf_exact.specs.Leaves.{flag_field, flag_gap, FlagValue, argument_field, argument_by}
 use Rattle.bpaf_exact.specs.Leaves.{argument_gap, argument_group, variable_argument, variable_flag}

@@ -7,7 +7,7 @@ use Rattle.bpaf_exact.specs.Single.{Groups, Gap, FrontOf, own_none, own_more, Ow
 use Rattle.bpaf_exact.specs.Single.{listed_and_absent, only_absent, SingleValue, of_group, of_gap}
 use Rattle.bpaf_exact.specs.Wrappers.{Closure, OptionalValue, some_value}
 use Rattle.bpaf_exact.specs.Wrappers.{no_value, FallbackValue, own_value, kept_value}
-use Rattle.bpaf_exact.specs.Derived.{LastOf}
+use Rattle.bpaf_exact.specs.Gathered.{LastOf}
 use Rattle.bpaf_exact.specs.Alternative.{HasBad}
 use Rattle.bpaf_exact.specs.Record.{last_reading}
 use Rattle.bpaf_exact.specs.Leaves.{flag_by, argument_by, word_field}

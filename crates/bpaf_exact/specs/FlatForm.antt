@@ -11,8 +11,8 @@ use Rattle.bpaf_exact.specs.Single.{Groups, Gap, FrontOf, no_gap, SingleLaw, Sin
 use Rattle.bpaf_exact.specs.Single.{repeated}
 use Rattle.bpaf_exact.specs.Wrappers.{Closure, AgreesOn, ClosedPiece, ClosedGroup, closed_gap}
 use Rattle.bpaf_exact.specs.Wrappers.{ClosedValue, OptionalValue, FallbackValue}
-use Rattle.bpaf_exact.specs.Derived.{LastOf, list_closure, some_closure, count_closure}
-use Rattle.bpaf_exact.specs.Derived.{collect_closure}
+use Rattle.bpaf_exact.specs.Gathered.{LastOf, list_closure, some_closure, count_closure}
+use Rattle.bpaf_exact.specs.Gathered.{collect_closure}
 use Rattle.bpaf_exact.specs.Alternative.{AlternativeLaw, either_value}
 use Rattle.bpaf_exact.specs.Record.{last_reading}
 

@@ -5,7 +5,7 @@ pub mod Single
 pub mod Wrappers
 pub mod Alternative
 pub mod Record
-pub mod Derived
+pub mod Gathered
 pub mod FlatForm
 pub mod Leaves
 pub mod Theorem

@@ -12,7 +12,7 @@ use Rattle.bpaf_exact.specs.Flat.{FieldKind, ByName, OneWord, EachWord, front, b
 use Rattle.bpaf_exact.specs.Single.{Own}
 use Rattle.bpaf_exact.specs.Leaves.{HaveValues, stands_behind}
 use Rattle.bpaf_exact.specs.Wrappers.{Closure}
-use Rattle.bpaf_exact.specs.Derived.{IsLast}
+use Rattle.bpaf_exact.specs.Gathered.{IsLast}
 use Rattle.bpaf_exact.specs.FlatForm.{FlatForm, not_flat, alternative, single, complete, product}
 
 -- The pieces of a field's own.

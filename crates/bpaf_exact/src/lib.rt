@@ -13,7 +13,7 @@
 //!   `AlternativeLaw` (specs/Alternative.antt).
 //! - What a parser is to a flat record is its `FlatForm`: how it reads its pieces. Each combinator
 //!   is a function on forms; what isn't flat computes to `not_flat` (specs/FlatForm.antt,
-//!   specs/Leaves.antt, specs/Wrappers.antt, specs/Derived.antt). Keys are kept apart by their
+//!   specs/Leaves.antt, specs/Wrappers.antt, specs/Gathered.antt). Keys are kept apart by their
 //!   names (specs/Names.antt).
 //! - The value of a record on a line is read off the pieces of its cut (specs/Record.antt), and
 //!   each answer of a run is exact (specs/Theorem.antt).
@@ -38,6 +38,6 @@
 //!   stands in specs/ProgramSays.antt and proofs/ProgramSays.antt.
 //!
 //! Proofs that closures, repeats, choices and products keep to these laws by their tables stand in
-//! proofs/: proofs/Twins.antt, proofs/ProgramForm.antt and proofs/FlatForm.antt have one lemma for
+//! proofs/: proofs/ByTables.antt, proofs/ProgramForm.antt and proofs/FlatForm.antt have one lemma for
 //! each type of parser, proofs/Exact.antt the theorem of flat records.
 #![tactic(auto)]

@@ -3,8 +3,8 @@ use Rattle.std.proofs.Common.{◌++◌, All, Bool, IsUtf8, List, ap, codes, fals
 use Rattle.std.proofs.Common.{true, ℕ}
 use Rattle.bpaf_exact.specs.OneView.{Alike}
 use Rattle.bpaf_program.specs.Lines.{line, truth}
-use Rattle.bpaf_program.proofs.Seen.{alone_seen, both_seen, con_seen, field_seen, many_seen}
-use Rattle.bpaf_program.proofs.Seen.{side_word_seen, switch_seen}
+use Rattle.bpaf_program.proofs.LookAlike.{alone_seen, both_seen, con_seen, field_seen, many_seen}
+use Rattle.bpaf_program.proofs.LookAlike.{side_word_seen, switch_seen}
 use Rattle.bpaf_program.proofs.SeenPrograms.{program_looks_one, record_look}
 use Rattle.bpaf_launch.specs.Dealing.{dry_run_names, launch_of, program_given, program_known}
 use Rattle.bpaf_launch.specs.Dealing.{verbose_names}

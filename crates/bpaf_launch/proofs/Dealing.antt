@@ -27,7 +27,7 @@ use Rattle.bpaf.specs.declared.leaves.positional.Position.TheVariants.{Strict, N
 use Rattle.bpaf.specs.Marker.{words_before, words_behind}
 use Rattle.bpaf.specs.Positional.{accepts}
 use Rattle.bpaf.specs.declared.leaves.positional.ParsePositional.{ParsePositional}
-use Rattle.bpaf_exact.specs.Derived.{list_closure}
+use Rattle.bpaf_exact.specs.Gathered.{list_closure}
 use Rattle.bpaf_exact.specs.Flat.{OneWord, back, front}
 use Rattle.bpaf_exact.specs.ProgramForm.{ProgramForm, plain, program_alone, program_both, program_con}
 use Rattle.bpaf_exact.specs.ProgramForm.{program_field, program_repeat}
@@ -41,7 +41,7 @@ use Rattle.bpaf_record.specs.Program.{TellsOfWords, is_whole_program}
 use Rattle.bpaf_record.proofs.PassedOn.{name_before, strict_words, words_read}
 use Rattle.bpaf_program.specs.Fields.{IsSwitch, IsWord}
 use Rattle.bpaf_program.specs.Values.{IsKept, MeansText, String}
-use Rattle.bpaf_program.proofs.Before.{word_before}
+use Rattle.bpaf_program.proofs.WordBefore.{word_before}
 use Rattle.bpaf_program.proofs.Texts.{texts_are}
 use Rattle.bpaf_launch.specs.declared.options.Launch.{Launch}
 use Rattle.bpaf_launch.specs.Dealing.{FieldValues, IsDealtLaunch, IsLaunchOf, launch_of}

@@ -32,7 +32,7 @@ use Rattle.bpaf.proofs.Asking.{IsAlsoShown, answer_shows, asked_at_also, hands_a
 use Rattle.bpaf.proofs.Asking.{words_also}
 use Rattle.bpaf.proofs.Handing.{behind_also, choice_hands_on, command_hands_on}
 use Rattle.bpaf_program.specs.Dealt.{IsDealtBySome}
-use Rattle.bpaf_program.proofs.Also.{IsAlso, adjacent_also, choice_also, many_also}
+use Rattle.bpaf_program.proofs.ReadsToo.{IsAlso, adjacent_also, choice_also, many_also}
 
 -- a parser keeps to the laws, hands on what may be shown, reads what is wanted, and shows these
 -- shapes alone

@@ -16,7 +16,7 @@ use Rattle.bpaf_exact.proofs.FlatForm.{record_law}
 use Rattle.bpaf_record.specs.Record.{AnswersExactly, HasWholeLine, IsValueOf, IsValueOrWant}
 use Rattle.bpaf_program.specs.ReadBy.{AnswersReadBy, IsReadBy}
 use Rattle.bpaf_program.proofs.Known.{IsKnown, names_shown}
-use Rattle.bpaf_program.proofs.Seen.{IsSeen}
+use Rattle.bpaf_program.proofs.LookAlike.{IsSeen}
 use Rattle.bpaf_program.proofs.Shown.{line_context}
 
 module _ {T V : Type 0} {outcome : Outcome T} {fields : Readings V} {makes : V → T → Type 0}

@@ -35,7 +35,7 @@ use Rattle.bpaf.proofs.Helps.{argument_without_help, flag_without_help, key_with
 use Rattle.bpaf_program.specs.Dealt.{IsDealtBy}
 use Rattle.bpaf_program.specs.Fields.{IsArgument, IsSwitch, IsWord}
 use Rattle.bpaf_program.specs.Values.{IsKept}
-use Rattle.bpaf_program.proofs.Also.{IsAlso, both_also, many_also, product_also, word_also}
+use Rattle.bpaf_program.proofs.ReadsToo.{IsAlso, both_also, many_also, product_also, word_also}
 use Rattle.bpaf_program.proofs.Shown.{both_show, help_asked, last_shows}
 use Rattle.bpaf_program.proofs.Shown.{line_context, many_shows, product_shows}
 

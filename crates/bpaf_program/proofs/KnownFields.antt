@@ -16,7 +16,7 @@ use Rattle.bpaf.specs.declared.leaves.positional.Position.TheVariants.{NonStrict
 use Rattle.bpaf.specs.Positional.{PositionalOutcome, positional_shape}
 use Rattle.bpaf_exact.proofs.Arguments.{argument_field_law}
 use Rattle.bpaf_exact.proofs.Flags.{flag_field_law}
-use Rattle.bpaf_exact.proofs.Twins.{fallback_law, many_law, optional_law}
+use Rattle.bpaf_exact.proofs.ByTables.{fallback_law, many_law, optional_law}
 use Rattle.bpaf_record.specs.Positional.{positional_field_law}
 use Rattle.bpaf_program.specs.KnownFields.{known_argument, known_default, known_many}
 use Rattle.bpaf_program.specs.KnownFields.{known_optional, known_switch, known_word}

@@ -25,7 +25,7 @@ use Rattle.bpaf_exact.proofs.Narrow.{AllowsNoMore, no_more}
 use Rattle.bpaf_exact.proofs.ProgramForm.{narrower_program_form, program_alone_law}
 use Rattle.bpaf_exact.proofs.ProgramForm.{program_both_law, program_choice_law, program_con_law}
 use Rattle.bpaf_exact.proofs.ProgramForm.{program_field_law}
-use Rattle.bpaf_exact.proofs.Twins.{map_law}
+use Rattle.bpaf_exact.proofs.ByTables.{map_law}
 use Rattle.bpaf_exact.proofs.Variables.{program_with}
 use Rattle.bpaf_record.specs.Commands.{plain_command_law}
 use Rattle.bpaf_record.specs.Program.{AnswersAsProgram, IsProgramValueOf}

@@ -1,5 +1,5 @@
-pub mod Also
-pub mod Before
+pub mod ReadsToo
+pub mod WordBefore
 pub mod Commands
 pub mod Ended
 pub mod Exactly
@@ -7,7 +7,7 @@ pub mod Known
 pub mod Parts
 pub mod Pieces
 pub mod Running
-pub mod Seen
+pub mod LookAlike
 pub mod Shown
 pub mod ShownShorts
 pub mod KnownFields

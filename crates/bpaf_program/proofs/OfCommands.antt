@@ -11,8 +11,8 @@ pub use Rattle.bpaf_program.proofs.KnownParser.{both_known, choice_known, comman
 pub use Rattle.bpaf_program.proofs.KnownParser.{last_known, map_known, program_exactly}
 pub use Rattle.bpaf_program.proofs.Running.{are_texts, given_text, prints_text, refused_page}
 pub use Rattle.bpaf_program.proofs.Running.{runs_to}
-pub use Rattle.bpaf_program.proofs.Seen.{default_seen, field_seen, many_seen, number_seen}
-pub use Rattle.bpaf_program.proofs.Seen.{optional_seen, switch_seen, text_seen, text_word_seen}
+pub use Rattle.bpaf_program.proofs.LookAlike.{default_seen, field_seen, many_seen, number_seen}
+pub use Rattle.bpaf_program.proofs.LookAlike.{optional_seen, switch_seen, text_seen, text_word_seen}
 pub use Rattle.bpaf_program.proofs.SeenPrograms.{choice_seen, command_seen, fields_seen}
 pub use Rattle.bpaf_program.proofs.SeenPrograms.{last_seen, made_look, made_seen}
 pub use Rattle.bpaf_program.proofs.SeenPrograms.{program_looks_one, record_seen, then_look}

@@ -23,7 +23,7 @@ use Rattle.bpaf_exact.specs.Record.{line_cells}
 use Rattle.bpaf_record.proofs.OneLine.{same_context}
 use Rattle.bpaf_program.specs.KnownParser.{makes}
 use Rattle.bpaf_program.specs.ReadBy.{IsProgramReadBy}
-use Rattle.bpaf_program.proofs.Seen.{IsSeen, alone_seen, both_seen, con_seen, field_seen}
+use Rattle.bpaf_program.proofs.LookAlike.{IsSeen, alone_seen, both_seen, con_seen, field_seen}
 
 -- all values on the same cells look alike
 abbrev pub LooksOne : {T X : Type 0} → (T → X) → CellsValue T → Type 0

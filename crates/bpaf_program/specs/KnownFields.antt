@@ -8,7 +8,7 @@ use Rattle.bpaf_words.specs.Spelling.{ShortNames}
 use Rattle.bpaf_laws.specs.Argument.{argument_shape}
 use Rattle.bpaf_laws.specs.Flag.{flag_shape}
 use Rattle.bpaf.specs.declared.leaves.positional.Position.{Position}
-use Rattle.bpaf_exact.specs.Derived.{list_closure}
+use Rattle.bpaf_exact.specs.Gathered.{list_closure}
 use Rattle.bpaf_exact.specs.Leaves.{argument_field, flag_field}
 use Rattle.bpaf_exact.specs.ProgramForm.{ProgramForm, plain, program_fallback, program_optional}
 use Rattle.bpaf_exact.specs.ProgramForm.{program_repeat}

@@ -29,7 +29,7 @@ use Rattle.bpaf_exact.specs.Pieces.{Cells, Cut, LinePiece, One, Roles, Two, argu
 use Rattle.bpaf_exact.specs.Pieces.{is_value, passed, word}
 use Rattle.bpaf_exact.specs.Record.{line_cells}
 use Rattle.bpaf_exact.specs.Says.{RepeatSays, WordSays, first_item, unkeyed}
-use Rattle.bpaf_exact.proofs.Told.{AcceptedWord, word_values}
+use Rattle.bpaf_exact.proofs.PieceByPiece.{AcceptedWord, word_values}
 
 -- a text, where there is one, before others
 abbrev put : Option (List ℕ) → List (List ℕ) → List (List ℕ)

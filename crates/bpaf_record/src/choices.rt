@@ -30,11 +30,13 @@ impl<T: Drop, A: ProgramField<T>, B: ProgramField<T>> ProgramField<T> for ParseO
     ghost words = { λ p. A.words p.this ++ B.words p.that };
 
     ghost program_form = { λ p variables. program_choice (A.keys p.this true) (B.keys p.that true)
-        (A.words p.this) (B.words p.that) (A.program_form p.this variables) (B.program_form p.that variables) };
+        (A.words p.this) (B.words p.that) (A.program_form p.this variables)
+        (B.program_form p.that variables) };
 
     ghost kind = { λ p. ByName };
 
-    ghost says = { λ variables. said_choice (λ p. p.this) (λ p. p.that) (A.says variables) (B.says variables) };
+    ghost says = { λ variables. said_choice (λ p. p.this) (λ p. p.that) (A.says variables)
+        (B.says variables) };
 
     ghost agrees = { λ p. A.agrees p.this × B.agrees p.that };
 
@@ -75,7 +77,8 @@ impl<T: Drop, A: ProgramField<T>, B: ProgramField<T>> ProgramField<T> for ParseO
 
     ghost shows = { λ p. choice_shows (A.shows p.this) (B.shows p.that) };
 
-    ghost said = { λ p a variables. program_choice_says (λ p. p.this) (λ p. p.that) p (A.keys p.this true)
+    ghost said = { λ p a variables. program_choice_says (λ p. p.this) (λ p. p.that) p
+        (A.keys p.this true)
         (B.keys p.that true) (A.words p.this) (B.words p.that) (A.said p.this a.0 variables)
         (B.said p.that a.1 variables) };
 }

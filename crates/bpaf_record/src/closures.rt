@@ -15,7 +15,7 @@ impl<T, R, P: ProgramField<T>, F: Fn(T) -> R> ProgramField<R> for ParseMap<T, P,
     ghost use Rattle.bpaf_exact.specs.Wrappers.{map_closure};
     ghost use Rattle.bpaf_exact.specs.ProgramForm.{program_closed};
     ghost use Rattle.bpaf_exact.specs.ProgramSays.{said_closed};
-    ghost use Rattle.bpaf_exact.proofs.Twins.{map_law};
+    ghost use Rattle.bpaf_exact.proofs.ByTables.{map_law};
     ghost use Rattle.bpaf_exact.proofs.ProgramSays.{program_closed_says};
 
     ghost keys = { λ p deep. P.keys p.inner deep };
@@ -23,7 +23,8 @@ impl<T, R, P: ProgramField<T>, F: Fn(T) -> R> ProgramField<R> for ParseMap<T, P,
     ghost words = { λ p. P.words p.inner };
 
     ghost program_form = { λ p variables.
-        program_closed (map_closure (λ x y. F.post p.map_fn x y)) (P.program_form p.inner variables) };
+        program_closed (map_closure (λ x y. F.post p.map_fn x y))
+        (P.program_form p.inner variables) };
 
     ghost kind = { λ p. P.kind p.inner };
 
@@ -68,7 +69,7 @@ impl<T, R, E: Display + Drop, P: ProgramField<T>, F: Fn(T) -> Result<R, E>> Prog
     ghost use Rattle.bpaf_exact.specs.Wrappers.{parse_closure};
     ghost use Rattle.bpaf_exact.specs.ProgramForm.{program_closed, ProgramAgrees};
     ghost use Rattle.bpaf_exact.specs.ProgramSays.{said_closed};
-    ghost use Rattle.bpaf_exact.proofs.Twins.{parse_law};
+    ghost use Rattle.bpaf_exact.proofs.ByTables.{parse_law};
     ghost use Rattle.bpaf_exact.proofs.ProgramSays.{program_closed_says};
 
     ghost keys = { λ p deep. P.keys p.inner deep };
@@ -76,7 +77,8 @@ impl<T, R, E: Display + Drop, P: ProgramField<T>, F: Fn(T) -> Result<R, E>> Prog
     ghost words = { λ p. P.words p.inner };
 
     ghost program_form = { λ p variables.
-        program_closed (parse_closure (λ x y. F.post p.parse_fn x y)) (P.program_form p.inner variables) };
+        program_closed (parse_closure (λ x y. F.post p.parse_fn x y))
+        (P.program_form p.inner variables) };
 
     ghost kind = { λ p. P.kind p.inner };
 
@@ -84,7 +86,8 @@ impl<T, R, E: Display + Drop, P: ProgramField<T>, F: Fn(T) -> Result<R, E>> Prog
         (λ p. parse_closure (λ x y. F.post p.parse_fn x y)) (P.says variables) };
 
     ghost agrees = { λ p. P.agrees p.inner
-        × ((variables : Variables) → ProgramAgrees (parse_closure (λ x y. F.post p.parse_fn x y)) (P.program_form p.inner variables)) };
+        × ((variables : Variables) → ProgramAgrees (parse_closure (λ x y. F.post p.parse_fn x y))
+        (P.program_form p.inner variables)) };
 
     #[tactic(auto, using(crate::proofs::Parts::closed_part_is))]
     fn part(&self) -> ProgramPart {
@@ -100,7 +103,8 @@ impl<T, R, E: Display + Drop, P: ProgramField<T>, F: Fn(T) -> Result<R, E>> Prog
     }
 
     ghost law = { λ p a variables.
-        kept (parse_with variables (P.outcome p.inner) (λ x y. F.post p.parse_fn x y) E.output) _ _ _
+        kept (parse_with variables (P.outcome p.inner) (λ x y. F.post p.parse_fn x y) E.output)
+        _ _ _
         (parse_law T R _ _ (λ x y. F.post p.parse_fn x y) E.output (P.keys p.inner true)
         (P.words p.inner) (P.program_form p.inner variables) (a.1 variables)
         (P.law p.inner a.0 variables)) };
@@ -123,7 +127,7 @@ impl<'m, T: Drop, P: ProgramField<T>, F: Fn(&T) -> bool> ProgramField<T> for Par
     ghost use Rattle.bpaf_exact.specs.Wrappers.{guard_closure};
     ghost use Rattle.bpaf_exact.specs.ProgramForm.{program_closed, ProgramAgrees};
     ghost use Rattle.bpaf_exact.specs.ProgramSays.{said_closed};
-    ghost use Rattle.bpaf_exact.proofs.Twins.{guard_law};
+    ghost use Rattle.bpaf_exact.proofs.ByTables.{guard_law};
     ghost use Rattle.bpaf_exact.proofs.ProgramSays.{program_closed_says};
 
     ghost keys = { λ p deep. P.keys p.inner deep };
@@ -131,7 +135,8 @@ impl<'m, T: Drop, P: ProgramField<T>, F: Fn(&T) -> bool> ProgramField<T> for Par
     ghost words = { λ p. P.words p.inner };
 
     ghost program_form = { λ p variables.
-        program_closed (guard_closure (FnReturnsAt F.Fn p.check)) (P.program_form p.inner variables) };
+        program_closed (guard_closure (FnReturnsAt F.Fn p.check))
+        (P.program_form p.inner variables) };
 
     ghost kind = { λ p. P.kind p.inner };
 
@@ -139,7 +144,8 @@ impl<'m, T: Drop, P: ProgramField<T>, F: Fn(&T) -> bool> ProgramField<T> for Par
         (λ p. guard_closure (FnReturnsAt F.Fn p.check)) (P.says variables) };
 
     ghost agrees = { λ p. P.agrees p.inner
-        × ((variables : Variables) → ProgramAgrees (guard_closure (FnReturnsAt F.Fn p.check)) (P.program_form p.inner variables)) };
+        × ((variables : Variables) → ProgramAgrees (guard_closure (FnReturnsAt F.Fn p.check))
+        (P.program_form p.inner variables)) };
 
     #[tactic(auto, using(crate::proofs::Parts::closed_part_is))]
     fn part(&self) -> ProgramPart {
@@ -155,7 +161,8 @@ impl<'m, T: Drop, P: ProgramField<T>, F: Fn(&T) -> bool> ProgramField<T> for Par
     }
 
     ghost law = { λ p a variables.
-        kept (guard_with variables (P.outcome p.inner) (FnReturnsAt F.Fn p.check) p.message.now) _ _ _
+        kept (guard_with variables (P.outcome p.inner) (FnReturnsAt F.Fn p.check) p.message.now)
+        _ _ _
         (guard_law T _ (FnReturnsAt F.Fn p.check) p.message.now (P.keys p.inner true)
         (P.words p.inner) (P.program_form p.inner variables) (a.1 variables)
         (P.law p.inner a.0 variables)) };

@@ -64,7 +64,8 @@ impl<T: Drop, P: ProgramField<T>> ProgramField<T> for ParseCommand<T, P> {
 
     ghost shows = { λ p. command_shows (P.shows p.inner) p.names p.help };
 
-    ghost said = { λ p a variables. program_command_says (λ p. p.inner) p (WithVariables variables (P.outcome p.inner))
+    ghost said = { λ p a variables. program_command_says (λ p. p.inner) p
+        (WithVariables variables (P.outcome p.inner))
         (P.words p.inner) p.adjacent (are_unusual (P.keys p.inner false) p.info) (λ p. p.names)
         (P.law p.inner a variables) (P.said p.inner a variables) };
 }

@@ -15,14 +15,15 @@ impl<T: Drop, P: ProgramField<T>> ProgramField<Option<T>> for ParseOptional<P> {
     ghost use Rattle.bpaf_exact.proofs.SameParts.{optional_shows};
     ghost use Rattle.bpaf_exact.specs.ProgramForm.{program_optional};
     ghost use Rattle.bpaf_exact.specs.ProgramSays.{said_optional};
-    ghost use Rattle.bpaf_exact.proofs.Twins.{optional_law};
+    ghost use Rattle.bpaf_exact.proofs.ByTables.{optional_law};
     ghost use Rattle.bpaf_exact.proofs.ProgramSays.{program_optional_says};
 
     ghost keys = { λ p deep. P.keys p.inner deep };
 
     ghost words = { λ p. [] };
 
-    ghost program_form = { λ p variables. program_optional p.catch (P.program_form p.inner variables) };
+    ghost program_form = { λ p variables. program_optional p.catch
+        (P.program_form p.inner variables) };
 
     ghost kind = { λ p. P.kind p.inner };
 
@@ -50,7 +51,8 @@ impl<T: Drop, P: ProgramField<T>> ProgramField<Option<T>> for ParseOptional<P> {
 
     ghost shows = { λ p. optional_shows (P.shows p.inner) };
 
-    ghost said = { λ p a variables. program_optional_says (λ p. p.inner) p p.catch (P.said p.inner a variables) };
+    ghost said = { λ p a variables. program_optional_says (λ p. p.inner) p p.catch
+        (P.said p.inner a variables) };
 }
 
 impl<T: Drop, P: FlatField<T>> FlatField<Option<T>> for ParseOptional<P> {}
@@ -63,7 +65,7 @@ impl<T: Clone, P: ProgramField<T>> ProgramField<T> for ParseFallback<P, T> {
     ghost use Rattle.bpaf_exact.proofs.SameParts.{default_shows};
     ghost use Rattle.bpaf_exact.specs.ProgramForm.{program_fallback};
     ghost use Rattle.bpaf_exact.specs.ProgramSays.{said_fallback};
-    ghost use Rattle.bpaf_exact.proofs.Twins.{fallback_law};
+    ghost use Rattle.bpaf_exact.proofs.ByTables.{fallback_law};
     ghost use Rattle.bpaf_exact.proofs.ProgramSays.{program_fallback_says};
 
     ghost keys = { λ p deep. P.keys p.inner deep };
@@ -75,7 +77,8 @@ impl<T: Clone, P: ProgramField<T>> ProgramField<T> for ParseFallback<P, T> {
 
     ghost kind = { λ p. P.kind p.inner };
 
-    ghost says = { λ variables. said_fallback (λ p. p.inner) (λ p. kept_closure (T.is_clone p.value)) (P.says variables) };
+    ghost says = { λ variables. said_fallback (λ p. p.inner)
+        (λ p. kept_closure (T.is_clone p.value)) (P.says variables) };
 
     ghost agrees = { λ p. P.agrees p.inner };
 
@@ -115,7 +118,7 @@ impl<T, E: Display + Drop, P: ProgramField<T>, F: Fn() -> Result<T, E>> ProgramF
     ghost use Rattle.bpaf_exact.proofs.SameParts.{default_shows};
     ghost use Rattle.bpaf_exact.specs.ProgramForm.{program_fallback};
     ghost use Rattle.bpaf_exact.specs.ProgramSays.{said_fallback};
-    ghost use Rattle.bpaf_exact.proofs.Twins.{fallback_with_law};
+    ghost use Rattle.bpaf_exact.proofs.ByTables.{fallback_with_law};
     ghost use Rattle.bpaf_exact.proofs.ProgramSays.{program_fallback_says};
 
     ghost keys = { λ p deep. P.keys p.inner deep };
@@ -123,11 +126,13 @@ impl<T, E: Display + Drop, P: ProgramField<T>, F: Fn() -> Result<T, E>> ProgramF
     ghost words = { λ p. [] };
 
     ghost program_form = { λ p variables.
-        program_fallback (answer_closure (λ r. F.post p.fallback r)) (P.program_form p.inner variables) };
+        program_fallback (answer_closure (λ r. F.post p.fallback r))
+        (P.program_form p.inner variables) };
 
     ghost kind = { λ p. P.kind p.inner };
 
-    ghost says = { λ variables. said_fallback (λ p. p.inner) (λ p. answer_closure (λ r. F.post p.fallback r)) (P.says variables) };
+    ghost says = { λ variables. said_fallback (λ p. p.inner)
+        (λ p. answer_closure (λ r. F.post p.fallback r)) (P.says variables) };
 
     ghost agrees = { λ p. P.agrees p.inner × Decides (answer_closure (λ r. F.post p.fallback r)) };
 

@@ -130,14 +130,15 @@ impl<T: FromText> ProgramField<T> for ParseArgument<T> {
 
 impl<T: FromText> FlatField<T> for ParseArgument<T> {}
 
-/// With `strict` or `non_strict` it may stand in a program, but in no flat record; with `non_strict`
-/// under no repeat and no default.
+/// With `strict` or `non_strict` it may stand in a program, but in no flat record; with
+/// `non_strict` under no repeat and no default.
 impl<T: FromText> ProgramField<T> for ParsePositional<T> {
     ghost use Rattle.bpaf_exact.proofs.Variables.{program_with};
     ghost use Rattle.bpaf_exact.specs.Flat.{OneWord};
     ghost use Rattle.bpaf_exact.specs.Says.{WordSays};
     ghost use Rattle.bpaf.specs.Positional.{accepts};
-    ghost use Rattle.bpaf_record.specs.Positional.{is_sided, positional_says, positional_field, positional_field_law};
+    ghost use Rattle.bpaf_record.specs.Positional.{is_sided, positional_says, positional_field};
+    ghost use Rattle.bpaf_record.specs.Positional.{positional_field_law};
     ghost use Rattle.bpaf_exact.proofs.SameParts.{one_shape};
     ghost use Rattle.bpaf.specs.Positional.{positional_shape};
     ghost use Rattle.bpaf_exact.specs.ProgramForm.{plain};
@@ -147,7 +148,8 @@ impl<T: FromText> ProgramField<T> for ParsePositional<T> {
 
     ghost words = { λ p. [] };
 
-    ghost program_form = { λ p variables. plain (is_sided p.position) (positional_field T.means p.position) };
+    ghost program_form = { λ p variables. plain (is_sided p.position)
+        (positional_field T.means p.position) };
 
     ghost kind = { λ p. OneWord };
 
@@ -173,7 +175,8 @@ impl<T: FromText> ProgramField<T> for ParsePositional<T> {
     }
 
     ghost law = { λ p a variables.
-        program_with T _ variables [] [] (plain (is_sided p.position) (positional_field T.means p.position))
+        program_with T _ variables [] [] (plain (is_sided p.position)
+        (positional_field T.means p.position))
         (positional_field_law T T.means p.position p.metavar.0.now) };
 
     ghost shows = { λ p. one_shape (positional_shape p.position p.metavar.0.now p.help) };

@@ -19,9 +19,11 @@ impl<T: Drop, A: ProgramField<T>> ProgramFields<T> for Last<A> {
 
     ghost keys = { λ p deep. A.keys p.last deep };
 
-    ghost program_form = { λ p variables. program_alone (program_field (A.program_form p.last variables)) };
+    ghost program_form = { λ p variables. program_alone
+        (program_field (A.program_form p.last variables)) };
 
-    ghost says = { λ variables. said_alone (λ p. p.last) A.kind (λ q. A.keys q true) (A.says variables) };
+    ghost says = { λ variables. said_alone (λ p. p.last) A.kind (λ q. A.keys q true)
+        (A.says variables) };
 
     ghost agrees = { λ p. A.agrees p.last };
 
@@ -41,8 +43,10 @@ impl<T: Drop, A: ProgramField<T>> ProgramFields<T> for Last<A> {
 
     ghost shows = { λ p. last_shows (A.shows p.last) };
 
-    ghost said = { λ p a variables. program_alone_says (λ p. p.last) p (WithVariables variables (A.outcome p.last)) A.kind
-        (λ q. A.keys q true) (A.words p.last) (A.law p.last a variables) (A.said p.last a variables) };
+    ghost said = { λ p a variables. program_alone_says (λ p. p.last) p
+        (WithVariables variables (A.outcome p.last)) A.kind
+        (λ q. A.keys q true) (A.words p.last) (A.law p.last a variables)
+        (A.said p.last a variables) };
 }
 
 impl<T: Drop, A: FlatField<T>> FlatFields<T> for Last<A> {}
@@ -65,7 +69,8 @@ impl<T: Drop, V, A: ProgramField<T>, R: ProgramFields<V>> ProgramFields<(T, V)> 
     ghost program_form = { λ p variables. program_both (A.keys p.first true) (R.keys p.rest true)
         (program_field (A.program_form p.first variables)) (R.program_form p.rest variables) };
 
-    ghost says = { λ variables. said_both (λ p. p.first) (λ p. p.rest) A.kind (λ q. A.keys q true) (A.says variables)
+    ghost says = { λ variables. said_both (λ p. p.first) (λ p. p.rest) A.kind (λ q. A.keys q true)
+        (A.says variables)
         (R.says variables) };
 
     ghost agrees = { λ p. A.agrees p.first × R.agrees p.rest };
@@ -99,9 +104,12 @@ impl<T: Drop, V, A: ProgramField<T>, R: ProgramFields<V>> ProgramFields<(T, V)> 
 
     ghost shows = { λ p. both_show (A.shows p.first) (R.shows p.rest) };
 
-    ghost said = { λ p a variables. program_both_say (λ p. p.first) (λ p. p.rest) p (WithVariables variables (A.outcome p.first))
-        (WithVariables variables (R.outcome p.rest)) A.kind (λ q. A.keys q true) (A.words p.first) (R.keys p.rest true)
-        (A.law p.first a.0 variables) (R.law p.rest a.1 variables) (A.said p.first a.0 variables) (R.said p.rest a.1 variables) };
+    ghost said = { λ p a variables. program_both_say (λ p. p.first) (λ p. p.rest) p
+        (WithVariables variables (A.outcome p.first))
+        (WithVariables variables (R.outcome p.rest)) A.kind (λ q. A.keys q true) (A.words p.first)
+        (R.keys p.rest true)
+        (A.law p.first a.0 variables) (R.law p.rest a.1 variables) (A.said p.first a.0 variables)
+        (R.said p.rest a.1 variables) };
 }
 
 impl<T: Drop, V, A: FlatField<T>, R: FlatFields<V>> FlatFields<(T, V)> for Both<A, R> {}
@@ -152,8 +160,10 @@ impl<V, T, P: ProgramFields<V>, F: Fn(V) -> T> ProgramField<T> for ParseCon<V, P
 
     ghost shows = { λ p. product_shows (P.shows p.fields) };
 
-    ghost said = { λ p a variables. program_con_says (λ p. p.fields) p (WithVariables variables (P.outcome p.fields))
-        (λ q. P.keys q true) (λ p. map_closure (λ x y. F.post p.make x y)) (P.law p.fields a variables)
+    ghost said = { λ p a variables. program_con_says (λ p. p.fields) p
+        (WithVariables variables (P.outcome p.fields))
+        (λ q. P.keys q true) (λ p. map_closure (λ x y. F.post p.make x y))
+        (P.law p.fields a variables)
         (P.said p.fields a variables) };
 }
 

@@ -13,18 +13,19 @@ impl<T: Drop, P: ProgramField<T>> ProgramField<Vec<T>> for ParseMany<P> {
     ghost use Rattle.bpaf_exact.proofs.Variables.{kept};
     ghost use Rattle.bpaf_exact.proofs.Environments.{kept_variables, many_with};
     ghost use Rattle.bpaf_exact.specs.Single.{repeated};
-    ghost use Rattle.bpaf_exact.specs.Derived.{list_closure};
+    ghost use Rattle.bpaf_exact.specs.Gathered.{list_closure};
     ghost use Rattle.bpaf_exact.proofs.SameParts.{many_shows};
     ghost use Rattle.bpaf_exact.specs.ProgramForm.{program_repeat};
     ghost use Rattle.bpaf_exact.specs.ProgramSays.{said_repeat};
-    ghost use Rattle.bpaf_exact.proofs.Twins.{many_law};
+    ghost use Rattle.bpaf_exact.proofs.ByTables.{many_law};
     ghost use Rattle.bpaf_exact.proofs.ProgramSays.{program_repeat_says};
 
     ghost keys = { λ p deep. P.keys p.inner deep };
 
     ghost words = { λ p. [] };
 
-    ghost program_form = { λ p variables. program_repeat p.catch (list_closure T) (P.program_form p.inner variables) };
+    ghost program_form = { λ p variables. program_repeat p.catch (list_closure T)
+        (P.program_form p.inner variables) };
 
     ghost kind = { λ p. repeated (P.kind p.inner) };
 
@@ -64,18 +65,19 @@ impl<'m, T: Drop, P: ProgramField<T>> ProgramField<Vec<T>> for ParseSome<'m, P> 
     ghost use Rattle.bpaf_exact.proofs.Variables.{kept};
     ghost use Rattle.bpaf_exact.proofs.Environments.{kept_variables, some_with};
     ghost use Rattle.bpaf_exact.specs.Single.{repeated};
-    ghost use Rattle.bpaf_exact.specs.Derived.{some_closure};
+    ghost use Rattle.bpaf_exact.specs.Gathered.{some_closure};
     ghost use Rattle.bpaf_exact.proofs.SameParts.{some_shows};
     ghost use Rattle.bpaf_exact.specs.ProgramForm.{program_repeat};
     ghost use Rattle.bpaf_exact.specs.ProgramSays.{said_repeat};
-    ghost use Rattle.bpaf_exact.proofs.Twins.{some_law};
+    ghost use Rattle.bpaf_exact.proofs.ByTables.{some_law};
     ghost use Rattle.bpaf_exact.proofs.ProgramSays.{program_repeat_says};
 
     ghost keys = { λ p deep. P.keys p.inner deep };
 
     ghost words = { λ p. [] };
 
-    ghost program_form = { λ p variables. program_repeat p.catch (some_closure T) (P.program_form p.inner variables) };
+    ghost program_form = { λ p variables. program_repeat p.catch (some_closure T)
+        (P.program_form p.inner variables) };
 
     ghost kind = { λ p. repeated (P.kind p.inner) };
 
@@ -115,22 +117,24 @@ impl<T: Drop, C: FromList<T> + Drop, P: ProgramField<T>> ProgramField<C> for Par
     ghost use Rattle.bpaf_exact.proofs.Variables.{kept};
     ghost use Rattle.bpaf_exact.proofs.Environments.{collect_with, kept_variables};
     ghost use Rattle.bpaf_exact.specs.Single.{repeated};
-    ghost use Rattle.bpaf_exact.specs.Derived.{collect_closure};
+    ghost use Rattle.bpaf_exact.specs.Gathered.{collect_closure};
     ghost use Rattle.bpaf_exact.proofs.SameParts.{many_shows};
     ghost use Rattle.bpaf_exact.specs.ProgramForm.{program_repeat};
     ghost use Rattle.bpaf_exact.specs.ProgramSays.{said_repeat};
-    ghost use Rattle.bpaf_exact.proofs.Twins.{collect_law};
+    ghost use Rattle.bpaf_exact.proofs.ByTables.{collect_law};
     ghost use Rattle.bpaf_exact.proofs.ProgramSays.{program_repeat_says};
 
     ghost keys = { λ p deep. P.keys p.inner deep };
 
     ghost words = { λ p. [] };
 
-    ghost program_form = { λ p variables. program_repeat p.catch (collect_closure C.fills) (P.program_form p.inner variables) };
+    ghost program_form = { λ p variables. program_repeat p.catch (collect_closure C.fills)
+        (P.program_form p.inner variables) };
 
     ghost kind = { λ p. repeated (P.kind p.inner) };
 
-    ghost says = { λ variables. said_repeat (λ p. p.inner) (collect_closure C.fills) (P.says variables) };
+    ghost says = { λ variables. said_repeat (λ p. p.inner) (collect_closure C.fills)
+        (P.says variables) };
 
     ghost agrees = { λ p. P.agrees p.inner };
 
@@ -155,7 +159,8 @@ impl<T: Drop, C: FromList<T> + Drop, P: ProgramField<T>> ProgramField<C> for Par
 
     ghost shows = { λ p. many_shows (P.shows p.inner) };
 
-    ghost said = { λ p a variables. program_repeat_says (λ p. p.inner) p p.catch (collect_closure C.fills)
+    ghost said = { λ p a variables. program_repeat_says (λ p. p.inner) p p.catch
+        (collect_closure C.fills)
         (P.said p.inner a variables) };
 }
 
@@ -165,11 +170,11 @@ impl<T: Drop, P: ProgramField<T>> ProgramField<usize> for ParseCount<P, T> {
     ghost use Rattle.bpaf_exact.proofs.Variables.{kept};
     ghost use Rattle.bpaf_exact.proofs.Environments.{count_with, kept_variables};
     ghost use Rattle.bpaf_exact.specs.Single.{repeated};
-    ghost use Rattle.bpaf_exact.specs.Derived.{count_closure};
+    ghost use Rattle.bpaf_exact.specs.Gathered.{count_closure};
     ghost use Rattle.bpaf_exact.proofs.SameParts.{many_shows};
     ghost use Rattle.bpaf_exact.specs.ProgramForm.{program_repeat};
     ghost use Rattle.bpaf_exact.specs.ProgramSays.{said_repeat};
-    ghost use Rattle.bpaf_exact.proofs.Twins.{count_law};
+    ghost use Rattle.bpaf_exact.proofs.ByTables.{count_law};
     ghost use Rattle.bpaf_exact.proofs.ProgramSays.{program_repeat_says};
     ghost use Rattle.std.specs.Prelude.{false};
 
@@ -177,7 +182,8 @@ impl<T: Drop, P: ProgramField<T>> ProgramField<usize> for ParseCount<P, T> {
 
     ghost words = { λ p. [] };
 
-    ghost program_form = { λ p variables. program_repeat false (count_closure T) (P.program_form p.inner variables) };
+    ghost program_form = { λ p variables. program_repeat false (count_closure T)
+        (P.program_form p.inner variables) };
 
     ghost kind = { λ p. repeated (P.kind p.inner) };
 
@@ -218,7 +224,7 @@ impl<T: Drop, P: ProgramField<T>> ProgramField<T> for ParseLast<P> {
     ghost use Rattle.bpaf_exact.proofs.SameParts.{some_shows};
     ghost use Rattle.bpaf_exact.specs.ProgramForm.{program_last};
     ghost use Rattle.bpaf_exact.specs.ProgramSays.{said_last};
-    ghost use Rattle.bpaf_exact.proofs.Twins.{last_law};
+    ghost use Rattle.bpaf_exact.proofs.ByTables.{last_law};
     ghost use Rattle.bpaf_exact.proofs.ProgramSays.{program_last_says};
 
     ghost keys = { λ p deep. P.keys p.inner deep };

@@ -47,7 +47,8 @@ impl<T, P: ProgramField<T>> ProgramField<T> for ParseUsage<P> {
 
     ghost shows = { λ p. usage_shows (P.shows p.inner) p.usage };
 
-    ghost said = { λ p a variables. program_dressed_says (λ p. p.inner) p (P.said p.inner a variables) };
+    ghost said = { λ p a variables. program_dressed_says (λ p. p.inner) p
+        (P.said p.inner a variables) };
 }
 
 impl<T, P: FlatField<T>> FlatField<T> for ParseUsage<P> {}
@@ -90,7 +91,8 @@ impl<T, P: ProgramField<T>> ProgramField<T> for ParseGroupHelp<P> {
 
     ghost shows = { λ p. section_shows (P.shows p.inner) p.message };
 
-    ghost said = { λ p a variables. program_dressed_says (λ p. p.inner) p (P.said p.inner a variables) };
+    ghost said = { λ p a variables. program_dressed_says (λ p. p.inner) p
+        (P.said p.inner a variables) };
 }
 
 impl<T, P: FlatField<T>> FlatField<T> for ParseGroupHelp<P> {}
@@ -104,7 +106,7 @@ impl<T, P: ProgramField<T>> ProgramField<T> for ParseHide<P> {
     ghost use Rattle.bpaf_exact.proofs.SameParts.{one_shape};
     ghost use Rattle.bpaf_exact.specs.ProgramForm.{program_dressed};
     ghost use Rattle.bpaf_exact.specs.ProgramSays.{said_dressed};
-    ghost use Rattle.bpaf_exact.proofs.Twins.{hide_law};
+    ghost use Rattle.bpaf_exact.proofs.ByTables.{hide_law};
     ghost use Rattle.bpaf_exact.proofs.ProgramSays.{program_dressed_says};
 
     ghost keys = { λ p deep. P.keys p.inner deep };
@@ -139,5 +141,6 @@ impl<T, P: ProgramField<T>> ProgramField<T> for ParseHide<P> {
 
     ghost shows = { λ p. one_shape Skip };
 
-    ghost said = { λ p a variables. program_dressed_says (λ p. p.inner) p (P.said p.inner a variables) };
+    ghost said = { λ p a variables. program_dressed_says (λ p. p.inner) p
+        (P.said p.inner a variables) };
 }

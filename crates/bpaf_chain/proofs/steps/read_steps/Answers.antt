@@ -1,6 +1,6 @@
 use Rattle.std.proofs.Common.{rules}
-use Rattle.bpaf_program.proofs.Also.{adjacent_also, both_also, choice_also, flag_also, many_also}
-use Rattle.bpaf_program.proofs.Also.{product_also, word_also}
+use Rattle.bpaf_program.proofs.ReadsToo.{adjacent_also, both_also, choice_also, flag_also, many_also}
+use Rattle.bpaf_program.proofs.ReadsToo.{product_also, word_also}
 use Rattle.bpaf_program.proofs.Commands.{also_dealt}
 use Rattle.bpaf_chain.proofs.steps.read_steps.Goals as goal
 

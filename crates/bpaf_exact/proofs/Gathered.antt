@@ -12,7 +12,7 @@ use Rattle.bpaf_exact.specs.Single.{Groups, Gap, SingleOk, gave_absent, took, Si
 use Rattle.bpaf_exact.specs.Single.{listed, listed_and_absent, only_absent, Own, own_none, own_more}
 use Rattle.bpaf_exact.specs.Single.{repeated, RepeatOutcome}
 use Rattle.bpaf_exact.specs.Wrappers.{AgreesOn}
-use Rattle.bpaf_exact.specs.Derived.{some_closure, IsLast, LastOf}
+use Rattle.bpaf_exact.specs.Gathered.{some_closure, IsLast, LastOf}
 use Rattle.bpaf_exact.proofs.Product.{none_outside_after}
 use Rattle.bpaf_exact.proofs.Repeat.{repeat_law, repeat_took, own_nil}
 

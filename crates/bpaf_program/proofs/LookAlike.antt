@@ -34,7 +34,7 @@ use Rattle.bpaf_exact.proofs.OneView.{alone_view, argument_view, both_view, con_
 use Rattle.bpaf_exact.proofs.OneView.{fallback_view, flag_view, many_view, optional_field_view}
 use Rattle.bpaf_exact.proofs.OneView.{record_looks_one, side_view, word_view}
 use Rattle.bpaf_exact.proofs.Positionals.{word_by_law}
-use Rattle.bpaf_exact.proofs.Twins.{fallback_law, many_field_law, optional_law}
+use Rattle.bpaf_exact.proofs.ByTables.{fallback_law, many_field_law, optional_law}
 use Rattle.bpaf_record.specs.Positional.{positional_field_law}
 use Rattle.bpaf_record.proofs.OneLine.{same_context}
 use Rattle.bpaf_program.specs.ReadBy.{IsReadBy}

@@ -24,7 +24,7 @@ use Rattle.bpaf_exact.specs.Wrappers.{optional_some, optional_none, optional_err
 use Rattle.bpaf_exact.specs.Wrappers.{FallbackEval}
 use Rattle.bpaf_exact.specs.Wrappers.{fallback_ok, fallback_given, fallback_no, fallback_memory}
 use Rattle.bpaf_exact.specs.Wrappers.{fallback_err}
-use Rattle.bpaf_exact.specs.Derived.{list_closure, some_closure, count_closure, collect_closure}
+use Rattle.bpaf_exact.specs.Gathered.{list_closure, some_closure, count_closure, collect_closure}
 use Rattle.bpaf_exact.specs.FlatForm.{FlatForm, FormLaw, flat_repeat, flat_many, flat_some}
 use Rattle.bpaf_exact.specs.FlatForm.{flat_count, flat_collect, flat_last, flat_fallback, unless}
 use Rattle.bpaf_exact.proofs.Classes.{memory_class, caught_class, kept_class, stops_at, goes_on}
