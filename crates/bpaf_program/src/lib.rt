@@ -13,7 +13,8 @@
 //! - Each takes a [`Sink`], of whose writes a contract can say that the last one failed (`Failed`,
 //!   specs/Sink.antt). Any `Write` is one, of which nothing is known but its bytes.
 //! - [`push_lines`] appends a line for each of some texts.
-//! - [`key`] is a key of a letter and a name, and [`command`] a command over a parser, without help.
+//! - [`key`] is a key of a letter and a name, and [`plain_command`] a command over a parser, without
+//!   help.
 //! - [`words`] are the words of the process.
 //!
 //! ```text
@@ -40,7 +41,7 @@ mod writing;
 
 pub use ending::{end, print};
 pub use lines::push_lines;
-pub use making::{command, key};
+pub use making::{key, plain_command};
 pub use options::{Program, run_program, run_record};
 pub use process::words;
 pub use sink::Sink;

@@ -27,9 +27,9 @@ pub fn key(alloc: Global, letter: char, name: &str) -> Result<NamedArg, AllocErr
 /// only for want of memory. Nothing is asked of the parser, so that nothing has to be found of it.
 ///
 /// ```text
-/// command(alloc, "list", construct!(Task::List { max }))?
+/// plain_command(alloc, "list", construct!(Task::List { max }))?
 /// ```
-pub fn command<T, P: Drop>(
+pub fn plain_command<T, P: Drop>(
     alloc: Global,
     name: &str,
     parser: P,

@@ -6,7 +6,7 @@ ghost use Rattle.example_notes.specs.Notes.{AnswersNotes, commands, notes_parser
 ghost use Rattle.example_notes.specs.Notes.{tag_commands};
 
 use bpaf::{Args, ParseFailure, Parser, construct, positional};
-use bpaf_program::{command, key};
+use bpaf_program::{key, plain_command};
 use std::alloc::Global;
 
 /// What the program is asked for.
@@ -46,9 +46,9 @@ pub fn read_notes(alloc: Global, words: &[String]) -> Result<Notes, ParseFailure
     ensures { AnswersNotes (map string_bytes words.now) result }
 {
     let name = positional::<String>("NAME");
-    let add = command(alloc, "add", construct!(Tag::Add { name }))?;
+    let add = plain_command(alloc, "add", construct!(Tag::Add { name }))?;
     let name = positional::<String>("NAME");
-    let remove = command(alloc, "remove", construct!(Tag::Remove { name }))?;
+    let remove = plain_command(alloc, "remove", construct!(Tag::Remove { name }))?;
     with_tag(alloc, words, construct!([add, remove]))
 }
 
@@ -63,8 +63,8 @@ fn with_tag<P: Parser<Tag> + Drop>(
     ensures { AnswersNotes (map string_bytes words.now) result }
 {
     let max = key(alloc, 'n', "max")?.argument::<u64>("NUM").fallback(10);
-    let list = command(alloc, "list", construct!(Task::List { max }))?;
-    let tag = command(alloc, "tag", tag)?.map(Task::Tag);
+    let list = plain_command(alloc, "list", construct!(Task::List { max }))?;
+    let tag = plain_command(alloc, "tag", tag)?.map(Task::Tag);
     with_others(alloc, words, construct!([list, tag]))
 }
 
@@ -80,7 +80,7 @@ fn with_others<P: Parser<Task> + Drop>(
 {
     let tags = key(alloc, 't', "tag")?.argument::<String>("TAG").many();
     let texts = positional::<String>("TEXT").many();
-    let add = command(alloc, "add", construct!(Task::Add { tags, texts }))?;
+    let add = plain_command(alloc, "add", construct!(Task::Add { tags, texts }))?;
     with_task(alloc, words, construct!([add, others]))
 }
 

@@ -6,7 +6,7 @@ use Rattle.example_notes.proofs.options.with_tag.Goals as goal
 
 pub with_others-requires-clause-others : goal.with_others-requires-clause-others
 with_others-requires-clause-others g c =
-    let told = c.in_ok-command.ensures in
+    let told = c.in_ok-plain_command.ensures in
     let tag = ap (λ x. x.inner) c.construct-2.ensures.that ∙ c.map-tag.ensures.inner in
     of.choice_known list_command (of.known_map task.Tag on_tag)
     (of.command_known (codes "list") list_record c.construct-2.ensures.this
