@@ -1,5 +1,5 @@
-//! The programs of docs/USERS.md, a backup, a remover, a `head`, an archiver, a dimmer and a program
-//! with commands, and one that runs them and the parsers of `bpaf_guide`.
+//! The programs of docs/USERS.md, a backup, a remover, a `head`, an archiver, a dimmer, a program
+//! with commands and a row of a test, and one that runs them and the parsers of `bpaf_guide`.
 //!
 //! It stands on `bpaf_guide`, `bpaf`, `bpaf_record` and `bpaf_program`.
 //!
@@ -14,6 +14,7 @@ mod clean;
 mod dim;
 mod head;
 mod remove;
+mod row;
 
 use bpaf::ParseFailure;
 use bpaf_guide::git::{Command, read_git};
@@ -40,6 +41,7 @@ fn main(rt: HostRuntime) -> io::Result<ExitCode> {
             show_archive(&rt)?;
             show_dimming(&rt)?;
             show_cleaning(&rt)?;
+            show_row(&rt)?;
             show_sum(&rt)?;
             show_color(&rt)?;
             show_commit(&rt)?;
@@ -169,6 +171,17 @@ fn show_cleaning(rt: &HostRuntime) -> io::Result<()> {
                 }
             }
         }
+        Err(failure) => {
+            drop(failure);
+            Ok(())
+        }
+    }
+}
+
+/// Tells what a row's words have of seconds.
+fn show_row(rt: &HostRuntime) -> io::Result<()> {
+    match row::read_seconds(rt.alloc(), &["-s", "5"]) {
+        Ok(seconds) => println!(rt; "row: {seconds} s"),
         Err(failure) => {
             drop(failure);
             Ok(())

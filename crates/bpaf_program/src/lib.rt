@@ -16,6 +16,7 @@
 //! - [`key`] is a key of a letter and a name, and [`plain_command`] a command over a parser, without
 //!   help.
 //! - [`words`] are the words of the process.
+//! - [`see_texts`] tells a contract that lent words are texts, as a run that is exact asks.
 //!
 //! ```text
 //! fn main(rt: HostRuntime) -> ExitCode {
@@ -32,6 +33,7 @@
 #![tactic(auto)]
 
 mod ending;
+mod lent;
 mod lines;
 mod making;
 mod options;
@@ -40,6 +42,7 @@ mod sink;
 mod writing;
 
 pub use ending::{end, print};
+pub use lent::see_texts;
 pub use lines::push_lines;
 pub use making::{key, plain_command};
 pub use options::{Program, run_program, run_record};

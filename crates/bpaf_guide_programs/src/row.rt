@@ -1,0 +1,37 @@
+//! A row of a test: a program, and words that are lent.
+ghost use Rattle.std.specs.Prelude.{◌≡◌, false, true};
+ghost use Rattle.bpaf_words.specs.Arguments.{given_of};
+ghost use Rattle.bpaf_record.specs.Program.{IsProgramValueOf, is_whole_program};
+ghost use Rattle.bpaf_record.specs.Record.{IsValueOrWant};
+
+use bpaf::{Args, OptionParser, ParseFailure, Parser, short};
+use bpaf_program::see_texts;
+use bpaf_record::{CommandLine, ProgramField};
+use std::alloc::Global;
+
+/// What a program answers to a row's words: where it has a value there, one of its values, or want
+/// of memory.
+pub fn answer_row<T: Drop, P: ProgramField<T>>(
+    options: &OptionParser<T, P>,
+    args: Args<'_>,
+) -> Result<T, ParseFailure>
+    requires can { P.can_eval options.now.inner }
+    requires agrees { P.agrees options.now.inner }
+    requires program { is_whole_program (P.program_form options.now.inner (given_of args).env)
+        (P.keys options.now.inner false) options.now.info ≡ true }
+    ensures { (value : T)
+        → IsProgramValueOf (P.describes options.now.inner) options.now.info
+            (P.program_form options.now.inner (given_of args.entry).env) (given_of args.entry) value
+        → IsValueOrWant (IsProgramValueOf (P.describes options.now.inner) options.now.info
+            (P.program_form options.now.inner (given_of args.entry).env) (given_of args.entry))
+            result }
+{
+    see_texts(args);
+    options.run_program(args)
+}
+
+/// The seconds that the words of a row tell.
+pub fn read_seconds(alloc: Global, words: &[&str]) -> Result<u64, ParseFailure> {
+    let seconds = short(alloc, 's')?.argument::<u64>("NUM");
+    answer_row(&seconds.to_options(alloc)?, Args::from(words))
+}
