@@ -21,10 +21,10 @@ pub fn answer_row<T: Drop, P: ProgramField<T>>(
         (P.keys options.now.inner false) options.now.info ≡ true }
     ensures { (value : T)
         → IsProgramValueOf (P.describes options.now.inner) options.now.info
-            (P.program_form options.now.inner (given_of args.entry).env) (given_of args.entry) value
+        (P.program_form options.now.inner (given_of args.entry).env) (given_of args.entry) value
         → IsValueOrWant (IsProgramValueOf (P.describes options.now.inner) options.now.info
-            (P.program_form options.now.inner (given_of args.entry).env) (given_of args.entry))
-            result }
+        (P.program_form options.now.inner (given_of args.entry).env) (given_of args.entry))
+        result }
 {
     see_texts(args);
     options.run_program(args)

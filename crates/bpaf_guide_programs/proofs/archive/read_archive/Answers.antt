@@ -28,16 +28,16 @@ returns c =
           fields.1.1.0 archive.root (search rules) words (search rules);
       level = λ some. optional_spelled (of_line told) (made_needs (argument_needs (search rules)))
           fields.1.1.1.0 v.level (search rules) some archive.level (search rules) words
-              (search rules);
+          (search rules);
       jobs = λ other. fallback_spelled (of_line told) (argument_needs (search rules))
           fields.1.1.1.1.0 (λ kept. other (search rules)) archive.jobs (search rules) words
-              (search rules);
+          (search rules);
       without = λ some. repeat_spelled (of_line told) (argument_needs (search rules))
           without.told v.without.items (search rules) some archive.without (search rules) words
-              (search rules);
+          (search rules);
       verbose = λ some. repeat_spelled (of_line told) (flag_needs (search rules) (search rules))
           verbose.told verbose.from refl (λ empty. some (search rules)) archive.verbose
-              (search rules) words
+          (search rules) words
           (search rules);
       has_level = λ typed. spelled_optional told fields.1.1.1.0 v.level (search rules)
           archive.level (search rules) words (search rules) texts
