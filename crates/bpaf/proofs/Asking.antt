@@ -28,7 +28,8 @@ use Rattle.bpaf_laws.proofs.Keeping.{keeps_same, keeps_trans}
 use Rattle.bpaf_core.specs.ExtraParams.{ExtraParams}
 use Rattle.bpaf_core.specs.ExtraParams.TheVariants as extra
 use Rattle.bpaf_core.specs.Ending.{EndsRun, Tells, leftover, memory, passed_on, refused, shown}
-use Rattle.bpaf_core.specs.Ending.{told, usage, wanting, Shows, shows_usage, is_answer}
+use Rattle.bpaf_core.specs.Ending.{told, usage, wanting, Shows, shows_usage}
+use Rattle.bpaf_line.specs.Messages.{is_answer}
 use Rattle.bpaf_core.specs.Info.{RunInfo}
 use Rattle.bpaf_core.specs.Run as run
 use Rattle.bpaf_core.specs.Run.{Runs, RunsWords}

@@ -4,10 +4,12 @@ use Rattle.std.proofs.Common.{sym, subst, ⊎_elim}
 use Rattle.bpaf_line.specs.Situation.{Situation, is_open}
 use Rattle.bpaf_line.specs.declared.error.Message.{Message}
 use Rattle.bpaf_line.specs.declared.error.Message.TheVariants.{Memory, Missing, ParseFailed}
-use Rattle.bpaf_line.specs.declared.error.Message.TheVariants.{StrictPos, NonStrictPos}
+use Rattle.bpaf_line.specs.declared.error.Message.TheVariants.{ParseFailure, StrictPos}
+use Rattle.bpaf_line.specs.declared.error.Message.TheVariants.{NonStrictPos}
 use Rattle.bpaf_line.specs.Taking.{TakesText}
 use Rattle.bpaf_laws.specs.Reading.{Readings}
 use Rattle.bpaf_laws.specs.Laws.{Keeps, Reads, Lawful}
+use Rattle.bpaf_laws.specs.RefusalNames.{NamesAnswer}
 use Rattle.bpaf_laws.proofs.Keeping.{keeps_same, closes_take, keeps_take, newly_take}
 use Rattle.bpaf_items.specs.Items.{is_positional}
 use Rattle.bpaf_line.proofs.Matches.{match_is_open}
@@ -68,9 +70,16 @@ module _ (T : Type 0) (means : List ℕ → T → Type 0) (position : Position)
       ⊎_elim (λ same. keeps_same s t same) (λ taken. some_keeps s t taken) fails
   positional_refused s t other fails = absurd fails
 
+  -- no refusal is the answer of a run inside
+  positional_named : (s t : Situation) (m : Message)
+      → PositionalFails means position metavar s m t → NamesAnswer m
+  positional_named s t (ParseFailure f) fails = absurd fails
+  positional_named s t other fails = tt
+
   -- positional words keep to the laws
   pub positional_lawful : Lawful T (PositionalOutcome means position metavar) reads_positional
   positional_lawful = record {
     ok = λ s t v o. positional_read s t v o.0 o.1 o.2;
     err = λ s t e o. positional_refused s t e.0 o;
+    named = λ s t e o. positional_named s t e.0 o;
   }

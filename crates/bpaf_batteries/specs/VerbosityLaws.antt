@@ -7,6 +7,7 @@ use Rattle.bpaf_laws.proofs.ProductLaws.{both_lawful, product_lawful}
 use Rattle.bpaf_laws.proofs.RepeatLaws.{count_lawful}
 use Rattle.bpaf_laws.proofs.TransformLaws.{map_lawful}
 use Rattle.bpaf_laws.specs.Laws.{Lawful}
+use Rattle.bpaf_laws.proofs.NamesAnswer.{names_want}
 use Rattle.bpaf_laws.specs.Reading.{Outcome, Readings}
 use Rattle.bpaf_laws.specs.Repeat.{CountOutcome, CountReads}
 use Rattle.bpaf_laws.specs.Transform.{MapReads}
@@ -21,6 +22,8 @@ pick_lawful law picks = record {
   ok = λ s t v o. (map_lawful law picks).ok s t v o;
   err = λ s t e o. ⊎_elim (λ refused. law.err s t e refused)
       (λ wanted. (law.ok s t wanted.0 wanted.1).keeps) o;
+  named = λ s t e o. ⊎_elim (λ refused. law.named s t e refused)
+      (λ wanted. names_want e.0 wanted.2) o;
 }
 
 module _ {T : Type 0} (clones : T → T → Type 0) (more fewer : ParseFlag T) where

@@ -10,7 +10,8 @@ use Rattle.bpaf_line.specs.declared.failure.ParseFailure.TheVariants as failure
 use Rattle.bpaf_line.specs.Messages.{is_memory}
 use Rattle.bpaf_line.specs.Situation.{Situation}
 use Rattle.bpaf_core.specs.Ending.{EndsRefused, PassesOrTells, ShowsHelp, Tells}
-use Rattle.bpaf_core.specs.Ending.{is_answer, is_shown}
+use Rattle.bpaf_core.specs.Ending.{is_shown}
+use Rattle.bpaf_line.specs.Messages.{is_answer}
 use Rattle.bpaf_core.specs.Ending.{memory, passed_on, refused, usage}
 use Rattle.bpaf_keys.specs.Info.{RunInfo}
 

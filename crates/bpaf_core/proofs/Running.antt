@@ -23,7 +23,7 @@ use Rattle.bpaf_words.specs.Splitting.{IsLineByAny, ReadsLine}
 use Rattle.bpaf_words.specs.declared.line.Line.{Line}
 use Rattle.bpaf_words.specs.declared.line.LineFault.{LineFault}
 use Rattle.bpaf_words.specs.declared.line.LineFault.TheVariants as fault
-use Rattle.bpaf_messages.specs.Rendering.{Renders}
+use Rattle.bpaf_line.specs.Rendering.{Renders}
 use Rattle.bpaf_core.specs.Ending.{EndsRun, TellsNoLine}
 use Rattle.bpaf_core.specs.Run.{Runs, RunsWords, ran, no_line, no_memory}
 use Rattle.bpaf_core.specs.Refusals.{IsOneOfTwelve, without_memory}

@@ -22,7 +22,12 @@ use Rattle.bpaf_core.specs.Adjacent.{wants_memory}
 use Rattle.bpaf_core.specs.Adjacent.{EitherCommandOutcome, EitherCommandReads}
 use Rattle.bpaf_core.specs.Ending.{Ending}
 use Rattle.bpaf_core.specs.EndingLaws.{LawfulEnding}
-use Rattle.bpaf_core.specs.CommandLaws.{command_lawful, run_empty, run_read, runs_keeps}
+use Rattle.bpaf_core.specs.CommandLaws.{command_lawful, names_end, names_missing, run_empty}
+use Rattle.bpaf_core.specs.CommandLaws.{run_read, runs_has_name, runs_keeps}
+use Rattle.bpaf_laws.proofs.NamesAnswer.{names_same}
+use Rattle.bpaf_laws.specs.RefusalNames.{HasSomeName, NamesAnswer, no_memory, wanting}
+use Rattle.bpaf_line.specs.declared.error.Message.TheVariants.{Memory}
+use Rattle.bpaf_parts.specs.Failures.{end_message}
 
 -- the attempt that a value comes of: it was over present places
 pub record Counted (T : Type 0) (inner : Outcome T) (ending : Ending) (s : Situation) (from : ℕ)
@@ -82,6 +87,17 @@ module _ {T : Type 0} {inner : Outcome T} {ending : Ending} {reads : Readings T}
   attempts_keep s from g u (first_fails f end t r w run ran retry) =
       retry_keeps s from end f g t w run ran retry
 
+  -- a failure of attempts has one of the twelve names
+  attempts_has_name : (s : Situation) (from : ℕ) (g : ParseFailure) (u : Situation)
+      → Attempts T inner ending s from (Err g) u → HasSomeName g
+  attempts_has_name s from g u (first_fails f end t r w run ran (nothing_left told taken)) =
+      runs_has_name law ends (with_scope s from end) f t ran
+  attempts_has_name s from g u
+      (first_fails f end t r w run ran (second_fails h stop x told left again other)) =
+      runs_has_name law ends (with_scope s from end) f t ran
+  attempts_has_name s from g u (first_fails f end t r w run ran wants_memory) =
+      (no_memory, wanting)
+
   module _ (called : Called) (shows : Part → Type 0) where
     -- what an adjacent command answers is a reading, whose share is one stretch
     adjacent_reads : (s t : Situation) (v : T)
@@ -104,6 +120,15 @@ module _ {T : Type 0} {inner : Outcome T} {ending : Ending} {reads : Readings T}
     adjacent_refused s t e (unnamed told none is) = keeps_unset s (with_current s None) refl
     adjacent_refused s t e (no_path told p at is) = keeps_opened (opening_words called) s p at
 
+    -- what it hands on of the runs inside has a name
+    adjacent_named : (s t : Situation) (e : Error)
+        → AdjacentOutcome T inner ending called shows s (Err e) t → NamesAnswer e.0
+    adjacent_named s t e (failed f told p u at runs is) =
+        names_same e.0 (end_message f)
+        (names_end f (attempts_has_name (inside called s p) (p + 1) f u runs)) is
+    adjacent_named s t e (unnamed told none is) = names_missing shows s e.0 is
+    adjacent_named s t e (no_path told p at is) = names_same e.0 Memory tt is
+
     -- commands keep to the laws, adjacent ones and plain ones
     pub either_lawful : (adjacent : Bool)
         → Lawful T (EitherCommandOutcome adjacent T inner ending called shows)
@@ -111,5 +136,6 @@ module _ {T : Type 0} {inner : Outcome T} {ending : Ending} {reads : Readings T}
     either_lawful true = record {
       ok = λ s t v o. adjacent_reads s t v o;
       err = λ s t e o. adjacent_refused s t e o;
+      named = λ s t e o. adjacent_named s t e o;
     }
     either_lawful false = command_lawful law ends called shows

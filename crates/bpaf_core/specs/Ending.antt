@@ -12,8 +12,8 @@ use Rattle.bpaf_line.specs.declared.error.Message.TheVariants as message
 use Rattle.bpaf_line.specs.declared.failure.ParseFailure.{ParseFailure}
 use Rattle.bpaf_line.specs.declared.failure.ParseFailure.TheVariants as failure
 use Rattle.bpaf_messages.specs.Leftover.{IsLeftover}
-use Rattle.bpaf_line.specs.Messages.{is_memory}
-use Rattle.bpaf_messages.specs.Rendering.{Renders}
+use Rattle.bpaf_line.specs.Messages.{is_answer, is_memory}
+use Rattle.bpaf_line.specs.Rendering.{Renders}
 use Rattle.bpaf_line.specs.Situation.{Situation, open_count}
 use Rattle.bpaf_keys.specs.declared.info.ExtraParams.{ExtraParams}
 use Rattle.bpaf_keys.specs.declared.info.ExtraParams.TheVariants as extra
@@ -21,7 +21,7 @@ use Rattle.bpaf_keys.specs.Extra.{ExtraOutcome, extra_shape}
 pub use Rattle.bpaf_messages.specs.Faults.{TellsNoLine}
 pub use Rattle.bpaf_parts.specs.Failures.{is_shown}
 use Rattle.bpaf_keys.specs.Info.{RunInfo, page_texts}
-use Rattle.bpaf_keys.specs.Version.{ShowsVersion}
+use Rattle.bpaf_laws.specs.Version.{ShowsVersion}
 
 -- what a run ends with that has no value, and the situation that it leaves: the message of its
 -- parser, or none where that left items; the situation before the parser, and the one that it left
@@ -58,11 +58,6 @@ pub data Tells (describes : Shape → Type 0) (info : RunInfo) (m : Message) (s 
       → is_memory e.0 ≡ false → Renders m t f → Tells describes info m s f t
   wanting : (e : Error) (t : Situation) → ExtraOutcome info s (Err e) t → is_memory e.0 ≡ true
       → Tells describes info m s failure.Memory t
-
--- the answer of an inner run
-abbrev pub is_answer : Message → Bool
-is_answer (message.ParseFailure f) = true
-is_answer _ = false
 
 -- help is shown in place of a refusal: nothing was there to read, the program wants it so then, and
 -- nothing else is shown

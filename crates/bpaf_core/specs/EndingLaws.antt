@@ -1,25 +1,45 @@
 -- What the ends of runs keep to.
-use Rattle.std.specs.Prelude.{◌≡◌, false, Option, Some}
+use Rattle.std.specs.Prelude.{◌≡◌, false, IfSome, Option, Some, refl}
 use Rattle.std.proofs.Common.{true≢false}
 use Rattle.bpaf_doc.specs.Shape.{Shape}
 use Rattle.bpaf_line.specs.declared.error.Message.{Message}
 use Rattle.bpaf_line.specs.declared.failure.ParseFailure.{ParseFailure}
-use Rattle.bpaf_line.specs.Messages.{is_memory}
+use Rattle.bpaf_line.specs.declared.failure.ParseFailure.TheVariants as failure
+use Rattle.bpaf_messages.specs.Leftover as left
+use Rattle.bpaf_messages.specs.Leftover.{IsLeftover}
+use Rattle.bpaf_line.specs.Messages.{is_answer, is_memory}
 use Rattle.bpaf_line.specs.Situation.{Situation}
 use Rattle.bpaf_laws.specs.Laws.{Keeps}
 use Rattle.bpaf_laws.proofs.Keeping.{keeps_refl}
+use Rattle.bpaf_laws.proofs.NamesAnswer.{told_has_name}
+use Rattle.bpaf_laws.specs.RefusalNames.{HasSomeName, NamesAnswer, help, help_or_version, no_memory}
+use Rattle.bpaf_laws.specs.RefusalNames.{version}
+use Rattle.bpaf_laws.specs.RefusalNames as name
 use Rattle.bpaf_parts.specs.Failures.{end_message}
-use Rattle.bpaf_core.specs.Ending.{Ending, EndsRun, Tells, leftover, memory, passed_on, refused}
+use Rattle.bpaf_core.specs.Ending.{Ending, EndsRun, Shows, Tells, leftover, memory, passed_on}
+use Rattle.bpaf_core.specs.Ending.{refused}
 use Rattle.bpaf_core.specs.Ending.{shown, told, usage, wanting}
 use Rattle.bpaf_keys.proofs.ExtraLaws.{extra_lawful}
-use Rattle.bpaf_keys.specs.Info.{RunInfo}
+use Rattle.bpaf_keys.specs.declared.info.ExtraParams.{ExtraParams}
+use Rattle.bpaf_keys.specs.declared.info.ExtraParams.TheVariants as extra
+use Rattle.bpaf_keys.specs.Extra.{extra_shape}
+use Rattle.bpaf_keys.specs.Info.{RunInfo, page_texts}
 
--- an ending keeps what each evaluation keeps, and tells want of memory as nothing else
+-- an ending keeps what each evaluation keeps, tells want of memory as nothing else, and has one of
+-- the twelve names where an answer that it hands on has
 pub record LawfulEnding (ending : Ending) : Type 0 where
   pub keeps : (m : Option Message) (s left : Situation) (f : ParseFailure) (t : Situation)
       → ending m s left f t → Keeps left t
   pub spared : (m : Message) (s left : Situation) (f : ParseFailure) (t : Situation)
       → ending (Some m) s left f t → is_memory (end_message f) ≡ false → is_memory m ≡ false
+  pub named : (m : Option Message) (s left : Situation) (f : ParseFailure) (t : Situation)
+      → IfSome m NamesAnswer → ending m s left f t → HasSomeName f
+
+-- what is told of an item that is left isn't the answer of an inner run
+pub leftover_is_told : (s : Situation) (m : Message) → IsLeftover s m → is_answer m ≡ false
+leftover_is_told s m (left.conflict p winner next noted) = refl
+leftover_is_told s m (left.only_once p earlier next unnoted key) = refl
+leftover_is_told s m (left.not_expected p next unnoted none) = refl
 
 module _ (describes : Shape → Type 0) (info : RunInfo) where
   -- what telling a message keeps
@@ -49,9 +69,44 @@ module _ (describes : Shape → Type 0) (info : RunInfo) where
   end_spared m s left f t (passed_on g before u other unwanted) spared = other
   end_spared m s left f t (refused n before from g u other unwanted plain tells) spared = other
 
+  -- what was asked for is a page, or memory is wanted
+  pub shows_has_name : (asked : ExtraParams) (s : Situation) (f : ParseFailure)
+      → Shows describes info asked s f → HasSomeName f
+  shows_has_name asked s failure.Memory shows = (no_memory, name.wanting)
+  shows_has_name (extra.Help more) s (failure.Stdout doc full) shows =
+      let page = shows.0 in (
+        help_or_version,
+        name.shown doc full
+            (help s.path (page_texts info) page.shape (extra_shape info) page.prints),
+      )
+  shows_has_name (extra.Version text) s (failure.Stdout doc full) shows =
+      (help_or_version, name.shown doc full (version text shows.0))
+  shows_has_name (extra.Help more) s (failure.Stderr doc) shows = absurd shows
+  shows_has_name (extra.Version text) s (failure.Stderr doc) shows = absurd shows
+
+  -- what is told of a message has a name
+  tells_has_name : (m : Message) (s : Situation) (f : ParseFailure) (t : Situation)
+      → is_answer m ≡ false → Tells describes info m s f t → HasSomeName f
+  tells_has_name m s f t plain (shown asked g u looked shows) = shows_has_name asked t f shows
+  tells_has_name m s f t plain (told e g u looked other renders) = told_has_name m t f plain renders
+  tells_has_name m s f t plain (wanting e u looked wants) = (no_memory, name.wanting)
+
+  -- the end of a run has one, where an answer that it hands on has
+  end_has_name : (m : Option Message) (s left : Situation) (f : ParseFailure) (t : Situation)
+      → IfSome m NamesAnswer → EndsRun describes info m s left f t → HasSomeName f
+  end_has_name m s left f t names (memory n before u is) = (no_memory, name.wanting)
+  end_has_name m s left f t names (usage n before g u other wanted shows) =
+      shows_has_name (extra.Help false) left f shows
+  end_has_name m s left f t names (passed_on g before u other unwanted) = names
+  end_has_name m s left f t names (refused n before from g u other unwanted plain tells) =
+      tells_has_name n left f t plain tells
+  end_has_name m s left f t names (leftover n before from g u is tells) =
+      tells_has_name n left f t (leftover_is_told left n is) tells
+
   -- the ends of runs are lawful
   pub run_ending : LawfulEnding (EndsRun describes info)
   run_ending = record {
     keeps = λ m s left f t ends. end_keeps m s left f t ends;
     spared = λ m s left f t ends spared. end_spared m s left f t ends spared;
+    named = λ m s left f t names ends. end_has_name m s left f t names ends;
   }

@@ -1,5 +1,5 @@
 pub use Rattle.bpaf_messages.specs.Leftover
-pub use Rattle.bpaf_messages.specs.Rendering
+pub use Rattle.bpaf_line.specs.Rendering
 pub use Rattle.bpaf_parts.specs.Branches
 pub use Rattle.bpaf_keys.specs.Extra
 pub use Rattle.bpaf_parts.specs.Failures

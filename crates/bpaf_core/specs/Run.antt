@@ -7,7 +7,7 @@ use Rattle.bpaf_line.specs.declared.failure.ParseFailure.TheVariants as failure
 use Rattle.bpaf_line.specs.Messages.{is_memory}
 use Rattle.bpaf_words.specs.Arguments.{Given}
 use Rattle.bpaf_words.specs.Line.{HasNoLine}
-use Rattle.bpaf_messages.specs.Rendering.{Renders}
+use Rattle.bpaf_line.specs.Rendering.{Renders}
 use Rattle.bpaf_line.specs.Situation.{Situation, Context, beginning, open_count}
 use Rattle.bpaf_doc.specs.Shape.{Shape}
 use Rattle.bpaf_core.specs.Ending.{Ending, EndsRun}

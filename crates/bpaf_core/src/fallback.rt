@@ -106,6 +106,7 @@ impl<T: Clone, P: Parser<T>> Parser<T> for ParseFallback<P, T> {
     ghost use Rattle.bpaf_laws.specs.Default.{FallbackOutcome, FallbackReads, GivesClone};
     ghost use Rattle.bpaf_laws.specs.Default.{DefaultDescribes};
     ghost use Rattle.bpaf_laws.proofs.DefaultLaws.{fallback_lawful};
+    ghost use Rattle.bpaf_laws.proofs.NamesAnswer.{names_want};
     ghost use Rattle.bpaf_laws.specs.Spared.{IsNotMemory, WithoutMemory, DefaultTakesNothing};
 
     ghost can_eval = { λ p. P.can_eval p.inner };
@@ -138,7 +139,8 @@ impl<T: Clone, P: Parser<T>> Parser<T> for ParseFallback<P, T> {
         default_meta(alloc, self.inner.meta(alloc)?, &self.shown)
     }
 
-    ghost lawful = { λ p. fallback_lawful (P.lawful p.inner) (GivesClone T.is_clone p.value) };
+    ghost lawful = { λ p. fallback_lawful (P.lawful p.inner) (GivesClone T.is_clone p.value)
+        (λ e. names_want e.0) };
 }
 
 /// A closure's value where the inner parser has none (bpaf's `ParseFallbackWith`, in `structs.rs`).
@@ -252,7 +254,7 @@ impl<T, E: Display + Drop, P: Parser<T>, F: Fn() -> Result<T, E>> Parser<T>
     for ParseFallbackWith<T, P, F, E> {
     ghost use Rattle.bpaf_laws.specs.Default.{FallbackOutcome, FallbackReads, GivesAnswer};
     ghost use Rattle.bpaf_laws.specs.Default.{DefaultDescribes};
-    ghost use Rattle.bpaf_laws.proofs.DefaultLaws.{fallback_lawful};
+    ghost use Rattle.bpaf_laws.proofs.DefaultLaws.{fallback_lawful, names_answer};
     ghost use Rattle.bpaf_laws.specs.Spared.{IsNotMemory, WithoutMemory, DefaultTakesNothing};
 
     ghost can_eval = { λ p. P.can_eval p.inner × F.IsAlwaysCallable p.fallback };
@@ -289,5 +291,6 @@ impl<T, E: Display + Drop, P: Parser<T>, F: Fn() -> Result<T, E>> Parser<T>
     }
 
     ghost lawful = { λ p.
-        fallback_lawful (P.lawful p.inner) (GivesAnswer (λ r. F.post p.fallback r) E.output) };
+        fallback_lawful (P.lawful p.inner) (GivesAnswer (λ r. F.post p.fallback r) E.output)
+        (names_answer (λ r. F.post p.fallback r) E.output) };
 }

@@ -19,7 +19,7 @@ impl Parser<Value> for Answer {
     ghost use Rattle.bpaf_doc.specs.Shape.{Skip};
     ghost use Rattle.bpaf_laws.specs.Pure.{PureReads, PureWithOutcome};
     ghost use Rattle.bpaf_laws.proofs.PureLaws.{pure_with_lawful};
-    ghost use Rattle.bpaf_values.specs.Modifiers.{GivesNumber};
+    ghost use Rattle.bpaf_values.specs.Modifiers.{GivesNumber, number_named};
 
     ghost can_eval = { λ p. Unit {0} };
 
@@ -43,7 +43,7 @@ impl Parser<Value> for Answer {
         Ok(Meta::Skip)
     }
 
-    ghost lawful = { λ p. pure_with_lawful (GivesNumber p.number) };
+    ghost lawful = { λ p. pure_with_lawful (GivesNumber p.number) (number_named p.number) };
 }
 
 /// A parser without inner parsers.
@@ -84,7 +84,9 @@ impl Parser<Value> for Leaf {
     ghost use Rattle.bpaf_laws.proofs.ArgumentLaws.{argument_lawful};
     ghost use Rattle.bpaf.specs.PositionalLaws.{positional_lawful};
     ghost use Rattle.bpaf_laws.proofs.AppnameLaws.{appname_lawful};
-    ghost use Rattle.bpaf_laws.proofs.PureLaws.{pure_lawful, pure_with_lawful};
+    ghost use Rattle.bpaf_laws.proofs.NamesAnswer.{names_want};
+    ghost use Rattle.bpaf_laws.proofs.PureLaws.{pure_lawful, pure_with_lawful, refusal_lawful};
+    ghost use Rattle.bpaf_values.specs.Modifiers.{number_named};
     ghost use Rattle.bpaf_laws.proofs.AnyLaws.{any_lawful};
     ghost use Rattle.bpaf_described_leaves.specs.declared.leaf.Leaf.TheVariants.{Switch, Flag, Number};
     ghost use Rattle.bpaf_described_leaves.specs.declared.leaf.Leaf.TheVariants.{Integer, Text};
@@ -213,8 +215,8 @@ impl Parser<Value> for Leaf {
       | Literal p ↦ told_lawful _ (any_lawful _ _ _ _)
       | Any p ↦ any_lawful _ _ _ _
       | Appname p ↦ told_lawful _ appname_lawful
-      | Pure p ↦ pure_lawful _
-      | PureWith p ↦ pure_with_lawful _
-      | Fail p ↦ pure_lawful _
+      | Pure p ↦ pure_lawful _ (λ e. names_want e.0)
+      | PureWith p ↦ pure_with_lawful _ (number_named p.number)
+      | Fail p ↦ refusal_lawful _
     ] };
 }

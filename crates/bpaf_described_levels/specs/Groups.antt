@@ -12,7 +12,9 @@ use Rattle.bpaf_laws.specs.Product.{BothOutcome, FailFastOutcome, ProductOutcome
 use Rattle.bpaf_laws.specs.Product.{ProductDescribes}
 use Rattle.bpaf_laws.proofs.ProductLaws.{both_lawful, fail_fast_lawful, product_lawful}
 use Rattle.bpaf_laws.specs.Pure.{GivesRefusal, PureOutcome, PureReads}
-use Rattle.bpaf_laws.proofs.PureLaws.{pure_lawful}
+use Rattle.bpaf_laws.proofs.PureLaws.{refusal_lawful}
+use Rattle.bpaf_laws.specs.RefusalNames.{NamesAnswer}
+use Rattle.bpaf_laws.proofs.NamesAnswer.{names_same}
 use Rattle.bpaf_laws.specs.Reading.{Readings, Outcome}
 use Rattle.bpaf_laws.specs.Transform.{MapReads}
 use Rattle.bpaf.specs.declared.adjacent.AdjacentError.TheVariants.{NoFirstItem}
@@ -73,8 +75,17 @@ module _ {V : Type 0} {fast : Outcome V} {reads : Readings V} (describes : List 
   grouped_err e t (begun item r t' shown ran) =
       (begun_lawful told (part_of item) law).err s t e ran
   grouped_err e t (headless r t' none refused) =
-      (pure_lawful {T = Value} (GivesRefusal no_first_item)).err s t e refused
+      (refusal_lawful {T = Value} no_first_item).err s t e refused
   grouped_err e t (wanted e' memory) = keeps_refl s
+
+  -- a refusal names its answer
+  grouped_named : (e : Error) (t : Situation) → GroupedOutcome fast describes told s (Err e) t
+      → NamesAnswer e.0
+  grouped_named e t (begun item r t' shown ran) =
+      (begun_lawful told (part_of item) law).named s t e ran
+  grouped_named e t (headless r t' none refused) =
+      (refusal_lawful {T = Value} no_first_item).named s t e refused
+  grouped_named e t (wanted e' memory) = names_same e.0 Memory tt memory
 
 -- a group keeps to the laws where its fields do
 grouped_lawful : {V : Type 0} {fast : Outcome V} {reads : Readings V}
@@ -83,6 +94,7 @@ grouped_lawful : {V : Type 0} {fast : Outcome V} {reads : Readings V}
 grouped_lawful describes told law = record {
   ok = λ s t v o. grouped_ok describes told law s v t o;
   err = λ s t e o. grouped_err describes told law s e t o;
+  named = λ s t e o. grouped_named describes told law s e t o;
 }
 
 -- the group of two parsers
@@ -121,6 +133,6 @@ together_lawful o f d (p ∷ q ∷ []) each =
 together_lawful o f d (p ∷ q ∷ r ∷ []) each =
     grouped_lawful (ThreeDescribe (d p) (d q) (d r)) ToldTriple
     (fail_fast_lawful (each p) (both_lawful (each q) (each r)))
-together_lawful o f d [] each = pure_lawful (GivesRefusal wrong_number)
-together_lawful o f d (p ∷ []) each = pure_lawful (GivesRefusal wrong_number)
-together_lawful o f d (p ∷ q ∷ r ∷ s ∷ ps) each = pure_lawful (GivesRefusal wrong_number)
+together_lawful o f d [] each = refusal_lawful wrong_number
+together_lawful o f d (p ∷ []) each = refusal_lawful wrong_number
+together_lawful o f d (p ∷ q ∷ r ∷ s ∷ ps) each = refusal_lawful wrong_number

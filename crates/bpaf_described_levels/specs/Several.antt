@@ -10,7 +10,7 @@ use Rattle.bpaf_laws.specs.Product.{BothOutcome, BothReads, BothDescribes, LastD
 use Rattle.bpaf_laws.specs.Product.{ProductOutcome, ProductReads, ProductDescribes}
 use Rattle.bpaf_laws.proofs.ProductLaws.{both_lawful, product_lawful}
 use Rattle.bpaf_laws.specs.Pure.{GivesRefusal, PureOutcome, PureReads}
-use Rattle.bpaf_laws.proofs.PureLaws.{pure_lawful}
+use Rattle.bpaf_laws.proofs.PureLaws.{refusal_lawful}
 use Rattle.bpaf_values.specs.Told.{ToldOutcome, told_lawful}
 use Rattle.bpaf_values.specs.Values.{ToldPair, ToldTriple, ToldQuadruple}
 use Rattle.bpaf_values.specs.declared.value.Value.{Value}
@@ -112,9 +112,9 @@ tuple_lawful o f (p ∷ q ∷ r ∷ []) each =
 tuple_lawful o f (p ∷ q ∷ r ∷ s ∷ []) each =
     let last_two = both_lawful (each r) (each s) in
     nested_lawful ToldQuadruple (both_lawful (each p) (both_lawful (each q) last_two))
-tuple_lawful o f [] each = pure_lawful (GivesRefusal wrong_number)
-tuple_lawful o f (p ∷ []) each = pure_lawful (GivesRefusal wrong_number)
-tuple_lawful o f (p ∷ q ∷ r ∷ s ∷ t ∷ ps) each = pure_lawful (GivesRefusal wrong_number)
+tuple_lawful o f [] each = refusal_lawful wrong_number
+tuple_lawful o f (p ∷ []) each = refusal_lawful wrong_number
+tuple_lawful o f (p ∷ q ∷ r ∷ s ∷ t ∷ ps) each = refusal_lawful wrong_number
 
 -- the first that reads of two or three parsers
 abbrev pub OrElseOutcome : {P : Type 0} → (P → Outcome Value) → List P → Outcome Value
@@ -146,6 +146,6 @@ pub or_else_lawful : {P : Type 0} (o : P → Outcome Value) (f : P → Readings 
 or_else_lawful o f (p ∷ q ∷ []) each = choice_lawful (each p) (each q)
 or_else_lawful o f (p ∷ q ∷ r ∷ []) each =
     choice_lawful (choice_lawful (each p) (each q)) (each r)
-or_else_lawful o f [] each = pure_lawful (GivesRefusal wrong_number)
-or_else_lawful o f (p ∷ []) each = pure_lawful (GivesRefusal wrong_number)
-or_else_lawful o f (p ∷ q ∷ r ∷ s ∷ ps) each = pure_lawful (GivesRefusal wrong_number)
+or_else_lawful o f [] each = refusal_lawful wrong_number
+or_else_lawful o f (p ∷ []) each = refusal_lawful wrong_number
+or_else_lawful o f (p ∷ q ∷ r ∷ s ∷ ps) each = refusal_lawful wrong_number

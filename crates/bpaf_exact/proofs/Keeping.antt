@@ -4,26 +4,35 @@ use Rattle.bpaf_doc.specs.Names.{Names}
 use Rattle.bpaf_laws.specs.Product.{BothOutcome}
 use Rattle.bpaf_laws.specs.Reading.{Outcome}
 use Rattle.bpaf_exact.specs.Flat.{FieldKind}
-use Rattle.bpaf_exact.specs.ProgramForm.{ProgramForm, ProgramFormLaw, program_both, program_field}
-use Rattle.bpaf_exact.specs.ProgramSays.{ProgramFieldsSaid, ProgramFieldsSay, ProgramSaid}
-use Rattle.bpaf_exact.specs.ProgramSays.{ProgramSays, said_both}
+use Rattle.bpaf_exact.specs.ProgramForm.{ProgramForm, ProgramFormLaw, program_alone, program_both}
+use Rattle.bpaf_exact.specs.ProgramForm.{program_field}
+use Rattle.bpaf_exact.specs.ProgramSays.{FieldsKeep, ProgramFieldsSaid, ProgramSaid, ProgramSays}
+use Rattle.bpaf_exact.specs.ProgramSays.{fields_said_inside, said_alone, said_both}
 use Rattle.bpaf_exact.specs.Variables.{KeepsVariables, Variables, WithVariables}
 use Rattle.bpaf_exact.proofs.Environments.{both_with}
-use Rattle.bpaf_exact.proofs.ProgramForm.{narrower_program_form, program_both_law}
-use Rattle.bpaf_exact.proofs.ProgramForm.{program_field_law}
-use Rattle.bpaf_exact.proofs.ProgramSays.{program_both_say}
+use Rattle.bpaf_exact.proofs.ProgramForm.{narrower_program_form, program_alone_law}
+use Rattle.bpaf_exact.proofs.ProgramForm.{program_both_law, program_field_law}
+use Rattle.bpaf_exact.proofs.ProgramSays.{inside_say, program_alone_says, program_both_say}
 
--- fields of this form keep to it, and their values say so
-pub record FieldsKeep {P V : Type 0} (outcome : Outcome V) (names : List Names) (s : ProgramForm V)
-    (said : ProgramFieldsSaid P V) (p : P) : Type 0 where
-  pub law : ProgramFormLaw outcome names [] s
-  pub says : ProgramFieldsSay names s said p
+-- the last field
+pub keep_last : {P R A : Type 0} (last : R → P) (r : R) (outcome : Outcome A) (kind : P → FieldKind)
+    (names : P → List Names) (words : List (List ℕ)) (s : ProgramForm A) (said : ProgramSaid P A)
+    → ProgramFormLaw outcome (names (last r)) words s
+    → ProgramSays (names (last r)) s (kind (last r)) said (last r)
+    → FieldsKeep outcome (names (last r)) (program_alone (program_field s))
+    (said_alone last kind names said) r
+keep_last {A = A} last r outcome kind names words s said law says = record {
+  law = program_alone_law A outcome (names (last r)) words (program_field s)
+      (program_field_law A outcome (names (last r)) words s law);
+  says = program_alone_says last r outcome kind names words law says;
+}
 
--- the last ones
-pub keep : {P V : Type 0} (outcome : Outcome V) (names : List Names) (s : ProgramForm V)
-    (said : ProgramFieldsSaid P V) (p : P) → ProgramFormLaw outcome names [] s
-    → ProgramFieldsSay names s said p → FieldsKeep outcome names s said p
-keep outcome names s said p law says = record { law = law; says = says }
+-- fields that stand inside of others
+pub keep_inside : {P R V : Type 0} (inside : R → P) (r : R) {outcome : Outcome V}
+    {names : List Names} {s : ProgramForm V} {said : ProgramFieldsSaid P V}
+    → FieldsKeep outcome names s said (inside r)
+    → FieldsKeep outcome names s (fields_said_inside inside said) r
+keep_inside inside r kept = record { law = kept.law; says = inside_say inside r kept.says }
 
 -- a field before such fields, in an environment that it leaves as it is
 pub keep_before : {P Q R A B : Type 0} (variables : Variables) (first : R → P) (rest : R → Q)

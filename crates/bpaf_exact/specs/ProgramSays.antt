@@ -1,14 +1,15 @@
 -- What the values of a program with commands say: each named field of its own pieces, and the rest of
 -- what is left without these.
-use Rattle.std.specs.Prelude.{List, Option}
+use Rattle.std.specs.Prelude.{List, [], Option}
 use Rattle.std.specs.List.{Contains}
 use Rattle.bpaf_doc.specs.Names.{Names}
 use Rattle.bpaf_laws.specs.Command.{Called, opening_words}
+use Rattle.bpaf_laws.specs.Reading.{Outcome}
 use Rattle.bpaf_exact.specs.Flat.{FieldKind}
 use Rattle.bpaf_exact.specs.Names.{Owns}
 use Rattle.bpaf_exact.specs.Pieces.{Cells, Roles, LinePiece, Cut, pieces}
 use Rattle.bpaf_exact.specs.ProgramForm.{ProgramForm, no_program, plain, commands, left_out}
-use Rattle.bpaf_exact.specs.ProgramForm.{before_commands}
+use Rattle.bpaf_exact.specs.ProgramForm.{ProgramFormLaw, before_commands}
 use Rattle.bpaf_exact.specs.Programs.{CellsValue, ChoiceValue, ClosedCells, CommandValue}
 use Rattle.bpaf_exact.specs.Programs.{OptionalCommands, without}
 use Rattle.bpaf_exact.specs.Says.{EitherSays, FallbackSays, FieldsSaid, FieldsSay, LastSays}
@@ -192,3 +193,9 @@ ProgramFieldsFormSay names (before_commands r value) (of_all_cells said) p = IsS
 pub record ProgramFieldsSay {P V : Type 0} (names : List Names) (form : ProgramForm V)
     (said : ProgramFieldsSaid P V) (p : P) : Type 0 where
   pub by : ProgramFieldsFormSay names form said p
+
+-- fields of this form keep to it, and their values say so
+pub record FieldsKeep {P V : Type 0} (outcome : Outcome V) (names : List Names) (s : ProgramForm V)
+    (said : ProgramFieldsSaid P V) (p : P) : Type 0 where
+  pub law : ProgramFormLaw outcome names [] s
+  pub says : ProgramFieldsSay names s said p

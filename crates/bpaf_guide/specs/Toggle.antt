@@ -62,4 +62,5 @@ module _ (on off : Names) where
   toggle_lawful = record {
     ok = λ s t v o. toggle_read s t v o;
     err = λ s t e o. absurd o;
+    named = λ s t e o. absurd o;
   }

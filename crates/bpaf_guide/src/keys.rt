@@ -1,11 +1,14 @@
 //! One parser of each kind. None holds a closure, so each has a type that a function may answer.
+ghost use Rattle.bpaf_laws.specs.Flag.{FlagOutcome};
+ghost use Rattle.bpaf_laws.specs.Kept.{IsKept};
+
 use crate::types::Level;
 use bpaf::params::{ParseArgument, ParseFlag, ParsePositional};
 use bpaf::parsers::{
     ParseChoice, ParseCollect, ParseCount, ParseFallback, ParseLast, ParseMany, ParseOptional,
     ParseOrElse, ParseSome,
 };
-use bpaf::{Parser, choice, construct, env, long, positional, short};
+use bpaf::{Error, Parser, State, choice, construct, env, long, positional, short};
 use std::alloc::{AllocError, Global};
 use std::collections::BTreeSet;
 
@@ -17,6 +20,14 @@ pub fn verbose(alloc: Global) -> Result<ParseFlag<bool>, AllocError> {
 /// `-q`: one value or the other.
 pub fn quiet(alloc: Global) -> Result<ParseFlag<Level>, AllocError> {
     Ok(short(alloc, 'q')?.flag(Level::Low, Level::High))
+}
+
+/// What a flag of levels answers is one of the two that it keeps: clones of levels equal them.
+pub fn level(flag: &ParseFlag<Level>, state: &mut State) -> Result<Level, Error>
+    ensures { FlagOutcome IsKept flag.now.named flag.now.present flag.now.absent state.old
+        result state.new }
+{
+    flag.eval(state)
 }
 
 /// `--accept`, which must stand there.

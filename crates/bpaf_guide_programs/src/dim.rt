@@ -1,5 +1,5 @@
 //! How a lamp is dimmed, by closures that check its numbers, of which it is proved that they decide.
-ghost use Rattle.std.specs.Prelude.{◌≤◌, IfOk, map, string_bytes};
+ghost use Rattle.std.specs.Prelude.{◌<◌, ◌≤◌, IfOk, map, string_bytes};
 ghost use Rattle.bpaf_record.specs.Spelled.{WasSpelled};
 ghost use Rattle.bpaf_guide_programs.specs.Dim.{percent_names};
 
@@ -16,13 +16,14 @@ pub struct Dimming {
 }
 
 /// The dimming that the words tell: only where one of those before the first `--` spells `-p` or
-/// `--percent`, and to 100 percent at most.
+/// `--percent`, and to 100 percent at most, but not to none.
 pub fn read_dimming(alloc: Global, words: &[String]) -> Result<Dimming, ParseFailure>
     ensures { IfOk result (λ dimming. WasSpelled percent_names (map string_bytes words.now)
-        × (dimming.percent ≤ 100)) }
+        × (0 < dimming.percent) × (dimming.percent ≤ 100)) }
 {
     let percent = short(alloc, 'p')?.long("percent")?.argument::<u64>("NUM");
     let percent = percent.parse(|n| if n <= 100 { Ok(n) } else { Err("too bright") });
+    let percent = percent.guard(|n| *n > 0, "no light");
     let lamp = short(alloc, 'l')?.argument::<u64>("NUM");
     let lamp = lamp.guard(|n| *n < 8, "no such lamp");
     let seconds = short(alloc, 's')?.argument::<u64>("NUM");

@@ -5,6 +5,9 @@ use Rattle.bpaf_text.specs.Named.{Named}
 use Rattle.bpaf_line.specs.declared.error.Error.{Error}
 use Rattle.bpaf_line.specs.Situation.{Situation}
 use Rattle.bpaf_laws.specs.Flag.{FlagOutcome, IsPresent}
+use Rattle.bpaf_laws.specs.RefusalNames.{NamesAnswer}
+use Rattle.bpaf_laws.proofs.NamesAnswer.{names_same}
+use Rattle.bpaf_line.specs.declared.error.Message.TheVariants.{Memory, ParseFail}
 use Rattle.bpaf_laws.specs.Laws.{Keeps, Lawful, Reads}
 use Rattle.bpaf_laws.specs.Product.{BothReads}
 use Rattle.bpaf_laws.proofs.FlagLaws.{flag_lawful}
@@ -73,9 +76,15 @@ module _ (info : RunInfo) where
       keeps_trans s m t (key_keeps info.help_arg s false m none) (no_version_keeps m t without)
   extra_refused s t e (no_memory told u is keeps) = keeps
 
+  -- no refusal is the answer of a run inside
+  extra_named : (s t : Situation) (e : Error) → ExtraOutcome info s (Err e) t → NamesAnswer e.0
+  extra_named s t e (neither told m u none without is) = names_same e.0 (ParseFail _) tt is
+  extra_named s t e (no_memory told u is keeps) = names_same e.0 Memory tt is
+
   -- looking keeps to the laws
   pub extra_lawful : Lawful ExtraParams (ExtraOutcome info) (ExtraReads info)
   extra_lawful = record {
     ok = λ s t asked o. extra_read s t asked o;
     err = λ s t e o. extra_refused s t e o;
+    named = λ s t e o. extra_named s t e o;
   }

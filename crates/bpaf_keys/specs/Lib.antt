@@ -1,4 +1,3 @@
 pub mod Info
 pub mod KnownNames
 pub mod Extra
-pub mod Version

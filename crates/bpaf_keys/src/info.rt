@@ -8,7 +8,7 @@ ghost use Rattle.bpaf_pages.specs.InsideHelp.{given_by};
 ghost use Rattle.bpaf_doc.specs.Shape.{And, members, shape_of};
 ghost use Rattle.bpaf_keys.specs.Extra.{ExtraOutcome, IsNotAsked, LooksForVersion};
 ghost use Rattle.bpaf_keys.specs.Extra.{extra_shape, key_shape};
-ghost use Rattle.bpaf_keys.specs.Version.{ShowsVersion, version_text};
+ghost use Rattle.bpaf_laws.specs.Version.{ShowsVersion, version_text};
 ghost use Rattle.bpaf_keys.specs.Info.{help_key, key_or, page_texts, plain_info, short_descr};
 ghost use Rattle.bpaf_keys.specs.Info.{usual_key};
 ghost use Rattle.bpaf_keys.specs.Info.{version_key};

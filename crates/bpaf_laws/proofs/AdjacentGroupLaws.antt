@@ -1,14 +1,17 @@
 -- Adjacent groups keep to the laws where their products do.
 use Rattle.std.specs.Prelude.{IfOk, ◌≡◌, ℕ, ◌<◌, ◌≤◌, Bool, true, false, not, ◌&&◌, nat_le, nat_lt}
 use Rattle.std.specs.Prelude.{List, Result, Ok, Err, Option, Some, None, if◌then◌else◌, refl}
-use Rattle.std.proofs.Common.{sym, subst, ◌∙◌, ◌+◌, arith, true≢false}
+use Rattle.std.proofs.Common.{ap, sym, subst, ◌∙◌, ◌+◌, arith, true≢false}
 use Rattle.std.proofs.lemmas.Bool.{and_parts}
 use Rattle.bpaf_doc.specs.Shape.{Part}
 use Rattle.bpaf_line.specs.declared.error.Error.{Error}
+use Rattle.bpaf_line.specs.declared.error.Message.TheVariants.{Missing}
 use Rattle.bpaf_line.specs.Situation.{Situation, is_taken, is_open, with_scope}
 use Rattle.bpaf_line.proofs.Places.{open_in_scope, open_not_taken}
 use Rattle.bpaf_laws.specs.Reading.{Readings, Outcome, Share, IsEmptyShare, HasPlace}
 use Rattle.bpaf_laws.specs.Laws.{Keeps, Reads, Lawful, newly}
+use Rattle.bpaf_laws.specs.RefusalNames.{NamesAnswer}
+use Rattle.bpaf_laws.proofs.NamesAnswer.{names_same, names_want}
 use Rattle.bpaf_laws.specs.Spared.{IsNotMemory, Spares}
 use Rattle.bpaf_laws.specs.OneStretch.{IsStretch}
 use Rattle.bpaf_laws.specs.AdjacentGroup.{GroupReads, Failure, longer, longest, taken_by, Probe}
@@ -58,6 +61,10 @@ module _ {T : Type 0} {inner : Outcome T} {reads : Readings T} (law : Lawful T i
   tries_keep a r t (refused stop e left narrowed ran) =
       attempt_keeps a stop (Err e) left narrowed ran
 
+  -- their error names its answer
+  tries_named : (a : ℕ) (e : Error) (t : Situation) → Tries T inner s a (Err e) t → NamesAnswer e.0
+  tries_named a e t (refused stop d left narrowed ran) = law.named (with_scope s a stop) left d ran
+
   -- a value of theirs is read off one stretch
   tries_read : (a : ℕ) (v : T) (t : Situation) → Tries T inner s a (Ok v) t
       → Reads T (GroupReads T reads) s v t
@@ -85,20 +92,20 @@ module _ {T : Type 0} {inner : Outcome T} {reads : Readings T} (law : Lawful T i
         };
       }
 
-  -- a failure keeps all, if there is one
+  -- a failure keeps all and names its answer, if there is one
   abbrev BestKeeps : Option Failure → Type 0
   BestKeeps None = Unit {0}
-  BestKeeps (Some failure) = Keeps s failure.left
+  BestKeeps (Some failure) = Keeps s failure.left × NamesAnswer failure.error.0
 
   -- so does the one that took more
-  longer_keeps : (best : Option Failure) (other : Failure) → BestKeeps best → Keeps s other.left
-      → BestKeeps (longer s best other)
+  longer_keeps : (best : Option Failure) (other : Failure) → BestKeeps best
+      → BestKeeps (Some other) → BestKeeps (longer s best other)
   longer_keeps best other before now =
       elim (nat_lt (taken_by s best) (taken_count s other.left))
       as (λ more. BestKeeps (if more then Some other else best))
       [ true ↦ now | false ↦ before ]
 
-  -- the longest failure of places that were tried in vain keeps all
+  -- so does the longest failure of places that were tried in vain
   vain_keeps : (first : Part) (from : ℕ) (failures : List Failure)
       → TriedInVain T inner s first from failures → BestKeeps (longest s failures)
   vain_keeps first from failures none_tried = tt
@@ -107,18 +114,23 @@ module _ {T : Type 0} {inner : Outcome T} {reads : Readings T} (law : Lawful T i
   vain_keeps first from failures
       (all_failed from' a failures' e t before start probe tries spared) =
       longer_keeps (longest s failures') (record { error = e; left = t })
-      (vain_keeps first from' failures' before) (tries_keep a (Err e) t tries)
+      (vain_keeps first from' failures' before)
+      (tries_keep a (Err e) t tries, tries_named a e t tries)
 
   -- what the laws say of an answer
   abbrev IsGood : Result T Error → Situation → Type 0
   IsGood (Ok v) t = Reads T (GroupReads T reads) s v t
-  IsGood (Err e) t = Keeps s t
+  IsGood (Err e) t = Keeps s t × NamesAnswer e.0
 
   -- the longest failure is a good end; so is that there is none
   end_keeps : (first : Part) (best : Option Failure) (e : Error) (t : Situation) → BestKeeps best
-      → EndsWith s first best e t → Keeps s t
-  end_keeps first None e t before ends = keeps_same s t ends.3
-  end_keeps first (Some failure) e t before ends = subst (Keeps s) (sym ends.1) before
+      → EndsWith s first best e t → IsGood (Err e) t
+  end_keeps first None e t before ends =
+      (keeps_same s t ends.3, names_same e.0 (Missing ends.0) tt ends.1)
+  end_keeps first (Some failure) e t before ends = (
+    subst (Keeps s) (sym ends.1) before.0,
+    names_same e.0 failure.error.0 before.1 (ap (λ d. d.0) ends.0),
+  )
 
   -- a search keeps to the laws
   searches_good : (first : Part) (r : Result T Error) (t : Situation)
@@ -127,14 +139,15 @@ module _ {T : Type 0} {inner : Outcome T} {reads : Readings T} (law : Lawful T i
       tries_read a v t' tries
   searches_good first r t (none_gave from failures e t' before none ends) =
       end_keeps first (longest s failures) e t' (vain_keeps first from failures before) ends
-  searches_good first r t (wanted e memory) = keeps_refl s
+  searches_good first r t (wanted e memory) = (keeps_refl s, names_want e.0 memory)
 
 -- adjacent groups keep to the laws
 pub group_lawful : {T : Type 0} {inner : Outcome T} {reads : Readings T} (first : Part)
     → Lawful T inner reads → Lawful T (GroupOutcome T inner first) (GroupReads T reads)
 group_lawful first law = record {
   ok = λ s t v o. searches_good law s first (Ok v) t o;
-  err = λ s t e o. searches_good law s first (Err e) t o;
+  err = λ s t e o. (searches_good law s first (Err e) t o).0;
+  named = λ s t e o. (searches_good law s first (Err e) t o).1;
 }
 
 -- a value of theirs newly took one stretch

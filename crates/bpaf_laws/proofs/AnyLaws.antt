@@ -13,9 +13,10 @@ use Rattle.bpaf_line.specs.OpenItems.{placed_item}
 use Rattle.bpaf_line.specs.Situation.{Situation, is_open, item_at, take_place}
 use Rattle.bpaf_line.specs.Taking.{open_item}
 use Rattle.bpaf_line.specs.declared.error.Message.{Message}
-use Rattle.bpaf_line.specs.declared.error.Message.TheVariants.{Memory, Missing}
+use Rattle.bpaf_line.specs.declared.error.Message.TheVariants.{Memory, Missing, ParseFailure}
 use Rattle.bpaf_line.proofs.Matches.{open_item_there}
 use Rattle.bpaf_laws.specs.Laws.{Keeps, Reads, Lawful}
+use Rattle.bpaf_laws.specs.RefusalNames.{NamesAnswer}
 use Rattle.bpaf_laws.specs.Any.{Looks, AnyReads, AnyOutcome, AnyFails, FirstMatch, looked_at}
 use Rattle.bpaf_laws.specs.Any.{take_item}
 use Rattle.bpaf_laws.proofs.Keeping.{keeps_same, keeps_take, keeps_trans, closes_take}
@@ -113,10 +114,16 @@ module _ (T : Type 0) (looks : Looks T) (part : Part) (anywhere : Bool) where
   any_refused s t Memory fails = keeps_same s t fails
   any_refused s t other fails = absurd fails
 
+  -- no refusal is the answer of a run inside
+  any_named : (s t : Situation) (m : Message) → AnyFails looks part anywhere s m t → NamesAnswer m
+  any_named s t (ParseFailure f) fails = absurd fails
+  any_named s t other fails = tt
+
   -- the parser of any item keeps to the laws
   pub any_lawful : Lawful T (AnyOutcome looks part anywhere) (AnyReads T looks)
   any_lawful = record {
     ok = λ s t v o. subst (Reads T (AnyReads T looks) s v) (sym o.3)
         (match_read looks anywhere s o.0 o.1 v o.2);
     err = λ s t e o. any_refused s t e.0 o;
+    named = λ s t e o. any_named s t e.0 o;
   }

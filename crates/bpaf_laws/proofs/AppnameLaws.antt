@@ -2,7 +2,9 @@
 use Rattle.std.proofs.Common.{◌≡◌, ℕ, List, [], ◌∷◌, Option, Some, None, IfSome, slice_get}
 use Rattle.std.proofs.Common.{string_bytes, String}
 use Rattle.std.specs.declared.alloc.Global.{Global}
+use Rattle.bpaf_line.specs.declared.error.Message.TheVariants.{Memory}
 use Rattle.bpaf_laws.specs.Laws.{Lawful}
+use Rattle.bpaf_laws.proofs.NamesAnswer.{names_same}
 use Rattle.bpaf_laws.specs.Appname.{AppnameOutcome, AppnameReads, first_entry}
 use Rattle.bpaf_laws.proofs.Keeping.{keeps_same, newly_none, reads_same}
 
@@ -20,4 +22,5 @@ appname_lawful = record {
   ok = λ s t v o. reads_same AppnameReads s t v o.2
       (newly_none s, first_is_name s.path s.context.name (string_bytes v) o.0 o.1);
   err = λ s t e o. keeps_same s t o.1;
+  named = λ s t e o. names_same e.0 Memory tt o.0;
 }

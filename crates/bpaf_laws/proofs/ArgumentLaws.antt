@@ -1,13 +1,16 @@
 -- Arguments keep to the laws.
 use Rattle.std.specs.Prelude.{ℕ, ◌+◌, Bool, true, false, List}
 use Rattle.std.proofs.Common.{sym, subst, ◌∙◌, ⊎_elim, true≢false}
-use Rattle.bpaf_text.specs.Named.{KeyWithValue}
+use Rattle.bpaf_text.specs.Named.{KeyWithValue, argument_part}
 use Rattle.bpaf_line.specs.Situation.{Situation}
 use Rattle.bpaf_line.proofs.Matches.{match_has_item}
 use Rattle.bpaf_line.specs.declared.error.Message.{Message}
-use Rattle.bpaf_line.specs.declared.error.Message.TheVariants.{Memory, ParseFailed, NoArgument}
+use Rattle.bpaf_line.specs.declared.error.Message.TheVariants.{Memory, ParseFailed, ParseFailure}
+use Rattle.bpaf_line.specs.declared.error.Message.TheVariants.{NoArgument}
 use Rattle.bpaf_laws.specs.Reading.{Readings}
 use Rattle.bpaf_laws.specs.Laws.{Keeps, Closes, Reads, Lawful, newly}
+use Rattle.bpaf_laws.specs.RefusalNames.{NamesAnswer}
+use Rattle.bpaf_laws.proofs.NamesAnswer.{names_absence}
 use Rattle.bpaf_laws.proofs.Keeping.{keeps_same, keeps_unset, reads_unset, closes_take_both}
 use Rattle.bpaf_laws.proofs.Keeping.{newly_none, newly_take_both}
 use Rattle.bpaf_laws.proofs.KeysTaken.{key_open, value_there, value_open, value_keeps}
@@ -104,6 +107,13 @@ module _ (T : Type 0) (means : List ℕ → T → Type 0) (argument : KeyWithVal
       (λ got. text_keeps s t got.0 got.1) fails
   argument_refused s t other fails = keeps_same s t fails.2
 
+  -- no refusal of an argument is the answer of a run inside
+  argument_named : (s t : Situation) (m : Message) → ArgumentFails means argument s m t
+      → NamesAnswer m
+  argument_named s t (ParseFailure f) fails =
+      names_absence s (argument_part argument) argument.named.envs (ParseFailure f) fails.1.1
+  argument_named s t other fails = tt
+
   -- arguments keep to the laws
   pub argument_lawful : Lawful T (ArgumentOutcome means argument) reads_argument
   argument_lawful = record {
@@ -111,4 +121,5 @@ module _ (T : Type 0) (means : List ℕ → T → Type 0) (argument : KeyWithVal
         λ s t v o. ⊎_elim (λ takes. argument_read s t v o.0 takes o.2)
         (λ found. variable_read s t v o.0 found o.2) o.1;
     err = λ s t e o. argument_refused s t e.0 o;
+    named = λ s t e o. argument_named s t e.0 o;
   }

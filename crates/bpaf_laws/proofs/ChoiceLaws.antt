@@ -6,6 +6,8 @@ use Rattle.bpaf_line.specs.Conflicts.{ConflictsSaved}
 use Rattle.bpaf_line.specs.declared.error.Error.{Error}
 use Rattle.bpaf_laws.specs.Reading.{Readings, Outcome}
 use Rattle.bpaf_laws.specs.Laws.{Keeps, Reads, Lawful}
+use Rattle.bpaf_laws.specs.RefusalNames.{NamesAnswer}
+use Rattle.bpaf_laws.proofs.NamesAnswer.{names_combined, names_want}
 use Rattle.bpaf_laws.proofs.Keeping.{keeps_of, keeps_same, keeps_conflicts, closes_conflicts}
 use Rattle.bpaf_laws.proofs.Keeping.{newly_conflicts}
 use Rattle.bpaf_laws.specs.Choice.{AnsweredBranch, branch_of, Winner, EqualDepths, Chosen}
@@ -129,6 +131,46 @@ module _ {T : Type 0} {first second : Outcome T} {rf rs : Readings T} (lf : Lawf
       (λ equal. keeps_same s t (equal_err a sa b sb e t equal.1)) rest)
       o
 
+module _ {T : Type 0} {first second : Outcome T} {rf rs : Readings T} (lf : Lawful T first rf)
+    (ls : Lawful T second rs) (s : Situation) where
+  -- the error of the first branch names its answer
+  named_first : (a : Result T Error) (sa : Situation) (e : Error) → first s a sa → Err e ≡ a
+      → NamesAnswer e.0
+  named_first a sa e ran answer = lf.named s sa e (subst (λ w. first s w sa) (sym answer) ran)
+
+  -- so does that of the second
+  named_second : (b : Result T Error) (sb : Situation) (e : Error) → second s b sb → Err e ≡ b
+      → NamesAnswer e.0
+  named_second b sb e ran answer = ls.named s sb e (subst (λ w. second s w sb) (sym answer) ran)
+
+  -- and a refusal at equal depths
+  equal_named : (a : Result T Error) (sa : Situation) (b : Result T Error) (sb : Situation)
+      (e : Error) (t : Situation) → first s a sa → second s b sb
+      → EqualDepths s a sa b sb (Err e) t → NamesAnswer e.0
+  equal_named (Ok x) sa (Ok y) sb e t f g o =
+      ⊎_elim (λ neither. absurd (no_value x e (sym neither.1.0)))
+      (λ won. absurd (not_winner (branch_of x sa) (branch_of y sb) won.1.0 e t won.1.2)) o
+  equal_named (Ok x) sa (Err d) sb e t f g o =
+      ⊎_elim (λ wrong. named_second (Err d) sb e g wrong.1)
+      (λ right. absurd (no_value x e (sym right.1.0))) o
+  equal_named (Err d) sa (Ok y) sb e t f g o =
+      ⊎_elim (λ wrong. named_first (Err d) sa e f wrong.1)
+      (λ right. absurd (no_value y e (sym right.1.0))) o
+  equal_named (Err d) sa (Err c) sb e t f g o =
+      let names = names_combined d.0 c.0 o.0.0.0 (lf.named s sa d f) (ls.named s sb c g) o.0.1 in
+      let same : e ≡ o.0.0 = cc in
+      subst (λ w. NamesAnswer w.0) (sym same) names
+
+  -- and one of the table
+  chosen_named : (a : Result T Error) (sa : Situation) (b : Result T Error) (sb : Situation)
+      (e : Error) (t : Situation) → first s a sa → second s b sb → Chosen s a sa b sb (Err e) t
+      → NamesAnswer e.0
+  chosen_named a sa b sb e t f g o = ⊎_elim
+      (λ deeper. named_first a sa e f deeper.1)
+      (λ rest. ⊎_elim (λ deeper. named_second b sb e g deeper.1)
+      (λ equal. equal_named a sa b sb e t f g equal.1) rest)
+      o
+
 -- choices keep to the laws
 pub choice_lawful : {T : Type 0} {first second : Outcome T} {rf rs : Readings T} → Lawful T first rf
     → Lawful T second rs
@@ -139,5 +181,10 @@ choice_lawful lf ls = record {
       (λ ran. chosen_err lf ls s ran.a ran.sa ran.b ran.sb e t ran.first_ran ran.second_ran
       ran.chosen)
       (λ want. keeps_same s t want.1)
+      o;
+  named = λ s t e o. ⊎_elim
+      (λ ran. chosen_named lf ls s ran.a ran.sa ran.b ran.sb e t ran.first_ran ran.second_ran
+      ran.chosen)
+      (λ want. names_want e.0 want.0)
       o;
 }

@@ -4,8 +4,7 @@ use Rattle.bpaf_laws.specs.Reading.{Readings, Outcome}
 use Rattle.bpaf_laws.specs.Laws.{Lawful}
 use Rattle.bpaf_laws.specs.Choice.{ChoiceOutcome, ChoiceReads}
 use Rattle.bpaf_laws.proofs.ChoiceLaws.{choice_lawful}
-use Rattle.bpaf_laws.specs.Pure.{GivesRefusal}
-use Rattle.bpaf_laws.proofs.PureLaws.{pure_lawful}
+use Rattle.bpaf_laws.proofs.PureLaws.{refusal_lawful}
 use Rattle.bpaf_laws.specs.Choices.{Nested, ChoicesOutcome, ChoicesReads, no_choice}
 
 -- a choice of a lawful outcome and of lawful parsers is lawful
@@ -23,6 +22,6 @@ from_lawful outcome reads before read (p ∷ ps) each law =
 pub choices_lawful : {T P : Type 0} (outcome : P → Outcome T) (reads : P → Readings T) (ps : List P)
     → ((p : P) → Lawful T (outcome p) (reads p))
     → Lawful T (ChoicesOutcome outcome ps) (ChoicesReads reads ps)
-choices_lawful outcome reads [] each = pure_lawful (GivesRefusal no_choice)
+choices_lawful outcome reads [] each = refusal_lawful no_choice
 choices_lawful outcome reads (p ∷ ps) each =
     from_lawful outcome reads (outcome p) (reads p) ps each (each p)

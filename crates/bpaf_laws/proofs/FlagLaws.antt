@@ -2,15 +2,17 @@
 use Rattle.std.specs.Prelude.{◌≡◌, Bool, true, false, Option}
 use Rattle.std.proofs.Common.{sym, subst, ⊎_elim}
 use Rattle.bpaf_doc.specs.Names.{Names}
-use Rattle.bpaf_text.specs.Named.{Named}
+use Rattle.bpaf_text.specs.Named.{Named, flag_part}
 use Rattle.bpaf_line.specs.Situation.{Situation, is_open}
 use Rattle.bpaf_items.specs.Items.{is_key_of}
 use Rattle.bpaf_line.specs.Taking.{TakesFlag}
 use Rattle.bpaf_line.proofs.Matches.{match_is_open, match_has_item}
 use Rattle.bpaf_line.specs.declared.error.Message.{Message}
-use Rattle.bpaf_line.specs.declared.error.Message.TheVariants.{Memory}
+use Rattle.bpaf_line.specs.declared.error.Message.TheVariants.{Memory, ParseFailure}
 use Rattle.bpaf_laws.specs.Reading.{Readings}
 use Rattle.bpaf_laws.specs.Laws.{Keeps, Reads, Lawful}
+use Rattle.bpaf_laws.specs.RefusalNames.{NamesAnswer}
+use Rattle.bpaf_laws.proofs.NamesAnswer.{names_absence}
 use Rattle.bpaf_laws.proofs.Keeping.{keeps_same, reads_same, closes_take, newly_none, keeps_take}
 use Rattle.bpaf_laws.proofs.Keeping.{newly_take}
 use Rattle.bpaf_laws.specs.Flag.{FlagReads, at_key, in_environment, nowhere, FlagOutcome, FlagFails}
@@ -71,6 +73,13 @@ module _ (T : Type 0) (clones : T → T → Type 0) (named : Named) (present : T
   flag_refused s t Memory fails = present_keeps s t fails.0 fails.1
   flag_refused s t other fails = flag_keeps named.names s false t fails.0.0
 
+  -- no refusal of a flag is the answer of a run inside
+  flag_named : (s t : Situation) (m : Message) → FlagFails named absent s m t → NamesAnswer m
+  flag_named s t Memory fails = tt
+  flag_named s t (ParseFailure f) fails =
+      names_absence s (flag_part named) named.envs (ParseFailure f) fails.2
+  flag_named s t other fails = tt
+
   -- flags keep to the laws
   pub flag_lawful : Lawful T (FlagOutcome clones named present absent) reads_flag
   flag_lawful = record {
@@ -78,4 +87,5 @@ module _ (T : Type 0) (clones : T → T → Type 0) (named : Named) (present : T
         λ s t v o. ⊎_elim (λ here. flag_present s t v here.0 here.1)
         (λ none. flag_absent s t v none.0 none.1) o;
     err = λ s t e o. flag_refused s t e.0 o;
+    named = λ s t e o. flag_named s t e.0 o;
   }

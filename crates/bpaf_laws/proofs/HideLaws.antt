@@ -7,15 +7,28 @@ use Rattle.bpaf_doc.specs.declared.item.Item.TheFolds.{fold-roll-Meta}
 use Rattle.bpaf_doc.specs.declared.meta.Meta.{Meta}
 use Rattle.bpaf_doc.specs.declared.meta.Meta as meta
 use Rattle.bpaf_doc.specs.declared.meta.MetaInfo.{MetaInfo}
+use Rattle.bpaf_line.specs.declared.error.Message.{Message}
+use Rattle.bpaf_line.specs.declared.error.Message.TheVariants.{Missing}
 use Rattle.bpaf_doc.specs.Shape.{Shape, Part, Subsection, shape_of, part_layer, shape_layer}
 use Rattle.bpaf_laws.specs.Reading.{Readings, Outcome}
 use Rattle.bpaf_laws.specs.Laws.{Lawful}
-use Rattle.bpaf_laws.specs.Hide.{HideOutcome}
+use Rattle.bpaf_laws.specs.Hide.{HideOutcome, hidden}
+use Rattle.bpaf_laws.specs.RefusalNames.{NamesAnswer}
+use Rattle.bpaf_laws.proofs.NamesAnswer.{names_same}
+
+-- a refusal that names no missing item names its answer where it did
+names_hidden : (m : Message) → NamesAnswer m → NamesAnswer (hidden m)
+names_hidden (Missing items) names = tt
+names_hidden m names = names
 
 -- hidden parsers keep to the laws
 pub hide_lawful : {T : Type 0} {inner : Outcome T} {reads : Readings T} → Lawful T inner reads
     → Lawful T (HideOutcome inner) reads
-hide_lawful law = record { ok = law.ok; err = λ s t e o. law.err s t o.0 o.1 }
+hide_lawful law = record {
+  ok = law.ok;
+  err = λ s t e o. law.err s t o.0 o.1;
+  named = λ s t e o. names_same e.0 _ (names_hidden o.0.0 (law.named s t o.0 o.1)) o.2;
+}
 
 -- the shape of a section
 section_shape : (inner : Box Meta Global) (title : List Piece)

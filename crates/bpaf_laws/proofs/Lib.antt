@@ -1,3 +1,5 @@
+pub mod NamesAnswer
+pub mod Clones
 pub mod Keeping
 pub mod CountingLaws
 pub mod FlagLaws

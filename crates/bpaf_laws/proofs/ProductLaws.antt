@@ -6,6 +6,7 @@ use Rattle.bpaf_line.specs.Messages.{is_memory}
 use Rattle.bpaf_line.specs.declared.error.Error.{Error}
 use Rattle.bpaf_laws.specs.Reading.{Readings, Outcome}
 use Rattle.bpaf_laws.specs.Laws.{Keeps, Reads, Lawful, newly}
+use Rattle.bpaf_laws.specs.RefusalNames.{NamesAnswer}
 use Rattle.bpaf_laws.proofs.Keeping.{keeps_of, keeps_trans, keeps_current, closes_trans}
 use Rattle.bpaf_laws.proofs.Keeping.{newly_joins}
 use Rattle.bpaf_laws.specs.Product.{BothReads, BothOutcome, FailFastOutcome, joined, ProductOutcome}
@@ -41,6 +42,27 @@ both_ok A B first rest rf rr fa fb (Err x) (Err y) s m t v f r e =
     → Reads (A × B) (BothReads A B rf rr) s v t)
     [ true ↦ λ joined_is. cc | false ↦ λ joined_is. cc ] e
 
+-- the error of fields that were evaluated one after the other names its answer
+joined_named : (A B : Type 0) (first : Outcome A) (rest : Outcome B) (rf : Readings A)
+    (rr : Readings B) → Lawful A first rf → Lawful B rest rr
+    → (a : Result A Error) (b : Result B Error) (s m t : Situation) (e : Error) → first s a m
+    → rest m b t → Err e ≡ joined a b → NamesAnswer e.0
+joined_named A B first rest rf rr la lb (Ok x) (Ok y) s m t e f g is = cc
+joined_named A B first rest rf rr la lb (Ok x) (Err d) s m t e f g is =
+    let same : e ≡ d = cc in
+    subst (λ w. NamesAnswer w.0) (sym same) (lb.named m t d g)
+joined_named A B first rest rf rr la lb (Err d) (Ok y) s m t e f g is =
+    let same : e ≡ d = cc in
+    subst (λ w. NamesAnswer w.0) (sym same) (la.named s m d f)
+joined_named A B first rest rf rr la lb (Err d) (Err c) s m t e f g is =
+    elim (is_memory c.0) as (λ z. ◌≡◌ {A = Result (A × B) Error} (Err e)
+    (if z then Err c else Err d) → NamesAnswer e.0) [
+      | true ↦ λ is. let same : e ≡ c = cc in
+          subst (λ w. NamesAnswer w.0) (sym same) (lb.named m t c g)
+      | false ↦ λ is. let same : e ≡ d = cc in
+          subst (λ w. NamesAnswer w.0) (sym same) (la.named s m d f)
+    ] is
+
 -- fields that keep to the laws keep to them together
 pub both_lawful : {A B : Type 0} {first : Outcome A} {rest : Outcome B} {rf : Readings A}
     {rr : Readings B}
@@ -54,6 +76,11 @@ both_lawful {A = A} {B = B} {first = first} {rest = rest} {rf = rf} {rr = rr} la
     | inl ran ↦ keeps_trans s ran.middle t (keeps_of la s ran.a ran.middle ran.first_ran)
         (keeps_of lb ran.middle ran.b t ran.rest_ran)
     | inr stopped ↦ la.err s t e stopped.0
+  ];
+  named = λ s t e o. elim o [
+    | inl ran ↦ joined_named A B first rest rf rr la lb ran.a ran.b s ran.middle t e ran.first_ran
+        ran.rest_ran ran.answer
+    | inr stopped ↦ la.named s t e stopped.0
   ];
 }
 
@@ -70,6 +97,10 @@ fail_fast_lawful {A = A} {B = B} {first = first} {rest = rest} {rf = rf} {rr = r
       (λ later. keeps_trans s later.1 t (la.ok s later.1 later.0 later.2).keeps
       (lb.err later.1 t e later.3))
       o;
+  named = λ s t e o. ⊎_elim
+      (λ failed. la.named s t e failed)
+      (λ later. lb.named later.1 t e later.3)
+      o;
 }
 
 -- a product keeps to the laws where its fields do
@@ -85,4 +116,5 @@ product_lawful {V} {T} {fields} {reads} makes l = record {
         reading = record { values = o.1; read = r.reading; made = o.3 };
       });
   err = λ s t e o. subst (λ w. Keeps s w) (sym o.2) (keeps_current s o.0 None (l.err s o.0 e o.1));
+  named = λ s t e o. l.named s o.0 e o.1;
 }

@@ -11,7 +11,10 @@ use Rattle.bpaf_laws.proofs.Keeping.{keeps_refl, keeps_trans, closes_refl, close
 use Rattle.bpaf_laws.proofs.Keeping.{newly_joins, newly_none}
 use Rattle.bpaf_laws.proofs.CountingLaws.{open_count-falls, fewer_took, same_took_none}
 use Rattle.bpaf_laws.specs.Turn.{TurnOutcome}
-use Rattle.bpaf_laws.proofs.DefaultLaws.{step_refused}
+use Rattle.bpaf_laws.proofs.DefaultLaws.{step_named, step_refused}
+use Rattle.bpaf_laws.proofs.NamesAnswer.{names_same, names_want}
+use Rattle.bpaf_laws.specs.RefusalNames.{NamesAnswer}
+use Rattle.bpaf_line.specs.declared.error.Message.TheVariants.{Memory, ParseSome}
 use Rattle.bpaf_laws.specs.Repeat.{is_nil, Turns, UntilStop, UntilError, UntilRest, UntilFault}
 use Rattle.bpaf_laws.specs.Repeat.{stops, rests, ListOutcome, EachReads, ListReads, ManyOutcome}
 use Rattle.bpaf_laws.specs.Repeat.{ManyReads, SomeOutcome, SomeReads, CollectOutcome, CollectReads}
@@ -149,6 +152,11 @@ module _ {T : Type 0} {inner : Outcome T} {reads : Readings T} (law : Lawful T i
       keeps_trans s run.last t (steps_keep true s run.values run.last run.steps)
       (step_refused law catches (is_nil run.values) run.last t e run.fails)
 
+  -- an error of turns names its answer
+  until_error_named : (s : Situation) (e : Error) (t : Situation) → UntilError inner catches s e t
+      → NamesAnswer e.0
+  until_error_named s e t run = step_named law catches (is_nil run.values) run.last t e run.fails
+
   -- many keeps to the laws
   pub many_lawful : Lawful (Vec T) (ManyOutcome inner catches) (ManyReads reads)
   many_lawful = record {
@@ -156,6 +164,7 @@ module _ {T : Type 0} {inner : Outcome T} {reads : Readings T} (law : Lawful T i
         λ s t values o. let read = until_stop_reads s values.items t o
         in record { keeps = read.keeps; closed = read.closed; reading = read.reading };
     err = λ s t e o. until_error_keeps s e t o;
+    named = λ s t e o. until_error_named s e t o;
   }
 
   -- some keeps to the laws
@@ -168,6 +177,10 @@ module _ {T : Type 0} {inner : Outcome T} {reads : Readings T} (law : Lawful T i
     err =
         λ s t e o. ⊎_elim (λ failed. until_error_keeps s e t failed)
         (λ none. (until_stop_reads s [] t none.0).keeps) o;
+    named =
+        λ s t e o. ⊎_elim (λ failed. until_error_named s e t failed)
+        (λ none. ⊎_elim (names_same e.0 (ParseSome message) tt) (names_same e.0 Memory tt) none.1)
+        o;
   }
 
   -- collect keeps to the laws
@@ -184,6 +197,9 @@ module _ {T : Type 0} {inner : Outcome T} {reads : Readings T} (law : Lawful T i
     err =
         λ s t e o. ⊎_elim (λ failed. until_error_keeps s e t failed)
         (λ refused. (until_stop_reads s refused.0 t refused.1).keeps) o;
+    named =
+        λ s t e o. ⊎_elim (λ failed. until_error_named s e t failed)
+        (λ refused. names_want e.0 refused.2) o;
   }
 
   -- each value took an item, so there are no more values than items
@@ -258,6 +274,11 @@ module _ {T : Type 0} {inner : Outcome T} {reads : Readings T} (law : Lawful T i
       keeps_trans s run.last t (steps_keep law false false s run.values run.last run.steps)
       (step_refused law false (is_nil run.values) run.last t e run.fails)
 
+  -- their error names its answer
+  until_fault_named : (s : Situation) (e : Error) (t : Situation) → UntilFault inner s e t
+      → NamesAnswer e.0
+  until_fault_named s e t run = step_named law false (is_nil run.values) run.last t e run.fails
+
   -- count keeps to the laws
   pub count_lawful : Lawful ℕ (CountOutcome inner) (CountReads reads)
   count_lawful = record {
@@ -269,6 +290,7 @@ module _ {T : Type 0} {inner : Outcome T} {reads : Readings T} (law : Lawful T i
           reading = record { values = o.0; read = read.reading; number = o.2 };
         };
     err = λ s t e o. until_fault_keeps s e t o;
+    named = λ s t e o. until_fault_named s e t o;
   }
 
   -- evaluated once more, after nothing
@@ -307,5 +329,10 @@ module _ {T : Type 0} {inner : Outcome T} {reads : Readings T} (law : Lawful T i
         (λ fault. until_fault_keeps s e t fault)
         (λ again. keeps_trans s again.0 t (until_rest_reads s [] again.0 again.1).keeps
         (law.err again.0 t e again.2))
+        o;
+    named = λ s t e o.
+        ⊎_elim
+        (λ fault. until_fault_named s e t fault)
+        (λ again. law.named again.0 t e again.2)
         o;
   }

@@ -2,7 +2,9 @@
 use Rattle.std.specs.Prelude.{ℕ, Bool, List, Result, Ok, Option}
 use Rattle.std.proofs.Common.{⊎_elim}
 use Rattle.bpaf_laws.specs.Reading.{Readings, Outcome}
+use Rattle.bpaf_line.specs.declared.error.Message.TheVariants.{Memory, GuardFailed, ParseFailed}
 use Rattle.bpaf_laws.specs.Laws.{Reads, Lawful}
+use Rattle.bpaf_laws.proofs.NamesAnswer.{names_fault, names_same}
 use Rattle.bpaf_laws.specs.Transform.{MapReads, MapOutcome, ParseOutcome, GuardReads, GuardOutcome}
 
 module _ {T : Type 0} {inner : Outcome T} {reads : Readings T} (law : Lawful T inner reads) where
@@ -23,6 +25,7 @@ module _ {T : Type 0} {inner : Outcome T} {reads : Readings T} (law : Lawful T i
   map_lawful answers = record {
     ok = λ s t v o. map_read answers s t o.0 v o.1 o.2;
     err = λ s t e o. law.err s t e o;
+    named = λ s t e o. law.named s t e o;
   }
 
   -- so do parsers whose value a closure reads on
@@ -34,6 +37,9 @@ module _ {T : Type 0} {inner : Outcome T} {reads : Readings T} (law : Lawful T i
     err =
         λ s t e o. ⊎_elim (λ refused. law.err s t e refused)
         (λ fault. (law.ok s t fault.0 fault.1).keeps) o;
+    named =
+        λ s t e o. ⊎_elim (λ refused. law.named s t e refused)
+        (λ fault. names_fault shown fault.2 (ParseFailed t.current) e.0 (λ text. tt) fault.4) o;
   }
 
   -- and guarded ones
@@ -46,4 +52,8 @@ module _ {T : Type 0} {inner : Outcome T} {reads : Readings T} (law : Lawful T i
     err =
         λ s t e o. ⊎_elim (λ refused. law.err s t e refused)
         (λ failed. (law.ok s t failed.0 failed.1).keeps) o;
+    named =
+        λ s t e o. ⊎_elim (λ refused. law.named s t e refused)
+        (λ failed. ⊎_elim (names_same e.0 (GuardFailed t.current message) tt)
+        (names_same e.0 Memory tt) failed.3) o;
   }

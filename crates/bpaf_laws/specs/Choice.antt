@@ -1,5 +1,5 @@
 -- A choice of two parsers, both of which are evaluated from the same situation.
-use Rattle.std.specs.Prelude.{◌≡◌, ◌⊎◌, ◌<◌, ℕ, Bool, true, false, ◌&&◌, List, [], ◌∷◌, ◌++◌}
+use Rattle.std.specs.Prelude.{◌≡◌, ◌⊎◌, ◌<◌, ℕ, Bool, true, false, ◌&&◌, ◌++◌}
 use Rattle.std.specs.Prelude.{length, Result, Ok, Err, Option, Some, None}
 use Rattle.std.specs.Result.{IsOk}
 use Rattle.bpaf_doc.specs.Shape.{Shape, Or, alternatives, members}

@@ -11,6 +11,7 @@ use Rattle.bpaf_line.specs.Situation.{Situation}
 use Rattle.bpaf_line.specs.declared.error.Error.{Error}
 use Rattle.bpaf_line.specs.declared.error.Message.TheVariants.{PureFailed}
 use Rattle.bpaf_laws.specs.Reading.{Readings, Outcome, IsEmptyShare}
+use Rattle.bpaf_laws.specs.RefusalNames.{NamesAnswer}
 use Rattle.bpaf_laws.specs.Transform.{TellsFault}
 
 -- what gives a value without a line: the answers that it may give
@@ -27,6 +28,10 @@ abbrev pub GivesAnswer : {T E : Type 0} → (Result T E → Type 0) → (E → O
 GivesAnswer answers shown (Ok v) = answers (Ok v)
 GivesAnswer {T} {E} answers shown (Err e) =
     (fault : E) × answers (Err fault) × TellsFault shown fault PureFailed e.0
+
+-- each refusal of it that is the answer of a run inside has a name
+abbrev pub NamesGiven : {T : Type 0} → Gives T → Type 0
+NamesGiven gives = (e : Error) → gives (Err e) → NamesAnswer e.0
 
 -- no place and None, or an inner reading and Some of its value
 abbrev pub OptionalReads : {T : Type 0} → Readings T → Readings (Option T)

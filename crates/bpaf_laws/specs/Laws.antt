@@ -4,6 +4,7 @@ use Rattle.bpaf_line.specs.Marks.{KeepsMarks}
 use Rattle.bpaf_line.specs.Situation.{Situation, is_taken, is_open, in_scope}
 use Rattle.bpaf_line.specs.declared.error.Error.{Error}
 use Rattle.bpaf_laws.specs.Reading.{Share, Readings, Outcome}
+use Rattle.bpaf_laws.specs.RefusalNames.{NamesAnswer}
 
 -- the places taken since a situation
 abbrev pub newly : Situation → Situation → Share
@@ -45,3 +46,5 @@ pub record Reads (T : Type 0) (reads : Readings T) (s : Situation) (v : T)
 pub record Lawful (T : Type 0) (outcome : Outcome T) (reads : Readings T) : Type 0 where
   pub ok : (s t : Situation) (v : T) → outcome s (Ok v) t → Reads T reads s v t
   pub err : (s t : Situation) (e : Error) → outcome s (Err e) t → Keeps s t
+  -- where an error is the answer of a run inside, that has one of the twelve names
+  pub named : (s t : Situation) (e : Error) → outcome s (Err e) t → NamesAnswer e.0

@@ -22,3 +22,6 @@ pub mod AdjacentCommand
 pub mod Appname
 pub mod Hide
 pub mod Any
+pub mod Version
+pub mod RefusalNames
+pub mod Kept

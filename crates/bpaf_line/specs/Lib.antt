@@ -17,3 +17,6 @@ pub mod Conflicts
 pub mod Constructing
 pub mod TakenPlaces
 pub mod Stretches
+pub mod Shown
+pub mod MissingText
+pub mod Rendering

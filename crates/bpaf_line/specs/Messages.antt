@@ -13,6 +13,11 @@ is_memory Memory = true
 is_memory (ParseFailure failure.Memory) = true
 is_memory _ = false
 
+-- the answer of an inner run
+abbrev pub is_answer : Message → Bool
+is_answer (ParseFailure f) = true
+is_answer _ = false
+
 -- a refusal past which a parser goes on that may do without a value
 abbrev pub can_catch : Message → Bool
 can_catch (NoEnv name) = true

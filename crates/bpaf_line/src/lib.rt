@@ -23,8 +23,9 @@
 //! - [`Message`], [`Error`] and [`ParseFailure`] say why a parser, or a whole run, gives no value.
 //!   A [`Message`] is want of memory (`is_memory`), one past which an optional parser goes on
 //!   (`can_catch`), one for which the words are at fault (`is_wrong_input`; specs/Messages.antt),
-//!   or none of these. Of two there is one by `Combines` (specs/Combining.antt). What is told of
-//!   one stands beside this crate's callers, in `bpaf_messages`.
+//!   or none of these. Of two there is one by `Combines` (specs/Combining.antt). Its text is
+//!   `message_text` (specs/Rendering.antt), made of what the line shows (specs/Shown.antt) and of
+//!   the items that were looked for furthest on (specs/MissingText.antt); `bpaf_messages` tells it.
 //!
 //! The source of the design is bpaf's `args.rs` and `error.rs`.
 #![tactic(auto)]

@@ -3,8 +3,7 @@
 //! It stands on `bpaf_line`, whose states and messages it reads. For the layers above:
 //!
 //! - [`render`] tells a [`Message`](bpaf_line::Message) in the state that the refusing parser left:
-//!   its text is `message_text` (specs/Rendering.antt), made of what the line shows
-//!   (specs/Shown.antt) and of the items that were looked for furthest on (specs/MissingText.antt).
+//!   its text is the `message_text` of `bpaf_line`.
 //! - [`leftover`] is the message of the first item that is left (specs/Leftover.antt): what
 //!   excludes it; else the last earlier key of its kind and name, which [`earlier_key`] finds
 //!   (specs/EarlierKey.antt); else that it isn't expected.

@@ -5,10 +5,10 @@ ghost use Rattle.bpaf_doc.specs.Print.{printed, in_backticks};
 ghost use Rattle.bpaf_doc.specs.Shape.{part_of};
 ghost use Rattle.bpaf_line.specs.declared.error.Message.TheVariants.{Expected};
 ghost use Rattle.bpaf_line.specs.Missing.{missed_of};
-ghost use Rattle.bpaf_messages.specs.MissingText.{furthest, reaches, in_one_scope, is_command};
-ghost use Rattle.bpaf_messages.specs.MissingText.{told_parts};
-ghost use Rattle.bpaf_messages.specs.Rendering.{alternatives, got_text, expected_of, missing_text};
-ghost use Rattle.bpaf_messages.specs.Rendering.{hidden_text, message_text};
+ghost use Rattle.bpaf_line.specs.MissingText.{furthest, reaches, in_one_scope, is_command};
+ghost use Rattle.bpaf_line.specs.MissingText.{told_parts};
+ghost use Rattle.bpaf_line.specs.Rendering.{alternatives, got_text, expected_of, missing_text};
+ghost use Rattle.bpaf_line.specs.Rendering.{hidden_text, message_text};
 
 use crate::shown::shown_item;
 use bpaf_doc::{Doc, Item, Style};

@@ -3,10 +3,10 @@ ghost use Rattle.std.specs.Prelude.{◌≡◌, ◌++◌, true, IfOk, Some, None,
 ghost use Rattle.std.specs.Prelude.{option_copied, option_map, string_bytes};
 ghost use Rattle.bpaf_doc.specs.Fold.{folded_whole};
 ghost use Rattle.bpaf_doc.specs.Print.{printed};
-ghost use Rattle.bpaf_messages.specs.Rendering.{message_text, side_text, parse_failed_text};
-ghost use Rattle.bpaf_messages.specs.Rendering.{guard_failed_text, no_argument_text};
-ghost use Rattle.bpaf_messages.specs.Rendering.{only_once_text, IsRefusal, Renders};
-ghost use Rattle.bpaf_messages.specs.Shown.{shown_item, word_at, quoted_word, key_behind};
+ghost use Rattle.bpaf_line.specs.Rendering.{message_text, side_text, parse_failed_text};
+ghost use Rattle.bpaf_line.specs.Rendering.{guard_failed_text, no_argument_text};
+ghost use Rattle.bpaf_line.specs.Rendering.{only_once_text, IsRefusal, Renders};
+ghost use Rattle.bpaf_line.specs.Shown.{shown_item, word_at, quoted_word, key_behind};
 
 use crate::ambiguity::ambiguity;
 use crate::missing::{expected_items, missing};

@@ -5,7 +5,8 @@ use Rattle.bpaf_doc.specs.Names.{Names}
 use Rattle.bpaf_doc.specs.Shape.{Shape}
 use Rattle.bpaf_text.specs.Named.{KeyWithValue, Named, key_named}
 use Rattle.bpaf_laws.specs.Argument.{ArgumentOutcome, argument_shape}
-use Rattle.bpaf_laws.specs.Default.{DefaultDescribes, FallbackOutcome, GivesClone, OptionalDescribes}
+use Rattle.bpaf_laws.specs.Default.{DefaultDescribes, FallbackOutcome, GivesClone}
+use Rattle.bpaf_laws.specs.Default.{OptionalDescribes}
 use Rattle.bpaf_laws.specs.Flag.{FlagOutcome, flag_shape}
 use Rattle.bpaf_laws.specs.Reading.{Outcome}
 use Rattle.bpaf_laws.specs.Repeat.{ManyDescribes, ManyOutcome}
@@ -21,6 +22,9 @@ use Rattle.bpaf_record.specs.Positional.{positional_field_law}
 use Rattle.bpaf_program.specs.KnownFields.{known_argument, known_default, known_many}
 use Rattle.bpaf_program.specs.KnownFields.{known_optional, known_switch, known_word}
 use Rattle.bpaf_program.specs.KnownParser.{IsKnownParser, KnownParser, ShowsShorts, no_shorts}
+use Rattle.bpaf_exact.proofs.Narrow.{no_more}
+use Rattle.bpaf_exact.proofs.ProgramForm.{narrower_program_form}
+use Rattle.bpaf_laws.proofs.Clones.{fallback_kept}
 use Rattle.bpaf_program.specs.Values.{IsKept}
 use Rattle.bpaf_program.proofs.ShownShorts.{default_shows, many_shows, one_shows, optional_shows}
 
@@ -95,13 +99,15 @@ module _ {T : Type 0} {known : KnownParser T} {outcome : Outcome T} {describes :
       })
 
   -- what is this value where it is left out
-  pub default_known : (value : T) {kept : T} → kept ≡ value → (shown : Option (List Piece))
+  pub default_known : {clones : T → T → Type 0}
+      → ((own v : T) → clones own v → v ≡ own) → (value : T) {kept : T} → kept ≡ value
+      → (shown : Option (List Piece))
       → IsKnownParser (known_default value known)
-      (FallbackOutcome outcome (GivesClone (λ own v. v ≡ own) kept))
-      (DefaultDescribes describes shown)
-  default_known value is_kept shown =
+      (FallbackOutcome outcome (GivesClone clones kept)) (DefaultDescribes describes shown)
+  default_known {clones} equal value is_kept shown =
       rw is_kept (record {
-        law = fallback_law T outcome (λ own v. v ≡ own) value known.all known.words known.form
-            is.law;
+        law = narrower_program_form T _ _
+            (no_more (λ s t r o. fallback_kept equal outcome value s r t o)) known.all [] _
+            (fallback_law T outcome IsKept value known.all known.words known.form is.law);
         shown = default_shows is.shown shown;
       })

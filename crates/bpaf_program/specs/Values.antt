@@ -1,6 +1,7 @@
--- What the values of a program are: truth values and texts, as parsers keep and read them.
-use Rattle.std.specs.Prelude.{◌≡◌, ℕ, Bool, List, string_bytes, String as StringIn}
+-- What the values of a program are: texts, as parsers read them, and values that they keep.
+use Rattle.std.specs.Prelude.{◌≡◌, ℕ, List, string_bytes, String as StringIn}
 use Rattle.std.specs.declared.alloc.Global.{Global}
+pub use Rattle.bpaf_laws.specs.Kept.{IsKept}
 
 -- a text of a program
 abbrev pub String : Type 0
@@ -9,7 +10,3 @@ String = StringIn Global
 -- a text means itself
 abbrev pub MeansText : List ℕ → String → Type 0
 MeansText text word = string_bytes word ≡ text
-
--- a truth value that a switch keeps is given as it is
-abbrev pub IsKept : Bool → Bool → Type 0
-IsKept kept v = v ≡ kept

@@ -71,11 +71,11 @@ pub trait FlatField<T> {}
 
 /// The fields of a program.
 pub trait ProgramFields<V>: Fields<V> {
-    ghost use Rattle.std.specs.Prelude.{Bool, true, [], List};
+    ghost use Rattle.std.specs.Prelude.{Bool, true, List};
     ghost use Rattle.bpaf_doc.specs.Names.{Names};
     ghost use Rattle.bpaf_exact.specs.SameParts.{FieldsShowTheSame};
-    ghost use Rattle.bpaf_exact.specs.ProgramForm.{ProgramForm, ProgramFormLaw};
-    ghost use Rattle.bpaf_exact.specs.ProgramSays.{ProgramFieldsSaid, ProgramFieldsSay};
+    ghost use Rattle.bpaf_exact.specs.ProgramForm.{ProgramForm};
+    ghost use Rattle.bpaf_exact.specs.ProgramSays.{FieldsKeep, ProgramFieldsSaid};
     ghost use Rattle.bpaf_exact.specs.Variables.{Variables, WithVariables};
     ghost use Rattle.bpaf_record.specs.Part.{part_of};
 
@@ -102,17 +102,14 @@ pub trait ProgramFields<V>: Fields<V> {
     fn all_keys<N: KeyTest>(&self, test: &N) -> bool
         ensures { result ≡ list_all (N.accepts test.now) (keys self.now (N.deep test.now)) };
 
-    /// What they answer and take depends on what is present alone, as their form says.
-    ghost law: { (p : Self) → agrees p → (variables : Variables)
-        → ProgramFormLaw (WithVariables variables (Self.Fields.outcome p)) (keys p true) []
-        (program_form p variables) };
+    /// What they answer and take depends on what is present alone, as their form says, and their
+    /// values say so.
+    ghost keeps: { (p : Self) → agrees p → (variables : Variables)
+        → FieldsKeep (WithVariables variables (Self.Fields.outcome p)) (keys p true)
+        (program_form p variables) (says variables) p };
 
     /// They show the same parts, whichever shapes they show.
     ghost shows: { (p : Self) → FieldsShowTheSame (Self.Fields.describes p) };
-
-    /// Their values say so.
-    ghost said: { (p : Self) → agrees p → (variables : Variables)
-        → ProgramFieldsSay (keys p true) (program_form p variables) (says variables) p };
 }
 
 /// The mark of the fields of a flat record.

@@ -20,8 +20,7 @@ impl<
     ghost use Rattle.bpaf_exact.specs.ProgramSays.{fields_said_inside};
     ghost use Rattle.bpaf_exact.proofs.SameParts.{both_show};
     ghost use Rattle.bpaf_exact.proofs.Environments.{kept_variables};
-    ghost use Rattle.bpaf_exact.proofs.Keeping.{keep, keep_before};
-    ghost use Rattle.bpaf_exact.proofs.ProgramSays.{inside_say};
+    ghost use Rattle.bpaf_exact.proofs.Keeping.{keep_before, keep_inside};
     ghost use Rattle.std.specs.Prelude.{true};
 
     ghost keys = { λ p.
@@ -47,11 +46,11 @@ impl<
         self.fields.all_keys(test)
     }
 
-    ghost law = { λ p a variables.
+    ghost keeps = { λ p a variables. keep_inside (λ q. q.fields) p
         (keep_before variables (λ q. q.first) (λ q. q.rest) p.fields _
         (kept_variables (A.lawful p.fields.first)) A.kind (λ q. A.keys q true)
-        (A.words p.fields.first) _ (A.says variables) (A.law p.fields.first a.0 variables)
-        (A.said p.fields.first a.0 variables)
+        (A.words p.fields.first) _ (A.says variables)
+        (A.law p.fields.first a.0 variables) (A.said p.fields.first a.0 variables)
         (keep_before variables (λ q. q.first) (λ q. q.rest) p.fields.rest _
         (kept_variables (B.lawful p.fields.rest.first)) B.kind (λ q. B.keys q true)
         (B.words p.fields.rest.first) _ (B.says variables)
@@ -66,38 +65,13 @@ impl<
         (D.words p.fields.rest.rest.rest.first) _ (D.says variables)
         (D.law p.fields.rest.rest.rest.first a.1.1.1.0 variables)
         (D.said p.fields.rest.rest.rest.first a.1.1.1.0 variables)
-        (keep _ _ _ (R.says variables) p.fields.rest.rest.rest.rest
-        (R.law p.fields.rest.rest.rest.rest a.1.1.1.1 variables)
-        (R.said p.fields.rest.rest.rest.rest a.1.1.1.1 variables)))))).law };
+        (R.keeps p.fields.rest.rest.rest.rest a.1.1.1.1 variables))))) };
 
     ghost shows = { λ p. both_show (A.shows p.fields.first)
         (both_show (B.shows p.fields.rest.first)
         (both_show (C.shows p.fields.rest.rest.first)
         (both_show (D.shows p.fields.rest.rest.rest.first)
         (R.shows p.fields.rest.rest.rest.rest)))) };
-
-    ghost said = { λ p a variables. inside_say (λ p. p.fields) p
-        (keep_before variables (λ q. q.first) (λ q. q.rest) p.fields _
-        (kept_variables (A.lawful p.fields.first)) A.kind (λ q. A.keys q true)
-        (A.words p.fields.first) _ (A.says variables) (A.law p.fields.first a.0 variables)
-        (A.said p.fields.first a.0 variables)
-        (keep_before variables (λ q. q.first) (λ q. q.rest) p.fields.rest _
-        (kept_variables (B.lawful p.fields.rest.first)) B.kind (λ q. B.keys q true)
-        (B.words p.fields.rest.first) _ (B.says variables)
-        (B.law p.fields.rest.first a.1.0 variables) (B.said p.fields.rest.first a.1.0 variables)
-        (keep_before variables (λ q. q.first) (λ q. q.rest) p.fields.rest.rest _
-        (kept_variables (C.lawful p.fields.rest.rest.first)) C.kind (λ q. C.keys q true)
-        (C.words p.fields.rest.rest.first) _ (C.says variables)
-        (C.law p.fields.rest.rest.first a.1.1.0 variables)
-        (C.said p.fields.rest.rest.first a.1.1.0 variables)
-        (keep_before variables (λ q. q.first) (λ q. q.rest) p.fields.rest.rest.rest _
-        (kept_variables (D.lawful p.fields.rest.rest.rest.first)) D.kind (λ q. D.keys q true)
-        (D.words p.fields.rest.rest.rest.first) _ (D.says variables)
-        (D.law p.fields.rest.rest.rest.first a.1.1.1.0 variables)
-        (D.said p.fields.rest.rest.rest.first a.1.1.1.0 variables)
-        (keep _ _ _ (R.says variables) p.fields.rest.rest.rest.rest
-        (R.law p.fields.rest.rest.rest.rest a.1.1.1.1 variables)
-        (R.said p.fields.rest.rest.rest.rest a.1.1.1.1 variables)))))).says };
 }
 
 impl<

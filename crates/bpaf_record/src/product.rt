@@ -13,8 +13,7 @@ impl<T: Drop, A: ProgramField<T>> ProgramFields<T> for Last<A> {
     ghost use Rattle.bpaf_exact.specs.Variables.{WithVariables};
     ghost use Rattle.bpaf_exact.specs.ProgramForm.{program_alone, program_field};
     ghost use Rattle.bpaf_exact.specs.ProgramSays.{said_alone};
-    ghost use Rattle.bpaf_exact.proofs.ProgramForm.{program_alone_law, program_field_law};
-    ghost use Rattle.bpaf_exact.proofs.ProgramSays.{program_alone_says};
+    ghost use Rattle.bpaf_exact.proofs.Keeping.{keep_last};
     ghost use Rattle.bpaf_exact.proofs.SameParts.{last_shows};
 
     ghost keys = { λ p deep. A.keys p.last deep };
@@ -36,17 +35,11 @@ impl<T: Drop, A: ProgramField<T>> ProgramFields<T> for Last<A> {
         self.last.all_keys(test)
     }
 
-    ghost law = { λ p a variables. program_alone_law T _ (A.keys p.last true) (A.words p.last)
-        (program_field (A.program_form p.last variables))
-        (program_field_law T _ (A.keys p.last true) (A.words p.last)
-        (A.program_form p.last variables) (A.law p.last a variables)) };
+    ghost keeps = { λ p a variables. keep_last (λ q. q.last) p
+        (WithVariables variables (A.outcome p.last)) A.kind (λ q. A.keys q true) (A.words p.last) _
+        (A.says variables) (A.law p.last a variables) (A.said p.last a variables) };
 
     ghost shows = { λ p. last_shows (A.shows p.last) };
-
-    ghost said = { λ p a variables. program_alone_says (λ p. p.last) p
-        (WithVariables variables (A.outcome p.last)) A.kind
-        (λ q. A.keys q true) (A.words p.last) (A.law p.last a variables)
-        (A.said p.last a variables) };
 }
 
 impl<T: Drop, A: FlatField<T>> FlatFields<T> for Last<A> {}
@@ -54,14 +47,11 @@ impl<T: Drop, A: FlatField<T>> FlatFields<T> for Last<A> {}
 /// Where a named field stands behind a positional one, a positional one before commands, or two
 /// share a name, they are nothing.
 impl<T: Drop, V, A: ProgramField<T>, R: ProgramFields<V>> ProgramFields<(T, V)> for Both<A, R> {
-    ghost use Rattle.bpaf_exact.specs.Variables.{WithVariables};
-    ghost use Rattle.bpaf_exact.proofs.Variables.{kept};
-    ghost use Rattle.bpaf_exact.proofs.Environments.{both_with, kept_variables};
+    ghost use Rattle.bpaf_exact.proofs.Environments.{kept_variables};
     ghost use Rattle.std.specs.Prelude.{◌++◌};
     ghost use Rattle.bpaf_exact.specs.ProgramForm.{program_both, program_field};
     ghost use Rattle.bpaf_exact.specs.ProgramSays.{said_both};
-    ghost use Rattle.bpaf_exact.proofs.ProgramForm.{program_both_law, program_field_law};
-    ghost use Rattle.bpaf_exact.proofs.ProgramSays.{program_both_say};
+    ghost use Rattle.bpaf_exact.proofs.Keeping.{keep_before};
     ghost use Rattle.bpaf_exact.proofs.SameParts.{both_show};
 
     ghost keys = { λ p deep. A.keys p.first deep ++ R.keys p.rest deep };
@@ -93,23 +83,12 @@ impl<T: Drop, V, A: ProgramField<T>, R: ProgramFields<V>> ProgramFields<(T, V)> 
         first && rest
     }
 
-    ghost law = { λ p a variables.
-        kept (both_with variables (A.outcome p.first) (kept_variables (A.lawful p.first))
-        (R.outcome p.rest)) _ _ _
-        (program_both_law T V _ _ (A.keys p.first true) (R.keys p.rest true) (A.words p.first)
-        (program_field (A.program_form p.first variables)) (R.program_form p.rest variables)
-        (program_field_law T _ (A.keys p.first true) (A.words p.first)
-        (A.program_form p.first variables) (A.law p.first a.0 variables))
-        (R.law p.rest a.1 variables)) };
+    ghost keeps = { λ p a variables. keep_before variables (λ q. q.first) (λ q. q.rest) p _
+        (kept_variables (A.lawful p.first)) A.kind (λ q. A.keys q true) (A.words p.first) _
+        (A.says variables) (A.law p.first a.0 variables) (A.said p.first a.0 variables)
+        (R.keeps p.rest a.1 variables) };
 
     ghost shows = { λ p. both_show (A.shows p.first) (R.shows p.rest) };
-
-    ghost said = { λ p a variables. program_both_say (λ p. p.first) (λ p. p.rest) p
-        (WithVariables variables (A.outcome p.first))
-        (WithVariables variables (R.outcome p.rest)) A.kind (λ q. A.keys q true) (A.words p.first)
-        (R.keys p.rest true)
-        (A.law p.first a.0 variables) (R.law p.rest a.1 variables) (A.said p.first a.0 variables)
-        (R.said p.rest a.1 variables) };
 }
 
 impl<T: Drop, V, A: FlatField<T>, R: FlatFields<V>> FlatFields<(T, V)> for Both<A, R> {}
@@ -156,15 +135,14 @@ impl<V, T, P: ProgramFields<V>, F: Fn(V) -> T> ProgramField<T> for ParseCon<V, P
     ghost law = { λ p a variables.
         kept (product_with variables (P.outcome p.fields) (λ x y. F.post p.make x y)) _ _ _
         (program_con_law V T _ (λ x y. F.post p.make x y) (P.keys p.fields true)
-        (P.program_form p.fields variables) (P.law p.fields a variables)) };
+        (P.program_form p.fields variables) (P.keeps p.fields a variables).law) };
 
     ghost shows = { λ p. product_shows (P.shows p.fields) };
 
     ghost said = { λ p a variables. program_con_says (λ p. p.fields) p
         (WithVariables variables (P.outcome p.fields))
         (λ q. P.keys q true) (λ p. map_closure (λ x y. F.post p.make x y))
-        (P.law p.fields a variables)
-        (P.said p.fields a variables) };
+        (P.keeps p.fields a variables).law (P.keeps p.fields a variables).says };
 }
 
 impl<V, T, P: FlatFields<V>, F> FlatField<T> for ParseCon<V, P, F> {}

@@ -5,6 +5,7 @@ use Rattle.bpaf_doc.specs.Shape.{Shape}
 use Rattle.bpaf_line.specs.declared.error.Message.TheVariants.{Memory}
 use Rattle.bpaf_laws.specs.Reading.{Readings, Outcome}
 use Rattle.bpaf_laws.specs.Laws.{Lawful}
+use Rattle.bpaf_laws.proofs.NamesAnswer.{names_same}
 use Rattle.bpaf_laws.specs.Command.{Called, CommandPart, opening_words}
 use Rattle.bpaf_laws.proofs.Keeping.{keeps_same}
 use Rattle.bpaf_core.specs.Adjacent.{EitherCommandOutcome, EitherCommandReads}
@@ -48,4 +49,7 @@ called_lawful adjacent called describes law =
       ok = λ s t v o. command.ok s t v o;
       err = λ s t e o.
           ⊎_elim (λ refused. command.err s t e refused) (λ wanted. keeps_same s t wanted.1) o;
+      named = λ s t e o.
+          ⊎_elim (λ refused. command.named s t e refused)
+          (λ wanted. names_same e.0 Memory tt wanted.0) o;
     }

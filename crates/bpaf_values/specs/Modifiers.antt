@@ -12,8 +12,9 @@ use Rattle.bpaf_laws.specs.Hide.{HideOutcome}
 use Rattle.bpaf_laws.proofs.HideLaws.{hide_lawful}
 use Rattle.bpaf_laws.specs.Turn.{TurnOutcome}
 use Rattle.bpaf_laws.specs.Default.{Gives, GivesClone, GivesAnswer, FallbackOutcome, FallbackReads}
-use Rattle.bpaf_laws.specs.Default.{OptionalReads, OptionalDescribes}
-use Rattle.bpaf_laws.proofs.DefaultLaws.{optional_lawful, fallback_lawful}
+use Rattle.bpaf_laws.specs.Default.{NamesGiven, OptionalReads, OptionalDescribes}
+use Rattle.bpaf_laws.proofs.DefaultLaws.{optional_lawful, fallback_lawful, names_answer}
+use Rattle.bpaf_laws.proofs.NamesAnswer.{names_want}
 use Rattle.bpaf_laws.specs.Repeat.{ManyOutcome, ManyReads, ManyDescribes}
 use Rattle.bpaf_laws.specs.Repeat.{SomeOutcome, SomeReads, SomeDescribes}
 use Rattle.bpaf_laws.specs.Repeat.{CollectOutcome, CollectReads, CountOutcome}
@@ -120,6 +121,10 @@ OverDescribes (over.Fallback n) inner shape = OptionalDescribes inner shape
 OverDescribes (over.FallbackWith number) inner shape = OptionalDescribes inner shape
 OverDescribes over.Hide inner shape = shape ≡ Skip
 
+-- a number that is refused is the answer of no run inside
+pub number_named : (number : Option ℕ) → NamesGiven (GivesNumber number)
+number_named number = names_answer {T = Value} {E = Unit {0}} (AnswersNumber number) untold
+
 -- a modifier keeps to the laws where its parser does
 pub over_lawful : {inner : Outcome Value} {reads : Readings Value} (clones : Clones) (m : Modifier)
     → Lawful Value inner reads
@@ -135,6 +140,8 @@ over_lawful clones over.Last law = last_lawful law
 over_lawful clones over.Map law = map_lawful law IsHalf
 over_lawful clones (over.Guard limit) law = guard_lawful law Checks too_much
 over_lawful clones (over.Parse limit) law = parse_lawful law Accepts untold
-over_lawful clones (over.Fallback n) law = fallback_lawful law (GivesClone clones (number_of n))
-over_lawful clones (over.FallbackWith number) law = fallback_lawful law (GivesNumber number)
+over_lawful clones (over.Fallback n) law =
+    fallback_lawful law (GivesClone clones (number_of n)) (λ e. names_want e.0)
+over_lawful clones (over.FallbackWith number) law =
+    fallback_lawful law (GivesNumber number) (number_named number)
 over_lawful clones over.Hide law = hide_lawful law

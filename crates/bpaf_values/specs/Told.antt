@@ -4,6 +4,7 @@ use Rattle.std.proofs.Common.{⊎_elim}
 use Rattle.bpaf_line.specs.Messages.{is_memory}
 use Rattle.bpaf_laws.specs.Reading.{Readings, Outcome}
 use Rattle.bpaf_laws.specs.Laws.{Lawful}
+use Rattle.bpaf_laws.proofs.NamesAnswer.{names_want}
 use Rattle.bpaf_laws.specs.Transform.{MapReads}
 use Rattle.bpaf_laws.proofs.TransformLaws.{map_lawful}
 
@@ -22,4 +23,6 @@ told_lawful told law = record {
   err = λ s t e o.
       ⊎_elim (λ refused. law.err s t e refused)
       (λ wanted. (law.ok s t wanted.0 wanted.1).keeps) o;
+  named = λ s t e o.
+      ⊎_elim (λ refused. law.named s t e refused) (λ wanted. names_want e.0 wanted.2) o;
 }

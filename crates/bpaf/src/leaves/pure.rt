@@ -37,6 +37,7 @@ impl<T: Clone> Parser<T> for ParsePure<T> {
     ghost use Rattle.bpaf_line.specs.Messages.{is_memory};
     ghost use Rattle.bpaf_laws.specs.Default.{GivesClone};
     ghost use Rattle.bpaf_laws.specs.Pure.{PureOutcome, PureReads};
+    ghost use Rattle.bpaf_laws.proofs.NamesAnswer.{names_want};
     ghost use Rattle.bpaf_laws.proofs.PureLaws.{pure_lawful};
 
     ghost can_eval = { λ p. Unit {0} };
@@ -60,7 +61,7 @@ impl<T: Clone> Parser<T> for ParsePure<T> {
         Ok(Meta::Skip)
     }
 
-    ghost lawful = { λ p. pure_lawful (GivesClone T.is_clone p.value) };
+    ghost lawful = { λ p. pure_lawful (GivesClone T.is_clone p.value) (λ e. names_want e.0) };
 }
 
 /// A closure's answer (bpaf's `ParsePureWith`, in `structs.rs`).
@@ -99,6 +100,7 @@ impl<T, F: Fn() -> Result<T, E>, E: Display + Drop> Parser<T> for ParsePureWith<
     ghost use Rattle.std.specs.Result.{IfErr};
     ghost use Rattle.bpaf_laws.specs.Default.{GivesAnswer};
     ghost use Rattle.bpaf_laws.specs.Pure.{PureReads, PureWithOutcome};
+    ghost use Rattle.bpaf_laws.proofs.DefaultLaws.{names_answer};
     ghost use Rattle.bpaf_laws.proofs.PureLaws.{pure_with_lawful};
     ghost use Rattle.bpaf.specs.Leaves.{TellsAnswer};
 
@@ -125,7 +127,8 @@ impl<T, F: Fn() -> Result<T, E>, E: Display + Drop> Parser<T> for ParsePureWith<
         Ok(Meta::Skip)
     }
 
-    ghost lawful = { λ p. pure_with_lawful (GivesAnswer (λ r. F.post p.f r) E.output) };
+    ghost lawful = { λ p. pure_with_lawful (GivesAnswer (λ r. F.post p.f r) E.output)
+        (names_answer (λ r. F.post p.f r) E.output) };
 }
 
 /// A refusal (bpaf's `ParseFail`, in `structs.rs`).
@@ -157,7 +160,7 @@ impl<T> Parser<T> for ParseFail<T> {
     ghost use Rattle.bpaf_doc.specs.Shape.{Skip};
     ghost use Rattle.std.specs.Result.{IfErr};
     ghost use Rattle.bpaf_laws.specs.Pure.{GivesRefusal, PureOutcome, PureReads};
-    ghost use Rattle.bpaf_laws.proofs.PureLaws.{pure_lawful};
+    ghost use Rattle.bpaf_laws.proofs.PureLaws.{refusal_lawful};
     ghost use Rattle.bpaf.specs.Leaves.{TellsWhole};
 
     ghost can_eval = { λ p. Unit {0} };
@@ -183,5 +186,5 @@ impl<T> Parser<T> for ParseFail<T> {
         Ok(Meta::Skip)
     }
 
-    ghost lawful = { λ p. pure_lawful (GivesRefusal p.message.now) };
+    ghost lawful = { λ p. refusal_lawful p.message.now };
 }

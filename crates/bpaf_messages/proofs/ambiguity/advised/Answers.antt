@@ -1,6 +1,6 @@
 use Rattle.std.proofs.Common.{true, ap, ◌∙◌, codes}
 use Rattle.bpaf_doc.specs.Print.{printed, in_backticks}
-use Rattle.bpaf_messages.specs.Rendering.{ambiguity_head, split_options, dashed_with_rest}
+use Rattle.bpaf_line.specs.Rendering.{ambiguity_head, split_options, dashed_with_rest}
 use Rattle.bpaf_messages.proofs.Appended.{five_more}
 use Rattle.bpaf_messages.proofs.ambiguity.advised.Goals as goal
 

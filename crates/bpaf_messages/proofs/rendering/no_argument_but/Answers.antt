@@ -1,6 +1,6 @@
 use Rattle.std.proofs.Common.{true, ap, ◌∙◌, codes, ◌++◌, None}
 use Rattle.bpaf_doc.specs.Print.{printed, in_backticks}
-use Rattle.bpaf_messages.specs.Rendering.{no_argument_text}
+use Rattle.bpaf_line.specs.Rendering.{no_argument_text}
 use Rattle.bpaf_messages.proofs.Appended.{five_more}
 use Rattle.bpaf_messages.proofs.rendering.no_argument_but.Goals as goal
 

@@ -12,7 +12,8 @@ with_others-requires-clause-others g c =
     (of.command_known (codes "list") list_record c.construct-2.ensures.this
     c.in_ok-list.ensures.names c.in_ok-list.ensures.adjacent c.in_ok-list.ensures.info
     (of.con_known task.List max (of.last_known _ (of.default_known (of.argument_known
-    (of.SpellsUnsigned 64) max_key refl (search rules)) 10 (search rules) _)) (λ x v e. search rules)))
+    (of.SpellsUnsigned 64) max_key refl (search rules)) (λ own v same. same) 10 (search rules) _))
+    (λ x v e. search rules)))
     (of.map_known task.Tag on_tag (of.command_known (codes "tag") tag_commands tag told.names
     told.adjacent told.info (rw (← (ap (λ x. x.inner) tag ∙ told.inner)) at c.requires.tag))
     (λ x v e. search rules))

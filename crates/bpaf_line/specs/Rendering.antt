@@ -17,9 +17,9 @@ use Rattle.bpaf_line.specs.declared.error.Message.TheVariants.{OnlyOnce}
 use Rattle.bpaf_line.specs.declared.failure.ParseFailure.{ParseFailure as Failure}
 use Rattle.bpaf_line.specs.declared.failure.ParseFailure.TheVariants as failure
 use Rattle.bpaf_line.specs.Missing.{Missed, missed_of}
-use Rattle.bpaf_messages.specs.MissingText.{furthest, told_parts}
+use Rattle.bpaf_line.specs.MissingText.{furthest, told_parts}
 use Rattle.bpaf_line.specs.Within.{first_present}
-use Rattle.bpaf_messages.specs.Shown.{shown_item, word_at, quoted_word, key_behind}
+use Rattle.bpaf_line.specs.Shown.{shown_item, word_at, quoted_word, key_behind}
 use Rattle.bpaf_line.specs.Situation.{Situation}
 
 -- a word stands on the wrong side of the marker, and should stand on this one

@@ -1,0 +1,35 @@
+-- Where clones equal what they are made of, what is given out of a kept value is that value.
+use Rattle.std.specs.Prelude.{◌≡◌, Result, Ok, Err, Option, Some, None}
+use Rattle.std.proofs.Common.{⊎_elim, inl, inr}
+use Rattle.bpaf_text.specs.Named.{Named}
+use Rattle.bpaf_line.specs.Situation.{Situation}
+use Rattle.bpaf_line.specs.declared.error.Error.{Error}
+use Rattle.bpaf_laws.specs.Default.{FallbackOutcome, GivesClone}
+use Rattle.bpaf_laws.specs.Kept.{IsKept}
+use Rattle.bpaf_laws.specs.Flag.{FlagOutcome, IsAbsentValue}
+use Rattle.bpaf_laws.specs.Reading.{Outcome}
+
+module _ {T : Type 0} {clones : T → T → Type 0}
+    (equal : (kept v : T) → clones kept v → v ≡ kept) where
+  -- a fallback answers the inner value or what it keeps
+  pub fallback_kept : (inner : Outcome T) (kept : T) (s : Situation) (r : Result T Error)
+      (t : Situation) → FallbackOutcome inner (GivesClone clones kept) s r t
+      → FallbackOutcome inner (GivesClone IsKept kept) s r t
+  fallback_kept inner kept s (Ok v) t o =
+      ⊎_elim (λ ran. inl ran) (λ fell. inr (fell.0, equal kept v fell.1)) o
+  fallback_kept inner kept s (Err e) t o = o
+
+  -- the absent value of a flag, where it keeps one, is that
+  absent_kept : (absent : Option T) (v : T) → IsAbsentValue clones absent v
+      → IsAbsentValue IsKept absent v
+  absent_kept (Some kept) v is = equal kept v is
+  absent_kept None v is = is
+
+  -- so a flag answers one of the two that it keeps
+  pub flag_kept : (named : Named) (present : T) (absent : Option T) (s : Situation)
+      (r : Result T Error) (t : Situation) → FlagOutcome clones named present absent s r t
+      → FlagOutcome IsKept named present absent s r t
+  flag_kept named present absent s (Ok v) t o =
+      ⊎_elim (λ here. inl (here.0, equal present v here.1))
+      (λ none. inr (none.0, absent_kept absent v none.1)) o
+  flag_kept named present absent s (Err e) t o = o
