@@ -100,12 +100,12 @@ def cited(code, uses, names=()):
     return [it for it in found if it]
 
 
-def all_cited(found, known, later=()):
-    """What these rest on, and they themselves, in order, but for what is known, which is then known too, and what is told later."""
+def all_cited(found, known):
+    """What these rest on, and they themselves, in order, but for what is known; which is then known too."""
     todo, new = [*found], []
     while todo:
         it = todo.pop()
-        if it not in known and it not in later:
+        if it not in known:
             known.add(it)
             new.append(it)
             todo += cited(it.code, it.file.uses, it.file.names) if isinstance(it, Definition) else []

@@ -10,7 +10,7 @@ import sys
 
 sys.dont_write_bytecode = True
 from places import text_of
-from specs import LIBRARIES, RustType, all_cited, cited, meant, uses_of
+from specs import LIBRARIES, RustType, all_cited, cited, uses_of
 
 PAGE = "docs/STATEMENT.md"
 HEAD = """# What is proved, whole
@@ -19,8 +19,7 @@ Both halves of what is proved of every command line, as they stand in the contra
 to the kit's Prelude, whose names (as `List`, `map` and `Result`) aren't told here. All code is copied out of the crates by
 `tools/statement.py`, and `tools/check_docs.py` refuses a page that differs from them.
 
-A definition stands below those that it is made of, with its crate and its file, where none above has it; but for `NamesAnswer`, by which the
-laws speak of refusals, and on which no value rests: the last part has it. A type of Rust stands as it is
+A definition stands below those that it is made of, with its crate and its file, where none above has it. A type of Rust stands as it is
 declared, and its specs are made of that; one that has a model, as a `Doc` has the list of its pieces, is to all specs what its `view` gives.
 `x.now` is the value of `x` when a call is made, `x.entry` that of a parameter, and `P.reads` what the type `P` gives by its own impl.
 
@@ -33,15 +32,14 @@ FIRST = """ParseFlag FromText ParseArgument ParsePositional ParseMap ParseWith P
     ParseCon ParseCommand""".split()
 MEANINGS = "can_eval describes reads keys words program_form agrees means fills"
 TABLES = "outcome fast_outcome"
-LATER = ("bpaf_laws.specs.RefusalNames", "NamesAnswer")
 PARTS = (
     (
         "Each item of the line is used once",
-        """Where a run answers Ok(v), v is read off all places of the words' line but that of the first `--` (clause `dealt`). Whatever the parser
-is, it has proved `lawful`: the places that an evaluation newly takes are a reading of the value that it answers.""",
+        """Where a run answers Ok(v), v is read off all places of the words' line but that of the first `--` (clause `dealt`), whatever the parser
+is. What each kind of parser proves for it, its law, is told in the last part.""",
         """bpaf_core/src/options/running.rt; impl<T: Drop, P: Parser<T>> OptionParser; run_inner dealt
         bpaf_core/src/options/running.rt; impl<T: Drop, P: Parser<T> + Drop> OptionParser; run_once dealt
-        bpaf_core/src/parser.rt; pub trait Parser; ; can_eval describes reads outcome lawful
+        bpaf_core/src/parser.rt; pub trait Parser; ; can_eval describes reads
         bpaf_keys/src/info.rt; impl Model for Info; ; Value view
         bpaf_text/src/named.rt; impl Model for NamedArg; ; Value view
         bpaf_doc/src/doc.rt; impl Model for Doc; ; Value view
@@ -76,9 +74,11 @@ flat record and to a program. A kind without `program_form` stands in neither.""
     (
         "The tables: what a run and each kind of parser may answer",
         """The rest of what `each_exact` and `lawful` speak of: every answer that a run may give, its pages and messages byte for byte, and every one
-that a parser may give inside it; and that each refusal has one of twelve names (clause `named`), also one that a run inside the parser ended
-with. `dealt` and `exact` say what they do without these.""",
-        f"""bpaf_core/src/options/running.rt; impl<T: Drop, P: Parser<T>> OptionParser; run_inner named
+that a parser may give inside it; that the places which an evaluation newly takes are a reading of the value that it answers (`lawful`); and
+that each refusal has one of twelve names (clause `named`), also one that a run inside the parser ended with, by that law. `dealt` and `exact`
+say what they do without these.""",
+        f"""bpaf_core/src/parser.rt; pub trait Parser; ; outcome lawful
+        bpaf_core/src/options/running.rt; impl<T: Drop, P: Parser<T>> OptionParser; run_inner named
         bpaf_record/src/command_line.rt; impl<T: Drop, P: ProgramField<T>> CommandLine; ; answers
         bpaf/src/product.rt; pub trait Fields; ; {TABLES}
         bpaf_line/src/state.rt; impl Model for State; ; Value view
@@ -135,10 +135,9 @@ def page():
     known, rows, below = set(), [], []
     for number, (title, said, quoted, members) in enumerate(PARTS, 1):
         own = [Quote(*line.strip().split("; ")) for line in quoted.split("\n")]
-        texts, counted, later = [], [], () if number == len(PARTS) else [meant(*LATER)]
+        texts, counted = [], []
         for kind, quotes in [("", own), *(kinds(members) if members else ())]:
-            roots = [it for quote in quotes for it in quote.cited()]
-            new = all_cited(roots if later else [*roots, meant(*LATER)], known, later)
+            new = all_cited((it for quote in quotes for it in quote.cited()), known)
             texts += [f"### {kind}\n"] if kind and quotes else []
             texts += [*shown(quotes), *shown(new)]
             counted += new
