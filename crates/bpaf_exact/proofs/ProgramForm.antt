@@ -234,11 +234,8 @@ program_choice_law T a b own others words more _ _ la lb = tt
 pub program_field_law : (T : Type 0) (outcome : Outcome T) (names : List Names)
     (words : List (List ℕ)) (s : ProgramForm T) → ProgramFormLaw outcome names words s
     → ProgramFormLaw outcome names words (program_field s)
-program_field_law T outcome names words no_program l = tt
 program_field_law T outcome names words (plain wide s) l = inner_field_law T outcome names s l
-program_field_law T outcome names words (commands r value) l = l
-program_field_law T outcome names words (left_out r value) l = l
-program_field_law T outcome names words (before_commands r value) l = tt
+program_field_law T outcome names words s l = l
 
 -- the last field
 pub program_alone_law : (T : Type 0) (outcome : Outcome T) (names : List Names)
@@ -248,7 +245,7 @@ program_alone_law T outcome names words no_program l = tt
 program_alone_law T outcome names words (plain wide s) l = flat_alone_law T outcome names s l
 program_alone_law T outcome names words (commands r value) l = (l.0.program, l.1)
 program_alone_law T outcome names words (left_out r value) l = l
-program_alone_law T outcome names words (before_commands r value) l = tt
+program_alone_law T outcome names words (before_commands r value) l = l
 
 -- a field before others
 pub program_both_law : (A B : Type 0) (first : Outcome A) (rest : Outcome B)

@@ -457,7 +457,8 @@ program_alone_says {P} {Q} {T} last q outcome kind names words {s} {said} law h 
     by_form (commands r value) (of_cells said) law h = h
     by_form (left_out r value) (of_pieces said) law h = absurd h
     by_form (left_out r value) (of_cells said) law h = h
-    by_form (before_commands r value) said law h = tt
+    by_form (before_commands r value) (of_pieces said) law h = absurd h
+    by_form (before_commands r value) (of_cells said) law h = h
 
 -- where a test holds
 fields_if_say : {P V : Type 0} (names : List Names) (b : Bool) (s : ProgramForm V)

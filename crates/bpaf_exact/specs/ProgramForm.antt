@@ -164,19 +164,16 @@ program_command adjacent apart called s =
 
 -- a field of a product; a product of named fields is a wide one
 abbrev pub program_field : {T : Type 0} → ProgramForm T → ProgramForm T
-program_field no_program = no_program
 program_field (plain wide s) = plain (wide || is_product s) (inner_field s)
-program_field (commands r value) = commands r value
-program_field (left_out r value) = left_out r value
-program_field (before_commands r value) = no_program
+program_field s = s
 
--- the last field
+-- the last field: commands, or a product that ends in them
 abbrev pub program_alone : {T : Type 0} → ProgramForm T → ProgramForm T
 program_alone no_program = no_program
 program_alone (plain wide s) = plain wide (flat_alone s)
 program_alone (commands r value) = before_commands r value
 program_alone (left_out r value) = before_commands r value
-program_alone (before_commands r value) = no_program
+program_alone (before_commands r value) = before_commands r value
 
 -- a field before others, each with its keys
 abbrev pub program_both : {A B : Type 0} → List Names → List Names → ProgramForm A → ProgramForm B

@@ -81,15 +81,13 @@ command_part opens part = part_if (opens && is_program_part part) Commands
 -- as a field of a product
 abbrev pub field_part : ProgramPart → ProgramPart
 field_part (Flat wide form) = Flat (wide || is_product_form form) (field_form form)
-field_part BeforeCommands = NoPart
 field_part other = other
 
 -- as the last field
 abbrev pub last_part : ProgramPart → ProgramPart
 last_part (Flat wide form) = Flat wide (alone_form form)
-last_part Commands = BeforeCommands
-last_part LeftOut = BeforeCommands
-last_part _ = NoPart
+last_part NoPart = NoPart
+last_part _ = BeforeCommands
 
 -- as a field before others
 abbrev pub before_part : ProgramPart → ProgramPart → Bool → Bool → ProgramPart

@@ -147,7 +147,6 @@ impl ProgramPart {
                 wide: wide || form.is_product(),
                 form: form.field(),
             },
-            ProgramPart::BeforeCommands => ProgramPart::NoPart,
             other => other,
         }
     }
@@ -161,8 +160,8 @@ impl ProgramPart {
                 let form = form.alone();
                 ProgramPart::Flat { wide, form }
             }
-            ProgramPart::Commands | ProgramPart::LeftOut => ProgramPart::BeforeCommands,
-            _ => ProgramPart::NoPart,
+            ProgramPart::NoPart => ProgramPart::NoPart,
+            _ => ProgramPart::BeforeCommands,
         }
     }
 

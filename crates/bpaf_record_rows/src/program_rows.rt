@@ -119,6 +119,23 @@ fn commands_left_out_run_as_programs(rt: HostRuntime) -> Result<(), Fail> {
     compare_behind(alloc, build(alloc)?.optional(), COMMAND_LEFT_OUT)
 }
 
+const PRODUCT_WITH_COMMAND: &[Row<'static>] = &[
+    ("-v -q build -n 3", "ok (true, (true, 3))"),
+    ("build -q -n 3 -v", "ok (true, (true, 3))"),
+    ("build -n 3", "ok (false, (false, 3))"),
+    ("-v -q", "refused"),
+    ("-q build -n 3 -q", "refused"),
+    ("x build -n 3", "refused"),
+];
+
+#[test]
+fn a_product_with_a_command_runs_inside_another(rt: HostRuntime) -> Result<(), Fail> {
+    let alloc = rt.alloc();
+    let quiet = switch(alloc, 'q')?;
+    let build = build(alloc)?;
+    compare_behind(alloc, construct!(quiet, build), PRODUCT_WITH_COMMAND)
+}
+
 const COMMAND_CLOSED: &[Row<'static>] = &[
     ("", "ok None"),
     ("build -n 3", "ok Some(6)"),
