@@ -3,6 +3,7 @@ use Rattle.std.proofs.Common.{◌≡◌, List, [], ◌∷◌, Ok, Err, refl, sym
 use Rattle.bpaf_line.specs.declared.error.Error.{Error}
 use Rattle.bpaf_line.specs.Situation.{Situation}
 use Rattle.bpaf_laws.specs.Reading.{Outcome}
+use Rattle.bpaf_exact.specs.Flat.{front}
 use Rattle.bpaf_exact.specs.Pieces.{Roles, LinePiece, pieces, takes_none}
 use Rattle.bpaf_exact.specs.Flat.{Refused, class, cells, NoneOutside, Steady, FieldKind, ByName}
 use Rattle.bpaf_exact.specs.Flat.{OneWord}
@@ -44,12 +45,13 @@ pub took_front : (T : Type 0) (value : LinePiece → T → Type 0) (k : FieldKin
     (s t : Situation)
     (v : T) (o : LinePiece) → Steady s t → TakesFirst q (cells s) o (cells t)
     → pieces q (cells s) ≡ o ∷ pieces q (cells t) → value o v
+    → (front k (o ∷ pieces q (cells t)) ≡ [] → ⊥)
     → TookGroup T k q (FrontOf T value) s v t
-took_front T value k q s t v o st f e means =
+took_front T value k q s t v o st f e means some =
     let takes = first_takes q f in record {
       steady = st;
       takes = record { piece = o; middle = cells t; one = takes; more = takes_none };
-      found = takes_nonempty q takes;
+      found = λ none. some (sym (ap (front k) e) ∙ none);
       read = λ r. record { piece = o; is = e; means = means };
       readable = λ w rest g. front_alone T value o v e means g;
     }
@@ -86,7 +88,7 @@ module _ (T : Type 0) (outcome : Outcome T) (q : Roles) (value : LinePiece → T
       → SingleErr T ByName q (FrontOf T value) (no_gap T) s e t
   alternative_err s t e (alternative_memory c) = of_memory c
   alternative_err s t e (alternative_missing c p same st) =
-      of_missing (catch_missing c) refl p same st
+      of_missing (catch_missing c) refl p (λ c. same)
   alternative_err s t e (alternative_refused c p b n) =
       of_piece c (bad_nonempty T value _ b) (λ w rest g. n g.piece rest w g.is g.means)
 
@@ -201,13 +203,13 @@ module _ (A B : Type 0) (inner : Outcome A) (k : FieldKind) (q : Roles) (group :
   inner_readable : (z : FieldKind) (os : List LinePiece) → Readable z (ClosedGroup A B group f) os
       → Readable z group os
   inner_readable ByName os r = let i = inner_list os r.0 r.1 in (i.list, i.own)
-  inner_readable OneWord os r = tt
-  inner_readable EachWord os r = tt
+  inner_readable (OneWord b) os r = tt
+  inner_readable (EachWord b) os r = tt
 
   -- with a closure a field reads words as before
   closed_words : (z : FieldKind) → ReadsWords z group → ReadsWords z (ClosedGroup A B group f)
   closed_words ByName u = tt
-  closed_words OneWord u = record {
+  closed_words (OneWord b) u = record {
     by_front = λ os v rest g. let a = u.by_front os g.from rest g.read in
         (record { from = g.from; read = a.0; made = g.made }, a.1);
     of_front = λ os v g. record {
@@ -216,8 +218,12 @@ module _ (A B : Type 0) (inner : Outcome A) (k : FieldKind) (q : Roles) (group :
       made =
           g.made;
     };
+    by_each = λ os v rest g. let a = u.by_each os g.from rest g.read in
+        (record { from = g.from; read = a.0; made = g.made }, a.1);
+    of_each = λ os v rest g. let a = u.of_each os g.from rest g.read in
+        (a.0, record { from = g.from; read = a.1; made = g.made }, a.2);
   }
-  closed_words EachWord u = u
+  closed_words (EachWord b) u = u
 
   -- a value that the closure gave
   yes_single : (s t : Situation) (x : A) (v : B) → f.yes x v → SingleOk A k q group gap s x t
@@ -247,7 +253,7 @@ module _ (A B : Type 0) (inner : Outcome A) (k : FieldKind) (q : Roles) (group :
   err_single : (s t : Situation) (e : Error) → SingleErr A k q group gap s e t
       → SingleErr B k q (ClosedGroup A B group f) (closed_gap gap f) s e t
   err_single s t e (of_memory c) = of_memory c
-  err_single s t e (of_missing c h p same st) = of_missing c h p same st
+  err_single s t e (of_missing c h p same) = of_missing c h p same
   err_single s t e (of_absent c h p n) = of_absent c h p (λ v a. n a.0 a.1)
   err_single s t e (of_piece c ne n) = of_piece c ne (λ w rest g. n g.from rest g.read)
 

@@ -111,7 +111,7 @@ module _ (T : Type 0) (means : List ℕ → T → Type 0) (argument : KeyWithVal
       let here = subst (λ z. first_set z argument.named.envs ≡ None) same unset.0 in
       subst (SingleErr T ByName roles group (argument_gap means set) s e) (sym left)
       (of_missing (absence_caught s (argument_part argument) argument.named.envs e m c unset.1)
-      (ap (λ z. (argument_gap means z).has) here) (no_key argument s none) refl (steady_refl s))
+      (ap (λ z. (argument_gap means z).has) here) (no_key argument s none) (λ c. refl))
 
   -- no value stands for no piece where none is set
   pub gap_empty : (v : T) → (argument_gap means set).has ≡ false

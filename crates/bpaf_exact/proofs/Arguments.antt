@@ -121,7 +121,7 @@ module _ (T : Type 0) (means : List ℕ → T → Type 0) (argument : KeyWithVal
       (λ takes. let m = takes_pair argument once s t o.1.0 takes in
       took (took_front T (ArgumentValue means) ByName roles s t v (Two m.key m.word) m.steady
       m.takes (first_pieces roles (named argument) m.takes)
-      (subst (λ z. means z v) (sym m.text_is) o.1.2)))
+      (subst (λ z. means z v) (sym m.text_is) o.1.2) (λ none. absurd cc)))
       (λ read. variable_read T means argument group variables s t o.1.0 v o.0 read o.1.2) o.1.1
 
   -- a refusal: neither, or what can't be read

@@ -155,7 +155,7 @@ module _ (T : Type 0) (clones : T → T → Type 0) (key : Key) (present : T) (a
       let e = first_pieces roles (named T clones key present) h in
       subst (SingleOk T ByName roles group gap s v) (sym takes.2)
       (took (took_front T (FlagValue (clones present)) ByName roles s (take_place s takes.0) v
-      (One m.item) (take_steady s takes.0) h e y))
+      (One m.item) (take_steady s takes.0) h e y (λ none. absurd cc)))
 
   switch_none : (s t : Situation) (v : T) → HasNone (is_key_of key.names) s → t ≡ s
       → (gap.has ≡ true) × gap.absent v → SingleOk T ByName roles group gap s v t
@@ -188,8 +188,8 @@ module _ (T : Type 0) (clones : T → T → Type 0) (key : Key) (present : T) (a
       subst (λ z. SingleErr T ByName roles group gap s e z) (sym o.0.0.1)
       (of_missing (absence_caught s (flag_part key) key.envs e other c o.2)
       (gap_none T clones present absent _ (set_here s false same o.0.1) o.1)
-      (no_pieces (is_key_of key.names) roles Alone s (test T clones key present) o.0.0.0) refl
-      (steady_refl s))
+      (no_pieces (is_key_of key.names) roles Alone s (test T clones key present) o.0.0.0)
+      (λ c. refl))
 
   pub switch_law : SingleLaw T (WithVariables variables (FlagOutcome clones key present absent))
       ByName roles group gap

@@ -100,8 +100,8 @@ only_law T outcome names (product named q fields) l = tt
 repeated_keys : (k : FieldKind) (q : Roles) (names : List Names) → Owns (keys k q) names
     → Owns (keys (repeated k) q) names
 repeated_keys ByName q names o = o
-repeated_keys OneWord q names o = o
-repeated_keys EachWord q names o = o
+repeated_keys (OneWord b) q names o = o
+repeated_keys (EachWord b) q names o = o
 
 -- what some, collect and count make of the list; a refusal of theirs may be of any class
 pub flat_listed_law : (T B : Type 0) (inner : Outcome T) (idle : Bool) (f : Closure (List T) B)
@@ -195,10 +195,12 @@ follows : (k : FieldKind) (q r : Roles) (own others : List Names) → Owns (keys
     → Owns r others
     → may_follow k own others ≡ true → Before k q r
 follows ByName q r own others a b h = apart_of_names q r own others a b h
-follows OneWord q r own [] a b h = λ i. foreign_of (r i) (false_from_ne_true _ (λ e. nobody (b.own i e)))
-follows OneWord q r own (names ∷ others) a b h = absurd cc
-follows EachWord q r own [] a b h = λ i. foreign_of (r i) (false_from_ne_true _ (λ e. nobody (b.own i e)))
-follows EachWord q r own (names ∷ others) a b h = absurd cc
+follows (OneWord z) q r own [] a b h =
+    λ i. foreign_of (r i) (false_from_ne_true _ (λ e. nobody (b.own i e)))
+follows (OneWord z) q r own (names ∷ others) a b h = absurd cc
+follows (EachWord z) q r own [] a b h =
+    λ i. foreign_of (r i) (false_from_ne_true _ (λ e. nobody (b.own i e)))
+follows (EachWord z) q r own (names ∷ others) a b h = absurd cc
 
 -- a field before others
 pub flat_both_law : (A B : Type 0) (first : Outcome A) (rest : Outcome B) (own others : List Names)
@@ -219,8 +221,8 @@ flat_both_law A B first rest own others (complete k q fv) (product named r field
         (both_reading j q fv fields).value
     by_names ByName true l m apart = named_both_law A B first rest q r fv fields l m apart
     by_names ByName false l m apart = tt
-    by_names OneWord all l m apart = tt
-    by_names EachWord all l m apart = tt
+    by_names (OneWord z) all l m apart = tt
+    by_names (EachWord z) all l m apart = tt
 flat_both_law A B first rest own others (complete k q fv) not_flat la lb = tt
 flat_both_law A B first rest own others (complete k q fv) (alternative r v) la lb = tt
 flat_both_law A B first rest own others (complete k q fv) (single j r g h) la lb = tt
@@ -250,8 +252,8 @@ flat_alone_law T outcome names (complete k q value) l = (
     by_name : (j : FieldKind) → FieldLaw T outcome j q value
         → NamedLaw (is_named j) outcome (either (keys j q) no_roles) (LastValue T j q value)
     by_name ByName l = named_last_law T outcome q value l
-    by_name OneWord l = tt
-    by_name EachWord l = tt
+    by_name (OneWord z) l = tt
+    by_name (EachWord z) l = tt
 flat_alone_law T outcome names (product named q fields) l = tt
 
 -- the constructor of a product

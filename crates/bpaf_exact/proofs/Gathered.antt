@@ -5,6 +5,8 @@ use Rattle.bpaf_line.specs.declared.error.Error.{Error}
 use Rattle.bpaf_line.specs.Situation.{Situation}
 use Rattle.bpaf_laws.specs.Reading.{Outcome}
 use Rattle.bpaf_laws.specs.Repeat.{LastOutcome, UntilRest}
+use Rattle.std.proofs.Common.{ap}
+use Rattle.bpaf_exact.proofs.Fronts.{back_all, nil_each}
 use Rattle.bpaf_exact.specs.Pieces.{Roles, LinePiece, pieces}
 use Rattle.bpaf_exact.specs.Flat.{cells, NoneOutside, FieldKind, front, back, FieldTook, FieldLaw}
 use Rattle.bpaf_exact.specs.Flat.{Gives}
@@ -59,7 +61,7 @@ module _ (T : Type 0) (inner : Outcome T)
   some_agrees_on os x y v ox oy g n = g.1 (empty_nothing os x (empty_list os y n oy) ox)
 
   -- where there was nothing once more nothing is answered
-  again_never : (m t : Situation) (v : T) → gap.has ≡ false → pieces q (cells m) ≡ []
+  again_never : (m t : Situation) (v : T) → gap.has ≡ false → front k (pieces q (cells m)) ≡ []
       → SingleOk T k q group gap m v t → ⊥
   again_never m t v h p (gave_absent g p' ab same st) = cc
   again_never m t v h p (took g) = g.found p
@@ -69,12 +71,15 @@ module _ (T : Type 0) (inner : Outcome T)
       → inner m (Ok v) t → ⊥
   again_ok s m t v w f g =
       let i = repeat_took T inner k q group gap l true s m [] w f in
-      by_empty (empty_list (pieces q (cells s)) [] refl i.list) i.none
+      by_empty (empty_list (front (repeated k) (pieces q (cells s))) [] refl i.list) i.none
       (l.ok m t v (none_outside_after s m w i.steady) g)
     where
-      by_empty : Nothing (pieces q (cells s)) → pieces q (cells m) ≡ []
+      by_empty : Nothing (front (repeated k) (pieces q (cells s)))
+          → pieces q (cells m) ≡ back (repeated k) (pieces q (cells s))
           → SingleOk T k q group gap m v t → ⊥
-      by_empty (nothing h e) p o = again_never m t v h p o
+      by_empty (nothing h e) p o =
+          let same : pieces q (cells m) ≡ pieces q (cells s) = p ∙ back_all (repeated k) _ e in
+          again_never m t v h (nil_each k _ (ap (front (repeated k)) same ∙ e)) o
 
   -- a last value is that of the own list
   last_took : (s t : Situation) (v : T) → NoneOutside s → LastOutcome inner s (Ok v) t

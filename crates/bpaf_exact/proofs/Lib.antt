@@ -36,6 +36,7 @@ pub mod Surplus
 pub mod Sharing
 pub mod Says
 pub mod Keeping
+pub mod Fronts
 pub mod PieceByPiece
 pub mod Needed
 pub mod Programs

@@ -47,8 +47,8 @@ module _ (T : Type 0) (d e : Error) (same : class d ≡ class e) where
   single_like : (k : FieldKind) (q : Roles) (group : Groups T) (gap : Gap T) (s t : Situation)
       → SingleErr T k q group gap s d t → SingleErr T k q group gap s e t
   single_like k q group gap s t (of_memory h) = of_memory (sym same ∙ h)
-  single_like k q group gap s t (of_missing h has none kept steady) =
-      of_missing (catch_like h) has none kept steady
+  single_like k q group gap s t (of_missing h has none kept) =
+      of_missing (catch_like h) has none (λ c. kept (same ∙ c))
   single_like k q group gap s t (of_absent h has none refused) =
       of_absent (sym same ∙ h) has none refused
   single_like k q group gap s t (of_piece h some refused) = of_piece (sym same ∙ h) some refused

@@ -159,9 +159,10 @@ pub word_view : (T X : Type 0) (see : T → X) (means : List ℕ → T → Type 
 word_view T X see means u = (front_view T X see _ (word_piece T X see means u), λ v w a b. absurd a)
 
 -- one on one side of `--`
-pub side_view : (T X : Type 0) (see : T → X) (behind : Bool) (means : List ℕ → T → Type 0)
-    → ((text : List ℕ) → Alike see (means text)) → HasOneView see (word_by (SideValue behind means))
-side_view T X see behind means u =
+pub side_view : (T X : Type 0) (see : T → X) (stops behind : Bool) (means : List ℕ → T → Type 0)
+    → ((text : List ℕ) → Alike see (means text))
+    → HasOneView see (word_by stops (SideValue behind means))
+side_view T X see stops behind means u =
     (front_view T X see _ (side_piece T X see behind means u), λ v w a b. absurd a)
 
 -- Choice.

@@ -3,7 +3,8 @@ use Rattle.std.proofs.Common.{◌≡◌, ℕ, Bool, true, false, List, [], ◌�
 use Rattle.std.proofs.Common.{sym, ap, ◌∙◌, subst, true≢false}
 use Rattle.std.specs.List.{AllZip}
 use Rattle.bpaf_exact.specs.Pieces.{LinePiece, One, Two}
-use Rattle.bpaf_exact.specs.Leaves.{FlagValue, ArgumentValue, WordValue, stands_behind}
+use Rattle.bpaf_exact.specs.Pieces.{stands_behind}
+use Rattle.bpaf_exact.specs.Leaves.{FlagValue, ArgumentValue, WordValue}
 use Rattle.bpaf_exact.specs.Single.{Own, own_none, own_more}
 use Rattle.bpaf_exact.specs.Says.{Said, FlagSays, says_present, says_absent, ArgumentSays}
 use Rattle.bpaf_exact.specs.Says.{says_variable, says_variable_text}

@@ -11,15 +11,19 @@ use Rattle.bpaf_line.specs.Taking.{TakesText}
 use Rattle.bpaf_line.proofs.Matches.{open_item_there}
 use Rattle.bpaf_exact.specs.Pieces.{Cells, Foreign, Alone, WithNext, LinePiece, One, word_roles}
 use Rattle.bpaf_exact.specs.Pieces.{pieces}
-use Rattle.bpaf_exact.specs.Flat.{cells, NoneOutside, Steady, OneWord, front, back}
+use Rattle.bpaf_exact.specs.Flat.{cells, NoneOutside, Steady, EachWord, OneWord, front, back}
+use Rattle.bpaf_exact.specs.Flat.{is_behind}
 use Rattle.bpaf_exact.specs.Single.{Groups, FrontOf, no_gap, SingleOk, took, SingleErr, of_memory}
-use Rattle.bpaf_exact.specs.Single.{catch_missing, of_missing, of_piece, WordByWord, SingleLaw}
+use Rattle.bpaf_exact.specs.Single.{catch_missing, catch_other, of_missing, of_piece, WordByWord}
+use Rattle.bpaf_exact.specs.Single.{SingleLaw}
 use Rattle.bpaf_exact.specs.Alternative.{TakesFirst, first_one, first_two, first_later}
-use Rattle.bpaf_exact.specs.Leaves.{WordEval, stands_behind, word_by, word_fault, word_memory}
-use Rattle.bpaf_exact.specs.Leaves.{word_missing, word_read}
+use Rattle.bpaf_exact.specs.Pieces.{stands_behind}
+use Rattle.bpaf_exact.specs.Leaves.{WordEval, word_by, word_fault, word_memory}
+use Rattle.bpaf_exact.specs.Leaves.{word_missing, word_passed, word_read}
+use Rattle.bpaf_exact.proofs.Fronts.{back_more, back_one, front_more, front_one, of_front_more}
+use Rattle.bpaf_exact.proofs.Fronts.{of_front_one}
 use Rattle.bpaf_exact.specs.FlatForm.{FormLaw}
-use Rattle.bpaf_exact.proofs.Product.{steady_refl}
-use Rattle.bpaf_exact.proofs.First.{first_takes, takes_nonempty, begin_at}
+use Rattle.bpaf_exact.proofs.First.{begin_at}
 use Rattle.bpaf_exact.proofs.Alternative.{took_front}
 use Rattle.bpaf_exact.proofs.Places.{take_steady}
 use Rattle.bpaf_exact.proofs.Matching.{match_of, ByTest, by_test, no_pieces, one_taken}
@@ -39,8 +43,15 @@ word_is (PosWord own) strict text e = (
   ap (λ z. option_map_or (λ word. word.0) z false) e,
 )
 
+-- a field that stops takes none behind `--`
+passed_by : (b : Bool) → b ≡ true → (o : LinePiece) (os : List LinePiece) → is_behind o ≡ true
+    → front (OneWord b) (o ∷ os) ≡ []
+passed_by true h o os behind = ap (λ z. if z then [] else o ∷ []) behind
+passed_by false h o os behind = absurd cc
+
 -- a positional
-module _ (T : Type 0) (value : LinePiece → T → Type 0) where
+module _ (T : Type 0) (b : Bool) (value : LinePiece → T → Type 0)
+    (clear : b ≡ true → (o : LinePiece) (v : T) → value o v → is_behind o ≡ false) where
   -- the first word and its value
   abbrev group : Groups T
   group = FrontOf T value
@@ -89,54 +100,79 @@ module _ (T : Type 0) (value : LinePiece → T → Type 0) where
         steady = take_steady s p;
       })
 
+  -- a word that may be taken is
+  some_front : (w : Arg) (os : List LinePiece) → (b ≡ true → stands_behind w ≡ false)
+      → front (OneWord b) (One w ∷ os) ≡ [] → ⊥
+  some_front w os may none = let e = front_one b (One w) os may in absurd cc
+
   -- a value is that of the first word
-  word_ok : (s t : Situation) (v : T) → NoneOutside s → WordEval T value s (Ok v) t
-      → SingleOk T OneWord word_roles group (no_gap T) s v t
+  word_ok : (s t : Situation) (v : T) → NoneOutside s → WordEval T b value s (Ok v) t
+      → SingleOk T (OneWord b) word_roles group (no_gap T) s v t
   word_ok s t v w (word_read {p = p} {strict = strict} {text = text} takes y) =
       let m = took_word s t p strict text takes in
       let e = word_pieces m.takes in
       took
-      (took_front T value OneWord word_roles s t v (One m.word) m.steady m.takes e
-      (y m.word m.text_is))
+      (took_front T value (OneWord b) word_roles s t v (One m.word) m.steady m.takes e
+      (y m.word m.text_is)
+      (some_front m.word _ (λ h. clear h (One m.word) v (y m.word m.text_is))))
 
   -- a refusal: there is no word, or the first can't be read
-  word_err : (s t : Situation) (e : Error) → NoneOutside s → WordEval T value s (Err e) t
-      → SingleErr T OneWord word_roles group (no_gap T) s e t
-  word_err s t e w (word_fault {p = p} {strict = strict} {text = text} takes n c) =
+  word_err : (s t : Situation) (e : Error) → NoneOutside s → WordEval T b value s (Err e) t
+      → SingleErr T (OneWord b) word_roles group (no_gap T) s e t
+  word_err s t e w (word_fault {p = p} {strict = strict} {text = text} takes before n c) =
       let m = took_word s t p strict text takes in
       let i = word_pieces m.takes in
-      of_piece c (takes_nonempty word_roles (first_takes word_roles m.takes))
+      of_piece c
+      (λ none. some_front m.word _ (λ h. (word_is m.word strict text m.text_is).1 ∙ before h)
+      (sym (ap (front (OneWord b)) i) ∙ none))
       (λ x rest y.
       let d : One m.word ∷ pieces word_roles (cells t) ≡ y.piece ∷ rest = sym i ∙ y.is in
       let j : y.piece ≡ One m.word = cc in
       n m.word x m.text_is (subst (λ z. value z x) j y.means))
   word_err s t e w (word_missing none c) =
-      of_missing (catch_missing c) refl (no_pieces is_positional word_roles Alone s test none) refl (steady_refl s)
+      of_missing (catch_missing c) refl
+      (ap (front (OneWord b)) (no_pieces is_positional word_roles Alone s test none)) (λ c. refl)
+  word_err s t e w (word_passed {p = p} {text = text} h takes c) =
+      let m = took_word s t p true text takes in
+      of_missing (catch_other c) refl
+      (ap (front (OneWord b)) (word_pieces m.takes)
+      ∙ passed_by b h (One m.word) (pieces word_roles (cells t)) (word_is m.word true text
+      m.text_is).1)
+      (λ missing. absurd cc)
   word_err s t e w (word_memory c) = of_memory c
 
-  -- the first word alone is read
-  one_by_one : WordByWord T group
-  one_by_one = record { by_front = fronts; of_front = heads }
-    where
-      fronts : (os : List LinePiece) (v : T) (rest : List LinePiece)
-          → FrontOf T value os v rest
-          → FrontOf T value (front OneWord os) v [] × (rest ≡ back OneWord os)
-      fronts [] v rest g = let e = g.is in absurd cc
-      fronts (o ∷ os) v rest g =
-          let e = g.is in
-          let d : o ≡ g.piece = cc in
-          (record { piece = g.piece; is = ap (λ z. z ∷ []) d; means = g.means }, cc)
-
-      heads : (os : List LinePiece) (v : T) → FrontOf T value (front OneWord os) v []
-          → FrontOf T value os v (back OneWord os)
-      heads [] v g = g
-      heads (o ∷ os) v g =
-          let e = g.is in
-          let d : o ≡ g.piece = cc in
-          record { piece = g.piece; is = ap (λ z. z ∷ os) d; means = g.means }
+  -- the first word alone is read, and by a repeat each
+  one_by_one : WordByWord T b group
+  one_by_one = record {
+    by_front = λ os v rest g. let may : b ≡ true → is_behind g.piece ≡ false = λ h. clear h g.piece
+        v g.means in (
+          record {
+            piece = g.piece;
+            is = ap (front (OneWord b)) g.is ∙ front_one b g.piece rest may;
+            means = g.means;
+          },
+          sym (ap (back (OneWord b)) g.is ∙ back_one b g.piece rest may),
+        );
+    of_front = λ os v g. record {
+      piece = g.piece;
+      is = of_front_one b os g.piece g.is;
+      means = g.means;
+    };
+    by_each = λ os v rest g. let may : b ≡ true → is_behind g.piece ≡ false = λ h. clear h g.piece
+        v g.means in (
+          record {
+            piece = g.piece;
+            is = ap (front (EachWord b)) g.is ∙ front_more b g.piece rest may;
+            means = g.means;
+          },
+          sym (ap (back (EachWord b)) g.is ∙ back_more b g.piece rest may),
+        );
+    of_each = λ os v rest g. let more = of_front_more b os g.piece rest g.is in
+        (more.0, record { piece = g.piece; is = more.1; means = g.means }, more.2);
+  }
 
   -- a word keeps to the laws of one evaluation
-  word_law : SingleLaw T (WordEval T value) OneWord word_roles group (no_gap T)
+  word_law : SingleLaw T (WordEval T b value) (OneWord b) word_roles group (no_gap T)
   word_law = record {
     own = record { words = λ k. refl };
     words = one_by_one;
@@ -147,6 +183,7 @@ module _ (T : Type 0) (value : LinePiece → T → Type 0) where
   }
 
 -- a positional keeps to the laws of its form
-pub word_by_law : (T : Type 0) (value : LinePiece → T → Type 0)
-    → FormLaw (WordEval T value) [] (word_by value)
-word_by_law T value = (word_law T value, record { own = λ k e. absurd cc })
+pub word_by_law : (T : Type 0) (b : Bool) (value : LinePiece → T → Type 0)
+    → (b ≡ true → (o : LinePiece) (v : T) → value o v → is_behind o ≡ false)
+    → FormLaw (WordEval T b value) [] (word_by b value)
+word_by_law T b value clear = (word_law T b value clear, record { own = λ k e. absurd cc })

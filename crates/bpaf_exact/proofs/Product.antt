@@ -7,6 +7,7 @@ use Rattle.bpaf_line.specs.Messages.{is_memory}
 use Rattle.bpaf_laws.specs.Product.{BothOutcome, joined}
 use Rattle.bpaf_laws.specs.Reading.{Outcome}
 use Rattle.bpaf_laws.specs.Spared.{IsNotMemory}
+use Rattle.bpaf_exact.specs.Pieces.{no_roles}
 use Rattle.bpaf_exact.specs.Pieces.{Cells, Role, Foreign, Alone, WithNext, Roles, LinePiece, One}
 use Rattle.bpaf_exact.specs.Pieces.{Two}
 use Rattle.bpaf_exact.specs.Pieces.{is_own_role, is_own, others, either_role, either, IsNamed}
@@ -172,28 +173,19 @@ named_back q r n a t c =
       own = pieces_of_cut q r n p.cut;
     }
 
--- of a positional one with a repeat
-each_back : (q r : Roles) {cs ds : Cells} {os : List LinePiece} → IsWords q → NoKeys r
-    → TakesPieces q cs ds → pieces q ds ≡ [] → Cut r ds os → StepBack EachWord q r cs os
-each_back q r n f t e c =
+-- of a positional one
+word_back : (k : FieldKind) (q r : Roles) {cs ds : Cells} {os : List LinePiece}
+    → keys k q ≡ no_roles → ((ps : List LinePiece) → share k q ps ≡ front k ps)
+    → ((ps : List LinePiece) → left k q ps ≡ back k ps) → IsWords q → NoKeys r
+    → TakesPieces q cs ds → pieces q ds ≡ back k (pieces q cs) → Cut r ds os → StepBack k q r cs os
+word_back k q r {cs = cs} no_keys shares leaves n f t e c =
     let p = put_words_back q r n f t c in
     let all = words_of_cut q r n f p.cut in
-    record { before = p.words; cut = p.cut; leaves = sym e ∙ words_of_cut q r n f c; own = all }
-
--- of one without
-one_back : (q r : Roles) {cs ds : Cells} {os : List LinePiece} → IsWords q → NoKeys r
-    → TakesPieces q cs ds → pieces q ds ≡ back OneWord (pieces q cs) → Cut r ds os
-    → StepBack OneWord q r cs os
-one_back q r {cs = cs} {os = os} n f t e c =
-    let p = put_words_back q r n f t c in
-    let all = words_of_cut q r n f p.cut in
-    let was : back OneWord (pieces q cs) ≡ os = sym e ∙ words_of_cut q r n f c in
     record {
       before = p.words;
-      cut = p.cut;
-      leaves = ap (back OneWord) (sym all)
-          ∙ was;
-      own = ap (front OneWord) all;
+      cut = subst (λ own. Cut (either own r) cs p.words) (sym no_keys) p.cut;
+      leaves = leaves p.words ∙ (ap (back k) (sym all) ∙ (sym e ∙ words_of_cut q r n f c));
+      own = ap (front k) all ∙ sym (shares p.words);
     }
 
 -- of any field
@@ -202,15 +194,19 @@ pub step_back : (k : FieldKind) (q r : Roles) (T : Type 0)
     → OwnItems k q → Before k q r → FieldTook T k q value s v m → Cut r (cells m) os
     → StepBack k q r (cells s) os
 step_back ByName q r T value n b f c = named_back q r n b f.takes c
-step_back OneWord q r T value n b f c = one_back q r n (record { none = b }) f.takes (f.rest tt) c
-step_back EachWord q r T value n b f c = each_back q r n (record { none = b }) f.takes (f.rest tt) c
+step_back (OneWord z) q r T value n b f c =
+    word_back (OneWord z) q r refl (λ ps. refl) (λ ps. refl) n (record { none = b }) f.takes
+    (f.rest tt) c
+step_back (EachWord z) q r T value n b f c =
+    word_back (EachWord z) q r refl (λ ps. refl) (λ ps. refl) n (record { none = b }) f.takes
+    (f.rest tt) c
 
 -- a field that left nothing of its own
 pub none_left : (k : FieldKind) (q r : Roles) {cs : Cells} {os : List LinePiece} → OwnItems k q
     → Before k q r → Cut r cs os → LeavesNone k q cs
 none_left ByName q r n b c = no_own_in_cut q r n b c
-none_left OneWord q r n b c = tt
-none_left EachWord q r n b c = tt
+none_left (OneWord z) q r n b c = tt
+none_left (EachWord z) q r n b c = tt
 
 -- The cut after a field was evaluated.
 
@@ -218,8 +214,18 @@ none_left EachWord q r n b c = tt
 pub own_share : (k : FieldKind) (q r : Roles) {cs : Cells} {os : List LinePiece} → OwnItems k q
     → Before k q r → Cut (either (keys k q) r) cs os → front k (pieces q cs) ≡ share k q os
 own_share ByName q r n b c = pieces_of_cut q r n c
-own_share OneWord q r n b c = ap (front OneWord) (words_of_cut q r n (record { none = b }) c)
-own_share EachWord q r n b c = words_of_cut q r n (record { none = b }) c
+own_share (OneWord z) q r n b c = ap (front (OneWord z)) (words_of_cut q r n (record { none = b })
+    c)
+own_share (EachWord z) q r n b c =
+    ap (front (EachWord z)) (words_of_cut q r n (record { none = b }) c)
+
+-- the cut after a positional field was evaluated
+word_on : (k : FieldKind) (q r : Roles) {cs ds : Cells} {os : List LinePiece} → IsWords q → NoKeys r
+    → TakesPieces q cs ds → pieces q ds ≡ back k (pieces q cs) → Cut r cs os → Cut r ds (back k os)
+word_on k q r n f t e c =
+    let p = take_words_from q r n f t c in
+    subst (Cut r _) (sym (words_of_cut q r n f p.cut) ∙ (e ∙ ap (back k) (words_of_cut q r n f c)))
+    p.cut
 
 -- the cut after a field was evaluated
 pub step_on : (k : FieldKind) (q r : Roles) {cs ds : Cells} {os : List LinePiece} → OwnItems k q
@@ -229,16 +235,8 @@ step_on ByName q r n b t e c =
     let p = take_some_from q r n t c in
     let i = narrow q r n e p.cut in
     subst (Cut r _) (sym i.all ∙ p.alike) i.cut
-step_on OneWord q r {cs = cs} {os = os} n b t e c =
-    let f : NoKeys r = record { none = b } in
-    let p = take_words_from q r n f t c in
-    let was : back OneWord (pieces q cs)
-    ≡ back OneWord os = ap (back OneWord) (words_of_cut q r n f c) in
-    subst (Cut r _) (sym (words_of_cut q r n f p.cut) ∙ (e ∙ was)) p.cut
-step_on EachWord q r n b t e c =
-    let f : NoKeys r = record { none = b } in
-    let p = take_words_from q r n f t c in
-    subst (Cut r _) (sym (words_of_cut q r n f p.cut) ∙ e) p.cut
+step_on (OneWord z) q r n b t e c = word_on (OneWord z) q r n (record { none = b }) t e c
+step_on (EachWord z) q r n b t e c = word_on (EachWord z) q r n (record { none = b }) t e c
 
 -- Fields before others keep to the laws.
 
@@ -250,8 +248,8 @@ both_named ByName q r n m =
       only_keys =
           λ a h. either_foreign (q a) (r a) Foreign (n.only_keys a h) (m.only_keys a h);
     }
-both_named OneWord q r n m = m
-both_named EachWord q r n m = m
+both_named (OneWord z) q r n m = m
+both_named (EachWord z) q r n m = m
 
 -- two values of fields that were all evaluated
 pub record ValuesOfBoth (A B : Type 0) (first : Outcome A) (rest : Outcome B) (s : Situation)

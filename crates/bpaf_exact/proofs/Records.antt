@@ -40,8 +40,8 @@ module _ (T : Type 0) (outcome : Outcome T)
     where
       by_kind : (z : FieldKind) → Before z q no_roles
       by_kind ByName = record { left = λ a h. refl; right = λ a h. absurd cc }
-      by_kind OneWord = λ a. refl
-      by_kind EachWord = λ a. refl
+      by_kind (OneWord z) = λ a. refl
+      by_kind (EachWord z) = λ a. refl
 
   -- its keys are keys
   keys_named : IsNamed (either (keys k q) no_roles)
@@ -54,8 +54,8 @@ module _ (T : Type 0) (outcome : Outcome T)
 
       by_kind : (z : FieldKind) → OwnItems z q → IsNamed (either (keys z q) no_roles)
       by_kind ByName n = record { only_keys = λ a h. alone (q a) (n.only_keys a h) }
-      by_kind OneWord n = record { only_keys = λ a h. refl }
-      by_kind EachWord n = record { only_keys = λ a h. refl }
+      by_kind (OneWord z) n = record { only_keys = λ a h. refl }
+      by_kind (EachWord z) n = record { only_keys = λ a h. refl }
 
   -- the value of a last field is read off a cut
   last_reads : (s t : Situation) (v : T) → NoneOutside s → outcome s (Ok v) t → NonePresent (cells t)

@@ -17,8 +17,9 @@ use Rattle.bpaf_exact.specs.Single.{TookGroup, SingleOk, gave_absent, took, Sing
 use Rattle.bpaf_exact.specs.Single.{of_missing, of_absent, of_piece, SingleLaw, OwnList, listed}
 use Rattle.bpaf_exact.specs.Single.{listed_and_absent, only_absent, repeated, Stops, nothing_found}
 use Rattle.bpaf_exact.specs.Single.{caught, CanCatch, catch_missing, catch_other, RepeatOutcome}
-use Rattle.bpaf_exact.specs.Single.{present_count}
+use Rattle.bpaf_exact.specs.Single.{ReadsWords, present_count}
 use Rattle.bpaf_exact.proofs.Classes.{memory_class, stops_at, goes_on}
+use Rattle.bpaf_exact.proofs.Fronts.{back_all, each_nil, nil_each}
 use Rattle.bpaf_exact.proofs.Product.{none_outside_after, steady_refl, steady_trans}
 use Rattle.bpaf_exact.proofs.Counts.{open_present, takes_any_fewer}
 
@@ -37,19 +38,20 @@ pub same_takes : (q : Roles) {cs ds : Cells} → ds ≡ cs → TakesPieces q cs 
 same_takes q {cs = cs} e = subst (TakesPieces q cs) (sym e) takes_none
 
 -- what has an own list can be read
-readable : {T : Type 0} (k : FieldKind) (group : Groups T) {os : List LinePiece} {vs : List T}
-    → Own T group os vs → Readable k group os
-readable ByName group {vs = vs} o = (vs, o)
-readable OneWord group o = tt
-readable EachWord group o = tt
+readable : {T : Type 0} (k : FieldKind) (group : Groups T) (os : List LinePiece) (vs : List T)
+    → Own T group (front (repeated k) os) vs → Readable k group os
+readable ByName group os vs o = (vs, o)
+readable (OneWord b) group os vs o = tt
+readable (EachWord b) group os vs o = tt
 
 -- where the cells are the same as many items are present
 pub same_count : (s m : Situation) → cells m ≡ cells s → open_count m ≡ open_count s
 same_count s m e = open_present m ∙ (ap present_count e ∙ sym (open_present s))
 
 -- a turn that took nothing stops at what can be caught
-pub stops_by : (s m : Situation) (e : Error) → CanCatch e → cells m ≡ cells s → Stops e s m
-stops_by s m e (catch_missing c) same = nothing_found c (same_count s m same)
+pub stops_by : (s m : Situation) (e : Error) → CanCatch e
+    → (class e ≡ OfMissing → cells m ≡ cells s) → Stops e s m
+stops_by s m e (catch_missing c) same = nothing_found c (same_count s m (same c))
 stops_by s m e (catch_other c) same = caught c
 
 -- a turn stops only where something is missing or the error can be caught otherwise
@@ -61,12 +63,53 @@ no_stop s m e c (caught h) g a b = b (sym g ∙ h)
 module _ (T : Type 0) (inner : Outcome T) (k : FieldKind) (q : Roles) (group : Groups T)
     (gap : Gap T)
     (l : SingleLaw T inner k q group gap) where
+  -- the pieces that a repeat takes
+  abbrev own : Situation → List LinePiece
+  own s = front (repeated k) (pieces q (cells s))
+
+  -- and those that it leaves
+  abbrev left : Situation → List LinePiece
+  left s = back (repeated k) (pieces q (cells s))
+
+  -- where a turn takes none the repeat takes none
+  own_none_left : (s : Situation) → front k (pieces q (cells s)) ≡ [] → own s ≡ []
+  own_none_left s none = each_nil k (pieces q (cells s)) none
+
+  -- and leaves all
+  all_left : (s : Situation) → front k (pieces q (cells s)) ≡ [] → pieces q (cells s) ≡ left s
+  all_left s none = sym (back_all (repeated k) (pieces q (cells s)) (own_none_left s none))
+
+  -- a group at the front of all pieces is one at the front of those
+  by_group : (os : List LinePiece) (v : T) (rest : List LinePiece) → group os v rest
+      → group (front (repeated k) os) v (front (repeated k) rest)
+      × (back (repeated k) rest ≡ back (repeated k) os)
+  by_group os v rest g = by_kind k l.words
+    where
+      by_kind : (z : FieldKind) → ReadsWords z group
+          → group (front (repeated z) os) v (front (repeated z) rest)
+          × (back (repeated z) rest ≡ back (repeated z) os)
+      by_kind ByName u = (g, refl)
+      by_kind (OneWord b) u = u.by_each os v rest g
+      by_kind (EachWord b) u = absurd u
+
+  -- and the other way
+  of_group : (os : List LinePiece) (v : T) (rest : List LinePiece)
+      → group (front (repeated k) os) v rest
+      → (more : List LinePiece) × group os v more × (rest ≡ front (repeated k) more)
+  of_group os v rest = by_kind k l.words
+    where
+      by_kind : (z : FieldKind) → ReadsWords z group → group (front (repeated z) os) v rest
+          → (more : List LinePiece) × group os v more × (rest ≡ front (repeated z) more)
+      by_kind ByName u g = (rest, g, refl)
+      by_kind (OneWord b) u g = u.of_each os v rest g
+      by_kind (EachWord b) u g = absurd u
+
   -- what a repeat took, once it has the first value
   record Took (s : Situation) (vs : List T) (t : Situation) : Type 0 where
     steady : Steady s t
     takes : TakesPieces q (cells s) (cells t)
-    none : pieces q (cells t) ≡ []
-    list : Own T group (pieces q (cells s)) vs
+    none : pieces q (cells t) ≡ left s
+    list : Own T group (own s) vs
     absent : gap.has ≡ true → (a : T) × gap.absent a
 
   -- where the cells are the same not fewer items are present
@@ -93,13 +136,13 @@ module _ (T : Type 0) (inner : Outcome T) (k : FieldKind) (q : Roles) (group : G
   took_item s m (inr fewer) = fewer
 
   -- a repeat that ends where there is no piece
-  ended : (s t : Situation) → Steady s t → pieces q (cells s) ≡ [] → cells t ≡ cells s
+  ended : (s t : Situation) → Steady s t → front k (pieces q (cells s)) ≡ [] → cells t ≡ cells s
       → (gap.has ≡ true → (a : T) × gap.absent a) → Took s [] t
   ended s t st p e ab = record {
     steady = st;
     takes = same_takes q e;
-    none = ap (pieces q) e ∙ p;
-    list = subst (λ os. Own T group os []) (sym p) own_none;
+    none = ap (pieces q) e ∙ all_left s p;
+    list = subst (λ os. Own T group os []) (sym (own_none_left s p)) own_none;
     absent = ab;
   }
 
@@ -107,7 +150,7 @@ module _ (T : Type 0) (inner : Outcome T) (k : FieldKind) (q : Roles) (group : G
   stop_after : (s m : Situation) (e : Error) → Stops e s m → SingleErr T k q group gap s e m
       → Took s [] s
   stop_after s m e h (of_memory c) = absurd (no_stop s m e OfMemory h c (λ i. cc) (λ i. cc))
-  stop_after s m e h (of_missing c g p same st) = ended s s (steady_refl s) p refl (λ i. absurd cc)
+  stop_after s m e h (of_missing c g p same) = ended s s (steady_refl s) p refl (λ i. absurd cc)
   stop_after s m e h (of_absent c g p n) = absurd (no_stop s m e Refused h c (λ i. cc) (λ i. cc))
   stop_after s m e h (of_piece c p n) = absurd (no_stop s m e Refused h c (λ i. cc) (λ i. cc))
 
@@ -117,8 +160,8 @@ module _ (T : Type 0) (inner : Outcome T) (k : FieldKind) (q : Roles) (group : G
   took_more s m t v vs h i = record {
     steady = steady_trans h.steady i.steady;
     takes = some_trans q (any_some q h.takes) i.takes;
-    none = i.none;
-    list = own_more (h.read (readable k group i.list)) i.list;
+    none = i.none ∙ (by_group _ v _ (h.read (readable k group _ vs i.list))).1;
+    list = own_more (by_group _ v _ (h.read (readable k group _ vs i.list))).0 i.list;
     absent = i.absent;
   }
 
@@ -157,8 +200,8 @@ module _ (T : Type 0) (inner : Outcome T) (k : FieldKind) (q : Roles) (group : G
   pub record RepeatTook (s : Situation) (vs : List T) (t : Situation) : Type 0 where
     pub steady : Steady s t
     pub takes : TakesPieces q (cells s) (cells t)
-    pub none : pieces q (cells t) ≡ []
-    pub list : OwnList T group gap (pieces q (cells s)) vs
+    pub none : pieces q (cells t) ≡ left s
+    pub list : OwnList T group gap (own s) vs
 
   -- no piece has no own list but the empty one
   pub own_nil : (os : List LinePiece) (vs : List T) → os ≡ [] → Own T group os vs → vs ≡ []
@@ -175,22 +218,30 @@ module _ (T : Type 0) (inner : Outcome T) (k : FieldKind) (q : Roles) (group : G
 
   -- the absent value alone
   absent_alone : (s t : Situation) (v : T) (us : List T) → us ≡ [] → gap.has ≡ true
-      → pieces q (cells s) ≡ [] → gap.absent v → OwnList T group gap (pieces q (cells s)) (v ∷ us)
+      → front k (pieces q (cells s)) ≡ [] → gap.absent v → OwnList T group gap (own s) (v ∷ us)
   absent_alone s t v us e h p ab =
-      subst (λ os. OwnList T group gap os (v ∷ us)) (sym p)
+      subst (λ os. OwnList T group gap os (v ∷ us)) (sym (own_none_left s p))
       (subst (λ z. OwnList T group gap [] (v ∷ z)) (sym e) (only_absent h ab))
+
+  -- where the cells are the same the same pieces are taken
+  same_own : (s m : Situation) → cells m ≡ cells s → own m ≡ own s
+  same_own s m same = ap (λ cs. front (repeated k) (pieces q cs)) same
+
+  -- and left
+  same_left : (s m : Situation) → cells m ≡ cells s → left m ≡ left s
+  same_left s m same = ap (λ cs. back (repeated k) (pieces q cs)) same
 
   -- the first turn
   first_step : (s m t : Situation) (v : T) (us : List T) → SingleOk T k q group gap s v m
       → (Steady s m → Took m us t) → RepeatTook s (v ∷ us) t
   first_step s m t v us (gave_absent h p ab same st) more =
       let i = more st in
-      let none : us ≡ [] = own_nil (pieces q (cells m)) us (ap (pieces q) same ∙ p) i.list in
+      let none : us ≡ [] = own_nil (own m) us (same_own s m same ∙ own_none_left s p) i.list in
       record {
         steady = steady_trans st i.steady;
         takes =
             some_trans q (same_takes q same) i.takes;
-        none = i.none;
+        none = i.none ∙ same_left s m same;
         list =
             absent_alone s m v us none h p ab;
       }
@@ -201,7 +252,7 @@ module _ (T : Type 0) (inner : Outcome T) (k : FieldKind) (q : Roles) (group : G
         takes = i.takes;
         none = i.none;
         list =
-            with_absent gap.has refl (pieces q (cells s)) v us i.absent i.list;
+            with_absent gap.has refl (own s) v us i.absent i.list;
       }
 
   -- a first value that took nothing
@@ -212,7 +263,7 @@ module _ (T : Type 0) (inner : Outcome T) (k : FieldKind) (q : Roles) (group : G
         steady = st;
         takes = same_takes q same;
         none = ap (pieces q) same
-            ∙ p;
+            ∙ all_left s p;
         list = absent_alone s t v [] refl h p ab;
       }
   first_idle s t v w e (took h) = let f = fewer_count s t h.takes in
@@ -222,13 +273,13 @@ module _ (T : Type 0) (inner : Outcome T) (k : FieldKind) (q : Roles) (group : G
   first_stop : (s m : Situation) (e : Error) → Stops e s m → SingleErr T k q group gap s e m
       → RepeatTook s [] s
   first_stop s m e h (of_memory c) = absurd (no_stop s m e OfMemory h c (λ i. cc) (λ i. cc))
-  first_stop s m e h (of_missing c g p same st) =
+  first_stop s m e h (of_missing c g p same) =
       record {
         steady = steady_refl s;
         takes = takes_none;
-        none = p;
+        none = all_left s p;
         list =
-            listed g (subst (λ os. Own T group os []) (sym p) own_none);
+            listed g (subst (λ os. Own T group os []) (sym (own_none_left s p)) own_none);
       }
   first_stop s m e h (of_absent c g p n) = absurd (no_stop s m e Refused h c (λ i. cc) (λ i. cc))
   first_stop s m e h (of_piece c p n) = absurd (no_stop s m e Refused h c (λ i. cc) (λ i. cc))
@@ -263,9 +314,9 @@ module _ (T : Type 0) (inner : Outcome T) (k : FieldKind) (q : Roles) (group : G
   -- Where the pieces can be read no other answer comes, but for want of memory.
 
   -- an own list of the pieces, or want of memory
-  abbrev GivesList : List LinePiece → Result (List T) Error → Situation → Type 0
-  GivesList os (Ok vs) t = Own T group os vs × (pieces q (cells t) ≡ [])
-  GivesList os (Err e) t = class e ≡ OfMemory
+  abbrev GivesList : Situation → Result (List T) Error → Situation → Type 0
+  GivesList s (Ok vs) t = Own T group (own s) vs × (pieces q (cells t) ≡ left s)
+  GivesList s (Err e) t = class e ≡ OfMemory
 
   -- an own list is empty, or has a first value
   data OwnView (os : List LinePiece) (vs : List T) : Type 0 where
@@ -281,52 +332,55 @@ module _ (T : Type 0) (inner : Outcome T) (k : FieldKind) (q : Roles) (group : G
   -- what is known of the rest after a turn that took something
   record Onward (s m : Situation) (v : T) (r : Result (List T) Error) (t : Situation) : Type 0 where
     read : group (pieces q (cells s)) v (pieces q (cells m))
-    gives : GivesList (pieces q (cells m)) r t
+    gives : GivesList m r t
 
   -- a turn where the pieces can be read
   on_step : (s m t : Situation) (v : T) (ws : List T) (r : Result (List T) Error)
-      → (gap.has ≡ true → pieces q (cells s) ≡ [] → cells m ≡ cells s → Steady s m → ⊥)
-      → OwnView (pieces q (cells s)) ws
-      → (Steady s m → (us : List T) → Own T group (pieces q (cells m)) us
-      → GivesList (pieces q (cells m)) r t)
+      → (gap.has ≡ true → front k (pieces q (cells s)) ≡ [] → cells m ≡ cells s → Steady s m → ⊥)
+      → OwnView (own s) ws
+      → (Steady s m → (us : List T) → Own T group (own m) us
+      → GivesList m r t)
       → SingleOk T k q group gap s v m → Onward s m v r t
   on_step s m t v ws r n o i (gave_absent h p ab same st) = absurd (n h p same st)
-  on_step s m t v ws r n (view_none p e) i (took h) = absurd (h.found p)
+  on_step s m t v ws r n (view_none p e) i (took h) = absurd (h.found (nil_each k _ p))
   on_step s m t v ws r n (view_more w rest us e g o) i (took h) =
-      let d = h.readable w rest g in
+      let f = of_group _ w rest g in
+      let d = h.readable w f.0 f.1 in
       record {
         read = subst (λ os. group (pieces q (cells s)) v os) (sym d.1) d.0;
         gives =
-            i h.steady us (subst (λ os. Own T group os us) (sym d.1) o);
+            i h.steady us
+            (subst (λ os. Own T group os us) (f.2 ∙ sym (ap (front (repeated k)) d.1)) o);
       }
 
   -- one value more
   cons_gives : (s m t : Situation) (v : T) (us : List T) → Onward s m v (Ok us) t
-      → GivesList (pieces q (cells s)) (Ok (v ∷ us)) t
-  cons_gives s m t v us o = (own_more o.read o.gives.0, o.gives.1)
+      → GivesList s (Ok (v ∷ us)) t
+  cons_gives s m t v us o =
+      let g = by_group _ v _ o.read in (own_more g.0 o.gives.0, o.gives.1 ∙ g.1)
 
   -- where the pieces can be read a refusal is want of memory
   failed_gives : (s t : Situation) (e : Error) (ws : List T) → NoneOutside s
-      → (gap.has ≡ true → (a : T) × gap.absent a) → OwnView (pieces q (cells s)) ws
+      → (gap.has ≡ true → (a : T) × gap.absent a) → OwnView (own s) ws
       → (Stops e s t → ⊥)
       → SingleErr T k q group gap s e t → class e ≡ OfMemory
   failed_gives s t e ws w ab o n (of_memory c) = c
-  failed_gives s t e ws w ab o n (of_missing c g p same st) =
+  failed_gives s t e ws w ab o n (of_missing c g p same) =
       absurd (n (stops_by s t e c same))
   failed_gives s t e ws w ab o n (of_absent c g p none) = let a = ab g in absurd (none a.0 a.1)
-  failed_gives s t e ws w ab (view_none p x) n (of_piece c ne none) = absurd (ne p)
+  failed_gives s t e ws w ab (view_none p x) n (of_piece c ne none) = absurd (ne (nil_each k _ p))
   failed_gives s t e ws w ab (view_more v rest us x g o) n (of_piece c ne none) =
-      absurd (none v rest g)
+      let f = of_group _ v rest g in absurd (none v f.0 f.1)
 
   -- a turn that stops read all
   stopped_gives : (s m : Situation) (e : Error) (ws : List T) → Stops e s m
-      → OwnView (pieces q (cells s)) ws → SingleErr T k q group gap s e m
-      → GivesList (pieces q (cells s)) (Ok []) s
+      → OwnView (own s) ws → SingleErr T k q group gap s e m
+      → GivesList s (Ok []) s
   stopped_gives s m e ws h o (of_memory c) = absurd (no_stop s m e OfMemory h c (λ i. cc) (λ i. cc))
-  stopped_gives s m e ws h (view_none p x) (of_missing c g p' same st) =
-      (subst (λ os. Own T group os []) (sym p) own_none, p)
-  stopped_gives s m e ws h (view_more v rest us x g o) (of_missing c h' p same st) =
-      absurd (l.starts v rest (subst (λ z. group z v rest) p g))
+  stopped_gives s m e ws h (view_none p x) (of_missing c g p' same) =
+      (subst (λ os. Own T group os []) (sym p) own_none, all_left s p')
+  stopped_gives s m e ws h (view_more v rest us x g o) (of_missing c h' p same) =
+      absurd (l.starts v rest (subst (λ z. group z v rest) (own_none_left s p) g))
   stopped_gives s m e ws h o (of_absent c g p n) =
       absurd (no_stop s m e Refused h c (λ i. cc) (λ i. cc))
   stopped_gives s m e ws h o (of_piece c p n) =
@@ -334,26 +388,26 @@ module _ (T : Type 0) (inner : Outcome T) (k : FieldKind) (q : Roles) (group : G
 
   -- so did one that took nothing
   enough_gives : (s t : Situation) (v : T) (ws : List T) → open_count s ≤ open_count t
-      → OwnView (pieces q (cells s)) ws → SingleOk T k q group gap s v t
-      → GivesList (pieces q (cells s)) (Ok []) t
+      → OwnView (own s) ws → SingleOk T k q group gap s v t
+      → GivesList s (Ok []) t
   enough_gives s t v ws same (view_none p x) (gave_absent h p' ab e st) =
-      (subst (λ os. Own T group os []) (sym p) own_none, ap (pieces q) e ∙ p)
+      (subst (λ os. Own T group os []) (sym p) own_none, ap (pieces q) e ∙ all_left s p')
   enough_gives s t v ws same (view_more y rest us x g o) (gave_absent h p ab e st) =
-      absurd (l.starts y rest (subst (λ z. group z y rest) p g))
+      absurd (l.starts y rest (subst (λ z. group z y rest) (own_none_left s p) g))
   enough_gives s t v ws same o (took h) = absurd (not_fewer s t same (fewer_count s t h.takes))
 
   -- a turn after a value that stops
-  stop_gives : (s t : Situation) (ws : List T) → NoneOutside s → OwnView (pieces q (cells s)) ws
-      → TurnOutcome inner false false s (Ok None) t → GivesList (pieces q (cells s)) (Ok []) t
+  stop_gives : (s t : Situation) (ws : List T) → NoneOutside s → OwnView (own s) ws
+      → TurnOutcome inner false false s (Ok None) t → GivesList s (Ok []) t
   stop_gives s t ws w view (inl o) = enough_gives s t o.0 ws o.3 view (l.ok s t o.0 w o.1)
   stop_gives s t ws w view (inr o) =
-      subst (λ z. GivesList (pieces q (cells s)) (Ok []) z) (sym o.1)
+      subst (λ z. GivesList s (Ok []) z) (sym o.1)
       (stopped_gives s o.0.1 o.0.0 ws (stops_at o.0.0 s o.0.1 o.0.3) view
       (l.err s o.0.1 o.0.0 w o.0.2))
 
   -- where the pieces can be read, a turn fails for want of memory alone
   turn_fails : (first : Bool) (s t : Situation) (e : Error) (ws : List T) → NoneOutside s
-      → (gap.has ≡ true → (a : T) × gap.absent a) → OwnView (pieces q (cells s)) ws
+      → (gap.has ≡ true → (a : T) × gap.absent a) → OwnView (own s) ws
       → TurnOutcome inner false first s (Err e) t → class e ≡ OfMemory
   turn_fails first s t e ws w ab view (inl o) =
       failed_gives s t e ws w ab view (goes_on e s t o.1) (l.err s t e w o.0)
@@ -361,8 +415,8 @@ module _ (T : Type 0) (inner : Outcome T) (k : FieldKind) (q : Roles) (group : G
 
   -- where the pieces can be read, the turns after a value read them, until one stops
   later_gives : (vs : List T) (s m t : Situation) (ws : List T) → NoneOutside s
-      → Own T group (pieces q (cells s)) ws → Turns inner false false s vs m
-      → TurnOutcome inner false false m (Ok None) t → GivesList (pieces q (cells s)) (Ok vs) t
+      → Own T group (own s) ws → Turns inner false false s vs m
+      → TurnOutcome inner false false m (Ok None) t → GivesList s (Ok vs) t
   later_gives [] s m t ws w o turns stop =
       stop_gives s t ws w (own_view _ ws o)
       (subst (λ z. TurnOutcome inner false false z (Ok None) t) (sym turns) stop)
@@ -378,7 +432,7 @@ module _ (T : Type 0) (inner : Outcome T) (k : FieldKind) (q : Roles) (group : G
 
   -- and fail for want of memory alone
   later_fails : (vs : List T) (s m t : Situation) (e : Error) (ws : List T) → NoneOutside s
-      → (gap.has ≡ true → (a : T) × gap.absent a) → Own T group (pieces q (cells s)) ws
+      → (gap.has ≡ true → (a : T) × gap.absent a) → Own T group (own s) ws
       → Turns inner false false s vs m → TurnOutcome inner false false m (Err e) t
       → class e ≡ OfMemory
   later_fails [] s m t e ws w ab o turns fails =
@@ -408,9 +462,9 @@ module _ (T : Type 0) (inner : Outcome T) (k : FieldKind) (q : Roles) (group : G
   list_view os vs (only_absent {a = a} h ab) = gap_read h a ab refl
 
   -- an own list under a repeat, or want of memory
-  abbrev GivesOwn : List LinePiece → Result (List T) Error → Situation → Type 0
-  GivesOwn os (Ok vs) t = OwnList T group gap os vs × (pieces q (cells t) ≡ [])
-  GivesOwn os (Err e) t = class e ≡ OfMemory
+  abbrev GivesOwn : Situation → Result (List T) Error → Situation → Type 0
+  GivesOwn s (Ok vs) t = OwnList T group gap (own s) vs × (pieces q (cells t) ≡ left s)
+  GivesOwn s (Err e) t = class e ≡ OfMemory
 
   -- an own list as one under a repeat
   list_of : (has : Bool) → gap.has ≡ has → (os : List LinePiece) (vs : List T)
@@ -421,69 +475,69 @@ module _ (T : Type 0) (inner : Outcome T) (k : FieldKind) (q : Roles) (group : G
   list_of false e os vs ab n o = listed e o
 
   -- the same of an answer
-  own_given : (os : List LinePiece) (r : Result (List T) Error) (t : Situation)
-      → (gap.has ≡ true → (a : T) × gap.absent a) → (gap.has ≡ true → os ≡ [] → ⊥)
-      → GivesList os r t → GivesOwn os r t
-  own_given os (Ok vs) t ab n g = (list_of gap.has refl os vs ab n g.0, g.1)
-  own_given os (Err e) t ab n g = g
+  own_given : (s : Situation) (r : Result (List T) Error) (t : Situation)
+      → (gap.has ≡ true → (a : T) × gap.absent a) → (gap.has ≡ true → own s ≡ [] → ⊥)
+      → GivesList s r t → GivesOwn s r t
+  own_given s (Ok vs) t ab n g = (list_of gap.has refl (own s) vs ab n g.0, g.1)
+  own_given s (Err e) t ab n g = g
 
   -- a first turn where there is no piece
-  gap_step : (s m t : Situation) (v : T) (us : List T) → pieces q (cells s) ≡ []
+  gap_step : (s m t : Situation) (v : T) (us : List T) → own s ≡ []
       → (Steady s m → Took m us t) → SingleOk T k q group gap s v m
-      → GivesOwn (pieces q (cells s)) (Ok (v ∷ us)) t
+      → GivesOwn s (Ok (v ∷ us)) t
   gap_step s m t v us p i (gave_absent h p' ab same st) =
       let j = i st in
-      let none : us ≡ [] = own_nil (pieces q (cells m)) us (ap (pieces q) same ∙ p) j.list in
-      (absent_alone s t v us none h p ab, j.none)
-  gap_step s m t v us p i (took h) = absurd (h.found p)
+      let none : us ≡ [] = own_nil (own m) us (same_own s m same ∙ p) j.list in
+      (absent_alone s t v us none h p' ab, j.none ∙ same_left s m same)
+  gap_step s m t v us p i (took h) = absurd (h.found (nil_each k _ p))
 
   -- turns that fail after it
-  gap_step_failed : (s m t : Situation) (v : T) (e : Error) → pieces q (cells s) ≡ []
+  gap_step_failed : (s m t : Situation) (v : T) (e : Error) → own s ≡ []
       → (Steady s m → (gap.has ≡ true → (a : T) × gap.absent a)
-      → Own T group (pieces q (cells m)) [] → class e ≡ OfMemory)
+      → Own T group (own m) [] → class e ≡ OfMemory)
       → SingleOk T k q group gap s v m → class e ≡ OfMemory
   gap_step_failed s m t v e p i (gave_absent h p' ab same st) =
-      i st (λ y. (v, ab)) (subst (λ os. Own T group os []) (sym (ap (pieces q) same ∙ p)) own_none)
-  gap_step_failed s m t v e p i (took h) = absurd (h.found p)
+      i st (λ y. (v, ab)) (subst (λ os. Own T group os []) (sym (same_own s m same ∙ p)) own_none)
+  gap_step_failed s m t v e p i (took h) = absurd (h.found (nil_each k _ p))
 
   -- a first value that took nothing
-  gap_idle : (s t : Situation) (v : T) → pieces q (cells s) ≡ [] → SingleOk T k q group gap s v t
-      → GivesOwn (pieces q (cells s)) (Ok (v ∷ [])) t
+  gap_idle : (s t : Situation) (v : T) → own s ≡ [] → SingleOk T k q group gap s v t
+      → GivesOwn s (Ok (v ∷ [])) t
   gap_idle s t v p (gave_absent h p' ab same st) =
-      (absent_alone s t v [] refl h p ab, ap (pieces q) same ∙ p)
-  gap_idle s t v p (took h) = absurd (h.found p)
+      (absent_alone s t v [] refl h p' ab, ap (pieces q) same ∙ all_left s p')
+  gap_idle s t v p (took h) = absurd (h.found (nil_each k _ p))
 
   -- where there is an absent value a refusal is want of memory
   gap_failed : (s t : Situation) (a : T) (e : Error) → gap.has ≡ true → gap.absent a
-      → pieces q (cells s) ≡ [] → SingleErr T k q group gap s e t → class e ≡ OfMemory
+      → own s ≡ [] → SingleErr T k q group gap s e t → class e ≡ OfMemory
   gap_failed s t a e h ab p (of_memory c) = c
-  gap_failed s t a e h ab p (of_missing c g p' same st) = absurd cc
+  gap_failed s t a e h ab p (of_missing c g p' same) = absurd cc
   gap_failed s t a e h ab p (of_absent c g p' none) = absurd (none a ab)
-  gap_failed s t a e h ab p (of_piece c ne none) = absurd (ne p)
+  gap_failed s t a e h ab p (of_piece c ne none) = absurd (ne (nil_each k _ p))
 
   -- and no first turn stops
-  gap_stopped : (s m : Situation) (e : Error) → gap.has ≡ true → pieces q (cells s) ≡ []
+  gap_stopped : (s m : Situation) (e : Error) → gap.has ≡ true → own s ≡ []
       → Stops e s m → SingleErr T k q group gap s e m → ⊥
   gap_stopped s m e h p x (of_memory c) = no_stop s m e OfMemory x c (λ i. cc) (λ i. cc)
-  gap_stopped s m e h p x (of_missing c g p' same st) = cc
+  gap_stopped s m e h p x (of_missing c g p' same) = cc
   gap_stopped s m e h p x (of_absent c g p' none) = no_stop s m e Refused x c (λ i. cc) (λ i. cc)
-  gap_stopped s m e h p x (of_piece c ne none) = ne p
+  gap_stopped s m e h p x (of_piece c ne none) = ne (nil_each k _ p)
 
   -- where there are pieces the first value took one
   own_idle : (s t : Situation) (v : T) → NoneOutside s
-      → (gap.has ≡ true → pieces q (cells s) ≡ [] → ⊥)
+      → (gap.has ≡ true → own s ≡ [] → ⊥)
       → open_count s ≤ open_count t → SingleOk T k q group gap s v t → ⊥
-  own_idle s t v w n same (gave_absent h p ab e st) = n h p
+  own_idle s t v w n same (gave_absent h p ab e st) = n h (own_none_left s p)
   own_idle s t v w n same (took h) = let f = fewer_count s t h.takes in omega arith
 
   -- where there is an own list, a first turn that stops answers it
   first_stop_gives : (s t : Situation) (ws : List T) → NoneOutside s
-      → ListView (pieces q (cells s)) ws
-      → TurnOutcome inner false true s (Ok None) t → GivesOwn (pieces q (cells s)) (Ok []) t
+      → ListView (own s) ws
+      → TurnOutcome inner false true s (Ok None) t → GivesOwn s (Ok []) t
   first_stop_gives s t ws w view (inl o) = absurd (true≢false o.2)
   first_stop_gives s t ws w (all_read ab own n) (inr o) =
-      subst (λ z. GivesOwn (pieces q (cells s)) (Ok []) z) (sym o.1)
-      (own_given (pieces q (cells s)) (Ok []) s ab n
+      subst (λ z. GivesOwn s (Ok []) z) (sym o.1)
+      (own_given s (Ok []) s ab n
       (stopped_gives s o.0.1 o.0.0 ws (stops_at o.0.0 s o.0.1 o.0.3) (own_view _ ws own)
       (l.err s o.0.1 o.0.0 w o.0.2)))
   first_stop_gives s t ws w (gap_read h a ab p) (inr o) =
@@ -492,15 +546,15 @@ module _ (T : Type 0) (inner : Outcome T) (k : FieldKind) (q : Roles) (group : G
 
   -- so do turns from the first one on, until one stops
   turns_give : (first : Bool) (vs : List T) (s m t : Situation) (ws : List T) → NoneOutside s
-      → ListView (pieces q (cells s)) ws → Turns inner false first s vs m
-      → TurnOutcome inner false (is_nil vs) m (Ok None) t → GivesOwn (pieces q (cells s)) (Ok vs) t
+      → ListView (own s) ws → Turns inner false first s vs m
+      → TurnOutcome inner false (is_nil vs) m (Ok None) t → GivesOwn s (Ok vs) t
   turns_give first [] s m t ws w view turns stop =
       first_stop_gives s t ws w view
       (subst (λ z. TurnOutcome inner false true z (Ok None) t) (sym turns) stop)
   turns_give first (v ∷ vs) s m t ws w (all_read ab o n) turns stop =
-      own_given (pieces q (cells s)) (Ok (v ∷ vs)) t ab n
+      own_given s (Ok (v ∷ vs)) t ab n
       (cons_gives s turns.0 t v vs
-      (on_step s turns.0 t v ws (Ok vs) (λ h p same st. n h p) (own_view _ ws o)
+      (on_step s turns.0 t v ws (Ok vs) (λ h p same st. n h (own_none_left s p)) (own_view _ ws o)
       (λ st xs own. later_gives vs turns.0 m t xs (none_outside_after s turns.0 w st) own turns.2
       stop)
       (l.ok s turns.0 v w turns.1.0)))
@@ -511,18 +565,19 @@ module _ (T : Type 0) (inner : Outcome T) (k : FieldKind) (q : Roles) (group : G
 
   -- and fail for want of memory alone
   turns_fail : (first : Bool) (vs : List T) (s m t : Situation) (e : Error) (ws : List T)
-      → NoneOutside s → ListView (pieces q (cells s)) ws → Turns inner false first s vs m
+      → NoneOutside s → ListView (own s) ws → Turns inner false first s vs m
       → TurnOutcome inner false (is_nil vs) m (Err e) t → class e ≡ OfMemory
   turns_fail first [] s m t e ws w view turns fails =
       by_view view (subst (λ z. TurnOutcome inner false true z (Err e) t) (sym turns) fails)
     where
-      by_view : ListView (pieces q (cells s)) ws → TurnOutcome inner false true s (Err e) t
+      by_view : ListView (own s) ws → TurnOutcome inner false true s (Err e) t
           → class e ≡ OfMemory
       by_view (all_read ab o n) one = turn_fails true s t e ws w ab (own_view _ ws o) one
       by_view (gap_read h a ab p) (inl one) = gap_failed s t a e h ab p (l.err s t e w one.0)
       by_view (gap_read h a ab p) (inr one) = memory_class e.0 one.0
   turns_fail first (v ∷ vs) s m t e ws w (all_read ab o n) turns fails =
-      let on = on_step s turns.0 t v ws (Err e) (λ h p same st. n h p) (own_view _ ws o)
+      let on = on_step s turns.0 t v ws (Err e) (λ h p same st. n h (own_none_left s p)) (own_view
+      _ ws o)
       (λ st xs own.
       later_fails vs turns.0 m t e xs (none_outside_after s turns.0 w st) ab own turns.2 fails)
       (l.ok s turns.0 v w turns.1.0) in
@@ -535,45 +590,27 @@ module _ (T : Type 0) (inner : Outcome T) (k : FieldKind) (q : Roles) (group : G
 
   -- so it is of one value alone that took nothing
   rest_gives : (s t : Situation) (v : T) (ws : List T) → NoneOutside s
-      → ListView (pieces q (cells s)) ws → open_count s ≤ open_count t
-      → SingleOk T k q group gap s v t → GivesOwn (pieces q (cells s)) (Ok (v ∷ [])) t
+      → ListView (own s) ws → open_count s ≤ open_count t
+      → SingleOk T k q group gap s v t → GivesOwn s (Ok (v ∷ [])) t
   rest_gives s t v ws w (all_read ab o n) same one = absurd (own_idle s t v w n same one)
   rest_gives s t v ws w (gap_read h a ab p) same one = gap_idle s t v p one
 
   -- where there is an own list, each answer is one, or want of memory
   first_gives : (idle : Bool) (s t : Situation) (r : Result (List T) Error) (ws : List T)
-      → NoneOutside s → ListView (pieces q (cells s)) ws → RepeatOutcome inner idle s r t
-      → GivesOwn (pieces q (cells s)) r t
+      → NoneOutside s → ListView (own s) ws → RepeatOutcome inner idle s r t
+      → GivesOwn s r t
   first_gives false s t (Ok vs) ws w view o = turns_give true vs s o.last t ws w view o.steps o.stop
   first_gives false s t (Err e) ws w view o =
       turns_fail true o.values s o.last t e ws w view o.steps o.fails
   first_gives true s t (Ok vs) ws w view (stops m turns stop) =
       turns_give false vs s m t ws w view turns stop
   first_gives true s t (Ok vs) ws w view (rests v e ran same) =
-      subst (λ z. GivesOwn (pieces q (cells s)) (Ok z) t) (sym e)
+      subst (λ z. GivesOwn s (Ok z) t) (sym e)
       (rest_gives s t v ws w view same (l.ok s t v w ran))
   first_gives true s t (Err e) ws w view o =
       turns_fail false o.values s o.last t e ws w view o.steps o.fails
 
   -- The values of a repeat are its own list, and no other answer comes but for want of memory.
-
-  -- a repeat takes all pieces
-  front_all : (os : List LinePiece) → front (repeated k) os ≡ os
-  front_all os = by_kind k
-    where
-      by_kind : (z : FieldKind) → front (repeated z) os ≡ os
-      by_kind ByName = refl
-      by_kind OneWord = refl
-      by_kind EachWord = refl
-
-  -- and leaves none
-  back_none : (os : List LinePiece) → back (repeated k) os ≡ []
-  back_none os = by_kind k
-    where
-      by_kind : (z : FieldKind) → back (repeated z) os ≡ []
-      by_kind ByName = refl
-      by_kind OneWord = refl
-      by_kind EachWord = refl
 
   -- the items of a repeat are those of the field
   own_repeated : OwnItems (repeated k) q
@@ -581,29 +618,17 @@ module _ (T : Type 0) (inner : Outcome T) (k : FieldKind) (q : Roles) (group : G
     where
       by_kind : (z : FieldKind) → OwnItems z q → OwnItems (repeated z) q
       by_kind ByName o = o
-      by_kind OneWord o = o
-      by_kind EachWord o = o
+      by_kind (OneWord b) o = o
+      by_kind (EachWord b) o = o
 
   -- each answer of a repeat
   repeat_gives : (idle : Bool) (s t : Situation) (r : Result (List T) Error) (ws : List T)
-      → NoneOutside s → RepeatOutcome inner idle s r t
-      → OwnList T group gap (front (repeated k) (pieces q (cells s))) ws
-      → Gives q (OwnList T group gap (front (repeated k) (pieces q (cells s))))
-      (back (repeated k) (pieces q (cells s))) r t
-  repeat_gives idle s t r ws w f o =
-      let o' : OwnList T group gap (pieces q (cells s)) ws =
-      subst (λ os. OwnList T group gap os ws) (front_all (pieces q (cells s))) o in
-      shown r (first_gives idle s t r ws w (list_view (pieces q (cells s)) ws o') f)
-    where
-      shown : (r : Result (List T) Error) → GivesOwn (pieces q (cells s)) r t
-          → Gives q (OwnList T group gap (front (repeated k) (pieces q (cells s))))
-          (back (repeated k) (pieces q (cells s))) r t
-      shown (Ok vs) g = (
-        subst (λ os. OwnList T group gap os vs) (sym (front_all (pieces q (cells s)))) g.0,
-        g.1
-            ∙ sym (back_none (pieces q (cells s))),
-      )
-      shown (Err e) c = c
+      → NoneOutside s → RepeatOutcome inner idle s r t → OwnList T group gap (own s) ws
+      → Gives q (OwnList T group gap (own s)) (left s) r t
+  repeat_gives idle s t (Ok vs) ws w f o =
+      first_gives idle s t (Ok vs) ws w (list_view (own s) ws o) f
+  repeat_gives idle s t (Err e) ws w f o =
+      first_gives idle s t (Err e) ws w (list_view (own s) ws o) f
 
   -- many, and what is built on it: the values of the own list
   pub repeat_law : (idle : Bool) → FieldLaw (List T) (RepeatOutcome inner idle) (repeated k) q
@@ -613,9 +638,8 @@ module _ (T : Type 0) (inner : Outcome T) (k : FieldKind) (q : Roles) (group : G
     ok = λ s t vs w f. let i = repeat_took idle s t vs w f in record {
       steady = i.steady;
       takes = i.takes;
-      read = λ n. subst (λ os. OwnList T group gap os vs)
-          (sym (front_all (pieces q (cells s)))) i.list;
-      rest = λ n. i.none ∙ sym (back_none (pieces q (cells s)));
+      read = λ n. i.list;
+      rest = λ n. i.none;
     };
     answers = repeat_gives idle;
   }

@@ -18,7 +18,9 @@ use Rattle.bpaf_exact.specs.Gathered.{LastOf}
 use Rattle.bpaf_exact.specs.Alternative.{pick_type}
 use Rattle.bpaf_exact.specs.Leaves.{flag_field, flag_gap, FlagValue, argument_field, argument_by}
 use Rattle.bpaf_exact.specs.Leaves.{argument_gap, argument_group, variable_argument, variable_flag}
-use Rattle.bpaf_exact.specs.Leaves.{ArgumentValue, SideValue, WordValue, stands_behind}
+use Rattle.bpaf_exact.proofs.Fronts.{all_front}
+use Rattle.bpaf_exact.specs.Pieces.{stands_behind}
+use Rattle.bpaf_exact.specs.Leaves.{ArgumentValue, SideValue, WordValue}
 use Rattle.bpaf_exact.specs.Leaves.{word_by}
 use Rattle.bpaf_exact.specs.Record.{LastValue}
 use Rattle.bpaf_exact.specs.FlatForm.{FlatForm, FormLaw, not_flat, alternative, single, complete}
@@ -150,8 +152,8 @@ OneWordSays {T = T} accepts means value =
 pub word_by_says : {T : Type 0} {names : List Names} (accepts : Bool → Bool)
     (means : List ℕ → T → Type 0)
     (value : LinePiece → T → Type 0) → OneWordSays accepts means value
-    → Says names (word_by value) OneWord (WordSays accepts means)
-word_by_says accepts means value piece = record {
+    → (stops : Bool) → Says names (word_by stops value) (OneWord stops) (WordSays accepts means)
+word_by_says accepts means value piece stops = record {
   by = (refl, front_says value (WordSays accepts means) piece, λ v none. absurd none);
 }
 
@@ -492,13 +494,14 @@ alone_says {T} {names} {s} {kind} {said} own_keys h =
         (first_fits q no_roles names [] owned (record { own = λ k e. absurd cc }) (apart_none names)
         whole (subst (λ own. Fits own (either q no_roles) whole) (sym (append-nil names)) fits)))))
         (each (mine q os) v (each_own q os) m.read)
-    own OneWord q value owned each whole os v fits m same =
-        subst (λ z. said (front OneWord z) v)
+    own (OneWord b) q value owned each whole os v fits m same =
+        subst (λ z. said (front (OneWord b) z) v)
         (sym (others_none (either no_roles no_roles) (λ k. refl) os))
-        (each (front OneWord os) v tt m.read)
-    own EachWord q value owned each whole os v fits m same =
-        subst (λ z. said z v) (sym (others_none (either no_roles no_roles) (λ k. refl) os))
-        (each os v tt m.read)
+        (each (front (OneWord b) os) v tt m.read)
+    own (EachWord b) q value owned each whole os v fits m same =
+        subst (λ z. said (front (EachWord b) z) v)
+        (sym (others_none (either no_roles no_roles) (λ k. refl) os))
+        (each (front (EachWord b) os) v tt m.read)
 
     by_form : (s : FlatForm T) → FormOwns names s → FormSays names s kind said
         → FieldsFormSays names (flat_alone s)
@@ -550,19 +553,25 @@ module _ {A B : Type 0} (own behind : List Names) (said : Said A) (rest_said : F
             ∙ (mine_within r both (second_within q r) os
             ∙ sym (mine_of_others q r (λ k e. apart.right k e) os))))),
       )
-  kind_says OneWord each owned may whole os v fits m same =
+  kind_says (OneWord b) each owned may whole os v fits m same =
       let none = none_behind r own behind owned_behind may in
       let left_to = others_none r none os in (
-        subst (λ z. said (front OneWord z) v.0) (sym left_to) (each (front OneWord os) v.0 tt m.0),
+        subst (λ z. said (front (OneWord b) z) v.0) (sym left_to) (each (front (OneWord b) os) v.0
+            tt m.0),
         subst (λ z. rest_said whole z v.1)
-            (others_none r none (back OneWord os) ∙ ap (back OneWord) (sym left_to))
-            (rest_each whole (back OneWord os) v.1 (no_fits r own behind may none whole) m.1
-            (mine_none r none whole ∙ sym (mine_none r none (back OneWord os)))),
+            (others_none r none (back (OneWord b) os) ∙ ap (back (OneWord b)) (sym left_to))
+            (rest_each whole (back (OneWord b) os) v.1 (no_fits r own behind may none whole) m.1
+            (mine_none r none whole ∙ sym (mine_none r none (back (OneWord b) os)))),
       )
-  kind_says EachWord each owned may whole os v fits m same =
-      let none = none_behind r own behind owned_behind may in (
-        subst (λ z. said z v.0) (sym (others_none r none os)) (each os v.0 tt m.0),
-        rest_each whole [] v.1 (no_fits r own behind may none whole) m.1 (mine_none r none whole),
+  kind_says (EachWord b) each owned may whole os v fits m same =
+      let none = none_behind r own behind owned_behind may in
+      let left_to = others_none r none os in (
+        subst (λ z. said (front (EachWord b) z) v.0) (sym left_to) (each (front (EachWord b) os)
+            v.0 tt m.0),
+        subst (λ z. rest_said whole z v.1)
+            (others_none r none (back (EachWord b) os) ∙ ap (back (EachWord b)) (sym left_to))
+            (rest_each whole (back (EachWord b) os) v.1 (no_fits r own behind may none whole) m.1
+            (mine_none r none whole ∙ sym (mine_none r none (back (EachWord b) os)))),
       )
 
 -- what a field and those behind it say
@@ -644,20 +653,18 @@ pub record_says : {T : Type 0} (s : FlatForm T) {kind : FieldKind} {names : List
     → (product_reading (flat_record s)).value os v → said os v
 record_says {T} s {kind} {names} {said} h = by_form s h.by
   where
-    one_word : (os : List LinePiece) → back OneWord os ≡ [] → front OneWord os ≡ os
-    one_word [] e = refl
-    one_word (o ∷ []) e = refl
-    one_word (o ∷ (p ∷ os)) e = cc
-
     all_own : (k : FieldKind) (q : Roles) (value : List LinePiece → T → Type 0)
         → ((os : List LinePiece) (v : T) → AllOwn k q os → value os v → said os v)
         → (os : List LinePiece) (v : T) → LastValue T k q value os v → said os v
     all_own ByName q value each os v m =
         subst (λ z. said z v) (all_mine q os m.none_left)
         (each (mine q os) v (each_own q os) m.read)
-    all_own OneWord q value each os v m =
-        subst (λ z. said z v) (one_word os m.none_left) (each (front OneWord os) v tt m.read)
-    all_own EachWord q value each os v m = each os v tt m.read
+    all_own (OneWord b) q value each os v m =
+        subst (λ z. said z v) (all_front (OneWord b) os m.none_left)
+        (each (front (OneWord b) os) v tt m.read)
+    all_own (EachWord b) q value each os v m =
+        subst (λ z. said z v) (all_front (EachWord b) os m.none_left)
+        (each (front (EachWord b) os) v tt m.read)
 
     by_form : (s : FlatForm T) → FormSays names s kind said
         → (os : List LinePiece) (v : T) → Fits names (product_roles (flat_record s)) os

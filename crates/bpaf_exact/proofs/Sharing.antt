@@ -266,13 +266,13 @@ others_both q r (o ∷ os) =
 
 -- behind a positional field no item is another field's own
 pub none_behind : (r : Roles) (own behind : List Names) → Owns r behind
-    → may_follow OneWord own behind ≡ true → (k : Arg) → is_own_role (r k) ≡ false
+    → may_follow (OneWord false) own behind ≡ true → (k : Arg) → is_own_role (r k) ≡ false
 none_behind r own [] owned e k =
     fails (is_own_role (r k)) (λ own. let none = owned.own k own in absurd cc)
 none_behind r own (names ∷ behind) owned e k = absurd cc
 
 -- behind a positional field nothing begins with another's key
-pub no_fits : (r : Roles) (own behind : List Names) → may_follow OneWord own behind ≡ true
+pub no_fits : (r : Roles) (own behind : List Names) → may_follow (OneWord false) own behind ≡ true
     → ((k : Arg) → is_own_role (r k) ≡ false) → (os : List LinePiece) → Fits behind r os
 no_fits r own [] may none [] = tt
 no_fits r own [] may none (o ∷ os) =

@@ -88,13 +88,13 @@ letter c = Word (c ∷ [])
 abbrev three_roles : Roles
 three_roles =
     either (keys ByName v_roles)
-    (either (keys ByName n_roles) (either (keys OneWord word_roles) no_roles))
+    (either (keys ByName n_roles) (either (keys (OneWord false) word_roles) no_roles))
 
 -- their values
 abbrev ThreeValue : List LinePiece → Bool × (ℕ × List ℕ) → Type 0
 ThreeValue =
     BothValue ByName v_roles SwitchValue
-    (BothValue ByName n_roles NumberValue (LastValue (List ℕ) OneWord word_roles TextValue))
+    (BothValue ByName n_roles NumberValue (LastValue (List ℕ) (OneWord false) word_roles TextValue))
 
 -- a piece alone, and its value
 pub one_front : {T : Type 0} (value : LinePiece → T → Type 0) (o : LinePiece) (v : T) → value o v
@@ -184,14 +184,16 @@ value_behind_switch os c =
 
 -- `x y`: a word too many for the field of one word
 word_too_many :
-    ¬ ((last_reading OneWord word_roles TextValue).each (One (letter 9) ∷ One (letter 8) ∷ []))
+    ¬ ((last_reading (OneWord false) word_roles TextValue).each (One (letter 9) ∷ One (letter 8) ∷
+    []))
 word_too_many =
-    surplus_word _ _ (One (letter 9) ∷ One (letter 8) ∷ []) (none_left OneWord word_roles TextValue)
+    surplus_word _ _ (One (letter 9) ∷ One (letter 8) ∷ []) (none_left (OneWord false) word_roles
+    TextValue)
     (One (letter 8)) [] refl
 
 -- the items of the argument and a word
 abbrev two_roles : Roles
-two_roles = either (keys ByName n_roles) (either (keys OneWord word_roles) no_roles)
+two_roles = either (keys ByName n_roles) (either (keys (OneWord false) word_roles) no_roles)
 
 -- they are keys
 two_named : IsNamed two_roles
@@ -213,7 +215,7 @@ two_pieces o p v os e (of_gap a) = a
 -- `-n 3 -n 4` to an argument and a word: there is no value, since `4` belongs to its key
 value_of_a_key : (v : ℕ × List ℕ)
     → RecordValue two_roles
-    (BothValue ByName n_roles NumberValue (LastValue (List ℕ) OneWord word_roles TextValue))
+    (BothValue ByName n_roles NumberValue (LastValue (List ℕ) (OneWord false) word_roles TextValue))
     (line_of (n_key ∷ letter 3 ∷ n_key ∷ letter 4 ∷ [])) v
     → ⊥
 value_of_a_key v r =
@@ -285,9 +287,9 @@ absent_refused os vs (only_absent h a) = let e = a.1 in let f = a.2.1 in cc
 
 -- all words and then one: nothing is left for the one
 all_words_taken : (v : List (List ℕ) × List ℕ) (os : List LinePiece)
-    → BothValue EachWord word_roles
+    → BothValue (EachWord false) word_roles
     (OwnList (List ℕ) (FrontOf (List ℕ) (WordValue itself)) (no_gap (List ℕ)))
-    (LastValue (List ℕ) OneWord word_roles TextValue) os v
+    (LastValue (List ℕ) (OneWord false) word_roles TextValue) os v
     → ⊥
 all_words_taken v os h = nothing [] v.1 refl h.1.read
   where
@@ -348,11 +350,11 @@ switch = flag_by (λ kept v. v ≡ kept) (short 118) true (Some false)
 
 -- `-v -v` to the switch and a word: one occurrence too many
 switch_twice : ¬ ((both_reading ByName v_roles SwitchValue
-    (last_reading OneWord word_roles TextValue)).each (One v_key ∷ One v_key ∷ []))
+    (last_reading (OneWord false) word_roles TextValue)).each (One v_key ∷ One v_key ∷ []))
 switch_twice =
     surplus_occurrence _ _ (One v_key ∷ One v_key ∷ []) SwitchValue
     (field_no_surplus switch (front_one Bool (FlagValue (exactly true))))
-    (first_part ByName v_roles SwitchValue (last_reading OneWord word_roles TextValue))
+    (first_part ByName v_roles SwitchValue (last_reading (OneWord false) word_roles TextValue))
     (One v_key) (One v_key) [] refl
 
 -- an argument of this name

@@ -1,5 +1,5 @@
 -- Closures, optional and fallback keep to the laws.
-use Rattle.std.proofs.Common.{◌≡◌, false, List, [], ◌∷◌, Option, Some, None, Result, Ok, Err, refl}
+use Rattle.std.proofs.Common.{◌≡◌, false, List, [], Option, Some, None, Result, Ok, Err, refl}
 use Rattle.std.proofs.Common.{sym, ap, ◌∙◌, subst}
 use Rattle.bpaf_line.specs.declared.error.Error.{Error}
 use Rattle.bpaf_line.specs.Situation.{Situation}
@@ -20,26 +20,8 @@ use Rattle.bpaf_exact.specs.Wrappers.{FallbackEval, fallback_ok, fallback_given}
 use Rattle.bpaf_exact.specs.Wrappers.{fallback_no, fallback_memory, fallback_err, FallbackValue}
 use Rattle.bpaf_exact.specs.Wrappers.{own_value, kept_value}
 use Rattle.bpaf_exact.proofs.Product.{steady_refl}
+use Rattle.bpaf_exact.proofs.Fronts.{back_all}
 use Rattle.bpaf_exact.proofs.Repeat.{any_some, same_takes, no_stop, stops_by}
-
--- of no piece none is taken
-front_nil : (k : FieldKind) → front k [] ≡ []
-front_nil ByName = refl
-front_nil OneWord = refl
-front_nil EachWord = refl
-
--- and none left
-back_nil : (k : FieldKind) → back k [] ≡ []
-back_nil ByName = refl
-back_nil OneWord = refl
-back_nil EachWord = refl
-
--- where none is taken there is none
-nil_front : (k : FieldKind) (os : List LinePiece) → front k os ≡ [] → os ≡ []
-nil_front ByName os e = e
-nil_front OneWord [] e = refl
-nil_front OneWord (o ∷ os) e = absurd cc
-nil_front EachWord os e = e
 
 -- outer closures
 module _ (A B : Type 0) (inner : Outcome A) (k : FieldKind) (q : Roles)
@@ -91,14 +73,13 @@ module _ (T : Type 0) (inner : Outcome T) (k : FieldKind) (q : Roles) (group : G
   single_view os v (of_gap a) = view_gap refl a
 
   -- the absent value where there is no piece
-  nothing_read : (os : List LinePiece) (v : T) → os ≡ [] → gap.absent v
+  nothing_read : (os : List LinePiece) (v : T) → front k os ≡ [] → gap.absent v
       → SingleValue T group gap (front k os) v
-  nothing_read os v e a =
-      subst (λ z. SingleValue T group gap z v) (sym (ap (front k) e ∙ front_nil k)) (of_gap a)
+  nothing_read os v e a = subst (λ z. SingleValue T group gap z v) (sym e) (of_gap a)
 
   -- and nothing is left
-  nothing_left : (os ps : List LinePiece) → os ≡ [] → ps ≡ [] → ps ≡ back k os
-  nothing_left os ps e h = h ∙ sym (ap (back k) e ∙ back_nil k)
+  nothing_left : (os ps : List LinePiece) → front k os ≡ [] → ps ≡ os → ps ≡ back k os
+  nothing_left os ps e same = same ∙ sym (back_all k os e)
 
   -- what was taken is the front
   took_read : (z : FieldKind) (s t : Situation) (v : T) → ReadsWords z group
@@ -111,8 +92,9 @@ module _ (T : Type 0) (inner : Outcome T) (k : FieldKind) (q : Roles) (group : G
         (up ([], subst (λ os. Own T group os []) (sym n) own_none)),
     n,
   )
-  took_read OneWord s t v u n up = u.by_front (pieces q (cells s)) v (pieces q (cells t)) (up tt)
-  took_read EachWord s t v u n up = absurd u
+  took_read (OneWord b) s t v u n up = u.by_front (pieces q (cells s)) v (pieces q (cells t)) (up
+      tt)
+  took_read (EachWord b) s t v u n up = absurd u
 
   -- one evaluation, as that of a field
   single_took : (s t : Situation) (v : T) → SingleOk T k q group gap s v t
@@ -124,7 +106,7 @@ module _ (T : Type 0) (inner : Outcome T) (k : FieldKind) (q : Roles) (group : G
         read =
             λ n. nothing_read (pieces q (cells s)) v p ab;
         rest =
-            λ n. nothing_left _ _ p (ap (pieces q) same ∙ p);
+            λ n. nothing_left _ _ p (ap (pieces q) same);
       }
   single_took s t v (took h) = record {
     steady = h.steady;
@@ -138,20 +120,20 @@ module _ (T : Type 0) (inner : Outcome T) (k : FieldKind) (q : Roles) (group : G
       → group (front z os) v []
       → group os v (back z os)
   of_front ByName os v u g = g
-  of_front OneWord os v u g = u.of_front os v g
-  of_front EachWord os v u g = absurd u
+  of_front (OneWord b) os v u g = u.of_front os v g
+  of_front (EachWord b) os v u g = absurd u
 
   -- and the other way
   to_front : (z : FieldKind) (os : List LinePiece) (v : T) → ReadsWords z group
       → group os v (back z os)
       → group (front z os) v []
   to_front ByName os v u g = g
-  to_front OneWord os v u g = (u.by_front os v (back OneWord os) g).0
-  to_front EachWord os v u g = absurd u
+  to_front (OneWord b) os v u g = (u.by_front os v (back (OneWord b) os) g).0
+  to_front (EachWord b) os v u g = absurd u
 
   -- no piece is no group
-  not_empty : (os : List LinePiece) (v : T) → os ≡ [] → group (front k os) v [] → ⊥
-  not_empty os v e g = l.starts v [] (subst (λ z. group z v []) (ap (front k) e ∙ front_nil k) g)
+  not_empty : (os : List LinePiece) (v : T) → front k os ≡ [] → group (front k os) v [] → ⊥
+  not_empty os v e g = l.starts v [] (subst (λ z. group z v []) e g)
 
   -- where the share has a value, a value is one
   ok_gives : (s t : Situation) (v w : T) → SingleOk T k q group gap s v t
@@ -160,22 +142,22 @@ module _ (T : Type 0) (inner : Outcome T) (k : FieldKind) (q : Roles) (group : G
       (back k (pieces q (cells s))) (Ok v) t
   ok_gives s t v w (gave_absent h p ab same st) (view_group g) = absurd (not_empty _ w p g)
   ok_gives s t v w (gave_absent h p ab same st) (view_gap e a) =
-      (nothing_read _ v p ab, nothing_left _ _ p (ap (pieces q) same ∙ p))
+      (nothing_read _ v p ab, nothing_left _ _ p (ap (pieces q) same))
   ok_gives s t v w (took h) (view_group g) =
       let d = h.readable w _ (of_front k _ w l.words g) in
       (of_group (to_front k _ v l.words d.0), d.1)
-  ok_gives s t v w (took h) (view_gap e a) = absurd (h.found (nil_front k _ e))
+  ok_gives s t v w (took h) (view_gap e a) = absurd (h.found e)
 
   -- and a refusal is want of memory
   err_gives : (s t : Situation) (e : Error) (w : T) → SingleErr T k q group gap s e t
       → SingleView (front k (pieces q (cells s))) w → class e ≡ OfMemory
   err_gives s t e w (of_memory c) v = c
-  err_gives s t e w (of_missing c h p same st) (view_group g) = absurd (not_empty _ w p g)
-  err_gives s t e w (of_missing c h p same st) (view_gap x a) = absurd (l.no_absent w h a)
+  err_gives s t e w (of_missing c h p same) (view_group g) = absurd (not_empty _ w p g)
+  err_gives s t e w (of_missing c h p same) (view_gap x a) = absurd (l.no_absent w h a)
   err_gives s t e w (of_absent c h p n) (view_group g) = absurd (not_empty _ w p g)
   err_gives s t e w (of_absent c h p n) (view_gap x a) = absurd (n w a)
   err_gives s t e w (of_piece c ne n) (view_group g) = absurd (n w _ (of_front k _ w l.words g))
-  err_gives s t e w (of_piece c ne n) (view_gap x a) = absurd (ne (nil_front k _ x))
+  err_gives s t e w (of_piece c ne n) (view_gap x a) = absurd (ne x)
 
   -- a field without a repeat or default
   single_answers : (s t : Situation) (r : Result T Error) (w : T) → NoneOutside s → inner s r t
@@ -198,9 +180,9 @@ module _ (T : Type 0) (inner : Outcome T) (k : FieldKind) (q : Roles) (group : G
 
   -- where it stops there is no piece
   stop_missing : (s m : Situation) (e : Error) → Stops e s m → SingleErr T k q group gap s e m
-      → (gap.has ≡ false) × (pieces q (cells s) ≡ [])
+      → (gap.has ≡ false) × (front k (pieces q (cells s)) ≡ [])
   stop_missing s m e h (of_memory c) = absurd (no_stop s m e OfMemory h c (λ i. cc) (λ i. cc))
-  stop_missing s m e h (of_missing c g p same st) = (g, p)
+  stop_missing s m e h (of_missing c g p same) = (g, p)
   stop_missing s m e h (of_absent c g p n) = absurd (no_stop s m e Refused h c (λ i. cc) (λ i. cc))
   stop_missing s m e h (of_piece c p n) = absurd (no_stop s m e Refused h c (λ i. cc) (λ i. cc))
 
@@ -222,8 +204,8 @@ module _ (T : Type 0) (inner : Outcome T) (k : FieldKind) (q : Roles) (group : G
         steady = steady_refl s;
         takes = takes_none;
         read = λ n. subst (λ z. OptionalValue T group gap z None)
-            (sym (ap (front k) a.1 ∙ front_nil k)) (no_value a.0);
-        rest = λ n. nothing_left _ _ a.1 a.1;
+            (sym a.1) (no_value a.0);
+        rest = λ n. nothing_left _ _ a.1 refl;
       }
 
   -- a value that may be left out: it is there, or not
@@ -245,7 +227,7 @@ module _ (T : Type 0) (inner : Outcome T) (k : FieldKind) (q : Roles) (group : G
   some_gives s t x v w i o (view_some y e g) = let a = single_answers s t (Ok x) y w i g in
       (some_value a.0, a.1)
   some_gives s t x v w i (gave_absent h p ab same st) (view_none e n b) = absurd cc
-  some_gives s t x v w i (took h) (view_none e n b) = absurd (h.found (nil_front k _ e))
+  some_gives s t x v w i (took h) (view_none e n b) = absurd (h.found e)
 
   -- and where it has none None is
   none_gives : (s m : Situation) (e : Error) (v : Option T) → Stops e s m
@@ -256,14 +238,14 @@ module _ (T : Type 0) (inner : Outcome T) (k : FieldKind) (q : Roles) (group : G
       absurd (by_view (single_view _ y g) a)
     where
       by_view : SingleView (front k (pieces q (cells s))) y
-          → (gap.has ≡ false) × (pieces q (cells s) ≡ []) → ⊥
+          → (gap.has ≡ false) × (front k (pieces q (cells s)) ≡ []) → ⊥
       by_view (view_group z) a = not_empty _ y a.1 z
       by_view (view_gap z ab) a = l.no_absent y a.0 ab
   none_gives s m e v h r (view_none x n b) =
       let a = stop_missing s m e h r in (
         subst (λ z. OptionalValue T group gap z None) (sym x)
             (no_value b),
-        nothing_left _ _ a.1 a.1,
+        nothing_left _ _ a.1 refl,
       )
 
   -- where nothing is there no other refusal comes
@@ -271,10 +253,10 @@ module _ (T : Type 0) (inner : Outcome T) (k : FieldKind) (q : Roles) (group : G
       → front k (pieces q (cells s)) ≡ [] → gap.has ≡ false → SingleErr T k q group gap s e t
       → class e ≡ OfMemory
   none_fails s t e w n p b (of_memory c) = c
-  none_fails s t e w n p b (of_missing c g p' same st) =
+  none_fails s t e w n p b (of_missing c g p' same) =
       absurd (n (stops_by s t e c same))
   none_fails s t e w n p b (of_absent c g p' x) = absurd cc
-  none_fails s t e w n p b (of_piece c ne x) = absurd (ne (nil_front k _ p))
+  none_fails s t e w n p b (of_piece c ne x) = absurd (ne p)
 
   -- each answer
   optional_answers : (s t : Situation) (r : Result (Option T) Error) (v : Option T) → NoneOutside s
@@ -304,14 +286,14 @@ module _ (T : Type 0) (inner : Outcome T) (k : FieldKind) (q : Roles) (group : G
 
   module _ (f : Closure (Unit {0}) T) (decides : Decides f) where
     catch_nothing : (s m : Situation) (e : Error) → CanCatch e → SingleErr T k q group gap s e m
-        → (gap.has ≡ false) × (pieces q (cells s) ≡ [])
+        → (gap.has ≡ false) × (front k (pieces q (cells s)) ≡ [])
     catch_nothing s m e h (of_memory c) = absurd (no_catch e OfMemory h c (λ i. cc) (λ i. cc))
       where
         no_catch : (e : Error) (c : ErrorClass) → CanCatch e → class e ≡ c → (c ≡ OfMissing → ⊥)
             → (c ≡ Caught → ⊥) → ⊥
         no_catch e c (catch_missing h) g a b = a (sym g ∙ h)
         no_catch e c (catch_other h) g a b = b (sym g ∙ h)
-    catch_nothing s m e h (of_missing c g p same st) = (g, p)
+    catch_nothing s m e h (of_missing c g p same) = (g, p)
     catch_nothing s m e (catch_missing h) (of_absent c g p n) = absurd cc
     catch_nothing s m e (catch_other h) (of_absent c g p n) = absurd cc
     catch_nothing s m e (catch_missing h) (of_piece c p n) = absurd cc
@@ -334,8 +316,8 @@ module _ (T : Type 0) (inner : Outcome T) (k : FieldKind) (q : Roles) (group : G
           steady = steady_refl s;
           takes = takes_none;
           read = λ n. subst (λ z. FallbackValue T group gap f z v)
-              (sym (ap (front k) a.1 ∙ front_nil k)) (kept_value a.0 y);
-          rest = λ n. nothing_left _ _ a.1 a.1;
+              (sym a.1) (kept_value a.0 y);
+          rest = λ n. nothing_left _ _ a.1 refl;
         }
 
     -- a value with a default: its own, or the one that is kept
@@ -351,9 +333,9 @@ module _ (T : Type 0) (inner : Outcome T) (k : FieldKind) (q : Roles) (group : G
     kept_ok : (s t : Situation) (v : T) → front k (pieces q (cells s)) ≡ [] → gap.has ≡ false
         → SingleOk T k q group gap s v t → ⊥
     kept_ok s t v e h (gave_absent g p ab same st) = cc
-    kept_ok s t v e h (took g) = g.found (nil_front k _ e)
+    kept_ok s t v e h (took g) = g.found e
 
-    own_missing : (s : Situation) (v : T) → (gap.has ≡ false) × (pieces q (cells s) ≡ [])
+    own_missing : (s : Situation) (v : T) → (gap.has ≡ false) × (front k (pieces q (cells s)) ≡ [])
         → SingleView (front k (pieces q (cells s))) v → ⊥
     own_missing s v a (view_group z) = not_empty _ v a.1 z
     own_missing s v a (view_gap z ab) = l.no_absent v a.0 ab
@@ -362,9 +344,9 @@ module _ (T : Type 0) (inner : Outcome T) (k : FieldKind) (q : Roles) (group : G
         → front k (pieces q (cells s)) ≡ [] → gap.has ≡ false → SingleErr T k q group gap s e t
         → class e ≡ OfMemory
     kept_fails s t e n p b (of_memory c) = c
-    kept_fails s t e n p b (of_missing c g p' same st) = absurd (n c)
+    kept_fails s t e n p b (of_missing c g p' same) = absurd (n c)
     kept_fails s t e n p b (of_absent c g p' x) = absurd cc
-    kept_fails s t e n p b (of_piece c ne x) = absurd (ne (nil_front k _ p))
+    kept_fails s t e n p b (of_piece c ne x) = absurd (ne p)
 
     fallback_answers : (s t : Situation) (r : Result T Error) (v : T) → NoneOutside s
         → FallbackEval T inner f s r t → FallbackView (front k (pieces q (cells s))) v
@@ -380,7 +362,7 @@ module _ (T : Type 0) (inner : Outcome T) (k : FieldKind) (q : Roles) (group : G
         let a = catch_nothing s m e h (l.err s m e w i) in (
           subst (λ os. FallbackValue T group gap f os x) (sym p)
               (kept_value b y),
-          nothing_left _ _ a.1 a.1,
+          nothing_left _ _ a.1 refl,
         )
     fallback_answers s t r v w (fallback_no {e = e} {m = m} i h n c) (view_own g) =
         absurd (own_missing s v (catch_nothing s m e h (l.err s m e w i)) (single_view _ v g))

@@ -1,7 +1,7 @@
 -- What a flat field keeps to when it is evaluated: its answer and what it takes depend on its own
 -- pieces alone.
 use Rattle.std.specs.Prelude.{◌≡◌, ◌<◌, ℕ, zero, suc, Bool, true, false, List, [], ◌∷◌, length}
-use Rattle.std.specs.Prelude.{Option, None, Result, Ok, Err}
+use Rattle.std.specs.Prelude.{Option, None, Result, Ok, Err, if◌then◌else◌}
 use Rattle.bpaf_items.specs.declared.arg.Arg.{Arg}
 use Rattle.bpaf_line.specs.declared.error.Error.{Error}
 use Rattle.bpaf_line.specs.declared.error.Message.{Message}
@@ -10,7 +10,8 @@ use Rattle.bpaf_line.specs.Messages.{is_memory, can_catch}
 use Rattle.bpaf_line.specs.Situation.{Situation, is_taken}
 use Rattle.bpaf_line.specs.Taking.{open_item}
 use Rattle.bpaf_laws.specs.Reading.{Outcome}
-use Rattle.bpaf_exact.specs.Pieces.{Cells, Roles, Foreign, LinePiece, mine, others, no_roles}
+use Rattle.bpaf_exact.specs.Pieces.{Cells, Roles, Foreign, LinePiece, One, Two, mine, others}
+use Rattle.bpaf_exact.specs.Pieces.{no_roles, stands_behind}
 use Rattle.bpaf_exact.specs.Pieces.{word_roles, IsNamed, Apart, Cut, pieces, TakesPieces}
 
 -- the classes of refusals
@@ -66,44 +67,61 @@ pub record Steady (s t : Situation) : Type 0 where
   pub path : t.path ≡ s.path
   pub keeps : (p : ℕ) → is_taken s p ≡ true → is_taken t p ≡ true
 
--- a named field; a positional field without a repeat; a positional field with one
+-- a named field; a positional field without a repeat; a positional field with one; those of words
+-- stop before the first one behind `--`, or don't
 pub data FieldKind : Type 0 where
-  ByName OneWord EachWord : FieldKind
+  ByName : FieldKind
+  OneWord EachWord : (stops : Bool) → FieldKind
+
+-- a piece stands behind `--`
+abbrev pub is_behind : LinePiece → Bool
+is_behind (One k) = stands_behind k
+is_behind (Two k w) = false
+
+-- the pieces up to the first one behind `--`
+abbrev pub up_to_marker : List LinePiece → List LinePiece
+up_to_marker [] = []
+up_to_marker (o ∷ os) = if is_behind o then [] else o ∷ up_to_marker os
+
+-- and those from there on
+abbrev pub from_marker : List LinePiece → List LinePiece
+from_marker [] = []
+from_marker (o ∷ os) = if is_behind o then o ∷ os else from_marker os
 
 -- Of its own pieces a field takes all; a positional field without a repeat takes the first, if
--- there is one.
+-- there is one; and one that stops none that stands behind `--`.
 abbrev pub front : FieldKind → List LinePiece → List LinePiece
 front ByName os = os
-front EachWord os = os
-front OneWord [] = []
-front OneWord (o ∷ os) = o ∷ []
+front (EachWord false) os = os
+front (EachWord true) os = up_to_marker os
+front (OneWord stops) [] = []
+front (OneWord false) (o ∷ os) = o ∷ []
+front (OneWord true) (o ∷ os) = if is_behind o then [] else o ∷ []
 
 -- and leaves the others
 abbrev pub back : FieldKind → List LinePiece → List LinePiece
 back ByName os = []
-back EachWord os = []
-back OneWord [] = []
-back OneWord (o ∷ os) = os
+back (EachWord false) os = []
+back (EachWord true) os = from_marker os
+back (OneWord stops) [] = []
+back (OneWord false) (o ∷ os) = os
+back (OneWord true) (o ∷ os) = if is_behind o then o ∷ os else os
 
 -- Of the pieces that the fields before it left, a field's share: for a named field those that begin
--- with one of its
--- names; for a positional field one while any is left, or with a repeat all.
+-- with one of its names; for a positional field what it takes of them.
 abbrev pub share : FieldKind → Roles → List LinePiece → List LinePiece
 share ByName q os = mine q os
-share EachWord q os = os
-share OneWord q os = front OneWord os
+share k q os = front k os
 
 -- what it leaves to the fields after it
 abbrev pub left : FieldKind → Roles → List LinePiece → List LinePiece
 left ByName q os = others q os
-left EachWord q os = []
-left OneWord q os = back OneWord os
+left k q os = back k os
 
 -- the keys of a field
 abbrev pub keys : FieldKind → Roles → Roles
 keys ByName q = q
-keys OneWord q = no_roles
-keys EachWord q = no_roles
+keys k q = no_roles
 
 -- the items of a positional field are the words
 pub record IsWords (q : Roles) : Type 0 where
@@ -112,14 +130,12 @@ pub record IsWords (q : Roles) : Type 0 where
 -- a field's own items are keys; a positional field's are the words
 abbrev pub OwnItems : FieldKind → Roles → Type 0
 OwnItems ByName q = IsNamed q
-OwnItems OneWord q = IsWords q
-OwnItems EachWord q = IsWords q
+OwnItems k q = IsWords q
 
 -- a named field leaves none of its own keys
 abbrev pub LeavesNone : FieldKind → Roles → Cells → Type 0
 LeavesNone ByName q cs = pieces q cs ≡ []
-LeavesNone OneWord q cs = Unit {0}
-LeavesNone EachWord q cs = Unit {0}
+LeavesNone k q cs = Unit {0}
 
 -- An answer of a field: it takes pieces of its own alone, and if none of a named field's is left
 -- over, the answer is a value of its share.
@@ -182,8 +198,7 @@ pub record FieldsLaw (V : Type 0) (outcome : Outcome V) (r : Roles)
 -- a field before others: their keys are apart, and after a positional field no named one stands
 abbrev pub Before : FieldKind → Roles → Roles → Type 0
 Before ByName q r = Apart q r
-Before OneWord q r = (k : Arg) → r k ≡ Foreign
-Before EachWord q r = (k : Arg) → r k ≡ Foreign
+Before k q r = (item : Arg) → r item ≡ Foreign
 
 -- the values of a field and of those after it
 abbrev pub BothValue : {A B : Type 0} → FieldKind → Roles → (List LinePiece → A → Type 0)

@@ -5,7 +5,7 @@ use Rattle.bpaf_doc.specs.Names.{Names}
 use Rattle.bpaf_laws.specs.Reading.{Outcome}
 use Rattle.bpaf_exact.specs.Pieces.{Roles, LinePiece, either, no_roles}
 use Rattle.bpaf_exact.specs.Names.{Owns, are_all_apart}
-use Rattle.bpaf_exact.specs.Flat.{FieldKind, ByName, OneWord, EachWord, FieldLaw, FieldsLaw, keys}
+use Rattle.bpaf_exact.specs.Flat.{FieldKind, ByName, FieldLaw, FieldsLaw, keys}
 use Rattle.bpaf_exact.specs.Flat.{FieldsReading, both_reading}
 use Rattle.bpaf_exact.specs.Single.{Groups, Gap, FrontOf, no_gap, SingleLaw, SingleValue, OwnList}
 use Rattle.bpaf_exact.specs.Single.{repeated}
@@ -172,16 +172,13 @@ inner_field (product false q fields) = not_flat
 -- keys may stand after a field: those that are apart from its own; after a positional field none
 abbrev pub may_follow : FieldKind → List Names → List Names → Bool
 may_follow ByName own others = are_all_apart own others
-may_follow OneWord own [] = true
-may_follow OneWord own (names ∷ others) = false
-may_follow EachWord own [] = true
-may_follow EachWord own (names ∷ others) = false
+may_follow k own [] = true
+may_follow k own (names ∷ others) = false
 
 -- a field is named
 abbrev pub is_named : FieldKind → Bool
 is_named ByName = true
-is_named OneWord = false
-is_named EachWord = false
+is_named k = false
 
 -- a field before others, each with its keys
 abbrev pub flat_both : {A B : Type 0} → List Names → List Names → FlatForm A → FlatForm B

@@ -4,17 +4,16 @@ use Rattle.std.specs.Prelude.{Ok, Err, if◌then◌else◌, ◌++◌}
 use Rattle.bpaf_doc.specs.Names.{Names}
 use Rattle.bpaf_text.specs.Named.{Named as Key, KeyWithValue}
 use Rattle.bpaf_items.specs.declared.arg.Arg.{Arg}
-use Rattle.bpaf_items.specs.declared.arg.Arg.TheVariants.{Short, Long, ArgWord, Word, PosWord}
 use Rattle.bpaf_items.specs.Items.{is_argument_key, is_key_of, is_positional, item_text}
 use Rattle.bpaf_items.specs.Items.{word_text}
 use Rattle.bpaf_line.specs.declared.error.Error.{Error}
 use Rattle.bpaf_line.specs.Situation.{Situation}
 use Rattle.bpaf_line.specs.Taking.{TakesText, HasNone}
 use Rattle.bpaf_exact.specs.Pieces.{Roles, Foreign, Alone, WithNext, LinePiece, One, Two}
-use Rattle.bpaf_exact.specs.Pieces.{no_roles, word_roles}
-use Rattle.bpaf_exact.specs.Flat.{ByName, OneWord, OfMemory, OfMissing, Refused, class}
+use Rattle.bpaf_exact.specs.Pieces.{no_roles, stands_behind, word_roles}
+use Rattle.bpaf_exact.specs.Flat.{ByName, Caught, OneWord, OfMemory, OfMissing, Refused, class}
 use Rattle.bpaf_exact.specs.Single.{Gap, Groups, FrontOf, no_gap}
-use Rattle.bpaf_exact.specs.FlatForm.{FlatForm, alternative, complete, flat_field}
+use Rattle.bpaf_exact.specs.FlatForm.{FlatForm, alternative, complete}
 use Rattle.bpaf_exact.specs.FlatForm.{single}
 
 -- the items of a flag: keys with one of its names, each by itself
@@ -41,14 +40,6 @@ ArgumentValue means (Two k w) v = means (item_text w) v
 abbrev pub WordValue : {T : Type 0} → (List ℕ → T → Type 0) → LinePiece → T → Type 0
 WordValue means (One w) v = means (item_text w) v
 WordValue means (Two k w) v = ⊥
-
--- an item stands behind `--`
-abbrev pub stands_behind : Arg → Bool
-stands_behind (PosWord text) = true
-stands_behind (Short c attached word) = false
-stands_behind (Long name attached word) = false
-stands_behind (ArgWord text) = false
-stands_behind (Word text) = false
 
 -- a word behind `--`, or one before it, means what its text means; one on the other side nothing
 abbrev pub SideValue : {T : Type 0} → Bool → (List ℕ → T → Type 0) → LinePiece → T → Type 0
@@ -144,36 +135,32 @@ variable_argument means argument set =
     argument_with means argument.named.names argument.adjacent argument.last
     (argument_gap means set)
 
--- a positional word with such values
-abbrev pub word_by : {T : Type 0} → (LinePiece → T → Type 0) → FlatForm T
-word_by {T = T} value = single OneWord word_roles (FrontOf T value) (no_gap T)
+-- a positional word with such values, which stops before one behind `--`, or doesn't
+abbrev pub word_by : {T : Type 0} → (stops : Bool) → (LinePiece → T → Type 0) → FlatForm T
+word_by {T = T} stops value = single (OneWord stops) word_roles (FrontOf T value) (no_gap T)
 
 -- a positional word on either side of `--`
 abbrev pub word_field : {T : Type 0} → (List ℕ → T → Type 0) → FlatForm T
-word_field means = word_by (WordValue means)
+word_field means = word_by false (WordValue means)
 
--- a positional word that has to stand behind `--`
-abbrev pub strict_field : {T : Type 0} → (List ℕ → T → Type 0) → FlatForm T
-strict_field means = word_by (SideValue true means)
-
--- one that has to stand before it, and can be neither repeated nor left out
-abbrev pub non_strict_field : {T : Type 0} → (List ℕ → T → Type 0) → FlatForm T
-non_strict_field means = flat_field (word_by (SideValue false means))
-
--- the first word taken and its value; it has none; there is no word; or want of memory
-pub data WordEval (T : Type 0) (value : LinePiece → T → Type 0) (s : Situation) : Result T Error
-    → Situation → Type 0 where
+-- the first word taken and its value; it has none; there is no word; the first one stands behind `--`,
+-- where that stops it; or want of memory
+pub data WordEval (T : Type 0) (stops : Bool) (value : LinePiece → T → Type 0) (s : Situation)
+    : Result T Error → Situation → Type 0 where
   word_read : {p : ℕ} {strict : Bool} {text : List ℕ} {v : T} {t : Situation}
       → TakesText s p strict text t
       → ((w : Arg) → word_text w ≡ Some (strict, text) → value (One w) v)
-      → WordEval T value s (Ok v) t
+      → WordEval T stops value s (Ok v) t
   word_fault : {p : ℕ} {strict : Bool} {text : List ℕ} {e : Error} {t : Situation}
-      → TakesText s p strict text t
+      → TakesText s p strict text t → (stops ≡ true → strict ≡ false)
       → ((w : Arg) (v : T) → word_text w ≡ Some (strict, text) → value (One w) v → ⊥)
-      → class e ≡ Refused → WordEval T value s (Err e) t
+      → class e ≡ Refused → WordEval T stops value s (Err e) t
   word_missing : {e : Error} → HasNone is_positional s → class e ≡ OfMissing
-      → WordEval T value s (Err e) s
-  word_memory : {e : Error} {t : Situation} → class e ≡ OfMemory → WordEval T value s (Err e) t
+      → WordEval T stops value s (Err e) s
+  word_passed : {p : ℕ} {text : List ℕ} {e : Error} {t : Situation} → stops ≡ true
+      → TakesText s p true text t → class e ≡ Caught → WordEval T stops value s (Err e) t
+  word_memory : {e : Error} {t : Situation} → class e ≡ OfMemory → WordEval T stops value s (Err e)
+      t
 
 -- a kept value, which stands for no piece
 abbrev pub pure_field : {T : Type 0} → (T → Type 0) → FlatForm T

@@ -36,6 +36,14 @@ is_key (ArgWord t) = false
 is_key (Word t) = false
 is_key (PosWord t) = false
 
+-- an item stands behind `--`
+abbrev pub stands_behind : Arg → Bool
+stands_behind (PosWord text) = true
+stands_behind (Short c attached word) = false
+stands_behind (Long name attached word) = false
+stands_behind (ArgWord text) = false
+stands_behind (Word text) = false
+
 -- an item of the field's own
 abbrev pub is_own_role : Role → Bool
 is_own_role Foreign = false

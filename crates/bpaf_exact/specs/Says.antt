@@ -8,9 +8,10 @@ use Rattle.bpaf_items.specs.Items.{item_text}
 use Rattle.bpaf_items.specs.declared.arg.Arg.{Arg}
 use Rattle.bpaf_exact.specs.Pieces.{LinePiece, One, Roles, Two, is_own, mine, others}
 use Rattle.bpaf_exact.specs.Names.{is_key_of_any}
-use Rattle.bpaf_exact.specs.Flat.{FieldKind, ByName, OneWord, EachWord, front, back}
+use Rattle.bpaf_exact.specs.Flat.{FieldKind, ByName, front, back}
 use Rattle.bpaf_exact.specs.Single.{Own}
-use Rattle.bpaf_exact.specs.Leaves.{HaveValues, stands_behind}
+use Rattle.bpaf_exact.specs.Leaves.{HaveValues}
+use Rattle.bpaf_exact.specs.Pieces.{stands_behind}
 use Rattle.bpaf_exact.specs.Wrappers.{Closure}
 use Rattle.bpaf_exact.specs.Gathered.{IsLast}
 use Rattle.bpaf_exact.specs.FlatForm.{FlatForm, not_flat, alternative, single, complete, product}
@@ -37,14 +38,12 @@ unkeyed names (o ∷ os) =
 -- a field's own of the pieces of a line, and of the words that the fields before it leave
 abbrev pub its_pieces : FieldKind → List Names → List LinePiece → List LinePiece → List LinePiece
 its_pieces ByName names os words = keyed names os
-its_pieces OneWord names os words = front OneWord words
-its_pieces EachWord names os words = words
+its_pieces k names os words = front k words
 
 -- the words that it leaves to the fields behind it
 abbrev pub words_after : FieldKind → List LinePiece → List LinePiece
 words_after ByName words = words
-words_after OneWord words = back OneWord words
-words_after EachWord words = []
+words_after k words = back k words
 
 -- What values say.
 
@@ -155,8 +154,7 @@ EachOwn q (o ∷ os) = (is_own q o ≡ true) × EachOwn q os
 -- so it is of a named field
 abbrev pub AllOwn : FieldKind → Roles → List LinePiece → Type 0
 AllOwn ByName q os = EachOwn q os
-AllOwn OneWord q os = Unit {0}
-AllOwn EachWord q os = Unit {0}
+AllOwn k q os = Unit {0}
 
 -- the own ones of these pieces are those that begin with a key with one of the names
 abbrev pub Fits : List Names → Roles → List LinePiece → Type 0

@@ -38,8 +38,7 @@ pub record TakesAny (q : Roles) (cs ds : Cells) : Type 0 where
 -- the pieces can all be read; of a positional field those after the first need not be
 abbrev pub Readable : {T : Type 0} → FieldKind → Groups T → List LinePiece → Type 0
 Readable {T = T} ByName group os = (vs : List T) × Own T group os vs
-Readable OneWord group os = Unit {0}
-Readable EachWord group os = Unit {0}
+Readable k group os = Unit {0}
 
 -- whether there is a value for no piece at all, and which it may be
 pub record Gap (T : Type 0) : Type 1 where
@@ -52,7 +51,7 @@ pub record TookGroup (T : Type 0) (k : FieldKind) (q : Roles) (group : Groups T)
     (t : Situation) : Type 0 where
   pub steady : Steady s t
   pub takes : TakesAny q (cells s) (cells t)
-  pub found : pieces q (cells s) ≡ [] → ⊥
+  pub found : front k (pieces q (cells s)) ≡ [] → ⊥
   -- it is the value of the first group, if the pieces that are left can be read at all
   pub read : Readable k group (pieces q (cells t))
       → group (pieces q (cells s)) v (pieces q (cells t))
@@ -64,7 +63,8 @@ pub record TookGroup (T : Type 0) (k : FieldKind) (q : Roles) (group : Groups T)
 pub data SingleOk (T : Type 0) (k : FieldKind) (q : Roles) (group : Groups T) (gap : Gap T)
     (s : Situation) (v : T) (t : Situation) : Type 0 where
   -- no piece: the absent value, and nothing is taken
-  gave_absent : gap.has ≡ true → pieces q (cells s) ≡ [] → gap.absent v → cells t ≡ cells s
+  gave_absent : gap.has ≡ true → front k (pieces q (cells s)) ≡ [] → gap.absent v → cells t ≡ cells
+      s
       → Steady s t → SingleOk T k q group gap s v t
   -- the value of the first group
   took : TookGroup T k q group s v t → SingleOk T k q group gap s v t
@@ -78,29 +78,36 @@ pub data CanCatch (e : Error) : Type 0 where
 pub data SingleErr (T : Type 0) (k : FieldKind) (q : Roles) (group : Groups T) (gap : Gap T)
     (s : Situation) (e : Error) (t : Situation) : Type 0 where
   of_memory : class e ≡ OfMemory → SingleErr T k q group gap s e t
-  -- no piece, and no value for that
-  of_missing : CanCatch e → gap.has ≡ false → pieces q (cells s) ≡ [] → cells t ≡ cells s
-      → Steady s t → SingleErr T k q group gap s e t
+  -- no piece, and no value for that; where it says that an item is missing, nothing was taken
+  of_missing : CanCatch e → gap.has ≡ false → front k (pieces q (cells s)) ≡ []
+      → (class e ≡ OfMissing → cells t ≡ cells s) → SingleErr T k q group gap s e t
   -- no piece, and the absent value is refused
-  of_absent : class e ≡ Refused → gap.has ≡ true → pieces q (cells s) ≡ []
+  of_absent : class e ≡ Refused → gap.has ≡ true → front k (pieces q (cells s)) ≡ []
       → ((v : T) → gap.absent v → ⊥) → SingleErr T k q group gap s e t
   -- a piece that can't be read
-  of_piece : class e ≡ Refused → (pieces q (cells s) ≡ [] → ⊥)
+  of_piece : class e ≡ Refused → (front k (pieces q (cells s)) ≡ [] → ⊥)
       → ((w : T) (rest : List LinePiece) → group (pieces q (cells s)) w rest → ⊥)
       → SingleErr T k q group gap s e t
 
--- a positional field without a repeat reads its first word alone
-pub record WordByWord (T : Type 0) (group : Groups T) : Type 0 where
+-- a positional field without a repeat reads its first word alone, none behind what it stops at; and
+-- so it does of all that a repeat of it takes
+pub record WordByWord (T : Type 0) (stops : Bool) (group : Groups T) : Type 0 where
   pub by_front : (os : List LinePiece) (v : T) (rest : List LinePiece) → group os v rest
-      → group (front OneWord os) v [] × (rest ≡ back OneWord os)
-  pub of_front : (os : List LinePiece) (v : T) → group (front OneWord os) v []
-      → group os v (back OneWord os)
+      → group (front (OneWord stops) os) v [] × (rest ≡ back (OneWord stops) os)
+  pub of_front : (os : List LinePiece) (v : T) → group (front (OneWord stops) os) v []
+      → group os v (back (OneWord stops) os)
+  pub by_each : (os : List LinePiece) (v : T) (rest : List LinePiece) → group os v rest
+      → group (front (EachWord stops) os) v (front (EachWord stops) rest)
+      × (back (EachWord stops) rest ≡ back (EachWord stops) os)
+  pub of_each : (os : List LinePiece) (v : T) (rest : List LinePiece)
+      → group (front (EachWord stops) os) v rest
+      → (more : List LinePiece) × group os v more × (rest ≡ front (EachWord stops) more)
 
 -- how a field of a kind reads words
 abbrev pub ReadsWords : {T : Type 0} → FieldKind → Groups T → Type 0
 ReadsWords ByName group = Unit {0}
-ReadsWords {T = T} OneWord group = WordByWord T group
-ReadsWords EachWord group = ⊥
+ReadsWords {T = T} (OneWord stops) group = WordByWord T stops group
+ReadsWords (EachWord stops) group = ⊥
 
 -- the laws of a field without a repeat or default
 pub record SingleLaw (T : Type 0) (outcome : Outcome T) (k : FieldKind) (q : Roles)
@@ -134,8 +141,8 @@ pub data SingleValue (T : Type 0) (group : Groups T) (gap : Gap T) : List LinePi
 -- with a repeat a positional field gets all words
 abbrev pub repeated : FieldKind → FieldKind
 repeated ByName = ByName
-repeated OneWord = EachWord
-repeated EachWord = EachWord
+repeated (OneWord stops) = EachWord stops
+repeated (EachWord stops) = EachWord stops
 
 -- after an error a turn stops where nothing was found, or the error can be caught otherwise
 pub data Stops (e : Error) (s m : Situation) : Type 0 where

@@ -28,7 +28,7 @@ use Rattle.bpaf.specs.Marker.{words_before, words_behind}
 use Rattle.bpaf.specs.Positional.{accepts}
 use Rattle.bpaf.specs.declared.leaves.positional.ParsePositional.{ParsePositional}
 use Rattle.bpaf_exact.specs.Gathered.{list_closure}
-use Rattle.bpaf_exact.specs.Flat.{OneWord, back, front}
+use Rattle.bpaf_exact.specs.Flat.{EachWord, OneWord, back, front}
 use Rattle.bpaf_exact.specs.ProgramForm.{ProgramForm, plain, program_alone, program_both, program_con}
 use Rattle.bpaf_exact.specs.ProgramForm.{program_field, program_repeat}
 use Rattle.bpaf_exact.specs.ProgramSays.{CutSays}
@@ -36,7 +36,7 @@ use Rattle.bpaf_exact.specs.Says.{FieldsSaid, FlagSays, MadeSays, RecordSays, Re
 use Rattle.bpaf_exact.specs.Says.{keyed, unkeyed}
 use Rattle.bpaf_exact.specs.Variables.{Variables, flag_form}
 use Rattle.bpaf_exact.specs.Wrappers.{map_closure}
-use Rattle.bpaf_record.specs.Positional.{is_sided, positional_field}
+use Rattle.bpaf_record.specs.Positional.{is_sided, positional_field, stops_at}
 use Rattle.bpaf_record.specs.Program.{TellsOfWords, is_whole_program}
 use Rattle.bpaf_record.proofs.PassedOn.{name_before, strict_words, words_read}
 use Rattle.bpaf_program.specs.Fields.{IsSwitch, IsWord}
@@ -100,9 +100,11 @@ module _ {verbose_help dry_run_help name_help words_help : List Piece}
       (keyed (verbose.named.names ∷ []) os) v.0
       × (FlagSays IsKept dry_run.present dry_run.absent (first_set variables dry_run.named.envs)
       (keyed (dry_run.named.names ∷ []) os) v.1.0
-      × (WordSays (accepts name.position) MeansText (front OneWord ws) v.1.1.0
+      × (WordSays (accepts name.position) MeansText (front (OneWord (stops_at name.position)) ws)
+      v.1.1.0
       × MadeSays (RepeatSays (WordSays (accepts words.position) MeansText)) (list_closure String)
-      (back OneWord ws) v.1.1.1))
+      (front (EachWord (stops_at words.position)) (back (OneWord (stops_at name.position)) ws))
+      v.1.1.1))
 
   module _ {makes : FieldValues → Launch → Type 0}
       (made : (x : FieldValues) (v : Launch) → makes x v → v ≡ launch_of x)
@@ -120,10 +122,12 @@ module _ {verbose_help dry_run_help name_help words_help : List Piece}
         let value = tells.is_value in
         let told = tells.told.told in
         let said = told.fields.1.1 in
-        let one : WordSays (accepts NonStrict) MeansText (front OneWord (unkeyed names
+        let one : WordSays (accepts NonStrict) MeansText (front (OneWord true) (unkeyed names
         tells.told.cut_into)) told.from.1.1.0 = rw is_name.position_is at said.0 in
-        let more : RepeatSays (WordSays (accepts Strict) MeansText) (back OneWord (unkeyed names
-        tells.told.cut_into)) said.1.from = rw is_words.position_is at said.1.told in
+        let more : RepeatSays (WordSays (accepts Strict) MeansText) (back (OneWord true) (unkeyed
+        names
+        tells.told.cut_into)) said.1.from = rw (is_words.position_is, is_name.position_is) at
+        said.1.told in
         ap (λ launch. map string_bytes launch.words.items) (made told.from v told.made)
         ∙ (ap (map string_bytes) said.1.made
         ∙ (texts_are _ said.1.from (strict_words more)

@@ -20,6 +20,11 @@ use Rattle.bpaf_exact.specs.FlatForm.{FlatForm, FormLaw, flat_alone, flat_both, 
 use Rattle.bpaf_exact.specs.FlatForm.{flat_fallback, flat_field, flat_optional}
 use Rattle.bpaf_exact.specs.FlatForm.{flat_many, flat_record, is_record, product_reading}
 use Rattle.bpaf_exact.specs.FlatForm.{product_roles}
+use Rattle.bpaf_exact.specs.Flat.{is_behind}
+use Rattle.bpaf_exact.specs.Pieces.{LinePiece}
+use Rattle.bpaf_record.specs.Positional.{value_before}
+use Rattle.std.specs.Prelude.{not}
+use Rattle.bpaf.specs.declared.leaves.positional.Position.TheVariants.{NonStrict}
 use Rattle.bpaf_exact.specs.Leaves.{SideValue, WordEval, argument_field, flag_field, word_by}
 use Rattle.bpaf_exact.specs.Leaves.{word_field}
 use Rattle.bpaf_exact.specs.ProgramForm.{plain}
@@ -99,12 +104,17 @@ text_word_seen = word_seen string_bytes MeansText one_text
 
 -- one that has to stand behind `--`, or before it
 pub side_word_seen : (behind : Bool)
-    → IsSeen (WordEval String (SideValue behind MeansText)) string_bytes []
-    (word_by (SideValue behind MeansText))
+    → IsSeen (WordEval String (not behind) (SideValue behind MeansText)) string_bytes []
+    (word_by (not behind) (SideValue behind MeansText))
 side_word_seen behind = record {
-  law = word_by_law _ (SideValue behind MeansText);
-  view = side_view _ (List ℕ) string_bytes behind MeansText one_text;
+  law = word_by_law _ (not behind) (SideValue behind MeansText) (before behind);
+  view = side_view _ (List ℕ) string_bytes (not behind) behind MeansText one_text;
 }
+  where
+    before : (behind : Bool) → not behind ≡ true → (o : LinePiece) (v : String)
+        → SideValue behind MeansText o v → is_behind o ≡ false
+    before true stops o v y = absurd cc
+    before false stops o v y = value_before MeansText NonStrict refl o v y
 
 module _ {T X : Type 0} {outcome : Outcome T} {see : T → X} {names : List Names}
     {form : FlatForm T} (is : IsSeen outcome see names form) where

@@ -29,8 +29,8 @@ closed_is f (product named q fields) = refl
 -- a repeated word is a word
 repeated_is : (k : FieldKind) → kind_of k ≡ kind_of (repeated k)
 repeated_is ByName = refl
-repeated_is OneWord = refl
-repeated_is EachWord = refl
+repeated_is (OneWord stops) = refl
+repeated_is (EachWord stops) = refl
 
 -- a repeat, and what is made of its list
 listed_is : {T B : Type 0} (f : Closure (List T) B) (s : FlatForm T)
@@ -113,8 +113,8 @@ field_is (product false q fields) = refl
 -- a named one
 named_is : (k : FieldKind) → is_named_kind (kind_of k) ≡ is_named k
 named_is ByName = refl
-named_is OneWord = refl
-named_is EachWord = refl
+named_is (OneWord stops) = refl
+named_is (EachWord stops) = refl
 
 -- the last field
 pub alone_is : {T : Type 0} (s : FlatForm T) → alone_form (form_of s) ≡ form_of (flat_alone s)
@@ -169,10 +169,10 @@ stands : (k : FieldKind) (own others : List Names)
     → may_stand (kind_of k) (are_all_apart own others) (list_all (λ names. false) others)
     ≡ may_follow k own others
 stands ByName own others = refl
-stands OneWord own [] = refl
-stands OneWord own (names ∷ others) = refl
-stands EachWord own [] = refl
-stands EachWord own (names ∷ others) = refl
+stands (OneWord stops) own [] = refl
+stands (OneWord stops) own (names ∷ others) = refl
+stands (EachWord stops) own [] = refl
+stands (EachWord stops) own (names ∷ others) = refl
 
 -- a field before others
 pub both_is : {A B : Type 0} (own others : List Names) (s : FlatForm A) (t : FlatForm B)

@@ -217,8 +217,8 @@ named_part_is : {A B : Type 0} (own others : List Names) (wide : Bool) (s : Flat
     ≡ part_of (program_both own others (plain wide s) (before_commands r value))
 named_part_is own others wide (complete ByName q first) r value none =
     if_is (are_all_apart own others) _
-named_part_is own others wide (complete OneWord q first) r value none = refl
-named_part_is own others wide (complete EachWord q first) r value none = refl
+named_part_is own others wide (complete (OneWord stops) q first) r value none = refl
+named_part_is own others wide (complete (EachWord stops) q first) r value none = refl
 named_part_is own others wide _ r value none = refl
 
 -- a field before others

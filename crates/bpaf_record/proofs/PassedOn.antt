@@ -23,12 +23,12 @@ use Rattle.bpaf.specs.declared.leaves.positional.Position.TheVariants.{NonStrict
 use Rattle.bpaf.proofs.Sides.{IsBefore, all_before, behind_with_marker, behind_without_marker}
 use Rattle.bpaf.proofs.Sides.{each_append, text_behind}
 use Rattle.bpaf_exact.specs.Flat.{OneWord, back, first_cells, front}
-use Rattle.bpaf_exact.specs.Leaves.{stands_behind}
 use Rattle.bpaf_exact.specs.Names.{is_key_of_any}
 use Rattle.bpaf_exact.specs.Pieces.{Cells, Cut, LinePiece, One, Roles, Two, argument, at_end, flag}
-use Rattle.bpaf_exact.specs.Pieces.{is_value, passed, word}
+use Rattle.bpaf_exact.specs.Pieces.{is_value, passed, stands_behind, word}
 use Rattle.bpaf_exact.specs.Record.{line_cells}
 use Rattle.bpaf_exact.specs.Says.{RepeatSays, WordSays, first_item, unkeyed}
+use Rattle.bpaf_exact.proofs.Fronts.{of_front_one}
 use Rattle.bpaf_exact.proofs.PieceByPiece.{AcceptedWord, word_values}
 
 -- a text, where there is one, before others
@@ -193,13 +193,11 @@ words_read describes info given context on_line {r} {os} cut names =
 
 -- A word that has to stand before `--` leaves all of it,
 pub name_before : {T : Type 0} {means : List ℕ → T → Type 0} (ws : List LinePiece) {v : T}
-    → WordSays (accepts NonStrict) means (front OneWord ws) v
-    → pieces_behind (back OneWord ws) ≡ pieces_behind ws
-name_before [] so = let none = so.is in absurd cc
-name_before (o ∷ ws) so =
-    let one : o ≡ One so.word = let e = so.is in cc in
-    sym (ap (λ text. put text (pieces_behind ws))
-    (ap (λ p. text_behind (first_item p)) one ∙ not_behind so.word so.side))
+    → WordSays (accepts NonStrict) means (front (OneWord true) ws) v
+    → pieces_behind (back (OneWord true) ws) ≡ pieces_behind ws
+name_before ws so =
+    sym (ap pieces_behind (of_front_one true ws (One so.word) so.is)
+    ∙ ap (λ text. put text (pieces_behind (back (OneWord true) ws))) (not_behind so.word so.side))
   where
     not_behind : (w : Arg) → accepts NonStrict (stands_behind w) ≡ true → text_behind w ≡ None
     not_behind (Short c attached text) on = refl

@@ -1,6 +1,6 @@
 -- What a parser is to a flat record, as the program tells it.
 use Rattle.std.specs.Prelude.{Bool, true, false, ◌&&◌}
-use Rattle.bpaf_exact.specs.Flat.{FieldKind, ByName, OneWord, EachWord}
+use Rattle.bpaf_exact.specs.Flat.{FieldKind, ByName}
 use Rattle.bpaf_exact.specs.FlatForm.{FlatForm, not_flat, alternative, single, complete, product}
 use Rattle.bpaf_record.specs.declared.form.Form.{Form}
 use Rattle.bpaf_record.specs.declared.form.Form.TheVariants.{NotFlat, Alternative, Single, Complete}
@@ -11,8 +11,7 @@ use Rattle.bpaf_record.specs.declared.form.Kind.TheVariants.{Named, Word}
 -- by a name, or a positional word
 abbrev pub kind_of : FieldKind → Kind
 kind_of ByName = Named
-kind_of OneWord = Word
-kind_of EachWord = Word
+kind_of k = Word
 
 -- that of a flat form, without its items
 abbrev pub form_of : {T : Type 0} → FlatForm T → Form

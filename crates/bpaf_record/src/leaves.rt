@@ -130,15 +130,15 @@ impl<T: FromText> ProgramField<T> for ParseArgument<T> {
 
 impl<T: FromText> FlatField<T> for ParseArgument<T> {}
 
-/// With `strict` or `non_strict` it may stand in a program, but in no flat record; with
-/// `non_strict` under no repeat and no default.
+/// With `strict` or `non_strict` it may stand in a program, but in no flat record. A repeat or a
+/// default of it with `non_strict` leaves words behind `--` to the fields after it.
 impl<T: FromText> ProgramField<T> for ParsePositional<T> {
     ghost use Rattle.bpaf_exact.proofs.Variables.{program_with};
     ghost use Rattle.bpaf_exact.specs.Flat.{OneWord};
     ghost use Rattle.bpaf_exact.specs.Says.{WordSays};
     ghost use Rattle.bpaf.specs.Positional.{accepts};
     ghost use Rattle.bpaf_record.specs.Positional.{is_sided, positional_says, positional_field};
-    ghost use Rattle.bpaf_record.specs.Positional.{positional_field_law};
+    ghost use Rattle.bpaf_record.specs.Positional.{positional_field_law, stops_at};
     ghost use Rattle.bpaf_exact.proofs.SameParts.{one_shape};
     ghost use Rattle.bpaf.specs.Positional.{positional_shape};
     ghost use Rattle.bpaf_exact.specs.ProgramForm.{plain};
@@ -151,19 +151,17 @@ impl<T: FromText> ProgramField<T> for ParsePositional<T> {
     ghost program_form = { λ p variables. plain (is_sided p.position)
         (positional_field T.means p.position) };
 
-    ghost kind = { λ p. OneWord };
+    ghost kind = { λ p. OneWord (stops_at p.position) };
 
     ghost says = { λ variables. of_pieces (λ p. WordSays (accepts p.position) T.means) };
 
     ghost agrees = { λ p. Unit {0} };
 
     fn part(&self) -> ProgramPart {
-        let (wide, form) = match self.position {
-            Position::Unrestricted => (false, Form::Single(Kind::Word)),
-            Position::Strict => (true, Form::Single(Kind::Word)),
-            Position::NonStrict => (true, Form::Complete(Kind::Word)),
-        };
-        ProgramPart::Flat { wide, form }
+        ProgramPart::Flat {
+            wide: !matches!(self.position, Position::Unrestricted),
+            form: Form::Single(Kind::Word),
+        }
     }
 
     fn all_keys<N: KeyTest>(&self, _test: &N) -> bool {

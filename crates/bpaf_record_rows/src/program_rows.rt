@@ -331,6 +331,31 @@ fn words_on_one_side_run_as_programs(rt: HostRuntime) -> Result<(), Fail> {
     compare(alloc, word().non_strict(), NON_STRICT_WORD)
 }
 
+const WORDS_ON_BOTH_SIDES: &[Row<'static>] = &[
+    ("a b -- c -d", "ok ([\"a\", \"b\"], [\"c\", \"-d\"])"),
+    ("-- c", "ok ([], [\"c\"])"),
+    ("a", "ok ([\"a\"], [])"),
+    ("", "ok ([], [])"),
+];
+
+const WORD_BEFORE_LEFT_OUT: &[Row<'static>] = &[
+    ("a -- b c", "ok (Some(\"a\"), [\"b\", \"c\"])"),
+    ("-- b", "ok (None, [\"b\"])"),
+    ("", "ok (None, [])"),
+    ("a b", "refused"),
+];
+
+#[test]
+fn words_on_both_sides_run_as_programs(rt: HostRuntime) -> Result<(), Fail> {
+    let alloc = rt.alloc();
+    let before = word().non_strict().many();
+    let behind = word().strict().many();
+    compare(alloc, construct!(before, behind), WORDS_ON_BOTH_SIDES)?;
+    let before = word().non_strict().optional();
+    let behind = word().strict().many();
+    compare(alloc, construct!(before, behind), WORD_BEFORE_LEFT_OUT)
+}
+
 const ADJACENT: &[Row<'static>] = &[
     ("-n3", "ok 3"),
     ("-n=3", "ok 3"),
