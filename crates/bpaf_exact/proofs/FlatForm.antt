@@ -184,7 +184,7 @@ inner_field_law T outcome names (single k q group gap) l =
     flat_field_law T outcome names (single k q group gap) l
 inner_field_law T outcome names (complete k q value) l = l
 inner_field_law T outcome names (product true q fields) l = (l.2, l.1)
-inner_field_law T outcome names (product false q fields) l = tt
+inner_field_law T outcome names (product false q fields) l = l
 
 -- no is no yes
 nobody : false ≡ true → ⊥
@@ -254,7 +254,8 @@ flat_alone_law T outcome names (complete k q value) l = (
     by_name ByName l = named_last_law T outcome q value l
     by_name (OneWord z) l = tt
     by_name (EachWord z) l = tt
-flat_alone_law T outcome names (product named q fields) l = tt
+flat_alone_law T outcome names (product true q fields) l = tt
+flat_alone_law T outcome names (product false q fields) l = l
 
 -- the constructor of a product
 pub flat_con_law : (A B : Type 0) (inner : Outcome A) (makes : A → B → Type 0)

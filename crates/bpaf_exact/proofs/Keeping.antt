@@ -3,7 +3,7 @@ use Rattle.std.proofs.Common.{ℕ, List, [], ◌++◌}
 use Rattle.bpaf_doc.specs.Names.{Names}
 use Rattle.bpaf_laws.specs.Product.{BothOutcome}
 use Rattle.bpaf_laws.specs.Reading.{Outcome}
-use Rattle.bpaf_exact.specs.Flat.{FieldKind}
+use Rattle.bpaf_exact.specs.Says.{SaidKind}
 use Rattle.bpaf_exact.specs.ProgramForm.{ProgramForm, ProgramFormLaw, program_alone, program_both}
 use Rattle.bpaf_exact.specs.ProgramForm.{program_field}
 use Rattle.bpaf_exact.specs.ProgramSays.{FieldsKeep, ProgramFieldsSaid, ProgramSaid, ProgramSays}
@@ -15,7 +15,7 @@ use Rattle.bpaf_exact.proofs.ProgramForm.{program_both_law, program_field_law}
 use Rattle.bpaf_exact.proofs.ProgramSays.{inside_say, program_alone_says, program_both_say}
 
 -- the last field
-pub keep_last : {P R A : Type 0} (last : R → P) (r : R) (outcome : Outcome A) (kind : P → FieldKind)
+pub keep_last : {P R A : Type 0} (last : R → P) (r : R) (outcome : Outcome A) (kind : P → SaidKind)
     (names : P → List Names) (words : List (List ℕ)) (s : ProgramForm A) (said : ProgramSaid P A)
     → ProgramFormLaw outcome (names (last r)) words s
     → ProgramSays (names (last r)) s (kind (last r)) said (last r)
@@ -37,7 +37,7 @@ keep_inside inside r kept = record { law = kept.law; says = inside_say inside r 
 -- a field before such fields, in an environment that it leaves as it is
 pub keep_before : {P Q R A B : Type 0} (variables : Variables) (first : R → P) (rest : R → Q)
     (r : R) (outcome : Outcome A) → KeepsVariables outcome
-    → (kind : P → FieldKind) (names : P → List Names) (words : List (List ℕ)) (s : ProgramForm A)
+    → (kind : P → SaidKind) (names : P → List Names) (words : List (List ℕ)) (s : ProgramForm A)
     (said : ProgramSaid P A)
     → ProgramFormLaw (WithVariables variables outcome) (names (first r)) words s
     → ProgramSays (names (first r)) s (kind (first r)) said (first r)

@@ -450,7 +450,8 @@ module _ (T X : Type 0) (see : T → X) where
   alone_view (alternative q value) u = tt
   alone_view (single k q group gap) u = tt
   alone_view (complete k q value) u = λ os v w a b. u _ v w a.read b.read
-  alone_view (product named q fields) u = tt
+  alone_view (product true q fields) u = tt
+  alone_view (product false q fields) u = u
 
   record_view : (inner : Outcome T) (names : List Names) (s : FlatForm T) → FormLaw inner names s
       → HasOneView see s → HasOneView see (flat_record s)

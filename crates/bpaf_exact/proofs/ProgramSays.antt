@@ -7,7 +7,8 @@ use Rattle.bpaf_laws.specs.Command.{Called, opening_words}
 use Rattle.bpaf_laws.specs.Environment.{first_set}
 use Rattle.bpaf_laws.specs.Reading.{Outcome}
 use Rattle.bpaf_exact.specs.Pieces.{Roles, LinePiece, pieces}
-use Rattle.bpaf_exact.specs.Flat.{FieldKind, ByName}
+use Rattle.bpaf_exact.specs.Flat.{ByName}
+use Rattle.bpaf_exact.specs.Says.{SaidKind, of_kind, repeated_kind}
 use Rattle.bpaf_exact.specs.FlatForm.{FlatForm, not_flat, alternative, single, complete, product}
 use Rattle.bpaf_exact.specs.FlatForm.{EachAgrees, alternative_only, inner_field, is_product}
 use Rattle.bpaf_exact.specs.FlatForm.{is_record}
@@ -29,12 +30,12 @@ use Rattle.bpaf_exact.specs.Says.{Said, Says, MadeSays, OneOfSays, FormSays, Fal
 use Rattle.bpaf_exact.specs.Says.{RepeatSays}
 use Rattle.bpaf_exact.specs.ProgramSays.{ProgramSaid, of_pieces, of_cells, ProgramFieldsSaid}
 use Rattle.bpaf_exact.specs.ProgramSays.{of_all_pieces, of_all_cells, IsSaid, ProgramFormSays}
+use Rattle.bpaf_exact.specs.ProgramSays.{program_kind}
 use Rattle.bpaf_exact.specs.ProgramSays.{ProgramSays, ProgramFieldsFormSay, ProgramFieldsSay}
 use Rattle.bpaf_exact.specs.ProgramSays.{cells_said, pieces_said, said_choice, OneOfCells}
 use Rattle.bpaf_exact.specs.ProgramSays.{said_alone, said_both, said_con, said_choices, said_closed}
 use Rattle.bpaf_exact.specs.ProgramSays.{said_command, said_dressed, said_flat, said_optional}
 use Rattle.bpaf_exact.specs.ProgramSays.{said_fallback, said_last, said_repeat, fields_said_inside}
-use Rattle.bpaf_exact.specs.Single.{repeated}
 use Rattle.bpaf_exact.specs.Variables.{Variables, key_form}
 use Rattle.bpaf_exact.specs.Wrappers.{Closure}
 use Rattle.bpaf_exact.proofs.Says.{FormOwns, alone_says, both_say, by_name, choice_into}
@@ -46,7 +47,7 @@ use Rattle.bpaf_exact.proofs.ProgramForm.{record_owns}
 use Rattle.bpaf_exact.proofs.Sharing.{cut_fit, pieces_own}
 
 -- where a test holds
-if_says : {P T : Type 0} (names : List Names) (b : Bool) (s : ProgramForm T) (kind : FieldKind)
+if_says : {P T : Type 0} (names : List Names) (b : Bool) (s : ProgramForm T) (kind : SaidKind)
     (said : ProgramSaid P T)
     (p : P) → (b ≡ true → ProgramFormSays names s kind said p)
     → ProgramFormSays names (program_if b s) kind said p
@@ -56,7 +57,7 @@ if_says names false s kind said p h = tt
 module _ {P Q A B : Type 0} (inside : Q → P) (q : Q) where
   -- a combinator that takes flat fields alone
   pub flat_only_says : (pieces : Q → Said A → Said B) {s : ProgramForm A} {said : ProgramSaid P A}
-      {kind outer : FieldKind} {names : List Names} (g : FlatForm A → FlatForm B)
+      {kind outer : SaidKind} {names : List Names} (g : FlatForm A → FlatForm B)
       → ((s : FlatForm A) (said : Said A) → Says names s kind said
       → Says names (g s) outer (pieces q said))
       → ProgramSays names s kind said (inside q)
@@ -75,7 +76,7 @@ module _ {P Q A B : Type 0} (inside : Q → P) (q : Q) where
       by_form (before_commands r value) said h = tt
 
   -- a closure
-  pub program_closed_says : {s : ProgramForm A} {said : ProgramSaid P A} {kind : FieldKind}
+  pub program_closed_says : {s : ProgramForm A} {said : ProgramSaid P A} {kind : SaidKind}
       {names : List Names}
       (f : Q → Closure A B) → ProgramSays names s kind said (inside q)
       → ProgramSays names (program_closed (f q) s) kind
@@ -102,10 +103,11 @@ module _ {P Q A B : Type 0} (inside : Q → P) (q : Q) where
 
 -- what is made of a repeat
 pub program_repeat_says : {P Q T B : Type 0} (inside : Q → P) (q : Q) (catch : Bool)
-    (f : Closure (List T) B) {s : ProgramForm T} {said : ProgramSaid P T} {kind : FieldKind}
+    (f : Closure (List T) B) {s : ProgramForm T} {said : ProgramSaid P T} {kind : SaidKind}
     {names : List Names}
     → ProgramSays names s kind said (inside q)
-    → ProgramSays names (program_repeat catch f s) (repeated kind) (said_repeat inside f said) q
+    → ProgramSays names (program_repeat catch f s) (repeated_kind kind)
+    (said_repeat inside f said) q
 program_repeat_says inside q catch f h =
     flat_only_says inside q (λ q said. MadeSays (RepeatSays said) f)
     (λ s. unless catch (flat_closed f (flat_repeat s)))
@@ -113,9 +115,9 @@ program_repeat_says inside q catch f h =
 
 -- its last value
 pub program_last_says : {P Q T : Type 0} (inside : Q → P) (q : Q) {s : ProgramForm T}
-    {said : ProgramSaid P T} {kind : FieldKind} {names : List Names}
+    {said : ProgramSaid P T} {kind : SaidKind} {names : List Names}
     → ProgramSays names s kind said (inside q)
-    → ProgramSays names (program_last s) (repeated kind) (said_last inside said) q
+    → ProgramSays names (program_last s) (repeated_kind kind) (said_last inside said) q
 program_last_says inside q h =
     flat_only_says inside q (λ q said. LastSays said) (λ s. flat_last s) (λ s said h. last_says h)
     h
@@ -123,7 +125,7 @@ program_last_says inside q h =
 -- a fallback
 pub program_fallback_says : {P Q T : Type 0} (inside : Q → P) (q : Q)
     (f : Q → Closure (Unit {0}) T) {s : ProgramForm T} {said : ProgramSaid P T}
-    {kind : FieldKind} {names : List Names} → ProgramSays names s kind said (inside q)
+    {kind : SaidKind} {names : List Names} → ProgramSays names s kind said (inside q)
     → ProgramSays names (program_fallback (f q) s) kind (said_fallback inside f said) q
 program_fallback_says inside q f h =
     flat_only_says inside q (λ q said. FallbackSays said ((f q).yes tt))
@@ -131,7 +133,7 @@ program_fallback_says inside q f h =
 
 module _ {P Q T : Type 0} (inside : Q → P) (q : Q) where
   -- another look
-  pub program_dressed_says : {s : ProgramForm T} {said : ProgramSaid P T} {kind : FieldKind}
+  pub program_dressed_says : {s : ProgramForm T} {said : ProgramSaid P T} {kind : SaidKind}
       {names : List Names}
       → ProgramSays names s kind said (inside q)
       → ProgramSays names (program_dressed s) kind
@@ -152,7 +154,7 @@ module _ {P Q T : Type 0} (inside : Q → P) (q : Q) where
       by_form (before_commands r value) said h = tt
 
   -- what may be left out
-  pub program_optional_says : {s : ProgramForm T} {said : ProgramSaid P T} {kind : FieldKind}
+  pub program_optional_says : {s : ProgramForm T} {said : ProgramSaid P T} {kind : SaidKind}
       {names : List Names}
       (catch : Bool) → ProgramSays names s kind said (inside q)
       → ProgramSays names (program_optional catch s) kind
@@ -179,7 +181,7 @@ module _ {P Q T : Type 0} (inside : Q → P) (q : Q) where
 
   -- a value of a whole program says so of the cells
   whole_says : (outcome : Outcome T) (names : List Names) (words : List (List ℕ))
-      (s : ProgramForm T) (kind : FieldKind) (said : ProgramSaid P T) (p : P)
+      (s : ProgramForm T) (kind : SaidKind) (said : ProgramSaid P T) (p : P)
       → ProgramFormLaw outcome names words s → ProgramFormSays names s kind said p
       → is_program s ≡ true
       → IsSaid (program_value s) (cells_said said p)
@@ -205,14 +207,14 @@ module _ {P Q T : Type 0} (inside : Q → P) (q : Q) where
 
   -- a command
   pub program_command_says : (outcome : Outcome T) (words : List (List ℕ)) {s : ProgramForm T}
-      {said : ProgramSaid P T} {kind : FieldKind} {names : List Names} (adjacent apart : Bool)
+      {said : ProgramSaid P T} {kind : SaidKind} {names : List Names} (adjacent apart : Bool)
       (called : Q → Called) → ProgramFormLaw outcome names words s
       → ProgramSays names s kind said (inside q)
-      → ProgramSays names (program_command adjacent apart (called q) s) ByName
+      → ProgramSays names (program_command adjacent apart (called q) s) (of_kind ByName)
       (said_command inside called said) q
   program_command_says outcome words {s} {said} {kind} {names} adjacent apart called law h =
       record {
-        by = if_says names (not adjacent && apart) _ ByName _ q (λ on. by_form s
+        by = if_says names (not adjacent && apart) _ (of_kind ByName) _ q (λ on. by_form s
             (whole_says outcome names words s kind said (inside q) law h.by));
       }
     where
@@ -227,14 +229,16 @@ module _ {P Q T : Type 0} (inside : Q → P) (q : Q) where
 
       by_whole : (r : Roles) (value : CellsValue T) → IsSaid value Told
           → ProgramFormSays names (opened_form (opening_words (called q)) (before_commands r value))
-          ByName
+          (of_kind ByName)
           (said_command inside called said) q
       by_whole r value h =
-          if_says names (are_plain (opening_words (called q))) _ ByName _ q (λ on. opened value h)
+          if_says names (are_plain (opening_words (called q))) _ (of_kind ByName) _ q
+          (λ on. opened value h)
 
       by_form : (s : ProgramForm T)
           → (is_program s ≡ true → IsSaid (program_value s) Told)
-          → ProgramFormSays names (opened_form (opening_words (called q)) (whole_program s)) ByName
+          → ProgramFormSays names (opened_form (opening_words (called q)) (whole_program s))
+          (of_kind ByName)
           (said_command inside called said) q
       by_form no_program h = tt
       by_form (plain wide s) h = by_test (is_record s) refl
@@ -242,7 +246,7 @@ module _ {P Q T : Type 0} (inside : Q → P) (q : Q) where
           by_test : (b : Bool) → is_record s ≡ b
               → ProgramFormSays names (opened_form (opening_words (called q))
               (program_if b (before_commands (product_roles (flat_record s))
-              (program_value (plain wide s))))) ByName
+              (program_value (plain wide s))))) (of_kind ByName)
               (said_command inside called said) q
           by_test true e = by_whole _ _ (h e)
           by_test false e = tt
@@ -254,12 +258,12 @@ module _ {P Q T : Type 0} (inside : Q → P) (q : Q) where
 
 module _ {Q T : Type 0} (q : Q) where
   -- one more parser, which says so of pieces, into what is said of them
-  more_pieces : {P : Type 0} (said : Q → Said T) (says : P → Said T) (p : P) (kind : FieldKind)
+  more_pieces : {P : Type 0} (said : Q → Said T) (says : P → Said T) (p : P) (kind : SaidKind)
       (names own others : List Names) (words more : List (List ℕ)) (before s : ProgramForm T)
-      → ProgramFormSays names before ByName (of_pieces said) q
+      → ProgramFormSays names before (of_kind ByName) (of_pieces said) q
       → ProgramFormSays others s kind (of_pieces says) p
       → ((os : List LinePiece) (v : T) → says p os v → said q os v)
-      → ProgramFormSays names (program_choice own others words more before s) ByName
+      → ProgramFormSays names (program_choice own others words more before s) (of_kind ByName)
       (of_pieces said) q
   more_pieces said says p kind names own others words more (plain wide a) (plain other b)
       h g into = record {
@@ -272,15 +276,15 @@ module _ {Q T : Type 0} (q : Q) where
 
   -- one more, which says so of cells
   more_cells : {P : Type 0} (said : Q → CellsValue T) (says : P → CellsValue T) (p : P)
-      (kind : FieldKind) (names own others : List Names) (words more : List (List ℕ))
-      (before s : ProgramForm T) → ProgramFormSays names before ByName (of_cells said) q
+      (kind : SaidKind) (names own others : List Names) (words more : List (List ℕ))
+      (before s : ProgramForm T) → ProgramFormSays names before (of_kind ByName) (of_cells said) q
       → ProgramFormSays others s kind (of_cells says) p → IsSaid (says p) (said q)
-      → ProgramFormSays names (program_choice own others words more before s) ByName
+      → ProgramFormSays names (program_choice own others words more before s) (of_kind ByName)
       (of_cells said) q
   more_cells said says p kind names own others words more (plain wide a) (plain other b) h g into =
       absurd h
   more_cells said says p kind names own others words more (commands r a) (commands u b) h g into =
-      if_says names (are_words_apart words more) _ ByName _ q (λ on. either)
+      if_says names (are_words_apart words more) _ (of_kind ByName) _ q (λ on. either)
     where
       either : IsSaid (ChoiceValue T a b) (said q)
       either cs v (first_value c) = h cs v c
@@ -290,9 +294,9 @@ module _ {Q T : Type 0} (q : Q) where
 -- of two
 pub program_choice_says : {P Q R T : Type 0} (this : R → P) (that : R → Q) (r : R)
     (own others : List Names) (words more : List (List ℕ)) {s t : ProgramForm T}
-    {a : ProgramSaid P T} {b : ProgramSaid Q T} {j k : FieldKind} → ProgramSays own s j a (this r)
+    {a : ProgramSaid P T} {b : ProgramSaid Q T} {j k : SaidKind} → ProgramSays own s j a (this r)
     → ProgramSays others t k b (that r)
-    → ProgramSays (own ++ others) (program_choice own others words more s t) ByName
+    → ProgramSays (own ++ others) (program_choice own others words more s t) (of_kind ByName)
     (said_choice this that a b) r
 program_choice_says {P} {Q} {R} {T} this that r own others words more {s} {t} {a} {b} {j} {k} h g =
     record { by = by_form s t a b h.by g.by }
@@ -304,14 +308,15 @@ program_choice_says {P} {Q} {R} {T} this that r own others words more {s} {t} {a
 
     by_form : (s t : ProgramForm T) (a : ProgramSaid P T) (b : ProgramSaid Q T)
         → ProgramFormSays own s j a (this r) → ProgramFormSays others t k b (that r)
-        → ProgramFormSays (own ++ others) (program_choice own others words more s t) ByName
+        → ProgramFormSays (own ++ others) (program_choice own others words more s t)
+        (of_kind ByName)
         (said_choice this that a b) r
     by_form (plain wide s) (plain other t) (of_pieces a) (of_pieces b) h g =
         choice_says own others h g
     by_form (plain wide s) (plain other t) (of_cells a) b h g = absurd h
     by_form (plain wide s) (plain other t) (of_pieces a) (of_cells b) h g = absurd g
     by_form (commands q va) (commands u vb) (of_cells a) (of_cells b) h g =
-        if_says (own ++ others) (are_words_apart words more) _ ByName _ r
+        if_says (own ++ others) (are_words_apart words more) _ (of_kind ByName) _ r
         (λ on. either va vb (a (this r)) (b (that r)) h g)
     by_form (commands q va) (commands u vb) (of_pieces a) b h g = absurd h
     by_form (commands q va) (commands u vb) (of_cells a) (of_pieces b) h g = absurd g
@@ -319,7 +324,7 @@ program_choice_says {P} {Q} {R} {T} this that r own others words more {s} {t} {a
 
 -- of any number
 module _ {P Q T : Type 0} (keys : P → List Names) (words : P → List (List ℕ))
-    (form : P → ProgramForm T) (kind : P → FieldKind) (agrees : P → Type 0) (q : Q)
+    (form : P → ProgramForm T) (kind : P → SaidKind) (agrees : P → Type 0) (q : Q)
     (names : List Names) where
   module _ (says : P → Said T)
       (each : (p : P) → agrees p → ProgramFormSays (keys p) (form p) (kind p) (of_pieces says) p)
@@ -327,10 +332,11 @@ module _ {P Q T : Type 0} (keys : P → List Names) (words : P → List (List �
       -- of what stands before and of more, by their pieces
       rest_pieces : (said : Q → Said T) (own : List Names) (heard : List (List ℕ))
           (before : ProgramForm T) (ps : List P)
-          → ProgramFormSays names before ByName (of_pieces said) q
+          → ProgramFormSays names before (of_kind ByName) (of_pieces said) q
           → EachAgrees agrees ps
           → ((p : P) → Contains ps p → (os : List LinePiece) (v : T) → says p os v → said q os v)
-          → ProgramFormSays names (program_rest keys words form own heard before ps) ByName
+          → ProgramFormSays names (program_rest keys words form own heard before ps)
+          (of_kind ByName)
           (of_pieces said) q
       rest_pieces said own heard before [] h agree into = h
       rest_pieces said own heard before (p ∷ ps) h agree into =
@@ -344,13 +350,14 @@ module _ {P Q T : Type 0} (keys : P → List Names) (words : P → List (List �
       first_pieces : (said : Q → Said T) (p : P) (s : ProgramForm T)
           → ProgramFormSays (keys p) s (kind p) (of_pieces says) p
           → ((os : List LinePiece) (v : T) → says p os v → said q os v)
-          → ProgramFormSays names (first_only s) ByName (of_pieces said) q
+          → ProgramFormSays names (first_only s) (of_kind ByName) (of_pieces said) q
       first_pieces said p no_program h into = tt
       first_pieces said p (plain wide s) h into =
           record { by = by_flat s (by_name (keys p) s (kind p) (says p) h.by) }
         where
-          by_flat : (s : FlatForm T) → FormSays (keys p) (alternative_only s) ByName (says p)
-              → FormSays names (alternative_only s) ByName (said q)
+          by_flat : (s : FlatForm T)
+              → FormSays (keys p) (alternative_only s) (of_kind ByName) (says p)
+              → FormSays names (alternative_only s) (of_kind ByName) (said q)
           by_flat not_flat h = tt
           by_flat (alternative r value) h = (refl, λ o v m. into (o ∷ []) v (h.1 o v m))
           by_flat (single k r group gap) h = tt
@@ -366,9 +373,10 @@ module _ {P Q T : Type 0} (keys : P → List Names) (words : P → List (List �
       -- of what stands before and of more, by the cells
       rest_cells : (said : Q → CellsValue T) (own : List Names) (heard : List (List ℕ))
           (before : ProgramForm T) (ps : List P)
-          → ProgramFormSays names before ByName (of_cells said) q
+          → ProgramFormSays names before (of_kind ByName) (of_cells said) q
           → EachAgrees agrees ps → ((p : P) → Contains ps p → IsSaid (says p) (said q))
-          → ProgramFormSays names (program_rest keys words form own heard before ps) ByName
+          → ProgramFormSays names (program_rest keys words form own heard before ps)
+          (of_kind ByName)
           (of_cells said) q
       rest_cells said own heard before [] h agree into = h
       rest_cells said own heard before (p ∷ ps) h agree into =
@@ -381,7 +389,7 @@ module _ {P Q T : Type 0} (keys : P → List Names) (words : P → List (List �
       -- the first of them
       first_cells : (said : Q → CellsValue T) (p : P) (s : ProgramForm T)
           → ProgramFormSays (keys p) s (kind p) (of_cells says) p → IsSaid (says p) (said q)
-          → ProgramFormSays names (first_only s) ByName (of_cells said) q
+          → ProgramFormSays names (first_only s) (of_kind ByName) (of_cells said) q
       first_cells said p no_program h into = tt
       first_cells said p (plain wide s) h into = absurd h
       first_cells said p (commands r value) h into = λ cs v c. into cs v (h cs v c)
@@ -392,14 +400,14 @@ module _ {P Q T : Type 0} (keys : P → List Names) (words : P → List (List �
   pub program_choices_says : (parsers : Q → List P) (said : ProgramSaid P T)
       → ((p : P) → agrees p → ProgramSays (keys p) (form p) (kind p) said p)
       → EachAgrees agrees (parsers q)
-      → ProgramSays names (program_choices keys words form (parsers q)) ByName
+      → ProgramSays names (program_choices keys words form (parsers q)) (of_kind ByName)
       (said_choices parsers said) q
   program_choices_says parsers said each agree =
       record { by = by_said said (λ p a. (each p a).by) }
     where
       by_said : (said : ProgramSaid P T)
           → ((p : P) → agrees p → ProgramFormSays (keys p) (form p) (kind p) said p)
-          → ProgramFormSays names (program_choices keys words form (parsers q)) ByName
+          → ProgramFormSays names (program_choices keys words form (parsers q)) (of_kind ByName)
           (said_choices parsers said) q
       by_said (of_pieces said) each = by_list (parsers q) agree (λ p there os v m.
           record { parser = p; among = there; told = m })
@@ -407,7 +415,7 @@ module _ {P Q T : Type 0} (keys : P → List Names) (words : P → List (List �
           by_list : (ps : List P) → EachAgrees agrees ps
               → ((p : P) → Contains ps p → (os : List LinePiece) (v : T) → said p os v
               → OneOfSays said (parsers q) os v)
-              → ProgramFormSays names (program_choices keys words form ps) ByName
+              → ProgramFormSays names (program_choices keys words form ps) (of_kind ByName)
               (of_pieces (λ (q : Q). OneOfSays said (parsers q))) q
           by_list [] agree into = tt
           by_list (p ∷ ps) agree into =
@@ -421,7 +429,7 @@ module _ {P Q T : Type 0} (keys : P → List Names) (words : P → List (List �
         where
           by_list : (ps : List P) → EachAgrees agrees ps
               → ((p : P) → Contains ps p → IsSaid (said p) (OneOfCells said (parsers q)))
-              → ProgramFormSays names (program_choices keys words form ps) ByName
+              → ProgramFormSays names (program_choices keys words form ps) (of_kind ByName)
               (of_cells (λ (q : Q). OneOfCells said (parsers q))) q
           by_list [] agree into = tt
           by_list (p ∷ ps) agree into =
@@ -435,7 +443,7 @@ module _ {P Q T : Type 0} (keys : P → List Names) (words : P → List (List �
 
 -- the last field
 pub program_alone_says : {P Q T : Type 0} (last : Q → P) (q : Q) (outcome : Outcome T)
-    (kind : P → FieldKind) (names : P → List Names) (words : List (List ℕ)) {s : ProgramForm T}
+    (kind : P → SaidKind) (names : P → List Names) (words : List (List ℕ)) {s : ProgramForm T}
     {said : ProgramSaid P T} → ProgramFormLaw outcome (names (last q)) words s
     → ProgramSays (names (last q)) s (kind (last q)) said (last q)
     → ProgramFieldsSay (names (last q)) (program_alone (program_field s))
@@ -470,7 +478,7 @@ fields_if_say names false s said p h = tt
 
 -- a field before others
 module _ {P Q R A B : Type 0} (first : R → P) (rest : R → Q) (r : R) (outcome : Outcome A)
-    (behind : Outcome B) (kind : P → FieldKind) (names : P → List Names) (words : List (List ℕ))
+    (behind : Outcome B) (kind : P → SaidKind) (names : P → List Names) (words : List (List ℕ))
     (others : List Names) where
   -- a named one before what ends in commands
   before_says : (said : P → Said A) (more : Q → CellsValue B) (wide : Bool) (s : FlatForm A)
@@ -548,7 +556,7 @@ pub program_con_says : {P Q A B : Type 0} (fields : Q → P) (q : Q) (outcome : 
     (names : P → List Names) (makes : Q → Closure A B) {s : ProgramForm A}
     {said : ProgramFieldsSaid P A} → ProgramFormLaw outcome (names (fields q)) [] s
     → ProgramFieldsSay (names (fields q)) s said (fields q)
-    → ProgramSays (names (fields q)) (program_con (makes q) s) ByName
+    → ProgramSays (names (fields q)) (program_con (makes q) s) (program_kind s)
     (said_con fields names makes said) q
 program_con_says {P} {Q} {A} {B} fields q outcome names makes {s} {said} law g =
     record { by = by_form s said law g.by }
@@ -556,7 +564,7 @@ program_con_says {P} {Q} {A} {B} fields q outcome names makes {s} {said} law g =
     by_form : (s : ProgramForm A) (said : ProgramFieldsSaid P A)
         → ProgramFormLaw outcome (names (fields q)) [] s
         → ProgramFieldsFormSay (names (fields q)) s said (fields q)
-        → ProgramFormSays (names (fields q)) (program_con (makes q) s) ByName
+        → ProgramFormSays (names (fields q)) (program_con (makes q) s) (program_kind s)
         (said_con fields names makes said) q
     by_form no_program said law g = tt
     by_form (plain wide s) (of_all_pieces said) law g =
@@ -575,14 +583,14 @@ program_con_says {P} {Q} {A} {B} fields q outcome names makes {s} {said} law g =
 
 -- a value of a program says so of the cells
 pub program_says : {P T : Type 0} (outcome : Outcome T) (words : List (List ℕ))
-    (s : ProgramForm T) {kind : FieldKind} {names : List Names} {said : ProgramSaid P T} {p : P}
+    (s : ProgramForm T) {kind : SaidKind} {names : List Names} {said : ProgramSaid P T} {p : P}
     → ProgramFormLaw outcome names words s → ProgramSays names s kind said p → is_program s ≡ true
     → IsSaid (program_value s) (cells_said said p)
 program_says outcome words s {kind} {names} {said} {p} law h is =
     whole_says (λ q. q) p outcome names words s kind said p law h.by is
 
 -- a value of a flat record says so of the pieces
-pub flat_says : {P T : Type 0} (s : ProgramForm T) {kind : FieldKind} {names : List Names}
+pub flat_says : {P T : Type 0} (s : ProgramForm T) {kind : SaidKind} {names : List Names}
     {said : ProgramSaid P T}
     {p : P} → ProgramSays names s kind said p → Says names (flat_form s) kind (pieces_said said p)
 flat_says {P} {T} s {kind} {names} {said} {p} h = by_form s said h.by
@@ -597,7 +605,7 @@ flat_says {P} {T} s {kind} {names} {said} {p} h = by_form s said h.by
     by_form (before_commands r value) said h = record { by = tt }
 
 -- a key, by what its field says without a name in the environment and with some
-pub key_says : {P T : Type 0} {names : List Names} {kind : FieldKind}
+pub key_says : {P T : Type 0} {names : List Names} {kind : SaidKind}
     (told : P → Option (List ℕ) → Said T) (envs_of : P → List (List ℕ)) (p : P) (wide : Bool)
     (bare : FlatForm T) (by_text : Option (List ℕ) → FlatForm T) (variables : Variables)
     → Says names bare kind (told p None)

@@ -9,7 +9,7 @@ use Rattle.bpaf_exact.specs.Flat.{ByName, FieldTook, Gives, NoneOutside, cells}
 use Rattle.bpaf_exact.specs.FlatForm.{FormLaw}
 use Rattle.bpaf_exact.specs.Leaves.{pure_field}
 use Rattle.bpaf_exact.specs.Pieces.{Cells, LinePiece, TakesPieces, no_roles, pieces, takes_none}
-use Rattle.bpaf_exact.specs.Says.{Says}
+use Rattle.bpaf_exact.specs.Says.{Says, of_kind}
 use Rattle.bpaf_exact.proofs.Classes.{memory_class}
 use Rattle.bpaf_exact.proofs.FlatForm.{no_names}
 use Rattle.bpaf_exact.proofs.Records.{current_cells}
@@ -63,5 +63,5 @@ module _ (T : Type 0) (clones : T → T → Type 0) (kept : T) where
 
 -- its value says what it is, whatever the pieces are
 pub pure_says : {T : Type 0} {names : List Names} (given : T → Type 0)
-    → Says names (pure_field given) ByName (λ os v. given v)
+    → Says names (pure_field given) (of_kind ByName) (λ os v. given v)
 pure_says given = record { by = (refl, λ os v all h. h) }

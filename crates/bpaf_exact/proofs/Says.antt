@@ -11,7 +11,7 @@ use Rattle.bpaf_exact.specs.Flat.{back, both_reading}
 use Rattle.bpaf_exact.specs.Names.{Owns, are_all_apart}
 use Rattle.bpaf_exact.specs.Single.{Groups, Gap, FrontOf, Own, own_none, own_more, OwnList, listed}
 use Rattle.bpaf_exact.specs.Single.{listed_and_absent, only_absent, SingleValue, of_group, of_gap}
-use Rattle.bpaf_exact.specs.Single.{no_gap, repeated}
+use Rattle.bpaf_exact.specs.Single.{no_gap}
 use Rattle.bpaf_exact.specs.Wrappers.{Closure, OptionalValue, some_value, no_value, FallbackValue}
 use Rattle.bpaf_exact.specs.Wrappers.{own_value, kept_value}
 use Rattle.bpaf_exact.specs.Gathered.{LastOf}
@@ -29,6 +29,8 @@ use Rattle.bpaf_exact.specs.FlatForm.{flat_choice, alternative_only, flat_repeat
 use Rattle.bpaf_exact.specs.FlatForm.{flat_optional, flat_fallback, unless, inner_field, is_named}
 use Rattle.bpaf_exact.specs.FlatForm.{may_follow, product_roles}
 use Rattle.bpaf_exact.specs.FlatForm.{flat_both, flat_alone, flat_con, flat_record, product_reading}
+use Rattle.bpaf_exact.specs.Says.{SaidKind, form_kind, of_kind}
+use Rattle.bpaf_exact.specs.Says.{keyed, repeated_kind}
 use Rattle.bpaf_exact.specs.Says.{AllOwn, Fits, Said, FlagSays, says_present, says_absent}
 use Rattle.bpaf_exact.specs.Says.{says_variable, ArgumentSays, says_variable_text}
 use Rattle.bpaf_exact.specs.Says.{says_text, says_last_text, WordSays, EitherSays, says_this}
@@ -38,7 +40,9 @@ use Rattle.bpaf_exact.specs.Says.{says_in_turn, says_alone, LastSays, FieldsSaid
 use Rattle.bpaf_exact.specs.Says.{FormSays, Says, FieldsFormSays, FieldsSay, its_pieces}
 use Rattle.bpaf_exact.specs.Says.{words_after}
 use Rattle.bpaf_exact.proofs.Names.{apart_of_names}
-use Rattle.bpaf_exact.proofs.Sharing.{apart_none, each_own, first_fits, no_fits, own_fit, second_fits}
+use Rattle.bpaf_exact.proofs.Sharing.{mine_rest, others_fit, others_rest, rest_fit}
+use Rattle.bpaf_exact.proofs.Sharing.{apart_none, each_own, first_fits, no_fits, own_fit}
+use Rattle.bpaf_exact.proofs.Sharing.{second_fits}
 use Rattle.bpaf_exact.proofs.Sharing.{mine_keyed, others_unkeyed, mine_within, first_within}
 use Rattle.bpaf_exact.proofs.Sharing.{second_within, mine_of_others, mine_none, others_none}
 use Rattle.bpaf_exact.proofs.Sharing.{all_mine, others_both, none_behind}
@@ -75,7 +79,7 @@ module _ {T : Type 0} (clones : T → T → Type 0) (present : T) where
   -- with names in the environment
   pub variable_flag_says : {names : List Names} (key : Key) (absent : Option T)
       (set : Option (List ℕ))
-      → Says names (variable_flag clones key present absent set) ByName
+      → Says names (variable_flag clones key present absent set) (of_kind ByName)
       (FlagSays clones present absent set)
   variable_flag_says key absent set = record {
     by = (
@@ -87,7 +91,7 @@ module _ {T : Type 0} (clones : T → T → Type 0) (present : T) where
 
   -- without one
   pub flag_field_says : {names : List Names} (key : Key) (absent : Option T)
-      → Says names (flag_field clones key present absent) ByName
+      → Says names (flag_field clones key present absent) (of_kind ByName)
       (FlagSays clones present absent None)
   flag_field_says key None = record { by = (refl, present_piece) }
   flag_field_says key (Some a) = variable_flag_says key (Some a) None
@@ -125,7 +129,7 @@ module _ {T : Type 0} (means : List ℕ → T → Type 0) where
 
   -- with names in the environment
   pub variable_argument_says : {names : List Names} (argument : KeyWithValue)
-      (set : Option (List ℕ)) → Says names (variable_argument means argument set) ByName
+      (set : Option (List ℕ)) → Says names (variable_argument means argument set) (of_kind ByName)
       (ArgumentSays means argument.last set)
   variable_argument_says argument set = record {
     by = (refl, argument_group_says argument.last, argument_gap_says set);
@@ -133,11 +137,13 @@ module _ {T : Type 0} (means : List ℕ → T → Type 0) where
 
   -- without one
   pub argument_field_says : {names : List Names} (argument : KeyWithValue)
-      → Says names (argument_field means argument) ByName (ArgumentSays means argument.last None)
+      → Says names (argument_field means argument) (of_kind ByName)
+      (ArgumentSays means argument.last None)
   argument_field_says {names} argument = by_last argument.last
     where
       by_last : (last : Bool)
-          → Says names (argument_by means argument.named.names argument.adjacent last) ByName
+          → Says names (argument_by means argument.named.names argument.adjacent last)
+          (of_kind ByName)
           (ArgumentSays means last None)
       by_last false = record { by = (refl, pair_piece) }
       by_last true = record { by = (refl, argument_group_says true, λ v none. absurd none) }
@@ -152,7 +158,8 @@ OneWordSays {T = T} accepts means value =
 pub word_by_says : {T : Type 0} {names : List Names} (accepts : Bool → Bool)
     (means : List ℕ → T → Type 0)
     (value : LinePiece → T → Type 0) → OneWordSays accepts means value
-    → (stops : Bool) → Says names (word_by stops value) (OneWord stops) (WordSays accepts means)
+    → (stops : Bool) → Says names (word_by stops value) (of_kind (OneWord stops))
+    (WordSays accepts means)
 word_by_says accepts means value piece stops = record {
   by = (refl, front_says value (WordSays accepts means) piece, λ v none. absurd none);
 }
@@ -174,7 +181,7 @@ side_says accepts behind means accepted (Two k w) v m = absurd m
 -- Closures, and what changes only what is shown.
 
 -- with a closure round it
-pub closed_says : {A B : Type 0} (f : Closure A B) {s : FlatForm A} {kind : FieldKind}
+pub closed_says : {A B : Type 0} (f : Closure A B) {s : FlatForm A} {kind : SaidKind}
     {names : List Names}
     {said : Said A} → Says names s kind said → Says names (flat_closed f s) kind (MadeSays said f)
 closed_says {A} {B} f {s} {kind} {names} {said} h = record { by = by_form s h.by }
@@ -205,12 +212,12 @@ closed_says {A} {B} f {s} {kind} {names} {said} h = record { by = by_form s h.by
 -- Choices.
 
 -- of two, into what each says more of
-pub choice_into : {T : Type 0} (m n names own others : List Names) (kind : FieldKind)
+pub choice_into : {T : Type 0} (m n names own others : List Names) (kind : SaidKind)
     (said this that : Said T)
     → ((os : List LinePiece) (v : T) → this os v → said os v)
     → ((os : List LinePiece) (v : T) → that os v → said os v)
-    → (a b : FlatForm T) → FormSays m a ByName this → FormSays n b kind that
-    → FormSays names (flat_choice own others a b) ByName said
+    → (a b : FlatForm T) → FormSays m a (of_kind ByName) this → FormSays n b kind that
+    → FormSays names (flat_choice own others a b) (of_kind ByName) said
 choice_into {T} m n names own others kind said this that from_this from_that a b g h =
     by_names (are_all_apart own others) a b g h
   where
@@ -222,8 +229,9 @@ choice_into {T} m n names own others kind said this that from_this from_that a b
     piece q first second g h o v true m = from_this (o ∷ []) v (g o v m)
     piece q first second g h o v false m = from_that (o ∷ []) v (h o v m)
 
-    by_names : (apart : Bool) (a b : FlatForm T) → FormSays m a ByName this → FormSays n b kind that
-        → FormSays names (only_if apart (flat_either a b)) ByName said
+    by_names : (apart : Bool) (a b : FlatForm T) → FormSays m a (of_kind ByName) this
+        → FormSays n b kind that
+        → FormSays names (only_if apart (flat_either a b)) (of_kind ByName) said
     by_names false a b g h = tt
     by_names true not_flat b g h = tt
     by_names true (single k q group gap) b g h = tt
@@ -237,8 +245,8 @@ choice_into {T} m n names own others kind said this that from_this from_that a b
         (refl, λ o v m. piece q first second g.1 h.1 o v (is_own q o) m)
 
 -- a parser that says so by whichever kind is an alternative or says nothing
-pub by_name : {T : Type 0} (names : List Names) (s : FlatForm T) (kind : FieldKind) (said : Said T)
-    → FormSays names s kind said → FormSays names (alternative_only s) ByName said
+pub by_name : {T : Type 0} (names : List Names) (s : FlatForm T) (kind : SaidKind) (said : Said T)
+    → FormSays names s kind said → FormSays names (alternative_only s) (of_kind ByName) said
 by_name names not_flat kind said h = tt
 by_name names (alternative q value) kind said h = (refl, h.1)
 by_name names (single k q group gap) kind said h = tt
@@ -247,13 +255,13 @@ by_name names (product named q fields) kind said h = tt
 
 -- a choice is of alternatives alone
 only_alternatives : {T : Type 0} (names own others : List Names) (said : Said T) (a b : FlatForm T)
-    → FormSays names (flat_choice own others (alternative_only a) b) ByName said
-    → FormSays names (flat_choice own others a b) ByName said
+    → FormSays names (flat_choice own others (alternative_only a) b) (of_kind ByName) said
+    → FormSays names (flat_choice own others a b) (of_kind ByName) said
 only_alternatives {T} names own others said a b h = by_names (are_all_apart own others) a h
   where
     by_names : (apart : Bool) (a : FlatForm T)
-        → FormSays names (only_if apart (flat_either (alternative_only a) b)) ByName said
-        → FormSays names (only_if apart (flat_either a b)) ByName said
+        → FormSays names (only_if apart (flat_either (alternative_only a) b)) (of_kind ByName) said
+        → FormSays names (only_if apart (flat_either a b)) (of_kind ByName) said
     by_names false a h = tt
     by_names true not_flat h = tt
     by_names true (alternative q value) h = h
@@ -263,8 +271,8 @@ only_alternatives {T} names own others said a b h = by_names (are_all_apart own 
 
 -- of two
 pub choice_says : {T : Type 0} {m n names : List Names} (own others : List Names)
-    {a b : FlatForm T} {j k : FieldKind} {this that : Said T} → Says m a j this → Says n b k that
-    → Says names (flat_choice own others a b) ByName (EitherSays this that)
+    {a b : FlatForm T} {j k : SaidKind} {this that : Said T} → Says m a j this → Says n b k that
+    → Says names (flat_choice own others a b) (of_kind ByName) (EitherSays this that)
 choice_says {T} {m} {n} {names} own others {a} {b} {j} {k} {this} {that} g h = record {
   by = only_alternatives names own others (EitherSays this that) a b
       (choice_into m n names own others k (EitherSays this that) this that (λ os v m. says_this m)
@@ -342,7 +350,7 @@ owned outcome names (complete k q value) law = record { by = law.1 }
 owned outcome names (product named q fields) law = record { by = law.1 }
 
 -- as a field
-pub field_says : {T : Type 0} {s : FlatForm T} {kind : FieldKind} {names : List Names}
+pub field_says : {T : Type 0} {s : FlatForm T} {kind : SaidKind} {names : List Names}
     {said : Said T}
     → OwnsKeys names s → Says names s kind said → Says names (inner_field s) kind said
 field_says {T} {s} {kind} {names} {said} own h = record { by = by_form s own.by h.by }
@@ -359,11 +367,11 @@ field_says {T} {s} {kind} {names} {said} own h = record { by = by_form s own.by 
         (h.0, λ os v all. whole_says said group gap h.1 h.2 os v)
     by_form (complete k q value) own h = h
     by_form (product true q fields) own h =
-        (h.0, λ os v all. h.1 os v (own_fit q names own os all))
-    by_form (product false q fields) own h = tt
+        (h.0, λ os v all m. let fit = own_fit q names own os all in h.1 os os v fit fit m refl refl)
+    by_form (product false q fields) own h = h
 
 -- under `optional`
-pub optional_says : {T : Type 0} {s : FlatForm T} {kind : FieldKind} {names : List Names}
+pub optional_says : {T : Type 0} {s : FlatForm T} {kind : SaidKind} {names : List Names}
     {said : Said T}
     → Says names s kind said → Says names (flat_optional s) kind (OptionalSays said)
 optional_says {T} {s} {kind} {names} {said} h = record { by = by_form s h.by }
@@ -381,7 +389,7 @@ optional_says {T} {s} {kind} {names} {said} h = record { by = by_form s h.by }
     by_form (product named q fields) h = tt
 
 -- under a fallback
-pub fallback_says : {T : Type 0} (f : Closure (Unit {0}) T) {s : FlatForm T} {kind : FieldKind}
+pub fallback_says : {T : Type 0} (f : Closure (Unit {0}) T) {s : FlatForm T} {kind : SaidKind}
     {names : List Names}
     {said : Said T} → Says names s kind said
     → Says names (flat_fallback f s) kind (FallbackSays said (f.yes tt))
@@ -400,34 +408,34 @@ fallback_says {T} f {s} {kind} {names} {said} h = record { by = by_form s h.by }
     by_form (product named q fields) h = tt
 
 -- under a repeat, as a list
-repeat_says : {T : Type 0} {s : FlatForm T} {kind : FieldKind} {names : List Names} {said : Said T}
-    → Says names s kind said → Says names (flat_repeat s) (repeated kind) (RepeatSays said)
+repeat_says : {T : Type 0} {s : FlatForm T} {kind : SaidKind} {names : List Names} {said : Said T}
+    → Says names s kind said → Says names (flat_repeat s) (repeated_kind kind) (RepeatSays said)
 repeat_says {T} {s} {kind} {names} {said} h = record { by = by_form s h.by }
   where
     by_form : (s : FlatForm T) → FormSays names s kind said
-        → FormSays names (flat_repeat s) (repeated kind) (RepeatSays said)
+        → FormSays names (flat_repeat s) (repeated_kind kind) (RepeatSays said)
     by_form not_flat h = tt
     by_form (alternative q value) h = (
-      ap repeated h.0,
+      ap repeated_kind h.0,
       λ os v all. list_says said (FrontOf T value) (no_gap T) (piece_fronts said value h.1)
           (no_absent said value h.1) os v,
     )
     by_form (single k q group gap) h =
-        (ap repeated h.0, λ os v all. list_says said group gap h.1 h.2 os v)
+        (ap repeated_kind h.0, λ os v all. list_says said group gap h.1 h.2 os v)
     by_form (complete k q value) h = tt
     by_form (product named q fields) h = tt
 
 -- under `many`, `some`, `collect` or `count`
-pub listed_says : {T B : Type 0} (f : Closure (List T) B) {s : FlatForm T} {kind : FieldKind}
+pub listed_says : {T B : Type 0} (f : Closure (List T) B) {s : FlatForm T} {kind : SaidKind}
     {names : List Names}
     {said : Said T} → Says names s kind said
-    → Says names (flat_closed f (flat_repeat s)) (repeated kind) (MadeSays (RepeatSays said) f)
+    → Says names (flat_closed f (flat_repeat s)) (repeated_kind kind) (MadeSays (RepeatSays said) f)
 listed_says f h = closed_says f (repeat_says h)
 
 -- under `last`
-pub last_says : {T : Type 0} {s : FlatForm T} {kind : FieldKind} {names : List Names}
+pub last_says : {T : Type 0} {s : FlatForm T} {kind : SaidKind} {names : List Names}
     {said : Said T}
-    → Says names s kind said → Says names (flat_last s) (repeated kind) (LastSays said)
+    → Says names s kind said → Says names (flat_last s) (repeated_kind kind) (LastSays said)
 last_says {T} {s} {kind} {names} {said} h = record { by = by_form s h.by }
   where
     last_by : (group : Groups T) (gap : Gap T)
@@ -441,19 +449,20 @@ last_says {T} {s} {kind} {names} {said} h = record { by = by_form s h.by }
     }
 
     by_form : (s : FlatForm T) → FormSays names s kind said
-        → FormSays names (flat_last s) (repeated kind) (LastSays said)
+        → FormSays names (flat_last s) (repeated_kind kind) (LastSays said)
     by_form not_flat h = tt
     by_form (alternative q value) h = (
-      ap repeated h.0,
+      ap repeated_kind h.0,
       λ os v all. last_by (FrontOf T value) (no_gap T) (piece_fronts said value h.1)
           (no_absent said value h.1) os v,
     )
-    by_form (single k q group gap) h = (ap repeated h.0, λ os v all. last_by group gap h.1 h.2 os v)
+    by_form (single k q group gap) h =
+        (ap repeated_kind h.0, λ os v all. last_by group gap h.1 h.2 os v)
     by_form (complete k q value) h = tt
     by_form (product named q fields) h = tt
 
 -- without `catch`
-pub unless_says : {T : Type 0} (catch : Bool) {s : FlatForm T} {kind : FieldKind}
+pub unless_says : {T : Type 0} (catch : Bool) {s : FlatForm T} {kind : SaidKind}
     {names : List Names} {said : Said T}
     → Says names s kind said → Says names (unless catch s) kind said
 unless_says true h = record { by = tt }
@@ -469,10 +478,10 @@ field_owned outcome names (alternative q value) law = record { by = law.1 }
 field_owned outcome names (single k q group gap) law = record { by = law.1 }
 field_owned outcome names (complete k q value) law = record { by = law.1 }
 field_owned outcome names (product true q fields) law = record { by = law.1 }
-field_owned outcome names (product false q fields) law = record { by = tt }
+field_owned outcome names (product false q fields) law = record { by = law.1 }
 
 -- the last field
-pub alone_says : {T : Type 0} {names : List Names} {s : FlatForm T} {kind : FieldKind}
+pub alone_says : {T : Type 0} {names : List Names} {s : FlatForm T} {kind : SaidKind}
     {said : Said T} → OwnsKeys names s → Says names s kind said
     → FieldsSay names (flat_alone s) (λ os words v. said (its_pieces kind names os words) v)
 alone_says {T} {names} {s} {kind} {said} own_keys h =
@@ -484,7 +493,7 @@ alone_says {T} {names} {s} {kind} {said} own_keys h =
         → (whole os : List LinePiece) (v : T)
         → Fits names (either (keys k q) no_roles) whole → LastValue T k q value os v
         → mine (either (keys k q) no_roles) whole ≡ mine (either (keys k q) no_roles) os
-        → said (its_pieces k names whole (others (either (keys k q) no_roles) os)) v
+        → said (its_pieces (of_kind k) names whole (others (either (keys k q) no_roles) os)) v
     own ByName q value owned each whole os v fits m same =
         subst (λ z. said z v)
         (sym (mine_within q (either q no_roles) (first_within q no_roles) os)
@@ -509,8 +518,12 @@ alone_says {T} {names} {s} {kind} {said} own_keys h =
     by_form not_flat law h = tt
     by_form (alternative q value) law h = tt
     by_form (single k q group gap) law h = tt
-    by_form (product named q fields) law h = tt
-    by_form (complete k q value) law h = λ whole os v fits m same.
+    by_form (product true q fields) law h = tt
+    by_form (product false q fields) law h = λ whole os v fits fit m same.
+        subst (λ j. said (its_pieces j names whole (others q os)) v) (sym h.0)
+        (h.1 (keyed names whole ++ others q os) os v (rest_fit q names whole os fits fit) fit m
+        (mine_rest q names whole os fits ∙ same) (others_rest q names whole os fits))
+    by_form (complete k q value) law h = λ whole os v fits fit m same.
         subst (λ j. said (its_pieces j names whole (others (either (keys k q) no_roles) os)) v)
         (sym h.0)
         (own k q value law h.1 whole os v fits m same)
@@ -528,14 +541,14 @@ module _ {A B : Type 0} (own behind : List Names) (said : Said A) (rest_said : F
   abbrev KindSays : FieldKind → Type 0
   KindSays k =
       (whole os : List LinePiece) (v : A × B) → Fits (own ++ behind) (either (keys k q) r) whole
-      → (both_reading k q first fields).value os v
+      → Fits (own ++ behind) (either (keys k q) r) os → (both_reading k q first fields).value os v
       → mine (either (keys k q) r) whole ≡ mine (either (keys k q) r) os
-      → said (its_pieces k own whole (others (either (keys k q) r) os)) v.0
-      × rest_said whole (words_after k (others (either (keys k q) r) os)) v.1
+      → said (its_pieces (of_kind k) own whole (others (either (keys k q) r) os)) v.0
+      × rest_said whole (words_after (of_kind k) (others (either (keys k q) r) os)) v.1
 
   kind_says : (k : FieldKind) → FirstSays k → Owns (keys k q) own → may_follow k own behind ≡ true
       → KindSays k
-  kind_says ByName each owned may whole os v fits m same =
+  kind_says ByName each owned may whole os v fits fit m same =
       let apart = apart_of_names q r own behind owned owned_behind may in
       let both = either q r in (
         subst (λ z. said z v.0)
@@ -547,42 +560,46 @@ module _ {A B : Type 0} (own behind : List Names) (said : Said A) (rest_said : F
             (each (mine q os) v.0 (each_own q os) m.0),
         subst (λ z. rest_said whole z v.1) (others_both q r os)
             (rest_each whole (others q os) v.1
-            (second_fits q r own behind owned owned_behind may whole fits) m.1
+            (second_fits q r own behind owned owned_behind may whole fits)
+            (others_fit q r behind os (second_fits q r own behind owned owned_behind may os fit))
+            m.1
             (sym (mine_within r both (second_within q r) whole)
             ∙ (ap (mine r) same
             ∙ (mine_within r both (second_within q r) os
             ∙ sym (mine_of_others q r (λ k e. apart.right k e) os))))),
       )
-  kind_says (OneWord b) each owned may whole os v fits m same =
+  kind_says (OneWord b) each owned may whole os v fits fit m same =
       let none = none_behind r own behind owned_behind may in
       let left_to = others_none r none os in (
         subst (λ z. said (front (OneWord b) z) v.0) (sym left_to) (each (front (OneWord b) os) v.0
             tt m.0),
         subst (λ z. rest_said whole z v.1)
             (others_none r none (back (OneWord b) os) ∙ ap (back (OneWord b)) (sym left_to))
-            (rest_each whole (back (OneWord b) os) v.1 (no_fits r own behind may none whole) m.1
+            (rest_each whole (back (OneWord b) os) v.1 (no_fits r own behind may none whole)
+            (no_fits r own behind may none (back (OneWord b) os)) m.1
             (mine_none r none whole ∙ sym (mine_none r none (back (OneWord b) os)))),
       )
-  kind_says (EachWord b) each owned may whole os v fits m same =
+  kind_says (EachWord b) each owned may whole os v fits fit m same =
       let none = none_behind r own behind owned_behind may in
       let left_to = others_none r none os in (
         subst (λ z. said (front (EachWord b) z) v.0) (sym left_to) (each (front (EachWord b) os)
             v.0 tt m.0),
         subst (λ z. rest_said whole z v.1)
             (others_none r none (back (EachWord b) os) ∙ ap (back (EachWord b)) (sym left_to))
-            (rest_each whole (back (EachWord b) os) v.1 (no_fits r own behind may none whole) m.1
+            (rest_each whole (back (EachWord b) os) v.1 (no_fits r own behind may none whole)
+            (no_fits r own behind may none (back (EachWord b) os)) m.1
             (mine_none r none whole ∙ sym (mine_none r none (back (EachWord b) os)))),
       )
 
 -- what a field and those behind it say
-abbrev BothSaid : {A B : Type 0} → List Names → FieldKind → Said A → FieldsSaid B
+abbrev BothSaid : {A B : Type 0} → List Names → SaidKind → Said A → FieldsSaid B
     → FieldsSaid (A × B)
 BothSaid own kind said rest_said os words v =
     said (its_pieces kind own os words) v.0 × rest_said os (words_after kind words) v.1
 
 -- a field before others
 pub both_say : {A B : Type 0} {own behind : List Names} {a : FlatForm A} {s : FlatForm B}
-    {kind : FieldKind} {said : Said A} {rest_said : FieldsSaid B} → OwnsKeys own a
+    {kind : SaidKind} {said : Said A} {rest_said : FieldsSaid B} → OwnsKeys own a
     → OwnsKeys behind s → Says own a kind said → FieldsSay behind s rest_said
     → FieldsSay (own ++ behind) (flat_both own behind a s)
     (λ os words v.
@@ -591,7 +608,7 @@ both_say {A} {B} {own} {behind} {a} {s} {kind} {said} {rest_said} own_keys behin
     record { by = by_form a s own_keys.by behind_keys.by h.by g.by }
   where
     by_test : (k : FieldKind) (named : Bool) (q r : Roles) (first : List LinePiece → A → Type 0)
-        (fields : FieldsReading B) → Owns (keys k q) own → Owns r behind → kind ≡ k
+        (fields : FieldsReading B) → Owns (keys k q) own → Owns r behind → kind ≡ of_kind k
         → ((os : List LinePiece) (v : A) → AllOwn k q os → first os v → said os v)
         → FieldsFormSays behind (product named r fields) rest_said
         → (may : Bool) → may_follow k own behind ≡ may
@@ -600,12 +617,13 @@ both_say {A} {B} {own} {behind} {a} {s} {kind} {said} {rest_said} own_keys behin
         (both_reading k q first fields))) (BothSaid own kind said rest_said)
     by_test k named q r first fields owned owned_behind is each rest_each false may = tt
     by_test k named q r first fields owned owned_behind is each rest_each true may = λ whole os
-        v fits m same. subst
+        v fits fit m same. subst
         (λ j. said (its_pieces j own whole (others (either (keys k q) r) os)) v.0
         × rest_said whole (words_after j (others (either (keys k q) r) os)) v.1)
         (sym is)
-        (kind_says own behind said rest_said q r first fields owned_behind rest_each k each owned may
-        whole os v fits m same)
+        (kind_says own behind said rest_said q r first fields owned_behind rest_each k each owned
+        may
+        whole os v fits fit m same)
 
     by_form : (a : FlatForm A) (s : FlatForm B) → FormOwns own a
         → FormOwns behind s → FormSays own a kind said → FieldsFormSays behind s rest_said
@@ -625,28 +643,28 @@ both_say {A} {B} {own} {behind} {a} {s} {kind} {said} {rest_said} own_keys behin
 -- what a constructor makes of the values of fields
 pub con_says : {A B : Type 0} {names : List Names} {s : FlatForm A} {said : FieldsSaid A}
     (f : Closure A B) → OwnsKeys names s → FieldsSay names s said
-    → Says names (flat_con f s) ByName (RecordSays said names f)
+    → Says names (flat_con f s) (form_kind s) (RecordSays said names f)
 con_says {A} {B} {names} {s} {said} f own_keys g =
     record { by = by_form s own_keys.by g.by }
   where
     by_form : (s : FlatForm A) → FormOwns names s → FieldsFormSays names s said
-        → FormSays names (flat_con f s) ByName (RecordSays said names f)
+        → FormSays names (flat_con f s) (form_kind s) (RecordSays said names f)
     by_form not_flat law g = tt
     by_form (alternative q value) law g = tt
     by_form (single k q group gap) law g = tt
     by_form (complete k q value) law g = tt
     by_form (product named q fields) law g = (
       refl,
-      λ os v fits m. record {
+      λ whole os v fits fit m same other. record {
         from = m.from;
-        fields = subst (λ z. said os z m.from) (others_unkeyed q names os fits)
-            (g os os m.from fits m.read refl);
+        fields = subst (λ z. said whole z m.from) (sym other ∙ others_unkeyed q names whole fits)
+            (g whole os m.from fits fit m.read same);
         made = m.made;
       },
     )
 
 -- A value of a flat record says what its parser says of all pieces of the line.
-pub record_says : {T : Type 0} (s : FlatForm T) {kind : FieldKind} {names : List Names}
+pub record_says : {T : Type 0} (s : FlatForm T) {kind : SaidKind} {names : List Names}
     {said : Said T}
     → Says names s kind said
     → (os : List LinePiece) (v : T) → Fits names (product_roles (flat_record s)) os
@@ -676,4 +694,4 @@ record_says {T} s {kind} {names} {said} h = by_form s h.by
     by_form (single k q group gap) h os v fits m =
         all_own k q _ (λ os v all. whole_says said group gap h.1 h.2 os v) os v m
     by_form (complete k q value) h os v fits m = all_own k q value h.1 os v m
-    by_form (product named q fields) h os v fits m = h.1 os v fits m
+    by_form (product named q fields) h os v fits m = h.1 os os v fits fits m refl refl

@@ -283,3 +283,80 @@ no_fits r own (names ∷ behind) may none os = absurd cc
 pub apart_none : (names : List Names) → are_all_apart names [] ≡ true
 apart_none [] = refl
 apart_none (own ∷ names) = apart_none names
+
+-- Of a product with words, which stands last in another: the pieces that begin with its keys, and the
+-- words that are left to it.
+
+-- what is left of pieces without those of others fits as they do
+pub others_fit : (q r : Roles) (names : List Names) (os : List LinePiece) → Fits names r os
+    → Fits names r (others q os)
+others_fit q r names [] fit = tt
+others_fit q r names (o ∷ os) fit =
+    elim (is_own q o) as (λ b. Fits names r (if b then others q os else (o ∷ others q os)))
+    [ true ↦ others_fit q r names os fit.1 | false ↦ (fit.0, others_fit q r names os fit.1) ]
+
+-- so do those that it is told of
+pub rest_fit : (r : Roles) (names : List Names) (whole os : List LinePiece) → Fits names r whole
+    → Fits names r os → Fits names r (keyed names whole ++ others r os)
+rest_fit r names [] os fits fit = others_fit r r names os fit
+rest_fit r names (o ∷ whole) os fits fit =
+    elim (is_key_of_any names (first_item o)) as
+    (λ b. Fits names r ((if b then (o ∷ keyed names whole) else keyed names whole) ++ others r os)) [
+      | true ↦ (fits.0, rest_fit r names whole os fits.1 fit)
+      | false ↦ rest_fit r names whole os fits.1 fit
+    ]
+
+-- of what is left none is its own
+no_own_left : (r : Roles) (os : List LinePiece) → mine r (others r os) ≡ []
+no_own_left r [] = refl
+no_own_left r (o ∷ os) = by_own (is_own r o) refl (no_own_left r os)
+  where
+    by_own : (b : Bool) → is_own r o ≡ b → mine r (others r os) ≡ []
+        → mine r (if b then others r os else (o ∷ others r os)) ≡ []
+    by_own true e h = h
+    by_own false e h =
+        ap (λ z. if z then (o ∷ mine r (others r os)) else mine r (others r os)) e ∙ h
+
+-- and all of it stays left
+left_again : (r : Roles) (os : List LinePiece) → others r (others r os) ≡ others r os
+left_again r [] = refl
+left_again r (o ∷ os) = by_own (is_own r o) refl (left_again r os)
+  where
+    by_own : (b : Bool) → is_own r o ≡ b → others r (others r os) ≡ others r os
+        → others r (if b then others r os else (o ∷ others r os))
+        ≡ (if b then others r os else (o ∷ others r os))
+    by_own true e h = h
+    by_own false e h =
+        ap (λ z. if z then others r (others r os) else (o ∷ others r (others r os))) e
+        ∙ ap (λ z. o ∷ z) h
+
+-- its own are those of the whole line
+pub mine_rest : (r : Roles) (names : List Names) (whole os : List LinePiece) → Fits names r whole
+    → mine r (keyed names whole ++ others r os) ≡ mine r whole
+mine_rest r names [] os fits = no_own_left r os
+mine_rest r names (o ∷ whole) os fits =
+    by_key (is_key_of_any names (first_item o)) fits.0 (mine_rest r names whole os fits.1)
+  where
+    by_key : (b : Bool) → is_own r o ≡ b
+        → mine r (keyed names whole ++ others r os) ≡ mine r whole
+        → mine r ((if b then (o ∷ keyed names whole) else keyed names whole) ++ others r os)
+        ≡ (if is_own r o then (o ∷ mine r whole) else mine r whole)
+    by_key true e h = ap (λ z. if is_own r o then (o ∷ z) else z) h
+    by_key false e h =
+        h ∙ sym (ap (λ z. if z then (o ∷ mine r whole) else mine r whole) e)
+
+-- and those of others are the words that are left
+pub others_rest : (r : Roles) (names : List Names) (whole os : List LinePiece) → Fits names r whole
+    → others r (keyed names whole ++ others r os) ≡ others r os
+others_rest r names [] os fits = left_again r os
+others_rest r names (o ∷ whole) os fits =
+    by_key (is_key_of_any names (first_item o)) fits.0 (others_rest r names whole os fits.1)
+  where
+    by_key : (b : Bool) → is_own r o ≡ b
+        → others r (keyed names whole ++ others r os) ≡ others r os
+        → others r ((if b then (o ∷ keyed names whole) else keyed names whole) ++ others r os)
+        ≡ others r os
+    by_key true e h =
+        let more = keyed names whole ++ others r os in
+        ap (λ z. if z then others r more else (o ∷ others r more)) e ∙ h
+    by_key false e h = h

@@ -160,14 +160,14 @@ flat_field {T = T} (single k q group gap) = complete k q (SingleValue T group ga
 flat_field (complete k q value) = complete k q value
 flat_field (product named q fields) = not_flat
 
--- a field of a product, which may be a product of named fields too
+-- a field of a product, which may be a product too
 abbrev pub inner_field : {T : Type 0} → FlatForm T → FlatForm T
 inner_field not_flat = not_flat
 inner_field (alternative q value) = flat_field (alternative q value)
 inner_field (single k q group gap) = flat_field (single k q group gap)
 inner_field (complete k q value) = complete k q value
 inner_field (product true q fields) = complete ByName q fields.value
-inner_field (product false q fields) = not_flat
+inner_field (product false q fields) = product false q fields
 
 -- keys may stand after a field: those that are apart from its own; after a positional field none
 abbrev pub may_follow : FieldKind → List Names → List Names → Bool
@@ -188,10 +188,11 @@ flat_both own others (complete k q first) (product named r rest) =
     (product (is_named k && named) (either (keys k q) r) (both_reading k q first rest))
 flat_both _ _ _ _ = not_flat
 
--- the last field, or one alone
+-- the last field, a product with words too, or one alone
 abbrev pub flat_alone : {T : Type 0} → FlatForm T → FlatForm T
 flat_alone {T = T} (complete k q value) =
     product (is_named k) (either (keys k q) no_roles) (last_reading k q value)
+flat_alone (product false q fields) = product false q fields
 flat_alone _ = not_flat
 
 -- what a constructor makes of the fields' values

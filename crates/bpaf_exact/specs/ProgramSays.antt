@@ -5,7 +5,7 @@ use Rattle.std.specs.List.{Contains}
 use Rattle.bpaf_doc.specs.Names.{Names}
 use Rattle.bpaf_laws.specs.Command.{Called, opening_words}
 use Rattle.bpaf_laws.specs.Reading.{Outcome}
-use Rattle.bpaf_exact.specs.Flat.{FieldKind}
+use Rattle.bpaf_exact.specs.Flat.{ByName}
 use Rattle.bpaf_exact.specs.Names.{Owns}
 use Rattle.bpaf_exact.specs.Pieces.{Cells, Roles, LinePiece, Cut, pieces}
 use Rattle.bpaf_exact.specs.ProgramForm.{ProgramForm, no_program, plain, commands, left_out}
@@ -14,7 +14,7 @@ use Rattle.bpaf_exact.specs.Programs.{CellsValue, ChoiceValue, ClosedCells, Comm
 use Rattle.bpaf_exact.specs.Programs.{OptionalCommands, without}
 use Rattle.bpaf_exact.specs.Says.{EitherSays, FallbackSays, FieldsSaid, FieldsSay, LastSays}
 use Rattle.bpaf_exact.specs.Says.{MadeSays, OneOfSays, OptionalSays, RecordSays, RepeatSays, Said}
-use Rattle.bpaf_exact.specs.Says.{Says, its_pieces, words_after}
+use Rattle.bpaf_exact.specs.Says.{SaidKind, Says, form_kind, its_pieces, of_kind, words_after}
 use Rattle.bpaf_exact.specs.Wrappers.{Closure}
 
 -- what the value of each parser of a type says: of the pieces that are its own; or, where it ends in
@@ -122,7 +122,7 @@ pub record FieldThenSays {A B : Type 0} (names : List Names) (said : Said A) (re
   pub left : rest (without roles cs) v.1
 
 -- of the last field
-abbrev pub said_alone : {P Q T : Type 0} → (Q → P) → (P → FieldKind) → (P → List Names)
+abbrev pub said_alone : {P Q T : Type 0} → (Q → P) → (P → SaidKind) → (P → List Names)
     → ProgramSaid P T → ProgramFieldsSaid Q T
 said_alone last kind names (of_pieces said) =
     of_all_pieces (λ q os words v.
@@ -130,7 +130,7 @@ said_alone last kind names (of_pieces said) =
 said_alone last kind names (of_cells said) = of_all_cells (λ q. said (last q))
 
 -- of a field before others
-abbrev pub said_both : {P Q R A B : Type 0} → (R → P) → (R → Q) → (P → FieldKind)
+abbrev pub said_both : {P Q R A B : Type 0} → (R → P) → (R → Q) → (P → SaidKind)
     → (P → List Names) → ProgramSaid P A → ProgramFieldsSaid Q B → ProgramFieldsSaid R (A × B)
 said_both first rest kind names (of_pieces said) (of_all_pieces more) =
     of_all_pieces (λ r os words v.
@@ -145,6 +145,11 @@ abbrev pub fields_said_inside : {P Q V : Type 0} → (Q → P) → ProgramFields
     → ProgramFieldsSaid Q V
 fields_said_inside inside (of_all_pieces said) = of_all_pieces (λ q. said (inside q))
 fields_said_inside inside (of_all_cells said) = of_all_cells (λ q. said (inside q))
+
+-- of which pieces what a constructor makes of fields says something
+abbrev pub program_kind : {T : Type 0} → ProgramForm T → SaidKind
+program_kind (plain wide s) = form_kind s
+program_kind s = of_kind ByName
 
 -- of what a constructor makes of fields
 abbrev pub said_con : {P Q A B : Type 0} → (Q → P) → (P → List Names) → (Q → Closure A B)
@@ -161,7 +166,7 @@ abbrev pub IsSaid : {T : Type 0} → CellsValue T → CellsValue T → Type 0
 IsSaid {T = T} value said = (cs : Cells) (v : T) → value cs v → said cs v
 
 -- a value of this form does
-abbrev pub ProgramFormSays : {P T : Type 0} → List Names → ProgramForm T → FieldKind
+abbrev pub ProgramFormSays : {P T : Type 0} → List Names → ProgramForm T → SaidKind
     → ProgramSaid P T → P → Type 0
 ProgramFormSays names no_program kind said p = Unit {0}
 ProgramFormSays names (plain wide s) kind (of_pieces said) p = Says names s kind (said p)
@@ -175,7 +180,7 @@ ProgramFormSays names (before_commands r value) kind (of_cells said) p = IsSaid 
 
 -- a value of such a parser does
 pub record ProgramSays {P T : Type 0} (names : List Names) (form : ProgramForm T)
-    (kind : FieldKind) (said : ProgramSaid P T) (p : P) : Type 0 where
+    (kind : SaidKind) (said : ProgramSaid P T) (p : P) : Type 0 where
   pub by : ProgramFormSays names form kind said p
 
 -- values of fields of this form do

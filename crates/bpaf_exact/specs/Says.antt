@@ -1,6 +1,6 @@
 -- What the value of a field says of the pieces of a line that are its own, and what the values of a
 -- record say of the line, field by field.
-use Rattle.std.specs.Prelude.{◌≡◌, ℕ, Bool, true, List, [], ◌∷◌, ◌++◌, Option, Some, None}
+use Rattle.std.specs.Prelude.{◌≡◌, ℕ, Bool, true, false, List, [], ◌∷◌, ◌++◌, Option, Some, None}
 use Rattle.std.specs.Prelude.{if◌then◌else◌}
 use Rattle.std.specs.List.{Contains}
 use Rattle.bpaf_doc.specs.Names.{Names}
@@ -9,7 +9,7 @@ use Rattle.bpaf_items.specs.declared.arg.Arg.{Arg}
 use Rattle.bpaf_exact.specs.Pieces.{LinePiece, One, Roles, Two, is_own, mine, others}
 use Rattle.bpaf_exact.specs.Names.{is_key_of_any}
 use Rattle.bpaf_exact.specs.Flat.{FieldKind, ByName, front, back}
-use Rattle.bpaf_exact.specs.Single.{Own}
+use Rattle.bpaf_exact.specs.Single.{Own, repeated}
 use Rattle.bpaf_exact.specs.Leaves.{HaveValues}
 use Rattle.bpaf_exact.specs.Pieces.{stands_behind}
 use Rattle.bpaf_exact.specs.Wrappers.{Closure}
@@ -35,15 +35,38 @@ unkeyed names [] = []
 unkeyed names (o ∷ os) =
     if is_key_of_any names (first_item o) then unkeyed names os else (o ∷ unkeyed names os)
 
+-- of which pieces a field says something: those of a field of a kind; or those of a product with
+-- words, which stands last
+pub data SaidKind : Type 0 where
+  of_kind : FieldKind → SaidKind
+  of_rest : SaidKind
+
+-- that of a product
+abbrev pub product_kind : (named : Bool) → SaidKind
+product_kind true = of_kind ByName
+product_kind false = of_rest
+
+-- that of what is a product or a field by itself
+abbrev pub form_kind : {T : Type 0} → FlatForm T → SaidKind
+form_kind (product named r fields) = product_kind named
+form_kind s = of_kind ByName
+
+-- that of a repeat
+abbrev pub repeated_kind : SaidKind → SaidKind
+repeated_kind (of_kind k) = of_kind (repeated k)
+repeated_kind of_rest = of_rest
+
 -- a field's own of the pieces of a line, and of the words that the fields before it leave
-abbrev pub its_pieces : FieldKind → List Names → List LinePiece → List LinePiece → List LinePiece
-its_pieces ByName names os words = keyed names os
-its_pieces k names os words = front k words
+abbrev pub its_pieces : SaidKind → List Names → List LinePiece → List LinePiece → List LinePiece
+its_pieces (of_kind ByName) names os words = keyed names os
+its_pieces (of_kind k) names os words = front k words
+its_pieces of_rest names os words = keyed names os ++ words
 
 -- the words that it leaves to the fields behind it
-abbrev pub words_after : FieldKind → List LinePiece → List LinePiece
-words_after ByName words = words
-words_after k words = back k words
+abbrev pub words_after : SaidKind → List LinePiece → List LinePiece
+words_after (of_kind ByName) words = words
+words_after (of_kind k) words = back k words
+words_after of_rest words = []
 
 -- What values say.
 
@@ -162,21 +185,24 @@ Fits names r [] = Unit {0}
 Fits names r (o ∷ os) = (is_own r o ≡ is_key_of_any names (first_item o)) × Fits names r os
 
 -- a value of this form, of a parser with these keys, says so of the pieces that it is read off
-abbrev pub FormSays : {T : Type 0} → List Names → FlatForm T → FieldKind → Said T → Type 0
+abbrev pub FormSays : {T : Type 0} → List Names → FlatForm T → SaidKind → Said T → Type 0
 FormSays names not_flat kind said = Unit {0}
 FormSays {T = T} names (alternative q value) kind said =
-    (kind ≡ ByName) × ((o : LinePiece) (v : T) → value o v → said (o ∷ []) v)
+    (kind ≡ of_kind ByName) × ((o : LinePiece) (v : T) → value o v → said (o ∷ []) v)
 FormSays {T = T} names (single k q group gap) kind said =
-    (kind ≡ k) × ((os rest : List LinePiece) (v : T) → group os v rest → FrontSays said os v rest)
+    (kind ≡ of_kind k)
+    × ((os rest : List LinePiece) (v : T) → group os v rest → FrontSays said os v rest)
     × ((v : T) → gap.absent v → said [] v)
 FormSays {T = T} names (complete k q value) kind said =
-    (kind ≡ k) × ((os : List LinePiece) (v : T) → AllOwn k q os → value os v → said os v)
+    (kind ≡ of_kind k)
+    × ((os : List LinePiece) (v : T) → AllOwn k q os → value os v → said os v)
 FormSays {T = T} names (product named r fields) kind said =
-    (kind ≡ ByName)
-    × ((os : List LinePiece) (v : T) → Fits names r os → fields.value os v → said os v)
+    (kind ≡ product_kind named)
+    × ((whole os : List LinePiece) (v : T) → Fits names r whole → Fits names r os
+    → fields.value os v → mine r whole ≡ mine r os → others r whole ≡ others r os → said whole v)
 
 -- a value of such a parser does
-pub record Says {T : Type 0} (names : List Names) (form : FlatForm T) (kind : FieldKind)
+pub record Says {T : Type 0} (names : List Names) (form : FlatForm T) (kind : SaidKind)
     (said : Said T) : Type 0 where
   pub by : FormSays names form kind said
 
@@ -184,8 +210,8 @@ pub record Says {T : Type 0} (names : List Names) (form : FlatForm T) (kind : Fi
 -- all that begin with their keys
 abbrev pub FieldsFormSays : {V : Type 0} → List Names → FlatForm V → FieldsSaid V → Type 0
 FieldsFormSays {V = V} names (product named r fields) said =
-    (whole os : List LinePiece) (v : V) → Fits names r whole → fields.value os v
-    → mine r whole ≡ mine r os → said whole (others r os) v
+    (whole os : List LinePiece) (v : V) → Fits names r whole → Fits names r os
+    → fields.value os v → mine r whole ≡ mine r os → said whole (others r os) v
 FieldsFormSays names _ said = Unit {0}
 
 -- the values of fields do

@@ -122,7 +122,8 @@ alone_is not_flat = refl
 alone_is (alternative q value) = refl
 alone_is (single k q group gap) = refl
 alone_is (complete k q value) = ap Product (named_is k)
-alone_is (product named q fields) = refl
+alone_is (product true q fields) = refl
+alone_is (product false q fields) = refl
 
 -- a constructor
 pub con_is : {A B : Type 0} (f : Closure A B) (s : FlatForm A)

@@ -16,7 +16,7 @@ use Rattle.bpaf_exact.specs.SameParts.{ShowsTheSame}
 use Rattle.bpaf_exact.specs.Variables.{WithVariables}
 use Rattle.bpaf_exact.proofs.ProgramForm.{runs_as_program}
 use Rattle.std.proofs.lemmas.Bool.{and_parts}
-use Rattle.bpaf_exact.specs.Flat.{FieldKind}
+use Rattle.bpaf_exact.specs.Says.{SaidKind}
 use Rattle.bpaf_exact.specs.ProgramSays.{ProgramSaid, ProgramSays, cells_said}
 use Rattle.bpaf_exact.proofs.ProgramSays.{program_says}
 use Rattle.bpaf_record.specs.Program.{AnswersAsProgram, IsProgramValueOf, TellsOfWords}
@@ -83,7 +83,7 @@ is_program_form form names info e = (and_parts (is_program form) _ e).0
 
 -- a value of an exact answer says what its parser says
 pub tells_of_words : {P T : Type 0} {describes : Shape → Type 0} {info : RunInfo}
-    {form : ProgramForm T} {kind : FieldKind} {said : ProgramSaid P T} {p : P}
+    {form : ProgramForm T} {kind : SaidKind} {said : ProgramSaid P T} {p : P}
     (outcome : Outcome T) {names : List Names} (words : List (List ℕ))
     → ProgramFormLaw outcome names words form → ProgramSays names form kind said p
     → is_program form ≡ true → {given : Given}

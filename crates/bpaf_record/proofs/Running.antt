@@ -16,7 +16,7 @@ use Rattle.bpaf.specs.Info.{RunInfo}
 use Rattle.bpaf.specs.Known.{IsLineContext}
 use Rattle.bpaf.specs.Run.{Runs, value, leftover, refused, ran, no_line as none_there}
 use Rattle.bpaf.specs.Run.{no_memory as wanted}
-use Rattle.bpaf_exact.specs.Flat.{FieldKind, FieldsLaw, FieldsReading}
+use Rattle.bpaf_exact.specs.Flat.{FieldsLaw, FieldsReading}
 use Rattle.bpaf_exact.specs.Pieces.{Cut, Roles}
 use Rattle.bpaf_exact.specs.Record.{RunRan, run_value, run_leftover, run_memory, run_refusal}
 use Rattle.bpaf_exact.specs.Record.{IsNoValue, IsAcceptedOrWant, IsExact, RecordValue, line_cells}
@@ -29,7 +29,7 @@ use Rattle.bpaf_exact.proofs.FlatForm.{record_law}
 use Rattle.bpaf_exact.proofs.Says.{record_says}
 use Rattle.bpaf_exact.specs.SameParts.{ShowsTheSame}
 use Rattle.bpaf_exact.specs.Variables.{Variables, WithVariables}
-use Rattle.bpaf_exact.specs.Says.{Said, Says}
+use Rattle.bpaf_exact.specs.Says.{Said, SaidKind, Says}
 use Rattle.bpaf_exact.proofs.FlatForm.{flat_record_law}
 use Rattle.bpaf_exact.proofs.ProgramForm.{record_owns}
 use Rattle.bpaf_exact.proofs.Sharing.{cut_fit}
@@ -204,7 +204,7 @@ is_flat_form form names info e = (and_parts (is_record form) _ e).0
 
 -- a value of an exact answer says what its parser says
 pub says_of_words : {T : Type 0} {describes : Shape → Type 0} {info : RunInfo} {form : FlatForm T}
-    {kind : FieldKind} {said : Said T} (outcome : Outcome T) {names : List Names}
+    {kind : SaidKind} {said : Said T} (outcome : Outcome T) {names : List Names}
     → is_record form ≡ true → FormLaw outcome names form → Says names form kind said
     → {given : Given} (r : Result T ParseFailure) → AnswersExactly T describes info form given r
     → IfOk r (SaysOfWords describes info form said given)

@@ -53,6 +53,7 @@ field_form Alternative = Complete Named
 field_form (Single kind) = Complete kind
 field_form (Complete kind) = Complete kind
 field_form (Product true) = Complete Named
+field_form (Product false) = Product false
 field_form _ = NotFlat
 
 -- it is named
@@ -60,9 +61,10 @@ abbrev pub is_named_kind : Kind → Bool
 is_named_kind Named = true
 is_named_kind Word = false
 
--- as the last field of a product
+-- as the last field of a product, which a product with words may be too
 abbrev pub alone_form : Form → Form
 alone_form (Complete kind) = Product (is_named_kind kind)
+alone_form (Product false) = Product false
 alone_form _ = NotFlat
 
 -- where a test holds

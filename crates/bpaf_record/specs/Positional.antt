@@ -13,7 +13,7 @@ use Rattle.bpaf_exact.specs.Leaves.{SideValue, WordValue, WordEval, word_by, wor
 use Rattle.bpaf_exact.specs.Leaves.{word_memory, word_missing, word_passed, word_read}
 use Rattle.bpaf_exact.specs.FlatForm.{FlatForm, FormLaw}
 use Rattle.bpaf_exact.specs.Pieces.{LinePiece, One, Two}
-use Rattle.bpaf_exact.specs.Says.{Says, WordSays}
+use Rattle.bpaf_exact.specs.Says.{Says, WordSays, of_kind}
 use Rattle.bpaf_exact.proofs.Says.{OneWordSays, side_says, word_by_says, word_says}
 use Rattle.bpaf_exact.proofs.Narrow.{narrower_form, no_more}
 use Rattle.bpaf_exact.proofs.Positionals.{word_by_law, word_is}
@@ -139,7 +139,7 @@ positional_field_law T means position metavar =
 
 -- its value says what its word's text means, and on which side it stands
 pub positional_says : {T : Type 0} (means : List ℕ → T → Type 0) (position : Position)
-    → Says [] (positional_field means position) (OneWord (stops_at position))
+    → Says [] (positional_field means position) (of_kind (OneWord (stops_at position)))
     (WordSays (accepts position) means)
 positional_says means position =
     word_by_says (accepts position) means (PositionValue means position) (says position)

@@ -19,6 +19,7 @@ impl<T: Drop, A: ProgramField<T>, B: ProgramField<T>> ProgramField<T> for ParseO
     ghost use Rattle.bpaf_exact.proofs.Environments.{choice_with};
     ghost use Rattle.std.specs.Prelude.{◌++◌};
     ghost use Rattle.bpaf_exact.specs.Flat.{ByName};
+    ghost use Rattle.bpaf_exact.specs.Says.{of_kind};
     ghost use Rattle.bpaf_exact.specs.ProgramForm.{program_choice};
     ghost use Rattle.bpaf_exact.specs.ProgramSays.{said_choice};
     ghost use Rattle.bpaf_exact.proofs.ProgramForm.{program_choice_law};
@@ -33,7 +34,7 @@ impl<T: Drop, A: ProgramField<T>, B: ProgramField<T>> ProgramField<T> for ParseO
         (A.words p.this) (B.words p.that) (A.program_form p.this variables)
         (B.program_form p.that variables) };
 
-    ghost kind = { λ p. ByName };
+    ghost kind = { λ p variables. of_kind ByName };
 
     ghost says = { λ variables. said_choice (λ p. p.this) (λ p. p.that) (A.says variables)
         (B.says variables) };
@@ -160,6 +161,7 @@ impl<T: Drop, P: ProgramField<T> + Drop> ProgramField<T> for ParseChoice<P> {
     ghost use Rattle.bpaf_exact.proofs.Variables.{kept};
     ghost use Rattle.bpaf_exact.proofs.Environments.{choices_with};
     ghost use Rattle.bpaf_exact.specs.Flat.{ByName};
+    ghost use Rattle.bpaf_exact.specs.Says.{of_kind};
     ghost use Rattle.bpaf_exact.specs.FlatForm.{EachAgrees};
     ghost use Rattle.bpaf_exact.specs.ProgramSays.{said_choices};
     ghost use Rattle.bpaf_exact.proofs.ProgramForm.{program_choices_law};
@@ -174,7 +176,7 @@ impl<T: Drop, P: ProgramField<T> + Drop> ProgramField<T> for ParseChoice<P> {
         program_choices (λ q. P.keys q true) P.words (λ q. P.program_form q variables)
         p.parsers.items };
 
-    ghost kind = { λ p. ByName };
+    ghost kind = { λ p variables. of_kind ByName };
 
     ghost says = { λ variables. said_choices (λ p. p.parsers.items) (P.says variables) };
 
@@ -201,8 +203,8 @@ impl<T: Drop, P: ProgramField<T> + Drop> ProgramField<T> for ParseChoice<P> {
     ghost shows = { λ p. choices_show P.describes P.shows p.parsers.items };
 
     ghost said = { λ p a variables. program_choices_says (λ q. P.keys q true) P.words
-        (λ q. P.program_form q variables) P.kind P.agrees p _ (λ p. p.parsers.items)
-        (P.says variables) (λ q b. P.said q b variables) a };
+        (λ q. P.program_form q variables) (λ q. P.kind q variables) P.agrees p _
+        (λ p. p.parsers.items) (P.says variables) (λ q b. P.said q b variables) a };
 }
 
 impl<T: Drop, P: FlatField<T> + Drop> FlatField<T> for ParseChoice<P> {}

@@ -25,8 +25,8 @@ pub trait CommandLine<T> {
     /// commands, or with the keys of help and version of the run that it stands in; no two commands
     /// of a choice share a word. A field may be hidden, a kept value, a key with names in the
     /// environment, an adjacent argument, a positional word with `strict` or `non_strict`; or a
-    /// product of named fields, or in the last place one that ends in commands, whose fields count
-    /// as those of the product that it stands in.
+    /// product of named fields, or in the last place one with positional words or one that ends in
+    /// commands, whose fields count as those of the product that it stands in.
     /// It takes no memory.
     fn is_program(&self) -> bool
         ensures { (variables : Variables) → result ≡ is_whole self.now variables };

@@ -14,6 +14,7 @@ impl<T: Drop, P: ProgramField<T>> ProgramField<T> for ParseCommand<T, P> {
     ghost use Rattle.bpaf_exact.specs.Variables.{WithVariables};
     ghost use Rattle.bpaf_laws.specs.Command.{CommandPart, opening_words};
     ghost use Rattle.bpaf_exact.specs.Flat.{ByName};
+    ghost use Rattle.bpaf_exact.specs.Says.{of_kind};
     ghost use Rattle.bpaf_exact.specs.ProgramForm.{program_command};
     ghost use Rattle.bpaf_exact.specs.ProgramSays.{said_command};
     ghost use Rattle.bpaf_exact.proofs.ProgramSays.{program_command_says};
@@ -28,7 +29,7 @@ impl<T: Drop, P: ProgramField<T>> ProgramField<T> for ParseCommand<T, P> {
     ghost program_form = { λ p variables. program_command p.adjacent
         (are_unusual (P.keys p.inner false) p.info) p.names (P.program_form p.inner variables) };
 
-    ghost kind = { λ p. ByName };
+    ghost kind = { λ p variables. of_kind ByName };
 
     ghost says = { λ variables. said_command (λ p. p.inner) (λ p. p.names) (P.says variables) };
 

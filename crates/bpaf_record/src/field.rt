@@ -12,9 +12,9 @@ pub trait ProgramField<T>: Parser<T> {
     ghost use Rattle.std.specs.Prelude.{Bool, true, ℕ, List};
     ghost use Rattle.bpaf_doc.specs.Names.{Names};
     ghost use Rattle.bpaf_exact.specs.SameParts.{ShowsTheSame};
-    ghost use Rattle.bpaf_exact.specs.Flat.{FieldKind};
     ghost use Rattle.bpaf_exact.specs.ProgramForm.{ProgramForm, ProgramFormLaw};
     ghost use Rattle.bpaf_exact.specs.ProgramSays.{ProgramSaid, ProgramSays};
+    ghost use Rattle.bpaf_exact.specs.Says.{SaidKind};
     ghost use Rattle.bpaf_exact.specs.Variables.{Variables, WithVariables};
     ghost use Rattle.bpaf_record.specs.Part.{part_of};
 
@@ -30,7 +30,7 @@ pub trait ProgramField<T>: Parser<T> {
     ghost program_form: { Self → Variables → ProgramForm T };
 
     /// Whether its pieces are keys or words, and how many of the words it takes.
-    ghost kind: { Self → FieldKind };
+    ghost kind: { Self → Variables → SaidKind };
 
     /// What its value says of the pieces that are its own, or of all where it is a record; or of
     /// the cells of its scope, where it ends in commands.
@@ -62,7 +62,7 @@ pub trait ProgramField<T>: Parser<T> {
 
     /// Its value says so.
     ghost said: { (p : Self) → agrees p → (variables : Variables)
-        → ProgramSays (keys p true) (program_form p variables) (kind p) (says variables) p };
+        → ProgramSays (keys p true) (program_form p variables) (kind p variables) (says variables) p };
 }
 
 /// The mark of a parser that may be a field of a flat record, or a flat record itself. It has no

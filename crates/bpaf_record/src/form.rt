@@ -109,11 +109,12 @@ impl Form {
         match self {
             Form::Alternative | Form::Product { named: true } => Form::Complete(Kind::Named),
             Form::Single(kind) | Form::Complete(kind) => Form::Complete(kind),
-            Form::NotFlat | Form::Product { named: false } => Form::NotFlat,
+            Form::Product { named: false } => self,
+            Form::NotFlat => Form::NotFlat,
         }
     }
 
-    /// As the last field of a product.
+    /// As the last field of a product, which a product with words may be too.
     pub(crate) fn alone(self) -> Form
         ensures { result ≡ alone_form self }
     {
@@ -121,6 +122,7 @@ impl Form {
             Form::Complete(kind) => Form::Product {
                 named: kind.is_named(),
             },
+            Form::Product { named: false } => self,
             _ => Form::NotFlat,
         }
     }

@@ -48,21 +48,21 @@ impl<
 
     ghost keeps = { λ p a variables. keep_inside (λ q. q.fields) p
         (keep_before variables (λ q. q.first) (λ q. q.rest) p.fields _
-        (kept_variables (A.lawful p.fields.first)) A.kind (λ q. A.keys q true)
+        (kept_variables (A.lawful p.fields.first)) (λ q. A.kind q variables) (λ q. A.keys q true)
         (A.words p.fields.first) _ (A.says variables)
         (A.law p.fields.first a.0 variables) (A.said p.fields.first a.0 variables)
         (keep_before variables (λ q. q.first) (λ q. q.rest) p.fields.rest _
-        (kept_variables (B.lawful p.fields.rest.first)) B.kind (λ q. B.keys q true)
-        (B.words p.fields.rest.first) _ (B.says variables)
+        (kept_variables (B.lawful p.fields.rest.first)) (λ q. B.kind q variables)
+        (λ q. B.keys q true) (B.words p.fields.rest.first) _ (B.says variables)
         (B.law p.fields.rest.first a.1.0 variables) (B.said p.fields.rest.first a.1.0 variables)
         (keep_before variables (λ q. q.first) (λ q. q.rest) p.fields.rest.rest _
-        (kept_variables (C.lawful p.fields.rest.rest.first)) C.kind (λ q. C.keys q true)
-        (C.words p.fields.rest.rest.first) _ (C.says variables)
+        (kept_variables (C.lawful p.fields.rest.rest.first)) (λ q. C.kind q variables)
+        (λ q. C.keys q true) (C.words p.fields.rest.rest.first) _ (C.says variables)
         (C.law p.fields.rest.rest.first a.1.1.0 variables)
         (C.said p.fields.rest.rest.first a.1.1.0 variables)
         (keep_before variables (λ q. q.first) (λ q. q.rest) p.fields.rest.rest.rest _
-        (kept_variables (D.lawful p.fields.rest.rest.rest.first)) D.kind (λ q. D.keys q true)
-        (D.words p.fields.rest.rest.rest.first) _ (D.says variables)
+        (kept_variables (D.lawful p.fields.rest.rest.rest.first)) (λ q. D.kind q variables)
+        (λ q. D.keys q true) (D.words p.fields.rest.rest.rest.first) _ (D.says variables)
         (D.law p.fields.rest.rest.rest.first a.1.1.1.0 variables)
         (D.said p.fields.rest.rest.rest.first a.1.1.1.0 variables)
         (R.keeps p.fields.rest.rest.rest.rest a.1.1.1.1 variables))))) };

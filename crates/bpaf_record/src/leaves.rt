@@ -12,6 +12,7 @@ use bpaf::{FromText, ParsePositional, Position};
 /// With a name in the environment it may stand in a program, but in no flat record.
 impl<T: Clone> ProgramField<T> for ParseFlag<T> {
     ghost use Rattle.bpaf_exact.specs.Flat.{ByName};
+    ghost use Rattle.bpaf_exact.specs.Says.{of_kind};
     ghost use Rattle.bpaf_exact.specs.Says.{FlagSays};
     ghost use Rattle.bpaf_exact.proofs.ProgramSays.{key_says};
     ghost use Rattle.bpaf_exact.proofs.Says.{flag_field_says, variable_flag_says};
@@ -31,7 +32,7 @@ impl<T: Clone> ProgramField<T> for ParseFlag<T> {
     ghost program_form = { λ p variables.
         flag_form T.is_clone p.named p.present p.absent variables };
 
-    ghost kind = { λ p. ByName };
+    ghost kind = { λ p variables. of_kind ByName };
 
     ghost says = { λ variables. of_pieces (λ p.
         FlagSays T.is_clone p.present p.absent (first_set variables p.named.envs)) };
@@ -75,6 +76,7 @@ impl<T: Clone> FlatField<T> for ParseFlag<T> {}
 /// record. With such a name or `take_last` it is a field by itself, and no alternative of a choice.
 impl<T: FromText> ProgramField<T> for ParseArgument<T> {
     ghost use Rattle.bpaf_exact.specs.Flat.{ByName};
+    ghost use Rattle.bpaf_exact.specs.Says.{of_kind};
     ghost use Rattle.bpaf_exact.specs.Says.{ArgumentSays};
     ghost use Rattle.bpaf_exact.proofs.ProgramSays.{key_says};
     ghost use Rattle.bpaf_exact.proofs.Says.{argument_field_says, variable_argument_says};
@@ -93,7 +95,7 @@ impl<T: FromText> ProgramField<T> for ParseArgument<T> {
 
     ghost program_form = { λ p variables. argument_form T.means p variables };
 
-    ghost kind = { λ p. ByName };
+    ghost kind = { λ p variables. of_kind ByName };
 
     ghost says = { λ variables. of_pieces (λ p.
         ArgumentSays T.means p.last (first_set variables p.named.envs)) };
@@ -135,6 +137,7 @@ impl<T: FromText> FlatField<T> for ParseArgument<T> {}
 impl<T: FromText> ProgramField<T> for ParsePositional<T> {
     ghost use Rattle.bpaf_exact.proofs.Variables.{program_with};
     ghost use Rattle.bpaf_exact.specs.Flat.{OneWord};
+    ghost use Rattle.bpaf_exact.specs.Says.{of_kind};
     ghost use Rattle.bpaf_exact.specs.Says.{WordSays};
     ghost use Rattle.bpaf.specs.Positional.{accepts};
     ghost use Rattle.bpaf_record.specs.Positional.{is_sided, positional_says, positional_field};
@@ -151,7 +154,7 @@ impl<T: FromText> ProgramField<T> for ParsePositional<T> {
     ghost program_form = { λ p variables. plain (is_sided p.position)
         (positional_field T.means p.position) };
 
-    ghost kind = { λ p. OneWord (stops_at p.position) };
+    ghost kind = { λ p variables. of_kind (OneWord (stops_at p.position)) };
 
     ghost says = { λ variables. of_pieces (λ p. WordSays (accepts p.position) T.means) };
 
@@ -189,6 +192,7 @@ impl<T: Clone> ProgramField<T> for ParsePure<T> {
     ghost use Rattle.bpaf_exact.proofs.Variables.{program_with};
     ghost use Rattle.bpaf_doc.specs.Shape.{Skip};
     ghost use Rattle.bpaf_exact.specs.Flat.{ByName};
+    ghost use Rattle.bpaf_exact.specs.Says.{of_kind};
     ghost use Rattle.bpaf_exact.specs.Leaves.{pure_field};
     ghost use Rattle.bpaf_exact.specs.ProgramForm.{plain};
     ghost use Rattle.bpaf_exact.specs.ProgramSays.{of_pieces};
@@ -201,7 +205,7 @@ impl<T: Clone> ProgramField<T> for ParsePure<T> {
 
     ghost program_form = { λ p variables. plain true (pure_field (T.is_clone p.value)) };
 
-    ghost kind = { λ p. ByName };
+    ghost kind = { λ p variables. of_kind ByName };
 
     ghost says = { λ variables. of_pieces (λ p os v. T.is_clone p.value v) };
 

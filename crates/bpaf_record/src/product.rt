@@ -21,8 +21,8 @@ impl<T: Drop, A: ProgramField<T>> ProgramFields<T> for Last<A> {
     ghost program_form = { λ p variables. program_alone
         (program_field (A.program_form p.last variables)) };
 
-    ghost says = { λ variables. said_alone (λ p. p.last) A.kind (λ q. A.keys q true)
-        (A.says variables) };
+    ghost says = { λ variables. said_alone (λ p. p.last) (λ q. A.kind q variables)
+        (λ q. A.keys q true) (A.says variables) };
 
     ghost agrees = { λ p. A.agrees p.last };
 
@@ -36,8 +36,9 @@ impl<T: Drop, A: ProgramField<T>> ProgramFields<T> for Last<A> {
     }
 
     ghost keeps = { λ p a variables. keep_last (λ q. q.last) p
-        (WithVariables variables (A.outcome p.last)) A.kind (λ q. A.keys q true) (A.words p.last) _
-        (A.says variables) (A.law p.last a variables) (A.said p.last a variables) };
+        (WithVariables variables (A.outcome p.last)) (λ q. A.kind q variables)
+        (λ q. A.keys q true) (A.words p.last) _ (A.says variables)
+        (A.law p.last a variables) (A.said p.last a variables) };
 
     ghost shows = { λ p. last_shows (A.shows p.last) };
 }
@@ -59,9 +60,8 @@ impl<T: Drop, V, A: ProgramField<T>, R: ProgramFields<V>> ProgramFields<(T, V)> 
     ghost program_form = { λ p variables. program_both (A.keys p.first true) (R.keys p.rest true)
         (program_field (A.program_form p.first variables)) (R.program_form p.rest variables) };
 
-    ghost says = { λ variables. said_both (λ p. p.first) (λ p. p.rest) A.kind (λ q. A.keys q true)
-        (A.says variables)
-        (R.says variables) };
+    ghost says = { λ variables. said_both (λ p. p.first) (λ p. p.rest)
+        (λ q. A.kind q variables) (λ q. A.keys q true) (A.says variables) (R.says variables) };
 
     ghost agrees = { λ p. A.agrees p.first × R.agrees p.rest };
 
@@ -84,8 +84,9 @@ impl<T: Drop, V, A: ProgramField<T>, R: ProgramFields<V>> ProgramFields<(T, V)> 
     }
 
     ghost keeps = { λ p a variables. keep_before variables (λ q. q.first) (λ q. q.rest) p _
-        (kept_variables (A.lawful p.first)) A.kind (λ q. A.keys q true) (A.words p.first) _
-        (A.says variables) (A.law p.first a.0 variables) (A.said p.first a.0 variables)
+        (kept_variables (A.lawful p.first)) (λ q. A.kind q variables) (λ q. A.keys q true)
+        (A.words p.first) _ (A.says variables)
+        (A.law p.first a.0 variables) (A.said p.first a.0 variables)
         (R.keeps p.rest a.1 variables) };
 
     ghost shows = { λ p. both_show (A.shows p.first) (R.shows p.rest) };
@@ -97,9 +98,8 @@ impl<V, T, P: ProgramFields<V>, F: Fn(V) -> T> ProgramField<T> for ParseCon<V, P
     ghost use Rattle.bpaf_exact.specs.Variables.{WithVariables};
     ghost use Rattle.bpaf_exact.proofs.Variables.{kept};
     ghost use Rattle.bpaf_exact.proofs.Environments.{product_with};
-    ghost use Rattle.bpaf_exact.specs.Flat.{ByName};
     ghost use Rattle.bpaf_exact.specs.ProgramForm.{program_con};
-    ghost use Rattle.bpaf_exact.specs.ProgramSays.{said_con};
+    ghost use Rattle.bpaf_exact.specs.ProgramSays.{program_kind, said_con};
     ghost use Rattle.bpaf_exact.specs.Wrappers.{map_closure};
     ghost use Rattle.bpaf_exact.proofs.ProgramForm.{program_con_law};
     ghost use Rattle.bpaf_exact.proofs.ProgramSays.{program_con_says};
@@ -112,7 +112,7 @@ impl<V, T, P: ProgramFields<V>, F: Fn(V) -> T> ProgramField<T> for ParseCon<V, P
     ghost program_form = { λ p variables.
         program_con (map_closure (λ x y. F.post p.make x y)) (P.program_form p.fields variables) };
 
-    ghost kind = { λ p. ByName };
+    ghost kind = { λ p variables. program_kind (P.program_form p.fields variables) };
 
     ghost says = { λ variables. said_con (λ p. p.fields) (λ q. P.keys q true)
         (λ p. map_closure (λ x y. F.post p.make x y)) (P.says variables) };

@@ -12,7 +12,7 @@ use bpaf::parsers::{ParseCollect, ParseCount, ParseLast, ParseMany, ParseSome};
 impl<T: Drop, P: ProgramField<T>> ProgramField<Vec<T>> for ParseMany<P> {
     ghost use Rattle.bpaf_exact.proofs.Variables.{kept};
     ghost use Rattle.bpaf_exact.proofs.Environments.{kept_variables, many_with};
-    ghost use Rattle.bpaf_exact.specs.Single.{repeated};
+    ghost use Rattle.bpaf_exact.specs.Says.{repeated_kind};
     ghost use Rattle.bpaf_exact.specs.Gathered.{list_closure};
     ghost use Rattle.bpaf_exact.proofs.SameParts.{many_shows};
     ghost use Rattle.bpaf_exact.specs.ProgramForm.{program_repeat};
@@ -27,7 +27,7 @@ impl<T: Drop, P: ProgramField<T>> ProgramField<Vec<T>> for ParseMany<P> {
     ghost program_form = { λ p variables. program_repeat p.catch (list_closure T)
         (P.program_form p.inner variables) };
 
-    ghost kind = { λ p. repeated (P.kind p.inner) };
+    ghost kind = { λ p variables. repeated_kind (P.kind p.inner variables) };
 
     ghost says = { λ variables. said_repeat (λ p. p.inner) (list_closure T) (P.says variables) };
 
@@ -64,7 +64,7 @@ impl<T: Drop, P: FlatField<T>> FlatField<Vec<T>> for ParseMany<P> {}
 impl<'m, T: Drop, P: ProgramField<T>> ProgramField<Vec<T>> for ParseSome<'m, P> {
     ghost use Rattle.bpaf_exact.proofs.Variables.{kept};
     ghost use Rattle.bpaf_exact.proofs.Environments.{kept_variables, some_with};
-    ghost use Rattle.bpaf_exact.specs.Single.{repeated};
+    ghost use Rattle.bpaf_exact.specs.Says.{repeated_kind};
     ghost use Rattle.bpaf_exact.specs.Gathered.{some_closure};
     ghost use Rattle.bpaf_exact.proofs.SameParts.{some_shows};
     ghost use Rattle.bpaf_exact.specs.ProgramForm.{program_repeat};
@@ -79,7 +79,7 @@ impl<'m, T: Drop, P: ProgramField<T>> ProgramField<Vec<T>> for ParseSome<'m, P> 
     ghost program_form = { λ p variables. program_repeat p.catch (some_closure T)
         (P.program_form p.inner variables) };
 
-    ghost kind = { λ p. repeated (P.kind p.inner) };
+    ghost kind = { λ p variables. repeated_kind (P.kind p.inner variables) };
 
     ghost says = { λ variables. said_repeat (λ p. p.inner) (some_closure T) (P.says variables) };
 
@@ -116,7 +116,7 @@ impl<'m, T: Drop, P: FlatField<T>> FlatField<Vec<T>> for ParseSome<'m, P> {}
 impl<T: Drop, C: FromList<T> + Drop, P: ProgramField<T>> ProgramField<C> for ParseCollect<P, C, T> {
     ghost use Rattle.bpaf_exact.proofs.Variables.{kept};
     ghost use Rattle.bpaf_exact.proofs.Environments.{collect_with, kept_variables};
-    ghost use Rattle.bpaf_exact.specs.Single.{repeated};
+    ghost use Rattle.bpaf_exact.specs.Says.{repeated_kind};
     ghost use Rattle.bpaf_exact.specs.Gathered.{collect_closure};
     ghost use Rattle.bpaf_exact.proofs.SameParts.{many_shows};
     ghost use Rattle.bpaf_exact.specs.ProgramForm.{program_repeat};
@@ -131,7 +131,7 @@ impl<T: Drop, C: FromList<T> + Drop, P: ProgramField<T>> ProgramField<C> for Par
     ghost program_form = { λ p variables. program_repeat p.catch (collect_closure C.fills)
         (P.program_form p.inner variables) };
 
-    ghost kind = { λ p. repeated (P.kind p.inner) };
+    ghost kind = { λ p variables. repeated_kind (P.kind p.inner variables) };
 
     ghost says = { λ variables. said_repeat (λ p. p.inner) (collect_closure C.fills)
         (P.says variables) };
@@ -169,7 +169,7 @@ impl<T: Drop, C: FromList<T> + Drop, P: FlatField<T>> FlatField<C> for ParseColl
 impl<T: Drop, P: ProgramField<T>> ProgramField<usize> for ParseCount<P, T> {
     ghost use Rattle.bpaf_exact.proofs.Variables.{kept};
     ghost use Rattle.bpaf_exact.proofs.Environments.{count_with, kept_variables};
-    ghost use Rattle.bpaf_exact.specs.Single.{repeated};
+    ghost use Rattle.bpaf_exact.specs.Says.{repeated_kind};
     ghost use Rattle.bpaf_exact.specs.Gathered.{count_closure};
     ghost use Rattle.bpaf_exact.proofs.SameParts.{many_shows};
     ghost use Rattle.bpaf_exact.specs.ProgramForm.{program_repeat};
@@ -185,7 +185,7 @@ impl<T: Drop, P: ProgramField<T>> ProgramField<usize> for ParseCount<P, T> {
     ghost program_form = { λ p variables. program_repeat false (count_closure T)
         (P.program_form p.inner variables) };
 
-    ghost kind = { λ p. repeated (P.kind p.inner) };
+    ghost kind = { λ p variables. repeated_kind (P.kind p.inner variables) };
 
     ghost says = { λ variables. said_repeat (λ p. p.inner) (count_closure T) (P.says variables) };
 
@@ -220,7 +220,7 @@ impl<T: Drop, P: FlatField<T>> FlatField<usize> for ParseCount<P, T> {}
 impl<T: Drop, P: ProgramField<T>> ProgramField<T> for ParseLast<P> {
     ghost use Rattle.bpaf_exact.proofs.Variables.{kept};
     ghost use Rattle.bpaf_exact.proofs.Environments.{kept_variables, last_with};
-    ghost use Rattle.bpaf_exact.specs.Single.{repeated};
+    ghost use Rattle.bpaf_exact.specs.Says.{repeated_kind};
     ghost use Rattle.bpaf_exact.proofs.SameParts.{some_shows};
     ghost use Rattle.bpaf_exact.specs.ProgramForm.{program_last};
     ghost use Rattle.bpaf_exact.specs.ProgramSays.{said_last};
@@ -233,7 +233,7 @@ impl<T: Drop, P: ProgramField<T>> ProgramField<T> for ParseLast<P> {
 
     ghost program_form = { λ p variables. program_last (P.program_form p.inner variables) };
 
-    ghost kind = { λ p. repeated (P.kind p.inner) };
+    ghost kind = { λ p variables. repeated_kind (P.kind p.inner variables) };
 
     ghost says = { λ variables. said_last (λ p. p.inner) (P.says variables) };
 

@@ -136,6 +136,34 @@ fn a_product_with_a_command_runs_inside_another(rt: HostRuntime) -> Result<(), F
     compare_behind(alloc, construct!(quiet, build), PRODUCT_WITH_COMMAND)
 }
 
+const PRODUCT_WITH_WORDS: &[Row<'static>] = &[
+    ("-v a -q b", "ok (true, (true, [\"a\", \"b\"]))"),
+    ("a -- -v", "ok (false, (false, [\"a\", \"-v\"]))"),
+    ("", "ok (false, (false, []))"),
+    ("-v a -v", "refused"),
+    ("-q a -q", "refused"),
+    ("a --other", "refused"),
+];
+
+const WORDS_OF_PRODUCTS: &[Row<'static>] = &[
+    ("a b c d", "ok (\"a\", (\"b\", [\"c\", \"d\"]))"),
+    ("a b", "ok (\"a\", (\"b\", []))"),
+    ("a", "refused"),
+];
+
+#[test]
+fn products_with_words_run_inside_others(rt: HostRuntime) -> Result<(), Fail> {
+    let alloc = rt.alloc();
+    let quiet = switch(alloc, 'q')?;
+    let files = word().many();
+    compare_behind(alloc, construct!(quiet, files), PRODUCT_WITH_WORDS)?;
+    let first = word();
+    let second = word();
+    let files = word().many();
+    let rest = construct!(second, files);
+    compare(alloc, construct!(first, rest), WORDS_OF_PRODUCTS)
+}
+
 const COMMAND_CLOSED: &[Row<'static>] = &[
     ("", "ok None"),
     ("build -n 3", "ok Some(6)"),
