@@ -7,6 +7,7 @@ import re
 
 import crates
 
+CRATE = re.compile(r"`(bpaf\w*|bench(?:_\w+)?|(?:test|example)_\w+)`")
 NAME = re.compile(r"`((?:\w+::)*\w+)(?:\(\))?`")
 CLAUSES = re.compile(r"clauses? ((?:`\w+`(?:, | and )?)+)")
 CITED = re.compile(r"clause `(\w+)`(?: of [^(;,]*)? \(((?:`\w+`(?:, )?)+)(?:which [^)]*)?\)")
@@ -30,7 +31,7 @@ def stands_on():
         name = page.split("/")[1]
         text = " ".join(re.findall(r"(?m)^//! ?(.*)$", text_of(page)))
         for said in re.findall(r"It stands on (.*?)\. ", text):
-            for it in re.findall(r"`(bpaf\w*)`", re.split(r", beside|and hands on|, for which|;", said)[0]):
+            for it in CRATE.findall(re.split(r", beside|and hands on|, for which|;", said)[0]):
                 if it not in crates.needed([name]):
                     yield f"{page}: it doesn't stand on `{it}`"
 
@@ -60,7 +61,7 @@ def promises():
             name = crate.strip("`")
             text = "\n".join(of_crate(it) for it in re.findall(r"\w+", crate))
         for it in NAME.findall(contract):
-            if not it.startswith("bpaf") and any(part not in re.findall(r"\w+", text) for part in it.split("::")):
+            if not CRATE.fullmatch(f"`{it}`") and any(part not in re.findall(r"\w+", text) for part in it.split("::")):
                 yield f"docs/LAYERS.md: `{it}` doesn't stand in {name}"
         for clause, cited in CITED.findall(contract):
             said = with_members("\n".join(it for own, it in ENSURES.findall(text) if own == clause), text)
@@ -73,9 +74,9 @@ def definitions():
     """The names of docs/DEFINITIONS.md that don't stand in the file that is named."""
     for heading, (named, _, place) in rows_of("docs/DEFINITIONS.md"):
         files = re.findall(r"(?:specs|src|proofs)/[\w/]+\.(?:antt|rt)", place)
-        folders = re.findall(r"`(bpaf\w*)`", place) or re.findall(r"`(bpaf\w*)`", heading)
+        folders = CRATE.findall(place) or CRATE.findall(heading)
         texts = [text_of(path) for it in files for folder in folders for path in glob.glob(f"crates/{folder}/{it}")]
-        member = [it for it in NAME.findall(place) if not it.startswith("bpaf") and it != "Parser"]
+        member = [it for it in NAME.findall(place) if not CRATE.fullmatch(f"`{it}`") and it != "Parser"]
         for it in (member or NAME.findall(named)) if files else []:
             if not any(re.search(rf"\b{it}\b", text) for text in texts):
                 yield f"docs/DEFINITIONS.md: `{it}` doesn't stand in {place}"
@@ -85,7 +86,7 @@ def paragraphs():
     """The names in brackets of a paragraph that stand in none of the crates which it names."""
     for page in ("docs/EXACTNESS.md", "README.md"):
         for part in re.split(r"\n\s*\n", text_of(page)):
-            named = [it for it in re.findall(r"`(bpaf\w*)`", part) if os.path.isdir(f"crates/{it}")]
+            named = [it for it in CRATE.findall(part) if os.path.isdir(f"crates/{it}")]
             words = {*re.findall(r"\w+", "\n".join(map(of_crate, named)))}
             for said in re.findall(r"\(((?:`[\w:]+`(?:, )?)+)\)", part if named else ""):
                 for it in NAME.findall(said):

@@ -7,7 +7,7 @@ import glob
 import re
 
 ROWS = "docs/ROWS.md"
-DATA = "crates/bpaf_bench/data"
+DATA = "crates/bench/data"
 STRING = re.compile(r'(?s)r#"(?P<raw>.*?)"#|"(?P<text>(?:[^"\\]|\\.)*)"')
 ITEM = re.compile(r"(?m)^(?:#\[test\]\n)?(?:pub(?:\(crate\))? )?(?:const|fn|struct|enum|impl|type) (\w+)")
 NEXT_ROW = re.compile(r"\n    \(|\n +Row \{|;\n|\n\}")
@@ -52,7 +52,7 @@ class Test:
     """A test, and all items of its crate that it reaches."""
 
     def __init__(self, name, path, items):
-        self.is_of_parsers, self.items = "bpaf_base_rows" not in path, []
+        self.is_of_parsers, self.items = "test_below" not in path, []
         todo, seen = [(path, name)], set()
         while todo:
             place = todo.pop(0)

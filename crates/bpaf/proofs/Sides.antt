@@ -9,8 +9,8 @@ use Rattle.std.proofs.lemmas.List.{take_at, take_all, drop_at, drop_all, get_or_
 use Rattle.std.proofs.lemmas.List.{get_or_at, length_push, length-append}
 use Rattle.std.proofs.lemmas.List.Sums.{position_or_len_is}
 use Rattle.std.proofs.lemmas.Slice.Eq.{bytes_eq-Decides}
-use Rattle.bpaf_items.specs.declared.arg.Arg.{Arg}
-use Rattle.bpaf_items.specs.declared.arg.Arg.TheVariants.{Short, Long, ArgWord, Word, PosWord}
+use Rattle.bpaf_base.specs.declared.arg.Arg.{Arg}
+use Rattle.bpaf_base.specs.declared.arg.Arg.TheVariants.{Short, Long, ArgWord, Word, PosWord}
 use Rattle.bpaf_words.specs.Spelling.{Known, IsArgument, Spelling, Items, Ambiguous, flags_of}
 use Rattle.bpaf_words.specs.Spelling.{argument_of, Spells, SpellsJoined, flags, argument, neither}
 use Rattle.bpaf_words.specs.Spelling.{both, plain, dash, long, long_value, short, short_value}

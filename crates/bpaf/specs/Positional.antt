@@ -3,7 +3,7 @@ use Rattle.std.specs.Prelude.{◌≡◌, ◌⊎◌, ℕ, Bool, true, false, not,
 use Rattle.std.specs.Prelude.{Option, Some, None, option_and_then}
 use Rattle.bpaf_doc.specs.declared.doc.Piece.{Piece}
 use Rattle.bpaf_doc.specs.Shape.{Shape, Shown, Positional, Strict as StrictShape}
-use Rattle.bpaf_items.specs.Items.{is_positional, word_text}
+use Rattle.bpaf_base.specs.Items.{is_positional, word_text}
 use Rattle.bpaf_line.specs.MissingIn.{IsMissingIn}
 use Rattle.bpaf_line.specs.Situation.{Situation, Context, item_in}
 use Rattle.bpaf_line.specs.Taking.{TakesText, HasNone}

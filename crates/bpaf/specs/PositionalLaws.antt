@@ -11,7 +11,7 @@ use Rattle.bpaf_laws.specs.Reading.{Readings}
 use Rattle.bpaf_laws.specs.Laws.{Keeps, Reads, Lawful}
 use Rattle.bpaf_laws.specs.RefusalNames.{NamesAnswer}
 use Rattle.bpaf_laws.proofs.Keeping.{keeps_same, closes_take, keeps_take, newly_take}
-use Rattle.bpaf_items.specs.Items.{is_positional}
+use Rattle.bpaf_base.specs.Items.{is_positional}
 use Rattle.bpaf_line.proofs.Matches.{match_is_open}
 use Rattle.bpaf.specs.declared.leaves.positional.Position.{Position}
 use Rattle.bpaf.specs.Positional.{PositionalReads, PositionalOutcome, PositionalFails, TakesSome}

@@ -1,2 +1,3 @@
-pub mod Names
 pub mod InsideText
+pub mod Items
+pub mod Names

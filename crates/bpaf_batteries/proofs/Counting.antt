@@ -7,7 +7,7 @@ use Rattle.std.proofs.lemmas.Option.{slice_get_within}
 use Rattle.std.specs.Option.{option_map_or}
 use Rattle.bpaf_line.specs.declared.error.Error.{Error}
 use Rattle.bpaf_text.specs.declared.params.ParseFlag.{ParseFlag}
-use Rattle.bpaf_items.specs.declared.arg.Arg.{Arg}
+use Rattle.bpaf_base.specs.declared.arg.Arg.{Arg}
 use Rattle.bpaf_index.proofs.Counts.{count_below-same, count_below-fewer, count_below-none}
 use Rattle.bpaf_line.specs.Situation.{Situation, Context, item_in, is_marker, count_below}
 use Rattle.bpaf_line.specs.Situation.{with_current}

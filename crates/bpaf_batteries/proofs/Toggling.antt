@@ -7,7 +7,7 @@ use Rattle.std.proofs.lemmas.Bool.{cases_eq, cases_lt, not-true, and_parts}
 use Rattle.std.proofs.lemmas.Bool.Decides.{nat_tests}
 use Rattle.std.specs.Option.{option_map_or}
 use Rattle.bpaf_text.specs.declared.params.ParseFlag.{ParseFlag}
-use Rattle.bpaf_items.specs.declared.arg.Arg.{Arg}
+use Rattle.bpaf_base.specs.declared.arg.Arg.{Arg}
 use Rattle.bpaf_line.proofs.Matches.{match_is_open}
 use Rattle.std.specs.Int.{from_bool}
 use Rattle.bpaf_line.proofs.Places.{open_count-put, open_not_taken, taken_here, taken_other}

@@ -4,8 +4,8 @@ use Rattle.bpaf_doc.specs.Fold.{TextPieces}
 use Rattle.bpaf_doc.specs.declared.doc.Piece.{Piece}
 use Rattle.bpaf_text.specs.Named.{nothing_named, with_help, with_long, with_short}
 use Rattle.bpaf_text.specs.declared.params.ParseFlag.{ParseFlag}
-use Rattle.bpaf_items.specs.declared.arg.Arg.{Arg}
-use Rattle.bpaf_items.specs.Items.{is_key_of}
+use Rattle.bpaf_base.specs.declared.arg.Arg.{Arg}
+use Rattle.bpaf_base.specs.Items.{is_key_of}
 use Rattle.bpaf_laws.specs.Flag.{FlagOutcome, FlagReads}
 use Rattle.bpaf_laws.specs.Reading.{Outcome, Readings}
 

@@ -1,9 +1,9 @@
 //! The worked rows of the program, and what it writes where there are no options.
 use crate::run::run;
-use bpaf_trial::{Tried, ran};
 use std::alloc::Global;
 use std::io::Write;
 use std::test::Fail;
+use test_support::{Tried, ran};
 
 /// The program.
 struct Demo;

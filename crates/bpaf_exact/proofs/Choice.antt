@@ -4,7 +4,7 @@ use Rattle.std.proofs.Common.{length, Option, Some, None, Result, Ok, Err, refl,
 use Rattle.std.proofs.Common.{◌≤◌, subst, inl, inr, ◌⊎◌, ⊎_elim, arith, true≢false, nat_le, nat_lt}
 use Rattle.std.specs.Option.{option_map_or}
 use Rattle.std.proofs.lemmas.Bool.{eqb-true, le-leb, lt-ltb, and_parts, cases_lt}
-use Rattle.bpaf_items.specs.declared.arg.Arg.{Arg}
+use Rattle.bpaf_base.specs.declared.arg.Arg.{Arg}
 use Rattle.bpaf_line.specs.declared.error.Error.{Error}
 use Rattle.bpaf_line.specs.Combining.{Combines}
 use Rattle.bpaf_line.specs.Conflicts.{IsWinner, ConflictsSaved}
@@ -13,7 +13,7 @@ use Rattle.bpaf_line.specs.Situation.{Situation, is_taken, item_in, open_count}
 use Rattle.bpaf_line.specs.Taking.{open_item}
 use Rattle.bpaf_line.proofs.Places.{present_in_line}
 use Rattle.bpaf_line.proofs.Matches.{open_has_item}
-use Rattle.bpaf_items.specs.Items.{any_item}
+use Rattle.bpaf_base.specs.Items.{any_item}
 use Rattle.bpaf_laws.proofs.ChoiceLaws.{not_winner}
 use Rattle.bpaf_laws.specs.Choice.{branch_of, ChoiceOutcome, EqualDepths, OneOk, Winner}
 use Rattle.bpaf_laws.specs.Reading.{Outcome}

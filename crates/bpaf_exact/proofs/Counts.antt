@@ -2,8 +2,8 @@
 use Rattle.std.proofs.Common.{◌≡◌, ℕ, zero, suc, ◌+◌, ◌<◌, ◌≤◌, Bool, true, false, ◌∷◌, length}
 use Rattle.std.proofs.Common.{Option, Some, None, refl, ◌∙◌, if◌then◌else◌, arith}
 use Rattle.std.specs.Option.{option_map_or, is_some}
-use Rattle.bpaf_items.specs.declared.arg.Arg.{Arg}
-use Rattle.bpaf_items.specs.Items.{any_item}
+use Rattle.bpaf_base.specs.declared.arg.Arg.{Arg}
+use Rattle.bpaf_base.specs.Items.{any_item}
 use Rattle.bpaf_line.specs.Situation.{Situation, open_count, count_below, is_open, item_at}
 use Rattle.bpaf_line.specs.Taking.{open_item}
 use Rattle.bpaf_index.proofs.Counts.{count_below-same, count_below-some}

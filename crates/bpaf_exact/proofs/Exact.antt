@@ -3,7 +3,7 @@ use Rattle.std.proofs.Common.{◌≡◌, ℕ, zero, ◌<◌, Bool, true, false, 
 use Rattle.std.proofs.Common.{Option, slice_get, None, Ok, Err, if◌then◌else◌, refl, sym, ◌∙◌}
 use Rattle.std.proofs.Common.{subst, arith, nat_lt, nat_le}
 use Rattle.std.proofs.lemmas.Bool.{lt-ltb, le-leb}
-use Rattle.bpaf_items.specs.declared.arg.Arg.{Arg}
+use Rattle.bpaf_base.specs.declared.arg.Arg.{Arg}
 use Rattle.bpaf_doc.specs.Names.{Names}
 use Rattle.bpaf_line.specs.Situation.{Context, Situation, beginning, item_in, is_marker, open_count}
 use Rattle.bpaf_line.specs.Taking.{open_item}

@@ -1,7 +1,7 @@
 -- Taking the first piece, and the first piece of two fields together.
 use Rattle.std.proofs.Common.{◌≡◌, ◌<◌, Bool, true, false, List, [], ◌∷◌, length, Option, Some}
 use Rattle.std.proofs.Common.{None, refl, sym, ap, ◌∙◌, subst, inl, inr, ◌⊎◌, if◌then◌else◌, arith}
-use Rattle.bpaf_items.specs.declared.arg.Arg.{Arg}
+use Rattle.bpaf_base.specs.declared.arg.Arg.{Arg}
 use Rattle.bpaf_exact.specs.Pieces.{Cells, Role, Foreign, Alone, WithNext, Roles, LinePiece, One}
 use Rattle.bpaf_exact.specs.Pieces.{Two}
 use Rattle.bpaf_exact.specs.Pieces.{is_value, is_own_role, is_own, IsNamed, Apart, either}

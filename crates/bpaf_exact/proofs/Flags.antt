@@ -3,7 +3,7 @@ use Rattle.std.proofs.Common.{◌≡◌, ℕ, Bool, true, false, List, [], ◌�
 use Rattle.std.proofs.Common.{refl, sym, ap, ◌∙◌, subst, ⊎_elim, true≢false}
 use Rattle.std.specs.Option.{is_some}
 use Rattle.bpaf_text.specs.Named.{Named as Key, flag_part}
-use Rattle.bpaf_items.specs.Items.{is_key_of}
+use Rattle.bpaf_base.specs.Items.{is_key_of}
 use Rattle.bpaf_line.specs.declared.error.Error.{Error}
 use Rattle.bpaf_line.specs.declared.error.Message.{Message}
 use Rattle.bpaf_line.specs.declared.error.Message.TheVariants.{Memory}

@@ -5,9 +5,9 @@ use Rattle.std.proofs.Common.{option_and_then, add-one, ◌||◌}
 use Rattle.std.specs.Option.{option_map_or, is_some}
 use Rattle.bpaf_doc.specs.Names.{Names}
 use Rattle.bpaf_doc.specs.Shape.{Part}
-use Rattle.bpaf_items.specs.declared.arg.Arg.{Arg}
-use Rattle.bpaf_items.specs.declared.arg.Arg.TheVariants.{Short, Long, ArgWord, Word, PosWord}
-use Rattle.bpaf_items.specs.Items.{is_key_of, value_text, item_text}
+use Rattle.bpaf_base.specs.declared.arg.Arg.{Arg}
+use Rattle.bpaf_base.specs.declared.arg.Arg.TheVariants.{Short, Long, ArgWord, Word, PosWord}
+use Rattle.bpaf_base.specs.Items.{is_key_of, value_text, item_text}
 use Rattle.bpaf_line.specs.declared.error.Error.{Error}
 use Rattle.bpaf_line.specs.declared.error.Message.{Message}
 use Rattle.bpaf_line.specs.declared.error.Message.TheVariants.{Missing, NoEnv}

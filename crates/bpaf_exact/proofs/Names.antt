@@ -6,9 +6,9 @@ use Rattle.std.proofs.lemmas.Bool.{eqb-true, false_from_ne_true, and_parts, or_c
 use Rattle.std.proofs.lemmas.List.Folds.{list_any-append}
 use Rattle.std.proofs.lemmas.Slice.Eq.{bytes_eq-Decides}
 use Rattle.bpaf_doc.specs.Names.{Names}
-use Rattle.bpaf_items.specs.declared.arg.Arg.{Arg}
-use Rattle.bpaf_items.specs.declared.arg.Arg.TheVariants.{Short, Long, ArgWord, Word, PosWord}
-use Rattle.bpaf_items.specs.Items.{is_among, is_text_among, is_key_of}
+use Rattle.bpaf_base.specs.declared.arg.Arg.{Arg}
+use Rattle.bpaf_base.specs.declared.arg.Arg.TheVariants.{Short, Long, ArgWord, Word, PosWord}
+use Rattle.bpaf_base.specs.Items.{is_among, is_text_among, is_key_of}
 use Rattle.bpaf_exact.specs.Pieces.{Role, Foreign, Alone, WithNext, Roles, is_own_role, is_key}
 use Rattle.bpaf_exact.specs.Pieces.{Apart, either, either_role}
 use Rattle.bpaf_exact.specs.Names.{is_key_of_any, are_apart, are_all_apart, Owns}

@@ -6,7 +6,7 @@ use Rattle.std.specs.Global.{Vec}
 use Rattle.std.specs.Prelude.{option_map}
 use Rattle.bpaf_doc.specs.Names.{Names}
 use Rattle.bpaf_text.specs.Named.{Named as Key, KeyWithValue}
-use Rattle.bpaf_items.specs.Items.{item_text}
+use Rattle.bpaf_base.specs.Items.{item_text}
 use Rattle.bpaf_line.specs.Situation.{Context}
 use Rattle.bpaf_laws.specs.Reading.{Outcome}
 use Rattle.bpaf_exact.specs.Pieces.{Cells, Roles, LinePiece, One, Two, is_own, either}

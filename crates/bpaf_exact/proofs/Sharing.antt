@@ -3,8 +3,8 @@ use Rattle.std.proofs.Common.{◌≡◌, Bool, true, false, List, [], ◌∷◌}
 use Rattle.std.proofs.Common.{refl, sym, ap, ◌∙◌, if◌then◌else◌}
 use Rattle.std.proofs.Common.{◌++◌, ◌||◌, ◌⊎◌, ⊎_elim, None, Some, inl, inr}
 use Rattle.std.proofs.lemmas.List.Folds.{list_any-append}
-use Rattle.bpaf_items.specs.Items.{is_key_of, is_positional}
-use Rattle.bpaf_items.specs.declared.arg.Arg.TheVariants.{Short, Long, ArgWord, Word, PosWord}
+use Rattle.bpaf_base.specs.Items.{is_key_of, is_positional}
+use Rattle.bpaf_base.specs.declared.arg.Arg.TheVariants.{Short, Long, ArgWord, Word, PosWord}
 use Rattle.bpaf_exact.specs.Names.{are_all_apart}
 use Rattle.bpaf_exact.specs.Pieces.{Cells, Cut, argument, at_end, begin_piece, flag, passed, pieces}
 use Rattle.bpaf_exact.specs.Pieces.{word}
@@ -12,7 +12,7 @@ use Rattle.bpaf_exact.specs.Says.{EachOwn, Fits}
 use Rattle.bpaf_exact.proofs.First.{own_next}
 use Rattle.bpaf_exact.proofs.Names.{one_list, or_true}
 use Rattle.bpaf_doc.specs.Names.{Names}
-use Rattle.bpaf_items.specs.declared.arg.Arg.{Arg}
+use Rattle.bpaf_base.specs.declared.arg.Arg.{Arg}
 use Rattle.bpaf_exact.specs.Pieces.{Role, Foreign, Alone, WithNext, Roles, LinePiece, One, Two}
 use Rattle.bpaf_exact.specs.Pieces.{is_own_role, is_own, mine, others, either, either_role}
 use Rattle.bpaf_exact.specs.Flat.{OneWord}

@@ -3,8 +3,8 @@
 use Rattle.std.specs.Prelude.{◌≡◌, ◌≤◌, ◌⊎◌, ℕ, Bool, true, false, List, [], ◌∷◌, Option, Some}
 use Rattle.std.specs.Prelude.{None, Result, Ok, Err, if◌then◌else◌, ◌==◌, not}
 use Rattle.std.specs.List.{list_all}
-use Rattle.bpaf_items.specs.declared.arg.Arg.{Arg}
-use Rattle.bpaf_items.specs.declared.arg.Arg.TheVariants.{Short, Long, ArgWord, Word, PosWord}
+use Rattle.bpaf_base.specs.declared.arg.Arg.{Arg}
+use Rattle.bpaf_base.specs.declared.arg.Arg.TheVariants.{Short, Long, ArgWord, Word, PosWord}
 use Rattle.bpaf_line.specs.declared.error.Error.{Error}
 use Rattle.bpaf_line.specs.Situation.{Situation, Context, item_in, open_count, with_current}
 use Rattle.bpaf_laws.specs.Choice.{depth}

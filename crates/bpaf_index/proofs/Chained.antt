@@ -15,9 +15,9 @@ use Rattle.std.proofs.lemmas.Bool.{cases_lt, cases_eq, ltb-true, eqb-true}
 use Rattle.std.proofs.lemmas.List.{get_or_read, length-map, length-take, length-take-le}
 use Rattle.std.proofs.lemmas.Option.{slice_get_past, slice_get_read}
 use Rattle.bpaf_base.specs.Names.{Names}
-use Rattle.bpaf_items.specs.declared.arg.Arg.{Arg}
-use Rattle.bpaf_items.specs.declared.arg.Arg.TheVariants.{Short, Long, ArgWord, Word, PosWord}
-use Rattle.bpaf_items.specs.Items.{is_key_of}
+use Rattle.bpaf_base.specs.declared.arg.Arg.{Arg}
+use Rattle.bpaf_base.specs.declared.arg.Arg.TheVariants.{Short, Long, ArgWord, Word, PosWord}
+use Rattle.bpaf_base.specs.Items.{is_key_of}
 use Rattle.bpaf_index.specs.declared.chains.Chains.TheInside.{Inside}
 use Rattle.bpaf_index.specs.declared.classes.Slot.{Slot}
 use Rattle.bpaf_index.specs.declared.classes.Slot.TheVariants.{Own, Free, Other}

@@ -10,9 +10,9 @@ use Rattle.std.proofs.lemmas.List.{take_more, drop-append-le, map-append, length
 use Rattle.std.proofs.lemmas.List.{take-append-drop}
 use Rattle.std.proofs.lemmas.Slice.Eq.{bytes_eq-Decides}
 use Rattle.bpaf_base.specs.Names.{Names}
-use Rattle.bpaf_items.specs.declared.arg.Arg.{Arg}
-use Rattle.bpaf_items.specs.declared.arg.Arg.TheVariants.{Short, Long, ArgWord, Word, PosWord}
-use Rattle.bpaf_items.specs.Items.{is_key_of}
+use Rattle.bpaf_base.specs.declared.arg.Arg.{Arg}
+use Rattle.bpaf_base.specs.declared.arg.Arg.TheVariants.{Short, Long, ArgWord, Word, PosWord}
+use Rattle.bpaf_base.specs.Items.{is_key_of}
 use Rattle.bpaf_index.specs.declared.classes.Slot.{Slot}
 use Rattle.bpaf_index.specs.declared.classes.Slot.TheVariants.{Own, Free, Other}
 use Rattle.bpaf_index.specs.Chained.{Naming, KeepsKnown, Owns, OwnsNow, class_in, class_by}

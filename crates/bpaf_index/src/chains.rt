@@ -2,7 +2,7 @@
 ghost use Rattle.std.specs.Prelude.{ℕ, ◌≡◌, ◌*◌, ◌+◌, ◌<◌, ◌≤◌, IfOk, IfSome};
 ghost use Rattle.std.specs.Prelude.{length, slice_get, slice_index, ◌-◌, false, true};
 ghost use Rattle.std.specs.Option.{option_map_or};
-ghost use Rattle.bpaf_items.specs.declared.arg.Arg.{Arg};
+ghost use Rattle.bpaf_base.specs.declared.arg.Arg.{Arg};
 ghost use Rattle.bpaf_index.specs.Bits.{has_bit};
 ghost use Rattle.bpaf_index.specs.Chained.{is_key, class_of_short, class_of_long};
 ghost use Rattle.bpaf_index.specs.Chained.{IsNextOf, IsChainStart, HasWalked, AreBehind};
@@ -10,8 +10,7 @@ ghost use Rattle.bpaf_index.specs.Chained.{ReachBack, IfChained, HasNoKeyFrom};
 
 use crate::bits;
 use crate::classes::{NameClasses, PlaceClasses, is_key};
-use bpaf_base::Text;
-use bpaf_items::Arg;
+use bpaf_base::{Arg, Text};
 use std::alloc::{AllocError, Global};
 use std::marker::Model;
 use std::rc::{Rc, RcSlice};

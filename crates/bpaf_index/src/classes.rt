@@ -7,15 +7,14 @@ ghost use Rattle.std.specs.BTreeMap.{is_at};
 ghost use Rattle.std.specs.Map.{lookup};
 ghost use Rattle.std.specs.Option.{unwrap_or};
 ghost use Rattle.std.specs.Ordering.{nat_cmp};
-ghost use Rattle.bpaf_items.specs.declared.arg.Arg.{Arg};
-ghost use Rattle.bpaf_items.specs.Items.{is_key_of};
+ghost use Rattle.bpaf_base.specs.declared.arg.Arg.{Arg};
+ghost use Rattle.bpaf_base.specs.Items.{is_key_of};
 ghost use Rattle.bpaf_index.specs.Chained.{text_number, whole_number, class_of_number};
 ghost use Rattle.bpaf_index.specs.Chained.{class_of_short, class_of_long, class_in, class_among};
 ghost use Rattle.bpaf_index.specs.Chained.{slot_at, slot_of, unless_other, IsInside};
 ghost use Rattle.bpaf_index.specs.Chained.{is_key, KeepsKnown, Owns};
 
-use bpaf_base::Text;
-use bpaf_items::{Arg, is_key_of};
+use bpaf_base::{Arg, Text, is_key_of};
 use std::alloc::{AllocError, Global};
 use std::collections::BTreeMap;
 use std::marker::Model;

@@ -7,8 +7,8 @@ use Rattle.std.specs.List.{filter_map, cons_option}
 use Rattle.std.proofs.lemmas.List.Elements.{All-nil, All-cons, All-take, All-contains}
 use Rattle.std.proofs.lemmas.List.Elements.{Contains-append_right}
 use Rattle.bpaf_doc.specs.Shape.{Part}
-use Rattle.bpaf_items.specs.declared.arg.Arg.{Arg}
-use Rattle.bpaf_items.specs.Items.{is_attached}
+use Rattle.bpaf_base.specs.declared.arg.Arg.{Arg}
+use Rattle.bpaf_base.specs.Items.{is_attached}
 use Rattle.bpaf_line.specs.OpenItems.{placed_item}
 use Rattle.bpaf_line.specs.Situation.{Situation, is_open, item_at, take_place}
 use Rattle.bpaf_line.specs.Taking.{open_item}

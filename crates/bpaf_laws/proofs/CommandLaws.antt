@@ -3,7 +3,7 @@ use Rattle.std.proofs.Common.{◌≡◌, ℕ, ◌<◌, Bool, true, false, not, �
 use Rattle.std.proofs.Common.{sym, ◌∙◌, arith, true≢false}
 use Rattle.std.proofs.lemmas.Bool.{cases_Bool}
 use Rattle.std.proofs.lemmas.Bool.Decides.{nat_tests}
-use Rattle.bpaf_items.specs.Items.{any_item}
+use Rattle.bpaf_base.specs.Items.{any_item}
 use Rattle.bpaf_line.specs.Situation.{Situation, in_scope, is_open, is_taken, open_count}
 use Rattle.bpaf_line.specs.Situation.{take_place}
 use Rattle.bpaf_line.proofs.Places.{open_in_line, open_in_scope, taken_stays}

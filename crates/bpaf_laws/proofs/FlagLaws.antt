@@ -4,7 +4,7 @@ use Rattle.std.proofs.Common.{sym, subst, ⊎_elim}
 use Rattle.bpaf_doc.specs.Names.{Names}
 use Rattle.bpaf_text.specs.Named.{Named, flag_part}
 use Rattle.bpaf_line.specs.Situation.{Situation, is_open}
-use Rattle.bpaf_items.specs.Items.{is_key_of}
+use Rattle.bpaf_base.specs.Items.{is_key_of}
 use Rattle.bpaf_line.specs.Taking.{TakesFlag}
 use Rattle.bpaf_line.proofs.Matches.{match_is_open, match_has_item}
 use Rattle.bpaf_line.specs.declared.error.Message.{Message}

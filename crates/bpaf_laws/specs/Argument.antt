@@ -5,8 +5,8 @@ use Rattle.std.specs.Prelude.{Option, option_and_then}
 use Rattle.std.specs.Option.{option_map_or}
 use Rattle.bpaf_doc.specs.Shape.{Shape, Shown, Skip}
 use Rattle.bpaf_text.specs.Named.{KeyWithValue, argument_part}
-use Rattle.bpaf_items.specs.declared.arg.Arg.{Arg}
-use Rattle.bpaf_items.specs.Items.{is_argument_key, value_text}
+use Rattle.bpaf_base.specs.declared.arg.Arg.{Arg}
+use Rattle.bpaf_base.specs.Items.{is_argument_key, value_text}
 use Rattle.bpaf_line.specs.Situation.{Situation, Context, item_in, with_current}
 use Rattle.bpaf_line.specs.Taking.{TakesValue, RefusesArgument, HasNone}
 use Rattle.bpaf_line.specs.declared.error.Error.{Error}

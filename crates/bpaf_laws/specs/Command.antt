@@ -5,8 +5,8 @@ use Rattle.std.specs.List.{list_any}
 use Rattle.std.specs.Option.{option_map_or}
 use Rattle.bpaf_doc.specs.declared.doc.Piece.{Piece}
 use Rattle.bpaf_doc.specs.Shape.{Shape, Shown, Part, Command}
-use Rattle.bpaf_items.specs.declared.arg.Arg.{Arg}
-use Rattle.bpaf_items.specs.Items.{any_item, is_command_word}
+use Rattle.bpaf_base.specs.declared.arg.Arg.{Arg}
+use Rattle.bpaf_base.specs.Items.{any_item, is_command_word}
 use Rattle.bpaf_line.specs.Situation.{Situation, Context, item_at, in_scope, is_taken, take_place}
 use Rattle.bpaf_line.specs.Situation.{with_scope, with_path, with_current}
 use Rattle.bpaf_line.specs.Taking.{IsFirst}

@@ -3,7 +3,7 @@ use Rattle.std.specs.Prelude.{◌≡◌, ◌⊎◌, ℕ, Bool, true, false, Ok, 
 use Rattle.std.specs.Option.{option_map_or}
 use Rattle.bpaf_doc.specs.Shape.{Shape, Optional, Shown, Skip}
 use Rattle.bpaf_text.specs.Named.{Named, flag_part}
-use Rattle.bpaf_items.specs.Items.{is_key_of}
+use Rattle.bpaf_base.specs.Items.{is_key_of}
 use Rattle.bpaf_line.specs.Situation.{Situation, Context}
 use Rattle.bpaf_line.specs.Taking.{TakesFlag}
 use Rattle.bpaf_line.specs.declared.error.Message.{Message}

@@ -7,7 +7,7 @@ use Rattle.bpaf_line.specs.Situation.{Situation}
 use Rattle.bpaf_line.specs.Taking.{is_match, value_after, IsFirst}
 use Rattle.bpaf_line.specs.declared.error.Message.{Message}
 use Rattle.bpaf_line.specs.declared.error.Message.TheVariants.{Memory, ParseFailed, NoArgument}
-use Rattle.bpaf_items.specs.declared.arg.Arg.{Arg}
+use Rattle.bpaf_base.specs.declared.arg.Arg.{Arg}
 use Rattle.bpaf_laws.specs.Argument.{is_key_with_value, TakesOwnText, HasNoKey, LacksText}
 use Rattle.bpaf_laws.specs.Argument.{IsVariable, IsNowhere}
 use Rattle.bpaf_laws.specs.Reading.{Outcome}

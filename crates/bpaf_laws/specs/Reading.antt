@@ -1,7 +1,7 @@
 -- What a value is read from: sets of places, and nothing of marks, scopes, copies or retries.
 use Rattle.std.specs.Prelude.{◌≡◌, ℕ, Bool, false, true, ◌&&◌, ◌||◌, ◌==◌, ◌+◌, Result}
 use Rattle.std.specs.Option.{option_map_or}
-use Rattle.bpaf_items.specs.declared.arg.Arg.{Arg}
+use Rattle.bpaf_base.specs.declared.arg.Arg.{Arg}
 use Rattle.bpaf_line.specs.declared.error.Error.{Error}
 use Rattle.bpaf_line.specs.Situation.{Situation, Context, item_in}
 

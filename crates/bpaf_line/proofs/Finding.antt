@@ -11,9 +11,9 @@ use Rattle.std.proofs.lemmas.List.{get_or-map, get_or-take, length-take-le}
 use Rattle.std.proofs.lemmas.List.Folds.{list_any-append}
 use Rattle.std.proofs.lemmas.Option.{get_or_from_slice_get}
 use Rattle.bpaf_doc.specs.Names.{Names}
-use Rattle.bpaf_items.specs.declared.arg.Arg.{Arg}
-use Rattle.bpaf_items.specs.declared.arg.Arg.TheVariants.{Short, Long, ArgWord, Word, PosWord}
-use Rattle.bpaf_items.specs.Items.{is_key_of, is_argument_key}
+use Rattle.bpaf_base.specs.declared.arg.Arg.{Arg}
+use Rattle.bpaf_base.specs.declared.arg.Arg.TheVariants.{Short, Long, ArgWord, Word, PosWord}
+use Rattle.bpaf_base.specs.Items.{is_key_of, is_argument_key}
 use Rattle.bpaf_index.specs.Chained.{Chained, names_of, class_in, IsChainStart, HasWalked}
 use Rattle.bpaf_index.specs.Chained.{HasNoKeyFrom}
 use Rattle.bpaf_line.specs.Chaining.{AreChainsOf}

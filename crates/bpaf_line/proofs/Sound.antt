@@ -15,7 +15,7 @@ use Rattle.std.proofs.lemmas.Bool.{cond-true, and_left, and_right, and_from, le-
 use Rattle.std.proofs.lemmas.Bool.Decides.{nat_tests}
 use Rattle.std.proofs.lemmas.List.{with_items_is, get_or_read}
 use Rattle.std.proofs.lemmas.Option.{slice_get-get_or}
-use Rattle.bpaf_items.specs.declared.arg.Arg.{Arg}
+use Rattle.bpaf_base.specs.declared.arg.Arg.{Arg}
 use Rattle.bpaf_line.specs.declared.state.State.TheInside.{Inside}
 use Rattle.bpaf_line.specs.declared.aside.Aside.{Aside}
 use Rattle.bpaf_line.specs.Remembered.{no_aside, count_within, IsSurvey, IsRemembered}

@@ -1,7 +1,7 @@
 -- What two parses of one line differ in, and what excludes what.
 use Rattle.std.specs.Prelude.{◌≡◌, ◌<◌, ℕ, Bool, true, false, not, nat_lt, ◌&&◌, List, [], ◌∷◌}
 use Rattle.std.specs.Prelude.{Option, Some, None, option_map, if◌then◌else◌}
-use Rattle.bpaf_items.specs.declared.arg.Arg.{Arg}
+use Rattle.bpaf_base.specs.declared.arg.Arg.{Arg}
 use Rattle.bpaf_line.specs.Situation.{Situation, is_taken, conflict_at}
 use Rattle.bpaf_line.specs.Marks.{KeepsMarks}
 use Rattle.bpaf_line.specs.OpenItems.{open_items}

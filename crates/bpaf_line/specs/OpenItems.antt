@@ -1,7 +1,7 @@
 -- The present items in scope, in order.
 use Rattle.std.specs.Prelude.{ℕ, ◌-◌, List, length, Option, option_map, filter_map}
 use Rattle.std.specs.List.{range_with_len}
-use Rattle.bpaf_items.specs.declared.arg.Arg.{Arg}
+use Rattle.bpaf_base.specs.declared.arg.Arg.{Arg}
 use Rattle.bpaf_line.specs.declared.iter.ArgsIter.{ArgsIter}
 use Rattle.bpaf_line.specs.Situation.{Situation}
 use Rattle.bpaf_line.specs.Taking.{open_item}

@@ -6,7 +6,7 @@ use Rattle.std.specs.Prelude.{ℕ, ◌≡◌, ◌<◌, ◌≤◌, ◌==◌, Bool
 use Rattle.std.specs.Prelude.{[], ◌∷◌, ◌++◌, length, take, Option, Some, None, nat_lt}
 use Rattle.std.specs.Prelude.{nat_le, if◌then◌else◌, slice_get, slice_index, option_to_list}
 use Rattle.std.specs.Prelude.{option_map, find, reverse}
-use Rattle.bpaf_items.specs.declared.arg.Arg.{Arg}
+use Rattle.bpaf_base.specs.declared.arg.Arg.{Arg}
 pub use Rattle.bpaf_index.specs.Places.{is_on, count_below}
 
 -- what no evaluation changes: the line, the place of its first `--`, where one stands there, the

@@ -7,12 +7,12 @@ use Rattle.std.specs.Option.{option_map_or}
 use Rattle.std.specs.declared.alloc.Global.{Global}
 use Rattle.bpaf_doc.specs.Names.{Names}
 use Rattle.bpaf_doc.specs.Shape.{Positional}
-use Rattle.bpaf_items.specs.declared.arg.Arg.{Arg}
+use Rattle.bpaf_base.specs.declared.arg.Arg.{Arg}
 use Rattle.bpaf_line.specs.declared.error.Error.{Error}
 use Rattle.bpaf_line.specs.declared.error.Message.{Message}
 use Rattle.bpaf_line.specs.declared.error.Message.TheVariants.{Memory, Missing, NoArgument}
-use Rattle.bpaf_items.specs.Items.{is_key_of, is_argument_key, value_text, is_positional, word_text}
-use Rattle.bpaf_items.specs.Items.{any_item, is_command_word}
+use Rattle.bpaf_base.specs.Items.{is_key_of, is_argument_key, value_text, is_positional, word_text}
+use Rattle.bpaf_base.specs.Items.{any_item, is_command_word}
 use Rattle.bpaf_line.specs.Situation.{Situation, item_at, is_open, take_place, with_current}
 use Rattle.bpaf_line.specs.MissingIn.{IsMissingIn}
 

@@ -1,6 +1,6 @@
 //! The first key with one of some names, found along the chains of those names.
 ghost use Rattle.std.specs.Prelude.{◌≡◌, ◌≤◌, [], IfSome, MatchOption, length};
-ghost use Rattle.bpaf_items.specs.Items.{is_argument_key};
+ghost use Rattle.bpaf_base.specs.Items.{is_argument_key};
 ghost use Rattle.bpaf_line.specs.Chaining.{AreChainsOf};
 ghost use Rattle.bpaf_line.specs.Finding.{IsFirstAmong, IsFirstAlong};
 ghost use Rattle.bpaf_line.specs.Taking.{is_match, HasNone, IsFirst};

@@ -6,8 +6,8 @@ ghost use Rattle.std.specs.Prelude.{option_and_then, Some, None, IfOk, OnOk, OnE
 ghost use Rattle.std.specs.Prelude.{string_bytes, map, List};
 ghost use Rattle.std.specs.Borrow.{Bor};
 ghost use Rattle.bpaf_doc.specs.Shape.{part_of};
-ghost use Rattle.bpaf_items.specs.declared.arg.Arg.{Arg};
-ghost use Rattle.bpaf_items.specs.Items.{is_positional, word_text};
+ghost use Rattle.bpaf_base.specs.declared.arg.Arg.{Arg};
+ghost use Rattle.bpaf_base.specs.Items.{is_positional, word_text};
 ghost use Rattle.bpaf_line.specs.MissingIn.{IsMissingIn};
 ghost use Rattle.bpaf_line.specs.OpenItems.{open_items, open_items_from, items_left};
 ghost use Rattle.bpaf_line.specs.Situation.{item_at, open_count, is_taken, is_open, take_place};

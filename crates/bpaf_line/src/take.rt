@@ -1,5 +1,5 @@
 //! The calls of a state that look for an item and take it.
-ghost use Rattle.bpaf_items.specs.Items.{any_item, is_command_word};
+ghost use Rattle.bpaf_base.specs.Items.{any_item, is_command_word};
 ghost use Rattle.bpaf_line.specs.Marks.{KeepsMarks};
 ghost use Rattle.bpaf_line.specs.Taking.{TakesFlag, TakesArgument, TakesKeyText, FindsArgument};
 ghost use Rattle.bpaf_line.specs.Taking.{FindsWord, TakesWord, TakesCommand, HasNoCommand};

@@ -6,10 +6,10 @@ use Rattle.std.proofs.Common.{slice_get, option_and_then, if◌then◌else◌}
 use Rattle.std.specs.Prelude.{flat_map, option_map}
 use Rattle.std.specs.List.{AllZip, AllByRecursion, Contains}
 use Rattle.std.proofs.lemmas.Option.{same_Some}
-use Rattle.bpaf_items.specs.declared.arg.Arg.{Arg}
-use Rattle.bpaf_items.specs.declared.arg.Arg.TheVariants.{Short, Long, ArgWord, Word, PosWord}
+use Rattle.bpaf_base.specs.declared.arg.Arg.{Arg}
+use Rattle.bpaf_base.specs.declared.arg.Arg.TheVariants.{Short, Long, ArgWord, Word, PosWord}
 use Rattle.bpaf_words.specs.Arguments.{Given}
-use Rattle.bpaf_items.specs.Items.{word_text}
+use Rattle.bpaf_base.specs.Items.{word_text}
 use Rattle.bpaf_words.specs.Spelling.{IsArgument, Items, Known, Spells}
 use Rattle.bpaf_words.specs.Line.{SpellAll, IsLine, without_marker, with_marker}
 use Rattle.bpaf_line.specs.Constructing.{IsContext}

@@ -4,7 +4,7 @@ use Rattle.std.proofs.Common.{subst, ◌∙◌, ◌∷◌, ap₂, map}
 use Rattle.bpaf_doc.specs.Shape.{Part, Any, Positional, Command, Flag, Argument, Shape}
 use Rattle.bpaf_doc.specs.Walks.{parts, shorts_of_argument, shorts_of_arguments, shorts_of_flag}
 use Rattle.bpaf_doc.specs.Walks.{shorts_of_flags}
-use Rattle.bpaf_items.specs.declared.arg.Arg.{Arg}
+use Rattle.bpaf_base.specs.declared.arg.Arg.{Arg}
 use Rattle.bpaf_words.specs.Arguments.{Given}
 use Rattle.bpaf_words.specs.Line.{HasNoLine}
 use Rattle.bpaf_words.specs.Spelling.{ShortNames, Known, known_at}

@@ -6,8 +6,8 @@ use Rattle.std.specs.Char.{IsAsciiDigit}
 use Rattle.std.proofs.lemmas.List.Sums.{AllPass-from_list_all}
 use Rattle.std.proofs.lemmas.Str.{encode_ascii}
 use Rattle.bpaf_doc.specs.Names.{Names}
-use Rattle.bpaf_items.specs.Items.{is_among, is_text_among}
-use Rattle.bpaf_items.specs.declared.arg.Arg.TheVariants.{Short, Long}
+use Rattle.bpaf_base.specs.Items.{is_among, is_text_among}
+use Rattle.bpaf_base.specs.declared.arg.Arg.TheVariants.{Short, Long}
 use Rattle.bpaf_words.specs.Spelling.{HasNoEquals, IsNumberWord, Items, by_dash, dash_char}
 use Rattle.bpaf_words.specs.Spelling.{equals_byte, long, short}
 use Rattle.bpaf.specs.Marker.{words_before}

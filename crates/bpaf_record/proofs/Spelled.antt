@@ -14,12 +14,12 @@ use Rattle.std.proofs.lemmas.Option.{get_or_from_slice_get, slice_get_read, slic
 use Rattle.bpaf_doc.specs.Names.{Names}
 use Rattle.bpaf_doc.specs.Shape.{Shape}
 use Rattle.bpaf_words.specs.Arguments.{Given}
-use Rattle.bpaf_items.specs.Items.{is_key_of}
+use Rattle.bpaf_base.specs.Items.{is_key_of}
 use Rattle.bpaf_words.specs.Line.{HasNoMarker, IsLine, without_marker, with_marker}
 use Rattle.bpaf_words.specs.Spelling.{Known, Items, Spells, known_at}
 use Rattle.bpaf_words.proofs.OneSpelling.{one_spelling}
-use Rattle.bpaf_items.specs.declared.arg.Arg.{Arg}
-use Rattle.bpaf_items.specs.declared.arg.Arg.TheVariants.{Short, Long, ArgWord, Word, PosWord}
+use Rattle.bpaf_base.specs.declared.arg.Arg.{Arg}
+use Rattle.bpaf_base.specs.declared.arg.Arg.TheVariants.{Short, Long, ArgWord, Word, PosWord}
 use Rattle.bpaf_line.specs.Constructing.{IsContext}
 use Rattle.bpaf_line.specs.Situation.{Context, item_in, is_marker}
 use Rattle.bpaf.specs.Info.{RunInfo}

@@ -4,8 +4,8 @@ use Rattle.std.proofs.Common.{map, refl, sym, ap, subst, if◌then◌else◌, �
 use Rattle.std.specs.Prelude.{flat_map, encode_utf8_all}
 use Rattle.std.specs.List.{AllZip, AllByRecursion}
 use Rattle.bpaf_doc.specs.Shape.{Shape}
-use Rattle.bpaf_items.specs.declared.arg.Arg.{Arg}
-use Rattle.bpaf_items.specs.declared.arg.Arg.TheVariants.{PosWord}
+use Rattle.bpaf_base.specs.declared.arg.Arg.{Arg}
+use Rattle.bpaf_base.specs.declared.arg.Arg.TheVariants.{PosWord}
 use Rattle.bpaf_words.specs.Arguments.{Given}
 use Rattle.bpaf_words.specs.Line.{IsLine, without_marker, with_marker, SpellAll}
 use Rattle.bpaf_words.specs.Spelling.{Known, ShortNames, Spelling, Items, Ambiguous, flags_of}

@@ -1,7 +1,7 @@
 -- Names that two keys have in common.
 use Rattle.std.specs.Prelude.{ℕ, Bool, not, List}
 use Rattle.std.specs.List.{list_all}
-use Rattle.bpaf_items.specs.Items.{is_among, is_text_among}
+use Rattle.bpaf_base.specs.Items.{is_among, is_text_among}
 
 -- none of the short names is one of the others
 abbrev pub has_no_short : List ℕ → List ℕ → Bool

@@ -1,8 +1,8 @@
 -- Positional words as fields of a flat record, and of a program.
 use Rattle.std.proofs.Common.{◌≡◌, ℕ, Bool, true, false, List, [], Some, Result, Ok, Err, refl, sym}
 use Rattle.std.proofs.Common.{ap, ◌∙◌, subst, true≢false}
-use Rattle.bpaf_items.specs.declared.arg.Arg.{Arg}
-use Rattle.bpaf_items.specs.Items.{word_text}
+use Rattle.bpaf_base.specs.declared.arg.Arg.{Arg}
+use Rattle.bpaf_base.specs.Items.{word_text}
 use Rattle.bpaf_line.specs.declared.error.Error.{Error}
 use Rattle.bpaf_line.specs.declared.error.Message.{Message}
 use Rattle.bpaf_line.specs.declared.error.Message.TheVariants.{Memory, Missing, ParseFailed}

@@ -1,7 +1,7 @@
 //! The names of fields, and whether they are apart.
 ghost use Rattle.std.specs.Prelude.{◌≡◌, false, not, true, ◌&&◌};
 ghost use Rattle.std.specs.List.{list_all};
-ghost use Rattle.bpaf_items.specs.Items.{is_among, is_text_among};
+ghost use Rattle.bpaf_base.specs.Items.{is_among, is_text_among};
 ghost use Rattle.bpaf_exact.specs.Names.{are_apart};
 ghost use Rattle.bpaf_record.specs.Keys.{has_no_short, has_no_long};
 

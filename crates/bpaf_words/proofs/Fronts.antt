@@ -5,8 +5,8 @@ use Rattle.std.proofs.Common.{Result, Ok, Err, length-append, nat_lt}
 use Rattle.std.specs.Bool.{then_some}
 use Rattle.std.proofs.lemmas.Bool.Decides.{nat_tests}
 use Rattle.std.proofs.lemmas.Grind.{common_steps}
-use Rattle.bpaf_items.specs.declared.arg.Arg.{Arg}
-use Rattle.bpaf_items.specs.declared.arg.Arg.TheVariants.{PosWord}
+use Rattle.bpaf_base.specs.declared.arg.Arg.{Arg}
+use Rattle.bpaf_base.specs.declared.arg.Arg.TheVariants.{PosWord}
 use Rattle.bpaf_words.specs.Spelling.{Known, known_at}
 use Rattle.bpaf_words.specs.Line.{IsLine, without_marker, with_marker}
 use Rattle.bpaf_words.specs.Splitting.{Begins, BeginsByAny, EndsFront, IsLineByAny}

@@ -8,8 +8,8 @@ use Rattle.std.proofs.lemmas.Str.{length-le-encodes, length-encode, len_utf8_bou
 use Rattle.std.proofs.lemmas.List.Elements.{All-push}
 use Rattle.std.proofs.lemmas.Bool.Decides.{nat_tests}
 use Rattle.std.proofs.lemmas.Grind.{common_steps}
-use Rattle.bpaf_items.specs.declared.arg.Arg.{Arg}
-use Rattle.bpaf_items.specs.declared.arg.Arg.TheVariants.{Short, Word}
+use Rattle.bpaf_base.specs.declared.arg.Arg.{Arg}
+use Rattle.bpaf_base.specs.declared.arg.Arg.TheVariants.{Short, Word}
 use Rattle.bpaf_words.specs.Spelling.{ShortNames, IsFlag, IsArgument, IsNeither, IsBoth, flags_of}
 use Rattle.bpaf_words.specs.Spelling.{argument_of, SpellsJoined, Items, Ambiguous, flags, argument}
 use Rattle.bpaf_words.specs.Spelling.{neither, both}

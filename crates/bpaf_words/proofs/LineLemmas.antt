@@ -9,8 +9,8 @@ use Rattle.std.proofs.lemmas.List.Elements.{AllWithin-more}
 use Rattle.std.specs.List.{flat_map, AllWithin}
 use Rattle.std.proofs.lemmas.Grind.{flat_map-append}
 use Rattle.std.proofs.lemmas.List.Elements.{All-push}
-use Rattle.bpaf_items.specs.declared.arg.Arg.{Arg}
-use Rattle.bpaf_items.specs.declared.arg.Arg.TheVariants.{PosWord}
+use Rattle.bpaf_base.specs.declared.arg.Arg.{Arg}
+use Rattle.bpaf_base.specs.declared.arg.Arg.TheVariants.{PosWord}
 use Rattle.bpaf_words.specs.Spelling.{Known, Items, Ambiguous, Spells, known_at}
 use Rattle.bpaf_words.specs.Line.{HasNoLine}
 use Rattle.bpaf_words.specs.Splitting.{Begins, BeginsByAny, SpellsByAny}

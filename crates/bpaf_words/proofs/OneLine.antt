@@ -5,8 +5,8 @@ use Rattle.std.proofs.Common.{Some, Option, All, IsUtf8, length-append, Bool, tr
 use Rattle.std.specs.Option.{option_map}
 use Rattle.std.specs.Cmp.Lexicographic.{bytes_decides}
 use Rattle.std.specs.List.{AllZip, flat_map}
-use Rattle.bpaf_items.specs.declared.arg.Arg.{Arg}
-use Rattle.bpaf_items.specs.declared.arg.Arg.TheVariants.{PosWord}
+use Rattle.bpaf_base.specs.declared.arg.Arg.{Arg}
+use Rattle.bpaf_base.specs.declared.arg.Arg.TheVariants.{PosWord}
 use Rattle.bpaf_words.specs.Spelling.{Known, Spelling, Items, Ambiguous, Spells}
 use Rattle.bpaf_words.specs.Line.{SpellAll, HasNoMarker, IsLine, HasNoLine, without_marker}
 use Rattle.bpaf_words.specs.Line.{with_marker, LinesAreUnique}

@@ -7,8 +7,8 @@ use Rattle.std.specs.Option.{option_map}
 use Rattle.std.proofs.lemmas.Bool.Decides.{nat_tests}
 use Rattle.std.proofs.lemmas.List.Elements.{All-push}
 use Rattle.std.proofs.lemmas.Str.{encode_ascii, encode_same, cons_from_encodes, encodes_same}
-use Rattle.bpaf_items.specs.declared.arg.Arg.TheVariants.{Short, Long, ArgWord, Word}
-use Rattle.bpaf_items.specs.Items.{is_among}
+use Rattle.bpaf_base.specs.declared.arg.Arg.TheVariants.{Short, Long, ArgWord, Word}
+use Rattle.bpaf_base.specs.Items.{is_among}
 use Rattle.bpaf_words.specs.Spelling.{ShortNames, Known, IsNumberWord, SpellsByDash, number_word}
 use Rattle.bpaf_words.specs.Spelling.{by_dash, NumberWord, dash_case_of, IsFlag, HasNoEquals}
 use Rattle.bpaf_words.specs.Spelling.{Spelling, Items, Ambiguous, flags_of, argument_of}

@@ -8,8 +8,8 @@ use Rattle.std.proofs.lemmas.Str.{encode_ascii, cons_from_encodes}
 use Rattle.std.proofs.lemmas.Str.Pattern.{NoCharPasses-char, IsSplitOnceResult, split_parts}
 use Rattle.std.proofs.lemmas.Str.Pattern.{strip_prefix_char}
 use Rattle.std.proofs.lemmas.Bool.Decides.{nat_tests}
-use Rattle.bpaf_items.specs.declared.arg.Arg.{Arg}
-use Rattle.bpaf_items.specs.declared.arg.Arg.TheVariants.{Short, ArgWord}
+use Rattle.bpaf_base.specs.declared.arg.Arg.{Arg}
+use Rattle.bpaf_base.specs.declared.arg.Arg.TheVariants.{Short, ArgWord}
 use Rattle.bpaf_words.specs.declared.split.SplitFault.{SplitFault}
 use Rattle.bpaf_words.specs.declared.split.SplitFault.TheVariants.{Ambiguous, Memory}
 use Rattle.bpaf_words.specs.Spelling.{ShortNames, Known, IsNumberWord, HasNoEquals, Spelling, Items}

@@ -3,9 +3,9 @@ use Rattle.std.specs.Prelude.{◌≡◌, ◌≢◌, ℕ, ◌+◌, Bool, true, fa
 use Rattle.std.specs.Prelude.{codes, encode_utf8, encode_utf8_all, EachIndex, slice_index, All}
 use Rattle.std.specs.Prelude.{IsUtf8}
 use Rattle.std.specs.Char.{IsAsciiDigit}
-use Rattle.bpaf_items.specs.Items.{is_among}
-use Rattle.bpaf_items.specs.declared.arg.Arg.{Arg}
-use Rattle.bpaf_items.specs.declared.arg.Arg.TheVariants.{Short, Long, ArgWord, Word}
+use Rattle.bpaf_base.specs.Items.{is_among}
+use Rattle.bpaf_base.specs.declared.arg.Arg.{Arg}
+use Rattle.bpaf_base.specs.declared.arg.Arg.TheVariants.{Short, Long, ArgWord, Word}
 
 -- the short names that a parser knows, as characters
 pub record ShortNames : Type 0 where

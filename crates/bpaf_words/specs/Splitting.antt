@@ -5,7 +5,7 @@ use Rattle.std.specs.Prelude.{IsUtf8}
 use Rattle.std.specs.Prelude.{⊤}
 use Rattle.std.specs.Borrow.{Bor}
 use Rattle.std.specs.List.{AllWithin}
-use Rattle.bpaf_items.specs.declared.arg.Arg.{Arg}
+use Rattle.bpaf_base.specs.declared.arg.Arg.{Arg}
 use Rattle.bpaf_words.specs.declared.split.SplitFault.{SplitFault}
 use Rattle.bpaf_words.specs.declared.split.SplitFault.TheVariants.{Ambiguous, Memory}
 use Rattle.bpaf_words.specs.declared.line.Front.{Front}

@@ -1,7 +1,7 @@
 //! Words and the items that they spell.
 //!
-//! It stands on `bpaf_items`, whose [`Arg`] and tests on one it hands on, and on `bpaf_base`. It
-//! knows nothing of documents, of parsers or of what is taken. For the layers above:
+//! It stands on `bpaf_base`, whose [`Arg`] and tests on one it hands on. It knows nothing of
+//! documents, of parsers or of what is taken. For the layers above:
 //!
 //! - [`Args`] lends the words, the name and the environment of a run (specs/Arguments.antt).
 //! - [`split_word`] answers the items of one word. Contracts say which by `Spells`
@@ -24,7 +24,7 @@ mod line;
 mod split;
 
 pub use args::{Args, LentWord, Words};
-pub use bpaf_items::{
+pub use bpaf_base::{
     Arg, is_argument_key, is_attached, is_command_word, is_key_of, is_positional, item_text,
     value_text,
 };

@@ -9,8 +9,7 @@ ghost use Rattle.bpaf_words.specs.Splitting.{SplitsWords, ReadsLine, AreTexts};
 
 use crate::args::Words;
 use crate::split::{SplitFault, split_alone, split_word};
-use bpaf_base::Text;
-use bpaf_items::Arg;
+use bpaf_base::{Arg, Text};
 use std::alloc::{AllocError, Global};
 
 /// The line of words: its items, and the place of the first `--`, where one stands there.

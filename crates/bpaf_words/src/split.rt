@@ -8,8 +8,7 @@ ghost use Rattle.bpaf_words.specs.Spelling.{IsNumber, argument_of, known_at};
 ghost use Rattle.bpaf_words.specs.Splitting.{Splits, SplitsAlone, SplitsDashed, SplitsJoined};
 ghost use Rattle.bpaf_words.specs.Splitting.{SpellsAs};
 
-use bpaf_base::Text;
-use bpaf_items::Arg;
+use bpaf_base::{Arg, Text};
 use std::alloc::{AllocError, Global};
 
 /// Why a word gives no items.

@@ -1,6 +1,6 @@
 use Rattle.bpaf_words.specs.Arguments.{words_in}
 use Rattle.std.proofs.Common.{ap, ◌∙◌}
-use Rattle.bpaf_items.specs.declared.arg.Arg.TheVariants.{PosWord}
+use Rattle.bpaf_base.specs.declared.arg.Arg.TheVariants.{PosWord}
 use Rattle.bpaf_words.proofs.LineLemmas.{rest_moved, texts_more}
 use Rattle.std.proofs.Common.{◌++◌, [], ◌∷◌}
 use Rattle.bpaf_words.specs.Arguments.{words_in}

@@ -1,6 +1,6 @@
 use Rattle.std.proofs.Common.{◌≡◌, ◌++◌, drop, map, IsUtf8}
 use Rattle.std.specs.List.{AllWithin}
-use Rattle.bpaf_items.specs.declared.arg.Arg.TheVariants.{PosWord}
+use Rattle.bpaf_base.specs.declared.arg.Arg.TheVariants.{PosWord}
 use Rattle.bpaf_words.specs.Arguments.{words_in}
 use Rattle.bpaf_words.proofs.line.push_rest.Given as goal
 

@@ -1,5 +1,5 @@
 use Rattle.std.proofs.Common.{◌≡◌, [], ◌∷◌, true, false, sym, subst, ◌∙◌}
-use Rattle.bpaf_items.specs.declared.arg.Arg.TheVariants.{Word}
+use Rattle.bpaf_base.specs.declared.arg.Arg.TheVariants.{Word}
 use Rattle.bpaf_words.specs.Spelling.{IsNumber, number_word, by_dash, plain, Items}
 use Rattle.bpaf_words.proofs.SplitLemmas.{no_dash, after_dash, alone_by_any}
 use Rattle.bpaf_words.proofs.split.split_alone.Goals as goal

@@ -1,7 +1,7 @@
 use Rattle.std.proofs.Common.{[], ◌∷◌, ◌++◌, ap, ◌∙◌, sym, rules, true, false, refl, encode_utf8}
 use Rattle.std.proofs.Common.{append-nil, length}
 use Rattle.std.proofs.lemmas.List.{nil_from_length}
-use Rattle.bpaf_items.specs.declared.arg.Arg.TheVariants.{Short, Word, ArgWord}
+use Rattle.bpaf_base.specs.declared.arg.Arg.TheVariants.{Short, Word, ArgWord}
 use Rattle.bpaf_words.specs.Spelling.{dash, short}
 use Rattle.bpaf_words.proofs.SplitLemmas.{no_dash, other_than_dash, at_equals, no_equals}
 use Rattle.bpaf_words.proofs.SplitLemmas.{with_value, are_joined, not_both, is_zero, first_letter}

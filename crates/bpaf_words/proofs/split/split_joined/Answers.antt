@@ -1,7 +1,7 @@
 use Rattle.std.proofs.Common.{sym, ◌∙◌, ap, [], ◌∷◌, ◌++◌, arith}
 use Rattle.bpaf_words.proofs.JoinedLemmas.{walked_none, walked_more, walked_bound, ends, stops_both}
 use Rattle.bpaf_words.proofs.JoinedLemmas.{stops_neither, stops_argument, taken_back, first_text}
-use Rattle.bpaf_items.specs.declared.arg.Arg.TheVariants.{Word}
+use Rattle.bpaf_base.specs.declared.arg.Arg.TheVariants.{Word}
 use Rattle.bpaf_words.proofs.split.split_joined.Goals as goal
 use Rattle.bpaf_words.proofs.split.split_joined.Goals.{then-count-eq0, else-count-eq0}
 

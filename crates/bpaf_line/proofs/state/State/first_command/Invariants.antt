@@ -1,4 +1,4 @@
-use Rattle.bpaf_items.specs.Items.{any_item}
+use Rattle.bpaf_base.specs.Items.{any_item}
 use Rattle.bpaf_line.proofs.state.State.first_command.Given as goal
 
 -- the closure's test

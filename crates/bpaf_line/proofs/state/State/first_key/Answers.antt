@@ -1,6 +1,6 @@
 use Rattle.std.proofs.Common.{◌≡◌, ◌∙◌, ap, sym, subst, min, length}
 use Rattle.bpaf_doc.specs.Names.{Names}
-use Rattle.bpaf_items.specs.Items.{is_argument_key}
+use Rattle.bpaf_base.specs.Items.{is_argument_key}
 use Rattle.bpaf_line.specs.Situation.{IsFirstPresent}
 use Rattle.bpaf_line.proofs.Finding.{key_found, first_at_front, none_past}
 use Rattle.bpaf_line.proofs.state.State.first_key.Goals as goal

@@ -1,5 +1,5 @@
 use Rattle.std.proofs.Common.{take, []}
-use Rattle.bpaf_items.specs.Items.{is_argument_key}
+use Rattle.bpaf_base.specs.Items.{is_argument_key}
 use Rattle.bpaf_line.specs.Finding.{IsFirstAmong}
 use Rattle.bpaf_line.proofs.state.State.first_short_key.Given as goal
 

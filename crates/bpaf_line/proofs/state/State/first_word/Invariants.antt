@@ -1,4 +1,4 @@
-use Rattle.bpaf_items.specs.Items.{is_positional}
+use Rattle.bpaf_base.specs.Items.{is_positional}
 use Rattle.bpaf_line.proofs.state.State.first_word.Given as goal
 
 -- the closure's test

@@ -1,0 +1,4 @@
+pub mod Groups
+pub mod Levels
+pub mod OneText
+pub mod Several

@@ -1,0 +1,41 @@
+//! A parser of any type, as one of the bench's values.
+use crate::value::{Told, Value};
+use bpaf_core::Parser;
+use bpaf_doc::Meta;
+use bpaf_line::{Error, State};
+use std::alloc::{AllocError, Global};
+use std::marker::PhantomData;
+
+/// A parser whose value is told as a [`Value`].
+#[derive(Drop)]
+pub struct AsValue<T, P> {
+    /// The parser.
+    pub inner: P,
+    /// The type of its value.
+    pub of: PhantomData<T>,
+}
+
+impl<T: Told + Drop, P: Parser<T>> Parser<Value> for AsValue<T, P> {
+    ghost use Rattle.bpaf_laws.specs.Transform.{MapReads};
+    ghost use Rattle.bench_values.specs.declared.value.Value.{Value};
+    ghost use Rattle.bench_values.specs.Told.{ToldOutcome, told_lawful};
+
+    ghost can_eval = { λ p. P.can_eval p.inner };
+
+    ghost describes = { λ p. P.describes p.inner };
+
+    ghost reads = { λ p. MapReads T Value (P.reads p.inner) T.told };
+
+    ghost outcome = { λ p. ToldOutcome (P.outcome p.inner) T.told };
+
+    fn eval(&self, state: &mut State) -> Result<Value, Error> {
+        let value = self.inner.eval(state)?;
+        Ok(value.into_value(state.alloc())?)
+    }
+
+    fn meta(&self, alloc: Global) -> Result<Meta, AllocError> {
+        self.inner.meta(alloc)
+    }
+
+    ghost lawful = { λ p. told_lawful T.told (P.lawful p.inner) };
+}

@@ -1,5 +1,0 @@
-use Rattle.bpaf_program.proofs.Running.{runs_to}
-use Rattle.bpaf_chain.proofs.run.run.Goals as goal
-
-pub returns : goal.returns
-returns g c = runs_to _ _ _ _ _ c.print.ensures c.lines_of.ensures

@@ -1,3 +1,0 @@
-pub mod Several
-pub mod Groups
-pub mod Levels

@@ -1,9 +1,0 @@
-use Rattle.std.proofs.Common.{rules, map, string_bytes}
-use Rattle.bpaf_guide_programs.specs.Told.{lines}
-use Rattle.bpaf_guide_programs.proofs.remove.lines_of.Goals as goal
-
-pub returns : goal.returns
-returns c =
-    let removal = c.in_ok-removal in
-    lines c.told.result.now (map string_bytes removal.removal.files.items) (search rules)
-    (λ removed. removal.ensures (c.told.ensures removed))

@@ -1,5 +1,0 @@
-use Rattle.bpaf_program.proofs.Running.{runs_to_said}
-use Rattle.bpaf_guide_programs.proofs.remove.run.Goals as goal
-
-pub returns : goal.returns
-returns g c = runs_to_said _ c.print.ensures c.lines_of.ensures

@@ -1,8 +1,0 @@
--- What the program with commands is told to do.
-use Rattle.bpaf_guide_programs.specs.declared.clean.Task.{Task}
-use Rattle.bpaf_guide_programs.specs.declared.clean.Task.TheVariants.{List, Remove}
-
--- files are to be removed
-abbrev pub IsRemoval : Task → Type 0
-IsRemoval (List long) = ⊥
-IsRemoval (Remove files) = Unit {0}

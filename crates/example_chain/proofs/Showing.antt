@@ -1,0 +1,64 @@
+-- What the commands of the program read, and that they show their help pages alone.
+use Rattle.std.proofs.Common.{◌≡◌, true, ap}
+use Rattle.bpaf_laws.specs.Command.{CommandDescribes, named_only, opening_words}
+use Rattle.bpaf_laws.specs.Laws.{Lawful}
+use Rattle.bpaf_laws.specs.Reading.{Outcome, Readings}
+use Rattle.bpaf_keys.specs.Info.{short_descr}
+use Rattle.bpaf_core.specs.Adjacent.{EitherCommandReads, OutcomeOfCommand}
+use Rattle.bpaf_core.specs.declared.commands.ParseCommand.{ParseCommand}
+use Rattle.bpaf.proofs.Asking.{hands_also}
+use Rattle.bpaf_program.proofs.Commands.{Hands, command_hands}
+use Rattle.example_chain.specs.declared.steps.Step.{Step}
+use Rattle.example_chain.specs.Dealing.{ChainedReads}
+use Rattle.example_chain.specs.Shown.{IsCommandPage, IsCommandShape, IsDescribed, Shapes, ShowsAs}
+use Rattle.example_chain.specs.Shown.{Titled}
+
+-- a command of this title over this parser
+pub record IsTitled {P : Type 0} (title : Titled) (parser : P) (command : ParseCommand Step P)
+    : Type 0 where
+  pub adjacent_is : command.adjacent ≡ true
+  pub called_is : command.names ≡ named_only title.name
+  pub inner_is : command.inner ≡ parser
+  pub help_is : command.help ≡ short_descr command.info
+  pub described : IsDescribed title.text command.info
+
+module _ {P : Type 0} (outcome : P → Outcome Step) (reads : P → Readings Step)
+    (describes : P → Shapes) where
+  -- what such a command does, where its parser keeps to the laws and shows as it should: it shows
+  -- its help page alone
+  abbrev pub Chained : Titled → P → ParseCommand Step P → Type 0
+  Chained title parser command =
+      Hands (IsCommandPage title)
+      (OutcomeOfCommand command (outcome command.inner) (describes command.inner))
+      (EitherCommandReads command.adjacent Step (opening_words command.names)
+      (reads command.inner))
+      (CommandDescribes command.names command.help (describes command.inner))
+      (ChainedReads title.name (reads parser)) (IsCommandShape title)
+
+  -- so it does
+  pub chained : (title : Titled) (parser : P) (command : ParseCommand Step P)
+      → IsTitled title parser command → Lawful Step (outcome command.inner) (reads command.inner)
+      → ShowsAs title.shapes (describes parser) (outcome parser) → Chained title parser command
+  chained title parser command is law shows =
+      let inner : ShowsAs title.shapes (describes command.inner) (outcome command.inner) =
+      rw is.inner_is shows in
+      let hands = command_hands law inner.nothing
+      (λ context share v read. rw is.inner_is at read) inner.shapes_are command.info
+      (ap (λ info. info.help_if_no_args) is.described.is) title.name is.adjacent_is is.called_is
+      is.help_is in
+      record {
+        law = hands.law;
+        hands = hands_also _ (IsCommandPage title)
+            (λ s doc full behind. record {
+              info = command.info;
+              described = is.described;
+              asked = behind;
+            })
+            hands.hands;
+        also = hands.also;
+        shows = λ shape shown. record {
+          info = command.info;
+          described = is.described;
+          is = hands.shows shape shown;
+        };
+      }

@@ -1,0 +1,24 @@
+//! The program from its words to its bytes and its status.
+ghost use Rattle.std.specs.Prelude.{map, string_bytes};
+ghost use Rattle.bpaf_program.specs.Running.{RunsTo};
+ghost use Rattle.bpaf_program.specs.Sink.{wrote};
+ghost use Rattle.example_chain.specs.Running.{Answers};
+
+use crate::print::lines_of;
+use bpaf_program::{Sink, print};
+use std::alloc::Global;
+
+/// Runs the program on its words, and gives its status.
+///
+/// Status 0 comes only where steps were read and all their lines written on `out`, or where a help
+/// page was asked for and written there, that of the program or of a command; and then nothing is
+/// written on `err`. A refusal is told on `err`, as `Error: ` and the message, and nothing is
+/// written on `out`; its status is 1, as is that of a write that fails, after a beginning of the
+/// text. Over two sinks that tell their failures, less is written only where a write failed, and
+/// nothing behind that.
+pub fn run<S: Sink, E: Sink>(alloc: Global, words: &[String], out: &mut S, err: &mut E) -> u8
+    ensures { RunsTo (Answers (map string_bytes words.now)) (wrote S.known out.old out.new)
+        (wrote E.known err.old err.new) result }
+{
+    print(lines_of(alloc, words), out, err)
+}

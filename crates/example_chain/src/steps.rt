@@ -1,0 +1,92 @@
+//! The steps of a chain, as adjacent commands.
+ghost use Rattle.std.specs.Prelude.{◌≡◌, IfOk, map, string_bytes, true};
+ghost use Rattle.std.specs.Result.{IfErr};
+ghost use Rattle.bpaf_laws.specs.Command.{named_only};
+ghost use Rattle.bpaf_keys.specs.Info.{short_descr};
+ghost use Rattle.bpaf.specs.Asked.{IfShown};
+ghost use Rattle.example_chain.specs.Dealing.{AreDealt, AreDealtSteps};
+ghost use Rattle.example_chain.specs.Shown.{IsDescribed, IsHelpAsked, IsMoveShape, IsRepeatShape};
+ghost use Rattle.example_chain.specs.Shown.{IsTurnShape, ShowsAs};
+
+use bpaf::parsers::ParseCommand;
+use bpaf::{Args, Doc, ParseFailure, Parser, construct, long, positional};
+use std::alloc::{AllocError, Global};
+
+/// One step.
+#[derive(Drop)]
+pub enum Step {
+    /// So far to the right, and so far up.
+    Move { dx: i64, dy: i64 },
+    /// A turn by so many degrees, to the left or to the right.
+    Turn { left: bool, degrees: u64 },
+    /// All that is before it, so many times.
+    Repeat { times: u64 },
+}
+
+/// The steps that the words ask for, in order; refused where they ask for none, or for want of
+/// memory. Help is answered as a refusal that shows it, and only where the words ask for it.
+pub fn read_steps(alloc: Global, words: &[String]) -> Result<Vec<Step>, ParseFailure>
+    ensures dealt { IfOk result (λ steps. AreDealtSteps (map string_bytes words.now) steps) }
+    ensures asked { IfErr result (IfShown (IsHelpAsked (map string_bytes words.now))) }
+{
+    let left = long(alloc, "left")?.switch();
+    let degrees = positional::<u64>("DEGREES").help(Doc::from_text(alloc, "How far to turn")?);
+    let turn = construct!(Step::Turn { left, degrees });
+    let dx = positional::<i64>("DX").help(Doc::from_text(alloc, "How far to the right")?);
+    let dy = positional::<i64>("DY").help(Doc::from_text(alloc, "How far up")?);
+    let go = construct!(Step::Move { dx, dy });
+    let times = positional::<u64>("N").help(Doc::from_text(alloc, "How many times")?);
+    let repeat = construct!(Step::Repeat { times });
+    read_chain(alloc, go, turn, repeat, words)
+}
+
+/// The steps that the words ask for by three commands; refused where they ask for none, or for want
+/// of memory. What a refusal shows is a help page that the words ask for.
+fn read_chain<M, T, R>(
+    alloc: Global,
+    go: M,
+    turn: T,
+    repeat: R,
+    words: &[String],
+) -> Result<Vec<Step>, ParseFailure>
+where
+    M: Parser<Step> + Drop,
+    T: Parser<Step> + Drop,
+    R: Parser<Step> + Drop,
+    requires go { M.can_eval go }
+    requires turn { T.can_eval turn }
+    requires repeat { R.can_eval repeat }
+    requires go_shows { ShowsAs IsMoveShape (M.describes go) (M.outcome go) }
+    requires turn_shows { ShowsAs IsTurnShape (T.describes turn) (T.outcome turn) }
+    requires repeat_shows { ShowsAs IsRepeatShape (R.describes repeat) (R.outcome repeat) }
+    ensures dealt { IfOk result (λ steps. AreDealt (M.reads go) (T.reads turn) (R.reads repeat)
+        (map string_bytes words.now) steps) }
+    ensures asked { IfErr result (IfShown (IsHelpAsked (map string_bytes words.now))) }
+{
+    let go = chained(alloc, "move", "Moves by so far", go)?;
+    let turn = chained(alloc, "turn", "Turns where it stands", turn)?;
+    let repeat = chained(alloc, "repeat", "Repeats all before it", repeat)?;
+    construct!([go, turn, repeat])
+        .many()
+        .to_options(alloc)?
+        .run_once(Args::from(words).set_name("chain"))
+}
+
+/// The adjacent command of this name and description over a parser; refused only for want of
+/// memory.
+fn chained<P: Parser<Step> + Drop>(
+    alloc: Global,
+    name: &str,
+    descr: &str,
+    parser: P,
+) -> Result<ParseCommand<Step, P>, AllocError>
+    ensures inner { IfOk result (λ command. command.inner ≡ parser) }
+    ensures names { IfOk result (λ command. command.names ≡ named_only name.now) }
+    ensures adjacent { IfOk result (λ command. command.adjacent ≡ true) }
+    ensures help { IfOk result (λ command. command.help ≡ short_descr command.info) }
+    ensures described { IfOk result (λ command. IsDescribed descr.now command.info) }
+{
+    let descr = Doc::from_text(alloc, descr)?;
+    let options = parser.to_options(alloc)?.descr(descr);
+    Ok(options.command(name)?.adjacent())
+}

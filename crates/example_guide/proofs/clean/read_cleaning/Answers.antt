@@ -1,0 +1,25 @@
+use Rattle.std.proofs.Common.{◌≡◌, [], ◌∷◌, codes, map, rules, string_bytes, subst}
+use Rattle.bpaf_record.proofs.Answered.{answer_says, switch_spelled}
+use Rattle.bpaf_record.proofs.Called.{command_called, of_either, of_field, told_line, without_field}
+use Rattle.example_guide.specs.declared.clean.Task.TheVariants.{List}
+use Rattle.example_guide.specs.Clean.{IsRemoval}
+use Rattle.example_guide.specs.Remove.{force_names}
+use Rattle.example_guide.proofs.clean.read_cleaning.Goals as goal
+
+pub returns-clause-forced : goal.returns-clause-forced
+returns-clause-forced c =
+    answer_says c.run_program.result (c.run_program.ensures.fields (tt, (tt, tt)))
+    (λ cleaning told. let force = told.told.read in
+    switch_spelled (of_field (told_line told) force.roles force.owns) force.own (search rules)
+    (search rules) force_names (search rules) (map string_bytes c.args.words.now) (search rules)
+    cleaning.force (search rules))
+
+pub returns-clause-called : goal.returns-clause-called
+returns-clause-called c =
+    answer_says c.run_program.result (c.run_program.ensures.fields (tt, (tt, tt)))
+    (λ cleaning told is. let force = told.told.read in
+    of_either force.left
+    (λ list. let made : cleaning.task ≡ List list.read.told.from = search rules in
+    absurd (subst IsRemoval made is))
+    (λ remove. command_called (without_field (told_line told) force.roles) remove
+    (codes "remove" ∷ []) (search rules) (map string_bytes c.args.words.now) (search rules)))

@@ -1,0 +1,73 @@
+-- The keys of an archiver, and what an archive says of the words that it was read off.
+use Rattle.std.specs.Prelude.{◌≡◌, ◌≢◌, true, ℕ, List, [], ◌∷◌, codes, IsSome, None}
+use Rattle.std.specs.List.{Contains}
+use Rattle.bpaf_doc.specs.Names.{Names}
+use Rattle.bpaf.specs.Marker.{words_before}
+use Rattle.bpaf_record.specs.Spelled.{WasSpelled}
+use Rattle.bpaf_program.specs.Fields.{plain_argument, plain_flag, plain_switch}
+use Rattle.example_guide.specs.declared.archive.Archive.{Archive}
+use Rattle.example_guide.specs.declared.archive.Keys.{Keys}
+
+-- a key of one letter and this name
+abbrev pub key : List ℕ → List ℕ → Names
+key letter name = record { shorts = letter; longs = name ∷ [] }
+
+-- `-a` and `--agree`
+abbrev pub agree : Names
+agree = key (codes "a") (codes "agree")
+
+-- `-o` and `--out`
+abbrev pub out : Names
+out = key (codes "o") (codes "out")
+
+-- `-r` and `--root`
+abbrev pub root : Names
+root = key (codes "r") (codes "root")
+
+-- `-l` and `--level`
+abbrev pub level : Names
+level = key (codes "l") (codes "level")
+
+-- `-j` and `--jobs`
+abbrev pub jobs : Names
+jobs = key (codes "j") (codes "jobs")
+
+-- `-x` and `--without`
+abbrev pub without : Names
+without = key (codes "x") (codes "without")
+
+-- `-v` and `--verbose`
+abbrev pub verbose : Names
+verbose = key (codes "v") (codes "verbose")
+
+-- `-q` and `--quiet`
+abbrev pub quiet : Names
+quiet = key (codes "q") (codes "quiet")
+
+-- what each of the keys is
+pub record AreKnown (keys : Keys) : Type 0 where
+  pub agreed : keys.agreed ≡ plain_flag agree true None
+  pub out : keys.out ≡ plain_argument out (codes "FILE")
+  pub root : keys.root ≡ plain_argument root (codes "DIR")
+  pub level : keys.level ≡ plain_argument level (codes "N")
+  pub jobs : keys.jobs ≡ plain_argument jobs (codes "N")
+  pub without : keys.without ≡ plain_argument without (codes "NAME")
+  pub verbose : keys.verbose ≡ plain_flag verbose tt None
+  pub quiet : keys.quiet ≡ plain_switch quiet
+
+-- one of the words before the first `--` is this one
+abbrev pub IsTyped : List ℕ → List (List ℕ) → Type 0
+IsTyped word words = Contains (words_before words) word
+
+-- what it has was spelled, and what was spelled it has
+pub record SaysOf (words : List (List ℕ)) (archive : Archive) : Type 0 where
+  pub agreed : (archive.agreed ≡ true) × WasSpelled agree words
+  pub out : WasSpelled out words
+  pub root : WasSpelled root words
+  pub level : IsSome archive.level → WasSpelled level words
+  pub jobs : archive.jobs ≢ 1 → WasSpelled jobs words
+  pub without : archive.without.items ≢ [] → WasSpelled without words
+  pub verbose : archive.verbose ≢ 0 → WasSpelled verbose words
+  pub has_level : IsTyped (codes "--level") words → IsSome archive.level
+  pub has_without : IsTyped (codes "--without") words → archive.without.items ≢ []
+  pub is_quiet : IsTyped (codes "-q") words → archive.quiet ≡ true

@@ -1,0 +1,248 @@
+//! The code of docs/USERS.md: its parsers, a parser, a value and a collection of a caller's own; and
+//! its programs, a backup, a remover, a `head`, an archiver, a dimmer, a program with commands and a
+//! row of a test. `main` runs them.
+//!
+//! It stands on `bpaf`, `bpaf_record` and `bpaf_program`, and its definitions also cite those of the
+//! crates below. It has no contract for a layer above: it is the top.
+//!
+//! ```text
+//! example_guide -s 3 --level=high --no-color -n 1 -n 2
+//! ```
+#![tactic(auto)]
+
+mod archive;
+mod backup;
+mod clean;
+mod closures;
+mod commands;
+mod dim;
+mod git;
+mod head;
+mod keys;
+mod options;
+mod remove;
+mod row;
+mod sum;
+mod toggle;
+mod types;
+
+use bpaf::ParseFailure;
+use bpaf_program::{end, words};
+use clean::Task;
+use git::{Command, read_git};
+use options::{Options, read_options};
+use std::collections::BTreeMap;
+use std::process::ExitCode;
+use std::{env, io};
+use sum::read_sum;
+use toggle::read_color;
+
+fn main(rt: HostRuntime) -> io::Result<ExitCode> {
+    let mut out = rt.stdout();
+    let mut err = rt.stderr();
+    let variables = environment(&rt)?;
+    match end(asked(&rt, &variables), &mut out, &mut err) {
+        Ok(options) => {
+            let size = options.size;
+            println!(rt; "size: {size}")?;
+            show_backup(&rt)?;
+            show_removal(&rt)?;
+            show_head(&rt)?;
+            show_archive(&rt)?;
+            show_dimming(&rt)?;
+            show_cleaning(&rt)?;
+            show_row(&rt)?;
+            show_sum(&rt)?;
+            show_color(&rt)?;
+            show_commit(&rt)?;
+            Ok(ExitCode::SUCCESS)
+        }
+        Err(status) => Ok(ExitCode::from(status)),
+    }
+}
+
+/// The options that the process is called with.
+fn asked(rt: &HostRuntime, variables: &BTreeMap<String, String>) -> Result<Options, ParseFailure> {
+    let words = words(rt)?;
+    read_options(rt.alloc(), words.as_slice(), variables)
+}
+
+/// The variables of the environment by their names.
+fn environment(rt: &HostRuntime) -> io::Result<BTreeMap<String, String>> {
+    let Ok(entries) = env::vars(rt) else {
+        return Err(io::Error::from(io::ErrorKind::InvalidData));
+    };
+    let mut variables = BTreeMap::new(rt.alloc());
+    for (name, value) in entries {
+        variables.insert(name, value)?;
+    }
+    Ok(variables)
+}
+
+/// Tells what a backup reads off words of its own.
+fn show_backup(rt: &HostRuntime) -> io::Result<()> {
+    let words = [
+        "-j",
+        "4",
+        "a",
+        "--depth=2",
+        "-k1",
+        "-v",
+        "b",
+        "-s",
+        "5",
+        "c",
+    ];
+    match backup::read_backup(rt.alloc(), &words) {
+        Ok(Some(backup)) => {
+            let verbose = backup.verbose;
+            let copies = backup.to.len();
+            println!(rt; "backup: verbose {verbose}, to {copies} places")
+        }
+        Ok(None) => Ok(()),
+        Err(failure) => {
+            drop(failure);
+            Ok(())
+        }
+    }
+}
+
+/// Runs the remover on words of its own.
+fn show_removal(rt: &HostRuntime) -> io::Result<()> {
+    let file = String::from_str(rt.alloc(), "a")?;
+    let key = String::from_str(rt.alloc(), "-f")?;
+    let words = [file, key];
+    let status = remove::run(rt.alloc(), &words, &mut rt.stdout(), &mut rt.stderr());
+    println!(rt; "removal: status {status}")
+}
+
+/// Runs the `head` on words of its own.
+fn show_head(rt: &HostRuntime) -> io::Result<()> {
+    let key = String::from_str(rt.alloc(), "--bytes=5")?;
+    let file = String::from_str(rt.alloc(), "a")?;
+    let words = [key, file];
+    let status = head::run(rt.alloc(), &words, &mut rt.stdout(), &mut rt.stderr());
+    println!(rt; "head: status {status}")
+}
+
+/// Tells what an archiver reads off words of its own.
+fn show_archive(rt: &HostRuntime) -> io::Result<()> {
+    let keys = String::from_str(rt.alloc(), "-avv")?;
+    let out = String::from_str(rt.alloc(), "-oa.tar")?;
+    let root = String::from_str(rt.alloc(), "--root=b")?;
+    let words = [keys, out, root];
+    match archive::read_archive(rt.alloc(), &words) {
+        Ok(archive) => {
+            let root = archive.root.as_str();
+            let jobs = archive.jobs;
+            let verbose = archive.verbose;
+            println!(rt; "archive: of {root}, {jobs} jobs, told {verbose} times")
+        }
+        Err(failure) => {
+            drop(failure);
+            Ok(())
+        }
+    }
+}
+
+/// Tells what a dimmer reads off words of its own.
+fn show_dimming(rt: &HostRuntime) -> io::Result<()> {
+    let percent = String::from_str(rt.alloc(), "--percent=40")?;
+    let lamp = String::from_str(rt.alloc(), "-l3")?;
+    let words = [percent, lamp];
+    match dim::read_dimming(rt.alloc(), &words) {
+        Ok(dimming) => {
+            let percent = dimming.percent;
+            let lamp = dimming.lamp;
+            let seconds = dimming.seconds;
+            println!(rt; "dimming: lamp {lamp} to {percent} percent, in {seconds} s")
+        }
+        Err(failure) => {
+            drop(failure);
+            Ok(())
+        }
+    }
+}
+
+/// Tells what the program with commands reads off words of its own.
+fn show_cleaning(rt: &HostRuntime) -> io::Result<()> {
+    let command = String::from_str(rt.alloc(), "remove")?;
+    let key = String::from_str(rt.alloc(), "-f")?;
+    let file = String::from_str(rt.alloc(), "a")?;
+    let words = [command, key, file];
+    match clean::read_cleaning(rt.alloc(), &words) {
+        Ok(cleaning) => {
+            let force = cleaning.force;
+            match cleaning.task {
+                Task::List { long } => println!(rt; "cleaning: list, long {long}"),
+                Task::Remove { files } => {
+                    let number = files.len();
+                    println!(rt; "cleaning: of {number} files, forced {force}")
+                }
+            }
+        }
+        Err(failure) => {
+            drop(failure);
+            Ok(())
+        }
+    }
+}
+
+/// Tells what a row's words have of seconds.
+fn show_row(rt: &HostRuntime) -> io::Result<()> {
+    match row::read_seconds(rt.alloc(), &["-s", "5"]) {
+        Ok(seconds) => println!(rt; "row: {seconds} s"),
+        Err(failure) => {
+            drop(failure);
+            Ok(())
+        }
+    }
+}
+
+/// Tells what a sum reads off words of its own.
+fn show_sum(rt: &HostRuntime) -> io::Result<()> {
+    match read_sum(rt.alloc(), &["-n", "-2", "-5", "3"]) {
+        Ok(sum) => {
+            let times = sum.times;
+            let terms = sum.terms.len();
+            println!(rt; "sum: {times} times {terms} terms")
+        }
+        Err(failure) => {
+            drop(failure);
+            Ok(())
+        }
+    }
+}
+
+/// Tells what a parser of one's own reads off words of its own.
+fn show_color(rt: &HostRuntime) -> io::Result<()> {
+    match read_color(rt.alloc(), &["--no-color"]) {
+        Ok(color) => {
+            let on = color.unwrap_or(true);
+            println!(rt; "color: {on}")
+        }
+        Err(failure) => {
+            drop(failure);
+            Ok(())
+        }
+    }
+}
+
+/// Tells what `git` reads off words of its own.
+fn show_commit(rt: &HostRuntime) -> io::Result<()> {
+    let command = String::from_str(rt.alloc(), "commit")?;
+    let message = String::from_str(rt.alloc(), "-mdone")?;
+    let words = [command, message];
+    match read_git(rt.alloc(), &words) {
+        Ok(git) => match git.command {
+            Command::Commit { all, message } => {
+                println!(rt; "git: commit, all {all}, message {message}")
+            }
+            _ => Ok(()),
+        },
+        Err(failure) => {
+            drop(failure);
+            Ok(())
+        }
+    }
+}

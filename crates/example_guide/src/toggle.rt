@@ -1,0 +1,55 @@
+//! A parser of one's own.
+use bpaf::{Args, Error, Meta, NamedArg, ParseFailure, Parser, State, long};
+use std::alloc::{AllocError, Global};
+
+/// Two keys, such as `--color` and `--no-color`: Some(true) for the one, Some(false) for the other,
+/// None where neither is there.
+#[derive(Drop)]
+pub struct Toggle {
+    /// The key that turns it on.
+    pub on: NamedArg,
+    /// The key that turns it off.
+    pub off: NamedArg,
+}
+
+/// The first key that turns it on counts, else the first that turns it off. It refuses nothing and
+/// shows nothing, so its keys have long names alone: short ones of joined words are known by what
+/// is shown.
+impl Parser<Option<bool>> for Toggle {
+    ghost use Rattle.std.specs.Prelude.{◌≡◌};
+    ghost use Rattle.bpaf_doc.specs.Shape.{Skip};
+    ghost use Rattle.example_guide.specs.Toggle.{ToggleReads, ToggleOutcome, toggle_lawful};
+
+    ghost can_eval = { λ p. Unit {0} };
+
+    ghost describes = { λ p shape. shape ≡ Skip };
+
+    ghost reads = { λ p. ToggleReads p.on.names p.off.names };
+
+    ghost outcome = { λ p. ToggleOutcome p.on.names p.off.names };
+
+    fn eval(&self, state: &mut State) -> Result<Option<bool>, Error> {
+        if state.take_flag(self.on.shorts(), self.on.longs()) {
+            return Ok(Some(true));
+        }
+        if state.take_flag(self.off.shorts(), self.off.longs()) {
+            return Ok(Some(false));
+        }
+        Ok(None)
+    }
+
+    fn meta(&self, _alloc: Global) -> Result<Meta, AllocError> {
+        Ok(Meta::Skip)
+    }
+
+    ghost lawful = { λ p. toggle_lawful p.on.names p.off.names };
+}
+
+/// Whether the words turn the colour on or off, by `--color` and `--no-color`.
+pub fn read_color(alloc: Global, words: &[&str]) -> Result<Option<bool>, ParseFailure> {
+    let color = Toggle {
+        on: long(alloc, "color")?,
+        off: long(alloc, "no-color")?,
+    };
+    color.run_once(alloc, Args::from(words).set_name("color"))
+}

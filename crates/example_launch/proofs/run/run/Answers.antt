@@ -1,0 +1,8 @@
+use Rattle.bpaf_program.proofs.Running.{prints_text, runs_to}
+use Rattle.example_launch.proofs.run.run.Goals as goal
+
+pub returns : goal.returns
+returns g c = record {
+  answers = runs_to _ _ _ _ _ c.print.ensures c.lines_of.ensures.answer;
+  exact = prints_text _ _ _ _ c.print.ensures c.lines_of.ensures.exact;
+}

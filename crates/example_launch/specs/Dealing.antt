@@ -1,0 +1,73 @@
+-- A launch that words ask for.
+use Rattle.std.specs.Prelude.{◌≡◌, ℕ, Bool, true, false, List, [], ◌∷◌, Some, codes}
+use Rattle.std.specs.Prelude.{map, string_bytes, Contains}
+use Rattle.std.specs.Global.{Vec}
+use Rattle.bpaf_doc.specs.Names.{Names}
+use Rattle.bpaf_text.specs.Named.{key_named}
+use Rattle.bpaf_words.specs.Arguments.{Given}
+use Rattle.bpaf_words.specs.Spelling.{Known, knowing}
+use Rattle.bpaf_laws.specs.Flag.{FlagReads}
+use Rattle.bpaf_laws.specs.Product.{BothReads, ProductReads}
+use Rattle.bpaf_laws.specs.Reading.{Readings}
+use Rattle.bpaf_laws.specs.Repeat.{ManyReads}
+use Rattle.bpaf.specs.declared.leaves.positional.Position.{Position}
+use Rattle.bpaf.specs.declared.leaves.positional.Position.TheVariants.{Strict, NonStrict}
+use Rattle.bpaf.specs.Marker.{words_before, words_behind}
+use Rattle.bpaf.specs.Positional.{PositionalReads}
+use Rattle.bpaf_program.specs.Dealt.{IsDealtBy}
+use Rattle.bpaf_program.specs.Values.{IsKept, MeansText, String}
+use Rattle.example_launch.specs.declared.options.Launch.{Launch}
+
+-- the names of the switch by which more is told
+abbrev pub verbose_names : Names
+verbose_names = record { shorts = codes "v"; longs = codes "verbose" ∷ [] }
+
+-- the names of the switch by which nothing is started
+abbrev pub dry_run_names : Names
+dry_run_names = record { shorts = []; longs = codes "dry-run" ∷ [] }
+
+-- the known short names: those of the switch, of help and of version, all flags
+abbrev pub program_known : Known
+program_known = knowing (record { flags = codes "vhV"; arguments = [] })
+
+-- what the program is given
+abbrev pub program_given : List (List ℕ) → Given
+program_given words = record { words = words; env = []; name = Some (codes "launch") }
+
+-- what a switch with these names reads
+abbrev pub SwitchReads : Names → Readings Bool
+SwitchReads names = FlagReads Bool IsKept (key_named names) true (Some false)
+
+-- what a word at this position reads
+abbrev pub WordReads : Position → Readings String
+WordReads position = PositionalReads String MeansText position
+
+-- the values of the two switches, the name and the words that are passed on
+abbrev pub FieldValues : Type 0
+FieldValues = Bool × (Bool × (String × Vec String))
+
+-- the launch of them
+abbrev pub launch_of : FieldValues → Launch
+launch_of x = record { verbose = x.0; dry_run = x.1.0; name = x.1.1.0; words = x.1.1.1 }
+
+-- what a launch reads: the two switches, a name that stands before the first `--`, and the words
+-- that are passed on, each behind it; each place once
+abbrev pub LaunchReads : Readings Launch
+LaunchReads =
+    ProductReads FieldValues Launch
+    (BothReads Bool (Bool × (String × Vec String)) (SwitchReads verbose_names)
+    (BothReads Bool (String × Vec String) (SwitchReads dry_run_names)
+    (BothReads String (Vec String) (WordReads NonStrict) (ManyReads (WordReads Strict)))))
+    (λ x launch. launch ≡ launch_of x)
+
+-- all places of the words' line but the first `--` are dealt out to the two switches, the name and
+-- the words that are passed on, each used once
+abbrev pub IsDealtLaunch : List (List ℕ) → Launch → Type 0
+IsDealtLaunch words = IsDealtBy program_known (program_given words) LaunchReads
+
+-- the words ask for a launch: it is dealt out of them, its name stands before the first `--`, and
+-- its words are those behind that
+pub record IsLaunchOf (words : List (List ℕ)) (launch : Launch) : Type 0 where
+  pub dealt : IsDealtLaunch words launch
+  pub named : Contains (words_before words) (string_bytes launch.name)
+  pub passed : map string_bytes launch.words.items ≡ words_behind words

@@ -1,0 +1,27 @@
+//! The program from its words to its bytes and its status.
+ghost use Rattle.std.specs.Prelude.{map, string_bytes};
+ghost use Rattle.bpaf_program.specs.Running.{PrintsTextOf, RunsTo};
+ghost use Rattle.bpaf_program.specs.Sink.{wrote};
+ghost use Rattle.example_launch.specs.Exact.{IsLaunchValue};
+ghost use Rattle.example_launch.specs.Lines.{lines};
+ghost use Rattle.example_launch.specs.Running.{Answers};
+
+use crate::print::lines_of;
+use bpaf_program::{Sink, print};
+use std::alloc::Global;
+
+/// Runs the program on its words, and gives its status.
+///
+/// Status 0 comes only where a launch was read and all its lines written on `out`, or where help
+/// was asked for and written there; and then nothing is written on `err`. A refusal is told on
+/// `err`, as `Error: ` and the message, and nothing is written on `out`; its status is 1, as is
+/// that of a write that fails, after a beginning of the text. Over two sinks that tell their
+/// failures, less is written only where a write failed, and nothing behind that.
+pub fn run<S: Sink, E: Sink>(alloc: Global, words: &[String], out: &mut S, err: &mut E) -> u8
+    ensures answers { RunsTo (Answers (map string_bytes words.now)) (wrote S.known out.old out.new)
+        (wrote E.known err.old err.new) result }
+    ensures exact { PrintsTextOf (IsLaunchValue (map string_bytes words.now)) lines
+        (wrote S.known out.old out.new) (wrote E.known err.old err.new) result }
+{
+    print(lines_of(alloc, words), out, err)
+}

@@ -1,0 +1,81 @@
+//! With ample memory no line is too long for an answer, and no parser too deep.
+use bpaf::parsers::ParseCommand;
+use bpaf::{Parser, positional, short};
+use std::alloc::{AllocError, Global};
+use std::collections::VecDeque;
+use std::test::Fail;
+use test_support::{answers, num, reads, value, verbose};
+
+/// How many of so many words are read.
+fn words_read(alloc: Global, number: usize) -> Result<Option<usize>, AllocError> {
+    let mut words = Vec::new(alloc);
+    for _ in 0..number {
+        words.push("w")?;
+    }
+    let files = positional::<String>("FILE").count();
+    value(alloc, files, words.as_slice())
+}
+
+#[test]
+fn a_hundred_thousand_words_are_read(rt: HostRuntime) -> Result<(), Fail> {
+    assert_eq!(rt; words_read(rt.alloc(), 100_000)?, Some(100_000));
+    Ok(())
+}
+
+/// How many of so many numbers are collected.
+fn numbers_collected(alloc: Global, number: usize) -> Result<Option<usize>, AllocError> {
+    let mut words = Vec::new(alloc);
+    for _ in 0..number {
+        words.push("-n3")?;
+    }
+    let numbers = num(alloc)?.collect::<VecDeque<u64>>();
+    let numbers = value(alloc, numbers, words.as_slice())?;
+    Ok(numbers.map(|numbers| numbers.len()))
+}
+
+#[test]
+fn a_thousand_values_are_collected(rt: HostRuntime) -> Result<(), Fail> {
+    assert_eq!(rt; numbers_collected(rt.alloc(), 1_000)?, Some(1_000));
+    Ok(())
+}
+
+/// How often a flag stands in one word of so many letters.
+fn letters_read(alloc: Global, number: usize) -> Result<Option<usize>, AllocError> {
+    let mut word = String::from_str(alloc, "-")?;
+    for _ in 0..number {
+        word.push('v')?;
+    }
+    let flags = short(alloc, 'v')?.req_flag(()).count();
+    value(alloc, flags, &[word.as_str()])
+}
+
+#[test]
+fn ten_thousand_letters_are_read(rt: HostRuntime) -> Result<(), Fail> {
+    assert_eq!(rt; letters_read(rt.alloc(), 10_000)?, Some(10_000));
+    Ok(())
+}
+
+/// A command `a` over a parser.
+fn deeper<T: Drop, P: Parser<T> + Drop>(
+    alloc: Global,
+    parser: P,
+) -> Result<ParseCommand<T, P>, AllocError> {
+    parser.to_options(alloc)?.command("a")
+}
+
+/// What ten commands in one another answer to their words, and to help behind them.
+fn ten_commands(alloc: Global) -> Result<String, AllocError> {
+    let five = deeper(alloc, deeper(alloc, deeper(alloc, verbose(alloc)?)?)?)?;
+    let five = deeper(alloc, deeper(alloc, five)?)?;
+    let ten = deeper(alloc, deeper(alloc, deeper(alloc, five)?)?)?;
+    let ten = deeper(alloc, deeper(alloc, ten)?)?;
+    let full = ["a", "a", "a", "a", "a", "a", "a", "a", "a", "a", "-v"];
+    answers(alloc, ten, &[&full, &full[1..]])
+}
+
+#[test]
+fn ten_commands_deep_is_read(rt: HostRuntime) -> Result<(), Fail> {
+    let wanted =
+        "ok true\nerr expected `COMMAND ...`, got `-v`. Pass `--help` for usage information\n";
+    reads(ten_commands(rt.alloc()), wanted)
+}

@@ -1,0 +1,25 @@
+//! The rows of what stands above `bpaf`, as tests: of flat records and programs with commands their
+//! values, which options are none, and how their runs end over two writers; and of batteries.
+//!
+//! It stands on `bpaf_program`, `bpaf_record`, `bpaf_batteries`, `bpaf` and `test_support`. Nothing
+//! stands on this crate: one with tests is proved twice. docs/ROWS.md names each row and its test.
+#![tactic(auto)]
+
+#[cfg(test)]
+mod batteries;
+#[cfg(test)]
+mod command_ends;
+#[cfg(test)]
+mod ends;
+#[cfg(test)]
+mod not_flat;
+#[cfg(test)]
+mod not_programs;
+#[cfg(test)]
+mod numbers;
+#[cfg(test)]
+mod program_rows;
+#[cfg(test)]
+mod record_rows;
+#[cfg(test)]
+mod variable_rows;

@@ -1,0 +1,160 @@
+//! Which options are no program with commands. What runs as one is one.
+use bpaf::params::{ParseFlag, ParsePositional};
+use bpaf::parsers::ParseCommand;
+use bpaf::{Parser, choice, construct, positional};
+use bpaf_record::{CommandLine, ProgramField};
+use std::alloc::{AllocError, Global};
+use std::test::Fail;
+use test_support::switch;
+
+/// A command over a switch.
+type Opening = ParseCommand<bool, ParseFlag<bool>>;
+
+/// Words of commands, each with the name of the switch inside.
+type Called<'a> = &'a [(&'a str, char)];
+
+/// Whether a parser with the usual keys for help and version is a program.
+fn is_whole<T: Drop, P: ProgramField<T> + Drop>(
+    alloc: Global,
+    parser: P,
+) -> Result<bool, AllocError> {
+    Ok(parser.to_options(alloc)?.is_program())
+}
+
+/// A command of this word over the switch of this name.
+fn open(alloc: Global, word: &str, key: char) -> Result<Opening, AllocError> {
+    switch(alloc, key)?.to_options(alloc)?.command(word)
+}
+
+/// The command `add` over the switch `-f`.
+fn add(alloc: Global) -> Result<Opening, AllocError> {
+    open(alloc, "add", 'f')
+}
+
+/// Whether a command is a program.
+fn is_opening_whole(alloc: Global, parser: Opening) -> Result<bool, AllocError> {
+    is_whole(alloc, parser)
+}
+
+/// Of commands, whether one is: of words that are none of commands, with a key inside that is named
+/// as its own help or version, with such further names, and of an adjacent one.
+fn is_one_opening(alloc: Global) -> Result<bool, AllocError> {
+    for (word, key) in [
+        ("-v", 'f'),
+        ("-", 'f'),
+        ("", 'f'),
+        ("add", 'h'),
+        ("add", 'V'),
+    ] {
+        if is_opening_whole(alloc, open(alloc, word, key)?)? {
+            return Ok(true);
+        }
+    }
+    Ok(
+        is_opening_whole(alloc, add(alloc)?.short('-')?)?
+            || is_opening_whole(alloc, add(alloc)?.long("--all")?)?
+            || is_opening_whole(alloc, add(alloc)?.long("")?)?
+            || is_opening_whole(alloc, add(alloc)?.adjacent())?,
+    )
+}
+
+/// Whether a choice of these commands is one.
+fn is_choice_whole(alloc: Global, called: Called<'_>) -> Result<bool, AllocError> {
+    let mut commands = Vec::new(alloc);
+    for (word, key) in called {
+        commands.push(open(alloc, word, *key)?)?;
+    }
+    is_whole(alloc, choice(commands))
+}
+
+/// Whether a choice of two commands is one.
+fn is_either_whole(alloc: Global, first: Opening, second: Opening) -> Result<bool, AllocError> {
+    is_whole(alloc, construct!([first, second]))
+}
+
+/// Of choices of commands of one word, whether one is.
+fn is_one_choice(alloc: Global) -> Result<bool, AllocError> {
+    Ok(
+        is_choice_whole(alloc, &[("rm", 'f'), ("add", 'g'), ("rm", 'k')])?
+            || is_either_whole(alloc, add(alloc)?.short('r')?, open(alloc, "r", 'g')?)?,
+    )
+}
+
+/// Whether two fields are one.
+fn are_whole<A: Drop, B: Drop, P: ProgramField<A> + Drop, Q: ProgramField<B> + Drop>(
+    alloc: Global,
+    first: P,
+    second: Q,
+) -> Result<bool, AllocError> {
+    is_whole(alloc, construct!(first, second))
+}
+
+/// Whether a switch of this name and a command `remote` over `add` are one.
+fn are_nested_whole(alloc: Global, key: char) -> Result<bool, AllocError> {
+    let remote = add(alloc)?.to_options(alloc)?.command("remote")?;
+    are_whole(alloc, switch(alloc, key)?, remote)
+}
+
+/// A word.
+fn word() -> ParsePositional<String> {
+    positional("FILE")
+}
+
+/// Of products, whether one is: with a command that isn't last, behind a word, and with names that
+/// aren't apart.
+fn is_one_product(alloc: Global) -> Result<bool, AllocError> {
+    Ok(
+        are_whole(alloc, add(alloc)?, switch(alloc, 'v')?)?
+            || are_whole(alloc, word(), add(alloc)?)?
+            || are_whole(alloc, switch(alloc, 'f')?, add(alloc)?)?
+            || are_whole(alloc, switch(alloc, 'h')?, add(alloc)?)?
+            || are_nested_whole(alloc, 'f')?,
+    )
+}
+
+/// Whether a product is one as a field before a command, or with a closure round it.
+fn is_round_whole<T: Drop, P: ProgramField<T> + Drop>(
+    alloc: Global,
+    product: P,
+    inside: bool,
+) -> Result<bool, AllocError> {
+    if inside {
+        are_whole(alloc, product, add(alloc)?)
+    } else {
+        is_whole(alloc, product.map(|value| value))
+    }
+}
+
+/// Of products that stand where none may, whether one is: with a word, before a command; and with a
+/// closure round it.
+fn is_one_inside(alloc: Global) -> Result<bool, AllocError> {
+    let verbose = switch(alloc, 'v')?;
+    let file = word();
+    let fields = construct!(verbose, file);
+    let quiet = switch(alloc, 'q')?;
+    let add = add(alloc)?;
+    let ends = construct!(quiet, add);
+    Ok(is_round_whole(alloc, fields, true)? || is_round_whole(alloc, ends, false)?)
+}
+
+/// Of a command that may be left out and catches, and of one under a repeat, whether one is.
+fn is_one_wrapped(alloc: Global) -> Result<bool, AllocError> {
+    Ok(is_whole(alloc, add(alloc)?.optional().catch())? || is_whole(alloc, add(alloc)?.many())?)
+}
+
+/// Of all these, whether one is.
+fn is_one_whole(alloc: Global) -> Result<bool, AllocError> {
+    Ok(
+        is_one_opening(alloc)?
+            || is_one_choice(alloc)?
+            || is_one_product(alloc)?
+            || is_one_inside(alloc)?
+            || is_one_wrapped(alloc)?,
+    )
+}
+
+#[test]
+fn what_is_no_program_is_told(rt: HostRuntime) -> Result<(), Fail> {
+    assert!(rt; !is_one_whole(rt.alloc())?);
+    Ok(())
+}
