@@ -1,8 +1,8 @@
 #!/usr/bin/env python3
 """Holds the documents to the tree: names in backticks stand somewhere in crates/, and where a page says
 so; each row of docs/ROWS.md runs as it says, by its tests or as data; and docs/STATEMENT.md has the
-definitions as they stand. No source keeps a value from being dropped. It prints what doesn't hold,
-and then exits with 1.
+definitions as they stand. No line of a page is too wide, and no source keeps a value from being
+dropped. It prints what doesn't hold, and then exits with 1.
 
 A name is an identifier or a path of them. Of docs/DIFFERENCES.md, whose first column and whose last
 lists are of Rust, only what is said to stand here is looked at.
@@ -19,6 +19,8 @@ import statement
 
 NAME = re.compile(r"[A-Za-z_]\w*(::[A-Za-z_]\w*)*(\(\))?")
 IDENTIFIER = re.compile(r"[A-Za-z_]\w*")
+PAGES = [*sorted(glob.glob("docs/*.md")), "README.md", "CONTRIBUTING.md", "CHANGELOG.md"]
+WIDTH = 160
 UNDROPPED = re.compile(r"\b(forget|leak|ManuallyDrop)\b")
 
 
@@ -56,6 +58,13 @@ def names(path, named):
             yield it
 
 
+def wide_lines(path):
+    """The lines of a page that are too wide, and of no table and no code."""
+    for line in re.sub(r"(?s)```.*?```", "", text_of(path)).split("\n"):
+        if len(line) > WIDTH and not line.lstrip().startswith("|"):
+            yield line
+
+
 def main():
     found = sources()
     words = {word for path, text in found.items() for word in IDENTIFIER.findall(path + " " + text)}
@@ -65,10 +74,11 @@ def main():
     for path, text in found.items():
         if path.endswith(".rt") and UNDROPPED.search(text):
             lost.append(f"{path}: a value may be left undropped")
-    for path in [*sorted(glob.glob("docs/*.md")), "README.md"]:
+    for path in PAGES:
         for name in sorted({*names(path, named)}):
             if any(it not in words for it in IDENTIFIER.findall(name)):
                 lost.append(f"{path}: `{name}` stands nowhere")
+        lost += [f"{path}: a line of over {WIDTH} columns" for _ in wide_lines(path)]
     print("\n".join([*lost, f"documents: {len(named)} rows of tests, {len(lost)} faults"]))
     return 1 if lost else 0
 

@@ -1,19 +1,13 @@
 -- How the attempts of an adjacent group follow one another.
-use Rattle.std.proofs.Common.{◌≡◌, ℕ, ◌≤◌, ◌<◌, Result, Ok, Err, length, subst, sym}
+use Rattle.std.proofs.Common.{◌≡◌, ℕ, ◌≤◌, ◌<◌, Result, Ok, Err, subst, sym}
 use Rattle.bpaf_line.specs.declared.error.Error.{Error}
 use Rattle.bpaf_line.specs.Situation.{Situation, with_scope}
 use Rattle.bpaf_line.proofs.Places.{open_in_scope}
 use Rattle.bpaf_laws.specs.AdjacentGroup.{Narrowed, again, Tries, answered, refused}
 use Rattle.bpaf_laws.specs.Reading.{Outcome}
-use Rattle.bpaf_laws.proofs.AdjacentGroupLaws.{narrowed_open}
 use Rattle.bpaf.specs.declared.adjacent.attempts.AttemptEnd.{AttemptEnd}
 use Rattle.bpaf.specs.declared.adjacent.attempts.AttemptEnd.TheVariants as ending
 use Rattle.bpaf.specs.Remembering.{EndsAttempt}
-
--- an attempt's scope lies in the line
-pub record FitsLine (s : Situation) (place stop : ℕ) : Type 0 where
-  pub ordered : place ≤ stop
-  pub inside : stop ≤ length s.context.line
 
 module _ (T : Type 0) (inner : Outcome T) (s b u : Situation) (place stop : ℕ) (same : b ≡ s)
     (narrowed : Narrowed T inner s place stop) where
@@ -23,13 +17,6 @@ module _ (T : Type 0) (inner : Outcome T) (s b u : Situation) (place stop : ℕ)
   from_start r answer is ends =
       subst (λ x. EndsAttempt T inner s place stop x u) is
       (subst (λ x. EndsAttempt T inner x place stop r u) same ends)
-
-  -- the next scope lies in the line
-  pub fits_line : stop ≤ length s.context.line → FitsLine b place stop
-  fits_line inside = record {
-    ordered = (narrowed_open inner s place stop narrowed).0;
-    inside = subst (λ x. stop ≤ length x.context.line) (sym same) inside;
-  }
 
   -- the attempt that leaves nothing of its scope is the last
   pub whole_answers : (r : Result (AttemptEnd T) Error) (v : T) → r ≡ Ok (ending.Whole v)

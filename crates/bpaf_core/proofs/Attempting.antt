@@ -6,7 +6,7 @@ use Rattle.bpaf_line.specs.Changes.{Changes}
 use Rattle.bpaf_line.specs.declared.failure.ParseFailure.{ParseFailure}
 use Rattle.bpaf_line.specs.declared.failure.ParseFailure.TheVariants as failure
 use Rattle.bpaf_line.specs.declared.mark.Mark.{Mark}
-use Rattle.bpaf_line.specs.Marks.{CanRedo, Fits, KeepsMarks, redone, undone}
+use Rattle.bpaf_line.specs.Marks.{Fits, KeepsMarks, redone, undone}
 use Rattle.bpaf_line.specs.Messages.{is_memory}
 use Rattle.bpaf_line.specs.Stretches.{IsStretchFrom}
 use Rattle.bpaf_line.specs.Situation.{Situation, with_scope}
@@ -34,11 +34,6 @@ module _ (mark : Mark) (t m u : Situation) (back : m ≡ undone mark t) (fits : 
   -- what began at a mark goes back to it
   pub back_again : undone mark u ≡ undone mark t
   back_again = keeps.same mark fits ∙ (there ∙ back)
-
-  -- steps from the mark can be done there again
-  pub can_again : (steps : Changes) → CanRedo steps (undone mark t)
-      → CanRedo steps (undone mark u)
-  can_again steps can = subst (CanRedo steps) (sym back_again) can
 
   -- and lead to where they led
   pub led_again : (steps : Changes) → redone steps (undone mark t) ≡ t

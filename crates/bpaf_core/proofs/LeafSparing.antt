@@ -1,7 +1,7 @@
 -- Leaves tell want of memory as nothing else.
 use Rattle.std.specs.Prelude.{◌≡◌, false, List, ℕ, Option, None, Result, Ok, Err}
 use Rattle.std.specs.Result.{IfErr}
-use Rattle.std.proofs.Common.{true≢false, subst, sym, ◌∙◌, ap}
+use Rattle.std.proofs.Common.{true≢false, sym, ◌∙◌, ap}
 use Rattle.bpaf_line.specs.declared.error.Error.{Error}
 use Rattle.bpaf_line.specs.declared.error.Message.{Message}
 use Rattle.bpaf_line.specs.declared.error.Message.TheVariants.{Memory, NoEnv, ParseSome, ParseFail}
@@ -14,12 +14,11 @@ use Rattle.bpaf_line.specs.declared.error.Message.TheVariants.{ParseFailure}
 use Rattle.bpaf_line.specs.Messages.{is_memory}
 use Rattle.bpaf_line.specs.Situation.{Situation}
 use Rattle.bpaf_text.specs.Named.{KeyWithValue, Named}
-use Rattle.bpaf_laws.specs.Argument.{ArgumentFails, ArgumentOutcome}
 use Rattle.bpaf_laws.specs.Flag.{FlagFails, FlagOutcome, IsFlagAbsent}
 use Rattle.bpaf_keys.specs.Extra.{ExtraOutcome, help, neither, no_memory, version}
 use Rattle.bpaf_keys.specs.Info.{RunInfo}
 use Rattle.bpaf_keys.specs.declared.info.ExtraParams.{ExtraParams}
-use Rattle.bpaf_core.specs.Leaves.{AsksForNeither, ClonesNothing, FaultsTextAlone}
+use Rattle.bpaf_core.specs.Leaves.{AsksForNeither, ClonesNothing}
 
 module _ {T : Type 0} (named : Named) (absent : Option T) (s t : Situation) where
   -- by the message of the refusal
@@ -51,13 +50,6 @@ module _ {T : Type 0} (named : Named) (absent : Option T) (s t : Situation) wher
 
 module _ {T : Type 0} (means : List ℕ → T → Type 0) (argument : KeyWithValue)
     (s t : Situation) where
-  -- an argument tells no fault of a text that means a value
-  pub argument_faults_alone : (r : Result T Error) → ArgumentOutcome means argument s r t
-      → IfErr r (FaultsTextAlone means argument s t)
-  argument_faults_alone (Ok v) answered = tt
-  argument_faults_alone (Err e) answered = λ place fault is.
-      let failed = subst (λ m. ArgumentFails means argument s m t) is answered in
-      (failed.0, failed.1, failed.2.0)
 
 module _ (info : RunInfo) (s t : Situation) where
   -- that neither is asked for is told of no want of memory

@@ -1,5 +1,5 @@
 -- How the answers of a run are put together.
-use Rattle.std.proofs.Common.{◌≡◌, ◌==◌, ℕ, ◌<◌, Bool, true, false, List, []}
+use Rattle.std.proofs.Common.{◌≡◌, ◌==◌, ℕ, ◌<◌, Bool, true, List, []}
 use Rattle.std.proofs.Common.{IfSome, length, ap, Result, Ok, Err, ⊎_elim, ◌∙◌, inl, inr, subst}
 use Rattle.std.proofs.Common.{sym, refl, IsErrAnd}
 use Rattle.std.specs.Result.{IfErr}
@@ -10,7 +10,6 @@ use Rattle.bpaf_line.specs.declared.error.Message.TheVariants.{Memory, Ambiguity
 use Rattle.bpaf_line.specs.declared.failure.ParseFailure.{ParseFailure}
 use Rattle.bpaf_line.specs.declared.failure.ParseFailure.TheVariants as failure
 use Rattle.bpaf_line.specs.Situation.{Situation, Context, beginning}
-use Rattle.bpaf_line.specs.Constructing.{message_of}
 use Rattle.bpaf_laws.specs.Reading.{Outcome}
 use Rattle.bpaf_doc.specs.Shape.{Shape}
 use Rattle.bpaf_keys.specs.Info.{RunInfo}
@@ -19,7 +18,7 @@ use Rattle.bpaf_words.specs.Arguments.{Given}
 use Rattle.bpaf_words.specs.Line.{HasNoLine, IsLine}
 use Rattle.bpaf_words.specs.Spelling.{known_at}
 use Rattle.bpaf_words.proofs.Fronts.{marker_of_line}
-use Rattle.bpaf_words.specs.Splitting.{IsLineByAny, ReadsLine}
+use Rattle.bpaf_words.specs.Splitting.{ReadsLine}
 use Rattle.bpaf_words.specs.declared.line.Line.{Line}
 use Rattle.bpaf_words.specs.declared.line.LineFault.{LineFault}
 use Rattle.bpaf_words.specs.declared.line.LineFault.TheVariants as fault
@@ -31,10 +30,6 @@ use Rattle.bpaf_core.specs.Refusals.{IsOneOfTwelve, without_memory}
 -- a count that was tested for nothing
 pub nothing_left : (n : ℕ) (empty : Bool) → empty ≡ (n == 0) → empty ≡ true → n ≡ 0
 nothing_left n empty is holds = grind (arith, nat_tests)
-
--- and is something
-pub something_left : (n : ℕ) (empty : Bool) → empty ≡ (n == 0) → empty ≡ false → 0 < n
-something_left n empty is otherwise = grind (arith, nat_tests)
 
 -- known names as a whole
 known_are : (info : RunInfo) (flags arguments : List ℕ) (shape : Shape)
@@ -70,13 +65,6 @@ read_by_shown describes info words numbers flags arguments shape
     )
 read_by_shown describes info words numbers flags arguments shape (Err fault.Memory) setting shown
     flags_are arguments_are none = tt
-
--- the line that was read whatever names are known is the words' line
-pub read_by_any : (describes : Shape → Type 0) (info : RunInfo) (words : List (List ℕ))
-    (numbers : Bool) (line : Line) → numbers ≡ info.numbers → IsLineByAny numbers words line
-    → ReadsLineOf describes info words (Ok line)
-read_by_any describes info words numbers line setting is =
-    inr (subst (λ n. IsLineByAny n words line) setting is)
 
 -- the marker of a line that was read lies in it
 pub marker_within : (describes : Shape → Type 0) (info : RunInfo) (words : List (List ℕ))
@@ -125,20 +113,6 @@ starts_at describes info given words line s same reads begun = (
       reads,
   begun,
 )
-
--- a run over words whose line couldn't be read doesn't start
-pub starts_not : (describes : Shape → Type 0) (info : RunInfo) (given : Given)
-    (words : List (List ℕ)) (f : LineFault) (m : Message) → words ≡ given.words
-    → ReadsLineOf describes info words (Err f) → m ≡ message_of f
-    → Starts describes info given (Err m)
-starts_not describes info given words (fault.Ambiguous word number) m same lacks is =
-    subst (λ x. Starts describes info given (Err x)) (sym is) (
-      lacks.0,
-      lacks.1,
-      subst (λ xs. HasNoLine (known_names info lacks.0) xs word number) same lacks.2,
-    )
-starts_not describes info given words fault.Memory m same none is =
-    subst (λ x. Starts describes info given (Err x)) (sym is) tt
 
 module _ {T : Type 0} {inner : Outcome T} {describes : Shape → Type 0} {info : RunInfo}
     (given : Given)

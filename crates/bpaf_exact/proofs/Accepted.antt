@@ -7,10 +7,10 @@ use Rattle.std.proofs.lemmas.List.Elements.{All-nil, All-cons}
 use Rattle.bpaf_base.specs.Items.{is_positional}
 use Rattle.bpaf_base.specs.declared.arg.Arg.{Arg}
 use Rattle.bpaf_base.specs.declared.arg.Arg.TheVariants.{ArgWord}
-use Rattle.bpaf_exact.specs.Pieces.{Cells, Role, Foreign, Roles, Alone, WithNext, LinePiece, One}
+use Rattle.bpaf_exact.specs.Pieces.{Cells, Roles, Alone, WithNext, LinePiece, One}
 use Rattle.bpaf_exact.specs.Pieces.{Two}
 use Rattle.bpaf_exact.specs.Pieces.{is_value, is_key, is_own_role, is_own, others, IsNamed, Cut}
-use Rattle.bpaf_exact.specs.Pieces.{at_end, passed, flag, argument, word, either, either_role}
+use Rattle.bpaf_exact.specs.Pieces.{at_end, passed, flag, argument, word}
 use Rattle.bpaf_exact.specs.Pieces.{no_roles}
 use Rattle.bpaf_exact.specs.Accepted.{HasItsValue, EndsInKey, is_word_alone, HoldsTogether}
 use Rattle.bpaf_exact.proofs.Cells.{value_not_key, word_not_key, value_foreign, word_foreign}
@@ -173,28 +173,6 @@ attached_to r cs os h before after k text e =
     ap r (same_end before i.before k i.key i.is) ∙ i.wants_value
 
 -- What is left to positional fields.
-
--- what is left of a piece whose item has one role to the fields first asked and another to the rest
-left_by_both : (r : Roles) (x y : Role) (o : LinePiece) {xs : List LinePiece} (ys : List LinePiece)
-    → is_own r o ≡ is_own_role y → xs ≡ others r ys
-    → (if is_own_role (either_role x y) then xs else (o ∷ xs))
-    ≡ others r (if is_own_role x then ys else (o ∷ ys))
-left_by_both r Foreign y o {xs = xs} ys e h =
-    subst (λ b. (if is_own_role y then xs else (o ∷ xs))
-    ≡ (if b then others r ys else (o ∷ others r ys))) (sym e)
-    (ap (λ z. if is_own_role y then z else (o ∷ z)) h)
-left_by_both r Alone y o ys e h = h
-left_by_both r WithNext y o ys e h = h
-
--- what all named fields leave, each of what those before it left, is what begins with none of their
--- keys
-pub others_either : (q r : Roles) (os : List LinePiece)
-    → others (either q r) os ≡ others r (others q os)
-others_either q r [] = refl
-others_either q r (One k ∷ os) =
-    left_by_both r (q k) (r k) (One k) (others q os) refl (others_either q r os)
-others_either q r (Two k w ∷ os) =
-    left_by_both r (q k) (r k) (Two k w) (others q os) refl (others_either q r os)
 
 -- without keys all is left
 pub others_none : (os : List LinePiece) → others no_roles os ≡ os

@@ -438,14 +438,6 @@ module _ (T : Type 0) (a b : Outcome T) (qa qb : Roles) (va vb : LinePiece → T
   unfolding Unread
   refused_either s g c h n = alternative_refused c refl h n
 
-  -- a refusal of an alternative is of one of two classes
-  err_class : (q : Roles) (v : LinePiece → T → Type 0) (s m : Situation) (e : Error)
-      → is_memory e.0 ≡ false → AlternativeErr T q v s e m
-      → (class e ≡ OfMissing) ⊎ (class e ≡ Refused)
-  err_class q v s m e h (alternative_memory c) = absurd (not_memory e.0 h c)
-  err_class q v s m e h (alternative_missing c p same st) = inl c
-  err_class q v s m e h (alternative_refused c p b n) = inr c
-
   -- with a refusal of either class
   by_class : (s : Situation) (g : Error) → (class g ≡ OfMemory) ⊎ (class g ≡ Refused)
       → HasBad T vr (pieces (either qa qb) (cells s)) → Unread (either qa qb) vr s

@@ -119,13 +119,6 @@ module _ (V : Type 0) (outcome : Outcome V) (r : Roles) (reading : FieldsReading
   exact a ran =
       record { sound = sound a ran; complete = complete a ran; refused = refused a ran }
 
--- A line without a cut gets no value, as with a foreign key, an ArgWord after a flag's key or a key
--- without its value.
-pub uncut_refused : (V : Type 0) (r : Roles) (reading : FieldsReading V) (context : Context)
-    (a : RunAnswer V) (v : V) → IsExact V r reading context a
-    → ((os : List LinePiece) → ¬ (Cut r (line_cells context) os)) → ¬ (a ≡ Accepted v)
-uncut_refused V r reading context a v e n h = let i = e.sound v h in n i.cut_into i.cut
-
 -- each answer of a run of a flat record is exact
 pub runs_exactly : (V : Type 0) (outcome : Outcome V) (names : List Names) (s : FlatForm V)
     → is_record s ≡ true → FormLaw outcome names s → (context : Context)

@@ -386,13 +386,6 @@ takes_shorter q n (takes_later {c = None} t) = takes_shorter q n t
 takes_shorter q n (takes_later {c = Some k} {cs = cs} {ds = ds} t) =
     begin_length (q k) k ds cs (pieces q ds) (pieces q cs) (takes_shorter q n t)
 
--- so it changes the cells
-pub takes_changes : (q : Roles) {cs ds : Cells} {o : LinePiece} → IsNamed q → TakesPiece q cs o ds
-    → ds ≡ cs
-    → ⊥
-takes_changes q n t e = let a = takes_shorter q n t in let b = ap (λ z. length (pieces q z)) e in
-    omega arith
-
 -- two that share no item never leave the same cells
 pub never_same : (qa qb r : Roles) {cs ca cb : Cells} {oa ob : LinePiece} → Union qa qb r
     → TakesPiece qa cs oa ca → TakesPiece qb cs ob cb → ca ≡ cb → ⊥

@@ -5,7 +5,7 @@ use Rattle.bpaf_exact.specs.Pieces.{One, at_end, passed, word}
 use Rattle.bpaf_exact.specs.Flat.{ByName, none_here, no_place}
 use Rattle.bpaf_exact.specs.FlatForm.{single}
 use Rattle.bpaf_exact.specs.Leaves.{FlagValue, WordValue, switch_gap, word_field}
-use Rattle.bpaf_exact.specs.ProgramForm.{ProgramForm, plain, is_program, program_value}
+use Rattle.bpaf_exact.specs.ProgramForm.{ProgramForm, plain, program_value}
 use Rattle.bpaf_exact.specs.ProgramForm.{program_command, program_field, program_alone}
 use Rattle.bpaf_exact.specs.ProgramForm.{program_both, program_optional}
 use Rattle.bpaf_exact.specs.Programs.{opens_here, some_command, no_command}
@@ -29,10 +29,6 @@ abbrev whole : ProgramForm (Bool × Option (List ℕ))
 whole =
     program_both (short 118 ∷ []) [] (program_field v_switch)
     (program_alone (program_optional false a_command))
-
--- it is a program
-whole_is : is_program whole ≡ true
-whole_is = refl
 
 -- `a 5 -v`: the switch may stand behind the word
 switch_behind : program_value whole

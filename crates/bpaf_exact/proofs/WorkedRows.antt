@@ -6,7 +6,6 @@ use Rattle.bpaf_base.specs.declared.arg.Arg.TheVariants.{Short, Long, ArgWord, W
 use Rattle.bpaf_line.specs.Situation.{Context}
 use Rattle.bpaf_exact.specs.Pieces.{Foreign, Roles, LinePiece, One, Two, IsNamed, Cut, at_end}
 use Rattle.bpaf_exact.specs.Pieces.{flag, argument, word, either, no_roles, word_roles, mine}
-use Rattle.bpaf_exact.specs.Pieces.{others}
 use Rattle.bpaf_exact.specs.Pieces.{is_key}
 use Rattle.bpaf_exact.specs.Flat.{ByName, OneWord, EachWord, BothValue, both_reading, keys}
 use Rattle.bpaf_exact.specs.Single.{FrontOf, own_none, own_more, no_gap, SingleValue, of_group}
@@ -14,12 +13,11 @@ use Rattle.bpaf_exact.specs.Single.{of_gap}
 use Rattle.bpaf_exact.specs.Single.{OwnList, listed, listed_and_absent, only_absent}
 use Rattle.bpaf_exact.specs.Wrappers.{Closure, ClosedGroup, closed_gap}
 use Rattle.bpaf_exact.specs.Leaves.{flag_roles, argument_roles, FlagValue, ArgumentValue, WordValue}
-use Rattle.bpaf_exact.specs.Leaves.{switch_gap, flag_by, argument_by, word_field}
+use Rattle.bpaf_exact.specs.Leaves.{switch_gap, flag_by}
 use Rattle.bpaf_exact.specs.Leaves.{LastGroup, HaveValues, no_more, one_more}
 use Rattle.bpaf_exact.specs.Alternative.{either_value, bad_here, bad_later}
 use Rattle.bpaf_exact.specs.Record.{line_cells, RecordValue, LastValue, last_reading}
-use Rattle.bpaf_exact.specs.FlatForm.{FlatForm, is_record, flat_both, flat_field, flat_alone}
-use Rattle.bpaf_exact.specs.FlatForm.{flat_many, flat_choice, flat_optional}
+use Rattle.bpaf_exact.specs.FlatForm.{FlatForm}
 use Rattle.bpaf_exact.specs.Accepted.{HasItsValue, HoldsTogether}
 use Rattle.bpaf_exact.proofs.Accepted.{cut_holds_together, attached_to}
 use Rattle.bpaf_exact.proofs.Surplus.{bad_occurrence, field_no_surplus, first_part, front_one}
@@ -160,11 +158,6 @@ number_behind_key : HasItsValue three_roles (Some v_key ∷ []) n_key
 number_behind_key =
     (three_together (v_key ∷ n_key ∷ letter 3 ∷ letter 9 ∷ []) _ options_first.cut).values
     (Some v_key ∷ []) (Some (letter 3) ∷ Some (letter 9) ∷ []) n_key refl refl
-
--- that one
-word_left : others three_roles options_first.cut_into ≡ One (letter 9) ∷ []
-unfolding options_first
-word_left = refl
 
 -- `-a`: a key of nobody
 foreign_key : (os : List LinePiece)
@@ -357,72 +350,6 @@ switch_twice =
     (first_part ByName v_roles SwitchValue (last_reading (OneWord false) word_roles TextValue))
     (One v_key) (One v_key) [] refl
 
--- an argument of this name
-abbrev number_of : ℕ → FlatForm ℕ
-number_of c = argument_by number (short c) false false
-
--- one that takes its last value
-abbrev last_number_of : ℕ → FlatForm ℕ
-last_number_of c = argument_by number (short c) false true
-
--- a word
-abbrev text : FlatForm (List ℕ)
-text = word_field itself
-
--- the switch, the argument and words are a record
-fields_are : is_record (flat_both (short 118 ∷ []) (short 110 ∷ []) (flat_field switch)
-    (flat_both (short 110 ∷ []) [] (flat_field (number_of 110))
-    (flat_alone (flat_field (flat_many text))))) ≡ true
-fields_are = refl
-
--- so is the argument alone
-one_is : is_record (number_of 110) ≡ true
-one_is = refl
-
--- and the argument that takes its last value
-last_is : is_record (last_number_of 110) ≡ true
-last_is = refl
-
--- which is no alternative of a choice
-choice_of_last_is_not : is_record
-    (flat_choice (short 97 ∷ []) (short 98 ∷ []) (last_number_of 97) (number_of 98)) ≡ false
-choice_of_last_is_not = refl
-
--- and the choice of two under `many`
-choice_is : is_record (flat_many
-    (flat_choice (short 97 ∷ []) (short 98 ∷ []) (number_of 97) (number_of 98))) ≡ true
-choice_is = refl
-
--- a word before a switch is none
-word_before_is_not : is_record
-    (flat_both [] (short 118 ∷ []) (flat_field text) (flat_alone (flat_field switch))) ≡ false
-word_before_is_not = refl
-
--- nor are two of one name
-twice_is_not : is_record (flat_both (short 110 ∷ []) (short 110 ∷ []) (flat_field (number_of 110))
-    (flat_alone (flat_field (number_of 110)))) ≡ false
-twice_is_not = refl
-
--- also in one choice
-choice_twice_is_not : is_record
-    (flat_choice (short 110 ∷ []) (short 110 ∷ []) (number_of 110) (number_of 110)) ≡ false
-choice_twice_is_not = refl
-
--- nor is a repeat of what may be left out
-repeat_of_optional_is_not : is_record (flat_many (flat_optional text)) ≡ false
-repeat_of_optional_is_not = refl
-
--- nor a choice that holds a switch
-choice_of_switch_is_not : is_record
-    (flat_choice (short 118 ∷ []) (short 113 ∷ []) switch switch) ≡ false
-choice_of_switch_is_not = refl
-
--- nor a product inside a product
-product_inside_is_not : is_record (flat_both (short 118 ∷ []) [] (flat_field
-    (flat_both (short 118 ∷ []) (short 110 ∷ []) (flat_field switch)
-    (flat_alone (flat_field (number_of 110))))) (flat_alone (flat_field text))) ≡ false
-product_inside_is_not = refl
-
 -- An argument that takes its last value.
 
 -- `-n 3 -n 4`: the pieces of the argument have the last one's value, whatever the first one means
@@ -436,10 +363,6 @@ last_of_two = record {
   meant = refl;
   none_left = refl;
 }
-
--- so it is without a repeat or default
-last_value : LastValueOf (Two n_key (letter 3) ∷ Two n_key (letter 4) ∷ []) 4
-last_value = of_group last_of_two
 
 -- and the own list has this value alone
 last_list : OwnList ℕ (LastGroup ℕ number) (no_gap ℕ)

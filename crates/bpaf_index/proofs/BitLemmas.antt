@@ -6,7 +6,7 @@ use Rattle.std.proofs.Common.{◌&&◌}
 use Rattle.std.specs.Int.{bit_at}
 use Rattle.std.proofs.lemmas.Bool.{cases_eq, cases_lt, eq-eqb, ne_eqb, and_left}
 use Rattle.std.proofs.lemmas.Bool.{le-leb, lt-leb}
-use Rattle.std.proofs.lemmas.Nat.Bits.{bit_at_ones, bit_at-zero}
+use Rattle.std.proofs.lemmas.Nat.Bits.{bit_at-zero}
 use Rattle.std.proofs.lemmas.List.{get_or-replicate, get_or_past, length-replicate}
 use Rattle.bpaf_index.specs.Bits.{has_bit, is_clear_from, count_clear, clear_within, ChangesBit}
 use Rattle.bpaf_index.proofs.Counts.{count_below-none, count_below-same, count_below-split}
@@ -36,14 +36,6 @@ has_bit_others words p w within same q other = ⊎_elim
     (λ (away : q / 64 ≢ p / 64). ap (λ x. bit_at x (q % 64) == 1)
     (get_or-set_other words (p / 64) (q / 64) w 0 away))
     (cases_eq (q / 64) (p / 64))
-
--- a word whose bits are all set
-pub has_bit_full : (words : List ℕ) (p : ℕ) → slice_index words (p / 64) ≡ 18446744073709551615
-    → (q : ℕ) → q / 64 ≡ p / 64 → has_bit words q ≡ true
-has_bit_full words p full q same =
-    let word : slice_index words (q / 64) ≡ 18446744073709551615 = ap (slice_index words) same
-    ∙ full in
-    ap (λ x. bit_at x (q % 64) == 1) word ∙ ap (λ b. b == 1) (bit_at_ones 64 (q % 64) (omega arith))
 
 -- below the place from which they are counted none are
 pub count_clear-none : (words : List ℕ) (low : ℕ) → count_clear words low low ≡ 0

@@ -1,11 +1,11 @@
 -- The bits of several places at once, and the least place of some.
 use Rattle.std.proofs.Common.{◌≡◌, ◌≢◌, ℕ, ◌<◌, ◌≤◌, ◌==◌, Bool, true, false, not, ◌&&◌, List, []}
-use Rattle.std.proofs.Common.{◌∷◌, ◌++◌, Option, Some, None, length, refl, ap, sym, ◌∙◌, subst}
+use Rattle.std.proofs.Common.{◌∷◌, ◌++◌, Option, Some, None, length, refl, ap, sym, ◌∙◌}
 use Rattle.std.proofs.Common.{arith, ⊎_elim, min, if◌then◌else◌, true≢false, slice_index}
 use Rattle.std.proofs.lemmas.List.Folds.{list_any_at}
-use Rattle.std.proofs.lemmas.Bool.{cases_eq, cases_lt, cases_Bool, eq-eqb, or_right}
+use Rattle.std.proofs.lemmas.Bool.{cases_eq, cases_lt, eq-eqb, or_right}
 use Rattle.std.proofs.Math.Bool.{beq}
-use Rattle.bpaf_index.specs.Bits.{has_bit, lesser_of, is_on_as, is_in_first, ChangesBit, ChangesBits}
+use Rattle.bpaf_index.specs.Bits.{has_bit, lesser_of, is_on_as, ChangesBit, ChangesBits}
 use Rattle.bpaf_index.specs.Bits.{IsLeastIn}
 use Rattle.bpaf_index.specs.Places.{is_on}
 use Rattle.bpaf_index.proofs.Places.{is_on_push, on_others}
@@ -15,14 +15,6 @@ pub on_at : (places : List ℕ) (i : ℕ) → i < length places
     → is_on places (slice_index places i) ≡ true
 on_at places i within = list_any_at (λ q. q == slice_index places i) places i 0 within
     (eq-eqb (slice_index places i) (slice_index places i) refl)
-
--- no bit of no place is changed
-pub changes_none : (words : List ℕ) (bit : Bool) → ChangesBits words words [] bit
-changes_none words bit = record {
-  kept = refl;
-  here = λ q on. absurd (true≢false (sym on));
-  others = λ q off. refl;
-}
 
 -- the bit of one place more is changed
 pub changes_more : (old words new places : List ℕ) (p : ℕ) (bit : Bool)
@@ -65,10 +57,6 @@ on_as_here words places p bit =
     ap (λ b. b && (if bit then has_bit words p else not (has_bit words p)))
     (is_on_push places p p ∙ or_right (is_on places p) _ (eq-eqb p p refl))
     ∙ as_tested (has_bit words p) bit
-
--- the least of no places is none
-pub least_none : (words : List ℕ) (bit : Bool) → IsLeastIn (is_on_as words [] bit) None
-least_none words bit q = refl
 
 -- a place without the bit changes nothing
 pub least_skip : (words places : List ℕ) (p : ℕ) (bit : Bool) (found : Option ℕ)
@@ -123,54 +111,3 @@ least_take words places p bit (Some least) h on = ⊎_elim
           ∙ h.1 q (omega arith),
     ))
     (cases_lt least p)
-
--- two sets with the same numbers have the same least one
-least_of_same : (f g : ℕ → Bool) (found : Option ℕ) → ((q : ℕ) → f q ≡ g q) → IsLeastIn f found
-    → IsLeastIn g found
-least_of_same f g found same h = subst (λ set. IsLeastIn set found) (λ i q. same q i) h
-
--- what is on a list with a bit is what is on it alone, where the bits of its places tell that
-of_list : (own : Bool) (bit alone : Bool) → (own ≡ true → bit ≡ alone)
-    → (own && bit) ≡ (own && alone)
-of_list true bit alone same = same refl
-of_list false bit alone same = refl
-
-module _ (words own others : List ℕ) (set : (q : ℕ) → is_on own q ≡ true → has_bit words q ≡ true)
-    (clear : (q : ℕ) → is_on others q ≡ true → is_on own q ≡ false → has_bit words q ≡ false) where
-  -- the others' bits are set where they are own places too
-  others_bit : (q : ℕ) → is_on others q ≡ true → has_bit words q ≡ is_on own q
-  others_bit q on = ⊎_elim
-      (λ (mine : is_on own q ≡ true). set q mine ∙ sym mine)
-      (λ (not_mine : is_on own q ≡ false). clear q on not_mine ∙ sym not_mine)
-      (cases_Bool (is_on own q))
-
-  -- so the least of them whose bit is clear is theirs alone
-  pub least_there : (found : Option ℕ) → IsLeastIn (is_on_as words others false) found
-      → IsLeastIn (is_in_first others own) found
-  least_there found h = least_of_same (is_on_as words others false) (is_in_first others own) found
-      (λ q. of_list (is_on others q) _ _ (λ on. ap not (others_bit q on))) h
-
-  module _ (cleared : List ℕ) (first : ChangesBits words cleared others false) where
-    -- once these are cleared, the bits of own places tell whether they are own alone
-    own_bit : (q : ℕ) → is_on own q ≡ true → has_bit cleared q ≡ not (is_on others q)
-    own_bit q mine = ⊎_elim
-        (λ (on : is_on others q ≡ true). first.here q on ∙ sym (ap not on))
-        (λ (off : is_on others q ≡ false). first.others q off ∙ (set q mine ∙ sym (ap not off)))
-        (cases_Bool (is_on others q))
-
-    -- so the least of them whose bit is set is own alone
-    pub least_here : (found : Option ℕ) → IsLeastIn (is_on_as cleared own true) found
-        → IsLeastIn (is_in_first own others) found
-    least_here found h = least_of_same (is_on_as cleared own true) (is_in_first own others) found
-        (λ q. of_list (is_on own q) _ _ (λ mine. own_bit q mine)) h
-
-    -- and once the own ones are set again, all bits are as they were
-    pub same_again : (new : List ℕ) → ChangesBits cleared new own true → (q : ℕ)
-        → has_bit new q ≡ has_bit words q
-    same_again new second q = ⊎_elim
-        (λ (mine : is_on own q ≡ true). second.here q mine ∙ sym (set q mine))
-        (λ (not_mine : is_on own q ≡ false). second.others q not_mine ∙ ⊎_elim
-        (λ (on : is_on others q ≡ true). first.here q on ∙ sym (clear q on not_mine))
-        (λ (off : is_on others q ≡ false). first.others q off)
-        (cases_Bool (is_on others q)))
-        (cases_Bool (is_on own q))

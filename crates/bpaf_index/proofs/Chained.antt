@@ -13,7 +13,7 @@ use Rattle.std.specs.Vec.{with_item}
 use Rattle.std.proofs.lemmas.Slice.Eq.{bytes_eq-Decides}
 use Rattle.std.proofs.lemmas.Bool.{cases_lt, cases_eq, ltb-true, eqb-true}
 use Rattle.std.proofs.lemmas.List.{get_or_read, length-map, length-take, length-take-le}
-use Rattle.std.proofs.lemmas.Option.{slice_get_past, slice_get_read}
+use Rattle.std.proofs.lemmas.Option.{slice_get_read}
 use Rattle.bpaf_base.specs.Names.{Names}
 use Rattle.bpaf_base.specs.declared.arg.Arg.{Arg}
 use Rattle.bpaf_base.specs.declared.arg.Arg.TheVariants.{Short, Long, ArgWord, Word, PosWord}
@@ -200,13 +200,6 @@ no_key names (Long name _ _) e = cc
 no_key names (ArgWord _) e = refl
 no_key names (Word _) e = refl
 no_key names (PosWord _) e = refl
-
--- no key stands behind a line
-pub keyless_past : (line : List Arg) (low : ℕ) → length line ≤ low → HasNoKeyFrom line low
-keyless_past line low past = record {
-  none = λ names p above. ap (λ found. option_map_or (is_key_of names) found false)
-      (slice_get_past line p (omega arith));
-}
 
 -- nor from a place on, where its item is none and no key stands behind it
 pub keyless_more : (line : List Arg) (p : ℕ) (item : Arg) → p < length line

@@ -30,12 +30,6 @@ missed_key key named s false t same looked is = subst (λ k. IsFlagAbsent k s t)
 missed_key key named s true t same looked is = absurd (true≢false is)
 
 module _ (info : RunInfo) (s : Situation) where
-  -- memory for the version's key is wanted
-  pub version_unknown : (r : Result (Option (List Piece)) Error)
-      → IsErr r × IsErrAnd r (λ e. e.0 ≡ message.Memory) → LooksForVersion info s r s
-  version_unknown (Err e) wanted = (wanted.1, keeps_refl s)
-  version_unknown (Ok v) wanted = absurd wanted.1
-
   -- memory for help's key is wanted
   pub help_unknown : (r : Result ExtraParams Error)
       → IsErr r × IsErrAnd r (λ e. e.0 ≡ message.Memory) → ExtraOutcome info s r s

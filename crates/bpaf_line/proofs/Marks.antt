@@ -187,11 +187,6 @@ keeps_marks_path s entry = record {
       (front_is mark.depth s.path (entry ∷ []) fits.reached.depth);
 }
 
--- a parse whose mark was kept goes back to where the mark was made
-pub back_to : (s t : Situation) (mark : Mark) → KeepsMarks s t → Fits mark s → undone mark s ≡ s
-    → undone mark t ≡ s
-back_to s t mark keeps fits back = keeps.same mark fits ∙ back
-
 -- as far as a list was cut it reaches, where it did before
 cut_reaches : {X : Type 0} (n : ℕ) (xs : List X) → n ≤ length xs → n ≤ length (take n xs)
 cut_reaches n xs within = omega (arith, length-take-le n xs within)

@@ -1,8 +1,8 @@
 -- Places: what a place changes that is put on the trail, or taken off it. The layers above cite the
 -- lemmas on a place that is taken.
 use Rattle.std.proofs.Common.{◌≡◌, ◌≢◌, ℕ, zero, suc, ◌+◌, ◌-◌, ◌<◌, ◌≤◌, Bool, true, false}
-use Rattle.std.proofs.Common.{not, ◌&&◌, ◌||◌, List, [], ◌∷◌, ◌++◌, Option, length, take, refl, ap}
-use Rattle.std.proofs.Common.{sym, ◌∙◌, subst, arith, if◌then◌else◌, ⊎_elim, nat_lt, nat_le}
+use Rattle.std.proofs.Common.{not, ◌&&◌, ◌||◌, [], ◌∷◌, ◌++◌, length, take, refl, ap}
+use Rattle.std.proofs.Common.{sym, ◌∙◌, subst, arith, if◌then◌else◌, ⊎_elim, nat_lt}
 use Rattle.std.proofs.Common.{slice_index, add-one, min}
 use Rattle.std.specs.Int.{from_bool}
 use Rattle.std.proofs.lemmas.Bool.{cases_lt, cases_eq, eq-eqb, or_right, and_left}
@@ -13,12 +13,12 @@ use Rattle.std.proofs.lemmas.List.{take_at, take-take, take-append-le, get_or_pu
 use Rattle.std.proofs.lemmas.List.{get_or_append_left, get_or-take, length_push, length-take-le}
 use Rattle.std.proofs.lemmas.List.{take_more, take_all}
 use Rattle.bpaf_line.specs.Situation.{Situation, is_on, is_taken, is_marker, in_scope, is_open}
-use Rattle.bpaf_line.specs.Situation.{count_below, open_count, take_place, with_trail, with_scope}
-use Rattle.bpaf_line.specs.Situation.{with_path, with_current, item_at, cut_to, TakenInTurn}
+use Rattle.bpaf_line.specs.Situation.{count_below, open_count, take_place, with_trail}
+use Rattle.bpaf_line.specs.Situation.{cut_to, TakenInTurn}
 use Rattle.bpaf_line.specs.Situation.{IsFirstPresent}
 use Rattle.bpaf_index.proofs.Places.{is_on_push, on_others}
 use Rattle.bpaf_index.proofs.Counts.{count_below-same, count_below-fewer, count_below-some}
-use Rattle.bpaf_index.proofs.Counts.{count_below-most, count_below-none}
+use Rattle.bpaf_index.proofs.Counts.{count_below-most}
 
 -- a present place of the scope lies in the scope
 pub open_in_scope : (s : Situation) (p : ℕ) → is_open s p ≡ true → (s.start ≤ p) × (p < s.end)
@@ -138,17 +138,6 @@ put_stays s p q there = ⊎_elim
     (λ (other : q ≢ p). put_other s p q other ∙ there)
     (cases_eq q p)
 
--- no place is present in scope where the first such place is not below the scope's end
-pub none_open : (s : Situation) (p : ℕ) → IsFirstPresent s p → s.end ≤ p → open_count s ≡ 0
-none_open s p first past = count_below-none (is_open s) (length s.context.line)
-    (λ q _. by_scope q (in_scope s q) refl)
-  where
-    by_scope : (q : ℕ) (b : Bool) → in_scope s q ≡ b → is_open s q ≡ false
-    by_scope q true e =
-        let inside : (s.start ≤ q) × (q < s.end) = grind (arith, nat_tests) in
-        and_right (in_scope s q) _ (ap not (first.passed q inside.0 (omega arith)))
-    by_scope q false e = and_left (in_scope s q) _ e
-
 -- without its last place the trail is that place's turn
 pub last_put : (s : Situation) → 0 < length s.trail
     → put (cut_to s (length s.trail - 1)) (slice_index s.trail (length s.trail - 1)) ≡ s
@@ -216,66 +205,3 @@ taken_other s p q other = put_other s p q other
 pub taken_stays : (s : Situation) (p q : ℕ) → is_taken s q ≡ true
     → is_taken (take_place s p) q ≡ true
 taken_stays s p q taken = put_stays s p q taken
-
--- the scope is as it was
-pub scope_after_take : (s : Situation) (p q : ℕ) → in_scope (take_place s p) q ≡ in_scope s q
-scope_after_take s p q = refl
-
--- another scope leaves each item
-pub item_after_scope : (s : Situation) (start end p : ℕ)
-    → item_at (with_scope s start end) p ≡ item_at s p
-item_after_scope s start end p = refl
-
--- another scope leaves what is taken
-pub taken_after_scope : (s : Situation) (start end p : ℕ)
-    → is_taken (with_scope s start end) p ≡ is_taken s p
-taken_after_scope s start end p = refl
-
--- the places from its start up to its end are in it
-pub in_new_scope : (s : Situation) (start end p : ℕ)
-    → in_scope (with_scope s start end) p ≡ (nat_le start p && nat_lt p end)
-in_new_scope s start end p = refl
-
--- a place of the new scope is open in it where it isn't taken
-pub open_after_scope : (s : Situation) (start end p : ℕ)
-    → is_open (with_scope s start end) p ≡ ((nat_le start p && nat_lt p end) && not (is_taken s p))
-open_after_scope s start end p = refl
-
--- a scope and then another is that other
-pub scope_twice : (s : Situation) (a b start end : ℕ)
-    → with_scope (with_scope s a b) start end ≡ with_scope s start end
-scope_twice s a b start end = refl
-
--- the scope that is there already changes nothing
-pub scope_as_it_was : (s : Situation) → with_scope s s.start s.end ≡ s
-scope_as_it_was s = refl
-
--- a place taken under another scope is taken as under the old one
-pub take_in_scope : (s : Situation) (start end p : ℕ)
-    → take_place (with_scope s start end) p ≡ with_scope (take_place s p) start end
-take_in_scope s start end p = refl
-
--- a longer path leaves each item
-pub item_after_path : (s : Situation) (entry : List ℕ) (p : ℕ)
-    → item_at (with_path s entry) p ≡ item_at s p
-item_after_path s entry p = refl
-
--- a longer path leaves what is taken
-pub taken_after_path : (s : Situation) (entry : List ℕ) (p : ℕ)
-    → is_taken (with_path s entry) p ≡ is_taken s p
-taken_after_path s entry p = refl
-
--- a longer path leaves what is open
-pub open_after_path : (s : Situation) (entry : List ℕ) (p : ℕ)
-    → is_open (with_path s entry) p ≡ is_open s p
-open_after_path s entry p = refl
-
--- a longer path leaves the count of open places
-pub open_count-with_path : (s : Situation) (entry : List ℕ)
-    → open_count (with_path s entry) ≡ open_count s
-open_count-with_path s entry = refl
-
--- another current place leaves what is open
-pub open_after_current : (s : Situation) (current : Option ℕ) (p : ℕ)
-    → is_open (with_current s current) p ≡ is_open s p
-open_after_current s current p = refl

@@ -5,13 +5,11 @@ use Rattle.std.proofs.Common.{◌∙◌, subst, arith, if◌then◌else◌, ⊎_
 use Rattle.std.proofs.Common.{vec_len, get_or, Option, Some, nat_lt, nat_le, slice_index, slice_get}
 use Rattle.std.proofs.Common.{take, drop, ◌==◌, min, max, ◌&&◌, ◌||◌, IfSome}
 use Rattle.std.specs.Vec.{with_items}
-use Rattle.std.specs.Bool.{then_some}
 use Rattle.std.specs.Int.{from_bool}
-use Rattle.std.specs.Option.{MatchOption}
 use Rattle.std.specs.Rc.{rc_slice_items}
 use Rattle.std.specs.declared.alloc.Global.{Global}
-use Rattle.std.proofs.lemmas.Bool.{cases_lt, cases_eq, ltb-true, ltb-false, lt-ltb, le-ltb}
-use Rattle.std.proofs.lemmas.Bool.{cond-true, and_left, and_right, and_from, le-leb}
+use Rattle.std.proofs.lemmas.Bool.{cases_lt, cases_eq, lt-ltb, le-ltb}
+use Rattle.std.proofs.lemmas.Bool.{cond-true, and_left, and_right}
 use Rattle.std.proofs.lemmas.Bool.Decides.{nat_tests}
 use Rattle.std.proofs.lemmas.List.{with_items_is, get_or_read}
 use Rattle.std.proofs.lemmas.Option.{slice_get-get_or}
@@ -26,13 +24,13 @@ use Rattle.bpaf_index.specs.Chained.{ReachBack, IfChained, HasNoKeyFrom}
 use Rattle.bpaf_line.specs.Inside.{situation_of, BitsOf, IsSound}
 use Rattle.bpaf_line.specs.Situation.{Situation, with_trail, with_scope, cut_to, is_open, is_marker}
 use Rattle.bpaf_line.specs.Situation.{is_taken, is_on, in_scope, open_count, TakenInTurn}
-use Rattle.bpaf_line.specs.Situation.{IsFirstPresent, IsNextOpen, HasNoneOpen}
+use Rattle.bpaf_line.specs.Situation.{IsFirstPresent, HasNoneOpen}
 use Rattle.bpaf_line.specs.Taking.{open_item}
 use Rattle.bpaf_line.proofs.Remembered.{survey_since, count_since, remembers_nothing, remembers_put}
 use Rattle.bpaf_line.proofs.Remembered.{remembers_cut}
 use Rattle.bpaf_line.proofs.Places.{put, put_here, put_other, put_stays, open_count-put}
 use Rattle.bpaf_line.proofs.Places.{in_turn_put, room_on_trail, last_put, in_turn_cut}
-use Rattle.bpaf_line.proofs.Places.{first_without, present_in_line, open_in_scope, open_not_taken}
+use Rattle.bpaf_line.proofs.Places.{first_without, open_in_scope, open_not_taken}
 use Rattle.bpaf_index.proofs.Counts.{count_below-same, count_below-cut, count_below-most}
 use Rattle.bpaf_index.proofs.Chained.{behind_within}
 
@@ -370,14 +368,6 @@ last_read s n p is some read =
     get_or_read s.trail.items (length s.trail.items - 1) p (omega arith)
     (read ∙ ap (λ i. get_or s.trail.items i p) at) 0
 
--- a place that is on the trail's end lies in the line
-pub last_in_line : (s : Inside) (p : ℕ) → IsSound s → 0 < length s.trail.items → p
-    ≡ slice_index s.trail.items (length s.trail.items - 1) → p < length (rc_slice_items s.items)
-last_in_line s p h some last =
-    let n = length s.trail.items - 1 in
-    let new = cut_to (situation_of s) n in
-    present_in_line new p (ap (is_taken new) last ∙ h.in_turn n (omega arith))
-
 -- it is sound with other conflict notes, and another path that begins with the set name
 pub sound_path : (s : Inside) (conflicts : Vec (ℕ × ℕ) Global) (path : Vec (String Global) Global)
     → IsSound s → IfSome s.name (λ n. slice_get (map string_bytes path.items) 0 ≡ Some n)
@@ -463,25 +453,6 @@ open_item_is s p xs item h same o there =
     not_marker true true on e = cc
     not_marker false true on e = cc
 
--- no place is open between one and the next place whose bit is clear
-closed_before : (s : Inside) (from place : ℕ) → IsSound s
-    → IsFirstClear s.words.items (max from s.first) s.end place → (q : ℕ) → from ≤ q → q < place
-    → is_open (situation_of s) q ≡ false
-closed_before s from place h clear q lower upper = by_scope (in_scope (situation_of s) q) refl
-  where
-    taken : s.start ≤ q → is_taken (situation_of s) q ≡ true
-    taken above = ⊎_elim
-        (λ (before : q < s.first). h.first.passed q above before)
-        (λ (behind : s.first ≤ q). sym (h.bits q (omega (arith, clear.within, h.inside)))
-        ∙ clear.set q (omega arith) upper)
-        (cases_lt q s.first)
-
-    by_scope : (b : Bool) → in_scope (situation_of s) q ≡ b → is_open (situation_of s) q ≡ false
-    by_scope false e = and_left (in_scope (situation_of s) q) _ e
-    by_scope true e =
-        let inside : (s.start ≤ q) × (q < s.end) = grind (arith, nat_tests) in
-        and_right (in_scope (situation_of s) q) _ (ap not (taken inside.0))
-
 -- no place is open where a walk begins behind the scope, or no place of the scope is present
 pub none_behind : (s : Inside) (from : ℕ) → IsSound s → s.end ≤ max from s.first
     → HasNoneOpen (situation_of s) from
@@ -493,38 +464,6 @@ none_behind s from h past q lower = by_scope (in_scope (situation_of s) q) refl
         let inside : (s.start ≤ q) × (q < s.end) = grind (arith, nat_tests) in
         and_right (in_scope (situation_of s) q) _
         (ap not (h.first.passed q inside.0 (omega (arith, inside))))
-
--- the next place whose bit is clear is the next one that is open; where it is the scope's end, none
--- is
-pub next_found : (s : Inside) (from place : ℕ) (found : Option ℕ) → IsSound s → max from s.first
-    < s.end → IsFirstClear s.words.items (max from s.first) s.end place → found
-    ≡ then_some (nat_lt place s.end) place
-    → MatchOption found (HasNoneOpen (situation_of s) from) (IsNextOpen (situation_of s) from)
-next_found s from place found h some clear is =
-    subst (λ r. MatchOption r (HasNoneOpen (situation_of s) from)
-    (IsNextOpen (situation_of s) from)) (sym is) (by_test (nat_lt place s.end) refl)
-  where
-    none : s.end ≤ place → HasNoneOpen (situation_of s) from
-    none past q lower = ⊎_elim
-        (λ (before : q < place). closed_before s from place h clear q lower before)
-        (λ (behind : place ≤ q). and_left (in_scope (situation_of s) q) _
-        (and_right _ _ (le-ltb q s.end (omega arith))))
-        (cases_lt q place)
-
-    by_test : (b : Bool) → nat_lt place s.end ≡ b → MatchOption (then_some b place)
-        (HasNoneOpen (situation_of s) from) (IsNextOpen (situation_of s) from)
-    by_test true e =
-        let below : place < s.end = ltb-true place s.end e in
-        let free : is_taken (situation_of s) place ≡ false = sym
-        (h.bits place (omega (arith, h.inside))) ∙ clear.clear below in
-        record {
-          from = omega (arith, clear.from);
-          present = and_from (in_scope (situation_of s) place) _
-              (and_from _ _ (le-leb s.start place (omega (arith, clear.from, h.first.from)))
-              (lt-ltb place s.end below)) (ap not free);
-          passed = closed_before s from place h clear;
-        }
-    by_test false e = none (ltb-false place s.end e)
 
 -- a state of the same situation, with equal bits and first place, is sound too
 pub sound_copy : (i j : Inside) → situation_of i ≡ situation_of j → i.keys ≡ j.keys
