@@ -107,11 +107,11 @@ class_of_short naming count name =
     if nat_lt name 128 then name
     else min (unwrap_or (lookup (is_at (nat_cmp name)) naming.wide) (count - 1)) (count - 1)
 
--- the class of an item, of so many; the same for the same name
+-- the class of an item, of so many; the same for the same name, and for all words
 abbrev pub class_in : List Arg → Naming → ℕ → Arg → ℕ
 class_in line naming count (Short c attached word) = class_of_short naming count c
 class_in line naming count (Long name attached word) = class_of_long line naming count name
-class_in line naming count (ArgWord text) = 0
+class_in line naming count (ArgWord text) = 1
 class_in line naming count (Word text) = 0
 class_in line naming count (PosWord text) = 0
 

@@ -20,7 +20,7 @@ const SHORT_LINE: usize = 32;
 
 /// The places of a line up to its last key, each linked to the next one of its class, and for each
 /// class the place at which its chain begins. Items of the same name are of one class, and each
-/// name of the line has a class of its own.
+/// name of the line has a class of its own; so have words.
 ///
 /// Contracts see the classes, the beginnings and the names (`Chained`).
 pub struct Chains {
@@ -128,6 +128,13 @@ impl Chains {
             (class_of_long items.now self.now.names (length self.now.heads) name.now) result }
     {
         self.heads[self.names.class_of_long(items, name, self.heads.len())]
+    }
+
+    /// The place at which to begin to look for a word.
+    pub fn first_word(&self) -> usize
+        ensures { IsChainStart self.now 0 result }
+    {
+        self.heads[0]
     }
 
     /// The next place of a place's class.

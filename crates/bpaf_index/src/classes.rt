@@ -268,7 +268,8 @@ impl NameClasses {
         match item {
             Arg::Short(c, _, _) => self.class_of_short(*c, count),
             Arg::Long(name, _, _) => self.class_of_long(line, name, count),
-            Arg::ArgWord(_) | Arg::Word(_) | Arg::PosWord(_) => 0,
+            Arg::ArgWord(_) => 1,
+            Arg::Word(_) | Arg::PosWord(_) => 0,
         }
     }
 

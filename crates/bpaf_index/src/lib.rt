@@ -1,6 +1,6 @@
 //! Where to look on a line: sets of its places, and its places chained by name.
 //!
-//! It stands on `bpaf_base` and `bpaf_base`, whose items it reads, and knows nothing of what a
+//! It stands on `bpaf_base`, whose items it reads, and knows nothing of what a
 //! parse takes. For `bpaf_line`, whose state keeps both, and for no other layer:
 //!
 //! - [`bits`] is a set of places, as bits in words of 64; contracts see one by `has_bit`

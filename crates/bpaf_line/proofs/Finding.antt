@@ -1,4 +1,4 @@
--- Finding: the first key with one of some names, along the chains of those.
+-- Finding: the first key with one of some names, and the first word, along the chains of those.
 use Rattle.std.proofs.Common.{◌≡◌, ℕ, ◌<◌, ◌≤◌, ◌==◌, Bool, true, false, not, ◌||◌}
 use Rattle.std.proofs.Common.{List, [], ◌++◌, Option, Some, None, length, refl, ap, sym}
 use Rattle.std.proofs.Common.{◌∙◌, subst, arith, ⊎_elim, if◌then◌else◌, nat_lt, slice_get}
@@ -13,7 +13,7 @@ use Rattle.std.proofs.lemmas.Option.{get_or_from_slice_get}
 use Rattle.bpaf_doc.specs.Names.{Names}
 use Rattle.bpaf_base.specs.declared.arg.Arg.{Arg}
 use Rattle.bpaf_base.specs.declared.arg.Arg.TheVariants.{Short, Long, ArgWord, Word, PosWord}
-use Rattle.bpaf_base.specs.Items.{is_key_of, is_argument_key}
+use Rattle.bpaf_base.specs.Items.{is_key_of, is_argument_key, is_positional}
 use Rattle.bpaf_index.specs.Chained.{Chained, names_of, class_in, IsChainStart, HasWalked}
 use Rattle.bpaf_index.specs.Chained.{HasNoKeyFrom}
 use Rattle.bpaf_line.specs.Chaining.{AreChainsOf}
@@ -112,6 +112,11 @@ first_named test s chains key start end p h inside begins along = record {
       (cases_Bool (is_key_of (names_of key) item));
 }
 
+-- what isn't so is false
+not_true : (b : Bool) → not b ≡ true → b ≡ false
+not_true false e = refl
+not_true true e = sym e
+
 -- a walk along a chain that passed what doesn't match found the first, where it ends at the end
 pub first_along : (test : Arg → Bool) (s : Situation) (classes : List ℕ) (low end p q : ℕ)
     → HasWalked classes (λ r. not (is_match test s r)) low p → q ≤ p → q ≤ end
@@ -121,10 +126,40 @@ first_along test s classes low end p q walked before within matches = record {
   matches = matches;
   none = λ k r of above below mine. not_true _ (walked.passed k r of above (omega arith) mine);
 }
-  where
-    not_true : (b : Bool) → not b ≡ true → b ≡ false
-    not_true false e = refl
-    not_true true e = sym e
+
+module _ (s : Situation) (chains : Chained) (start p : ℕ) (h : AreChainsOf s chains)
+    (begins : IsChainStart chains 0 start)
+    (walked : HasWalked chains.classes (λ r. not (is_match is_positional s r)) start p) where
+  -- a walk along the chain of words passed no open item of their class
+  none_of_words : (q : ℕ) (item : Arg) → q < length chains.classes → q < p
+      → open_item s q ≡ Some item
+      → class_in s.context.line chains.names (length chains.heads) item ≡ 0
+      → is_match is_positional s q ≡ false
+  none_of_words q item inside below there word =
+      let class = class_at s chains q item h inside there ∙ word in
+      ⊎_elim
+      (λ (early : q < start). absurd (true≢false
+      (sym (early_set s.context.line (is_taken s) chains 0 start q h begins inside class early)
+      ∙ open_not_taken s q (open_item_there s q item there).0)))
+      (λ (behind : start ≤ q). not_true _ (walked.passed 0 q begins.place behind below class))
+      (cases_lt q start)
+
+  -- so it passed no word
+  pub no_word_passed : (q : ℕ) → q < length chains.classes → q < p
+      → is_match is_positional s q ≡ false
+  no_word_passed q inside below = by_item (open_item s q) refl
+    where
+      none : (at : Option Arg) → open_item s q ≡ at → option_map_or is_positional at false ≡ false
+          → is_match is_positional s q ≡ false
+      none at e other = ap (λ found. option_map_or is_positional found false) e ∙ other
+
+      by_item : (at : Option Arg) → open_item s q ≡ at → is_match is_positional s q ≡ false
+      by_item None e = none None e refl
+      by_item (Some (Short c attached text)) e = none _ e refl
+      by_item (Some (Long name attached text)) e = none _ e refl
+      by_item (Some (ArgWord text)) e = none _ e refl
+      by_item (Some (Word text)) e = none_of_words q (Word text) inside below e refl
+      by_item (Some (PosWord text)) e = none_of_words q (PosWord text) inside below e refl
 
 -- a key with the names of two has those of one or of the other
 key_of_more : (a b : Names) (item : Arg)

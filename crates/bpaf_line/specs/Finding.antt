@@ -1,4 +1,4 @@
--- The first key, looked for along the chains of its names.
+-- The first key and the first word, looked for along the chains of their names and of words.
 use Rattle.std.specs.Prelude.{ℕ, ◌≡◌, ◌<◌, ◌≤◌, Bool, true, false, List, Some, slice_index}
 use Rattle.bpaf_doc.specs.Names.{Names}
 use Rattle.bpaf_base.specs.declared.arg.Arg.{Arg}
@@ -6,6 +6,10 @@ use Rattle.bpaf_base.specs.Items.{is_key_of}
 use Rattle.bpaf_index.specs.Chained.{IsPlaceOf}
 use Rattle.bpaf_line.specs.Situation.{Situation}
 use Rattle.bpaf_line.specs.Taking.{open_item, is_match}
+
+-- no place before a place has a match
+abbrev pub HasNoneBefore : (Arg → Bool) → Situation → ℕ → Type 0
+HasNoneBefore test s p = (q : ℕ) → q < p → is_match test s q ≡ false
 
 -- of the items before a place none that is present, in scope, and passes the test has such a name
 abbrev pub HasNoneAmong : (Arg → Bool) → Names → Situation → ℕ → Type 0

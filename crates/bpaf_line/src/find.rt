@@ -1,20 +1,58 @@
-//! The first key with one of some names, found along the chains of those names.
+//! The first key with one of some names, and the first word, found along the chains of those.
 ghost use Rattle.std.specs.Prelude.{◌≡◌, ◌≤◌, [], IfSome, MatchOption, length};
-ghost use Rattle.bpaf_base.specs.Items.{is_argument_key};
+ghost use Rattle.bpaf_base.specs.Items.{is_argument_key, is_positional};
 ghost use Rattle.bpaf_line.specs.Chaining.{AreChainsOf};
-ghost use Rattle.bpaf_line.specs.Finding.{IsFirstAmong, IsFirstAlong};
+ghost use Rattle.bpaf_line.specs.Finding.{HasNoneBefore, IsFirstAmong, IsFirstAlong};
 ghost use Rattle.bpaf_line.specs.Taking.{is_match, HasNone, IsFirst};
 
 use crate::state::State;
 use bpaf_doc::Text;
 use bpaf_index::chains::Chains;
-use bpaf_words::is_argument_key;
+use bpaf_words::{is_argument_key, is_positional};
 
 /// A scope with no more places from the first present one on, up to the line's last key, is
 /// narrow: to look at all of them costs less than a walk along chains that begin in front of it.
 const NARROW_SCOPE: usize = 8;
 
 impl State {
+    /// A place before which no word is present and in scope: along the chain of words up to the
+    /// line's last key, where the line has chains and the scope isn't narrow, else the first one.
+    pub(crate) fn no_word_before(&self) -> usize
+        ensures { HasNoneBefore is_positional self.now result }
+    {
+        match self.chains_of_scope() {
+            Some(chains) => self.first_word_along(chains),
+            None => 0,
+        }
+    }
+
+    /// The first word along its chain that is present and in scope; the number of chained places,
+    /// where there is none.
+    fn first_word_along(&self, chains: &Chains) -> usize
+        requires { AreChainsOf self.now chains.now }
+        ensures { HasNoneBefore is_positional self.now result }
+    {
+        let start = chains.first_word();
+        let mut place = start;
+        while place < chains.len() {
+            if self.is_word_at(place) {
+                return place;
+            }
+            place = chains.after(place);
+        }
+        chains.len()
+    }
+
+    /// Whether a word is present and in scope at a place.
+    fn is_word_at(&self, place: usize) -> bool
+        ensures { result ≡ is_match is_positional self.now place }
+    {
+        match self.get(place) {
+            Some(item) => is_positional(item),
+            None => false,
+        }
+    }
+
     /// The first key that is present, in scope, and has one of the names; under `adjacent` the
     /// first attached one. It takes no memory.
     ///

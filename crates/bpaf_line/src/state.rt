@@ -14,6 +14,7 @@ ghost use Rattle.bpaf_line.specs.Situation.{item_at, open_count, is_taken, is_op
 ghost use Rattle.bpaf_line.specs.Situation.{with_trail, with_scope, with_path, with_current};
 ghost use Rattle.bpaf_line.specs.Situation.{HasNoneOpen, IsNextOpen};
 ghost use Rattle.bpaf_line.specs.Marks.{KeepsMarks};
+ghost use Rattle.bpaf_line.specs.Finding.{HasNoneBefore};
 ghost use Rattle.bpaf_line.specs.Taking.{HasNone, IsFirst, value_after, open_item, entry_of};
 
 use crate::aside::Aside;
@@ -280,32 +281,42 @@ impl State {
         self.start <= place && place < self.end && !bits::is_set(&self.words, place)
     }
 
-    /// The first item that is present, in scope, and passes the test, with its place.
-    pub(crate) fn first_open<F: Fn(&Arg) -> bool>(&self, test: F) -> Option<(usize, &Arg)>
+    /// The first item that is present, in scope, and passes the test, with its place; none before a
+    /// place does.
+    pub(crate) fn first_open<F: Fn(&Arg) -> bool>(
+        &self,
+        from: usize,
+        test: F,
+    ) -> Option<(usize, &Arg)>
         ghost passes: { Arg → Bool }
+        requires none_before { HasNoneBefore passes self.now from }
         requires callable { F.IsAlwaysCallable test }
         requires means { (item : Bor Arg) (answer : Bool) →
             F.post test item answer → answer ≡ passes item.now }
         ensures { MatchOption result (HasNone passes self.now) (λ r.
             IsFirst passes self.now r.0 × (open_item self.now r.0 ≡ Some r.1.now)) }
     {
-        let mut from = 0;
-        while let Some((place, item)) = self.next_open(from) {
+        let mut next = from;
+        while let Some((place, item)) = self.next_open(next) {
             if test(item) {
                 return Some((place, item));
             }
-            from = place + 1;
+            next = place + 1;
         }
         None
     }
 
     /// The first present Word or PosWord in scope: its place, whether it is a PosWord, its text.
+    ///
+    /// On a long line the words up to the last key are looked at alone, and then what stands behind
+    /// that.
     pub(crate) fn first_word(&self) -> Option<(usize, bool, &Text)>
         ensures { MatchOption result (HasNone is_positional self.now) (λ r.
             IsFirst is_positional self.now r.0
             × (option_and_then word_text (item_at self.now r.0) ≡ Some (r.1, r.2.now))) }
     {
-        let (place, item) = self.first_open(|item| is_positional(item))?;
+        let from = self.no_word_before();
+        let (place, item) = self.first_open(from, |item| is_positional(item))?;
         match item {
             Arg::PosWord(text) => Some((place, true, text)),
             Arg::Word(text) => Some((place, false, text)),

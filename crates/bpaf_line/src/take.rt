@@ -169,7 +169,7 @@ impl State {
         ensures { MatchOption result
             (HasNoCommand word.now self.now) (IsCommandAt word.now self.now) }
     {
-        let (place, item) = self.first_open(|_| true)?;
+        let (place, item) = self.first_open(0, |_| true)?;
         if is_command_word(item, word) {
             Some(place)
         } else {

@@ -5,6 +5,7 @@ ghost use Rattle.bpaf_text.specs.Meaning.{ReadsText};
 ghost use Rattle.bpaf_text.specs.Meaning.{SpellsUnsigned, SpellsSigned, SpellsBool, SpellsChar};
 
 use crate::fault::TextFault;
+use bpaf_doc::Text;
 use std::alloc::{AllocError, Global};
 
 /// A type whose values are read from words of the command line.
@@ -219,5 +220,14 @@ impl FromText for String {
 
     fn from_text(alloc: Global, text: &str) -> Result<String, TextFault> {
         Ok(String::from_str(alloc, text)?)
+    }
+}
+
+/// Any text, as it stands; one of at most 23 bytes takes no memory. It has no fault.
+impl FromText for Text {
+    ghost means = { λ text value. value ≡ text };
+
+    fn from_text(alloc: Global, text: &str) -> Result<Text, TextFault> {
+        Ok(Text::new(alloc, text)?)
     }
 }

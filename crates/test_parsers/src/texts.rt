@@ -1,6 +1,6 @@
 //! The messages of refusals, where a row needs a text or a metavar that no description has.
 use crate::shared::file;
-use bpaf::{Parser, construct, fail, long};
+use bpaf::{Parser, Text, construct, fail, long, positional, short};
 use std::alloc::{AllocError, Global};
 use std::cell::Cell;
 use std::test::Fail;
@@ -57,4 +57,24 @@ fn words_on_the_wrong_side_are_told(rt: HostRuntime) -> Result<(), Fail> {
     reads(strict(rt.alloc()), STRICT)?;
     let left = "err expected `FILE` to be on the left side of `--`\n";
     reads(non_strict(rt.alloc()), left)
+}
+
+/// Words that are kept as texts, behind one behind a key.
+fn kept_as_texts(alloc: Global) -> Result<String, AllocError> {
+    let key = short(alloc, 'e')?.argument::<Text>("TEXT");
+    let words = positional::<Text>("WORD").many();
+    answers(
+        alloc,
+        construct!(key, words),
+        &[
+            &["a", "-e", "x"],
+            &["-e", "", "a word of more than 23 bytes"],
+        ],
+    )
+}
+
+#[test]
+fn words_are_kept_as_texts(rt: HostRuntime) -> Result<(), Fail> {
+    let kept = "ok (\"x\", [\"a\"])\nok (\"\", [\"a word of more than 23 bytes\"])\n";
+    reads(kept_as_texts(rt.alloc()), kept)
 }

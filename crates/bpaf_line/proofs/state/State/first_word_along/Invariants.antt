@@ -1,0 +1,12 @@
+use Rattle.std.proofs.Common.{◌-◌, length, not}
+use Rattle.bpaf_base.specs.Items.{is_positional}
+use Rattle.bpaf_index.specs.Chained.{HasWalked}
+use Rattle.bpaf_line.specs.Taking.{is_match}
+use Rattle.bpaf_line.proofs.state.State.first_word_along.Given as goal
+
+abbrev pub invariant-loop-place : goal.invariant-loop-place
+invariant-loop-place l =
+    HasWalked l.chains.classes (λ p. not (is_match is_positional l.self p)) l.start l.place
+
+abbrev pub decreases-loop-place : goal.decreases-loop-place
+decreases-loop-place l = length l.chains.classes - l.place
