@@ -3,32 +3,33 @@
 use Rattle.std.proofs.Common.{◌≡◌, ◌≢◌, ℕ, zero, suc, Bool, true, false, List, [], ◌∷◌}
 use Rattle.std.proofs.Common.{◌++◌, Option, Some, None, length, map, refl, sym, ap, ◌∙◌, arith}
 use Rattle.std.proofs.Common.{codes, slice_get, if◌then◌else◌, ⊎_elim, option_and_then, ◌==◌}
-use Rattle.std.proofs.Common.{append-nil, append_assoc}
+use Rattle.std.proofs.Common.{append-nil, append_assoc, true≢false}
 use Rattle.std.specs.List.{AllZip, AllByRecursion}
 use Rattle.std.proofs.lemmas.Bool.{cases_eq, eq-eqb, ne_eqb}
 use Rattle.std.proofs.lemmas.List.{length-append}
 use Rattle.bpaf_doc.specs.Names.{Names}
+use Rattle.bpaf_base.specs.Items.{is_key_of}
 use Rattle.bpaf_base.specs.declared.arg.Arg.{Arg}
 use Rattle.bpaf_base.specs.declared.arg.Arg.TheVariants.{Short, Long, ArgWord, Word, PosWord}
 use Rattle.bpaf_words.specs.Arguments.{Given}
 use Rattle.bpaf_words.specs.Line.{IsLine, with_marker, without_marker}
 use Rattle.bpaf_words.specs.Spelling.{Known}
-use Rattle.bpaf_doc.specs.Shape.{Shape}
+use Rattle.bpaf_line.specs.Constructing.{IsContext}
 use Rattle.bpaf_line.specs.Situation.{Context, is_marker}
-use Rattle.bpaf.specs.Info.{RunInfo}
-use Rattle.bpaf.specs.Known.{IsLineContext}
 use Rattle.bpaf.specs.Marker.{words_behind}
 use Rattle.bpaf.specs.Positional.{accepts}
 use Rattle.bpaf.specs.declared.leaves.positional.Position.TheVariants.{NonStrict, Strict}
 use Rattle.bpaf.proofs.Sides.{IsBefore, all_before, behind_with_marker, behind_without_marker}
 use Rattle.bpaf.proofs.Sides.{each_append, text_behind}
 use Rattle.bpaf_exact.specs.Flat.{OneWord, back, first_cells, front}
-use Rattle.bpaf_exact.specs.Names.{is_key_of_any}
+use Rattle.bpaf_exact.specs.Leaves.{flag_roles}
 use Rattle.bpaf_exact.specs.Pieces.{Cells, Cut, LinePiece, One, Roles, Two, argument, at_end, flag}
-use Rattle.bpaf_exact.specs.Pieces.{is_value, passed, stands_behind, word}
+use Rattle.bpaf_exact.specs.Pieces.{Alone, IsNamed, is_own, is_own_role, is_value, others, passed}
+use Rattle.bpaf_exact.specs.Pieces.{stands_behind, word}
 use Rattle.bpaf_exact.specs.Record.{line_cells}
-use Rattle.bpaf_exact.specs.Says.{RepeatSays, WordSays, first_item, unkeyed}
+use Rattle.bpaf_exact.specs.Says.{RepeatSays, WordSays, first_item}
 use Rattle.bpaf_exact.proofs.Fronts.{of_front_one}
+use Rattle.bpaf_exact.proofs.Matching.{test_named}
 use Rattle.bpaf_exact.proofs.PieceByPiece.{AcceptedWord, word_values}
 
 -- a text, where there is one, before others
@@ -151,45 +152,44 @@ by_line known words line (Some place) (with_marker before after items cut none s
     (each_append IsBefore items (Word [] ∷ []) (all_before known before items spelled) (refl, tt))
     ∙ sym (ap words_behind cut ∙ behind_with_marker before after none))))
 
--- For programs.
+-- Of a context's line, cut for a record, what stands behind `--` are the words there.
+pub line_behind : {known : Known} {given : Given} {context : Context}
+    → IsContext known given context → {r : Roles} {os : List LinePiece}
+    → Cut r (line_cells context) os → pieces_behind os ≡ words_behind given.words
+line_behind {known} {given} {context} on cut =
+    sym (cut_behind cut) ∙ by_line known given.words context.line context.marker on.is_line
 
--- no key stands behind `--`
-key_before : (names : List Names) (k : Arg) → is_key_of_any names k ≡ true → text_behind k ≡ None
-key_before names (Short c attached text) h = refl
-key_before names (Long name attached text) h = refl
-key_before names (ArgWord text) h = refl
-key_before names (Word text) h = refl
-key_before names (PosWord text) h = absurd (none names h)
+-- What the fields leave.
+
+-- no item of a named field stands there
+own_before : (q : Roles) → IsNamed q → (k : Arg) → is_own_role (q k) ≡ true → text_behind k ≡ None
+own_before q named (Short c attached text) h = refl
+own_before q named (Long name attached text) h = refl
+own_before q named (ArgWord text) h = refl
+own_before q named (Word text) h = refl
+own_before q named (PosWord text) h =
+    absurd (true≢false (sym h ∙ ap is_own_role (named.only_keys (PosWord text) refl)))
+
+-- so a named field leaves all that does,
+pub others_behind : (q : Roles) → IsNamed q → (os : List LinePiece)
+    → pieces_behind (others q os) ≡ pieces_behind os
+others_behind q named [] = refl
+others_behind q named (o ∷ os) = by_own (is_own q o) refl (others_behind q named os)
   where
-    none : (names : List Names) → is_key_of_any names (PosWord text) ≡ true → ⊥
-    none [] h = cc
-    none (own ∷ names) h = none names h
+    before : (o : LinePiece) → is_own q o ≡ true → text_behind (first_item o) ≡ None
+    before (One k) h = own_before q named k h
+    before (Two k w) h = own_before q named k h
 
--- so all that stands there is among the pieces that begin with none
-unkeyed_behind : (names : List Names) (os : List LinePiece)
-    → pieces_behind (unkeyed names os) ≡ pieces_behind os
-unkeyed_behind names [] = refl
-unkeyed_behind names (o ∷ os) =
-    by_key (is_key_of_any names (first_item o)) refl (unkeyed_behind names os)
-  where
-    by_key : (b : Bool) → is_key_of_any names (first_item o) ≡ b
-        → pieces_behind (unkeyed names os) ≡ pieces_behind os
-        → pieces_behind (if b then unkeyed names os else (o ∷ unkeyed names os))
-        ≡ pieces_behind (o ∷ os)
-    by_key true e h =
-        h ∙ sym (ap (λ text. put text (pieces_behind os)) (key_before names (first_item o) e))
-    by_key false e h = ap (put (text_behind (first_item o))) h
+    by_own : (b : Bool) → is_own q o ≡ b → pieces_behind (others q os) ≡ pieces_behind os
+        → pieces_behind (if b then others q os else (o ∷ others q os)) ≡ pieces_behind (o ∷ os)
+    by_own true e h = h ∙ sym (ap (λ text. put text (pieces_behind os)) (before o e))
+    by_own false e h = ap (put (text_behind (first_item o))) h
 
--- The words of a record, of which none begins with a key, have all that stands behind `--`.
-pub words_read : (describes : Shape → Type 0) (info : RunInfo) (given : Given) (context : Context)
-    → IsLineContext describes info given context → {r : Roles} {os : List LinePiece}
-    → Cut r (line_cells context) os → (names : List Names)
-    → pieces_behind (unkeyed names os) ≡ words_behind given.words
-words_read describes info given context on_line {r} {os} cut names =
-    unkeyed_behind names os ∙ (sym (cut_behind cut) ∙ ⊎_elim
-    (λ shown. by_line _ given.words context.line context.marker shown.2.is_line)
-    (λ any. by_line _ given.words context.line context.marker
-    (any (record { flags = []; arguments = [] })).is_line) on_line)
+-- as a flag
+pub flag_leaves : (names : Names) (os : List LinePiece)
+    → pieces_behind (others (flag_roles names) os) ≡ pieces_behind os
+flag_leaves names os =
+    others_behind (flag_roles names) (test_named (is_key_of names) names Alone (λ k e. e)) os
 
 -- A word that has to stand before `--` leaves all of it,
 pub name_before : {T : Type 0} {means : List ℕ → T → Type 0} (ws : List LinePiece) {v : T}

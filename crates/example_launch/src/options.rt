@@ -10,7 +10,6 @@ ghost use Rattle.example_launch.specs.Shown.{ShowsHelpAsked};
 use bpaf::params::{ParseFlag, ParsePositional};
 use bpaf::parsers::ParseMany;
 use bpaf::{Args, Doc, ParseFailure, Parser, construct, long, positional, short};
-use bpaf_record::CommandLine;
 use std::alloc::{AllocError, Global};
 
 /// What is to be started, and how.
@@ -27,9 +26,8 @@ pub struct Launch {
 }
 
 /// The launch that the words ask for; refused where they ask for none, or for want of memory. The
-/// options are a program, so each answer is exact; and what is passed on are all words behind the
-/// first `--`, as the last field says. Help is answered as a refusal that shows it, and only where
-/// the words ask for it.
+/// options are a program, so each answer is exact; so what is passed on are all words behind the
+/// first `--`. Help is answered as a refusal that shows it, and only where the words ask for it.
 pub fn read_launch(alloc: Global, words: &[String]) -> Result<Launch, ParseFailure>
     ensures exact { AnswersLaunch (map string_bytes words.now) result }
     ensures launch { IfOk result (λ launch. IsLaunchOf (map string_bytes words.now) launch) }
@@ -45,9 +43,7 @@ pub fn read_launch(alloc: Global, words: &[String]) -> Result<Launch, ParseFailu
         name,
         words(passed)
     });
-    launch
-        .to_options(alloc)?
-        .run_program(Args::from(words).set_name("launch"))
+    launch.run_once(alloc, Args::from(words).set_name("launch"))
 }
 
 /// The switch, `-v` or `--verbose`; refused only for want of memory.

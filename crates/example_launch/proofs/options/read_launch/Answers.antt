@@ -1,64 +1,59 @@
-use Rattle.std.proofs.Common.{◌≡◌, codes, false, map, refl, rules, string_bytes}
+use Rattle.std.proofs.Common.{◌≡◌, Some, codes, false, map, refl, rules, string_bytes}
 use Rattle.bpaf_words.specs.Arguments.{given_of}
-use Rattle.bpaf_keys.specs.Info.{plain_info}
 use Rattle.bpaf.specs.declared.leaves.positional.Position.TheVariants.{Strict, NonStrict}
 use Rattle.bpaf_program.specs.Fields.{HasSwitch, HasWord}
+use Rattle.bpaf_program.specs.KnownFields.{known_switch, known_word}
 use Rattle.bpaf_program.specs.Values.{MeansText}
-use Rattle.bpaf_program.proofs.Known.{both_known, known_asked, known_dealt}
-use Rattle.bpaf_program.proofs.Known.{last_known, many_known, product_known, switch_known}
-use Rattle.bpaf_program.proofs.Known.{word_known}
+use Rattle.bpaf_program.proofs.Known as dealt
+use Rattle.bpaf_program.proofs.KnownFields.{many_known, switch_known, word_known}
+use Rattle.bpaf_program.proofs.KnownParser.{both_known, con_known, last_known, program_exactly}
 use Rattle.bpaf_program.proofs.Running.{are_texts}
-use Rattle.example_launch.specs.Dealing.{dry_run_names, program_given, verbose_names}
+use Rattle.example_launch.specs.Dealing.{dry_run_names, launch_of, program_given, verbose_names}
+use Rattle.example_launch.specs.Exact.{AnswersLaunch, fields, launcher}
 use Rattle.example_launch.specs.Shown.{IsProgramShape}
-use Rattle.example_launch.proofs.Dealing.{launch_asked, launch_exact, launch_program}
+use Rattle.example_launch.proofs.Dealing.{launch_asked}
 use Rattle.example_launch.proofs.options.read_launch.Goals as goal
-
-pub run_program-requires-clause-program : goal.run_program-requires-clause-program
-run_program-requires-clause-program c =
-    let options = c.in_ok-to_options.field-0 in
-    let fields = options.inner.fields in
-    let positionals = fields.rest.rest in
-    let verbose : HasSwitch verbose_names (codes "Print more") fields.first = search rules in
-    let dry_run : HasSwitch dry_run_names (codes "Start nothing") fields.rest.first =
-    search rules in
-    let name : HasWord NonStrict (codes "NAME") (codes "Program to start") positionals.first =
-    search rules in
-    let passed : HasWord Strict (codes "WORD") (codes "Words to pass on")
-    positionals.rest.last.inner = search rules in
-    let catch : positionals.rest.last.catch ≡ false = search rules in
-    let info : options.info ≡ plain_info = search rules in
-    launch_program verbose.1 dry_run.1 name.1 passed.1 catch _ info _
 
 pub returns : goal.returns
 returns c =
-    let options = c.in_ok-to_options.field-0 in
-    let fields = options.inner.fields in
-    let positionals = fields.rest.rest in
-    let verbose : HasSwitch verbose_names (codes "Print more") fields.first = search rules in
-    let dry_run : HasSwitch dry_run_names (codes "Start nothing") fields.rest.first =
+    let parts = c.construct-launch.result.fields in
+    let positionals = parts.rest.rest in
+    let verbose : HasSwitch verbose_names (codes "Print more") parts.first = search rules in
+    let dry_run : HasSwitch dry_run_names (codes "Start nothing") parts.rest.first =
     search rules in
     let name : HasWord NonStrict (codes "NAME") (codes "Program to start") positionals.first =
     search rules in
     let passed : HasWord Strict (codes "WORD") (codes "Words to pass on")
     positionals.rest.last.inner = search rules in
     let catch : positionals.rest.last.catch ≡ false = search rules in
-    let info : options.info ≡ plain_info = search rules in
     let given : given_of c.set_name.result ≡ program_given (map string_bytes c.args.words.now) =
     search rules in
     let known =
-    both_known (switch_known verbose.1)
-    (both_known (switch_known dry_run.1)
-    (both_known (word_known MeansText name.1)
-    (last_known (many_known positionals.rest.last.catch (word_known MeansText passed.1))))) in
+    dealt.both_known (dealt.switch_known verbose.1)
+    (dealt.both_known (dealt.switch_known dry_run.1)
+    (dealt.both_known (dealt.word_known MeansText name.1)
+    (dealt.last_known
+    (dealt.many_known positionals.rest.last.catch (dealt.word_known MeansText passed.1))))) in
+    let exact : AnswersLaunch (map string_bytes c.args.words.now) c.run_once.result =
+    program_exactly launcher refl c.run_once.ensures.outcome
+    (con_known launch_of fields
+    (both_known (known_switch verbose_names) _
+    (switch_known verbose_names (Some _) verbose.1.named_is verbose.1.present_is
+    verbose.1.absent_is)
+    (both_known (known_switch dry_run_names) _
+    (switch_known dry_run_names (Some _) dry_run.1.named_is dry_run.1.present_is
+    dry_run.1.absent_is)
+    (both_known (known_word MeansText NonStrict) _
+    (word_known MeansText NonStrict name.1.position_is _)
+    (last_known _ (many_known (word_known MeansText Strict passed.1.position_is _) catch)))))
+    (λ x v e. search rules)) refl _ given (are_texts c.args.words.now) in
     record {
-      exact = launch_exact verbose.1 dry_run.1 name.1 passed.1 catch (λ x v e. search rules) info _
-          given (are_texts c.args.words.now) _ c.run_program.ensures.outcome;
-      launch = launch_asked verbose.1 dry_run.1 name.1 passed.1 catch (λ x v e. search rules) _ _ _
-          _ _ _ given _
-          (known_dealt (product_known (λ x v e. search rules) known) info given _
-          c.run_program.ensures.dealt)
-          (c.run_program.ensures.fields (tt, (tt, (tt, tt))));
-      asked = known_asked (product_known (λ x v e. e) known) info given IsProgramShape
+      exact = exact;
+      launch = launch_asked _ _
+          (dealt.known_dealt (dealt.product_known (λ x v e. search rules) known) refl given _
+          c.run_once.ensures.dealt)
+          exact;
+      asked = dealt.known_asked (dealt.product_known (λ x v e. e) known) refl given IsProgramShape
           (record {
             verbose = verbose.0;
             dry_run = dry_run.0;
@@ -70,5 +65,5 @@ returns c =
             words_help = passed.1.told;
             is = refl;
           })
-          _ c.run_program.ensures.outcome;
+          _ c.run_once.ensures.outcome;
     }
