@@ -213,7 +213,9 @@ impl State {
     fn next_place(&self, from: usize) -> Option<usize>
         ensures { MatchOption result (HasNoneOpen self.now from) (IsNextOpen self.now from) }
     {
-        let from = from.max(self.first);
+        if from <= self.first {
+            return (self.first < self.end).then_some(self.first);
+        }
         if from >= self.end {
             return None;
         }
