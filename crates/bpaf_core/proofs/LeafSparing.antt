@@ -1,5 +1,5 @@
 -- Leaves tell want of memory as nothing else.
-use Rattle.std.specs.Prelude.{◌≡◌, false, List, ℕ, Option, None, Result, Ok, Err}
+use Rattle.std.specs.Prelude.{◌≡◌, false, ℕ, Option, None, Result, Ok, Err}
 use Rattle.std.specs.Result.{IfErr}
 use Rattle.std.proofs.Common.{true≢false, sym, ◌∙◌, ap}
 use Rattle.bpaf_line.specs.declared.error.Error.{Error}
@@ -13,7 +13,7 @@ use Rattle.bpaf_line.specs.declared.error.Message.TheVariants.{Conflict, Expecte
 use Rattle.bpaf_line.specs.declared.error.Message.TheVariants.{ParseFailure}
 use Rattle.bpaf_line.specs.Messages.{is_memory}
 use Rattle.bpaf_line.specs.Situation.{Situation}
-use Rattle.bpaf_text.specs.Named.{KeyWithValue, Named}
+use Rattle.bpaf_text.specs.Named.{Named}
 use Rattle.bpaf_laws.specs.Flag.{FlagFails, FlagOutcome, IsFlagAbsent}
 use Rattle.bpaf_keys.specs.Extra.{ExtraOutcome, help, neither, no_memory, version}
 use Rattle.bpaf_keys.specs.Info.{RunInfo}
@@ -47,9 +47,6 @@ module _ {T : Type 0} (named : Named) (absent : Option T) (s t : Situation) wher
       → FlagOutcome clones named present absent s r t → IfErr r (ClonesNothing named absent s t)
   flag_clones_nothing clones present (Ok v) answered = tt
   flag_clones_nothing clones present (Err e) answered = λ spared. by_message e.0 answered spared
-
-module _ {T : Type 0} (means : List ℕ → T → Type 0) (argument : KeyWithValue)
-    (s t : Situation) where
 
 module _ (info : RunInfo) (s t : Situation) where
   -- that neither is asked for is told of no want of memory
