@@ -29,12 +29,12 @@
 //! ```
 #![tactic(auto)]
 
-mod answers;
 mod compared;
 mod narrow;
 mod outcome;
+mod parsers;
 
-pub use answers::{answers, answers_of, num, number, switch, value, verbose};
 pub use compared::{prints, reads};
 pub use narrow::Narrow;
 pub use outcome::{Tried, Written, ran};
+pub use parsers::{answers, answers_of, num, number, switch, value, verbose};
