@@ -27,7 +27,9 @@ fn main(rt: HostRuntime) -> io::Result<ExitCode> {
         .next()
         .and_then(|text| text.as_str().parse::<u32>().ok());
     let (Some(work), Some(size), Some(repeats)) = (work, size, repeats) else {
-        eprintln!(rt; "usage: bench_speed WORK SIZE REPEATS")?;
+        eprintln!(rt;
+            "usage: bench_speed record|choice|branch|switches|joined|keys|numbers|last SIZE REPEATS"
+        )?;
         return Ok(ExitCode::from(1));
     };
     let line = work.line(rt.alloc(), size)?;

@@ -1,5 +1,5 @@
 //! The parsers whose cost is counted.
-use bpaf::{Args, Doc, ParseFailure, Parser, Text, construct, positional, short};
+use bpaf::{Args, Doc, ParseFailure, Parser, construct, positional, short};
 use std::alloc::Global;
 
 /// A record of options, as most programs have one.
@@ -25,47 +25,6 @@ pub fn record(alloc: Global, line: &[String]) -> Result<u64, ParseFailure> {
     .to_options(alloc)?;
     let made = options.run_once(Args::from(line).set_name("bpaf_demo"))?;
     Ok(made.num.wrapping_add(made.files.len() as u64))
-}
-
-/// The same record, whose files are texts.
-#[derive(Drop)]
-pub struct TextOptions {
-    pub verbose: bool,
-    pub num: u64,
-    pub files: Vec<Text>,
-}
-
-/// The number of such a record and how many files it has.
-pub fn texts(alloc: Global, line: &[String]) -> Result<u64, ParseFailure> {
-    let verbose = short(alloc, 'v')?.long("verbose")?.switch();
-    let num = short(alloc, 'n')?.long("num")?.argument::<u64>("NUM");
-    let files = positional::<Text>("FILE")
-        .help(Doc::from_text(alloc, "Files to read")?)
-        .many();
-    let options = construct!(TextOptions {
-        verbose,
-        num,
-        files
-    })
-    .to_options(alloc)?;
-    let made = options.run_once(Args::from(line).set_name("bpaf_demo"))?;
-    Ok(made.num.wrapping_add(made.files.len() as u64))
-}
-
-/// How many words there are beside a switch.
-pub fn behind(alloc: Global, line: &[String]) -> Result<u64, ParseFailure> {
-    let verbose = short(alloc, 'v')?.switch();
-    let words = positional::<Text>("WORD").many();
-    let options = construct!(verbose, words).to_options(alloc)?;
-    Ok(options.run_once(Args::from(line))?.1.len() as u64)
-}
-
-/// How many words there are beside so many flags.
-pub fn between(alloc: Global, line: &[String]) -> Result<u64, ParseFailure> {
-    let words = positional::<Text>("WORD").many();
-    let flags = short(alloc, 'v')?.req_flag(1u8).many();
-    let options = construct!(words, flags).to_options(alloc)?;
-    Ok(options.run_once(Args::from(line))?.0.len() as u64)
 }
 
 /// How many of two flags there are.

@@ -1,5 +1,5 @@
 //! The works that are counted, and their words.
-use crate::parsers::{behind, between, flags, last_number, numbers, record, switches, texts};
+use crate::parsers::{flags, last_number, numbers, record, switches};
 use std::alloc::{AllocError, Global};
 
 /// What is parsed.
@@ -7,12 +7,6 @@ use std::alloc::{AllocError, Global};
 pub enum Work {
     /// A switch, a number and files: `-v -n 3`, and so many files.
     Record,
-    /// The same, with files that are kept as texts.
-    Texts,
-    /// A switch and words, behind so many keys that no parser knows, which is refused.
-    Behind,
-    /// Words, and a flag repeated: so many times `-v w`.
-    Between,
     /// A choice of two flags, repeated: so many times `-a`, then `-b` and `-a`.
     Choice,
     /// The same over `-a` alone, so that the second branch is missing each time.
@@ -34,9 +28,6 @@ impl Work {
     pub fn named(name: &str) -> Option<Work> {
         match name {
             "record" => Some(Work::Record),
-            "texts" => Some(Work::Texts),
-            "behind" => Some(Work::Behind),
-            "between" => Some(Work::Between),
             "choice" => Some(Work::Choice),
             "branch" => Some(Work::Branch),
             "switches" => Some(Work::Switches),
@@ -51,11 +42,7 @@ impl Work {
     /// Its line of this size.
     pub fn line(self, alloc: Global, size: u32) -> Result<Vec<String>, AllocError> {
         match self {
-            Work::Record | Work::Texts => {
-                times(alloc, words(alloc, &["-v", "-n", "3"])?, size, "w")
-            }
-            Work::Behind => times(alloc, times(alloc, Vec::new(alloc), size, "-q")?, size, "w"),
-            Work::Between => pairs(alloc, size, "-v", "w"),
+            Work::Record => times(alloc, words(alloc, &["-v", "-n", "3"])?, size, "w"),
             Work::Choice => {
                 let mut line = times(alloc, Vec::new(alloc), size, "-a")?;
                 line.push(String::from_str(alloc, "-b")?)?;
@@ -66,7 +53,7 @@ impl Work {
             Work::Switches => times(alloc, Vec::new(alloc), size, "-v"),
             Work::Joined => joined(alloc, size),
             Work::Keys => keys(alloc, size),
-            Work::Numbers | Work::Last => pairs(alloc, size, "-n", "1"),
+            Work::Numbers | Work::Last => pairs(alloc, size),
         }
     }
 
@@ -74,9 +61,6 @@ impl Work {
     pub fn run(self, alloc: Global, line: &[String]) -> u64 {
         match self {
             Work::Record => record(alloc, line).unwrap_or(0),
-            Work::Texts => texts(alloc, line).unwrap_or(0),
-            Work::Behind => behind(alloc, line).unwrap_or(0),
-            Work::Between => between(alloc, line).unwrap_or(0),
             Work::Choice | Work::Branch => flags(alloc, line).unwrap_or(0),
             Work::Switches | Work::Joined | Work::Keys => switches(alloc, line).unwrap_or(0),
             Work::Numbers => numbers(alloc, line).unwrap_or(0),
@@ -128,12 +112,12 @@ fn keys(alloc: Global, size: u32) -> Result<Vec<String>, AllocError> {
     Ok(line)
 }
 
-/// So many times a key and a word.
-fn pairs(alloc: Global, size: u32, key: &str, word: &str) -> Result<Vec<String>, AllocError> {
+/// So many times a key and its number.
+fn pairs(alloc: Global, size: u32) -> Result<Vec<String>, AllocError> {
     let mut line = Vec::new(alloc);
     for _ in 0..size {
-        line.push(String::from_str(alloc, key)?)?;
-        line.push(String::from_str(alloc, word)?)?;
+        line.push(String::from_str(alloc, "-n")?)?;
+        line.push(String::from_str(alloc, "1")?)?;
     }
     Ok(line)
 }
