@@ -4,7 +4,6 @@ use Rattle.std.proofs.Common.{length, map, refl, ap, sym, ◌∙◌, subst, arit
 use Rattle.std.proofs.Common.{IfSome, slice_get, nat_lt, ◌&&◌, ◌||◌, is_some, option_to_list, not}
 use Rattle.std.proofs.Common.{vec_capacity, []}
 use Rattle.std.specs.Int.{from_bool}
-use Rattle.std.specs.Rc.{rc_slice_items}
 use Rattle.std.specs.Prelude.{string_bytes}
 use Rattle.std.proofs.lemmas.Bool.{lt-ltb, and_right, or_right, or_left, eq-eqb}
 use Rattle.std.proofs.lemmas.Bool.Decides.{nat_tests}
@@ -98,10 +97,11 @@ pub sound_beginning : (i : Inside) (context : Context) → situation_of i ≡ be
     → IsFirstClear i.words.items 0 (length context.line) i.first
     → HasNoKeyFrom context.line i.keys
     → IfSome i.chains (AreBehind context.line (λ p. false))
-    → i.aside ≡ no_aside → IsSound i
-sound_beginning i context e marker_inside worded bits room left clear keyless behind aside =
+    → i.aside ≡ no_aside → i.behind ≡ i.keys → i.keys ≤ length context.line → IsSound i
+sound_beginning i context e marker_inside worded bits room left clear keyless behind aside none
+    within =
     let start = beginning context in
-    let size : length (rc_slice_items i.items) ≡ length context.line = ap
+    let size : length i.items.items ≡ length context.line = ap
     (λ s. length s.context.line) e in
     let set : BitsOf start i.words.items = bits_beginning context i.words.items bits in
     record {
@@ -121,12 +121,14 @@ sound_beginning i context e marker_inside worded bits room left clear keyless be
       chained = subst (λ s. IfSome i.chains (AreChainsOf s)) (sym e)
           (chains_beginning context i.chains behind);
       keyless = subst (λ s. HasNoKeyFrom s.context.line i.keys) (sym e) keyless;
+      behind = λ q low high. absurd (omega (arith, none));
+      behind_inside = omega (arith, none, within);
       named = subst (λ s. IfSome s.context.name (λ n. slice_get s.path 0 ≡ Some n)) (sym e)
           (path_begins context.name);
     }
 
 -- a state whose fields are those of the beginning is at the beginning
-pub begins : (i : Inside) (context : Context) → rc_slice_items i.items ≡ context.line → i.marker
+pub begins : (i : Inside) (context : Context) → i.items.items ≡ context.line → i.marker
     ≡ context.marker → shared_entries i.env ≡ context.env → i.name ≡ context.name
     → i.trail.items ≡ [] → i.conflicts.items ≡ [] → i.start ≡ 0 → i.end ≡ length context.line
     → map string_bytes i.path.items ≡ option_to_list context.name → i.current ≡ None

@@ -1,5 +1,5 @@
 -- Finding: the first key with one of some names, and the first word, along the chains of those.
-use Rattle.std.proofs.Common.{◌≡◌, ℕ, ◌<◌, ◌≤◌, ◌==◌, Bool, true, false, not, ◌||◌}
+use Rattle.std.proofs.Common.{◌≡◌, ℕ, ◌+◌, ◌<◌, ◌≤◌, ◌==◌, Bool, true, false, not, ◌||◌}
 use Rattle.std.proofs.Common.{List, [], ◌++◌, Option, Some, None, length, refl, ap, sym}
 use Rattle.std.proofs.Common.{◌∙◌, subst, arith, ⊎_elim, if◌then◌else◌, nat_lt, slice_get}
 use Rattle.std.proofs.Common.{slice_index, bytes_eq, MatchOption, take, min}
@@ -17,26 +17,47 @@ use Rattle.bpaf_base.specs.Items.{is_key_of, is_argument_key, is_positional}
 use Rattle.bpaf_index.specs.Chained.{Chained, names_of, class_in, IsChainStart, HasWalked}
 use Rattle.bpaf_index.specs.Chained.{HasNoKeyFrom}
 use Rattle.bpaf_line.specs.Chaining.{AreChainsOf}
-use Rattle.bpaf_line.specs.Finding.{IsFirstAmong, IsFirstAlong}
+use Rattle.bpaf_line.specs.Finding.{HasNoneBefore, IsFirstAmong, IsFirstAlong}
 use Rattle.bpaf_line.specs.Situation.{Situation, is_marker, in_scope, is_open, is_taken, item_at}
-use Rattle.bpaf_line.specs.Situation.{IsFirstPresent}
+use Rattle.bpaf_line.specs.Situation.{AreTaken, IsFirstPresent}
 use Rattle.bpaf_line.specs.Taking.{open_item, is_match, HasNone, IsFirst}
 use Rattle.bpaf_index.proofs.Chained.{behind_within, same_class, early_set}
 use Rattle.bpaf_line.proofs.Matches.{open_item_there}
 use Rattle.bpaf_line.proofs.Places.{open_not_taken}
 
--- no item in front of the first present place of the scope passes a test
-pub none_in_front : (test : Arg → Bool) (s : Situation) (p : ℕ) → IsFirstPresent s p → (q : ℕ)
-    → q < p → is_match test s q ≡ false
-none_in_front test s p front q before =
-    ap (λ b. option_map_or test (if b then item_at s q else None) false) (closed q before)
-  where
-    closed : (q : ℕ) → q < p → is_open s q ≡ false
-    closed q below = ⊎_elim
-        (λ (before : q < s.start). and_left _ _ (and_left _ _ (lt-leb s.start q before)))
-        (λ (behind : s.start ≤ q). and_right (in_scope s q) _
-        (ap not (front.passed q behind below)))
-        (cases_lt q s.start)
+module _ (test : Arg → Bool) (s : Situation) where
+  -- what isn't open passes no test
+  none_closed : (q : ℕ) → is_open s q ≡ false → is_match test s q ≡ false
+  none_closed q closed =
+      ap (λ b. option_map_or test (if b then item_at s q else None) false) closed
+
+  -- nor does what is taken
+  none_taken : (q : ℕ) → is_taken s q ≡ true → is_match test s q ≡ false
+  none_taken q taken = none_closed q (and_right (in_scope s q) _ (ap not taken))
+
+  -- no item in front of the first present place of the scope passes a test
+  pub none_in_front : (p : ℕ) → IsFirstPresent s p → HasNoneBefore test s p
+  none_in_front p front q below = ⊎_elim
+      (λ (before : q < s.start).
+      none_closed q (and_left _ _ (and_left _ _ (lt-leb s.start q before))))
+      (λ (behind : s.start ≤ q). none_taken q (front.passed q behind below))
+      (cases_lt q s.start)
+
+  -- nor one before a place, where none passes it before another, and all between are taken
+  pub none_past_taken : (p r : ℕ) → HasNoneBefore test s p → AreTaken s p r
+      → HasNoneBefore test s r
+  none_past_taken p r none taken q below = ⊎_elim
+      (λ (before : q < p). none q before)
+      (λ (behind : p ≤ q). none_taken q (taken q behind below))
+      (cases_lt q p)
+
+  -- nor one before the next place, where none passes it up to here
+  pub none_up_to : (p : ℕ) → HasNoneBefore test s p → is_match test s p ≡ false
+      → HasNoneBefore test s (p + 1)
+  none_up_to p none here q below = ⊎_elim
+      (λ (before : q < p). none q before)
+      (λ (behind : p ≤ q). let at : q ≡ p = omega arith in ap (is_match test s) at ∙ here)
+      (cases_lt q p)
 
 -- that place has the first item that passes it, where its item does
 pub first_at_front : (test : Arg → Bool) (s : Situation) (p : ℕ) → IsFirstPresent s p

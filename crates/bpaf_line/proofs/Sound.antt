@@ -6,9 +6,8 @@ use Rattle.std.proofs.Common.{vec_len, get_or, Option, Some, nat_lt, nat_le, sli
 use Rattle.std.proofs.Common.{take, drop, ◌==◌, min, max, ◌&&◌, ◌||◌, IfSome}
 use Rattle.std.specs.Vec.{with_items}
 use Rattle.std.specs.Int.{from_bool}
-use Rattle.std.specs.Rc.{rc_slice_items}
 use Rattle.std.specs.declared.alloc.Global.{Global}
-use Rattle.std.proofs.lemmas.Bool.{cases_lt, cases_eq, lt-ltb, le-ltb}
+use Rattle.std.proofs.lemmas.Bool.{cases_lt, cases_eq, lt-ltb, le-ltb, lt-leb, le-leb}
 use Rattle.std.proofs.lemmas.Bool.{cond-true, and_left, and_right}
 use Rattle.std.proofs.lemmas.Bool.Decides.{nat_tests}
 use Rattle.std.proofs.lemmas.List.{with_items_is, get_or_read}
@@ -24,7 +23,7 @@ use Rattle.bpaf_index.specs.Chained.{ReachBack, IfChained, HasNoKeyFrom}
 use Rattle.bpaf_line.specs.Inside.{situation_of, BitsOf, IsSound}
 use Rattle.bpaf_line.specs.Situation.{Situation, with_trail, with_scope, cut_to, is_open, is_marker}
 use Rattle.bpaf_line.specs.Situation.{is_taken, is_on, in_scope, open_count, TakenInTurn}
-use Rattle.bpaf_line.specs.Situation.{IsFirstPresent, HasNoneOpen}
+use Rattle.bpaf_line.specs.Situation.{AreTaken, IsFirstPresent, HasNoneOpen}
 use Rattle.bpaf_line.specs.Taking.{open_item}
 use Rattle.bpaf_line.proofs.Remembered.{survey_since, count_since, remembers_nothing, remembers_put}
 use Rattle.bpaf_line.proofs.Remembered.{remembers_cut}
@@ -113,13 +112,14 @@ chains_same s t chains context taken h = subst
     (λ q within set. taken q ∙ set) h)
 
 -- a state with other bits and another trail, counted anew
-abbrev pub with_parts : Inside → List ℕ → Vec ℕ Global → ℕ → ℕ → Option Chained → Inside
-with_parts s words trail left first chains =
+abbrev pub with_parts : Inside → List ℕ → Vec ℕ Global → ℕ → ℕ → ℕ → Option Chained → Inside
+with_parts s words trail left first behind chains =
     record s {
       words = with_items s.words words;
       trail = trail;
       left = left;
       first = first;
+      behind = behind;
       chains = chains;
     }
 
@@ -128,16 +128,18 @@ abbrev pub with_aside : Inside → Aside → Inside
 with_aside s aside = record s { aside = aside }
 
 -- it is sound with one place more
-pub sound_put : (s : Inside) (p : ℕ) (words : List ℕ) (trail : Vec ℕ Global) (left first : ℕ)
-    (chains : Option Chained) → IsSound s → is_taken (situation_of s) p ≡ false
+pub sound_put : (s : Inside) (p : ℕ) (words : List ℕ) (trail : Vec ℕ Global)
+    (left first behind : ℕ) (chains : Option Chained) → IsSound s → is_taken (situation_of s) p ≡ false
     → ChangesBit s.words.items words p true → trail.items ≡ s.trail.items ++ p ∷ []
     → vec_capacity s.trail ≤ vec_capacity trail
     → left ≡ s.left - from_bool (in_scope (situation_of s) p)
-    → IsFirstClear words s.first s.end first
-    → IfSome chains (AreBehind (rc_slice_items s.items) (has_bit words)) → IsSound
-    (with_parts s words trail left first chains)
-sound_put s p words trail left first chains h free change pushed grown counted next passed =
-    let means : situation_of (with_parts s words trail left first chains)
+    → IsFirstClear words s.first s.end first → behind ≤ length s.items.items
+    → ((q : ℕ) → s.behind ≤ q → q < behind → has_bit words q ≡ true)
+    → IfSome chains (AreBehind s.items.items (has_bit words)) → IsSound
+    (with_parts s words trail left first behind chains)
+sound_put s p words trail left first behind chains h free change pushed grown counted next inside
+    set passed =
+    let means : situation_of (with_parts s words trail left first behind chains)
     ≡ put (situation_of s) p = ap (with_trail (situation_of s)) pushed in
     let written : (with_items s.words words).items ≡ words = with_items_is s.words words
     (change.kept ∙ sym s.words.ok.0) in
@@ -163,13 +165,18 @@ sound_put s p words trail left first chains h free change pushed grown counted n
           (behind_since new.context.line (has_bit words) (is_taken new) chains
           (λ q within set. sym (bits q within) ∙ set) passed);
       keyless = h.keyless;
+      behind = subst (λ t. AreTaken t s.keys behind) (sym means) (λ q low high. ⊎_elim
+          (λ (before : q < s.behind). put_stays (situation_of s) p q (h.behind q low before))
+          (λ (past : s.behind ≤ q). sym (bits q (omega arith)) ∙ set q past high)
+          (cases_lt q s.behind));
+      behind_inside = inside;
       named = h.named;
     }
 
 -- and the bits of what the chains passed are set then
 pub behind_put : (s : Inside) (p : ℕ) (words : List ℕ) → IsSound s
     → ChangesBit s.words.items words p true
-    → IfSome s.chains (AreBehind (rc_slice_items s.items) (has_bit words))
+    → IfSome s.chains (AreBehind s.items.items (has_bit words))
 behind_put s p words h change = behind_bits (situation_of s) p words s.chains
     (bits_put (situation_of s) s.words.items words p h.bits change) h.chained
 
@@ -207,18 +214,19 @@ bits_untake s old new p bits change free q within = ⊎_elim
     (cases_eq q p)
 
 -- it is sound without the last place
-pub sound_untake : (s : Inside) (p : ℕ) (words : List ℕ) (trail : Vec ℕ Global) (left first : ℕ)
-    (aside : Aside) (chains : Option Chained) → IsSound s → 0 < length s.trail.items → p
+pub sound_untake : (s : Inside) (p : ℕ) (words : List ℕ) (trail : Vec ℕ Global)
+    (left first behind : ℕ) (aside : Aside) (chains : Option Chained) → IsSound s → 0 < length s.trail.items → p
     ≡ slice_index s.trail.items (length s.trail.items - 1)
     → ChangesBit s.words.items words p false → trail.items
     ≡ take (length s.trail.items - 1) s.trail.items → vec_capacity s.trail ≤ vec_capacity trail
     → left ≡ s.left + from_bool (in_scope (situation_of s) p) → first
     ≡ (if in_scope (situation_of s) p then min s.first p else s.first)
+    → behind ≡ (if nat_le s.keys p then min s.behind p else s.behind)
     → aside ≡ (if nat_le s.aside.taken (length s.trail.items - 1) then s.aside else no_aside)
     → IfChained (ReachBack p) s.chains chains
-    → IsSound (with_aside (with_parts s words trail left first chains) aside)
-sound_untake s p words trail left first aside chains h some last change shorter same counted next
-    kept back =
+    → IsSound (with_aside (with_parts s words trail left first behind chains) aside)
+sound_untake s p words trail left first behind aside chains h some last change shorter same counted
+    next reached kept back =
     let old = situation_of s in
     let n = length s.trail.items - 1 in
     let new = cut_to old n in
@@ -230,7 +238,7 @@ sound_untake s p words trail left first aside chains h some last change shorter 
     (subst (λ t. BitsOf t s.words.items) (sym before) h.bits) change free in
     let more = open_count-put new p free in
     let was : open_count (put new p) ≡ open_count old = ap open_count before in
-    let means : situation_of (with_parts s words trail left first chains)
+    let means : situation_of (with_parts s words trail left first behind chains)
     ≡ new = ap (with_trail old) shorter in
     let earlier : IsFirstPresent new first = subst (IsFirstPresent new) (sym next)
     (first_without new p s.first (subst (λ t. IsFirstPresent t s.first)
@@ -252,13 +260,42 @@ sound_untake s p words trail left first aside chains h some last change shorter 
           (chains_untake new p s.chains chains (subst (λ t. IfSome s.chains (AreChainsOf t))
           (sym before) h.chained) back);
       keyless = h.keyless;
+      behind = subst (λ t. AreTaken t s.keys behind) (sym means) (λ q low high.
+          let early = passed_early s.keys s.behind p behind q reached low high in
+          sym (put_other new p q early.1)
+          ∙ (ap (λ t. is_taken t q) before ∙ h.behind q low early.0));
+      behind_inside = at_most s.keys s.behind p behind (length s.items.items) reached
+          h.behind_inside;
       named = h.named;
     }
+  where
+    passed_early : (keys was p behind q : ℕ)
+        → behind ≡ (if nat_le keys p then min was p else was) → keys ≤ q → q < behind
+        → (q < was) × (q ≢ p)
+    passed_early keys was p behind q reached low high = ⊎_elim
+        (λ (front : p < keys).
+        let same = reached ∙ ap (λ b. if b then min was p else was) (lt-leb keys p front) in
+        (omega (arith, same), λ at. absurd (omega (arith, at))))
+        (λ (past : keys ≤ p).
+        let least = reached ∙ ap (λ b. if b then min was p else was) (le-leb keys p past) in
+        (omega (arith, least), λ at. absurd (omega (arith, least, at))))
+        (cases_lt p keys)
+
+    at_most : (keys was p behind end : ℕ)
+        → behind ≡ (if nat_le keys p then min was p else was) → was ≤ end → behind ≤ end
+    at_most keys was p behind end reached inside = ⊎_elim
+        (λ (front : p < keys).
+        let same = reached ∙ ap (λ b. if b then min was p else was) (lt-leb keys p front) in
+        omega (arith, same, inside))
+        (λ (past : keys ≤ p).
+        let least = reached ∙ ap (λ b. if b then min was p else was) (le-leb keys p past) in
+        omega (arith, least, inside))
+        (cases_lt p keys)
 
 -- with one place fewer the count of those left fits too
 pub left_below_count : (s : Inside) (p n : ℕ) → IsSound s → 0 < length s.trail.items → p
     ≡ slice_index s.trail.items (length s.trail.items - 1) → n
-    ≡ from_bool (in_scope (situation_of s) p) → s.left + n ≤ length (rc_slice_items s.items)
+    ≡ from_bool (in_scope (situation_of s) p) → s.left + n ≤ length s.items.items
 left_below_count s p n h some last is =
     let old = situation_of s in
     let new = cut_to old (length s.trail.items - 1) in
@@ -272,7 +309,7 @@ left_below_count s p n h some last is =
       h.counted,
       open_count-put new p free,
       count_below-most (is_open new)
-          (length (rc_slice_items s.items)),
+          (length s.items.items),
     )
 
 -- the places of a scope that are clear are those that are open in it
@@ -295,7 +332,7 @@ count_clear-open s words start end bits inside =
 
 -- a count by the bits is that of another scope
 pub survey_counted : (s : Inside) (start end left first : ℕ) → IsSound s → start ≤ end → end
-    ≤ length (rc_slice_items s.items) → left ≡ count_clear s.words.items start end
+    ≤ length s.items.items → left ≡ count_clear s.words.items start end
     → IsFirstClear s.words.items start end first → IsSurvey (situation_of s) start end left first
 survey_counted s start end left first h ordered inside counted clear = record {
   counted = counted ∙ count_clear-open (situation_of s) s.words.items start end h.bits inside;
@@ -326,7 +363,7 @@ gone_were_left s start end gone h same counted =
 
 -- what is remembered of it, without those, is so now
 pub survey_recalled : (s : Inside) (start end gone first : ℕ) → IsSound s
-    → end ≤ length (rc_slice_items s.items)
+    → end ≤ length s.items.items
     → (s.aside.start == start && s.aside.end == end) ≡ true
     → gone ≡ count_within start end (drop s.aside.taken s.trail.items)
     → IsFirstClear s.words.items s.aside.first end first
@@ -340,7 +377,7 @@ survey_recalled s start end gone first h inside same counted clear =
 
 -- it is sound with another scope
 pub sound_scope : (s : Inside) (start end left first : ℕ) (aside : Aside) → IsSound s
-    → start ≤ end → end ≤ length (rc_slice_items s.items)
+    → start ≤ end → end ≤ length s.items.items
     → IsSurvey (situation_of s) start end left first
     → IsRemembered (with_scope (situation_of s) start end) aside
     → IsSound (record s { start = start; end = end; left = left; first = first; aside = aside })
@@ -357,6 +394,8 @@ sound_scope s start end left first aside h ordered inside survey kept = record {
   chained = chains_same (situation_of s) (with_scope (situation_of s) start end) s.chains refl
       (λ q. refl) h.chained;
   keyless = h.keyless;
+  behind = h.behind;
+  behind_inside = h.behind_inside;
   named = h.named;
 }
 
@@ -401,6 +440,8 @@ sound_path s conflicts path h named = record {
   chained = chains_same (situation_of s) (situation_of
       (record s { conflicts = conflicts; path = path })) s.chains refl (λ q. refl) h.chained;
   keyless = h.keyless;
+  behind = h.behind;
+  behind_inside = h.behind_inside;
   named = named;
 }
 
@@ -423,7 +464,7 @@ path_longer (Some set) (entry ∷ path) more begins = begins
 
 -- a place that is present and in scope lies in the line
 pub open_in_line : (s : Inside) (p : ℕ) → IsSound s → is_open (situation_of s) p ≡ true → p
-    < length (rc_slice_items s.items)
+    < length s.items.items
 open_in_line s p h o = omega (arith, h.inside, open_in_scope (situation_of s) p o)
 
 -- and below the end of the scope
@@ -432,18 +473,18 @@ open_below_end s p o = omega (arith, open_in_scope (situation_of s) p o)
 
 -- an open place is not that of the marker, so its item is the one that the line has there
 pub open_item_is : (s : Inside) (p : ℕ) (xs : List Arg) (item : Arg) → IsSound s → xs
-    ≡ rc_slice_items s.items → is_open (situation_of s) p ≡ true
+    ≡ s.items.items → is_open (situation_of s) p ≡ true
     → item ≡ get_or xs p item → open_item (situation_of s) p ≡ Some item
 open_item_is s p xs item h same o there =
     let no_marker : is_marker s.marker p ≡ false = not_marker
-    (not (nat_lt p (length (rc_slice_items s.items)))) (is_marker s.marker p)
+    (not (nat_lt p (length s.items.items))) (is_marker s.marker p)
     (is_on s.trail.items p) (open_not_taken (situation_of s) p o) in
-    let at : item ≡ get_or (rc_slice_items s.items) p item = there
+    let at : item ≡ get_or s.items.items p item = there
     ∙ ap (λ ys. get_or ys p item) same in
     rw (
       o,
       no_marker,
-      slice_get-get_or (rc_slice_items s.items) p item
+      slice_get-get_or s.items.items p item
           (open_in_line s p h o),
       ← at,
     ) refl
@@ -467,12 +508,12 @@ none_behind s from h past q lower = by_scope (in_scope (situation_of s) q) refl
 
 -- a state of the same situation, with equal bits and first place, is sound too
 pub sound_copy : (i j : Inside) → situation_of i ≡ situation_of j → i.keys ≡ j.keys
-    → i.chains ≡ j.chains
+    → i.behind ≡ j.behind → i.chains ≡ j.chains
     → i.words.items ≡ j.words.items → i.left ≡ j.left → i.first ≡ j.first
     → i.aside ≡ no_aside
-    → length (rc_slice_items i.items) ≤ vec_capacity i.trail → IsSound j → IsSound i
-sound_copy i j same keys chains words left first aside room h =
-    let count : length (rc_slice_items i.items) ≡ length (rc_slice_items j.items) = ap
+    → length i.items.items ≤ vec_capacity i.trail → IsSound j → IsSound i
+sound_copy i j same keys behind chains words left first aside room h =
+    let count : length i.items.items ≡ length j.items.items = ap
     (λ s. length s.context.line) same in
     let end : i.end ≡ j.end = ap (λ s. s.end) same in
     let start : i.start ≡ j.start = ap (λ s. s.start) same in
@@ -491,8 +532,10 @@ sound_copy i j same keys chains words left first aside room h =
           (remembers_nothing (situation_of i));
       chained = subst (λ c. IfSome c (AreChainsOf (situation_of i))) (sym chains)
           (subst (λ s. IfSome j.chains (AreChainsOf s)) (sym same) h.chained);
-      keyless = subst (HasNoKeyFrom (rc_slice_items i.items)) (sym keys)
+      keyless = subst (HasNoKeyFrom i.items.items) (sym keys)
           (subst (λ s. HasNoKeyFrom s.context.line j.keys) (sym same) h.keyless);
+      behind = λ q low high. ap (λ s. is_taken s q) same ∙ h.behind q (omega arith) (omega arith);
+      behind_inside = omega (arith, h.behind_inside);
       named = subst (λ s. IfSome s.context.name (λ n. slice_get s.path 0 ≡ Some n))
           (sym same) h.named;
     }

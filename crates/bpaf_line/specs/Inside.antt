@@ -14,6 +14,7 @@ use Rattle.bpaf_line.specs.Chaining.{AreChainsOf}
 use Rattle.bpaf_line.specs.Changes.{Changes}
 use Rattle.bpaf_line.specs.TakenPlaces.{places_of}
 use Rattle.bpaf_line.specs.Situation.{Situation, is_taken, open_count, TakenInTurn, IsFirstPresent}
+use Rattle.bpaf_line.specs.Situation.{AreTaken}
 
 -- the entries of an environment that is kept where there is one
 abbrev pub shared_entries : Option (RcSlice (List ℕ × List ℕ) Global) → List (List ℕ × List ℕ)
@@ -24,7 +25,7 @@ abbrev pub situation_of : Inside → Situation
 situation_of s = record {
   context =
       record {
-        line = rc_slice_items s.items;
+        line = s.items.items;
         marker = s.marker;
         env = shared_entries s.env;
         name = s.name;
@@ -44,19 +45,22 @@ BitsOf s words = (p : ℕ) → p < length s.context.line → has_bit words p ≡
 -- each place has its bit, the trail has room for all places, each of which was present when it was
 -- taken, the scope lies in the line, the count of the present ones and the first of them are right,
 -- what is kept of a scope that was left was so there, what stands before the chains is taken, no
--- key stands from the kept place on, and the path begins with the set name
+-- key stands from the kept place on, from there all is taken up to a place of the line, and the
+-- path begins with the set name
 pub record IsSound (s : Inside) : Type 0 where
-  pub worded : length (rc_slice_items s.items) ≤ 64 * length s.words.items
+  pub worded : length s.items.items ≤ 64 * length s.words.items
   pub bits : BitsOf (situation_of s) s.words.items
-  pub room : length (rc_slice_items s.items) ≤ vec_capacity s.trail
+  pub room : length s.items.items ≤ vec_capacity s.trail
   pub in_turn : TakenInTurn (situation_of s)
   pub ordered : s.start ≤ s.end
-  pub inside : s.end ≤ length (rc_slice_items s.items)
+  pub inside : s.end ≤ length s.items.items
   pub counted : s.left ≡ open_count (situation_of s)
   pub first : IsFirstPresent (situation_of s) s.first
   pub aside : IsRemembered (situation_of s) s.aside
   pub chained : IfSome s.chains (AreChainsOf (situation_of s))
-  pub keyless : HasNoKeyFrom (rc_slice_items s.items) s.keys
+  pub keyless : HasNoKeyFrom s.items.items s.keys
+  pub behind : AreTaken (situation_of s) s.keys s.behind
+  pub behind_inside : s.behind ≤ length s.items.items
   pub named : IfSome s.name (λ n. slice_get (map string_bytes s.path.items) 0 ≡ Some n)
 
 -- the changes that kept steps mean

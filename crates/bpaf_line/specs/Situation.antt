@@ -126,6 +126,10 @@ PresentInTurn s places =
     (n : ℕ) → n < length places
     → is_taken (with_trail s (s.trail ++ take n places)) (slice_index places n) ≡ false
 
+-- all places from one on, below another, are taken
+abbrev pub AreTaken : Situation → ℕ → ℕ → Type 0
+AreTaken s low high = (q : ℕ) → low ≤ q → q < high → is_taken s q ≡ true
+
 -- the first present place from one on, below another; that other one, where there is none
 pub record IsFirstPresentWithin (s : Situation) (low high p : ℕ) : Type 0 where
   pub from : low ≤ p

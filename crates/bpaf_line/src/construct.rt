@@ -16,7 +16,7 @@ use crate::state::State;
 use bpaf_doc::Text;
 use bpaf_index::bits;
 use bpaf_index::chains::{Chains, count_to_last_key};
-use bpaf_words::{Args, Line, line_of};
+use bpaf_words::{Arg, Args, Line, line_of};
 use std::alloc::{AllocError, Global};
 use std::collections::BTreeMap;
 use std::rc::RcSlice;
@@ -104,10 +104,11 @@ impl State {
         let keys = count_to_last_key(&line.items);
         let chains = Chains::of_line(alloc, &line.items, keys)?;
         Ok(State {
-            items: RcSlice::from_vec(line.items)?,
+            items: line.items,
             marker: line.marker,
             env,
             keys,
+            behind: keys,
             chains,
             words,
             trail: Vec::with_capacity(alloc, end)?,
@@ -123,17 +124,18 @@ impl State {
         })
     }
 
-    /// An equal state, which shares the line and the environment (bpaf's `Clone`), and whose trail
-    /// has room for all places too; refused only for want of memory.
+    /// An equal state, which shares the environment (bpaf's `Clone`), and whose trail has room for
+    /// all places too; refused only for want of memory. The items are copied: a parse, which goes
+    /// back by marks, makes no copies, and so shares nothing.
     pub fn copy(&self) -> Result<State, AllocError>
         ensures { IfOk result (λ state. state ≡ self.now) }
     {
-        let items = self.items.clone()?;
-        let env = share_env(&self.env)?;
         let alloc = self.alloc();
+        let items = copy_items(alloc, self.items.as_slice())?;
+        let env = share_env(&self.env)?;
         let chains = Chains::copy_of(&self.chains)?;
         let words = Vec::from_slice(alloc, self.words.as_slice())?;
-        let mut trail = Vec::with_capacity(alloc, self.items.as_slice().len())?;
+        let mut trail = Vec::with_capacity(alloc, self.items.len())?;
         trail.extend_from_slice(self.trail.as_slice())?;
         let conflicts = Vec::from_slice(alloc, self.conflicts.as_slice())?;
         let path = copy_path(alloc, self.path.as_slice())?;
@@ -143,6 +145,7 @@ impl State {
             marker: self.marker,
             env,
             keys: self.keys,
+            behind: self.behind,
             chains,
             words,
             trail,
@@ -157,6 +160,30 @@ impl State {
             current: self.current,
         })
     }
+}
+
+/// Equal items.
+fn copy_items(alloc: Global, items: &[Arg]) -> Result<Vec<Arg>, AllocError>
+    ensures { IfOk result (λ copy. copy.items ≡ items.now) }
+{
+    let mut copy = Vec::with_capacity(alloc, items.len())?;
+    for item in items {
+        copy.push(copy_item(item)?)?;
+    }
+    Ok(copy)
+}
+
+/// An equal item.
+fn copy_item(item: &Arg) -> Result<Arg, AllocError>
+    ensures { IfOk result (λ copy. copy ≡ item.now) }
+{
+    Ok(match item {
+        Arg::Short(c, attached, word) => Arg::Short(*c, *attached, word.copy()?),
+        Arg::Long(name, attached, word) => Arg::Long(name.copy()?, *attached, word.copy()?),
+        Arg::ArgWord(text) => Arg::ArgWord(text.copy()?),
+        Arg::Word(text) => Arg::Word(text.copy()?),
+        Arg::PosWord(text) => Arg::PosWord(text.copy()?),
+    })
 }
 
 /// Words for that many places, in which only the bit of the marker is set.

@@ -2,6 +2,7 @@
 ghost use Rattle.std.specs.Prelude.{◌≡◌, ◌≤◌, [], IfSome, MatchOption, length};
 ghost use Rattle.bpaf_base.specs.Items.{is_argument_key, is_positional};
 ghost use Rattle.bpaf_line.specs.Chaining.{AreChainsOf};
+ghost use Rattle.bpaf_line.specs.Situation.{AreTaken};
 ghost use Rattle.bpaf_line.specs.Finding.{HasNoneBefore, IsFirstAmong, IsFirstAlong};
 ghost use Rattle.bpaf_line.specs.Taking.{is_match, HasNone, IsFirst};
 
@@ -15,19 +16,18 @@ use bpaf_words::{is_argument_key, is_positional};
 const NARROW_SCOPE: usize = 8;
 
 impl State {
-    /// A place before which no word is present and in scope: along the chain of words up to the
-    /// line's last key, where the line has chains and the scope isn't narrow, else the first one.
+    /// A place before which no word is present and in scope. Up to the line's last key it is the
+    /// first one's; where none stands there, what was taken behind that key is passed.
     pub(crate) fn no_word_before(&self) -> usize
         ensures { HasNoneBefore is_positional self.now result }
     {
         match self.chains_of_scope() {
             Some(chains) => self.first_word_along(chains),
-            None => 0,
+            None => self.first_word_in_turn(),
         }
     }
 
-    /// The first word along its chain that is present and in scope; the number of chained places,
-    /// where there is none.
+    /// The same, looked for along the chain of words.
     fn first_word_along(&self, chains: &Chains) -> usize
         requires { AreChainsOf self.now chains.now }
         ensures { HasNoneBefore is_positional self.now result }
@@ -40,7 +40,33 @@ impl State {
             }
             place = chains.after(place);
         }
-        chains.len()
+        self.past_taken(chains.len())
+    }
+
+    /// The same, looked for at each place from the first present one on.
+    fn first_word_in_turn(&self) -> usize
+        ensures { HasNoneBefore is_positional self.now result }
+    {
+        let end = self.end.min(self.keys);
+        let mut place = self.first;
+        while place < end {
+            if self.is_word_at(place) {
+                return place;
+            }
+            place += 1;
+        }
+        self.past_taken(place)
+    }
+
+    /// A place, or one behind it, where all between them are taken, as is known behind the line's
+    /// last key.
+    fn past_taken(&self, place: usize) -> usize
+        ensures { AreTaken self.now place result }
+    {
+        if place < self.keys {
+            return place;
+        }
+        place.max(self.behind)
     }
 
     /// Whether a word is present and in scope at a place.
@@ -147,10 +173,9 @@ impl State {
             (is_argument_key (record { shorts = shorts.now; longs = longs.now }) adjacent)
             (record { shorts = []; longs = longs.now }) self.now end result }
     {
-        let items = self.items.as_slice();
         let mut place = end;
         for long in longs {
-            let start = chains.first_long(items, long);
+            let start = chains.first_long(&self.items, long);
             place = self.first_along(chains, start, place, shorts, longs, adjacent);
         }
         place

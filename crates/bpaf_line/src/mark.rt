@@ -154,6 +154,7 @@ impl State {
         let within = lies_within(place, self.start, self.end);
         self.left += usize::from(within);
         self.first = earlier(self.first, place, within);
+        self.behind = earlier(self.behind, place, self.keys <= place);
         self.aside = self.aside.up_to(last);
         chains::reach_back(&mut self.chains, place);
     }

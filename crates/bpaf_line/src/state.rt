@@ -3,7 +3,8 @@ ghost use Rattle.std.specs.Prelude.{◌≡◌, ◌+◌, ◌++◌, ◌&&◌, ◌<
 ghost use Rattle.std.specs.Prelude.{if◌then◌else◌, not, nat_lt, nat_le, length, slice_get, true};
 ghost use Rattle.std.specs.Prelude.{false, Bool, MatchOption, option_copied, option_map};
 ghost use Rattle.std.specs.Prelude.{option_and_then, Some, None, IfOk, OnOk, OnErr, IfSome};
-ghost use Rattle.std.specs.Prelude.{string_bytes, map, List};
+ghost use Rattle.std.specs.Prelude.{string_bytes, map, List, ℕ, ◌*◌};
+ghost use Rattle.bpaf_index.specs.Bits.{has_bit};
 ghost use Rattle.std.specs.Borrow.{Bor};
 ghost use Rattle.bpaf_doc.specs.Shape.{part_of};
 ghost use Rattle.bpaf_base.specs.declared.arg.Arg.{Arg};
@@ -36,10 +37,11 @@ use std::rc::RcSlice;
 /// It keeps its allocator, so its calls take none. Contracts see it as a `Situation`.
 #[derive(Drop)]
 pub struct State {
-    pub(crate) items: RcSlice<Arg>,
+    pub(crate) items: Vec<Arg>,
     pub(crate) marker: Option<usize>,
     pub(crate) env: Option<RcSlice<(Text, Text)>>,
     pub(crate) keys: usize,
+    pub(crate) behind: usize,
     pub(crate) chains: Option<Chains>,
     pub(crate) words: Vec<u64>,
     pub(crate) trail: Vec<usize>,
@@ -169,8 +171,7 @@ impl State {
         if !self.is_open(place) {
             return None;
         }
-        let items = self.items.as_slice();
-        Some(&items[place])
+        Some(&self.items[place])
     }
 
     /// Whether the item at a place is present, in scope or not; None past the line.
@@ -232,7 +233,7 @@ impl State {
         ensures fits { IfSome result (λ r. r.0 + 1 < 2 ^ 64) }
     {
         let place = self.next_place(from)?;
-        Some((place, &self.items.as_slice()[place]))
+        Some((place, &self.items[place]))
     }
 
     /// What the environment has under a name: the value of its first entry of that name.
@@ -266,14 +267,14 @@ impl State {
     pub(crate) fn line_len(&self) -> usize
         ensures { result ≡ length self.now.context.line }
     {
-        self.items.as_slice().len()
+        self.items.len()
     }
 
     /// Whether a place is taken; past the line every place counts as taken.
     pub(crate) fn is_taken(&self, place: usize) -> bool
         ensures { result ≡ is_taken self.now place }
     {
-        place >= self.items.as_slice().len() || bits::is_set(&self.words, place)
+        place >= self.items.len() || bits::is_set(&self.words, place)
     }
 
     /// Whether a place is present, and in scope.
@@ -346,7 +347,9 @@ impl State {
         let _ = self.trail.push(place);
         self.left -= usize::from(lies_within(place, self.start, self.end));
         self.first = bits::first_clear(&self.words, self.first, self.end);
-        chains::pass(&mut self.chains, self.items.as_slice(), &self.words, place);
+        let stays = self.first < self.keys && self.keys <= place;
+        self.behind = pass_taken(&self.words, self.behind, self.items.len(), stays);
+        chains::pass(&mut self.chains, &self.items, &self.words, place);
     }
 
     /// The text of the place after a key, where that is present, in scope, and a Word or an
@@ -372,6 +375,21 @@ fn value_of<'a>(entries: &'a [(Text, Text)], name: &str) -> Option<&'a str>
         }
     }
     None
+}
+
+/// The first place from one on, below the end, whose bit is not set, where it is wanted; else that
+/// one.
+fn pass_taken(words: &[u64], from: usize, end: usize, wanted: bool) -> usize
+    requires ordered { from ≤ end }
+    requires inside { end ≤ 64 * length words.now }
+    ensures within { result ≤ end }
+    ensures set { (q : ℕ) → from ≤ q → q < result → has_bit words.now q ≡ true }
+{
+    if wanted {
+        bits::first_clear(words, from, end)
+    } else {
+        from
+    }
 }
 
 /// Whether a place is one from the start on, below the end.

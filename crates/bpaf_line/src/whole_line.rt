@@ -13,7 +13,7 @@ impl State {
     pub fn line_item(&self, place: usize) -> Option<&Arg>
         ensures { option_copied result ≡ line_item self.now place }
     {
-        self.items.as_slice().get(place)
+        self.items.get(place)
     }
 
     /// The first present place from one on, below another, in scope or not. It takes no memory.

@@ -2,11 +2,10 @@
 use Rattle.std.proofs.Common.{◌≡◌, ◌≢◌, ◌==◌, ℕ, zero, suc, Bool, true, false, List, [], ◌∷◌, ◌++◌}
 use Rattle.std.proofs.Common.{length, refl, ap, sym, ◌∙◌, subst, arith, lit<, Option, None, Some}
 use Rattle.std.proofs.Common.{IfOk, Result, Ok, Err, encode_utf8, encode_utf8_all, IsUtf8}
-use Rattle.std.specs.Str.Pattern.{FindsChar, FindsCharPrefix, StripsPrefix}
+use Rattle.std.specs.Str.Pattern.{FindsChar}
 use Rattle.std.specs.Borrow.{Bor}
 use Rattle.std.proofs.lemmas.Str.{encode_ascii, cons_from_encodes}
 use Rattle.std.proofs.lemmas.Str.Pattern.{NoCharPasses-char, IsSplitOnceResult, split_parts}
-use Rattle.std.proofs.lemmas.Str.Pattern.{strip_prefix_char}
 use Rattle.std.proofs.lemmas.Bool.Decides.{nat_tests}
 use Rattle.bpaf_base.specs.declared.arg.Arg.{Arg}
 use Rattle.bpaf_base.specs.declared.arg.Arg.TheVariants.{Short, ArgWord}
@@ -28,15 +27,6 @@ pub at_equals : (bs : List ℕ) (front value : Bor (List ℕ))
     → IsSplitOnceResult 61 bs (Some (front, value)) → (bs ≡ front.now ++ 61 ∷ value.now)
     × HasNoEquals front.now
 at_equals bs front value h = split_parts 61 bs (Some (front, value)) h (lit< tt)
-
--- `strip_prefix` at `-`
-pub no_dash : (bs : List ℕ) → FindsCharPrefix 45 bs None → (rest : List ℕ) → bs ≢ 45 ∷ rest
-no_dash bs h = strip_prefix_char 45 bs None h (lit< tt)
-
--- a text from which `-` was stripped is `-`, then what is left
-pub after_dash : (bs : List ℕ) (x : Bor (List ℕ)) → StripsPrefix (FindsCharPrefix 45) bs x.now
-    → bs ≡ 45 ∷ x.now
-after_dash bs x h = strip_prefix_char 45 bs (Some x) h (lit< tt)
 
 -- what does not begin with the byte `-` does not begin with the character
 pub other_than_dash : (rest tail : List ℕ) (c : ℕ) → ((r : List ℕ) → rest ≢ 45 ∷ r)

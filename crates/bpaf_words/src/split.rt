@@ -1,7 +1,8 @@
 //! The items of one word.
 ghost use Rattle.std.specs.Prelude.{◌≡◌, ◌≢◌, ◌↔◌, [], ◌∷◌, ◌++◌, false, IsTrue, EachIndex, IfOk};
 ghost use Rattle.std.specs.Prelude.{OnOk};
-ghost use Rattle.std.specs.Prelude.{slice_index, codes, encode_utf8, encode_utf8_all};
+ghost use Rattle.std.specs.Prelude.{slice_index, codes, encode_utf8, encode_utf8_all, List, ℕ};
+ghost use Rattle.std.specs.Prelude.{MatchOption};
 ghost use Rattle.std.specs.Bool.{MatchBool};
 ghost use Rattle.std.specs.Char.{IsAsciiDigit};
 ghost use Rattle.bpaf_words.specs.Spelling.{IsNumber, argument_of, known_at};
@@ -78,7 +79,7 @@ pub(crate) fn split_alone<'a>(
     ensures { IfOk result (λ joined.
         SplitsAlone numbers word.now items.old.items joined items.new.items) }
 {
-    let Some(rest) = word.strip_prefix('-') else {
+    let Some(rest) = after_dash(word) else {
         push_word(alloc, word, items)?;
         return Ok(None);
     };
@@ -87,6 +88,18 @@ pub(crate) fn split_alone<'a>(
         return Ok(None);
     }
     split_dashed(alloc, word, rest, items)
+}
+
+/// What stands behind the dash of a word, where it begins with one. Of any other word its first
+/// byte alone is looked at.
+fn after_dash(word: &str) -> Option<&str>
+    ensures { MatchOption result ((rest : List ℕ) → word.now ≢ codes "-" ++ rest)
+        (λ rest. word.now ≡ codes "-" ++ rest.now) }
+{
+    match word.as_bytes().first() {
+        Some(b'-') => word.strip_prefix('-'),
+        _ => None,
+    }
 }
 
 /// Whether what stands behind the dash of a word is one or more ASCII digits, and nothing else.
@@ -117,7 +130,7 @@ fn split_dashed<'a>(
     ensures { IfOk result (λ joined.
         SplitsDashed word.now items.old.items joined items.new.items) }
 {
-    if let Some(name) = rest.strip_prefix('-') {
+    if let Some(name) = after_dash(rest) {
         split_long(alloc, word, name, items)?;
         return Ok(None);
     }

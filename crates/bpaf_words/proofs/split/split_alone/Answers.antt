@@ -1,14 +1,14 @@
 use Rattle.std.proofs.Common.{◌≡◌, [], ◌∷◌, true, false, sym, subst, ◌∙◌}
 use Rattle.bpaf_base.specs.declared.arg.Arg.TheVariants.{Word}
 use Rattle.bpaf_words.specs.Spelling.{IsNumber, number_word, by_dash, plain, Items}
-use Rattle.bpaf_words.proofs.SplitLemmas.{no_dash, after_dash, alone_by_any}
+use Rattle.bpaf_words.proofs.SplitLemmas.{alone_by_any}
 use Rattle.bpaf_words.proofs.split.split_alone.Goals as goal
 use Rattle.bpaf_words.proofs.split.split_alone.Goals.{else-numbers-via-then-numbers+else-is_number}
 use Rattle.bpaf_words.proofs.split.split_alone.Goals.{else-numbers-via-else-numbers}
 
 pub returns-in_default : goal.returns-in_default
 returns-in_default c names =
-    let none = no_dash c.args.word.now c.in_default.ensures.cases in (
+    let none = c.in_default.ensures in (
       Word c.args.word.now ∷ [],
       by_dash (Items (Word c.args.word.now ∷ [])) (λ is. none is.1.digits is.1.is) (plain none),
       c.in_ok-push_word.ensures,
@@ -19,7 +19,7 @@ returns-then-is_number c names = (
   Word c.args.word.now ∷ [],
   number_word (
     c.if-numbers.true,
-    subst IsNumber (sym (after_dash c.args.word.now c.in-Some.rest c.in-Some.ensures.cases))
+    subst IsNumber (sym c.in-Some.ensures)
         c.if-is_number.ensures,
   ),
   c.in_ok-push_word-2.ensures,
@@ -29,7 +29,7 @@ pub returns : goal.returns
 returns c = alone_by_any c.args.numbers c.args.word.now _ _ _
     (λ is. elim c.else-numbers.branch [
       | else-numbers-via-then-numbers+else-is_number w ↦ w.if-is_number.ensures
-          (subst IsNumber (after_dash c.args.word.now c.in-Some.rest c.in-Some.ensures.cases) is.1)
+          (subst IsNumber c.in-Some.ensures is.1)
       | else-numbers-via-else-numbers w ↦
           (let e : false ≡ true = sym w.if-numbers.false ∙ is.0 in cc)
     ])

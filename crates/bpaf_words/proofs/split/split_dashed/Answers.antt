@@ -3,7 +3,7 @@ use Rattle.std.proofs.Common.{append-nil, length}
 use Rattle.std.proofs.lemmas.List.{nil_from_length}
 use Rattle.bpaf_base.specs.declared.arg.Arg.TheVariants.{Short, Word, ArgWord}
 use Rattle.bpaf_words.specs.Spelling.{dash, short}
-use Rattle.bpaf_words.proofs.SplitLemmas.{no_dash, other_than_dash, at_equals, no_equals}
+use Rattle.bpaf_words.proofs.SplitLemmas.{other_than_dash, at_equals, no_equals}
 use Rattle.bpaf_words.proofs.SplitLemmas.{with_value, are_joined, not_both, is_zero, first_letter}
 use Rattle.bpaf_words.proofs.split.split_dashed.Goals as goal
 use Rattle.bpaf_words.proofs.split.split_dashed.Goals.{then-is_empty-2, else-is_empty-2}
@@ -19,7 +19,7 @@ returns-in_default-next c names =
 
 pub returns-then-is_empty : goal.returns-then-is_empty
 returns-then-is_empty c names =
-    let none = no_dash c.args.rest.now c.in_default.ensures.cases in
+    let none = c.in_default.ensures in
     let starts = first_letter c.args.rest.now _ c.in-Some-next.c _ c.as_str-tail.result.now
     c.chars-letters.ensures.rest c.in-Some-next.ensures.steps.0 c.as_str-tail.ensures in
     let empty = nil_from_length _ (is_zero _ (sym c.if-is_empty.ensures)) in (
@@ -33,7 +33,7 @@ returns-then-is_empty c names =
 
 pub returns-in_default-split_once : goal.returns-in_default-split_once
 returns-in_default-split_once c =
-    let none = no_dash c.args.rest.now c.in_default.ensures.cases in
+    let none = c.in_default.ensures in
     let starts = first_letter c.args.rest.now _ c.in-Some-next.c _ c.as_str-tail.result.now
     c.chars-letters.ensures.rest c.in-Some-next.ensures.steps.0 c.as_str-tail.ensures in (
       are_joined c.args.word.now c.args.rest.now c.as_str-tail.result.now c.in-Some-next.c
@@ -46,7 +46,7 @@ returns-in_default-split_once c =
 
 pub returns : goal.returns
 returns c names =
-    let none = no_dash c.args.rest.now c.in_default.ensures.cases in
+    let none = c.in_default.ensures in
     let starts = first_letter c.args.rest.now _ c.in-Some-next.c _ c.as_str-tail.result.now
     c.chars-letters.ensures.rest c.in-Some-next.ensures.steps.0 c.as_str-tail.ensures in
     let parts = at_equals c.as_str-tail.result.now c.in-Some-split_once.name

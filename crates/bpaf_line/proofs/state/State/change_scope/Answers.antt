@@ -1,5 +1,4 @@
 use Rattle.std.proofs.Common.{◌≤◌, ◌∙◌, ap, subst, sym, arith, length}
-use Rattle.std.specs.Rc.{rc_slice_items}
 use Rattle.bpaf_line.specs.Inside.{situation_of}
 use Rattle.bpaf_line.specs.Remembered.{IsSurvey}
 use Rattle.bpaf_line.proofs.Remembered.{remembers_left}
@@ -9,7 +8,7 @@ use Rattle.bpaf_line.proofs.state.State.change_scope.Goals as goal
 pub invariant_of-self : goal.invariant_of-self
 invariant_of-self c =
     let s = c.self.inside in
-    let inside : c.args.end ≤ length (rc_slice_items s.items) =
+    let inside : c.args.end ≤ length s.items.items =
     (let e = ap (λ t. length t.context.line) c.self.view_is in
     omega (arith, e, c.requires.inside)) in
     sound_scope s c.args.start c.args.end _ _ _ c.self.invariant c.requires.ordered inside

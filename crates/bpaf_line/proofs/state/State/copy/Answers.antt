@@ -1,13 +1,12 @@
 use Rattle.std.proofs.Common.{◌≡◌, ◌∙◌, ◌++◌, ap, arith, map, string_bytes, refl, length}
-use Rattle.std.specs.Rc.{rc_slice_items}
 use Rattle.bpaf_line.proofs.Sound.{sound_copy}
 use Rattle.bpaf_line.proofs.state.State.copy.Goals as goal
 
 pub invariant_of-result : goal.invariant_of-result
 invariant_of-result c =
     let s = c.self.inside in
-    let items : rc_slice_items c.in_ok-items.items ≡ rc_slice_items s.items =
-    c.in_ok-items.ensures.cases in
+    let items : c.in_ok-items.items.items ≡ s.items.items =
+    c.in_ok-items.ensures ∙ c.as_slice.ensures.value in
     let trail : c.extend_from_slice.new.self.items ≡ s.trail.items =
     c.in_ok-extend_from_slice.ensures.items
     ∙ (ap (λ xs. xs ++ c.as_slice-3.result.now) c.in_ok-trail.ensures.items
@@ -25,12 +24,13 @@ invariant_of-result c =
       path,
       c.in_ok-name.ensures,
     ) refl)
-    refl c.in_ok-chains.ensures (c.in_ok-words.ensures.items ∙ c.as_slice.ensures.value) refl refl
-    c.nothing.ensures
+    refl refl c.in_ok-chains.ensures (c.in_ok-words.ensures.items ∙ c.as_slice-2.ensures.value)
+    refl refl c.nothing.ensures
     (omega (
       arith,
       ap length items,
       c.in_ok-trail.ensures.capacity,
       c.in_ok-extend_from_slice.ensures.capacity,
-      c.as_slice-2.ensures.len,
+      c.len.ensures,
+      s.items.ok.0,
     )) c.self.invariant

@@ -20,7 +20,7 @@ loop-long-preserved c =
     let key = Long name false [] in
     let s = c.args.self.now in
     let chains = c.args.chains.now in
-    let line = c.as_slice-items.ensures.value ∙ ap (λ t. t.context.line) c.self.view_is in
+    let line = c.deref.ensures.value ∙ ap (λ t. t.context.line) c.self.view_is in
     let begins = subst (λ items. IsChainStart chains
     (class_of_long items chains.names (length chains.heads) name) c.first_long-start.result) line
     c.first_long-start.ensures in

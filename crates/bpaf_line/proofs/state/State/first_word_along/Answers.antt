@@ -1,6 +1,7 @@
 use Rattle.std.proofs.Common.{◌∙◌, ap, arith, not, sym}
+use Rattle.bpaf_base.specs.Items.{is_positional}
 use Rattle.bpaf_index.proofs.Chained.{walked_more, walked_none}
-use Rattle.bpaf_line.proofs.Finding.{no_word_passed}
+use Rattle.bpaf_line.proofs.Finding.{no_word_passed, none_past_taken}
 use Rattle.bpaf_line.proofs.state.State.first_word_along.Goals as goal
 
 pub loop-place-init : goal.loop-place-init
@@ -20,8 +21,9 @@ returns-then-is_word_at c q below =
     (omega (arith, below, c.loop-place-test.true, c.len.ensures)) below
 
 pub returns : goal.returns
-returns c q below =
-    no_word_passed c.args.self.now c.args.chains.now c.first_word-start.result c.loop-place.place
-    c.requires c.first_word-start.ensures c.loop-place.invariant q
-    (omega (arith, below, c.len.ensures))
-    (omega (arith, below, c.loop-place-test.false, c.len.ensures))
+returns c = none_past_taken is_positional c.args.self.now c.len-2.result _
+    (λ q below. no_word_passed c.args.self.now c.args.chains.now c.first_word-start.result
+    c.loop-place.place c.requires c.first_word-start.ensures c.loop-place.invariant q
+    (omega (arith, below, c.len-2.ensures))
+    (omega (arith, below, c.loop-place-test.false, c.len.ensures, c.len-2.ensures)))
+    c.past_taken.ensures

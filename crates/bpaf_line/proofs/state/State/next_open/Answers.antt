@@ -1,4 +1,4 @@
-use Rattle.std.proofs.Common.{ap, sym, subst, ◌∙◌, ◌≡◌, ◌+◌, ◌∷◌, [], MatchOption, Some}
+use Rattle.std.proofs.Common.{ap, refl, sym, subst, ◌∙◌, ◌≡◌, ◌+◌, ◌∷◌, [], MatchOption, Some}
 use Rattle.bpaf_line.specs.Situation.{is_open}
 use Rattle.bpaf_line.specs.OpenItems.{open_items_from}
 use Rattle.bpaf_line.specs.Taking.{open_item}
@@ -18,13 +18,12 @@ returns-clause-next c =
     let open_here = ap (λ s. is_open s c.in_ok-place.place) c.self.view_is
     ∙ c.in_ok-place.ensures.present in (
       c.in_ok-place.ensures,
-      subst (λ s. open_item s c.in_ok-place.place ≡ Some c.index-as_slice-place.result)
+      subst (λ s. open_item s c.in_ok-place.place ≡ Some c.index.result.now)
           c.self.view_is
-          (open_item_is c.self.inside c.in_ok-place.place c.as_slice.result.now
-          c.index-as_slice-place.result c.self.invariant c.as_slice.ensures.value open_here
-          c.index-as_slice-place.is),
+          (open_item_is c.self.inside c.in_ok-place.place c.self.inside.items.items
+          c.index.result.now c.self.invariant refl open_here c.index.ensures),
     )
 
 pub returns-clause-items : goal.returns-clause-items
 returns-clause-items c = items_next c.args.self.now c.args.from c.in_ok-place.place
-    c.index-as_slice-place.result c.in_ok-place.ensures (returns-clause-next c).1
+    c.index.result.now c.in_ok-place.ensures (returns-clause-next c).1

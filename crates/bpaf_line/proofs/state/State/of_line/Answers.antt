@@ -1,4 +1,4 @@
-use Rattle.std.proofs.Common.{◌≡◌, length, ap, ◌∙◌, refl, None, ◌-◌, option_to_list, subst}
+use Rattle.std.proofs.Common.{◌≡◌, ◌≤◌, length, ap, ◌∙◌, refl, None, ◌-◌, option_to_list, subst}
 use Rattle.std.proofs.Common.{is_some, arith, IfSome, false}
 use Rattle.std.specs.Int.{from_bool}
 use Rattle.bpaf_words.specs.Arguments.{env_of, name_of}
@@ -23,10 +23,11 @@ context_is c = record {
 -- what the state is made of
 inside : After-nothing → Inside
 inside c = record {
-  items = c.in_ok-from_vec.field-0;
+  items = c.args.line.items;
   marker = c.args.line.marker;
   env = c.in_ok-env.env;
   keys = c.count_to_last_key-keys.result;
+  behind = c.count_to_last_key-keys.result;
   chains = c.in_ok-chains.chains;
   words = c.in_ok-words.words;
   trail = c.in_ok-with_capacity.field-0;
@@ -48,7 +49,7 @@ size c = c.len-end.ensures ∙ c.args.line.items.ok.0
 -- it is at the beginning of that line
 start : (c : After-nothing) → situation_of (inside c) ≡ beginning (context_is c)
 unfolding inside context_is
-start c = begins (inside c) (context_is c) c.in_ok-from_vec.ensures refl
+start c = begins (inside c) (context_is c) refl refl
     (c.in_ok-env.ensures ∙ c.env.ensures)
     (c.in_ok-path.ensures.name ∙ c.name.ensures)
     c.in_ok-with_capacity.ensures.items c.new.ensures.items refl (size c)
@@ -70,7 +71,9 @@ invariant_of-result c =
     (subst (λ items. HasNoKeyFrom items c.count_to_last_key-keys.result) c.deref-2.ensures.value
     c.count_to_last_key-keys.ensures.keyless)
     (subst (λ items. IfSome c.in_ok-chains.chains (AreBehind items (λ p. false)))
-    c.deref-3.ensures.value c.in_ok-chains.ensures) c.nothing.ensures
+    c.deref-3.ensures.value c.in_ok-chains.ensures) c.nothing.ensures refl
+    (subst (λ items. c.count_to_last_key-keys.result ≤ length items) c.deref-2.ensures.value
+    c.count_to_last_key-keys.ensures.within)
 
 pub returns : goal.returns
 unfolding context_is inside

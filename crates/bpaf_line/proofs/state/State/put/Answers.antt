@@ -1,7 +1,6 @@
-use Rattle.std.proofs.Common.{◌∙◌, ◌-◌, ap, sym, subst, true, IfSome}
+use Rattle.std.proofs.Common.{◌∙◌, ◌-◌, ◌≤◌, ◌<◌, ℕ, arith, ap, sym, subst, true, IfSome}
 use Rattle.std.specs.Int.{from_bool}
 use Rattle.std.proofs.lemmas.List.{with_items_is}
-use Rattle.std.specs.Rc.{rc_slice_items}
 use Rattle.bpaf_index.specs.Bits.{has_bit, ChangesBit, IsFirstClear}
 use Rattle.bpaf_index.specs.Chained.{AreBehind}
 use Rattle.bpaf_line.specs.Inside.{situation_of}
@@ -21,10 +20,10 @@ pass-requires-clause-behind c =
     let changed = subst (λ old.
     ChangesBit old c.set.new.words c.args.place true) c.deref_mut.ensures.value c.set.ensures in
     let written = with_items_is s.words c.set.new.words (changed.kept ∙ sym s.words.ok.0) in
-    subst (λ items. IfSome s.chains (AreBehind items (has_bit c.deref-2.result.now)))
-    (sym c.as_slice.ensures.value)
-    (subst (λ words. IfSome s.chains (AreBehind (rc_slice_items s.items) (has_bit words)))
-    (sym (c.deref-2.ensures.value ∙ written))
+    subst (λ items. IfSome s.chains (AreBehind items (has_bit c.deref-4.result.now)))
+    (sym c.deref-3.ensures.value)
+    (subst (λ words. IfSome s.chains (AreBehind s.items.items (has_bit words)))
+    (sym (c.deref-4.ensures.value ∙ written))
     (behind_put s c.args.place c.set.new.words c.self.invariant changed))
 
 pub invariant_of-self : goal.invariant_of-self
@@ -34,17 +33,20 @@ invariant_of-self c =
     let changed = subst (λ old.
     ChangesBit old c.set.new.words c.args.place true) c.deref_mut.ensures.value c.set.ensures in
     let written = with_items_is s.words c.set.new.words (changed.kept ∙ sym s.words.ok.0) in
-    sound_put s c.args.place c.set.new.words c.push.new.self _ _ c.pass.new.chains c.self.invariant
+    sound_put s c.args.place c.set.new.words c.push.new.self _ _ _ c.pass.new.chains c.self.invariant
     free changed
     (pushed_place s c.args.place c.push.new.self _ c.self.invariant free c.push.ensures.succeeds
     c.push.ensures.items) c.push.ensures.capacity
     (ap (λ n. s.left - n) (c.from.ensures ∙ ap from_bool c.lies_within.ensures))
     (subst (λ words. IsFirstClear words s.first s.end c.first_clear-self-inside.result)
     (c.deref.ensures.value ∙ written) c.first_clear-self-inside.ensures)
-    (subst (λ words. IfSome c.pass.new.chains (AreBehind (rc_slice_items s.items) (has_bit words)))
-    (c.deref-2.ensures.value ∙ written)
-    (subst (λ items. IfSome c.pass.new.chains (AreBehind items (has_bit c.deref-2.result.now)))
-    c.as_slice.ensures.value c.pass.ensures))
+    (omega (arith, c.len.ensures, s.items.ok.0, c.pass_taken-self-inside.ensures.within))
+    (λ q low high. ap (λ words. has_bit words q) (sym (c.deref-2.ensures.value ∙ written))
+    ∙ c.pass_taken-self-inside.ensures.set q low high)
+    (subst (λ words. IfSome c.pass.new.chains (AreBehind s.items.items (has_bit words)))
+    (c.deref-4.ensures.value ∙ written)
+    (subst (λ items. IfSome c.pass.new.chains (AreBehind items (has_bit c.deref-4.result.now)))
+    c.deref-3.ensures.value c.pass.ensures))
 
 pub returns : goal.returns
 returns c =

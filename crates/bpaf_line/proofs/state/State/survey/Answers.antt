@@ -1,6 +1,5 @@
 use Rattle.std.proofs.Common.{◌≤◌, ◌∙◌, ◌-◌, ap, sym, subst, arith, length, drop}
 use Rattle.std.proofs.lemmas.List.{take_rest}
-use Rattle.std.specs.Rc.{rc_slice_items}
 use Rattle.bpaf_index.specs.Bits.{count_clear, IsFirstClear}
 use Rattle.bpaf_line.specs.Inside.{situation_of}
 use Rattle.bpaf_line.specs.Remembered.{count_within, IsSurvey}
@@ -26,7 +25,7 @@ overflow_sub-result c = gone_were_left c.self.inside c.args.start c.args.end
 pub returns-then-is_of : goal.returns-then-is_of
 returns-then-is_of c =
     let s = c.self.inside in
-    let inside : c.args.end ≤ length (rc_slice_items s.items) =
+    let inside : c.args.end ≤ length s.items.items =
     (let e = ap (λ t. length t.context.line) c.self.view_is in
     omega (arith, e, c.requires.inside)) in
     subst (λ t. IsSurvey t c.args.start c.args.end (s.aside.left - c.count_within-gone.result)
@@ -41,7 +40,7 @@ returns-then-is_of c =
 pub returns : goal.returns
 returns c =
     let s = c.self.inside in
-    let inside : c.args.end ≤ length (rc_slice_items s.items) =
+    let inside : c.args.end ≤ length s.items.items =
     (let e = ap (λ t. length t.context.line) c.self.view_is in
     omega (arith, e, c.requires.inside)) in
     subst (λ t. IsSurvey t c.args.start c.args.end c.count_clear-left.result

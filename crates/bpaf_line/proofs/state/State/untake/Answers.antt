@@ -25,7 +25,7 @@ invariant_of-self c =
     let shorter : c.len-last.result - 1 ≡ length s.trail.items - 1 =
     omega (arith, c.len-last.ensures, s.trail.ok.0) in
     let last = last_read s _ _ c.len-last.ensures some c.index-place.ensures in
-    sound_untake s p c.clear.new.words c.truncate.new.self _ _ c.up_to-self-inside.result
+    sound_untake s p c.clear.new.words c.truncate.new.self _ _ _ c.up_to-self-inside.result
     c.reach_back.new.chains
     c.self.invariant some last
     (subst (λ old. ChangesBit old c.clear.new.words p false) c.deref_mut.ensures.value
@@ -35,6 +35,7 @@ invariant_of-self c =
     (ap (λ n. s.left + n) (c.from.ensures ∙ ap from_bool c.lies_within-within.ensures))
     (c.earlier-self-inside.ensures ∙ ap (λ b.
     if b then min s.first p else s.first) c.lies_within-within.ensures)
+    c.earlier-self-inside-2.ensures
     (c.up_to-self-inside.ensures ∙ ap
     (λ n. if nat_le s.aside.taken n then s.aside else no_aside) shorter)
     c.reach_back.ensures

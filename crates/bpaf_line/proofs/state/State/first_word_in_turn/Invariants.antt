@@ -1,0 +1,10 @@
+use Rattle.std.proofs.Common.{◌-◌}
+use Rattle.bpaf_base.specs.Items.{is_positional}
+use Rattle.bpaf_line.specs.Finding.{HasNoneBefore}
+use Rattle.bpaf_line.proofs.state.State.first_word_in_turn.Given as goal
+
+abbrev pub invariant-loop-place : goal.invariant-loop-place
+invariant-loop-place l = HasNoneBefore is_positional l.self l.place
+
+abbrev pub decreases-loop-place : goal.decreases-loop-place
+decreases-loop-place l = l.end - l.place

@@ -1,0 +1,10 @@
+use Rattle.std.proofs.Common.{◌∙◌, ap, arith, sym}
+use Rattle.bpaf_line.specs.Situation.{is_taken}
+use Rattle.bpaf_line.proofs.state.State.past_taken.Goals as goal
+
+pub returns-then-place-self : goal.returns-then-place-self
+returns-then-place-self c q low high = absurd (omega arith)
+
+pub returns : goal.returns
+returns c q low high = sym (ap (λ s. is_taken s q) c.self.view_is)
+    ∙ c.self.invariant.behind q (omega arith) (omega arith)
