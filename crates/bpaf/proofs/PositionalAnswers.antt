@@ -13,18 +13,6 @@ use Rattle.bpaf_laws.specs.Value.{ReadsValue, FaultsText}
 use Rattle.bpaf.specs.declared.leaves.positional.Position.{Position}
 use Rattle.bpaf.specs.Positional.{PositionalOutcome, PositionalFails, accepts, misplaced}
 
--- a first word is taken, where it is removed
-pub word_removed : (s t : Situation) (place : ℕ) (strict : Bool) (text : List ℕ)
-    → IsFirst is_positional s place
-    → option_and_then word_text (item_at s place) ≡ Some (strict, text)
-    → t ≡ (if is_open s place then take_place s place else s) → TakesText s place strict text t
-word_removed s t place strict text first is removed = record {
-  first = first;
-  is = is;
-  taken = removed ∙ ap (λ b. if b then take_place s place else s)
-      (match_is_open is_positional s place first.matches);
-}
-
 module _ {T : Type 0} (means : List ℕ → T → Type 0) (position : Position) (metavar : List ℕ)
     (s t : Situation) (place : ℕ) (strict : Bool) (text : List ℕ)
     (takes : TakesText s place strict text t) where

@@ -173,6 +173,13 @@ sound_put s p words trail left first behind chains h free change pushed grown co
       named = h.named;
     }
 
+-- the bit of the first place isn't set then, where that isn't the place
+pub clear_first : (s : Inside) (p : ℕ) (words : List ℕ) → IsSound s
+    → ChangesBit s.words.items words p true → s.first < s.end → s.first ≢ p
+    → has_bit words s.first ≡ false
+clear_first s p words h change below other = change.others s.first other
+    ∙ (h.bits s.first (omega (arith, h.inside)) ∙ h.first.present below)
+
 -- and the bits of what the chains passed are set then
 pub behind_put : (s : Inside) (p : ℕ) (words : List ℕ) → IsSound s
     → ChangesBit s.words.items words p true

@@ -206,10 +206,10 @@ fn first_path(alloc: Global, name: Option<&str>) -> Result<(Vec<String>, Option<
         map string_bytes r.0.items ≡ option_to_list (option_map (λ n. n.now) name.entry)) }
     ensures name { IfOk result (λ r. r.1 ≡ option_map (λ n. n.now) name.entry) }
 {
-    let mut path = Vec::new(alloc);
     match name {
-        None => Ok((path, None)),
+        None => Ok((Vec::new(alloc), None)),
         Some(name) => {
+            let mut path = Vec::with_capacity(alloc, 1)?;
             path.push(String::from_str(alloc, name)?)?;
             Ok((path, Some(Text::new(alloc, name)?)))
         }

@@ -21,6 +21,9 @@ impl State {
     pub(crate) fn no_word_before(&self) -> usize
         ensures { HasNoneBefore is_positional self.now result }
     {
+        if self.keys <= self.first {
+            return self.first;
+        }
         match self.chains_of_scope() {
             Some(chains) => self.first_word_along(chains),
             None => self.first_word_in_turn(),

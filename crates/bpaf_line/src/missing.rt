@@ -65,7 +65,7 @@ impl MissingItems {
     pub fn one(alloc: Global, item: MissingItem) -> Result<MissingItems, AllocError>
         ensures { IfOk result (λ items. items ≡ item ∷ []) }
     {
-        let mut items = Vec::new(alloc);
+        let mut items = Vec::with_capacity(alloc, 1)?;
         items.push(item)?;
         Ok(MissingItems { items })
     }

@@ -4,7 +4,8 @@ ghost use Rattle.std.specs.Prelude.{if◌then◌else◌, not, nat_lt, nat_le, le
 ghost use Rattle.std.specs.Prelude.{false, Bool, MatchOption, option_copied, option_map};
 ghost use Rattle.std.specs.Prelude.{option_and_then, Some, None, IfOk, OnOk, OnErr, IfSome};
 ghost use Rattle.std.specs.Prelude.{string_bytes, map, List, ℕ, ◌*◌};
-ghost use Rattle.bpaf_index.specs.Bits.{has_bit};
+ghost use Rattle.std.specs.Prelude.{◌≢◌};
+ghost use Rattle.bpaf_index.specs.Bits.{has_bit, IsFirstClear};
 ghost use Rattle.std.specs.Borrow.{Bor};
 ghost use Rattle.bpaf_doc.specs.Shape.{part_of};
 ghost use Rattle.bpaf_base.specs.declared.arg.Arg.{Arg};
@@ -328,8 +329,8 @@ impl State {
     }
 
     /// Takes a place that is present and in scope, which is then the current one. It takes no
-    /// memory.
-    pub(crate) fn take(&mut self, place: usize)
+    /// memory. bpaf has no such call.
+    pub fn take(&mut self, place: usize)
         requires { is_open self.old place ≡ true }
         ensures taken { self.new ≡ take_place self.old place }
         ensures marks { KeepsMarks self.old self.new }
@@ -346,9 +347,9 @@ impl State {
         bits::set(&mut self.words, place);
         let _ = self.trail.push(place);
         self.left -= usize::from(lies_within(place, self.start, self.end));
-        self.first = bits::first_clear(&self.words, self.first, self.end);
-        let stays = self.first < self.keys && self.keys <= place;
-        self.behind = pass_taken(&self.words, self.behind, self.items.len(), stays);
+        let passes = self.first != place && self.keys <= place;
+        self.behind = pass_taken(&self.words, self.behind, self.items.len(), passes);
+        self.first = first_without(&self.words, self.first, self.end, place);
         chains::pass(&mut self.chains, &self.items, &self.words, place);
     }
 
@@ -375,6 +376,24 @@ fn value_of<'a>(entries: &'a [(Text, Text)], name: &str) -> Option<&'a str>
         }
     }
     None
+}
+
+/// The first place from one on, below the end, whose bit is not set, where that one was the first
+/// until the bit of a place was set. Mostly it is the next one.
+fn first_without(words: &[u64], first: usize, end: usize, place: usize) -> usize
+    requires ordered { first ≤ end }
+    requires inside { end ≤ 64 * length words.now }
+    requires set { first ≡ place → has_bit words.now first ≡ true }
+    requires clear { first < end → first ≢ place → has_bit words.now first ≡ false }
+    ensures { IsFirstClear words.now first end result }
+{
+    if first != place {
+        return first;
+    }
+    if end - first > 1 && !bits::is_set(words, first + 1) {
+        return first + 1;
+    }
+    bits::first_clear(words, first, end)
 }
 
 /// The first place from one on, below the end, whose bit is not set, where it is wanted; else that

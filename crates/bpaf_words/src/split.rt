@@ -79,10 +79,30 @@ pub(crate) fn split_alone<'a>(
     ensures { IfOk result (λ joined.
         SplitsAlone numbers word.now items.old.items joined items.new.items) }
 {
-    let Some(rest) = after_dash(word) else {
-        push_word(alloc, word, items)?;
-        return Ok(None);
-    };
+    match after_dash(word) {
+        Some(rest) => split_behind_dash(alloc, word, rest, numbers, items),
+        None => {
+            push_word(alloc, word, items)?;
+            Ok(None)
+        }
+    }
+}
+
+/// The same of a word that begins with a dash. It stays a call, so that the loop over words is
+/// short for all others.
+#[inline(never)]
+fn split_behind_dash<'a>(
+    alloc: Global,
+    word: &'a str,
+    rest: &'a str,
+    numbers: bool,
+    items: &mut Vec<Arg>,
+) -> Result<Option<&'a str>, AllocError>
+    requires dashed { word.now ≡ codes "-" ++ rest.now }
+    requires other { word.now ≢ codes "--" }
+    ensures { IfOk result (λ joined.
+        SplitsAlone numbers word.now items.old.items joined items.new.items) }
+{
     if numbers && is_number(rest) {
         push_word(alloc, word, items)?;
         return Ok(None);

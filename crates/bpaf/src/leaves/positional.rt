@@ -184,11 +184,11 @@ impl<T: FromText> Parser<T> for ParsePositional<T> {
     {
         let (place, strict, text) = state.positional_word(self.metavar)?;
         if !self.position.accepts(strict) {
-            state.remove(place);
+            state.take(place);
             return Err(misplaced(state.alloc(), strict, place, self.metavar)?);
         }
         let read = T::from_text(state.alloc(), text.as_str());
-        state.remove(place);
+        state.take(place);
         value_or_refusal(state, read)
     }
 

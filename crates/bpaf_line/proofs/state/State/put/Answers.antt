@@ -6,13 +6,33 @@ use Rattle.bpaf_index.specs.Chained.{AreBehind}
 use Rattle.bpaf_line.specs.Inside.{situation_of}
 use Rattle.bpaf_line.specs.Situation.{is_taken, with_trail}
 use Rattle.bpaf_line.proofs.Places.{put}
-use Rattle.bpaf_line.proofs.Sound.{sound_put, behind_put, left_enough, pushed_place}
+use Rattle.bpaf_line.proofs.Sound.{sound_put, behind_put, clear_first, left_enough, pushed_place}
 use Rattle.bpaf_line.proofs.state.State.put.Goals as goal
 
 pub overflow_sub-self : goal.overflow_sub-self
 overflow_sub-self c = left_enough c.self.inside c.args.place c.from.result c.self.invariant
     (ap (λ s. is_taken s c.args.place) c.self.view_is ∙ c.requires)
     (c.from.ensures ∙ ap from_bool c.lies_within.ensures)
+
+pub first_without-self-inside-requires-clause-set :
+    goal.first_without-self-inside-requires-clause-set
+first_without-self-inside-requires-clause-set c at =
+    let s = c.self.inside in
+    let changed = subst (λ old.
+    ChangesBit old c.set.new.words c.args.place true) c.deref_mut.ensures.value c.set.ensures in
+    let written = with_items_is s.words c.set.new.words (changed.kept ∙ sym s.words.ok.0) in
+    ap (λ words. has_bit words s.first) (c.deref-2.ensures.value ∙ written)
+    ∙ (ap (has_bit c.set.new.words) at ∙ changed.here)
+
+pub first_without-self-inside-requires-clause-clear :
+    goal.first_without-self-inside-requires-clause-clear
+first_without-self-inside-requires-clause-clear c below other =
+    let s = c.self.inside in
+    let changed = subst (λ old.
+    ChangesBit old c.set.new.words c.args.place true) c.deref_mut.ensures.value c.set.ensures in
+    let written = with_items_is s.words c.set.new.words (changed.kept ∙ sym s.words.ok.0) in
+    ap (λ words. has_bit words s.first) (c.deref-2.ensures.value ∙ written)
+    ∙ clear_first s c.args.place c.set.new.words c.self.invariant changed below other
 
 pub pass-requires-clause-behind : goal.pass-requires-clause-behind
 pass-requires-clause-behind c =
@@ -38,10 +58,10 @@ invariant_of-self c =
     (pushed_place s c.args.place c.push.new.self _ c.self.invariant free c.push.ensures.succeeds
     c.push.ensures.items) c.push.ensures.capacity
     (ap (λ n. s.left - n) (c.from.ensures ∙ ap from_bool c.lies_within.ensures))
-    (subst (λ words. IsFirstClear words s.first s.end c.first_clear-self-inside.result)
-    (c.deref.ensures.value ∙ written) c.first_clear-self-inside.ensures)
+    (subst (λ words. IsFirstClear words s.first s.end c.first_without-self-inside.result)
+    (c.deref-2.ensures.value ∙ written) c.first_without-self-inside.ensures)
     (omega (arith, c.len.ensures, s.items.ok.0, c.pass_taken-self-inside.ensures.within))
-    (λ q low high. ap (λ words. has_bit words q) (sym (c.deref-2.ensures.value ∙ written))
+    (λ q low high. ap (λ words. has_bit words q) (sym (c.deref.ensures.value ∙ written))
     ∙ c.pass_taken-self-inside.ensures.set q low high)
     (subst (λ words. IfSome c.pass.new.chains (AreBehind s.items.items (has_bit words)))
     (c.deref-4.ensures.value ∙ written)

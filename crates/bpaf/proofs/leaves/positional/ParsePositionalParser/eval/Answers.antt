@@ -1,19 +1,29 @@
 use Rattle.std.proofs.Common.{sym, ◌∙◌}
 use Rattle.bpaf_laws.proofs.Reading.{reading_told}
 use Rattle.bpaf.proofs.LeafSparing.{word_faults_alone}
-use Rattle.bpaf.proofs.PositionalAnswers.{word_read, word_removed, word_misplaced}
+use Rattle.bpaf.proofs.PositionalAnswers.{word_read, word_misplaced}
+use Rattle.bpaf_line.proofs.Matches.{match_is_open}
+use Rattle.bpaf_base.specs.Items.{is_positional}
 use Rattle.bpaf.proofs.leaves.positional.ParsePositionalParser.eval.Goals as goal
+
+pub take-requires : goal.take-requires
+take-requires g c = match_is_open is_positional _ _ c.in_ok-place.ensures.0.matches
+
+pub take-2-requires : goal.take-2-requires
+take-2-requires g c = match_is_open is_positional _ _ c.in_ok-place.ensures.0.matches
 
 pub returns-then-not-accepts-clause-outcome : goal.returns-then-not-accepts-clause-outcome
 returns-then-not-accepts-clause-outcome g c =
     let word = c.in_ok-place.ensures in
-    word_misplaced _ _ _ _ _ _ _ _ (word_removed _ _ _ _ _ word.0 word.1 c.remove.ensures.taken) _
+    word_misplaced _ _ _ _ _ _ _ _
+    (record { first = word.0; is = word.1; taken = c.take.ensures.taken }) _
     (sym c.accepts.ensures ∙ c.if-not-accepts.true) c.in_ok-misplaced.ensures
 
 pub returns-clause-outcome : goal.returns-clause-outcome
 returns-clause-outcome g c =
     let word = c.in_ok-place.ensures in
-    word_read _ _ _ _ _ _ _ _ (word_removed _ _ _ _ _ word.0 word.1 c.remove-2.ensures.taken) _
+    word_read _ _ _ _ _ _ _ _
+    (record { first = word.0; is = word.1; taken = c.take-2.ensures.taken }) _
     (sym c.accepts.ensures ∙ c.if-not-accepts.false)
     (reading_told g.T.FromText.means c.in_ok-place.text.now _ _ _
     (rw c.as_str.ensures at c.from_text-read.ensures) c.value_or_refusal.ensures)
@@ -21,4 +31,4 @@ returns-clause-outcome g c =
 pub returns-clause-memory_is_never_caught : goal.returns-clause-memory_is_never_caught
 returns-clause-memory_is_never_caught g c =
     word_faults_alone g.T.FromText.means c.args.self.now.position c.args.self.now.metavar.0.now
-    c.args.state.now c.remove-2.new.self c.value_or_refusal.result (returns-clause-outcome g c)
+    c.args.state.now c.take-2.new.self c.value_or_refusal.result (returns-clause-outcome g c)
