@@ -7,7 +7,6 @@ pub mod Remembered
 pub mod Sound
 pub mod OpenItems
 pub mod Conflicts
-pub mod Commands
 pub mod Beginning
 pub mod Marks
 pub mod Winners
