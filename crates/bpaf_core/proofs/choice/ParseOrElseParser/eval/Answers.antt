@@ -12,24 +12,22 @@ use Rattle.bpaf_core.proofs.choice.ParseOrElseParser.eval.Goals as goal
 -- want of memory of the first branch is the answer, where all is as before
 pub returns-then-is_want-clause-outcome : goal.returns-then-is_want-clause-outcome
 returns-then-is_want-clause-outcome g c =
-    let s = c.args.state.now in
-    let kept = keeps_of (g.met.A.Parser.lawful c.args.self.now.this) s c.eval-first.result
-    c.eval-first.new.state c.eval-first.ensures in
+    let kept = keeps_of (g.met.A.Parser.lawful c.args.self.now.this) c.args.state.now
+    c.eval-first.result c.eval-first.new.state c.eval-first.ensures in
     want_outcome (g.A.Parser.outcome c.args.self.now.this) (g.B.Parser.outcome c.args.self.now.that)
-    s c.eval-first.result c.undo.new.self (sym c.is_want.ensures ∙ c.if-is_want.true)
-    (c.undo.ensures.undone ∙ start_back s c.of-start.result c.of-start.ensures.start
-    c.of-start.ensures.back c.eval-first.new.state kept.marks)
+    c.args.state.now c.eval-first.result c.undo.new.self (sym c.is_want.ensures ∙ c.if-is_want.true)
+    (c.undo.ensures.undone ∙ start_back c.of-start.ensures.start c.of-start.ensures.back
+    kept.marks)
 
 pub returns-then-is_want-clause-leftmost_wins : goal.returns-then-is_want-clause-leftmost_wins
 returns-then-is_want-clause-leftmost_wins g c =
-    let s = c.args.state.now in
-    let kept = keeps_of (g.met.A.Parser.lawful c.args.self.now.this) s c.eval-first.result
-    c.eval-first.new.state c.eval-first.ensures in
+    let kept = keeps_of (g.met.A.Parser.lawful c.args.self.now.this) c.args.state.now
+    c.eval-first.result c.eval-first.new.state c.eval-first.ensures in
     want_leftmost (g.A.Parser.outcome c.args.self.now.this)
     (g.B.Parser.outcome c.args.self.now.that)
-    s c.eval-first.result c.undo.new.self (sym c.is_want.ensures ∙ c.if-is_want.true)
-    (c.undo.ensures.undone ∙ start_back s c.of-start.result c.of-start.ensures.start
-    c.of-start.ensures.back c.eval-first.new.state kept.marks)
+    c.args.state.now c.eval-first.result c.undo.new.self (sym c.is_want.ensures ∙ c.if-is_want.true)
+    (c.undo.ensures.undone ∙ start_back c.of-start.ensures.start c.of-start.ensures.back
+    kept.marks)
 
 pub returns-then-is_want-clause-memory_is_never_caught :
     goal.returns-then-is_want-clause-memory_is_never_caught
@@ -41,74 +39,60 @@ returns-then-is_want-clause-memory_is_never_caught g c =
 -- so is want of memory for the steps of the first branch
 pub returns-in-Err-clause-outcome : goal.returns-in-Err-clause-outcome
 returns-in-Err-clause-outcome g c =
-    let s = c.args.state.now in
-    let kept = keeps_of (g.met.A.Parser.lawful c.args.self.now.this) s c.eval-first.result
-    c.eval-first.new.state c.eval-first.ensures in
+    let kept = keeps_of (g.met.A.Parser.lawful c.args.self.now.this) c.args.state.now
+    c.eval-first.result c.eval-first.new.state c.eval-first.ensures in
     inr (
       ap is_memory c.from.ensures,
-      c.leave.ensures.back ∙ start_back s c.of-start.result c.of-start.ensures.start
-          c.of-start.ensures.back c.eval-first.new.state kept.marks,
+      c.leave.ensures.back ∙ start_back c.of-start.ensures.start c.of-start.ensures.back
+          kept.marks,
     )
 
 pub returns-in-Err-clause-leftmost_wins : goal.returns-in-Err-clause-leftmost_wins
 returns-in-Err-clause-leftmost_wins g c =
-    let s = c.args.state.now in
-    let kept = keeps_of (g.met.A.Parser.lawful c.args.self.now.this) s c.eval-first.result
-    c.eval-first.new.state c.eval-first.ensures in
+    let kept = keeps_of (g.met.A.Parser.lawful c.args.self.now.this) c.args.state.now
+    c.eval-first.result c.eval-first.new.state c.eval-first.ensures in
     inr (
       ap is_memory c.from.ensures,
-      c.leave.ensures.back ∙ start_back s c.of-start.result c.of-start.ensures.start
-          c.of-start.ensures.back c.eval-first.new.state kept.marks,
+      c.leave.ensures.back ∙ start_back c.of-start.ensures.start c.of-start.ensures.back
+          kept.marks,
     )
 
 pub undo-requires-then-is_want-2 : goal.undo-requires-then-is_want-2
 undo-requires-then-is_want-2 g c =
-    let s = c.args.state.now in
-    let start = c.of-start.result in
     let begins = c.of-start.ensures.start in
     let back = c.of-start.ensures.back in
-    let both =
-    second_keeps s start begins back (g.met.A.Parser.lawful c.args.self.now.this)
-    (g.met.B.Parser.lawful c.args.self.now.that) c.eval-first.result c.eval-first.new.state
-    c.leave.new.state c.eval-second.result c.eval-second.new.state c.eval-first.ensures
-    c.leave.ensures.back c.eval-second.ensures in
-    (start_kept s start begins back c.eval-second.new.state both.1).fits
+    let both = second_keeps begins back (g.met.A.Parser.lawful c.args.self.now.this)
+    (g.met.B.Parser.lawful c.args.self.now.that) c.eval-first.ensures c.leave.ensures.back
+    c.eval-second.ensures in
+    (start_kept begins back both.1).fits
 
 pub returns-then-is_want-2-clause-outcome : goal.returns-then-is_want-2-clause-outcome
 returns-then-is_want-2-clause-outcome g c =
-    let s = c.args.state.now in
-    let start = c.of-start.result in
     let begins = c.of-start.ensures.start in
     let back = c.of-start.ensures.back in
-    let both =
-    second_keeps s start begins back (g.met.A.Parser.lawful c.args.self.now.this)
-    (g.met.B.Parser.lawful c.args.self.now.that) c.eval-first.result c.eval-first.new.state
-    c.leave.new.state c.eval-second.result c.eval-second.new.state c.eval-first.ensures
-    c.leave.ensures.back c.eval-second.ensures in
+    let both = second_keeps begins back (g.met.A.Parser.lawful c.args.self.now.this)
+    (g.met.B.Parser.lawful c.args.self.now.that) c.eval-first.ensures c.leave.ensures.back
+    c.eval-second.ensures in
     want_outcome (g.A.Parser.outcome c.args.self.now.this) (g.B.Parser.outcome c.args.self.now.that)
-    s c.eval-second.result c.undo-then-is_want-2.new.self
+    c.args.state.now c.eval-second.result c.undo-then-is_want-2.new.self
     (sym c.is_want-2.ensures ∙ c.if-is_want-2.true)
     (c.undo-then-is_want-2.ensures.undone
-    ∙ start_back s start begins back c.eval-second.new.state both.1)
+    ∙ start_back begins back both.1)
 
 pub returns-then-is_want-2-clause-leftmost_wins :
     goal.returns-then-is_want-2-clause-leftmost_wins
 returns-then-is_want-2-clause-leftmost_wins g c =
-    let s = c.args.state.now in
-    let start = c.of-start.result in
     let begins = c.of-start.ensures.start in
     let back = c.of-start.ensures.back in
-    let both =
-    second_keeps s start begins back (g.met.A.Parser.lawful c.args.self.now.this)
-    (g.met.B.Parser.lawful c.args.self.now.that) c.eval-first.result c.eval-first.new.state
-    c.leave.new.state c.eval-second.result c.eval-second.new.state c.eval-first.ensures
-    c.leave.ensures.back c.eval-second.ensures in
+    let both = second_keeps begins back (g.met.A.Parser.lawful c.args.self.now.this)
+    (g.met.B.Parser.lawful c.args.self.now.that) c.eval-first.ensures c.leave.ensures.back
+    c.eval-second.ensures in
     want_leftmost (g.A.Parser.outcome c.args.self.now.this)
     (g.B.Parser.outcome c.args.self.now.that)
-    s c.eval-second.result c.undo-then-is_want-2.new.self
+    c.args.state.now c.eval-second.result c.undo-then-is_want-2.new.self
     (sym c.is_want-2.ensures ∙ c.if-is_want-2.true)
     (c.undo-then-is_want-2.ensures.undone
-    ∙ start_back s start begins back c.eval-second.new.state both.1)
+    ∙ start_back begins back both.1)
 
 pub returns-then-is_want-2-clause-memory_is_never_caught :
     goal.returns-then-is_want-2-clause-memory_is_never_caught
@@ -119,32 +103,23 @@ returns-then-is_want-2-clause-memory_is_never_caught g c =
 
 pub this_or_that-requires-clause-start : goal.this_or_that-requires-clause-start
 this_or_that-requires-clause-start g c =
-    let s = c.args.state.now in
-    let start = c.of-start.result in
     let begins = c.of-start.ensures.start in
     let back = c.of-start.ensures.back in
-    let both =
-    second_keeps s start begins back (g.met.A.Parser.lawful c.args.self.now.this)
-    (g.met.B.Parser.lawful c.args.self.now.that) c.eval-first.result c.eval-first.new.state
-    c.leave.new.state c.eval-second.result c.eval-second.new.state c.eval-first.ensures
-    c.leave.ensures.back c.eval-second.ensures in
-    start_kept s start begins back c.eval-second.new.state both.1
+    let both = second_keeps begins back (g.met.A.Parser.lawful c.args.self.now.this)
+    (g.met.B.Parser.lawful c.args.self.now.that) c.eval-first.ensures c.leave.ensures.back
+    c.eval-second.ensures in
+    start_kept begins back both.1
 
 pub this_or_that-requires-clause-this : goal.this_or_that-requires-clause-this
 this_or_that-requires-clause-this g c =
-    let s = c.args.state.now in
-    let start = c.of-start.result in
     let begins = c.of-start.ensures.start in
     let back = c.of-start.ensures.back in
-    let both =
-    second_keeps s start begins back (g.met.A.Parser.lawful c.args.self.now.this)
-    (g.met.B.Parser.lawful c.args.self.now.that) c.eval-first.result c.eval-first.new.state
-    c.leave.new.state c.eval-second.result c.eval-second.new.state c.eval-first.ensures
-    c.leave.ensures.back c.eval-second.ensures in
+    let both = second_keeps begins back (g.met.A.Parser.lawful c.args.self.now.this)
+    (g.met.B.Parser.lawful c.args.self.now.that) c.eval-first.ensures c.leave.ensures.back
+    c.eval-second.ensures in
     let led = subst (λ o. LedTo c.in-Ok.this o c.eval-first.new.state) both.0
     c.in-Ok.ensures.left in
-    branch_kept s start begins back c.in-Ok.this c.eval-first.new.state
-    c.eval-second.new.state led both.1
+    branch_kept begins back led both.1
 
 -- both branches ran, and the table's answer is the answer
 ran : (g : _) (c : goal.After-this_or_that g)
@@ -152,26 +127,22 @@ ran : (g : _) (c : goal.After-this_or_that g)
     (g.B.Parser.outcome c.args.self.now.that) c.args.state.now c.this_or_that.result
     c.this_or_that.new.state
 ran g c =
-    let s = c.args.state.now in
-    let start = c.of-start.result in
     let begins = c.of-start.ensures.start in
     let back = c.of-start.ensures.back in
-    let both =
-    second_keeps s start begins back (g.met.A.Parser.lawful c.args.self.now.this)
-    (g.met.B.Parser.lawful c.args.self.now.that) c.eval-first.result c.eval-first.new.state
-    c.leave.new.state c.eval-second.result c.eval-second.new.state c.eval-first.ensures
-    c.leave.ensures.back c.eval-second.ensures in
+    let both = second_keeps begins back (g.met.A.Parser.lawful c.args.self.now.this)
+    (g.met.B.Parser.lawful c.args.self.now.that) c.eval-first.ensures c.leave.ensures.back
+    c.eval-second.ensures in
     let led = subst (λ o. LedTo c.in-Ok.this o c.eval-first.new.state) both.0
     c.in-Ok.ensures.left in
     ran_outcome (g.A.Parser.outcome c.args.self.now.this) (g.B.Parser.outcome c.args.self.now.that)
-    s c.eval-first.result c.eval-first.new.state c.eval-second.result c.eval-second.new.state
+    c.args.state.now c.eval-first.result c.eval-first.new.state c.eval-second.result
+    c.eval-second.new.state
     c.this_or_that.result c.this_or_that.new.state c.eval-first.ensures
     (subst (λ w. g.B.Parser.outcome c.args.self.now.that w c.eval-second.result
     c.eval-second.new.state) both.0 c.eval-second.ensures)
     (sym c.is_want.ensures ∙ c.if-is_want.false)
     (sym c.is_want-2.ensures ∙ c.if-is_want-2.false)
-    (chosen_kept s start begins back c.in-Ok.this c.eval-first.new.state
-    c.eval-second.new.state led both.1 c.eval-first.result c.eval-second.result
+    (chosen_kept begins back led both.1 c.eval-first.result c.eval-second.result
     c.this_or_that.result c.this_or_that.new.state c.this_or_that.ensures)
 
 pub returns-clause-outcome : goal.returns-clause-outcome
