@@ -8,7 +8,6 @@ use Rattle.bpaf_line.specs.declared.error.Message.{Message}
 use Rattle.bpaf_line.specs.declared.error.Message.TheVariants.{Memory, ParseFailed}
 use Rattle.bpaf_line.specs.Situation.{Situation, item_at, is_open, take_place}
 use Rattle.bpaf_line.specs.Taking.{TakesText, IsFirst}
-use Rattle.bpaf_line.proofs.Matches.{match_is_open}
 use Rattle.bpaf_laws.specs.Value.{ReadsValue, FaultsText}
 use Rattle.bpaf.specs.declared.leaves.positional.Position.{Position}
 use Rattle.bpaf.specs.Positional.{PositionalOutcome, PositionalFails, accepts, misplaced}

@@ -7,10 +7,12 @@ use Rattle.bpaf_base.specs.Items.{is_positional}
 use Rattle.bpaf.proofs.leaves.positional.ParsePositionalParser.eval.Goals as goal
 
 pub take-requires : goal.take-requires
-take-requires g c = match_is_open is_positional _ _ c.in_ok-place.ensures.0.matches
+take-requires g c = match_is_open is_positional c.args.state.now c.in_ok-place.place
+    c.in_ok-place.ensures.0.matches
 
-pub take-2-requires : goal.take-2-requires
-take-2-requires g c = match_is_open is_positional _ _ c.in_ok-place.ensures.0.matches
+pub take-requires-2 : goal.take-requires-2
+take-requires-2 g c = match_is_open is_positional c.args.state.now c.in_ok-place.place
+    c.in_ok-place.ensures.0.matches
 
 pub returns-then-not-accepts-clause-outcome : goal.returns-then-not-accepts-clause-outcome
 returns-then-not-accepts-clause-outcome g c =
