@@ -14,7 +14,7 @@ use Rattle.bpaf_line.specs.Combining.{Combines, CombinesSpared}
 use Rattle.bpaf_line.specs.Messages.{can_catch, is_memory}
 use Rattle.bpaf_line.specs.Stretches.{IsStretchFrom}
 use Rattle.bpaf_line.specs.Situation.{Situation, with_scope}
-use Rattle.bpaf_laws.proofs.ChoiceLaws.{not_winner}
+use Rattle.bpaf_laws.proofs.ChoiceLaws.{no_value, not_winner}
 use Rattle.bpaf_laws.specs.Choice.{branch_of, ChoiceOutcome, Chosen, EqualDepths}
 use Rattle.bpaf_laws.specs.Command.{Called, IsOpenedAt, inside, opening_words}
 use Rattle.bpaf_laws.specs.Laws.{Lawful}
@@ -85,21 +85,14 @@ module _ (showing : Showing) {T : Type 0} {first second : Outcome T}
         → first s a sa → second s b sb → EqualDepths s a sa b sb (Err e) t
         → CameTo showing s doc full
     equal_show (Ok x) sa (Ok y) sb f g o =
-        ⊎_elim (λ neither. absurd (no_value x neither.1.0))
+        ⊎_elim (λ neither. absurd (no_value x e (sym neither.1.0)))
         (λ won. absurd (not_winner (branch_of x sa) (branch_of y sb) won.1.0 e t won.1.2)) o
-      where
-        no_value : (v : T) → ¬ (◌≡◌ {A = Result T Error} (Err e) (Ok v))
-        no_value v same = cc
     equal_show (Ok x) sa (Err d) sb f g o =
-        ⊎_elim (λ wrong. of_second (Err d) sb g wrong.1) (λ right. absurd (no_value x right.1.0)) o
-      where
-        no_value : (v : T) → ¬ (◌≡◌ {A = Result T Error} (Err e) (Ok v))
-        no_value v same = cc
+        ⊎_elim (λ wrong. of_second (Err d) sb g wrong.1)
+        (λ right. absurd (no_value x e (sym right.1.0))) o
     equal_show (Err d) sa (Ok y) sb f g o =
-        ⊎_elim (λ wrong. of_first (Err d) sa f wrong.1) (λ right. absurd (no_value y right.1.0)) o
-      where
-        no_value : (v : T) → ¬ (◌≡◌ {A = Result T Error} (Err e) (Ok v))
-        no_value v same = cc
+        ⊎_elim (λ wrong. of_first (Err d) sa f wrong.1)
+        (λ right. absurd (no_value y e (sym right.1.0))) o
     equal_show (Err d) sa (Err c) sb f g o =
         of_both d c o.0.0 sa sb f g o.0.1 cc
 

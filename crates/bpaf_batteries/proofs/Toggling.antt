@@ -3,7 +3,7 @@
 use Rattle.std.proofs.Common.{◌≡◌, ◌≢◌, ℕ, ◌+◌, ◌<◌, ◌≤◌, ◌&&◌, ◌||◌, Bool, true, false, not, List}
 use Rattle.std.proofs.Common.{[], ◌∷◌, ◌++◌, Result, Ok, Err, Option, Some, None, refl, sym, ◌∙◌}
 use Rattle.std.proofs.Common.{ap, subst, arith, inl, inr, ⊎_elim, true≢false, if◌then◌else◌}
-use Rattle.std.proofs.lemmas.Bool.{cases_eq, cases_lt, not-true, and_parts}
+use Rattle.std.proofs.lemmas.Bool.{cases_eq, cases_lt, not-true, and_parts, or_right}
 use Rattle.std.proofs.lemmas.Bool.Decides.{nat_tests}
 use Rattle.std.specs.Option.{option_map_or}
 use Rattle.bpaf_text.specs.declared.params.ParseFlag.{ParseFlag}
@@ -18,7 +18,7 @@ use Rattle.bpaf_line.specs.Situation.{Situation, is_taken, in_scope, is_open, it
 use Rattle.bpaf_line.specs.Situation.{open_count, take_place}
 use Rattle.bpaf_line.specs.Taking.{IsFirst, HasNone, is_match, open_item}
 use Rattle.bpaf_line.specs.declared.error.Error.{Error}
-use Rattle.bpaf_laws.proofs.ChoiceLaws.{choice_lawful, not_winner}
+use Rattle.bpaf_laws.proofs.ChoiceLaws.{choice_lawful, no_value, not_winner}
 use Rattle.bpaf_laws.proofs.CountingLaws.{same_took_none}
 use Rattle.bpaf_laws.proofs.FlagLaws.{flag_lawful}
 use Rattle.bpaf_laws.specs.Choice.{BranchesEval, Chosen, EqualDepths, Winner, branch_of, depth}
@@ -28,10 +28,6 @@ use Rattle.bpaf_batteries.proofs.Keys.{KeyEval, key_ran, not_both}
 use Rattle.bpaf_batteries.specs.Keys.{is_key, is_either, AreKeysApart, KeyOutcome}
 use Rattle.bpaf_batteries.specs.Toggle.{EitherOutcome, GivesValue, IsLastOf, IsRightmost}
 use Rattle.bpaf_batteries.specs.Toggle.{LastToggleWins, RightmostGives, ToggleOutcome}
-
--- an error is no value
-no_value : {T : Type 0} (v : T) (e : Error) → ◌≡◌ {A = Result T Error} (Ok v) (Err e) → ⊥
-no_value v e same = cc
 
 -- a situation that takes the same as another, of the same line and scope
 record IsAlike (t m : Situation) : Type 0 where
@@ -104,11 +100,7 @@ first_at one other (Some item) e = rw e refl
 second_at : (one other : Arg → Bool) (at : Option Arg) → option_map_or other at false ≡ true
     → option_map_or (λ item. one item || other item) at false ≡ true
 second_at one other None e = e
-second_at one other (Some item) e = or_true (one item) (other item) e
-  where
-    or_true : (a b : Bool) → b ≡ true → (a || b) ≡ true
-    or_true true b e = refl
-    or_true false b e = e
+second_at one other (Some item) e = or_right (one item) (other item) e
 
 module _ (s : Situation) (p q : ℕ) (there : is_open s p ≡ true) (here : is_open s q ≡ true)
     (apart : p ≢ q) where

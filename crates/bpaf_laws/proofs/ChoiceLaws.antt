@@ -14,7 +14,7 @@ use Rattle.bpaf_laws.specs.Choice.{AnsweredBranch, branch_of, Winner, EqualDepth
 use Rattle.bpaf_laws.specs.Choice.{ChoiceOutcome, ChoiceReads}
 
 -- an error is no value
-no_value : {T : Type 0} (v : T) (e : Error) → ◌≡◌ {A = Result T Error} (Ok v) (Err e) → ⊥
+pub no_value : {T : Type 0} (v : T) (e : Error) → ◌≡◌ {A = Result T Error} (Ok v) (Err e) → ⊥
 no_value v e same = cc
 
 -- the branch that won has a value

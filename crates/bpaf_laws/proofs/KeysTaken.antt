@@ -5,7 +5,7 @@ use Rattle.std.specs.Prelude.{refl}
 use Rattle.std.specs.Prelude.{if◌then◌else◌}
 use Rattle.std.specs.Option.{option_map_or}
 use Rattle.std.proofs.Common.{sym, subst, ap, ◌∙◌, ⊎_elim, arith, true≢false, add-one}
-use Rattle.std.proofs.lemmas.Bool.{cases_eq, cases_lt}
+use Rattle.std.proofs.lemmas.Bool.{cases_eq, cases_lt, or_left, or_right}
 use Rattle.std.proofs.lemmas.Bool.Decides.{nat_tests}
 use Rattle.bpaf_text.specs.Named.{KeyWithValue}
 use Rattle.bpaf_base.specs.declared.arg.Arg.{Arg}
@@ -169,14 +169,10 @@ pair_fewer argument s text t takes =
     absurd (true≢false (sym there ∙ none)))
     (cases_lt (open_count t) (open_count s))
   where
-    or_true : (a b : Bool) → a ≡ true → (a || b) ≡ true
-    or_true true b e = refl
-    or_true false b e = cc
-
     there : newly s t takes.key ≡ true
     there =
         pair_places argument s text t takes takes.key
-        ∙ or_true (takes.key == takes.key) (takes.key == takes.key + 1) (grind (arith, nat_tests))
+        ∙ or_left (takes.key == takes.key) (takes.key == takes.key + 1) (grind (arith, nat_tests))
 
 -- one key more, behind those that were taken
 pub texts_more : (argument : KeyWithValue) (s m t : Situation) (texts : List (List ℕ))
@@ -250,11 +246,7 @@ module _ (argument : KeyWithValue) where
     pub behind_open : (p : ℕ) → all.keys p ≡ true → is_open s (p + 1) ≡ true
     behind_open p key =
         ap (is_open s) (add-one p)
-        ∙ all.keeps.fresh (suc p) (all.places (suc p) ∙ or_true (all.keys (suc p)) (all.keys p) key)
-      where
-        or_true : (a b : Bool) → b ≡ true → (a || b) ≡ true
-        or_true true b e = refl
-        or_true false b e = e
+        ∙ all.keeps.fresh (suc p) (all.places (suc p) ∙ or_right (all.keys (suc p)) (all.keys p) key)
 
     -- a key that is there later was there at first
     pub key_before : (p : ℕ) → is_match test t p ≡ true → is_match test s p ≡ true
@@ -372,16 +364,12 @@ module _ (argument : KeyWithValue) where
   last_one s t text takes = record {
     all = took_more s t t text takes (took_none t);
     greatest = takes.key;
-    is_key = or_true (takes.key == takes.key) (grind (arith, nat_tests));
+    is_key = or_left (takes.key == takes.key) false (grind (arith, nat_tests));
     no_greater = λ p key. at_most p (p == takes.key) refl key;
     behind_it = (value_there argument s text t takes).1;
     current = ap (λ (after : Situation). after.current) takes.taken;
   }
     where
-      or_true : (b : Bool) → b ≡ true → (b || false) ≡ true
-      or_true true e = refl
-      or_true false e = cc
-
       at_most : (p : ℕ) (b : Bool) → (p == takes.key) ≡ b → (b || false) ≡ true → p ≤ takes.key
       at_most p true e key =
           let same : p ≡ takes.key = grind (arith, nat_tests) in
@@ -395,7 +383,7 @@ module _ (argument : KeyWithValue) where
   last_more s m t x text takes rest = record {
     all = took_more s m t x takes rest.all;
     greatest = rest.greatest;
-    is_key = or_true (rest.greatest == takes.key) (rest.all.keys rest.greatest) rest.is_key;
+    is_key = or_right (rest.greatest == takes.key) (rest.all.keys rest.greatest) rest.is_key;
     no_greater = λ p key. at_most p (p == takes.key) refl key;
     behind_it =
         ap (λ context. option_and_then value_text (item_in context (rest.greatest + 1)))
@@ -404,10 +392,6 @@ module _ (argument : KeyWithValue) where
     current = rest.current;
   }
     where
-      or_true : (a b : Bool) → b ≡ true → (a || b) ≡ true
-      or_true true b e = refl
-      or_true false b e = e
-
       there : is_match test s rest.greatest ≡ true
       there =
           key_before s m (took_more s m m x takes (took_none m)) rest.greatest

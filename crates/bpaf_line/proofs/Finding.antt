@@ -6,7 +6,7 @@ use Rattle.std.proofs.Common.{slice_index, bytes_eq, MatchOption, take, min}
 use Rattle.std.specs.Bool.{then_some}
 use Rattle.std.specs.Option.{option_map_or}
 use Rattle.std.proofs.lemmas.Bool.{cases_lt, cases_Bool, true≢false, ltb-true, ltb-false}
-use Rattle.std.proofs.lemmas.Bool.{le-ltb, lt-leb, and_left, and_right, and_parts}
+use Rattle.std.proofs.lemmas.Bool.{le-ltb, lt-leb, not-true, and_left, and_right, and_parts}
 use Rattle.std.proofs.lemmas.List.{get_or-map, get_or-take, length-take-le}
 use Rattle.std.proofs.lemmas.List.Folds.{list_any-append}
 use Rattle.std.proofs.lemmas.Option.{get_or_from_slice_get}
@@ -133,11 +133,6 @@ first_named test s chains key start end p h inside begins along = record {
       (cases_Bool (is_key_of (names_of key) item));
 }
 
--- what isn't so is false
-not_true : (b : Bool) → not b ≡ true → b ≡ false
-not_true false e = refl
-not_true true e = sym e
-
 -- a walk along a chain that passed what doesn't match found the first, where it ends at the end
 pub first_along : (test : Arg → Bool) (s : Situation) (classes : List ℕ) (low end p q : ℕ)
     → HasWalked classes (λ r. not (is_match test s r)) low p → q ≤ p → q ≤ end
@@ -145,7 +140,7 @@ pub first_along : (test : Arg → Bool) (s : Situation) (classes : List ℕ) (lo
 first_along test s classes low end p q walked before within matches = record {
   within = within;
   matches = matches;
-  none = λ k r of above below mine. not_true _ (walked.passed k r of above (omega arith) mine);
+  none = λ k r of above below mine. not-true _ (walked.passed k r of above (omega arith) mine);
 }
 
 module _ (s : Situation) (chains : Chained) (start p : ℕ) (h : AreChainsOf s chains)
@@ -162,7 +157,7 @@ module _ (s : Situation) (chains : Chained) (start p : ℕ) (h : AreChainsOf s c
       (λ (early : q < start). absurd (true≢false
       (sym (early_set s.context.line (is_taken s) chains 0 start q h begins inside class early)
       ∙ open_not_taken s q (open_item_there s q item there).0)))
-      (λ (behind : start ≤ q). not_true _ (walked.passed 0 q begins.place behind below class))
+      (λ (behind : start ≤ q). not-true _ (walked.passed 0 q begins.place behind below class))
       (cases_lt q start)
 
   -- so it passed no word
