@@ -11,8 +11,8 @@ use Rattle.bpaf_laws.specs.Argument.{GetsText, IsVariable, LacksText, is_key_wit
 use Rattle.bpaf_laws.specs.Environment.{first_set}
 use Rattle.bpaf_exact.specs.Pieces.{Roles, LinePiece, One, Two, pieces}
 use Rattle.bpaf_exact.specs.Flat.{ByName, class, class_of, cells, NoneOutside}
-use Rattle.bpaf_exact.specs.Alternative.{AlternativeOk, AlternativeErr}
-use Rattle.bpaf_exact.specs.Alternative.{alternative_memory, AlternativeLaw}
+use Rattle.bpaf_exact.specs.Alternative.{AlternativeOk, AlternativeErr, alternative_memory}
+use Rattle.bpaf_exact.specs.Alternative.{AlternativeLaw}
 use Rattle.bpaf_exact.specs.Single.{FrontOf, Gap, Groups, SingleErr, SingleLaw, SingleOk, took}
 use Rattle.bpaf_exact.specs.Single.{of_memory, of_piece}
 use Rattle.bpaf_exact.specs.Leaves.{argument_roles, ArgumentValue, argument_by, argument_field}

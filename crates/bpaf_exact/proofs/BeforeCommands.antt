@@ -1,28 +1,27 @@
 -- A named field before others, the last of which are commands: together they keep to the laws of a
 -- program.
 use Rattle.std.proofs.Common.{◌≡◌, ◌≤◌, Bool, true, false, List, [], ◌∷◌, length, Some, None}
-use Rattle.std.proofs.Common.{Result, Ok, Err, refl, sym, ap, ◌∙◌, subst, inl, inr, arith}
-use Rattle.std.proofs.Common.{if◌then◌else◌}
+use Rattle.std.proofs.Common.{Result, Ok, Err, refl, sym, ap, ◌∙◌, subst, arith, if◌then◌else◌}
 use Rattle.bpaf_base.specs.declared.arg.Arg.{Arg}
 use Rattle.bpaf_line.specs.declared.error.Error.{Error}
 use Rattle.bpaf_line.specs.Situation.{Situation}
 use Rattle.bpaf_laws.specs.Choice.{depth}
-use Rattle.bpaf_laws.specs.Product.{BothOutcome, ProductOutcome, joined}
+use Rattle.bpaf_laws.specs.Product.{BothOutcome, ProductOutcome}
 use Rattle.bpaf_laws.specs.Reading.{Outcome}
-use Rattle.bpaf_laws.specs.Spared.{IsNotMemory}
 use Rattle.bpaf_exact.specs.Pieces.{Cells, Role, Foreign, Alone, WithNext, Roles, LinePiece, pieces}
 use Rattle.bpaf_exact.specs.Pieces.{Apart, is_own_role, is_value, IsNamed, TakesPiece, takes_one}
 use Rattle.bpaf_exact.specs.Pieces.{takes_two, takes_later, TakesPieces, takes_none, takes_more}
 use Rattle.bpaf_exact.specs.Pieces.{either, either_role}
-use Rattle.bpaf_exact.specs.Flat.{OfMemory, class, cells, NonePresent, NoneOutside, GivesAll}
-use Rattle.bpaf_exact.specs.Flat.{ByName, FieldLaw}
+use Rattle.bpaf_exact.specs.Flat.{OfMemory, class, cells, NonePresent, NoneOutside, ByName}
+use Rattle.bpaf_exact.specs.Flat.{FieldLaw}
 use Rattle.bpaf_exact.specs.Programs.{CellsValue, without, without_piece, without_value, FieldThen}
 use Rattle.bpaf_exact.specs.Programs.{LeavesToOthers, ProgramLaw, ClosedCells, is_spelled}
 use Rattle.bpaf_exact.specs.Programs.{IsSpelledLine, AllSpelled, no_cell, empty_cell, spelled_cell}
+use Rattle.bpaf_exact.specs.Programs.{GivesAll}
 use Rattle.bpaf_exact.specs.Wrappers.{map_closure}
 use Rattle.bpaf_exact.proofs.Cells.{begin_foreign, nil_rest, nil_foreign, value_foreign}
-use Rattle.bpaf_exact.proofs.Classes.{memory_class, not_memory}
-use Rattle.bpaf_exact.proofs.Product.{none_outside_after, values_of_both}
+use Rattle.bpaf_exact.proofs.Product.{none_outside_after, values_of_both, RefusedBy, for_memory}
+use Rattle.bpaf_exact.proofs.Product.{by_first, by_rest, refused_by}
 use Rattle.bpaf_exact.proofs.Programs.{cells_spelled}
 use Rattle.bpaf_exact.proofs.Records.{current_cells}
 
@@ -201,24 +200,13 @@ module _ (A B : Type 0) (first : Outcome A) (rest : Outcome B) (q r : Roles)
       → fv (pieces q (cells s)) x × GivesAll (rv (without q (cells s))) y t
   rest_gives s m t x y u w f g h =
       let i = lf.ok s m x w f in
-      let j = lf.answers s m (Ok x) u.0 w f h.own in
-      let e = all_taken q lf.own i.takes j.1 in (
-        j.0,
+      let none = lf.takes_all s m x u.0 w f h.own in
+      let e = all_taken q lf.own i.takes none in (
+        i.read none,
         subst (λ cs. GivesAll (rv cs) y t) e
             (lr.answers m t y u.1 (none_outside_after s m w i.steady) g
             (subst (λ cs. rv cs u.1) (sym e) h.left)),
       )
-
-  -- then a refusal is want of memory
-  both_fails : (s m t : Situation) (x : Result A Error) (y : Result B Error) (e : Error) (u : A × B)
-      → NoneOutside s → first s x m → rest m y t → IsNotMemory x → Err e ≡ joined x y
-      → value (cells s) u → class e ≡ OfMemory
-  both_fails s m t (Ok x) (Ok y) e u w f g spared i h = absurd cc
-  both_fails s m t (Ok x) (Err y) e u w f g spared i h =
-      let d : e ≡ y = cc in
-      ap class d ∙ (rest_gives s m t x (Err y) u w f g h).1
-  both_fails s m t (Err x) y e u w f g spared i h =
-      absurd (not_memory x.0 spared (lf.answers s m (Err x) u.0 w f h.own))
 
   -- each answer
   both_answers : (s t : Situation) (a : Result (A × B) Error) (u : A × B) → NoneOutside s
@@ -227,9 +215,12 @@ module _ (A B : Type 0) (first : Outcome A) (rest : Outcome B) (q r : Roles)
       let i = values_of_both A B first rest s t v o in
       let j = rest_gives s i.middle t v.0 (Ok v.1) u w i.first_ran i.rest_ran h in
       (record { own = j.0; left = j.1.0 }, j.1.1)
-  both_answers s t (Err e) u w (inl o) h =
-      both_fails s o.middle t o.a o.b e u w o.first_ran o.rest_ran o.spared o.answer h
-  both_answers s t (Err e) u w (inr o) h = memory_class e.0 o.1
+  both_answers s t (Err e) u w o h = by_side (refused_by A B first rest s t e o)
+    where
+      by_side : RefusedBy A B first rest s e t → class e ≡ OfMemory
+      by_side (for_memory m) = m
+      by_side (by_first {d = d} {m = m} f spared) = absurd (spared (lf.refuses s m d u.0 w f h.own))
+      by_side (by_rest {v = v} {m = m} f g) = (rest_gives s m t v (Err e) u w f g h).1
 
   -- the laws
   pub before_law : ProgramLaw (A × B) (BothOutcome first rest) (either q r) value

@@ -21,9 +21,8 @@ use Rattle.bpaf_exact.specs.Wrappers.{Closure, Decides, map_closure, parse_closu
 use Rattle.bpaf_exact.specs.Wrappers.{answer_closure, kept_closure, ClosedEval, closed_yes}
 use Rattle.bpaf_exact.specs.Wrappers.{closed_no, closed_memory, closed_err, OptionalEval}
 use Rattle.bpaf_exact.specs.Wrappers.{optional_some, optional_none, optional_err, optional_memory}
-use Rattle.bpaf_exact.specs.Wrappers.{FallbackEval}
-use Rattle.bpaf_exact.specs.Wrappers.{fallback_ok, fallback_given, fallback_no, fallback_memory}
-use Rattle.bpaf_exact.specs.Wrappers.{fallback_err}
+use Rattle.bpaf_exact.specs.Wrappers.{FallbackEval, fallback_ok, fallback_given, fallback_no}
+use Rattle.bpaf_exact.specs.Wrappers.{fallback_memory, fallback_err}
 use Rattle.bpaf_exact.specs.Gathered.{list_closure, some_closure, count_closure, collect_closure}
 use Rattle.bpaf_exact.specs.FlatForm.{FlatForm, FormLaw, flat_repeat, flat_many, flat_some}
 use Rattle.bpaf_exact.specs.FlatForm.{flat_count, flat_collect, flat_last, flat_fallback, unless}
@@ -31,12 +30,11 @@ use Rattle.bpaf_exact.proofs.Classes.{memory_class, caught_class, kept_class, st
 use Rattle.bpaf_exact.specs.ProgramForm.{ProgramForm, no_program, plain, commands, left_out}
 use Rattle.bpaf_exact.specs.ProgramForm.{before_commands, ProgramFormLaw, ProgramAgrees}
 use Rattle.bpaf_exact.specs.ProgramForm.{program_closed, program_dressed, program_fallback}
-use Rattle.bpaf_exact.specs.ProgramForm.{program_last}
-use Rattle.bpaf_exact.specs.ProgramForm.{program_optional, program_repeat}
+use Rattle.bpaf_exact.specs.ProgramForm.{program_last, program_optional, program_repeat}
 use Rattle.bpaf_exact.proofs.Narrow.{AllowsNoMore, narrower_form, no_more}
 use Rattle.bpaf_exact.proofs.ProgramForm.{flat_only_law, narrower_program_form, program_closed_law}
-use Rattle.bpaf_exact.proofs.ProgramForm.{program_dressed_law}
-use Rattle.bpaf_exact.proofs.ProgramForm.{program_never_refuses, program_optional_law}
+use Rattle.bpaf_exact.proofs.ProgramForm.{program_dressed_law, program_never_refuses}
+use Rattle.bpaf_exact.proofs.ProgramForm.{program_optional_law}
 use Rattle.bpaf_exact.proofs.FlatForm.{never_refuses, flat_listed_law, some_agrees, flat_last_law}
 use Rattle.bpaf_exact.proofs.FlatForm.{flat_fallback_law}
 

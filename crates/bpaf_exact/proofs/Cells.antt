@@ -5,8 +5,7 @@ use Rattle.bpaf_base.specs.declared.arg.Arg.{Arg}
 use Rattle.bpaf_base.specs.declared.arg.Arg.TheVariants.{Short, Long, ArgWord, Word, PosWord}
 use Rattle.bpaf_base.specs.Items.{is_positional}
 use Rattle.bpaf_exact.specs.Pieces.{Cells, Role, Foreign, Alone, WithNext, Roles, LinePiece, One}
-use Rattle.bpaf_exact.specs.Pieces.{Two}
-use Rattle.bpaf_exact.specs.Pieces.{is_value, is_key, is_own_role, is_own, mine, others}
+use Rattle.bpaf_exact.specs.Pieces.{Two, is_value, is_key, is_own_role, is_own, mine, others}
 use Rattle.bpaf_exact.specs.Pieces.{either_role, either, IsNamed, Apart, Cut, at_end, passed, flag}
 use Rattle.bpaf_exact.specs.Pieces.{argument, word, with_next, begin_piece, pieces, TakesPiece}
 use Rattle.bpaf_exact.specs.Pieces.{takes_one, takes_two, takes_later, TakesPieces, takes_none}

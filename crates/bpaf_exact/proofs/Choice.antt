@@ -21,8 +21,8 @@ use Rattle.bpaf_laws.specs.Spared.{IsNotMemory}
 use Rattle.bpaf_laws.specs.Turn.{is_untouched}
 use Rattle.bpaf_exact.specs.Pieces.{Cells, Roles, LinePiece, One, Two, is_own_role, is_own, Apart}
 use Rattle.bpaf_exact.specs.Pieces.{either, pieces, TakesPiece, takes_one, takes_two, takes_later}
-use Rattle.bpaf_exact.specs.Flat.{OfMemory, OfMissing, Refused, class, cells, first_cells, NoneOutside}
-use Rattle.bpaf_exact.specs.Flat.{Steady}
+use Rattle.bpaf_exact.specs.Flat.{OfMemory, OfMissing, Refused, class, cells, first_cells}
+use Rattle.bpaf_exact.specs.Flat.{NoneOutside, Steady}
 use Rattle.bpaf_exact.specs.Alternative.{TakesFirst, HasBad, AlternativeOk, AlternativeErr}
 use Rattle.bpaf_exact.specs.Alternative.{alternative_memory, alternative_missing}
 use Rattle.bpaf_exact.specs.Alternative.{alternative_refused, AlternativeLaw, either_value}

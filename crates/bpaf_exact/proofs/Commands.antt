@@ -19,7 +19,7 @@ use Rattle.bpaf_laws.specs.Spared.{IsNotMemory}
 use Rattle.bpaf_laws.specs.Turn.{is_untouched}
 use Rattle.bpaf_exact.specs.Pieces.{Cells, Roles, pieces, either}
 use Rattle.bpaf_exact.specs.Flat.{ErrorClass, OfMemory, OfMissing, is_missing, class, cells}
-use Rattle.bpaf_exact.specs.Flat.{NonePresent, no_place, none_here, NoneOutside, GivesAll}
+use Rattle.bpaf_exact.specs.Flat.{NonePresent, no_place, none_here, NoneOutside}
 use Rattle.bpaf_exact.specs.Record.{line_cells, RunAnswer, Accepted, RunRan, run_value}
 use Rattle.bpaf_exact.specs.Record.{run_leftover, run_memory, run_refusal, IsAcceptedOrWant}
 use Rattle.bpaf_exact.specs.Single.{Stops, nothing_found, caught, present_count}
@@ -30,6 +30,7 @@ use Rattle.bpaf_exact.specs.Programs.{CellsValue, Opens, opens_here, opens_later
 use Rattle.bpaf_exact.specs.Programs.{ChoiceValue, first_value, second_value, OptionalCommands}
 use Rattle.bpaf_exact.specs.Programs.{some_command, no_command, ClosedCells, ProgramLaw}
 use Rattle.bpaf_exact.specs.Programs.{CommandsLaw, FindsNoCommand, WordsApart, IsSpelledLine}
+use Rattle.bpaf_exact.specs.Programs.{GivesAll}
 use Rattle.bpaf_exact.proofs.BeforeCommands.{apart_first, apart_second}
 use Rattle.bpaf_exact.proofs.Choice.{same_scope, cells_same, saved_steady}
 use Rattle.bpaf_exact.proofs.Classes.{memory_class, not_memory}

@@ -17,8 +17,8 @@ use Rattle.bpaf_laws.specs.Repeat.{ManyOutcome, SomeOutcome, Turns, UntilFault, 
 use Rattle.bpaf_laws.specs.Repeat.{rests, stops}
 use Rattle.bpaf_laws.specs.Transform.{GuardOutcome, MapOutcome, ParseOutcome}
 use Rattle.bpaf_laws.specs.Turn.{TurnOutcome}
-use Rattle.bpaf_exact.specs.Programs.{CommandEval, command_value, command_leftover}
-use Rattle.bpaf_exact.specs.Programs.{command_refused, command_missing, command_memory}
+use Rattle.bpaf_exact.specs.Programs.{CommandEval, command_value, command_leftover, command_refused}
+use Rattle.bpaf_exact.specs.Programs.{command_missing, command_memory}
 use Rattle.bpaf_exact.specs.Variables.{KeepsVariables, Variables, WithVariables}
 use Rattle.bpaf_exact.proofs.Narrow.{AllowsNoMore, no_more}
 

@@ -3,11 +3,9 @@ use Rattle.std.proofs.Common.{◌≡◌, ◌<◌, Bool, true, false, List, [], �
 use Rattle.std.proofs.Common.{None, refl, sym, ap, ◌∙◌, subst, inl, inr, ◌⊎◌, if◌then◌else◌, arith}
 use Rattle.bpaf_base.specs.declared.arg.Arg.{Arg}
 use Rattle.bpaf_exact.specs.Pieces.{Cells, Role, Foreign, Alone, WithNext, Roles, LinePiece, One}
-use Rattle.bpaf_exact.specs.Pieces.{Two}
-use Rattle.bpaf_exact.specs.Pieces.{is_value, is_own_role, is_own, IsNamed, Apart, either}
+use Rattle.bpaf_exact.specs.Pieces.{Two, is_value, is_own_role, is_own, IsNamed, Apart, either}
 use Rattle.bpaf_exact.specs.Pieces.{either_role, with_next, begin_piece, pieces, TakesPiece}
-use Rattle.bpaf_exact.specs.Pieces.{takes_one}
-use Rattle.bpaf_exact.specs.Pieces.{takes_two, takes_later}
+use Rattle.bpaf_exact.specs.Pieces.{takes_one, takes_two, takes_later}
 use Rattle.bpaf_exact.specs.Alternative.{TakesFirst, first_one, first_two, first_later, HasBad}
 use Rattle.bpaf_exact.specs.Alternative.{bad_here, bad_later}
 use Rattle.bpaf_exact.proofs.Cells.{value_foreign, nil_rest, nil_foreign, keeps_other, same_next}

@@ -1,5 +1,6 @@
 -- Each form that is made of flat fields keeps to its laws.
-use Rattle.std.proofs.Common.{◌≡◌, Bool, true, false, ◌&&◌, List, [], ◌∷◌, ◌++◌, refl, subst, append-nil}
+use Rattle.std.proofs.Common.{◌≡◌, Bool, true, false, ◌&&◌, List, [], ◌∷◌, ◌++◌, refl, subst}
+use Rattle.std.proofs.Common.{append-nil}
 use Rattle.std.proofs.lemmas.Bool.{false_from_ne_true}
 use Rattle.bpaf_doc.specs.Names.{Names}
 use Rattle.bpaf_laws.specs.Choice.{ChoiceOutcome}
@@ -8,18 +9,18 @@ use Rattle.bpaf_laws.specs.Reading.{Outcome}
 use Rattle.bpaf_laws.specs.Repeat.{LastOutcome}
 use Rattle.bpaf_exact.specs.Pieces.{Roles, no_roles, either}
 use Rattle.bpaf_exact.specs.Names.{Owns, are_all_apart}
-use Rattle.bpaf_exact.specs.Flat.{ErrorClass, Refused, FieldKind, ByName, OneWord, EachWord}
-use Rattle.bpaf_exact.specs.Flat.{Before, FieldLaw, FieldsLaw, both_reading, keys}
+use Rattle.bpaf_exact.specs.Flat.{ErrorClass, Refused, FieldKind, ByName, OneWord, EachWord, Before}
+use Rattle.bpaf_exact.specs.Flat.{FieldLaw, FieldsLaw, both_reading, keys}
 use Rattle.bpaf_exact.specs.Single.{RepeatOutcome, repeated}
 use Rattle.bpaf_exact.specs.Wrappers.{Closure, Decides, map_closure, ClosedEval, OptionalEval}
 use Rattle.bpaf_exact.specs.Wrappers.{FallbackEval}
 use Rattle.bpaf_exact.specs.Gathered.{some_closure}
 use Rattle.bpaf_exact.specs.FlatForm.{FlatForm, not_flat, alternative, single, complete, product}
-use Rattle.bpaf_exact.specs.FlatForm.{FormLaw, Agrees, only_if, flat_closed}
-use Rattle.bpaf_exact.specs.FlatForm.{flat_either, flat_choice, alternative_only, flat_repeat}
-use Rattle.bpaf_exact.specs.FlatForm.{flat_last, flat_optional, flat_fallback, flat_field}
-use Rattle.bpaf_exact.specs.FlatForm.{may_follow, flat_both, flat_alone, flat_con, flat_record}
-use Rattle.bpaf_exact.specs.FlatForm.{NamedLaw, inner_field, is_named, is_record, made_reading}
+use Rattle.bpaf_exact.specs.FlatForm.{FormLaw, Agrees, only_if, flat_closed, flat_either}
+use Rattle.bpaf_exact.specs.FlatForm.{flat_choice, alternative_only, flat_repeat, flat_last}
+use Rattle.bpaf_exact.specs.FlatForm.{flat_optional, flat_fallback, flat_field, may_follow}
+use Rattle.bpaf_exact.specs.FlatForm.{flat_both, flat_alone, flat_con, flat_record, NamedLaw}
+use Rattle.bpaf_exact.specs.FlatForm.{inner_field, is_named, is_record, made_reading}
 use Rattle.bpaf_exact.specs.FlatForm.{product_reading, product_roles}
 use Rattle.bpaf_exact.specs.Record.{LastValue}
 use Rattle.bpaf_exact.proofs.Names.{foreign_of, apart_of_names, either_owns}

@@ -1,8 +1,8 @@
 -- What a field takes of pieces, and what it leaves.
 use Rattle.std.proofs.Common.{◌≡◌, Bool, true, false, List, [], ◌∷◌, ap, refl, if◌then◌else◌}
-use Rattle.bpaf_exact.specs.Pieces.{LinePiece}
+use Rattle.bpaf_exact.specs.Pieces.{Cells, LinePiece, Roles, pieces}
 use Rattle.bpaf_exact.specs.Flat.{FieldKind, ByName, OneWord, EachWord, back, front, from_marker}
-use Rattle.bpaf_exact.specs.Flat.{is_behind, up_to_marker}
+use Rattle.bpaf_exact.specs.Flat.{NoKeysLeft, is_behind, up_to_marker}
 use Rattle.bpaf_exact.specs.Single.{repeated}
 
 -- where no piece stands before the first one behind `--`, all stand from there on
@@ -47,6 +47,13 @@ nil_each (OneWord true) (o ∷ os) none =
     elim (is_behind o) as (λ b. (if b then [] else o ∷ up_to_marker os) ≡ []
     → (if b then [] else o ∷ []) ≡ [])
     [ true ↦ λ none. refl | false ↦ λ none. absurd cc ] none
+
+-- where nothing but what a field leaves is left, none of a named field's keys is
+pub no_keys_left : (k : FieldKind) (q : Roles) (cs : Cells) (os : List LinePiece)
+    → pieces q cs ≡ back k os → NoKeysLeft k q cs
+no_keys_left ByName q cs os e = e
+no_keys_left (OneWord stops) q cs os e = tt
+no_keys_left (EachWord stops) q cs os e = tt
 
 -- A first piece that a field may take: any, where it doesn't stop before one behind `--`.
 

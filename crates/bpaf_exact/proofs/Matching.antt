@@ -18,8 +18,7 @@ use Rattle.bpaf_line.proofs.Matches.{open_item_there}
 use Rattle.bpaf_laws.specs.Environment.{IsAbsence, MissesItem}
 use Rattle.bpaf_exact.specs.Pieces.{Role, Foreign, Alone, WithNext, Roles, LinePiece, One, Two}
 use Rattle.bpaf_exact.specs.Pieces.{is_value, is_key, is_own_role, IsNamed, pieces}
-use Rattle.bpaf_exact.specs.Flat.{OfMissing, Refused, is_missing, class, class_of, cells}
-use Rattle.bpaf_exact.specs.Flat.{Steady}
+use Rattle.bpaf_exact.specs.Flat.{OfMissing, Refused, is_missing, class, class_of, cells, Steady}
 use Rattle.bpaf_exact.specs.Names.{Owns}
 use Rattle.bpaf_exact.specs.Alternative.{NotOwn, TakesFirst, HasBad, bad_here, AlternativeOk}
 use Rattle.bpaf_exact.specs.Alternative.{AlternativeErr, alternative_missing, alternative_refused}

@@ -6,11 +6,11 @@ use Rattle.bpaf_laws.specs.Reading.{Outcome}
 use Rattle.bpaf_doc.specs.Names.{Names}
 use Rattle.bpaf_exact.specs.Alternative.{AlternativeErr, alternative_memory, alternative_missing}
 use Rattle.bpaf_exact.specs.Alternative.{alternative_refused}
-use Rattle.bpaf_exact.specs.Flat.{ByName, FieldKind, FieldLaw, FieldsLaw, FieldsReading, Gives, GivesAll}
-use Rattle.bpaf_exact.specs.Flat.{NoneOutside, OfMemory, back, cells, class, front}
+use Rattle.bpaf_exact.specs.Flat.{ByName, FieldKind, FieldLaw, FieldsLaw, FieldsReading, OfMemory}
+use Rattle.bpaf_exact.specs.Flat.{class}
 use Rattle.bpaf_exact.specs.FlatForm.{FlatForm, not_flat, alternative, single, complete, product}
 use Rattle.bpaf_exact.specs.FlatForm.{FormLaw, NamedLaw}
-use Rattle.bpaf_exact.specs.Pieces.{LinePiece, Roles, pieces}
+use Rattle.bpaf_exact.specs.Pieces.{LinePiece, Roles}
 use Rattle.bpaf_exact.specs.Single.{CanCatch, Gap, Groups, SingleErr, catch_missing, catch_other}
 use Rattle.bpaf_exact.specs.Single.{of_absent, of_memory, of_missing, of_piece}
 
@@ -63,15 +63,10 @@ pub other_refusals : (T : Type 0) (a b : Outcome T) (k : FieldKind) (q : Roles)
 other_refusals T a b k q value values refusals l = record {
   own = l.own;
   ok = λ s t v w o. l.ok s t v w (values s t v o);
-  answers = by_answer;
+  takes_all = λ s t v u w o. l.takes_all s t v u w (values s t v o);
+  refuses = λ s t e u w o h.
+      let other = refusals s t e o in other.2 (l.refuses s t other.0 u w other.1 h);
 }
-  where
-    by_answer : (s t : Situation) (r : Result T Error) (w : T) → NoneOutside s → b s r t
-        → value (front k (pieces q (cells s))) w
-        → Gives q (value (front k (pieces q (cells s)))) (back k (pieces q (cells s))) r t
-    by_answer s t (Ok v) w n o h = l.answers s t (Ok v) w n (values s t v o) h
-    by_answer s t (Err e) w n o h =
-        let other = refusals s t e o in other.2 (l.answers s t (Err other.0) w n other.1 h)
 
 module _ (T : Type 0) (a b : Outcome T) (n : AllowsNoMore T a b) where
   -- what is given by each answer of the one is by each of the other
@@ -91,8 +86,9 @@ module _ (T : Type 0) (a b : Outcome T) (n : AllowsNoMore T a b) where
     steady = λ s t v w o. l.steady s t v w (n.value s t v o);
     ok = λ s t v w o e. l.ok s t v w (n.value s t v o) e;
     has_each = l.has_each;
-    answers = λ s t x os w o c h. narrower_gives (GivesAll (fields.value os))
-        (λ d e t same m. sym same ∙ m) s (λ y u g. l.answers s u y os w g c h) x t o;
+    takes_all = λ s t v os w o. l.takes_all s t v os w (n.value s t v o);
+    refuses = λ s t e os w o c h. let other = n.refusal s t e o in
+        sym other.2 ∙ l.refuses s t other.0 os w other.1 c h;
   }
 
   -- a field

@@ -19,24 +19,23 @@ use Rattle.bpaf_exact.specs.Wrappers.{Closure, OptionalValue, some_value, no_val
 use Rattle.bpaf_exact.specs.Wrappers.{own_value, kept_value}
 use Rattle.bpaf_exact.specs.Gathered.{LastOf, list_closure}
 use Rattle.bpaf_exact.specs.Alternative.{pick_type}
-use Rattle.bpaf_exact.specs.Leaves.{FlagValue, ArgumentValue, WordValue, flag_field}
-use Rattle.bpaf_exact.specs.Leaves.{LastGroup, SideValue, argument_by, argument_field}
-use Rattle.bpaf_exact.specs.Leaves.{argument_group, variable_argument, word_by}
-use Rattle.bpaf_exact.specs.Leaves.{word_field}
+use Rattle.bpaf_exact.specs.Leaves.{FlagValue, ArgumentValue, WordValue, flag_field, LastGroup}
+use Rattle.bpaf_exact.specs.Leaves.{SideValue, argument_by, argument_field, argument_group}
+use Rattle.bpaf_exact.specs.Leaves.{variable_argument, word_by, word_field}
 use Rattle.bpaf_exact.specs.Record.{RunAnswer, Accepted, NoMemory, Refusal, RecordValue, IsExact}
 use Rattle.bpaf_exact.specs.Record.{line_cells}
 use Rattle.bpaf_exact.specs.FlatForm.{FlatForm, not_flat, alternative, single, complete, product}
-use Rattle.bpaf_exact.specs.FlatForm.{FormLaw, only_if, flat_closed, flat_either}
-use Rattle.bpaf_exact.specs.FlatForm.{flat_choice, alternative_only, flat_repeat, flat_many}
-use Rattle.bpaf_exact.specs.FlatForm.{flat_last, flat_optional, flat_fallback, flat_field}
-use Rattle.bpaf_exact.specs.FlatForm.{may_follow, flat_both, flat_alone, flat_con, flat_record}
-use Rattle.bpaf_exact.specs.FlatForm.{is_record, product_roles, product_reading}
+use Rattle.bpaf_exact.specs.FlatForm.{FormLaw, only_if, flat_closed, flat_either, flat_choice}
+use Rattle.bpaf_exact.specs.FlatForm.{alternative_only, flat_repeat, flat_many, flat_last}
+use Rattle.bpaf_exact.specs.FlatForm.{flat_optional, flat_fallback, flat_field, may_follow}
+use Rattle.bpaf_exact.specs.FlatForm.{flat_both, flat_alone, flat_con, flat_record, is_record}
+use Rattle.bpaf_exact.specs.FlatForm.{product_roles, product_reading}
 use Rattle.bpaf_exact.specs.Programs.{ChoiceValue}
 use Rattle.bpaf_exact.specs.ProgramForm.{ProgramForm, no_program, plain, commands, left_out}
 use Rattle.bpaf_exact.specs.ProgramForm.{before_commands, are_words_apart, first_only, flat_form}
 use Rattle.bpaf_exact.specs.ProgramForm.{program_choice, program_choices, program_if, program_rest}
-use Rattle.bpaf_exact.specs.OneView.{Alike, OneGroup, HasOneView, Respects, pair_view}
-use Rattle.bpaf_exact.specs.OneView.{LooksLike, RunsToOne}
+use Rattle.bpaf_exact.specs.OneView.{Alike, OneGroup, HasOneView, Respects, pair_view, LooksLike}
+use Rattle.bpaf_exact.specs.OneView.{RunsToOne}
 use Rattle.bpaf_exact.proofs.Alternative.{alternative_single}
 use Rattle.bpaf_exact.proofs.Cuts.{one_cut}
 use Rattle.bpaf_exact.proofs.LastArguments.{last_same}

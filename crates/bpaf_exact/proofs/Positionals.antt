@@ -10,16 +10,15 @@ use Rattle.bpaf_line.specs.Situation.{Situation}
 use Rattle.bpaf_line.specs.Taking.{TakesText}
 use Rattle.bpaf_line.proofs.Matches.{open_item_there}
 use Rattle.bpaf_exact.specs.Pieces.{Cells, Foreign, Alone, WithNext, LinePiece, One, word_roles}
-use Rattle.bpaf_exact.specs.Pieces.{pieces}
+use Rattle.bpaf_exact.specs.Pieces.{pieces, stands_behind}
 use Rattle.bpaf_exact.specs.Flat.{cells, NoneOutside, Steady, EachWord, OneWord, front, back}
 use Rattle.bpaf_exact.specs.Flat.{is_behind}
 use Rattle.bpaf_exact.specs.Single.{Groups, FrontOf, no_gap, SingleOk, took, SingleErr, of_memory}
 use Rattle.bpaf_exact.specs.Single.{catch_missing, catch_other, of_missing, of_piece, WordByWord}
 use Rattle.bpaf_exact.specs.Single.{SingleLaw}
 use Rattle.bpaf_exact.specs.Alternative.{TakesFirst, first_one, first_two, first_later}
-use Rattle.bpaf_exact.specs.Pieces.{stands_behind}
-use Rattle.bpaf_exact.specs.Leaves.{WordEval, word_by, word_fault, word_memory}
-use Rattle.bpaf_exact.specs.Leaves.{word_missing, word_passed, word_read}
+use Rattle.bpaf_exact.specs.Leaves.{WordEval, word_by, word_fault, word_memory, word_missing}
+use Rattle.bpaf_exact.specs.Leaves.{word_passed, word_read}
 use Rattle.bpaf_exact.proofs.Fronts.{back_more, back_one, front_more, front_one, of_front_more}
 use Rattle.bpaf_exact.proofs.Fronts.{of_front_one}
 use Rattle.bpaf_exact.specs.FlatForm.{FormLaw}

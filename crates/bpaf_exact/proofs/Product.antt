@@ -7,16 +7,14 @@ use Rattle.bpaf_line.specs.Messages.{is_memory}
 use Rattle.bpaf_laws.specs.Product.{BothOutcome, joined}
 use Rattle.bpaf_laws.specs.Reading.{Outcome}
 use Rattle.bpaf_laws.specs.Spared.{IsNotMemory}
-use Rattle.bpaf_exact.specs.Pieces.{no_roles}
-use Rattle.bpaf_exact.specs.Pieces.{Cells, Role, Foreign, Alone, WithNext, Roles, LinePiece, One}
-use Rattle.bpaf_exact.specs.Pieces.{Two}
-use Rattle.bpaf_exact.specs.Pieces.{is_own_role, is_own, others, either_role, either, IsNamed}
-use Rattle.bpaf_exact.specs.Pieces.{Apart, Cut, at_end, passed, flag, argument, word}
-use Rattle.bpaf_exact.specs.Pieces.{pieces, TakesPieces}
-use Rattle.bpaf_exact.specs.Flat.{cells, NonePresent, NoneOutside, Steady, FieldKind, ByName, OneWord}
-use Rattle.bpaf_exact.specs.Flat.{EachWord, front, back, share, left, keys, IsWords, OwnItems}
-use Rattle.bpaf_exact.specs.Flat.{LeavesNone, FieldTook, FieldLaw, ReadOff, GivesAll, FieldsLaw}
-use Rattle.bpaf_exact.specs.Flat.{Before, FieldsReading, Gives, both_reading, class, OfMemory}
+use Rattle.bpaf_exact.specs.Pieces.{no_roles, Cells, Role, Foreign, Alone, WithNext, Roles}
+use Rattle.bpaf_exact.specs.Pieces.{LinePiece, One, Two, is_own_role, is_own, others, either_role}
+use Rattle.bpaf_exact.specs.Pieces.{either, IsNamed, Apart, Cut, at_end, passed, flag, argument}
+use Rattle.bpaf_exact.specs.Pieces.{word, pieces, TakesPieces}
+use Rattle.bpaf_exact.specs.Flat.{cells, NonePresent, NoneOutside, Steady, FieldKind, ByName}
+use Rattle.bpaf_exact.specs.Flat.{OneWord, EachWord, front, back, share, left, keys, IsWords}
+use Rattle.bpaf_exact.specs.Flat.{OwnItems, NoKeysLeft, FieldTook, FieldLaw, ReadOff, FieldsLaw}
+use Rattle.bpaf_exact.specs.Flat.{Before, FieldsReading, both_reading, class, OfMemory, HasValue}
 use Rattle.bpaf_exact.proofs.Classes.{memory_class, not_memory}
 use Rattle.bpaf_exact.proofs.Cells.{value_foreign, word_foreign, begin_foreign, nil_rest}
 use Rattle.bpaf_exact.proofs.Cells.{nil_foreign, pieces_of_cut, others_foreign, put_back_some}
@@ -203,7 +201,7 @@ step_back (EachWord z) q r T value n b f c =
 
 -- a field that left nothing of its own
 pub none_left : (k : FieldKind) (q r : Roles) {cs : Cells} {os : List LinePiece} → OwnItems k q
-    → Before k q r → Cut r cs os → LeavesNone k q cs
+    → Before k q r → Cut r cs os → NoKeysLeft k q cs
 none_left ByName q r n b c = no_own_in_cut q r n b c
 none_left (OneWord z) q r n b c = tt
 none_left (EachWord z) q r n b c = tt
@@ -282,6 +280,29 @@ module _ (A B : Type 0) (first : Outcome A) (rest : Outcome B) where
       → ValuesOfBoth A B first rest s v t
   values_of_both s t v o = joined_values s o.middle t o.a o.b v o.first_ran o.rest_ran o.answer
 
+  -- a refusal is of the first, not for want of memory; of the others, after its value; or want of
+  -- memory
+  pub data RefusedBy (s : Situation) (e : Error) (t : Situation) : Type 0 where
+    for_memory : class e ≡ OfMemory → RefusedBy s e t
+    by_first : {d : Error} {m : Situation} → first s (Err d) m → (class d ≡ OfMemory → ⊥)
+        → RefusedBy s e t
+    by_rest : {v : A} {m : Situation} → first s (Ok v) m → rest m (Err e) t → RefusedBy s e t
+
+  -- of joined answers
+  joined_refused : (s m t : Situation) (a : Result A Error) (b : Result B Error) (e : Error)
+      → first s a m → rest m b t → IsNotMemory a → Err e ≡ joined a b → RefusedBy s e t
+  joined_refused s m t (Ok a) (Ok b) e f g spared i = absurd cc
+  joined_refused s m t (Ok a) (Err b) e f g spared i =
+      let d : b ≡ e = cc in by_rest f (subst (λ z. rest m (Err z) t) d g)
+  joined_refused s m t (Err a) b e f g spared i = by_first f (not_memory a.0 spared)
+
+  -- and so each
+  pub refused_by : (s t : Situation) (e : Error) → BothOutcome first rest s (Err e) t
+      → RefusedBy s e t
+  refused_by s t e (inl o) =
+      joined_refused s o.middle t o.a o.b e o.first_ran o.rest_ran o.spared o.answer
+  refused_by s t e (inr o) = for_memory (memory_class e.0 o.1)
+
 module _ (A B : Type 0) (first : Outcome A) (rest : Outcome B) (k : FieldKind) (q r : Roles)
     (fv : List LinePiece → A → Type 0) (others_read : FieldsReading B)
     (lf : FieldLaw A first k q fv) (lr : FieldsLaw B rest r others_read) (b : Before k q r) where
@@ -317,56 +338,43 @@ module _ (A B : Type 0) (first : Outcome A) (rest : Outcome B) (k : FieldKind) (
         );
       }
 
-  -- where each field has a value, the first answers one, or want of memory
-  first_gives : (s m : Situation) (a : Result A Error) (os : List LinePiece) → NoneOutside s
-      → first s a m → Cut (either (keys k q) r) (cells s) os → reading.each os
-      → Gives q (fv (front k (pieces q (cells s)))) (back k (pieces q (cells s))) a m
-  first_gives s m a os w f c h =
-      lf.answers s m a h.0.0 w f
-      (subst (λ z. fv z h.0.0) (sym (own_share k q r lf.own b c)) h.0.1)
+  -- where each field has a value, so has the first on its own pieces
+  own_value : (s : Situation) (os : List LinePiece) → Cut (either (keys k q) r) (cells s) os
+      → (h : HasValue fv (share k q os)) → fv (front k (pieces q (cells s))) h.0
+  own_value s os c h = subst (λ z. fv z h.0) (sym (own_share k q r lf.own b c)) h.1
 
-  -- and then so do the others
-  rest_gives : (s m t : Situation) (x : A) (y : Result B Error) (os : List LinePiece)
-      → NoneOutside s → first s (Ok x) m → rest m y t → Cut (either (keys k q) r) (cells s) os
-      → reading.each os → GivesAll (others_read.value (left k q os)) y t
-  rest_gives s m t x y os w f g c h =
+  -- what the first leaves is cut into what it leaves of the pieces
+  rest_cut : (s m : Situation) (x : A) (os : List LinePiece) → NoneOutside s → first s (Ok x) m
+      → Cut (either (keys k q) r) (cells s) os → HasValue fv (share k q os)
+      → Cut r (cells m) (left k q os)
+  rest_cut s m x os w f c h =
       let i = lf.ok s m x w f in
-      let j = first_gives s m (Ok x) os w f c h in
-      lr.answers m t y (left k q os) (none_outside_after s m w i.steady) g
-      (step_on k q r lf.own b i.takes j.1 c) h.1
+      step_on k q r lf.own b i.takes
+      (i.rest (lf.takes_all s m x h.0 w f (own_value s os c h))) c
 
-  -- where each field has a value, the values of a product are such
-  both_values : (s t : Situation) (u : A × B) (os : List LinePiece) → NoneOutside s
-      → BothOutcome first rest s (Ok u) t
-      → Cut (either (keys k q) r) (cells s) os → reading.each os
-      → GivesAll (reading.value os) (Ok u) t
-  both_values s t u os w o c h =
+  -- so the others leave nothing
+  both_take : (s t : Situation) (u : A × B) (os : List LinePiece) → NoneOutside s
+      → BothOutcome first rest s (Ok u) t → Cut (either (keys k q) r) (cells s) os
+      → reading.each os → NonePresent (cells t)
+  both_take s t u os w o c h =
       let i = values_of_both A B first rest s t u o in
-      let j = first_gives s i.middle (Ok u.0) os w i.first_ran c h in
-      let l = rest_gives s i.middle t u.0 (Ok u.1) os w i.first_ran i.rest_ran c h in
-      ((subst (λ z. fv z u.0) (own_share k q r lf.own b c) j.0, l.0), l.1)
+      lr.takes_all i.middle t u.1 (left k q os)
+      (none_outside_after s i.middle w (lf.ok s i.middle u.0 w i.first_ran).steady) i.rest_ran
+      (rest_cut s i.middle u.0 os w i.first_ran c h.0) h.1
 
   -- and a refusal is want of memory
-  both_fails : (s m t : Situation) (x : Result A Error) (y : Result B Error) (e : Error)
-      (os : List LinePiece) → NoneOutside s → first s x m → rest m y t → IsNotMemory x
-      → Err e ≡ joined x y
-      → Cut (either (keys k q) r) (cells s) os → reading.each os → class e ≡ OfMemory
-  both_fails s m t (Ok x) (Ok y) e os w f g spared i c h = absurd cc
-  both_fails s m t (Ok x) (Err y) e os w f g spared i c h =
-      let d : e ≡ y = cc in
-      ap class d ∙ rest_gives s m t x (Err y) os w f g c h
-  both_fails s m t (Err x) y e os w f g spared i c h =
-      absurd (not_memory x.0 spared (first_gives s m (Err x) os w f c h))
-
-  -- each answer
-  both_answers : (s t : Situation) (a : Result (A × B) Error) (os : List LinePiece)
-      → NoneOutside s → BothOutcome first rest s a t
-      → Cut (either (keys k q) r) (cells s) os → reading.each os
-      → GivesAll (reading.value os) a t
-  both_answers s t (Ok u) os w o c h = both_values s t u os w o c h
-  both_answers s t (Err e) os w (inl o) c h =
-      both_fails s o.middle t o.a o.b e os w o.first_ran o.rest_ran o.spared o.answer c h
-  both_answers s t (Err e) os w (inr o) c h = memory_class e.0 o.1
+  both_refuse : (s t : Situation) (e : Error) (os : List LinePiece) → NoneOutside s
+      → BothOutcome first rest s (Err e) t → Cut (either (keys k q) r) (cells s) os
+      → reading.each os → class e ≡ OfMemory
+  both_refuse s t e os w o c h = by_side (refused_by A B first rest s t e o)
+    where
+      by_side : RefusedBy A B first rest s e t → class e ≡ OfMemory
+      by_side (for_memory m) = m
+      by_side (by_first {d = d} {m = m} f spared) =
+          absurd (spared (lf.refuses s m d h.0.0 w f (own_value s os c h.0)))
+      by_side (by_rest {v = v} {m = m} f g) =
+          lr.refuses m t e (left k q os) (none_outside_after s m w (lf.ok s m v w f).steady) g
+          (rest_cut s m v os w f c h.0) h.1
 
   -- a flat field before flat fields: together they keep to the laws
   pub both_law : FieldsLaw (A × B) (BothOutcome first rest) (either (keys k q) r) reading
@@ -375,5 +383,6 @@ module _ (A B : Type 0) (first : Outcome A) (rest : Outcome B) (k : FieldKind) (
     steady = both_steady;
     ok = both_reads;
     has_each = λ os v h. ((v.0, h.0), lr.has_each (left k q os) v.1 h.1);
-    answers = both_answers;
+    takes_all = both_take;
+    refuses = both_refuse;
   }

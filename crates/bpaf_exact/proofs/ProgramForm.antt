@@ -1,7 +1,7 @@
 -- Each parser keeps to the laws of its form to a program, where its inner parsers do.
 use Rattle.std.proofs.Common.{◌≡◌, ℕ, Bool, true, false, not, ◌||◌, List, [], ◌∷◌, ◌++◌, Option}
-use Rattle.std.proofs.Common.{Some, None, refl, sym, ap, ◌∙◌, subst, bytes_eq, ⊎_elim}
-use Rattle.std.proofs.Common.{true≢false, append_assoc, append-nil, inl, inr}
+use Rattle.std.proofs.Common.{Some, None, refl, sym, ap, ◌∙◌, subst, bytes_eq, ⊎_elim, true≢false}
+use Rattle.std.proofs.Common.{append_assoc, append-nil, inl, inr}
 use Rattle.std.specs.Prelude.{flat_map}
 use Rattle.std.specs.List.{list_all}
 use Rattle.std.specs.Option.{option_map_or}
@@ -17,7 +17,7 @@ use Rattle.bpaf_laws.specs.Command.{Called, is_one_of, opening_words}
 use Rattle.bpaf_laws.specs.Product.{BothOutcome, ProductOutcome}
 use Rattle.bpaf_laws.specs.Reading.{Outcome}
 use Rattle.bpaf_exact.specs.Pieces.{Roles}
-use Rattle.bpaf_exact.specs.Flat.{Refused, ByName, GivesAll, cells}
+use Rattle.bpaf_exact.specs.Flat.{Refused, ByName, cells}
 use Rattle.bpaf_exact.specs.FlatForm.{FlatForm, FormLaw, not_flat, alternative, single, complete}
 use Rattle.bpaf_exact.specs.FlatForm.{product, is_record, product_roles, product_reading}
 use Rattle.bpaf_exact.specs.FlatForm.{flat_record, EachAgrees}
@@ -32,7 +32,7 @@ use Rattle.bpaf_exact.specs.ProgramForm.{program_both, program_con, is_program, 
 use Rattle.bpaf_exact.specs.ProgramForm.{program_value, program_rest, first_only, program_choices}
 use Rattle.bpaf_exact.specs.ProgramForm.{program_dressed, flat_form}
 use Rattle.bpaf_exact.specs.Programs.{CellsValue, ProgramLaw, CommandEval, are_plain, WordsApart}
-use Rattle.bpaf_exact.specs.Programs.{FindsNoCommand, IsSpelledLine}
+use Rattle.bpaf_exact.specs.Programs.{FindsNoCommand, IsSpelledLine, GivesAll}
 use Rattle.bpaf_exact.specs.Wrappers.{Closure, ClosedEval, OptionalEval, map_closure}
 use Rattle.bpaf_exact.proofs.BeforeCommands.{before_law, con_program}
 use Rattle.bpaf_exact.proofs.Commands.{closed_program, closed_commands, optional_commands}

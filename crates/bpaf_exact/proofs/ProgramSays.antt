@@ -8,11 +8,11 @@ use Rattle.bpaf_laws.specs.Environment.{first_set}
 use Rattle.bpaf_laws.specs.Reading.{Outcome}
 use Rattle.bpaf_exact.specs.Pieces.{Roles, LinePiece, pieces}
 use Rattle.bpaf_exact.specs.Flat.{ByName}
-use Rattle.bpaf_exact.specs.Says.{SaidKind, of_kind, repeated_kind}
+use Rattle.bpaf_exact.specs.Says.{SaidKind, of_kind, repeated_kind, Said, Says, MadeSays, OneOfSays}
+use Rattle.bpaf_exact.specs.Says.{FormSays, FallbackSays, LastSays, RepeatSays}
 use Rattle.bpaf_exact.specs.FlatForm.{FlatForm, not_flat, alternative, single, complete, product}
 use Rattle.bpaf_exact.specs.FlatForm.{EachAgrees, alternative_only, inner_field, is_product}
-use Rattle.bpaf_exact.specs.FlatForm.{is_record}
-use Rattle.bpaf_exact.specs.FlatForm.{product_roles, flat_record, unless, flat_fallback}
+use Rattle.bpaf_exact.specs.FlatForm.{is_record, product_roles, flat_record, unless, flat_fallback}
 use Rattle.bpaf_exact.specs.FlatForm.{flat_closed, flat_last, flat_repeat}
 use Rattle.bpaf_exact.specs.Names.{are_all_apart}
 use Rattle.bpaf_exact.specs.ProgramForm.{ProgramForm, no_program, plain, commands, left_out}
@@ -26,22 +26,20 @@ use Rattle.bpaf_exact.specs.ProgramForm.{program_fallback, program_last, program
 use Rattle.bpaf_exact.specs.Programs.{CellsValue, CommandValue, ChoiceValue, first_value}
 use Rattle.bpaf_exact.specs.Programs.{second_value, OptionalCommands, some_command, no_command}
 use Rattle.bpaf_exact.specs.Programs.{ClosedCells, are_plain, without}
-use Rattle.bpaf_exact.specs.Says.{Said, Says, MadeSays, OneOfSays, FormSays, FallbackSays, LastSays}
-use Rattle.bpaf_exact.specs.Says.{RepeatSays}
 use Rattle.bpaf_exact.specs.ProgramSays.{ProgramSaid, of_pieces, of_cells, ProgramFieldsSaid}
 use Rattle.bpaf_exact.specs.ProgramSays.{of_all_pieces, of_all_cells, IsSaid, ProgramFormSays}
-use Rattle.bpaf_exact.specs.ProgramSays.{program_kind}
-use Rattle.bpaf_exact.specs.ProgramSays.{ProgramSays, ProgramFieldsFormSay, ProgramFieldsSay}
-use Rattle.bpaf_exact.specs.ProgramSays.{cells_said, pieces_said, said_choice, OneOfCells}
-use Rattle.bpaf_exact.specs.ProgramSays.{said_alone, said_both, said_con, said_choices, said_closed}
-use Rattle.bpaf_exact.specs.ProgramSays.{said_command, said_dressed, said_flat, said_optional}
-use Rattle.bpaf_exact.specs.ProgramSays.{said_fallback, said_last, said_repeat, fields_said_inside}
+use Rattle.bpaf_exact.specs.ProgramSays.{program_kind, ProgramSays, ProgramFieldsFormSay}
+use Rattle.bpaf_exact.specs.ProgramSays.{ProgramFieldsSay, cells_said, pieces_said, said_choice}
+use Rattle.bpaf_exact.specs.ProgramSays.{OneOfCells, said_alone, said_both, said_con, said_choices}
+use Rattle.bpaf_exact.specs.ProgramSays.{said_closed, said_command, said_dressed, said_flat}
+use Rattle.bpaf_exact.specs.ProgramSays.{said_optional, said_fallback, said_last, said_repeat}
+use Rattle.bpaf_exact.specs.ProgramSays.{fields_said_inside}
 use Rattle.bpaf_exact.specs.Variables.{Variables, key_form}
 use Rattle.bpaf_exact.specs.Wrappers.{Closure}
 use Rattle.bpaf_exact.proofs.Says.{FormOwns, alone_says, both_say, by_name, choice_into}
-use Rattle.bpaf_exact.proofs.Says.{choice_says, closed_says, con_says, field_owned}
-use Rattle.bpaf_exact.proofs.Says.{field_says, optional_says, owned, record_says, unless_says}
-use Rattle.bpaf_exact.proofs.Says.{fallback_says, last_says, listed_says}
+use Rattle.bpaf_exact.proofs.Says.{choice_says, closed_says, con_says, field_owned, field_says}
+use Rattle.bpaf_exact.proofs.Says.{optional_says, owned, record_says, unless_says, fallback_says}
+use Rattle.bpaf_exact.proofs.Says.{last_says, listed_says}
 use Rattle.bpaf_exact.proofs.FlatForm.{flat_record_law}
 use Rattle.bpaf_exact.proofs.ProgramForm.{record_owns}
 use Rattle.bpaf_exact.proofs.Sharing.{cut_fit, pieces_own}

@@ -23,14 +23,14 @@ use Rattle.bpaf_laws.specs.Command.{Called, IsNotOpened, IsOpenedAt, inside, is_
 use Rattle.bpaf_laws.specs.Command.{opening_words}
 use Rattle.bpaf_laws.specs.Reading.{Outcome}
 use Rattle.bpaf_exact.specs.Pieces.{Cells, Roles, pieces, IsNamed, is_key}
-use Rattle.bpaf_exact.specs.Flat.{cells, first_cells, NonePresent, NoneOutside, GivesAll, FieldsLaw}
+use Rattle.bpaf_exact.specs.Flat.{cells, first_cells, NonePresent, NoneOutside, FieldsLaw}
 use Rattle.bpaf_exact.specs.Flat.{FieldsReading, ReadOff}
 use Rattle.bpaf_exact.specs.Programs.{CellsValue, Opens, opens_here, opens_later, OpensNone}
 use Rattle.bpaf_exact.specs.Programs.{is_dashed, is_spelled, IsSpelledLine, AllSpelled, no_cell}
 use Rattle.bpaf_exact.specs.Programs.{empty_cell, spelled_cell, are_plain, CommandValue}
 use Rattle.bpaf_exact.specs.Programs.{LeavesToOthers, ProgramLaw, FindsNoCommand, CommandsLaw}
 use Rattle.bpaf_exact.specs.Programs.{CommandEval, command_value, command_leftover, command_refused}
-use Rattle.bpaf_exact.specs.Programs.{command_missing, command_memory}
+use Rattle.bpaf_exact.specs.Programs.{command_missing, command_memory, GivesAll}
 use Rattle.bpaf_exact.proofs.Cells.{begin_foreign}
 use Rattle.bpaf_exact.proofs.Choice.{HasItem, has_item}
 use Rattle.bpaf_exact.proofs.Counts.{open_present}
@@ -384,10 +384,10 @@ module _ (V : Type 0) (outcome : Outcome V) (r : Roles) (reading : FieldsReading
   record_answers : (s t : Situation) (a : Result V Error) (u : V) → NoneOutside s → outcome s a t
       → record_value (cells s) u → GivesAll (record_value (cells s)) a t
   record_answers s t (Ok v) u w o h =
-      let g = l.answers s t (Ok v) h.cut_into w o h.cut (l.has_each h.cut_into u h.read) in
-      (record { cut_into = h.cut_into; cut = h.cut; read = g.0 }, g.1)
+      let n = l.takes_all s t v h.cut_into w o h.cut (l.has_each h.cut_into u h.read) in
+      (l.ok s t v w o n, n)
   record_answers s t (Err e) u w o h =
-      l.answers s t (Err e) h.cut_into w o h.cut (l.has_each h.cut_into u h.read)
+      l.refuses s t e h.cut_into w o h.cut (l.has_each h.cut_into u h.read)
 
   -- the laws
   pub record_program : ProgramLaw V outcome r record_value

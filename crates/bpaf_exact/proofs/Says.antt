@@ -5,7 +5,7 @@ use Rattle.bpaf_doc.specs.Names.{Names}
 use Rattle.bpaf_text.specs.Named.{Named as Key, KeyWithValue}
 use Rattle.bpaf_laws.specs.Reading.{Outcome}
 use Rattle.bpaf_exact.specs.Pieces.{Roles, LinePiece, One, Two, is_own, mine, others, either}
-use Rattle.bpaf_exact.specs.Pieces.{no_roles}
+use Rattle.bpaf_exact.specs.Pieces.{no_roles, stands_behind}
 use Rattle.bpaf_exact.specs.Flat.{FieldKind, ByName, OneWord, EachWord, FieldsReading, keys, front}
 use Rattle.bpaf_exact.specs.Flat.{back, both_reading}
 use Rattle.bpaf_exact.specs.Names.{Owns, are_all_apart}
@@ -18,31 +18,26 @@ use Rattle.bpaf_exact.specs.Gathered.{LastOf}
 use Rattle.bpaf_exact.specs.Alternative.{pick_type}
 use Rattle.bpaf_exact.specs.Leaves.{flag_field, flag_gap, FlagValue, argument_field, argument_by}
 use Rattle.bpaf_exact.specs.Leaves.{argument_gap, argument_group, variable_argument, variable_flag}
+use Rattle.bpaf_exact.specs.Leaves.{ArgumentValue, SideValue, WordValue, word_by}
 use Rattle.bpaf_exact.proofs.Fronts.{all_front}
-use Rattle.bpaf_exact.specs.Pieces.{stands_behind}
-use Rattle.bpaf_exact.specs.Leaves.{ArgumentValue, SideValue, WordValue}
-use Rattle.bpaf_exact.specs.Leaves.{word_by}
 use Rattle.bpaf_exact.specs.Record.{LastValue}
 use Rattle.bpaf_exact.specs.FlatForm.{FlatForm, FormLaw, not_flat, alternative, single, complete}
-use Rattle.bpaf_exact.specs.FlatForm.{product, only_if, flat_closed, flat_either}
-use Rattle.bpaf_exact.specs.FlatForm.{flat_choice, alternative_only, flat_repeat, flat_last}
-use Rattle.bpaf_exact.specs.FlatForm.{flat_optional, flat_fallback, unless, inner_field, is_named}
-use Rattle.bpaf_exact.specs.FlatForm.{may_follow, product_roles}
-use Rattle.bpaf_exact.specs.FlatForm.{flat_both, flat_alone, flat_con, flat_record, product_reading}
-use Rattle.bpaf_exact.specs.Says.{SaidKind, form_kind, of_kind}
-use Rattle.bpaf_exact.specs.Says.{keyed, repeated_kind}
-use Rattle.bpaf_exact.specs.Says.{AllOwn, Fits, Said, FlagSays, says_present, says_absent}
-use Rattle.bpaf_exact.specs.Says.{says_variable, ArgumentSays, says_variable_text}
-use Rattle.bpaf_exact.specs.Says.{says_text, says_last_text, WordSays, EitherSays, says_this}
-use Rattle.bpaf_exact.specs.Says.{says_that, MadeSays, OptionalSays, says_some, says_none}
-use Rattle.bpaf_exact.specs.Says.{FallbackSays, says_own, says_kept, FrontSays, RepeatSays}
-use Rattle.bpaf_exact.specs.Says.{says_in_turn, says_alone, LastSays, FieldsSaid, RecordSays}
-use Rattle.bpaf_exact.specs.Says.{FormSays, Says, FieldsFormSays, FieldsSay, its_pieces}
-use Rattle.bpaf_exact.specs.Says.{words_after}
+use Rattle.bpaf_exact.specs.FlatForm.{product, only_if, flat_closed, flat_either, flat_choice}
+use Rattle.bpaf_exact.specs.FlatForm.{alternative_only, flat_repeat, flat_last, flat_optional}
+use Rattle.bpaf_exact.specs.FlatForm.{flat_fallback, unless, inner_field, is_named, may_follow}
+use Rattle.bpaf_exact.specs.FlatForm.{product_roles, flat_both, flat_alone, flat_con, flat_record}
+use Rattle.bpaf_exact.specs.FlatForm.{product_reading}
+use Rattle.bpaf_exact.specs.Says.{SaidKind, form_kind, of_kind, keyed, repeated_kind, AllOwn, Fits}
+use Rattle.bpaf_exact.specs.Says.{Said, FlagSays, says_present, says_absent, says_variable}
+use Rattle.bpaf_exact.specs.Says.{ArgumentSays, says_variable_text, says_text, says_last_text}
+use Rattle.bpaf_exact.specs.Says.{WordSays, EitherSays, says_this, says_that, MadeSays}
+use Rattle.bpaf_exact.specs.Says.{OptionalSays, says_some, says_none, FallbackSays, says_own}
+use Rattle.bpaf_exact.specs.Says.{says_kept, FrontSays, RepeatSays, says_in_turn, says_alone}
+use Rattle.bpaf_exact.specs.Says.{LastSays, FieldsSaid, RecordSays, FormSays, Says, FieldsFormSays}
+use Rattle.bpaf_exact.specs.Says.{FieldsSay, its_pieces, words_after}
 use Rattle.bpaf_exact.proofs.Names.{apart_of_names}
-use Rattle.bpaf_exact.proofs.Sharing.{mine_rest, others_fit, others_rest, rest_fit}
-use Rattle.bpaf_exact.proofs.Sharing.{apart_none, each_own, first_fits, no_fits, own_fit}
-use Rattle.bpaf_exact.proofs.Sharing.{second_fits}
+use Rattle.bpaf_exact.proofs.Sharing.{mine_rest, others_fit, others_rest, rest_fit, apart_none}
+use Rattle.bpaf_exact.proofs.Sharing.{each_own, first_fits, no_fits, own_fit, second_fits}
 use Rattle.bpaf_exact.proofs.Sharing.{mine_keyed, others_unkeyed, mine_within, first_within}
 use Rattle.bpaf_exact.proofs.Sharing.{second_within, mine_of_others, mine_none, others_none}
 use Rattle.bpaf_exact.proofs.Sharing.{all_mine, others_both, none_behind}

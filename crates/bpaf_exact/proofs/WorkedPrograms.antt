@@ -1,13 +1,13 @@
 -- What the definitions of programs say of single lines.
-use Rattle.std.proofs.Common.{◌≡◌, ℕ, Bool, true, false, List, [], ◌∷◌, Option, Some, None, refl}
+use Rattle.std.proofs.Common.{ℕ, Bool, true, false, List, [], ◌∷◌, Option, Some, None, refl}
 use Rattle.bpaf_laws.specs.Command.{named_only}
 use Rattle.bpaf_exact.specs.Pieces.{One, at_end, passed, word}
 use Rattle.bpaf_exact.specs.Flat.{ByName, none_here, no_place}
 use Rattle.bpaf_exact.specs.FlatForm.{single}
 use Rattle.bpaf_exact.specs.Leaves.{FlagValue, WordValue, switch_gap, word_field}
-use Rattle.bpaf_exact.specs.ProgramForm.{ProgramForm, plain, program_value}
-use Rattle.bpaf_exact.specs.ProgramForm.{program_command, program_field, program_alone}
-use Rattle.bpaf_exact.specs.ProgramForm.{program_both, program_optional}
+use Rattle.bpaf_exact.specs.ProgramForm.{ProgramForm, plain, program_value, program_command}
+use Rattle.bpaf_exact.specs.ProgramForm.{program_field, program_alone, program_both}
+use Rattle.bpaf_exact.specs.ProgramForm.{program_optional}
 use Rattle.bpaf_exact.specs.Programs.{opens_here, some_command, no_command}
 use Rattle.bpaf_exact.specs.Record.{line_cells}
 use Rattle.bpaf_exact.specs.Single.{FrontOf, of_group}

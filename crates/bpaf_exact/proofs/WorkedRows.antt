@@ -4,17 +4,14 @@ use Rattle.bpaf_doc.specs.Names.{Names}
 use Rattle.bpaf_base.specs.declared.arg.Arg.{Arg}
 use Rattle.bpaf_base.specs.declared.arg.Arg.TheVariants.{Short, Long, ArgWord, Word, PosWord}
 use Rattle.bpaf_line.specs.Situation.{Context}
-use Rattle.bpaf_exact.specs.Pieces.{Foreign, Roles, LinePiece, One, Two, IsNamed, Cut, at_end}
-use Rattle.bpaf_exact.specs.Pieces.{flag, argument, word, either, no_roles, word_roles, mine}
-use Rattle.bpaf_exact.specs.Pieces.{is_key}
+use Rattle.bpaf_exact.specs.Pieces.{Foreign, Roles, LinePiece, One, Two, IsNamed, Cut, at_end, flag}
+use Rattle.bpaf_exact.specs.Pieces.{argument, word, either, no_roles, word_roles, mine, is_key}
 use Rattle.bpaf_exact.specs.Flat.{ByName, OneWord, EachWord, BothValue, both_reading, keys}
 use Rattle.bpaf_exact.specs.Single.{FrontOf, own_none, own_more, no_gap, SingleValue, of_group}
-use Rattle.bpaf_exact.specs.Single.{of_gap}
-use Rattle.bpaf_exact.specs.Single.{OwnList, listed, listed_and_absent, only_absent}
+use Rattle.bpaf_exact.specs.Single.{of_gap, OwnList, listed, listed_and_absent, only_absent}
 use Rattle.bpaf_exact.specs.Wrappers.{Closure, ClosedGroup, closed_gap}
 use Rattle.bpaf_exact.specs.Leaves.{flag_roles, argument_roles, FlagValue, ArgumentValue, WordValue}
-use Rattle.bpaf_exact.specs.Leaves.{switch_gap, flag_by}
-use Rattle.bpaf_exact.specs.Leaves.{LastGroup, HaveValues, no_more, one_more}
+use Rattle.bpaf_exact.specs.Leaves.{switch_gap, flag_by, LastGroup, HaveValues, no_more, one_more}
 use Rattle.bpaf_exact.specs.Alternative.{either_value, bad_here, bad_later}
 use Rattle.bpaf_exact.specs.Record.{line_cells, RecordValue, LastValue, last_reading}
 use Rattle.bpaf_exact.specs.FlatForm.{FlatForm}

@@ -5,8 +5,8 @@ use Rattle.bpaf_doc.specs.Names.{Names}
 use Rattle.bpaf_laws.specs.Reading.{Outcome}
 use Rattle.bpaf_exact.specs.Pieces.{Roles, LinePiece, either, no_roles}
 use Rattle.bpaf_exact.specs.Names.{Owns, are_all_apart}
-use Rattle.bpaf_exact.specs.Flat.{FieldKind, ByName, FieldLaw, FieldsLaw, keys}
-use Rattle.bpaf_exact.specs.Flat.{FieldsReading, both_reading}
+use Rattle.bpaf_exact.specs.Flat.{FieldKind, ByName, FieldLaw, FieldsLaw, keys, FieldsReading}
+use Rattle.bpaf_exact.specs.Flat.{both_reading}
 use Rattle.bpaf_exact.specs.Single.{Groups, Gap, FrontOf, no_gap, SingleLaw, SingleValue, OwnList}
 use Rattle.bpaf_exact.specs.Single.{repeated}
 use Rattle.bpaf_exact.specs.Wrappers.{Closure, AgreesOn, ClosedPiece, ClosedGroup, closed_gap}

@@ -9,8 +9,8 @@ use Rattle.bpaf_exact.specs.Pieces.{Cells, Roles, either, no_roles}
 use Rattle.bpaf_exact.specs.Flat.{ByName, ReadOff}
 use Rattle.bpaf_exact.specs.FlatForm.{FlatForm, FormLaw, Agrees, complete, is_record, not_flat}
 use Rattle.bpaf_exact.specs.FlatForm.{product_roles, product_reading, flat_record, flat_closed}
-use Rattle.bpaf_exact.specs.FlatForm.{flat_optional, flat_choice, flat_alone, flat_both}
-use Rattle.bpaf_exact.specs.FlatForm.{flat_con, flat_fallback, flat_last, flat_repeat, inner_field}
+use Rattle.bpaf_exact.specs.FlatForm.{flat_optional, flat_choice, flat_alone, flat_both, flat_con}
+use Rattle.bpaf_exact.specs.FlatForm.{flat_fallback, flat_last, flat_repeat, inner_field}
 use Rattle.bpaf_exact.specs.FlatForm.{alternative_only, is_product, unless}
 use Rattle.bpaf_exact.specs.Names.{Owns, are_all_apart}
 use Rattle.bpaf_exact.specs.Programs.{CellsValue, CommandValue, ChoiceValue, OptionalCommands}

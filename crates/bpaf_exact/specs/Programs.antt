@@ -14,7 +14,6 @@ use Rattle.bpaf_laws.specs.Reading.{Outcome}
 use Rattle.bpaf_exact.specs.Pieces.{Cells, Role, Foreign, Alone, WithNext, Roles, LinePiece}
 use Rattle.bpaf_exact.specs.Pieces.{is_value, pieces, Apart, IsNamed}
 use Rattle.bpaf_exact.specs.Flat.{OfMemory, OfMissing, class, cells, NonePresent, NoneOutside}
-use Rattle.bpaf_exact.specs.Flat.{GivesAll}
 use Rattle.bpaf_exact.specs.Wrappers.{Closure}
 
 -- which values some cells have
@@ -125,6 +124,11 @@ abbrev pub LeavesToOthers : {V : Type 0} → Roles → CellsValue V → Type 0
 LeavesToOthers {V = V} r value =
     (q : Roles) → IsNamed q → Apart q r → (cs : Cells) (v : V) → AllSpelled cs → value cs v
     → pieces q cs ≡ []
+
+-- the answer is one of these values, with nothing left, or it is want of memory
+abbrev pub GivesAll : {V : Type 0} → (V → Type 0) → Result V Error → Situation → Type 0
+GivesAll value (Ok v) t = value v × NonePresent (cells t)
+GivesAll value (Err e) t = class e ≡ OfMemory
 
 -- The laws of a program, and of commands as the last field of one, with the items that may stand in
 -- it. Where it has a value, each answer is one, with nothing left, or it is want of memory.
