@@ -7,21 +7,21 @@ use Rattle.bpaf_laws.specs.Choice.{ChoiceOutcome}
 use Rattle.bpaf_laws.specs.Product.{BothOutcome, ProductOutcome}
 use Rattle.bpaf_laws.specs.Reading.{Outcome}
 use Rattle.bpaf_laws.specs.Repeat.{LastOutcome}
-use Rattle.bpaf_exact.specs.Pieces.{Roles, no_roles, either}
+use Rattle.bpaf_exact.specs.Pieces.{Roles, no_roles, either, LinePiece}
 use Rattle.bpaf_exact.specs.Names.{Owns, are_all_apart}
 use Rattle.bpaf_exact.specs.Flat.{ErrorClass, Refused, FieldKind, ByName, OneWord, EachWord, Before}
 use Rattle.bpaf_exact.specs.Flat.{FieldLaw, FieldsLaw, both_reading, keys}
-use Rattle.bpaf_exact.specs.Single.{RepeatOutcome, repeated}
+use Rattle.bpaf_exact.specs.Single.{RepeatOutcome, repeated, SingleValue, Groups, Gap, SingleLaw}
 use Rattle.bpaf_exact.specs.Wrappers.{Closure, Decides, map_closure, ClosedEval, OptionalEval}
-use Rattle.bpaf_exact.specs.Wrappers.{FallbackEval}
-use Rattle.bpaf_exact.specs.Gathered.{some_closure}
+use Rattle.bpaf_exact.specs.Wrappers.{FallbackEval, OptionalValue, FallbackValue}
+use Rattle.bpaf_exact.specs.Gathered.{some_closure, LastOf}
 use Rattle.bpaf_exact.specs.FlatForm.{FlatForm, not_flat, alternative, single, complete, product}
 use Rattle.bpaf_exact.specs.FlatForm.{FormLaw, Agrees, only_if, flat_closed, flat_either}
 use Rattle.bpaf_exact.specs.FlatForm.{flat_choice, alternative_only, flat_repeat, flat_last}
 use Rattle.bpaf_exact.specs.FlatForm.{flat_optional, flat_fallback, flat_field, may_follow}
 use Rattle.bpaf_exact.specs.FlatForm.{flat_both, flat_alone, flat_con, flat_record, NamedLaw}
-use Rattle.bpaf_exact.specs.FlatForm.{inner_field, is_named, is_record, made_reading}
-use Rattle.bpaf_exact.specs.FlatForm.{product_reading, product_roles}
+use Rattle.bpaf_exact.specs.FlatForm.{is_named, is_record, made_reading, product_reading}
+use Rattle.bpaf_exact.specs.FlatForm.{product_roles, flat_whole}
 use Rattle.bpaf_exact.specs.Record.{LastValue}
 use Rattle.bpaf_exact.proofs.Names.{foreign_of, apart_of_names, either_owns}
 use Rattle.bpaf_exact.proofs.Alternative.{alternative_single, closed_alternative, closed_single}
@@ -104,21 +104,33 @@ repeated_keys ByName q names o = o
 repeated_keys (OneWord b) q names o = o
 repeated_keys (EachWord b) q names o = o
 
+-- a repeat or default round a field
+flat_whole_law : {T B : Type 0} (inner : Outcome T) (outer : Outcome B)
+    (kind : FieldKind → FieldKind) (value : Groups T → Gap T → List LinePiece → B → Type 0)
+    (names : List Names)
+    → ((k : FieldKind) (q : Roles) → Owns (keys k q) names → Owns (keys (kind k) q) names)
+    → ((k : FieldKind) (q : Roles) (group : Groups T) (gap : Gap T)
+    → SingleLaw T inner k q group gap → FieldLaw B outer (kind k) q (value group gap))
+    → (s : FlatForm T) → FormLaw inner names s → FormLaw outer names (flat_whole kind value s)
+flat_whole_law {T} inner outer kind value names owns law (alternative q each) l =
+    (law ByName q _ _ (alternative_single T inner q each l.0), owns ByName q l.1)
+flat_whole_law inner outer kind value names owns law (single k q group gap) l =
+    (law k q group gap l.0, owns k q l.1)
+flat_whole_law inner outer kind value names owns law _ l = tt
+
 -- what some, collect and count make of the list; a refusal of theirs may be of any class
 pub flat_listed_law : (T B : Type 0) (inner : Outcome T) (idle : Bool) (f : Closure (List T) B)
     (c : ErrorClass) (names : List Names) (s : FlatForm T) → Agrees f (flat_repeat s)
     → FormLaw inner names s
     → FormLaw (ClosedEval (List T) B (RepeatOutcome inner idle) f c) names
     (flat_closed f (flat_repeat s))
-flat_listed_law T B inner idle f c names not_flat g l = tt
-flat_listed_law T B inner idle f c names (alternative q value) g l = let m =
-    repeat_law T inner ByName q _ _ (alternative_single T inner q value l.0) idle in
-    (closed_law (List T) B _ ByName q _ m f g c, l.1)
-flat_listed_law T B inner idle f c names (single k q group gap) g l = let m =
-    repeat_law T inner k q group gap l.0 idle in
-    (closed_law (List T) B _ (repeated k) q _ m f g c, repeated_keys k q names l.1)
-flat_listed_law T B inner idle f c names (complete k q value) g l = tt
-flat_listed_law T B inner idle f c names (product named q fields) g l = tt
+flat_listed_law T B inner idle f c names (alternative q value) g l =
+    (closed_law (List T) B _ ByName q _
+    (repeat_law T inner ByName q _ _ (alternative_single T inner q value l.0) idle) f g c, l.1)
+flat_listed_law T B inner idle f c names (single k q group gap) g l =
+    (closed_law (List T) B _ (repeated k) q _ (repeat_law T inner k q group gap l.0 idle) f g c,
+    repeated_keys k q names l.1)
+flat_listed_law T B inner idle f c names _ g l = tt
 
 -- some needs no premise: of the lists that the same pieces give, all are empty or none is
 pub some_agrees : (T : Type 0) (inner : Outcome T) (names : List Names) (s : FlatForm T)
@@ -133,59 +145,38 @@ some_agrees T inner names (product named q fields) l = tt
 -- the last value
 pub flat_last_law : (T : Type 0) (inner : Outcome T) (names : List Names) (s : FlatForm T)
     → FormLaw inner names s → FormLaw (LastOutcome inner) names (flat_last s)
-flat_last_law T inner names not_flat l = tt
-flat_last_law T inner names (alternative q value) l =
-    (last_of_law T inner ByName q _ _ (alternative_single T inner q value l.0), l.1)
-flat_last_law T inner names (single k q group gap) l =
-    (last_of_law T inner k q group gap l.0, repeated_keys k q names l.1)
-flat_last_law T inner names (complete k q value) l = tt
-flat_last_law T inner names (product named q fields) l = tt
+flat_last_law T inner names =
+    flat_whole_law inner (LastOutcome inner) repeated (LastOf T) names
+    (λ k q. repeated_keys k q names) (last_of_law T inner)
 
 -- what may be left out
 pub flat_optional_law : (T : Type 0) (inner : Outcome T) (names : List Names) (s : FlatForm T)
     → FormLaw inner names s → FormLaw (OptionalEval T inner) names (flat_optional s)
-flat_optional_law T inner names not_flat l = tt
-flat_optional_law T inner names (alternative q value) l =
-    (optional_law T inner ByName q _ _ (alternative_single T inner q value l.0), l.1)
-flat_optional_law T inner names (single k q group gap) l =
-    (optional_law T inner k q group gap l.0, l.1)
-flat_optional_law T inner names (complete k q value) l = tt
-flat_optional_law T inner names (product named q fields) l = tt
+flat_optional_law T inner names =
+    flat_whole_law inner (OptionalEval T inner) (λ k. k) (OptionalValue T) names (λ k q o. o)
+    (optional_law T inner)
 
 -- what has a value that stands for it
 pub flat_fallback_law : (T : Type 0) (inner : Outcome T) (f : Closure (Unit {0}) T) → Decides f
     → (names : List Names) (s : FlatForm T) → FormLaw inner names s
     → FormLaw (FallbackEval T inner f) names (flat_fallback f s)
-flat_fallback_law T inner f decides names not_flat l = tt
-flat_fallback_law T inner f decides names (alternative q value) l =
-    (fallback_law T inner ByName q _ _ (alternative_single T inner q value l.0) f decides, l.1)
-flat_fallback_law T inner f decides names (single k q group gap) l =
-    (fallback_law T inner k q group gap l.0 f decides, l.1)
-flat_fallback_law T inner f decides names (complete k q value) l = tt
-flat_fallback_law T inner f decides names (product named q fields) l = tt
+flat_fallback_law T inner f decides names =
+    flat_whole_law inner (FallbackEval T inner f) (λ k. k)
+    (λ group gap. FallbackValue T group gap f) names (λ k q o. o)
+    (λ k q group gap l. fallback_law T inner k q group gap l f decides)
 
--- Each flat form is a field of a record.
+-- a field of a product, which may be a product of named fields
 pub flat_field_law : (T : Type 0) (outcome : Outcome T) (names : List Names) (s : FlatForm T)
     → FormLaw outcome names s → FormLaw outcome names (flat_field s)
-flat_field_law T outcome names not_flat l = tt
+flat_field_law T outcome names (complete k q value) l = l
+flat_field_law T outcome names (product true q fields) l = (l.2, l.1)
+flat_field_law T outcome names (product false q fields) l = l
 flat_field_law T outcome names (alternative q value) l =
-    (single_law T outcome ByName q _ _ (alternative_single T outcome q value l.0), l.1)
+    flat_whole_law outcome outcome (λ k. k) (SingleValue T) names (λ k q o. o)
+    (single_law T outcome) (alternative q value) l
 flat_field_law T outcome names (single k q group gap) l =
     (single_law T outcome k q group gap l.0, l.1)
-flat_field_law T outcome names (complete k q value) l = l
-flat_field_law T outcome names (product named q fields) l = tt
-
--- so is a product of named fields, in another product
-pub inner_field_law : (T : Type 0) (outcome : Outcome T) (names : List Names) (s : FlatForm T)
-    → FormLaw outcome names s → FormLaw outcome names (inner_field s)
-inner_field_law T outcome names not_flat l = tt
-inner_field_law T outcome names (alternative q value) l =
-    flat_field_law T outcome names (alternative q value) l
-inner_field_law T outcome names (single k q group gap) l =
-    flat_field_law T outcome names (single k q group gap) l
-inner_field_law T outcome names (complete k q value) l = l
-inner_field_law T outcome names (product true q fields) l = (l.2, l.1)
-inner_field_law T outcome names (product false q fields) l = l
+flat_field_law T outcome names not_flat l = tt
 
 -- no is no yes
 nobody : false ≡ true → ⊥
@@ -278,26 +269,13 @@ flat_con_law A B inner makes names (product named q fields) l =
 -- a flat record is a product
 pub flat_record_law : (T : Type 0) (outcome : Outcome T) (names : List Names) (s : FlatForm T)
     → FormLaw outcome names s → FormLaw outcome names (flat_record s)
-flat_record_law T outcome names not_flat l = tt
-flat_record_law T outcome names (alternative q value) l =
-    flat_alone_law T outcome names (flat_field (alternative q value))
-    (flat_field_law T outcome names (alternative q value) l)
-flat_record_law T outcome names (single k q group gap) l =
-    flat_alone_law T outcome names (flat_field (single k q group gap))
-    (flat_field_law T outcome names (single k q group gap) l)
-flat_record_law T outcome names (complete k q value) l =
-    flat_alone_law T outcome names (complete k q value) l
 flat_record_law T outcome names (product named q fields) l = l
+flat_record_law T outcome names s l =
+    flat_alone_law T outcome names (flat_field s) (flat_field_law T outcome names s l)
 
 -- each flat record keeps to the laws of a list of fields
 pub record_law : (T : Type 0) (outcome : Outcome T) (names : List Names) (s : FlatForm T)
     → is_record s ≡ true → FormLaw outcome names s
     → FieldsLaw T outcome (product_roles (flat_record s)) (product_reading (flat_record s))
 record_law T outcome names not_flat h l = absurd cc
-record_law T outcome names (alternative q value) h l =
-    (flat_record_law T outcome names (alternative q value) l).0
-record_law T outcome names (single k q group gap) h l =
-    (flat_record_law T outcome names (single k q group gap) l).0
-record_law T outcome names (complete k q value) h l =
-    (flat_record_law T outcome names (complete k q value) l).0
-record_law T outcome names (product named q fields) h l = l.0
+record_law T outcome names s h l = (flat_record_law T outcome names s l).0

@@ -14,7 +14,7 @@ use Rattle.bpaf_exact.specs.Names.{are_all_apart}
 use Rattle.bpaf_exact.specs.Flat.{FieldsLaw, FieldsReading, FieldKind, ByName, ReadOff}
 use Rattle.bpaf_exact.specs.Single.{Groups, Gap, FrontOf, Own, own_none, own_more, SingleLaw}
 use Rattle.bpaf_exact.specs.Single.{SingleValue, of_group, of_gap, OwnList, listed}
-use Rattle.bpaf_exact.specs.Single.{listed_and_absent, only_absent}
+use Rattle.bpaf_exact.specs.Single.{listed_and_absent, only_absent, repeated}
 use Rattle.bpaf_exact.specs.Wrappers.{Closure, OptionalValue, some_value, no_value, FallbackValue}
 use Rattle.bpaf_exact.specs.Wrappers.{own_value, kept_value}
 use Rattle.bpaf_exact.specs.Gathered.{LastOf, list_closure}
@@ -29,7 +29,7 @@ use Rattle.bpaf_exact.specs.FlatForm.{FormLaw, only_if, flat_closed, flat_either
 use Rattle.bpaf_exact.specs.FlatForm.{alternative_only, flat_repeat, flat_many, flat_last}
 use Rattle.bpaf_exact.specs.FlatForm.{flat_optional, flat_fallback, flat_field, may_follow}
 use Rattle.bpaf_exact.specs.FlatForm.{flat_both, flat_alone, flat_con, flat_record, is_record}
-use Rattle.bpaf_exact.specs.FlatForm.{product_roles, product_reading}
+use Rattle.bpaf_exact.specs.FlatForm.{product_roles, product_reading, flat_whole}
 use Rattle.bpaf_exact.specs.Programs.{ChoiceValue}
 use Rattle.bpaf_exact.specs.ProgramForm.{ProgramForm, no_program, plain, commands, left_out}
 use Rattle.bpaf_exact.specs.ProgramForm.{before_commands, are_words_apart, first_only, flat_form}
@@ -347,64 +347,55 @@ module _ (T X : Type 0) (see : T → X) (inner : Outcome T)
   fallback_value_view f given os v w (kept_value h y) (kept_value i z) = given v w y z
 
 module _ (T X : Type 0) (see : T → X) (inner : Outcome T) where
+  -- a repeat or default round a field, all values of which look alike
+  whole_view : {B Y : Type 0} (look : B → Y) (kind : FieldKind → FieldKind)
+      (value : Groups T → Gap T → List LinePiece → B → Type 0)
+      → ((k : FieldKind) (q : Roles) (group : Groups T) (gap : Gap T)
+      → SingleLaw T inner k q group gap → OneGroup see group → Alike see gap.absent
+      → (os : List LinePiece) → Alike look (value group gap os))
+      → (names : List Names) (s : FlatForm T) → FormLaw inner names s → HasOneView see s
+      → HasOneView look (flat_whole kind value s)
+  whole_view look kind value each names (alternative q one) l u =
+      each ByName q _ _ (alternative_single T inner q one l.0) (front_view T X see one u)
+      (λ v w a b. absurd a)
+  whole_view look kind value each names (single k q group gap) l u =
+      each k q group gap l.0 u.0 u.1
+  whole_view look kind value each names _ l u = tt
+
   -- the list of a repeat
   pub repeat_view : (names : List Names) (s : FlatForm T) → FormLaw inner names s → HasOneView see s
       → HasOneView (map see) (flat_repeat s)
-  repeat_view names not_flat l u = tt
-  repeat_view names (alternative q value) l u =
-      list_view T X see inner ByName q _ _ (alternative_single T inner q value l.0)
-      (front_view T X see value u) (λ v w a b. absurd a)
-  repeat_view names (single k q group gap) l u = list_view T X see inner k q group gap l.0 u.0 u.1
-  repeat_view names (complete k q value) l u = tt
-  repeat_view names (product named q fields) l u = tt
+  repeat_view = whole_view (map see) repeated (OwnList T) (list_view T X see inner)
 
   -- its last value
   pub last_of_view : (names : List Names) (s : FlatForm T) → FormLaw inner names s
       → HasOneView see s
       → HasOneView see (flat_last s)
-  last_of_view names not_flat l u = tt
-  last_of_view names (alternative q value) l u =
-      last_view T X see inner ByName q _ _ (alternative_single T inner q value l.0)
-      (front_view T X see value u) (λ v w a b. absurd a)
-  last_of_view names (single k q group gap) l u = last_view T X see inner k q group gap l.0 u.0 u.1
-  last_of_view names (complete k q value) l u = tt
-  last_of_view names (product named q fields) l u = tt
+  last_of_view = whole_view see repeated (LastOf T) (last_view T X see inner)
 
   -- a field that may be left out
   pub optional_field_view : (names : List Names) (s : FlatForm T) → FormLaw inner names s
       → HasOneView see s → HasOneView (option_map see) (flat_optional s)
-  optional_field_view names not_flat l u = tt
-  optional_field_view names (alternative q value) l u =
-      optional_value_view T X see inner ByName q _ _ (alternative_single T inner q value l.0)
-      (front_view T X see value u) (λ v w a b. absurd a)
-  optional_field_view names (single k q group gap) l u =
-      optional_value_view T X see inner k q group gap l.0 u.0 u.1
-  optional_field_view names (complete k q value) l u = tt
-  optional_field_view names (product named q fields) l u = tt
+  optional_field_view =
+      whole_view (option_map see) (λ k. k) (OptionalValue T) (optional_value_view T X see inner)
 
   -- a field with a default
   pub fallback_view : (f : Closure (Unit {0}) T) → Alike see (λ v. f.yes tt v)
       → (names : List Names) (s : FlatForm T) → FormLaw inner names s → HasOneView see s
       → HasOneView see (flat_fallback f s)
-  fallback_view f given names not_flat l u = tt
-  fallback_view f given names (alternative q value) l u =
-      fallback_value_view T X see inner ByName q _ _ (alternative_single T inner q value l.0)
-      (front_view T X see value u) (λ v w a b. absurd a) f given
-  fallback_view f given names (single k q group gap) l u =
-      fallback_value_view T X see inner k q group gap l.0 u.0 u.1 f given
-  fallback_view f given names (complete k q value) l u = tt
-  fallback_view f given names (product named q fields) l u = tt
+  fallback_view f given =
+      whole_view see (λ k. k) (λ group gap. FallbackValue T group gap f)
+      (λ k q group gap l one absent. fallback_value_view T X see inner k q group gap l one absent f
+      given)
 
   -- any field of a record
   pub field_view : (names : List Names) (s : FlatForm T) → FormLaw inner names s → HasOneView see s
       → HasOneView see (flat_field s)
-  field_view names not_flat l u = tt
-  field_view names (alternative q value) l u =
-      value_view T X see inner ByName q _ _ (alternative_single T inner q value l.0)
-      (front_view T X see value u) (λ v w a b. absurd a)
-  field_view names (single k q group gap) l u = value_view T X see inner k q group gap l.0 u.0 u.1
   field_view names (complete k q value) l u = u
-  field_view names (product named q fields) l u = tt
+  field_view names (product true q fields) l u = u
+  field_view names (product false q fields) l u = u
+  field_view names s l u =
+      whole_view see (λ k. k) (SingleValue T) (value_view T X see inner) names s l u
 
 -- The list of a repeat, as the program keeps it.
 
@@ -452,17 +443,11 @@ module _ (T X : Type 0) (see : T → X) where
   alone_view (product true q fields) u = tt
   alone_view (product false q fields) u = u
 
+  -- a record
   record_view : (inner : Outcome T) (names : List Names) (s : FlatForm T) → FormLaw inner names s
       → HasOneView see s → HasOneView see (flat_record s)
-  record_view inner names not_flat l u = tt
-  record_view inner names (alternative q value) l u =
-      alone_view (flat_field (alternative q value))
-      (field_view T X see inner names (alternative q value) l u)
-  record_view inner names (single k q group gap) l u =
-      alone_view (flat_field (single k q group gap))
-      (field_view T X see inner names (single k q group gap) l u)
-  record_view inner names (complete k q value) l u = alone_view (complete k q value) u
   record_view inner names (product named q fields) l u = u
+  record_view inner names s l u = alone_view (flat_field s) (field_view T X see inner names s l u)
 
   -- the values of a record
   product_view : (s : FlatForm T) → HasOneView see s → (os : List LinePiece)

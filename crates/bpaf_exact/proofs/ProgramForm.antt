@@ -38,7 +38,7 @@ use Rattle.bpaf_exact.proofs.BeforeCommands.{before_law, con_program}
 use Rattle.bpaf_exact.proofs.Commands.{closed_program, closed_commands, optional_commands}
 use Rattle.bpaf_exact.proofs.Commands.{choice_commands, program_sound, program_complete}
 use Rattle.bpaf_exact.proofs.FlatForm.{flat_closed_law, flat_optional_law, flat_choice_law}
-use Rattle.bpaf_exact.proofs.FlatForm.{inner_field_law, flat_alone_law, flat_both_law, flat_con_law}
+use Rattle.bpaf_exact.proofs.FlatForm.{flat_field_law, flat_alone_law, flat_both_law, flat_con_law}
 use Rattle.bpaf_exact.proofs.FlatForm.{flat_record_law, record_law, only_law, never_refuses}
 use Rattle.bpaf_exact.proofs.Narrow.{AllowsNoMore, narrower_form, narrower_gives}
 use Rattle.bpaf_exact.proofs.Names.{apart_of_names, either_owns}
@@ -234,7 +234,7 @@ program_choice_law T a b own others words more _ _ la lb = tt
 pub program_field_law : (T : Type 0) (outcome : Outcome T) (names : List Names)
     (words : List (List ℕ)) (s : ProgramForm T) → ProgramFormLaw outcome names words s
     → ProgramFormLaw outcome names words (program_field s)
-program_field_law T outcome names words (plain wide s) l = inner_field_law T outcome names s l
+program_field_law T outcome names words (plain wide s) l = flat_field_law T outcome names s l
 program_field_law T outcome names words s l = l
 
 -- the last field

@@ -11,7 +11,7 @@ use Rattle.bpaf_exact.specs.Flat.{ByName}
 use Rattle.bpaf_exact.specs.Says.{SaidKind, of_kind, repeated_kind, Said, Says, MadeSays, OneOfSays}
 use Rattle.bpaf_exact.specs.Says.{FormSays, FallbackSays, LastSays, RepeatSays}
 use Rattle.bpaf_exact.specs.FlatForm.{FlatForm, not_flat, alternative, single, complete, product}
-use Rattle.bpaf_exact.specs.FlatForm.{EachAgrees, alternative_only, inner_field, is_product}
+use Rattle.bpaf_exact.specs.FlatForm.{EachAgrees, alternative_only, flat_field, is_product}
 use Rattle.bpaf_exact.specs.FlatForm.{is_record, product_roles, flat_record, unless, flat_fallback}
 use Rattle.bpaf_exact.specs.FlatForm.{flat_closed, flat_last, flat_repeat}
 use Rattle.bpaf_exact.specs.Names.{are_all_apart}
@@ -523,7 +523,7 @@ module _ {P Q R A B : Type 0} (first : R → P) (rest : R → Q) (r : R) (outcom
       by_form (plain wide s) (before_commands u value) (of_pieces said) (of_all_cells more)
           law laws h
           g =
-          before_says said more (wide || is_product s) (inner_field s) u value
+          before_says said more (wide || is_product s) (flat_field s) u value
           (field_owned outcome (names (first r)) s law).by
           (field_says (owned outcome (names (first r)) s law) h) g
       by_form (plain wide s) (before_commands u value) (of_pieces said) (of_all_pieces more)

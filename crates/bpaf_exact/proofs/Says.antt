@@ -11,7 +11,7 @@ use Rattle.bpaf_exact.specs.Flat.{back, both_reading}
 use Rattle.bpaf_exact.specs.Names.{Owns, are_all_apart}
 use Rattle.bpaf_exact.specs.Single.{Groups, Gap, FrontOf, Own, own_none, own_more, OwnList, listed}
 use Rattle.bpaf_exact.specs.Single.{listed_and_absent, only_absent, SingleValue, of_group, of_gap}
-use Rattle.bpaf_exact.specs.Single.{no_gap}
+use Rattle.bpaf_exact.specs.Single.{repeated}
 use Rattle.bpaf_exact.specs.Wrappers.{Closure, OptionalValue, some_value, no_value, FallbackValue}
 use Rattle.bpaf_exact.specs.Wrappers.{own_value, kept_value}
 use Rattle.bpaf_exact.specs.Gathered.{LastOf}
@@ -24,9 +24,9 @@ use Rattle.bpaf_exact.specs.Record.{LastValue}
 use Rattle.bpaf_exact.specs.FlatForm.{FlatForm, FormLaw, not_flat, alternative, single, complete}
 use Rattle.bpaf_exact.specs.FlatForm.{product, only_if, flat_closed, flat_either, flat_choice}
 use Rattle.bpaf_exact.specs.FlatForm.{alternative_only, flat_repeat, flat_last, flat_optional}
-use Rattle.bpaf_exact.specs.FlatForm.{flat_fallback, unless, inner_field, is_named, may_follow}
+use Rattle.bpaf_exact.specs.FlatForm.{flat_fallback, unless, flat_field, is_named, may_follow}
 use Rattle.bpaf_exact.specs.FlatForm.{product_roles, flat_both, flat_alone, flat_con, flat_record}
-use Rattle.bpaf_exact.specs.FlatForm.{product_reading}
+use Rattle.bpaf_exact.specs.FlatForm.{product_reading, flat_whole}
 use Rattle.bpaf_exact.specs.Says.{SaidKind, form_kind, of_kind, keyed, repeated_kind, AllOwn, Fits}
 use Rattle.bpaf_exact.specs.Says.{Said, FlagSays, says_present, says_absent, says_variable}
 use Rattle.bpaf_exact.specs.Says.{ArgumentSays, says_variable_text, says_text, says_last_text}
@@ -313,17 +313,23 @@ module _ {T : Type 0} (said : Said T) (group : Groups T) (gap : Gap T)
   fallback_by f os v (own_value h) = says_own (whole_says os v h)
   fallback_by f [] v (kept_value h m) = says_kept refl m
 
--- an alternative's pieces are read one by one
-module _ {T : Type 0} (said : Said T) (value : LinePiece → T → Type 0)
-    (each : (o : LinePiece) (v : T) → value o v → said (o ∷ []) v) where
-  -- its front
-  abbrev piece_fronts : (os rest : List LinePiece) (v : T) → FrontOf T value os v rest
-      → FrontSays said os v rest
-  piece_fronts = front_says value said each
-
-  -- and it has no absent value
-  no_absent : (v : T) → (no_gap T).absent v → said [] v
-  no_absent v none = absurd none
+-- a repeat or default round a field, of which each value says so
+whole_form_says : {T B : Type 0} (kind : FieldKind → FieldKind) (lift : SaidKind → SaidKind)
+    → ((k : FieldKind) → lift (of_kind k) ≡ of_kind (kind k))
+    → (value : Groups T → Gap T → List LinePiece → B → Type 0) (said : Said T) (whole : Said B)
+    → ((group : Groups T) (gap : Gap T)
+    → ((os rest : List LinePiece) (v : T) → group os v rest → FrontSays said os v rest)
+    → ((v : T) → gap.absent v → said [] v)
+    → (os : List LinePiece) (v : B) → value group gap os v → whole os v)
+    → (names : List Names) (j : SaidKind) (s : FlatForm T) → FormSays names s j said
+    → FormSays names (flat_whole kind value s) (lift j) whole
+whole_form_says kind lift lifts value said whole each names j (alternative q one) h = (
+  ap lift h.0 ∙ lifts ByName,
+  λ os v all. each _ _ (front_says one said h.1) (λ v none. absurd none) os v,
+)
+whole_form_says kind lift lifts value said whole each names j (single k q group gap) h =
+    (ap lift h.0 ∙ lifts k, λ os v all. each group gap h.1 h.2 os v)
+whole_form_says kind lift lifts value said whole each names j _ h = tt
 
 -- own items are those with one of these names
 abbrev pub FormOwns : {T : Type 0} → List Names → FlatForm T → Type 0
@@ -347,78 +353,46 @@ owned outcome names (product named q fields) law = record { by = law.1 }
 -- as a field
 pub field_says : {T : Type 0} {s : FlatForm T} {kind : SaidKind} {names : List Names}
     {said : Said T}
-    → OwnsKeys names s → Says names s kind said → Says names (inner_field s) kind said
+    → OwnsKeys names s → Says names s kind said → Says names (flat_field s) kind said
 field_says {T} {s} {kind} {names} {said} own h = record { by = by_form s own.by h.by }
   where
     by_form : (s : FlatForm T) → FormOwns names s → FormSays names s kind said
-        → FormSays names (inner_field s) kind said
-    by_form not_flat own h = tt
-    by_form (alternative q value) own h = (
-      h.0,
-      λ os v all. whole_says said (FrontOf T value) (no_gap T) (piece_fronts said value h.1)
-          (no_absent said value h.1) os v,
-    )
-    by_form (single k q group gap) own h =
-        (h.0, λ os v all. whole_says said group gap h.1 h.2 os v)
+        → FormSays names (flat_field s) kind said
     by_form (complete k q value) own h = h
     by_form (product true q fields) own h =
         (h.0, λ os v all m. let fit = own_fit q names own os all in h.1 os os v fit fit m refl refl)
     by_form (product false q fields) own h = h
+    by_form s own h =
+        whole_form_says (λ k. k) (λ j. j) (λ k. refl) (SingleValue T) said said (whole_says said)
+        names kind s h
 
 -- under `optional`
 pub optional_says : {T : Type 0} {s : FlatForm T} {kind : SaidKind} {names : List Names}
     {said : Said T}
     → Says names s kind said → Says names (flat_optional s) kind (OptionalSays said)
-optional_says {T} {s} {kind} {names} {said} h = record { by = by_form s h.by }
-  where
-    by_form : (s : FlatForm T) → FormSays names s kind said
-        → FormSays names (flat_optional s) kind (OptionalSays said)
-    by_form not_flat h = tt
-    by_form (alternative q value) h = (
-      h.0,
-      λ os v all. optional_by said (FrontOf T value) (no_gap T) (piece_fronts said value h.1)
-          (no_absent said value h.1) os v,
-    )
-    by_form (single k q group gap) h = (h.0, λ os v all. optional_by said group gap h.1 h.2 os v)
-    by_form (complete k q value) h = tt
-    by_form (product named q fields) h = tt
+optional_says {T} {s} {said = said} h = record {
+  by = whole_form_says (λ k. k) (λ j. j) (λ k. refl) (OptionalValue T) said (OptionalSays said)
+      (optional_by said) _ _ s h.by;
+}
 
 -- under a fallback
 pub fallback_says : {T : Type 0} (f : Closure (Unit {0}) T) {s : FlatForm T} {kind : SaidKind}
     {names : List Names}
     {said : Said T} → Says names s kind said
     → Says names (flat_fallback f s) kind (FallbackSays said (f.yes tt))
-fallback_says {T} f {s} {kind} {names} {said} h = record { by = by_form s h.by }
-  where
-    by_form : (s : FlatForm T) → FormSays names s kind said
-        → FormSays names (flat_fallback f s) kind (FallbackSays said (f.yes tt))
-    by_form not_flat h = tt
-    by_form (alternative q value) h = (
-      h.0,
-      λ os v all. fallback_by said (FrontOf T value) (no_gap T) (piece_fronts said value h.1)
-          (no_absent said value h.1) f os v,
-    )
-    by_form (single k q group gap) h = (h.0, λ os v all. fallback_by said group gap h.1 h.2 f os v)
-    by_form (complete k q value) h = tt
-    by_form (product named q fields) h = tt
+fallback_says {T} f {s} {said = said} h = record {
+  by = whole_form_says (λ k. k) (λ j. j) (λ k. refl) (λ group gap. FallbackValue T group gap f) said
+      (FallbackSays said (f.yes tt))
+      (λ group gap fronts absent. fallback_by said group gap fronts absent f) _ _ s h.by;
+}
 
 -- under a repeat, as a list
 repeat_says : {T : Type 0} {s : FlatForm T} {kind : SaidKind} {names : List Names} {said : Said T}
     → Says names s kind said → Says names (flat_repeat s) (repeated_kind kind) (RepeatSays said)
-repeat_says {T} {s} {kind} {names} {said} h = record { by = by_form s h.by }
-  where
-    by_form : (s : FlatForm T) → FormSays names s kind said
-        → FormSays names (flat_repeat s) (repeated_kind kind) (RepeatSays said)
-    by_form not_flat h = tt
-    by_form (alternative q value) h = (
-      ap repeated_kind h.0,
-      λ os v all. list_says said (FrontOf T value) (no_gap T) (piece_fronts said value h.1)
-          (no_absent said value h.1) os v,
-    )
-    by_form (single k q group gap) h =
-        (ap repeated_kind h.0, λ os v all. list_says said group gap h.1 h.2 os v)
-    by_form (complete k q value) h = tt
-    by_form (product named q fields) h = tt
+repeat_says {T} {s} {said = said} h = record {
+  by = whole_form_says repeated repeated_kind (λ k. refl) (OwnList T) said (RepeatSays said)
+      (list_says said) _ _ s h.by;
+}
 
 -- under `many`, `some`, `collect` or `count`
 pub listed_says : {T B : Type 0} (f : Closure (List T) B) {s : FlatForm T} {kind : SaidKind}
@@ -431,30 +405,14 @@ listed_says f h = closed_says f (repeat_says h)
 pub last_says : {T : Type 0} {s : FlatForm T} {kind : SaidKind} {names : List Names}
     {said : Said T}
     → Says names s kind said → Says names (flat_last s) (repeated_kind kind) (LastSays said)
-last_says {T} {s} {kind} {names} {said} h = record { by = by_form s h.by }
-  where
-    last_by : (group : Groups T) (gap : Gap T)
-        → ((os rest : List LinePiece) (v : T) → group os v rest → FrontSays said os v rest)
-        → ((v : T) → gap.absent v → said [] v) → (os : List LinePiece) (v : T)
-        → LastOf T group gap os v → LastSays said os v
-    last_by group gap fronts absent os v m = record {
-      values = m.list;
-      told = list_says said group gap fronts absent os m.list m.own;
-      is = m.is;
-    }
-
-    by_form : (s : FlatForm T) → FormSays names s kind said
-        → FormSays names (flat_last s) (repeated_kind kind) (LastSays said)
-    by_form not_flat h = tt
-    by_form (alternative q value) h = (
-      ap repeated_kind h.0,
-      λ os v all. last_by (FrontOf T value) (no_gap T) (piece_fronts said value h.1)
-          (no_absent said value h.1) os v,
-    )
-    by_form (single k q group gap) h =
-        (ap repeated_kind h.0, λ os v all. last_by group gap h.1 h.2 os v)
-    by_form (complete k q value) h = tt
-    by_form (product named q fields) h = tt
+last_says {T} {s} {said = said} h = record {
+  by = whole_form_says repeated repeated_kind (λ k. refl) (LastOf T) said (LastSays said)
+      (λ group gap fronts absent os v m. record {
+        values = m.list;
+        told = list_says said group gap fronts absent os m.list m.own;
+        is = m.is;
+      }) _ _ s h.by;
+}
 
 -- without `catch`
 pub unless_says : {T : Type 0} (catch : Bool) {s : FlatForm T} {kind : SaidKind}
@@ -467,7 +425,7 @@ unless_says false h = h
 
 -- also as a field
 pub field_owned : {T : Type 0} (outcome : Outcome T) (names : List Names) (s : FlatForm T)
-    → FormLaw outcome names s → OwnsKeys names (inner_field s)
+    → FormLaw outcome names s → OwnsKeys names (flat_field s)
 field_owned outcome names not_flat law = record { by = tt }
 field_owned outcome names (alternative q value) law = record { by = law.1 }
 field_owned outcome names (single k q group gap) law = record { by = law.1 }
@@ -684,8 +642,8 @@ record_says {T} s {kind} {names} {said} h = by_form s h.by
         → (product_reading (flat_record s)).value os v → said os v
     by_form not_flat h os v fits m = absurd m
     by_form (alternative q value) h os v fits m = all_own ByName q _
-        (λ os v all. whole_says said (FrontOf T value) (no_gap T) (piece_fronts said value h.1)
-        (no_absent said value h.1) os v) os v m
+        (λ os v all. whole_says said _ _ (front_says value said h.1) (λ v none. absurd none) os v)
+        os v m
     by_form (single k q group gap) h os v fits m =
         all_own k q _ (λ os v all. whole_says said group gap h.1 h.2 os v) os v m
     by_form (complete k q value) h os v fits m = all_own k q value h.1 os v m

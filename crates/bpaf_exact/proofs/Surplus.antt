@@ -13,6 +13,7 @@ use Rattle.bpaf_exact.specs.Record.{last_reading}
 use Rattle.bpaf_exact.specs.Leaves.{flag_by, argument_by, word_field}
 use Rattle.bpaf_exact.specs.FlatForm.{FlatForm, not_flat, alternative, single, complete, product}
 use Rattle.bpaf_exact.specs.FlatForm.{flat_closed, flat_optional, flat_fallback, flat_field, unless}
+use Rattle.bpaf_exact.specs.FlatForm.{is_product}
 use Rattle.bpaf_exact.specs.Accepted.{OneByOne, AtMostOne, HasNoSurplus, IsPartOf}
 use Rattle.bpaf_exact.proofs.Alternative.{own_bad}
 
@@ -52,12 +53,12 @@ closed_no_surplus f (complete k q value) h = λ o p os v i. h o p os i.from i.re
 closed_no_surplus f (product named q fields) h = tt
 
 -- a field without a repeat or default has no surplus
-pub field_no_surplus : {T : Type 0} (s : FlatForm T) → HasNoSurplus s → HasNoSurplus (flat_field s)
-field_no_surplus not_flat h = tt
-field_no_surplus {T = T} (alternative q value) h = single_once T _ _ (front_one T value)
-field_no_surplus {T = T} (single k q group gap) h = single_once T group gap h
-field_no_surplus (complete k q value) h = h
-field_no_surplus (product named q fields) h = tt
+pub field_no_surplus : {T : Type 0} (s : FlatForm T) → is_product s ≡ false → HasNoSurplus s
+    → HasNoSurplus (flat_field s)
+field_no_surplus {T = T} (alternative q value) n h = single_once T _ _ (front_one T value)
+field_no_surplus {T = T} (single k q group gap) n h = single_once T group gap h
+field_no_surplus (product named q fields) n h = absurd cc
+field_no_surplus s n h = h
 
 -- nor has what may be left out
 pub optional_no_surplus : {T : Type 0} (s : FlatForm T) → HasNoSurplus s

@@ -343,7 +343,7 @@ switch_twice : ¬ ((both_reading ByName v_roles SwitchValue
     (last_reading (OneWord false) word_roles TextValue)).each (One v_key ∷ One v_key ∷ []))
 switch_twice =
     surplus_occurrence _ _ (One v_key ∷ One v_key ∷ []) SwitchValue
-    (field_no_surplus switch (front_one Bool (FlagValue (exactly true))))
+    (field_no_surplus switch refl (front_one Bool (FlagValue (exactly true))))
     (first_part ByName v_roles SwitchValue (last_reading (OneWord false) word_roles TextValue))
     (One v_key) (One v_key) [] refl
 

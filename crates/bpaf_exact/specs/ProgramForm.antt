@@ -10,7 +10,7 @@ use Rattle.bpaf_exact.specs.Flat.{ByName, ReadOff}
 use Rattle.bpaf_exact.specs.FlatForm.{FlatForm, FormLaw, Agrees, complete, is_record, not_flat}
 use Rattle.bpaf_exact.specs.FlatForm.{product_roles, product_reading, flat_record, flat_closed}
 use Rattle.bpaf_exact.specs.FlatForm.{flat_optional, flat_choice, flat_alone, flat_both, flat_con}
-use Rattle.bpaf_exact.specs.FlatForm.{flat_fallback, flat_last, flat_repeat, inner_field}
+use Rattle.bpaf_exact.specs.FlatForm.{flat_fallback, flat_last, flat_repeat, flat_field}
 use Rattle.bpaf_exact.specs.FlatForm.{alternative_only, is_product, unless}
 use Rattle.bpaf_exact.specs.Names.{Owns, are_all_apart}
 use Rattle.bpaf_exact.specs.Programs.{CellsValue, CommandValue, ChoiceValue, OptionalCommands}
@@ -164,7 +164,7 @@ program_command adjacent apart called s =
 
 -- a field of a product; a product of named fields is a wide one
 abbrev pub program_field : {T : Type 0} → ProgramForm T → ProgramForm T
-program_field (plain wide s) = plain (wide || is_product s) (inner_field s)
+program_field (plain wide s) = plain (wide || is_product s) (flat_field s)
 program_field s = s
 
 -- the last field: commands, or a product that ends in them

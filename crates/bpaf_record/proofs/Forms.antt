@@ -6,7 +6,7 @@ use Rattle.bpaf_exact.specs.Flat.{FieldKind, ByName, OneWord, EachWord}
 use Rattle.bpaf_exact.specs.FlatForm.{FlatForm, not_flat, alternative, single, complete, product}
 use Rattle.bpaf_exact.specs.FlatForm.{alternative_only, flat_alone, flat_both, flat_choice}
 use Rattle.bpaf_exact.specs.FlatForm.{flat_closed, flat_con, flat_either, flat_fallback, flat_last}
-use Rattle.bpaf_exact.specs.FlatForm.{flat_optional, flat_repeat, inner_field, is_named, is_product}
+use Rattle.bpaf_exact.specs.FlatForm.{flat_optional, flat_repeat, flat_field, is_named, is_product}
 use Rattle.bpaf_exact.specs.FlatForm.{is_record, may_follow, only_if, unless}
 use Rattle.bpaf_exact.specs.Names.{are_all_apart}
 use Rattle.bpaf_exact.specs.Single.{repeated}
@@ -102,7 +102,7 @@ product_is (complete k q value) = refl
 product_is (product named q fields) = refl
 
 -- a field of a product
-pub field_is : {T : Type 0} (s : FlatForm T) → field_form (form_of s) ≡ form_of (inner_field s)
+pub field_is : {T : Type 0} (s : FlatForm T) → field_form (form_of s) ≡ form_of (flat_field s)
 field_is not_flat = refl
 field_is (alternative q value) = refl
 field_is (single k q group gap) = refl
