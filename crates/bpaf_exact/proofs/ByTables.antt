@@ -27,10 +27,10 @@ use Rattle.bpaf_exact.specs.Gathered.{list_closure, some_closure, count_closure,
 use Rattle.bpaf_exact.specs.FlatForm.{FlatForm, FormLaw, flat_repeat, flat_many, flat_some}
 use Rattle.bpaf_exact.specs.FlatForm.{flat_count, flat_collect, flat_last, flat_fallback, unless}
 use Rattle.bpaf_exact.proofs.Classes.{memory_class, caught_class, kept_class, stops_at, goes_on}
-use Rattle.bpaf_exact.specs.ProgramForm.{ProgramForm, no_program, plain, commands, left_out}
-use Rattle.bpaf_exact.specs.ProgramForm.{before_commands, ProgramFormLaw, ProgramAgrees}
-use Rattle.bpaf_exact.specs.ProgramForm.{program_closed, program_dressed, program_fallback}
-use Rattle.bpaf_exact.specs.ProgramForm.{program_last, program_optional, program_repeat}
+use Rattle.bpaf_exact.specs.ProgramForm.{ProgramForm, plain, commands, ProgramFormLaw}
+use Rattle.bpaf_exact.specs.ProgramForm.{ProgramAgrees, program_closed, program_dressed}
+use Rattle.bpaf_exact.specs.ProgramForm.{program_fallback, program_last, program_optional}
+use Rattle.bpaf_exact.specs.ProgramForm.{program_repeat}
 use Rattle.bpaf_exact.proofs.Narrow.{AllowsNoMore, narrower_form, no_more}
 use Rattle.bpaf_exact.proofs.ProgramForm.{flat_only_law, narrower_program_form, program_closed_law}
 use Rattle.bpaf_exact.proofs.ProgramForm.{program_dressed_law, program_never_refuses}
@@ -127,7 +127,6 @@ optional_within T inner = no_more by_answer
 pub optional_law : (T : Type 0) (inner : Outcome T) (catch : Bool) (names : List Names)
     (words : List (List ℕ)) (s : ProgramForm T) → ProgramFormLaw inner names words s
     → ProgramFormLaw (TurnOutcome inner catch true) names [] (program_optional catch s)
-optional_law T inner catch names words no_program l = tt
 optional_law T inner true names words (plain wide s) l = tt
 optional_law T inner true names words (commands r value) l = tt
 optional_law T inner false names words (plain wide s) l =
@@ -137,8 +136,7 @@ optional_law T inner false names words (commands r value) l =
     narrower_program_form (Option T) _ _ (optional_within T inner) names []
     (program_optional false (commands r value))
     (program_optional_law T inner names words (commands r value) l)
-optional_law T inner catch names words (left_out r value) l = tt
-optional_law T inner catch names words (before_commands r value) l = tt
+optional_law T inner catch names words _ l = tt
 
 -- Repeats.
 

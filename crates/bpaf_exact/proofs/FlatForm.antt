@@ -37,14 +37,13 @@ use Rattle.bpaf_exact.proofs.Records.{con_law, last_law}
 pub flat_closed_law : (A B : Type 0) (inner : Outcome A) (f : Closure A B) (names : List Names)
     (s : FlatForm A) → Agrees f s → FormLaw inner names s
     → FormLaw (ClosedEval A B inner f Refused) names (flat_closed f s)
-flat_closed_law A B inner f names not_flat g l = tt
 flat_closed_law A B inner f names (alternative q value) g l =
     (closed_alternative A B inner q value l.0 f g, l.1)
 flat_closed_law A B inner f names (single k q group gap) g l =
     (closed_single A B inner k q group gap l.0 f g.0 g.1, l.1)
 flat_closed_law A B inner f names (complete k q value) g l =
     (closed_law A B inner k q value l.0 f g Refused, l.1)
-flat_closed_law A B inner f names (product named q fields) g l = tt
+flat_closed_law A B inner f names _ g l = tt
 
 -- A closure that never refuses agrees with every form: map, count, collect, a constructor.
 pub never_refuses : (A B : Type 0) (f : Closure A B) → ((x : A) → f.no x → ⊥) → (s : FlatForm A)
@@ -53,8 +52,7 @@ never_refuses A B f n not_flat = tt
 never_refuses A B f n (alternative q value) = λ o x y v a b g h. n y h
 never_refuses A B f n (single k q group gap) =
     (λ os rest x y v a b g h. n y h, λ x y v a b g h. n y h)
-never_refuses A B f n (complete k q value) = λ os x y v a b g h. n y h
-never_refuses A B f n (product named q fields) = λ os x y v a b g h. n y h
+never_refuses A B f n _ = λ os x y v a b g h. n y h
 
 -- where a test holds
 if_law : (T : Type 0) (outcome : Outcome T) (names : List Names) (s : FlatForm T) (b : Bool)
@@ -71,14 +69,7 @@ flat_either_law T a b own others (alternative q x) (alternative r y) h la lb = (
       (apart_of_names q r own others la.1 lb.1 h),
   either_owns q r own others la.1 lb.1,
 )
-flat_either_law T a b own others (alternative q x) not_flat h la lb = tt
-flat_either_law T a b own others (alternative q x) (single k r g i) h la lb = tt
-flat_either_law T a b own others (alternative q x) (complete k r v) h la lb = tt
-flat_either_law T a b own others (alternative q x) (product named r v) h la lb = tt
-flat_either_law T a b own others not_flat t h la lb = tt
-flat_either_law T a b own others (single k q g i) t h la lb = tt
-flat_either_law T a b own others (complete k q v) t h la lb = tt
-flat_either_law T a b own others (product named q v) t h la lb = tt
+flat_either_law T a b own others _ _ h la lb = tt
 
 -- the same, where the keys are apart
 pub flat_choice_law : (T : Type 0) (a b : Outcome T) (own others : List Names) (s t : FlatForm T)
@@ -91,11 +82,8 @@ flat_choice_law T a b own others s t la lb =
 -- an alternative alone
 pub only_law : (T : Type 0) (outcome : Outcome T) (names : List Names) (s : FlatForm T)
     → FormLaw outcome names s → FormLaw outcome names (alternative_only s)
-only_law T outcome names not_flat l = tt
 only_law T outcome names (alternative q value) l = l
-only_law T outcome names (single k q group gap) l = tt
-only_law T outcome names (complete k q value) l = tt
-only_law T outcome names (product named q fields) l = tt
+only_law T outcome names _ l = tt
 
 -- a repeat has the keys of the field
 repeated_keys : (k : FieldKind) (q : Roles) (names : List Names) → Owns (keys k q) names
@@ -135,12 +123,10 @@ flat_listed_law T B inner idle f c names _ g l = tt
 -- some needs no premise: of the lists that the same pieces give, all are empty or none is
 pub some_agrees : (T : Type 0) (inner : Outcome T) (names : List Names) (s : FlatForm T)
     → FormLaw inner names s → Agrees (some_closure T) (flat_repeat s)
-some_agrees T inner names not_flat l = tt
 some_agrees T inner names (alternative q value) l =
     some_agrees_on T inner ByName q _ _ (alternative_single T inner q value l.0)
 some_agrees T inner names (single k q group gap) l = some_agrees_on T inner k q group gap l.0
-some_agrees T inner names (complete k q value) l = tt
-some_agrees T inner names (product named q fields) l = tt
+some_agrees T inner names _ l = tt
 
 -- the last value
 pub flat_last_law : (T : Type 0) (inner : Outcome T) (names : List Names) (s : FlatForm T)
@@ -168,15 +154,14 @@ flat_fallback_law T inner f decides names =
 -- a field of a product, which may be a product of named fields
 pub flat_field_law : (T : Type 0) (outcome : Outcome T) (names : List Names) (s : FlatForm T)
     → FormLaw outcome names s → FormLaw outcome names (flat_field s)
-flat_field_law T outcome names (complete k q value) l = l
 flat_field_law T outcome names (product true q fields) l = (l.2, l.1)
-flat_field_law T outcome names (product false q fields) l = l
 flat_field_law T outcome names (alternative q value) l =
     flat_whole_law outcome outcome (λ k. k) (SingleValue T) names (λ k q o. o)
     (single_law T outcome) (alternative q value) l
 flat_field_law T outcome names (single k q group gap) l =
     (single_law T outcome k q group gap l.0, l.1)
 flat_field_law T outcome names not_flat l = tt
+flat_field_law T outcome names _ l = l
 
 -- no is no yes
 nobody : false ≡ true → ⊥
@@ -215,14 +200,7 @@ flat_both_law A B first rest own others (complete k q fv) (product named r field
     by_names ByName false l m apart = tt
     by_names (OneWord z) all l m apart = tt
     by_names (EachWord z) all l m apart = tt
-flat_both_law A B first rest own others (complete k q fv) not_flat la lb = tt
-flat_both_law A B first rest own others (complete k q fv) (alternative r v) la lb = tt
-flat_both_law A B first rest own others (complete k q fv) (single j r g h) la lb = tt
-flat_both_law A B first rest own others (complete k q fv) (complete j r v) la lb = tt
-flat_both_law A B first rest own others not_flat t la lb = tt
-flat_both_law A B first rest own others (alternative q v) t la lb = tt
-flat_both_law A B first rest own others (single k q g h) t la lb = tt
-flat_both_law A B first rest own others (product named q v) t la lb = tt
+flat_both_law A B first rest own others _ _ la lb = tt
 
 -- no item without a key
 pub no_names : Owns no_roles []
@@ -231,9 +209,6 @@ no_names = record { own = λ k e. absurd cc }
 -- the last field, or one alone
 pub flat_alone_law : (T : Type 0) (outcome : Outcome T) (names : List Names) (s : FlatForm T)
     → FormLaw outcome names s → FormLaw outcome names (flat_alone s)
-flat_alone_law T outcome names not_flat l = tt
-flat_alone_law T outcome names (alternative q value) l = tt
-flat_alone_law T outcome names (single k q group gap) l = tt
 flat_alone_law T outcome names (complete k q value) l = (
   last_law T outcome k q value l.0,
   subst (Owns (either (keys k q) no_roles)) (append-nil names)
@@ -246,17 +221,13 @@ flat_alone_law T outcome names (complete k q value) l = (
     by_name ByName l = named_last_law T outcome q value l
     by_name (OneWord z) l = tt
     by_name (EachWord z) l = tt
-flat_alone_law T outcome names (product true q fields) l = tt
 flat_alone_law T outcome names (product false q fields) l = l
+flat_alone_law T outcome names _ l = tt
 
 -- the constructor of a product
 pub flat_con_law : (A B : Type 0) (inner : Outcome A) (makes : A → B → Type 0)
     (names : List Names) (s : FlatForm A) → FormLaw inner names s
     → FormLaw (ProductOutcome inner makes) names (flat_con (map_closure makes) s)
-flat_con_law A B inner makes names not_flat l = tt
-flat_con_law A B inner makes names (alternative q value) l = tt
-flat_con_law A B inner makes names (single k q group gap) l = tt
-flat_con_law A B inner makes names (complete k q value) l = tt
 flat_con_law A B inner makes names (product named q fields) l =
     (con_law A B inner makes q fields l.0, l.1, by_name named l.2)
   where
@@ -265,6 +236,7 @@ flat_con_law A B inner makes names (product named q fields) l =
         (made_reading (map_closure makes) fields).value
     by_name true l = named_con_law A B inner makes q fields.value l
     by_name false l = tt
+flat_con_law A B inner makes names _ l = tt
 
 -- a flat record is a product
 pub flat_record_law : (T : Type 0) (outcome : Outcome T) (names : List Names) (s : FlatForm T)

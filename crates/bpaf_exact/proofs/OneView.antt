@@ -24,16 +24,16 @@ use Rattle.bpaf_exact.specs.Leaves.{SideValue, argument_by, argument_field, argu
 use Rattle.bpaf_exact.specs.Leaves.{variable_argument, word_by, word_field}
 use Rattle.bpaf_exact.specs.Record.{RunAnswer, Accepted, NoMemory, Refusal, RecordValue, IsExact}
 use Rattle.bpaf_exact.specs.Record.{line_cells}
-use Rattle.bpaf_exact.specs.FlatForm.{FlatForm, not_flat, alternative, single, complete, product}
-use Rattle.bpaf_exact.specs.FlatForm.{FormLaw, only_if, flat_closed, flat_either, flat_choice}
+use Rattle.bpaf_exact.specs.FlatForm.{FlatForm, alternative, single, complete, product, FormLaw}
+use Rattle.bpaf_exact.specs.FlatForm.{only_if, flat_closed, flat_either, flat_choice}
 use Rattle.bpaf_exact.specs.FlatForm.{alternative_only, flat_repeat, flat_many, flat_last}
 use Rattle.bpaf_exact.specs.FlatForm.{flat_optional, flat_fallback, flat_field, may_follow}
 use Rattle.bpaf_exact.specs.FlatForm.{flat_both, flat_alone, flat_con, flat_record, is_record}
 use Rattle.bpaf_exact.specs.FlatForm.{product_roles, product_reading, flat_whole}
 use Rattle.bpaf_exact.specs.Programs.{ChoiceValue}
-use Rattle.bpaf_exact.specs.ProgramForm.{ProgramForm, no_program, plain, commands, left_out}
-use Rattle.bpaf_exact.specs.ProgramForm.{before_commands, are_words_apart, first_only, flat_form}
-use Rattle.bpaf_exact.specs.ProgramForm.{program_choice, program_choices, program_if, program_rest}
+use Rattle.bpaf_exact.specs.ProgramForm.{ProgramForm, plain, commands, are_words_apart, first_only}
+use Rattle.bpaf_exact.specs.ProgramForm.{flat_form, program_choice, program_choices, program_if}
+use Rattle.bpaf_exact.specs.ProgramForm.{program_rest}
 use Rattle.bpaf_exact.specs.OneView.{Alike, OneGroup, HasOneView, Respects, pair_view, LooksLike}
 use Rattle.bpaf_exact.specs.OneView.{RunsToOne}
 use Rattle.bpaf_exact.proofs.Alternative.{alternative_single}
@@ -48,7 +48,6 @@ module _ (A B X Y : Type 0) (see : A → X) (look : B → Y) (f : Closure A B)
     (respects : Respects A B X Y see look f) where
   -- What a closure that can't tell apart what looks alike makes of such values looks alike again.
   pub closed_view : (s : FlatForm A) → HasOneView see s → HasOneView look (flat_closed f s)
-  closed_view not_flat u = tt
   closed_view (alternative q value) u =
       λ o v w a b. respects.same a.from b.from v w (u o a.from b.from a.read b.read) a.made b.made
   closed_view (single k q group gap) u = (
@@ -58,16 +57,13 @@ module _ (A B X Y : Type 0) (see : A → X) (look : B → Y) (f : Closure A B)
   )
   closed_view (complete k q value) u =
       λ os v w a b. respects.same a.from b.from v w (u os a.from b.from a.read b.read) a.made b.made
-  closed_view (product named q fields) u = tt
+  closed_view _ u = tt
 
   -- what a constructor makes of values that look alike looks alike
   pub con_view : (s : FlatForm A) → HasOneView see s → HasOneView look (flat_con f s)
-  con_view not_flat u = tt
-  con_view (alternative q value) u = tt
-  con_view (single k q group gap) u = tt
-  con_view (complete k q value) u = tt
   con_view (product named q fields) u =
       λ os v w a b. respects.same a.from b.from v w (u os a.from b.from a.read b.read) a.made b.made
+  con_view _ u = tt
 
 -- Leaves.
 
@@ -183,14 +179,7 @@ either_view : (T X : Type 0) (see : T → X) (s t : FlatForm T) → HasOneView s
     → HasOneView see (flat_either s t)
 either_view T X see (alternative q a) (alternative r b) u n =
     λ o. pick_view see (is_own q o) (a o) (b o) (u o) (n o)
-either_view T X see (alternative q a) not_flat u n = tt
-either_view T X see (alternative q a) (single k r g h) u n = tt
-either_view T X see (alternative q a) (complete k r v) u n = tt
-either_view T X see (alternative q a) (product named r v) u n = tt
-either_view T X see not_flat t u n = tt
-either_view T X see (single k q g i) t u n = tt
-either_view T X see (complete k q v) t u n = tt
-either_view T X see (product named q v) t u n = tt
+either_view T X see _ _ u n = tt
 
 -- the same, where the keys are apart
 pub choice_view : (T X : Type 0) (see : T → X) (own others : List Names) (s t : FlatForm T)
@@ -201,11 +190,8 @@ choice_view T X see own others s t u n =
 -- an alternative alone
 only_view : (T X : Type 0) (see : T → X) (s : FlatForm T) → HasOneView see s
     → HasOneView see (alternative_only s)
-only_view T X see not_flat u = tt
 only_view T X see (alternative q value) u = u
-only_view T X see (single k q group gap) u = tt
-only_view T X see (complete k q value) u = tt
-only_view T X see (product named q fields) u = tt
+only_view T X see _ u = tt
 
 module _ (P T X : Type 0) (see : T → X) (keys : P → List Names) (words : P → List (List ℕ))
     (form : P → ProgramForm T) (each : (p : P) → HasOneView see (flat_form (form p))) where
@@ -239,12 +225,8 @@ module _ (P T X : Type 0) (see : T → X) (keys : P → List Names) (words : P �
   -- the first of them
   first_view : (s : ProgramForm T) → HasOneView see (flat_form s)
       → HasOneView see (flat_form (first_only s))
-  first_view no_program u = tt
-  first_view (plain true s) u = tt
   first_view (plain false s) u = only_view T X see s u
-  first_view (commands r value) u = tt
-  first_view (left_out r value) u = tt
-  first_view (before_commands r value) u = tt
+  first_view _ u = tt
 
   -- a choice of any number of parsers
   pub choices_view : (ps : List P)
@@ -424,24 +406,14 @@ both_view A B X Y see look own others (complete k q fv) (product named r rv) u n
     if_view (A × B) (X × Y) (pair_view see look) _ (may_follow k own others)
     (λ os v w a b. let d = u _ v.0 w.0 a.0 b.0 in let e = n _ v.1 w.1 a.1 b.1 in
     λ i. (d i, e i))
-both_view A B X Y see look own others (complete k q fv) not_flat u n = tt
-both_view A B X Y see look own others (complete k q fv) (alternative r v) u n = tt
-both_view A B X Y see look own others (complete k q fv) (single j r g h) u n = tt
-both_view A B X Y see look own others (complete k q fv) (complete j r v) u n = tt
-both_view A B X Y see look own others not_flat t u n = tt
-both_view A B X Y see look own others (alternative q v) t u n = tt
-both_view A B X Y see look own others (single k q g h) t u n = tt
-both_view A B X Y see look own others (product named q v) t u n = tt
+both_view A B X Y see look own others _ _ u n = tt
 
 module _ (T X : Type 0) (see : T → X) where
   -- the last field
   pub alone_view : (s : FlatForm T) → HasOneView see s → HasOneView see (flat_alone s)
-  alone_view not_flat u = tt
-  alone_view (alternative q value) u = tt
-  alone_view (single k q group gap) u = tt
   alone_view (complete k q value) u = λ os v w a b. u _ v w a.read b.read
-  alone_view (product true q fields) u = tt
   alone_view (product false q fields) u = u
+  alone_view _ u = tt
 
   -- a record
   record_view : (inner : Outcome T) (names : List Names) (s : FlatForm T) → FormLaw inner names s
@@ -452,11 +424,8 @@ module _ (T X : Type 0) (see : T → X) where
   -- the values of a record
   product_view : (s : FlatForm T) → HasOneView see s → (os : List LinePiece)
       → Alike see ((product_reading s).value os)
-  product_view not_flat u os v w a b = absurd a
-  product_view (alternative q value) u os v w a b = absurd a
-  product_view (single k q group gap) u os v w a b = absurd a
-  product_view (complete k q value) u os v w a b = absurd a
   product_view (product named q fields) u os v w a b = u os v w a b
+  product_view _ u os v w a b = absurd a
 
   -- an exact answer looks like each value of the record
   like_this : (inner : Outcome T) (r : Roles) (reading : FieldsReading T) (context : Context)

@@ -18,9 +18,8 @@ use Rattle.bpaf_laws.specs.Product.{BothOutcome, ProductOutcome}
 use Rattle.bpaf_laws.specs.Reading.{Outcome}
 use Rattle.bpaf_exact.specs.Pieces.{Roles}
 use Rattle.bpaf_exact.specs.Flat.{Refused, ByName, cells}
-use Rattle.bpaf_exact.specs.FlatForm.{FlatForm, FormLaw, not_flat, alternative, single, complete}
-use Rattle.bpaf_exact.specs.FlatForm.{product, is_record, product_roles, product_reading}
-use Rattle.bpaf_exact.specs.FlatForm.{flat_record, EachAgrees}
+use Rattle.bpaf_exact.specs.FlatForm.{FlatForm, FormLaw, not_flat, complete, is_record}
+use Rattle.bpaf_exact.specs.FlatForm.{product_roles, product_reading, flat_record, EachAgrees}
 use Rattle.bpaf_exact.specs.Names.{Owns, are_all_apart}
 use Rattle.bpaf_exact.specs.Record.{line_cells, RunAnswer, Accepted, RunRan, IsAcceptedOrWant}
 use Rattle.bpaf_exact.specs.ProgramForm.{ProgramForm, no_program, plain, commands, left_out}
@@ -56,10 +55,7 @@ pub record_owns : (T : Type 0) (outcome : Outcome T) (names : List Names) (s : F
     → is_record s ≡ true → FormLaw outcome names (flat_record s)
     → Owns (product_roles (flat_record s)) names
 record_owns T outcome names not_flat h l = absurd cc
-record_owns T outcome names (alternative q value) h l = l.1
-record_owns T outcome names (single k q group gap) h l = l.1
-record_owns T outcome names (complete k q value) h l = l.1
-record_owns T outcome names (product named q fields) h l = l.1
+record_owns T outcome names _ h l = l.1
 
 -- a whole program
 whole_program_law : (T : Type 0) (outcome : Outcome T) (names : List Names)
@@ -74,8 +70,7 @@ whole_program_law T outcome names words (plain wide s) l =
       record_owns T outcome names s h (flat_record_law T outcome names s l),
     ))
 whole_program_law T outcome names words (commands r value) l = (l.0.program, l.1)
-whole_program_law T outcome names words (left_out r value) l = l
-whole_program_law T outcome names words (before_commands r value) l = l
+whole_program_law T outcome names words _ l = l
 
 -- a command that opens a program
 opened_form_law : (T : Type 0) (inner : Outcome T) (called : Called) (names : List Names)
@@ -85,10 +80,7 @@ opened_form_law : (T : Type 0) (inner : Outcome T) (called : Called) (names : Li
 opened_form_law T inner called names words (before_commands r value) l =
     program_if_law T (CommandEval T inner called) names (opening_words called) _
     (are_plain (opening_words called)) (λ h. (command_law T inner r value l.0 called h, l.1))
-opened_form_law T inner called names words no_program l = tt
-opened_form_law T inner called names words (plain wide s) l = tt
-opened_form_law T inner called names words (commands r value) l = tt
-opened_form_law T inner called names words (left_out r value) l = tt
+opened_form_law T inner called names words _ l = tt
 
 -- a command
 pub program_command_law : (T : Type 0) (inner : Outcome T) (apart : Bool) (called : Called)
@@ -107,54 +99,45 @@ pub flat_only_law : {A B : Type 0} (inner : Outcome A) (outcome : Outcome B) (na
     → ((s : FlatForm A) → FormLaw inner names s → FormLaw outcome names (g s))
     → (s : ProgramForm A) → ProgramFormLaw inner names words s
     → ProgramFormLaw outcome names more (flat_only g s)
-flat_only_law inner outcome names words more g law no_program l = tt
 flat_only_law inner outcome names words more g law (plain wide s) l = law s l
-flat_only_law inner outcome names words more g law (commands r value) l = tt
-flat_only_law inner outcome names words more g law (left_out r value) l = tt
-flat_only_law inner outcome names words more g law (before_commands r value) l = tt
+flat_only_law inner outcome names words more g law _ l = tt
 
 -- another look
 pub program_dressed_law : (T : Type 0) (outcome : Outcome T) (names : List Names)
     (words : List (List ℕ)) (s : ProgramForm T) → ProgramFormLaw outcome names words s
     → ProgramFormLaw outcome names words (program_dressed s)
 program_dressed_law T outcome names words no_program l = tt
-program_dressed_law T outcome names words (plain wide s) l = l
-program_dressed_law T outcome names words (commands r value) l = l
-program_dressed_law T outcome names words (left_out r value) l = l
 program_dressed_law T outcome names words (before_commands r value) l = tt
+program_dressed_law T outcome names words _ l = l
 
 -- a closure
 pub program_closed_law : (A B : Type 0) (inner : Outcome A) (f : Closure A B) (names : List Names)
     (words : List (List ℕ)) (s : ProgramForm A) → ProgramAgrees f s
     → ProgramFormLaw inner names words s
     → ProgramFormLaw (ClosedEval A B inner f Refused) names words (program_closed f s)
-program_closed_law A B inner f names words no_program g l = tt
 program_closed_law A B inner f names words (plain wide s) g l = flat_closed_law A B inner f names s g l
 program_closed_law A B inner f names words (commands r value) g l =
     (closed_commands A B inner r value f g Refused words l.0, l.1)
 program_closed_law A B inner f names words (left_out r value) g l =
     (closed_program A B inner r value f g Refused l.0, l.1)
-program_closed_law A B inner f names words (before_commands r value) g l = tt
+program_closed_law A B inner f names words _ g l = tt
 
 -- one that never refuses has no premise
 pub program_never_refuses : (A B : Type 0) (f : Closure A B) → ((x : A) → ¬ (f.no x))
     → (s : ProgramForm A) → ProgramAgrees f s
-program_never_refuses A B f n no_program = tt
 program_never_refuses A B f n (plain wide s) = never_refuses A B f n s
 program_never_refuses A B f n (commands r value) = λ cs x y v a b yes no. n y no
 program_never_refuses A B f n (left_out r value) = λ cs x y v a b yes no. n y no
-program_never_refuses A B f n (before_commands r value) = tt
+program_never_refuses A B f n _ = tt
 
 -- what may be left out
 pub program_optional_law : (T : Type 0) (inner : Outcome T) (names : List Names)
     (words : List (List ℕ)) (s : ProgramForm T) → ProgramFormLaw inner names words s
     → ProgramFormLaw (OptionalEval T inner) names [] (program_optional false s)
-program_optional_law T inner names words no_program l = tt
 program_optional_law T inner names words (plain wide s) l = flat_optional_law T inner names s l
 program_optional_law T inner names words (commands r value) l =
     (optional_commands T inner r words value l.0, l.1)
-program_optional_law T inner names words (left_out r value) l = tt
-program_optional_law T inner names words (before_commands r value) l = tt
+program_optional_law T inner names words _ l = tt
 
 -- a word that an item is, is one of the words of which it is one
 among : (words : List (List ℕ)) (k : Arg) → is_one_of words k ≡ true
@@ -244,8 +227,7 @@ pub program_alone_law : (T : Type 0) (outcome : Outcome T) (names : List Names)
 program_alone_law T outcome names words no_program l = tt
 program_alone_law T outcome names words (plain wide s) l = flat_alone_law T outcome names s l
 program_alone_law T outcome names words (commands r value) l = (l.0.program, l.1)
-program_alone_law T outcome names words (left_out r value) l = l
-program_alone_law T outcome names words (before_commands r value) l = l
+program_alone_law T outcome names words _ l = l
 
 -- a field before others
 pub program_both_law : (A B : Type 0) (first : Outcome A) (rest : Outcome B)
@@ -268,12 +250,10 @@ program_both_law A B first rest own others words _ _ la lb = tt
 pub program_con_law : (A B : Type 0) (inner : Outcome A) (makes : A → B → Type 0)
     (names : List Names) (s : ProgramForm A) → ProgramFormLaw inner names [] s
     → ProgramFormLaw (ProductOutcome inner makes) names [] (program_con (map_closure makes) s)
-program_con_law A B inner makes names no_program l = tt
 program_con_law A B inner makes names (plain wide s) l = flat_con_law A B inner makes names s l
-program_con_law A B inner makes names (commands r value) l = tt
-program_con_law A B inner makes names (left_out r value) l = tt
 program_con_law A B inner makes names (before_commands r value) l =
     (con_program A B inner makes r value l.0, l.1)
+program_con_law A B inner makes names _ l = tt
 
 -- a program keeps to the laws of one
 program_law : (T : Type 0) (outcome : Outcome T) (names : List Names) (words : List (List ℕ))
@@ -284,8 +264,7 @@ program_law T outcome names words (plain wide s) h l =
     record_program T outcome (product_roles (flat_record s)) (product_reading (flat_record s))
     (record_law T outcome names s h l)
 program_law T outcome names words (commands r value) h l = l.0.program
-program_law T outcome names words (left_out r value) h l = l.0
-program_law T outcome names words (before_commands r value) h l = l.0
+program_law T outcome names words _ h l = l.0
 
 -- THE THEOREM: on every line, spelled by words, an answer of a run of a program is a value only
 -- where that is one of the program's; and where it has a value, it is one, or want of memory.
@@ -338,11 +317,9 @@ narrower_program_form T a b n names words (before_commands r value) l =
 first_only_law : (T : Type 0) (outcome : Outcome T) (names : List Names) (words : List (List ℕ))
     (s : ProgramForm T) → ProgramFormLaw outcome names words s
     → ProgramFormLaw outcome names words (first_only s)
-first_only_law T outcome names words no_program l = tt
 first_only_law T outcome names words (plain wide s) l = only_law T outcome names s l
 first_only_law T outcome names words (commands r value) l = l
-first_only_law T outcome names words (left_out r value) l = tt
-first_only_law T outcome names words (before_commands r value) l = tt
+first_only_law T outcome names words _ l = tt
 
 -- what all parsers of a list have, behind what stands before
 abbrev all_behind : {P X : Type 0} → (P → List X) → List X → List P → List X
@@ -392,9 +369,5 @@ module _ (P T : Type 0) (outcome : P → Outcome T) (keys : P → List Names)
 pub flat_form_law : (T : Type 0) (outcome : Outcome T) (names : List Names)
     (words : List (List ℕ)) (s : ProgramForm T) → ProgramFormLaw outcome names words s
     → FormLaw outcome names (flat_form s)
-flat_form_law T outcome names words no_program l = tt
-flat_form_law T outcome names words (plain true s) l = tt
 flat_form_law T outcome names words (plain false s) l = l
-flat_form_law T outcome names words (commands r value) l = tt
-flat_form_law T outcome names words (left_out r value) l = tt
-flat_form_law T outcome names words (before_commands r value) l = tt
+flat_form_law T outcome names words _ l = tt

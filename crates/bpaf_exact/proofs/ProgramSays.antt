@@ -66,12 +66,9 @@ module _ {P Q A B : Type 0} (inside : Q → P) (q : Q) where
       by_form : (s : ProgramForm A) (said : ProgramSaid P A)
           → ProgramFormSays names s kind said (inside q)
           → ProgramFormSays names (flat_only g s) outer (said_flat inside pieces said) q
-      by_form no_program said h = tt
       by_form (plain wide s) (of_pieces said) h = each s (said (inside q)) h
       by_form (plain wide s) (of_cells said) h = absurd h
-      by_form (commands r value) said h = tt
-      by_form (left_out r value) said h = tt
-      by_form (before_commands r value) said h = tt
+      by_form _ said h = tt
 
   -- a closure
   pub program_closed_says : {s : ProgramForm A} {said : ProgramSaid P A} {kind : SaidKind}
@@ -90,14 +87,13 @@ module _ {P Q A B : Type 0} (inside : Q → P) (q : Q) where
           → ProgramFormSays names s kind said (inside q)
           → ProgramFormSays names (program_closed (f q) s) kind
           (said_closed inside f said) q
-      by_form no_program said h = tt
       by_form (plain wide s) (of_pieces said) h = closed_says (f q) h
       by_form (plain wide s) (of_cells said) h = absurd h
       by_form (commands r value) (of_pieces said) h = absurd h
       by_form (commands r value) (of_cells said) h = made value (said (inside q)) h
       by_form (left_out r value) (of_pieces said) h = absurd h
       by_form (left_out r value) (of_cells said) h = made value (said (inside q)) h
-      by_form (before_commands r value) said h = tt
+      by_form _ said h = tt
 
 -- what is made of a repeat
 pub program_repeat_says : {P Q T B : Type 0} (inside : Q → P) (q : Q) (catch : Bool)
@@ -142,14 +138,13 @@ module _ {P Q T : Type 0} (inside : Q → P) (q : Q) where
           → ProgramFormSays names s kind said (inside q)
           → ProgramFormSays names (program_dressed s) kind
           (said_dressed inside said) q
-      by_form no_program said h = tt
       by_form (plain wide s) (of_pieces said) h = h
       by_form (plain wide s) (of_cells said) h = absurd h
       by_form (commands r value) (of_pieces said) h = absurd h
       by_form (commands r value) (of_cells said) h = h
       by_form (left_out r value) (of_pieces said) h = absurd h
       by_form (left_out r value) (of_cells said) h = h
-      by_form (before_commands r value) said h = tt
+      by_form _ said h = tt
 
   -- what may be left out
   pub program_optional_says : {s : ProgramForm T} {said : ProgramSaid P T} {kind : SaidKind}
@@ -168,14 +163,12 @@ module _ {P Q T : Type 0} (inside : Q → P) (q : Q) where
           → ProgramFormSays names s kind said (inside q)
           → ProgramFormSays names (program_optional catch s) kind
           (said_optional inside said) q
-      by_form no_program said h = tt
       by_form (plain wide s) (of_pieces said) h = unless_says catch (optional_says h)
       by_form (plain wide s) (of_cells said) h = absurd h
       by_form (commands r value) (of_pieces said) h = absurd h
       by_form (commands r value) (of_cells said) h =
           if_says names (not catch) _ kind _ q (λ on. optional value (said (inside q)) h)
-      by_form (left_out r value) said h = tt
-      by_form (before_commands r value) said h = tt
+      by_form _ said h = tt
 
   -- a value of a whole program says so of the cells
   whole_says : (outcome : Outcome T) (names : List Names) (words : List (List ℕ))
@@ -195,13 +188,10 @@ module _ {P Q T : Type 0} (inside : Q → P) (q : Q) where
             read.read;
       }
   whole_says outcome names words (plain wide s) kind (of_cells said) p law h is = absurd h
-  whole_says outcome names words (commands r value) kind (of_pieces said) p law h is = absurd h
   whole_says outcome names words (commands r value) kind (of_cells said) p law h is = h
-  whole_says outcome names words (left_out r value) kind (of_pieces said) p law h is = absurd h
   whole_says outcome names words (left_out r value) kind (of_cells said) p law h is = h
-  whole_says outcome names words (before_commands r value) kind (of_pieces said) p law h is =
-      absurd h
   whole_says outcome names words (before_commands r value) kind (of_cells said) p law h is = h
+  whole_says outcome names words _ kind (of_pieces said) p law h is = absurd h
 
   -- a command
   pub program_command_says : (outcome : Outcome T) (words : List (List ℕ)) {s : ProgramForm T}
@@ -349,7 +339,6 @@ module _ {P Q T : Type 0} (keys : P → List Names) (words : P → List (List �
           → ProgramFormSays (keys p) s (kind p) (of_pieces says) p
           → ((os : List LinePiece) (v : T) → says p os v → said q os v)
           → ProgramFormSays names (first_only s) (of_kind ByName) (of_pieces said) q
-      first_pieces said p no_program h into = tt
       first_pieces said p (plain wide s) h into =
           record { by = by_flat s (by_name (keys p) s (kind p) (says p) h.by) }
         where
@@ -362,8 +351,7 @@ module _ {P Q T : Type 0} (keys : P → List Names) (words : P → List (List �
           by_flat (complete k r value) h = tt
           by_flat (product named r fields) h = tt
       first_pieces said p (commands r value) h into = absurd h
-      first_pieces said p (left_out r value) h into = tt
-      first_pieces said p (before_commands r value) h into = tt
+      first_pieces said p _ h into = tt
 
   module _ (says : P → CellsValue T)
       (each : (p : P) → agrees p → ProgramFormSays (keys p) (form p) (kind p) (of_cells says) p)
@@ -388,11 +376,9 @@ module _ {P Q T : Type 0} (keys : P → List Names) (words : P → List (List �
       first_cells : (said : Q → CellsValue T) (p : P) (s : ProgramForm T)
           → ProgramFormSays (keys p) s (kind p) (of_cells says) p → IsSaid (says p) (said q)
           → ProgramFormSays names (first_only s) (of_kind ByName) (of_cells said) q
-      first_cells said p no_program h into = tt
       first_cells said p (plain wide s) h into = absurd h
       first_cells said p (commands r value) h into = λ cs v c. into cs v (h cs v c)
-      first_cells said p (left_out r value) h into = tt
-      first_cells said p (before_commands r value) h into = tt
+      first_cells said p _ h into = tt
 
   -- of all
   pub program_choices_says : (parsers : Q → List P) (said : ProgramSaid P T)
@@ -459,12 +445,10 @@ program_alone_says {P} {Q} {T} last q outcome kind names words {s} {said} law h 
         alone_says (field_owned outcome (names (last q)) s law)
         (field_says (owned outcome (names (last q)) s law) h)
     by_form (plain wide s) (of_cells said) law h = absurd h
-    by_form (commands r value) (of_pieces said) law h = absurd h
     by_form (commands r value) (of_cells said) law h = h
-    by_form (left_out r value) (of_pieces said) law h = absurd h
     by_form (left_out r value) (of_cells said) law h = h
-    by_form (before_commands r value) (of_pieces said) law h = absurd h
     by_form (before_commands r value) (of_cells said) law h = h
+    by_form _ (of_pieces said) law h = absurd h
 
 -- where a test holds
 fields_if_say : {P V : Type 0} (names : List Names) (b : Bool) (s : ProgramForm V)
@@ -519,7 +503,6 @@ module _ {P Q R A B : Type 0} (first : R → P) (rest : R → Q) (r : R) (outcom
           (field_says (owned outcome (names (first r)) s law) h) g
       by_form (plain wide s) (plain other t) (of_pieces said) (of_all_cells more) law laws h g =
           absurd g
-      by_form (plain wide s) (plain other t) (of_cells said) more law laws h g = absurd h
       by_form (plain wide s) (before_commands u value) (of_pieces said) (of_all_cells more)
           law laws h
           g =
@@ -529,7 +512,7 @@ module _ {P Q R A B : Type 0} (first : R → P) (rest : R → Q) (r : R) (outcom
       by_form (plain wide s) (before_commands u value) (of_pieces said) (of_all_pieces more)
           law laws h
           g = absurd g
-      by_form (plain wide s) (before_commands u value) (of_cells said) more law laws h g = absurd h
+      by_form (plain wide s) _ (of_cells said) more law laws h g = absurd h
       by_form _ _ said more law laws h g = tt
 
 -- fields that stand inside
@@ -541,13 +524,11 @@ inside_say {P} {Q} {V} inside q {names} {s} {said} h = record { by = by_form s s
     by_form : (s : ProgramForm V) (said : ProgramFieldsSaid P V)
         → ProgramFieldsFormSay names s said (inside q)
         → ProgramFieldsFormSay names s (fields_said_inside inside said) q
-    by_form no_program said h = tt
     by_form (plain wide s) (of_all_pieces said) h = h
     by_form (plain wide s) (of_all_cells said) h = absurd h
-    by_form (commands r value) said h = tt
-    by_form (left_out r value) said h = tt
     by_form (before_commands r value) (of_all_pieces said) h = absurd h
     by_form (before_commands r value) (of_all_cells said) h = h
+    by_form _ said h = tt
 
 -- a constructor
 pub program_con_says : {P Q A B : Type 0} (fields : Q → P) (q : Q) (outcome : Outcome A)
@@ -564,18 +545,16 @@ program_con_says {P} {Q} {A} {B} fields q outcome names makes {s} {said} law g =
         → ProgramFieldsFormSay (names (fields q)) s said (fields q)
         → ProgramFormSays (names (fields q)) (program_con (makes q) s) (program_kind s)
         (said_con fields names makes said) q
-    by_form no_program said law g = tt
     by_form (plain wide s) (of_all_pieces said) law g =
         con_says (makes q) (owned outcome (names (fields q)) s law) g
     by_form (plain wide s) (of_all_cells said) law g = absurd g
-    by_form (commands r value) said law g = tt
-    by_form (left_out r value) said law g = tt
     by_form (before_commands r value) (of_all_pieces said) law g = absurd g
     by_form (before_commands r value) (of_all_cells said) law g = λ cs v c. record {
       from = c.from;
       read = g cs c.from c.read;
       made = c.made;
     }
+    by_form _ said law g = tt
 
 -- The whole.
 
@@ -595,12 +574,9 @@ flat_says {P} {T} s {kind} {names} {said} {p} h = by_form s said h.by
   where
     by_form : (s : ProgramForm T) (said : ProgramSaid P T) → ProgramFormSays names s kind said p
         → Says names (flat_form s) kind (pieces_said said p)
-    by_form no_program said h = record { by = tt }
     by_form (plain wide s) (of_pieces said) h = unless_says wide h
     by_form (plain wide s) (of_cells said) h = absurd h
-    by_form (commands r value) said h = record { by = tt }
-    by_form (left_out r value) said h = record { by = tt }
-    by_form (before_commands r value) said h = record { by = tt }
+    by_form _ said h = record { by = tt }
 
 -- a key, by what its field says without a name in the environment and with some
 pub key_says : {P T : Type 0} {names : List Names} {kind : SaidKind}

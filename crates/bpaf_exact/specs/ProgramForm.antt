@@ -44,11 +44,10 @@ ProgramFormLaw {T = T} outcome names words (before_commands r value) =
 
 -- the premise of exactness: whether a closure accepts depends on the cells alone
 abbrev pub ProgramAgrees : {A B : Type 0} → Closure A B → ProgramForm A → Type 0
-ProgramAgrees f no_program = Unit {0}
 ProgramAgrees f (plain wide s) = Agrees f s
 ProgramAgrees f (commands r value) = (cs : Cells) → AgreesOn (value cs) f
 ProgramAgrees f (left_out r value) = (cs : Cells) → AgreesOn (value cs) f
-ProgramAgrees f (before_commands r value) = Unit {0}
+ProgramAgrees f _ = Unit {0}
 
 -- a form where a test holds
 abbrev pub program_if : {T : Type 0} → Bool → ProgramForm T → ProgramForm T
@@ -57,20 +56,16 @@ program_if false s = no_program
 
 -- a closure round a field or commands
 abbrev pub program_closed : {A B : Type 0} → Closure A B → ProgramForm A → ProgramForm B
-program_closed f no_program = no_program
 program_closed f (plain wide s) = plain wide (flat_closed f s)
 program_closed {A = A} {B = B} f (commands r value) =
     commands r (ClosedCells A B value f)
 program_closed {A = A} {B = B} f (left_out r value) = left_out r (ClosedCells A B value f)
-program_closed f (before_commands r value) = no_program
+program_closed f _ = no_program
 
 -- what a combinator makes that takes flat fields alone
 abbrev pub flat_only : {A B : Type 0} → (FlatForm A → FlatForm B) → ProgramForm A → ProgramForm B
-flat_only g no_program = no_program
 flat_only g (plain wide s) = plain wide (g s)
-flat_only g (commands r value) = no_program
-flat_only g (left_out r value) = no_program
-flat_only g (before_commands r value) = no_program
+flat_only g _ = no_program
 
 -- what is made of the values of a repeat; with `catch` it is none
 abbrev pub program_repeat : {T B : Type 0} → Bool → Closure (List T) B → ProgramForm T
@@ -87,20 +82,17 @@ program_fallback f = flat_only (λ s. flat_fallback f s)
 
 -- another look; a record with such a look round it is a wide one
 abbrev pub program_dressed : {T : Type 0} → ProgramForm T → ProgramForm T
-program_dressed no_program = no_program
 program_dressed (plain wide s) = plain (wide || is_product s) s
 program_dressed (commands r value) = commands r value
 program_dressed (left_out r value) = left_out r value
-program_dressed (before_commands r value) = no_program
+program_dressed _ = no_program
 
 -- what may be left out; with `catch` it is none
 abbrev pub program_optional : {T : Type 0} → Bool → ProgramForm T → ProgramForm (Option T)
-program_optional catch no_program = no_program
 program_optional catch (plain wide s) = plain wide (unless catch (flat_optional s))
 program_optional {T = T} catch (commands r value) =
     program_if (not catch) (left_out r (OptionalCommands T value))
-program_optional catch (left_out r value) = no_program
-program_optional catch (before_commands r value) = no_program
+program_optional catch _ = no_program
 
 -- no word is among others
 abbrev pub are_words_apart : List (List ℕ) → List (List ℕ) → Bool
@@ -126,11 +118,9 @@ program_rest names words form own said before (p ∷ ps) =
 
 -- what may stand first in a choice
 abbrev pub first_only : {T : Type 0} → ProgramForm T → ProgramForm T
-first_only no_program = no_program
 first_only (plain wide s) = plain wide (alternative_only s)
 first_only (commands r value) = commands r value
-first_only (left_out r value) = no_program
-first_only (before_commands r value) = no_program
+first_only _ = no_program
 
 -- a choice of any number of parsers, but for none
 abbrev pub program_choices : {P T : Type 0} → (P → List Names) → (P → List (List ℕ))
@@ -187,20 +177,16 @@ program_both own others _ _ = no_program
 
 -- the constructor of a product
 abbrev pub program_con : {A B : Type 0} → Closure A B → ProgramForm A → ProgramForm B
-program_con f no_program = no_program
 program_con f (plain wide s) = plain wide (flat_con f s)
-program_con f (commands r value) = no_program
-program_con f (left_out r value) = no_program
 program_con {A = A} {B = B} f (before_commands r value) =
     before_commands r (ClosedCells A B value f)
+program_con f _ = no_program
 
 -- it is a program
 abbrev pub is_program : {T : Type 0} → ProgramForm T → Bool
 is_program no_program = false
 is_program (plain wide s) = is_record s
-is_program (commands r value) = true
-is_program (left_out r value) = true
-is_program (before_commands r value) = true
+is_program _ = true
 
 -- the keys that may stand in a program
 abbrev pub program_roles : {T : Type 0} → ProgramForm T → Roles
@@ -221,8 +207,5 @@ program_value (before_commands r value) = value
 
 -- what it is to a flat record
 abbrev pub flat_form : {T : Type 0} → ProgramForm T → FlatForm T
-flat_form no_program = not_flat
 flat_form (plain wide s) = unless wide s
-flat_form (commands r value) = not_flat
-flat_form (left_out r value) = not_flat
-flat_form (before_commands r value) = not_flat
+flat_form _ = not_flat
