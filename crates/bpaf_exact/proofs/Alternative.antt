@@ -202,8 +202,7 @@ module _ (A B : Type 0) (inner : Outcome A) (k : FieldKind) (q : Roles) (group :
   inner_readable : (z : FieldKind) (os : List LinePiece) → Readable z (ClosedGroup A B group f) os
       → Readable z group os
   inner_readable ByName os r = let i = inner_list os r.0 r.1 in (i.list, i.own)
-  inner_readable (OneWord b) os r = tt
-  inner_readable (EachWord b) os r = tt
+  inner_readable _ os r = tt
 
   -- with a closure a field reads words as before
   closed_words : (z : FieldKind) → ReadsWords z group → ReadsWords z (ClosedGroup A B group f)

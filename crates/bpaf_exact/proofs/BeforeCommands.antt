@@ -129,13 +129,11 @@ apart_first p q r a = record {
   where
     by_role : (x y : Role) → either_role x y ≡ Foreign → x ≡ Foreign
     by_role Foreign y e = refl
-    by_role Alone y e = e
-    by_role WithNext y e = e
+    by_role _ y e = e
 
     by_own : (x y : Role) → is_own_role x ≡ true → is_own_role (either_role x y) ≡ true
     by_own Foreign y e = cc
-    by_own Alone y e = refl
-    by_own WithNext y e = refl
+    by_own _ y e = refl
 
 -- and from the other
 pub apart_second : (p q r : Roles) → Apart p (either q r) → Apart p r
@@ -146,13 +144,11 @@ apart_second p q r a = record {
   where
     by_role : (x y : Role) → either_role x y ≡ Foreign → y ≡ Foreign
     by_role Foreign y e = e
-    by_role Alone y e = cc
-    by_role WithNext y e = cc
+    by_role _ y e = cc
 
     by_own : (x y : Role) → is_own_role y ≡ true → is_own_role (either_role x y) ≡ true
     by_own Foreign y e = e
-    by_own Alone y e = refl
-    by_own WithNext y e = refl
+    by_own _ y e = refl
 
 module _ (A B : Type 0) (first : Outcome A) (rest : Outcome B) (q r : Roles)
     (fv : List LinePiece → A → Type 0) (rv : CellsValue B) (lf : FieldLaw A first ByName q fv)

@@ -11,9 +11,9 @@ use Rattle.bpaf_laws.specs.Reading.{Outcome}
 use Rattle.bpaf_exact.specs.Pieces.{Roles, LinePiece, Cut}
 use Rattle.bpaf_exact.specs.Flat.{cells, NonePresent, NoneOutside, FieldsLaw, FieldsReading}
 use Rattle.bpaf_exact.specs.Flat.{ReadOff}
-use Rattle.bpaf_exact.specs.Record.{line_cells, RecordValue, RunAnswer, Accepted, NoMemory, Refusal}
-use Rattle.bpaf_exact.specs.Record.{RunRan, run_value, run_leftover, run_memory, run_refusal}
-use Rattle.bpaf_exact.specs.Record.{IsNoValue, IsAcceptedOrWant, IsExact}
+use Rattle.bpaf_exact.specs.Record.{line_cells, RecordValue, RunAnswer, Accepted, RunRan, run_value}
+use Rattle.bpaf_exact.specs.Record.{run_leftover, run_memory, run_refusal, IsNoValue}
+use Rattle.bpaf_exact.specs.Record.{IsAcceptedOrWant, IsExact}
 use Rattle.bpaf_exact.specs.FlatForm.{FlatForm, FormLaw, is_record, product_roles, product_reading}
 use Rattle.bpaf_exact.specs.FlatForm.{flat_record}
 use Rattle.bpaf_exact.specs.Theorem.{RunsExactly}
@@ -48,8 +48,7 @@ first_cells_are context =
 -- no value is none
 pub no_value : {V : Type 0} (a : RunAnswer V) (v : V) → IsNoValue a → a ≡ Accepted v → ⊥
 no_value (Accepted x) v n h = n
-no_value NoMemory v n h = cc
-no_value Refusal v n h = cc
+no_value _ v n h = cc
 
 module _ (V : Type 0) (outcome : Outcome V) (r : Roles) (reading : FieldsReading V)
     (l : FieldsLaw V outcome r reading) (context : Context) where

@@ -89,8 +89,7 @@ only_law T outcome names _ l = tt
 repeated_keys : (k : FieldKind) (q : Roles) (names : List Names) → Owns (keys k q) names
     → Owns (keys (repeated k) q) names
 repeated_keys ByName q names o = o
-repeated_keys (OneWord b) q names o = o
-repeated_keys (EachWord b) q names o = o
+repeated_keys _ q names o = o
 
 -- a repeat or default round a field
 flat_whole_law : {T B : Type 0} (inner : Outcome T) (outer : Outcome B)
@@ -172,12 +171,9 @@ follows : (k : FieldKind) (q r : Roles) (own others : List Names) → Owns (keys
     → Owns r others
     → may_follow k own others ≡ true → Before k q r
 follows ByName q r own others a b h = apart_of_names q r own others a b h
-follows (OneWord z) q r own [] a b h =
-    λ i. foreign_of (r i) (false_from_ne_true _ (λ e. nobody (b.own i e)))
 follows (OneWord z) q r own (names ∷ others) a b h = absurd cc
-follows (EachWord z) q r own [] a b h =
-    λ i. foreign_of (r i) (false_from_ne_true _ (λ e. nobody (b.own i e)))
 follows (EachWord z) q r own (names ∷ others) a b h = absurd cc
+follows _ q r own [] a b h = λ i. foreign_of (r i) (false_from_ne_true _ (λ e. nobody (b.own i e)))
 
 -- a field before others
 pub flat_both_law : (A B : Type 0) (first : Outcome A) (rest : Outcome B) (own others : List Names)

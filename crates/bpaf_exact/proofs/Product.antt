@@ -62,8 +62,7 @@ no_own_in_cut q r n a (word {w = w} {cs = cs} h c) =
 -- an item that isn't the first's has the role that it has to the second
 either_foreign : (x y z : Role) → x ≡ Foreign → y ≡ z → either_role x y ≡ z
 either_foreign Foreign y z e h = h
-either_foreign Alone y z e h = cc
-either_foreign WithNext y z e h = cc
+either_foreign _ y z e h = cc
 
 -- with a piece of others more all are of others
 others_all : (q : Roles) (o : LinePiece) (os : List LinePiece) → is_own q o ≡ false
@@ -113,8 +112,7 @@ record Narrowed (q r : Roles) (cs : Cells) (os : List LinePiece) : Type 0 where
 -- an item that isn't the first's has its role to the others
 other_role : (x y z : Role) → x ≡ Foreign → either_role x y ≡ z → y ≡ z
 other_role Foreign y z e h = h
-other_role Alone y z e h = cc
-other_role WithNext y z e h = cc
+other_role _ y z e h = cc
 
 -- where the field has no piece left the cut is one by the others' keys
 narrow : (q r : Roles) {cs : Cells} {os : List LinePiece} → IsNamed q → pieces q cs ≡ []
@@ -203,8 +201,7 @@ step_back (EachWord z) q r T value n b f c =
 pub none_left : (k : FieldKind) (q r : Roles) {cs : Cells} {os : List LinePiece} → OwnItems k q
     → Before k q r → Cut r cs os → NoKeysLeft k q cs
 none_left ByName q r n b c = no_own_in_cut q r n b c
-none_left (OneWord z) q r n b c = tt
-none_left (EachWord z) q r n b c = tt
+none_left _ q r n b c = tt
 
 -- The cut after a field was evaluated.
 
@@ -246,8 +243,7 @@ both_named ByName q r n m =
       only_keys =
           λ a h. either_foreign (q a) (r a) Foreign (n.only_keys a h) (m.only_keys a h);
     }
-both_named (OneWord z) q r n m = m
-both_named (EachWord z) q r n m = m
+both_named _ q r n m = m
 
 -- two values of fields that were all evaluated
 pub record ValuesOfBoth (A B : Type 0) (first : Outcome A) (rest : Outcome B) (s : Situation)

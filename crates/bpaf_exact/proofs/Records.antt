@@ -3,11 +3,11 @@ use Rattle.std.proofs.Common.{◌≡◌, List, [], ◌∷◌, Some, None, Ok, re
 use Rattle.bpaf_line.specs.Situation.{Situation, with_current}
 use Rattle.bpaf_laws.specs.Product.{ProductOutcome}
 use Rattle.bpaf_laws.specs.Reading.{Outcome}
-use Rattle.bpaf_exact.specs.Pieces.{Cells, Roles, Role, Foreign, Alone, WithNext, LinePiece}
-use Rattle.bpaf_exact.specs.Pieces.{IsNamed, Cut, either, either_role, no_roles, pieces}
+use Rattle.bpaf_exact.specs.Pieces.{Cells, Roles, Role, Foreign, LinePiece, IsNamed, Cut, either}
+use Rattle.bpaf_exact.specs.Pieces.{either_role, no_roles, pieces}
 use Rattle.bpaf_exact.specs.Flat.{cells, NonePresent, no_place, none_here, NoneOutside, Steady}
-use Rattle.bpaf_exact.specs.Flat.{FieldKind, ByName, OneWord, EachWord, keys, OwnItems, FieldLaw}
-use Rattle.bpaf_exact.specs.Flat.{FieldsLaw, ReadOff, Before, FieldsReading, HasValue, share, front}
+use Rattle.bpaf_exact.specs.Flat.{FieldKind, ByName, keys, OwnItems, FieldLaw, FieldsLaw, ReadOff}
+use Rattle.bpaf_exact.specs.Flat.{Before, FieldsReading, HasValue, share, front}
 use Rattle.bpaf_exact.specs.Single.{present_count}
 use Rattle.bpaf_exact.specs.Wrappers.{map_closure}
 use Rattle.bpaf_exact.specs.Record.{LastValue, last_reading}
@@ -36,8 +36,7 @@ module _ (T : Type 0) (outcome : Outcome T)
     where
       by_kind : (z : FieldKind) → Before z q no_roles
       by_kind ByName = record { left = λ a h. refl; right = λ a h. absurd cc }
-      by_kind (OneWord z) = λ a. refl
-      by_kind (EachWord z) = λ a. refl
+      by_kind _ = λ a. refl
 
   -- its keys are keys
   keys_named : IsNamed (either (keys k q) no_roles)
@@ -45,13 +44,11 @@ module _ (T : Type 0) (outcome : Outcome T)
     where
       alone : (x : Role) → x ≡ Foreign → either_role x Foreign ≡ Foreign
       alone Foreign e = refl
-      alone Alone e = absurd cc
-      alone WithNext e = absurd cc
+      alone _ e = absurd cc
 
       by_kind : (z : FieldKind) → OwnItems z q → IsNamed (either (keys z q) no_roles)
       by_kind ByName n = record { only_keys = λ a h. alone (q a) (n.only_keys a h) }
-      by_kind (OneWord z) n = record { only_keys = λ a h. refl }
-      by_kind (EachWord z) n = record { only_keys = λ a h. refl }
+      by_kind _ n = record { only_keys = λ a h. refl }
 
   -- the value of a last field is read off a cut
   last_reads : (s t : Situation) (v : T) → NoneOutside s → outcome s (Ok v) t → NonePresent (cells t)

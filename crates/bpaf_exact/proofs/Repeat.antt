@@ -40,8 +40,7 @@ same_takes q {cs = cs} e = subst (TakesPieces q cs) (sym e) takes_none
 readable : {T : Type 0} (k : FieldKind) (group : Groups T) (os : List LinePiece) (vs : List T)
     → Own T group (front (repeated k) os) vs → Readable k group os
 readable ByName group os vs o = (vs, o)
-readable (OneWord b) group os vs o = tt
-readable (EachWord b) group os vs o = tt
+readable _ group os vs o = tt
 
 -- where the cells are the same as many items are present
 pub same_count : (s m : Situation) → cells m ≡ cells s → open_count m ≡ open_count s
@@ -437,8 +436,7 @@ module _ (T : Type 0) (inner : Outcome T) (k : FieldKind) (q : Roles) (group : G
     where
       by_kind : (z : FieldKind) → OwnItems z q → OwnItems (repeated z) q
       by_kind ByName o = o
-      by_kind (OneWord b) o = o
-      by_kind (EachWord b) o = o
+      by_kind _ o = o
 
   -- many, and what is built on it: the values of the own list
   pub repeat_law : (idle : Bool) → FieldLaw (List T) (RepeatOutcome inner idle) (repeated k) q

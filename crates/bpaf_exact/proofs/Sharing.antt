@@ -3,7 +3,7 @@ use Rattle.std.proofs.Common.{◌≡◌, Bool, true, false, List, [], ◌∷◌,
 use Rattle.std.proofs.Common.{if◌then◌else◌, ◌++◌, ◌||◌, ◌⊎◌, ⊎_elim, None, Some, inl, inr}
 use Rattle.std.proofs.lemmas.List.Folds.{list_any-append}
 use Rattle.bpaf_base.specs.Items.{is_key_of, is_positional}
-use Rattle.bpaf_base.specs.declared.arg.Arg.TheVariants.{Short, Long, ArgWord, Word, PosWord}
+use Rattle.bpaf_base.specs.declared.arg.Arg.TheVariants.{Word, PosWord}
 use Rattle.bpaf_exact.specs.Names.{are_all_apart, Owns, is_key_of_any}
 use Rattle.bpaf_exact.specs.Pieces.{Cells, Cut, argument, at_end, begin_piece, flag, passed, pieces}
 use Rattle.bpaf_exact.specs.Pieces.{word, Role, Foreign, Alone, WithNext, Roles, LinePiece, One}
@@ -29,13 +29,11 @@ same_truth false false f g = refl
 
 -- a word is no key
 no_key : (names : List Names) (w : Arg) → is_positional w ≡ true → is_key_of_any names w ≡ false
-no_key names (Short c attached text) h = absurd cc
-no_key names (Long name attached text) h = absurd cc
-no_key names (ArgWord text) h = absurd cc
 no_key [] (Word text) h = refl
 no_key (own ∷ names) (Word text) h = no_key names (Word text) h
 no_key [] (PosWord text) h = refl
 no_key (own ∷ names) (PosWord text) h = no_key names (PosWord text) h
+no_key names _ h = absurd cc
 
 -- a piece is one's own by its first item
 own_first : (r : Roles) (o : LinePiece) → is_own r o ≡ is_own_role (r (first_item o))
@@ -92,10 +90,9 @@ module _ (q r : Roles) (own behind : List Names) (owned : Owns q own) (owned_beh
   either_first o e = by_role (q (first_item o)) refl
     where
       by_role : (x : Role) → q (first_item o) ≡ x → (is_own q o ≡ true) ⊎ (is_own r o ≡ true)
-      by_role Alone f = inl (own_first q o ∙ ap is_own_role f)
-      by_role WithNext f = inl (own_first q o ∙ ap is_own_role f)
       by_role Foreign f = inr (own_first r o ∙ (sym (ap (λ x. is_own_role
           (either_role x (r (first_item o)))) f) ∙ (sym (own_first (either q r) o) ∙ e)))
+      by_role _ f = inl (own_first q o ∙ ap is_own_role f)
 
   both_names : (o : LinePiece)
       → is_own (either q r) o ≡ is_key_of_any (own ++ behind) (first_item o)
@@ -175,8 +172,7 @@ first_within q r k = by_role (q k)
   where
     by_role : (x : Role) → is_own_role x ≡ true → is_own_role (either_role x (r k)) ≡ true
     by_role Foreign e = absurd cc
-    by_role Alone e = refl
-    by_role WithNext e = refl
+    by_role _ e = refl
 
 -- the second
 pub second_within : (q r : Roles) (k : Arg) → is_own_role (r k) ≡ true
@@ -185,8 +181,7 @@ second_within q r k = by_role (q k)
   where
     by_role : (x : Role) → is_own_role (r k) ≡ true → is_own_role (either_role x (r k)) ≡ true
     by_role Foreign e = e
-    by_role Alone e = refl
-    by_role WithNext e = refl
+    by_role _ e = refl
 
 -- what is another's own isn't among one's own
 pub mine_of_others : (p q : Roles) → ((k : Arg) → is_own_role (q k) ≡ true → p k ≡ Foreign)

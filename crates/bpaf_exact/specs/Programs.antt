@@ -4,7 +4,7 @@ use Rattle.std.specs.Prelude.{◌≡◌, ◌≤◌, ◌⊎◌, ℕ, Bool, true, 
 use Rattle.std.specs.Prelude.{None, Result, Ok, Err, if◌then◌else◌, ◌==◌, not}
 use Rattle.std.specs.List.{list_all}
 use Rattle.bpaf_base.specs.declared.arg.Arg.{Arg}
-use Rattle.bpaf_base.specs.declared.arg.Arg.TheVariants.{Short, Long, ArgWord, Word, PosWord}
+use Rattle.bpaf_base.specs.declared.arg.Arg.TheVariants.{Short, Long}
 use Rattle.bpaf_line.specs.declared.error.Error.{Error}
 use Rattle.bpaf_line.specs.Situation.{Situation, Context, item_in, open_count, with_current}
 use Rattle.bpaf_laws.specs.Choice.{depth}
@@ -64,9 +64,7 @@ is_dashed (b ∷ bs) = b == 45
 abbrev pub is_spelled : Arg → Bool
 is_spelled (Short c attached word) = is_dashed word
 is_spelled (Long name attached word) = is_dashed word
-is_spelled (ArgWord text) = true
-is_spelled (Word text) = true
-is_spelled (PosWord text) = true
+is_spelled _ = true
 
 -- all items of a line are such
 abbrev pub IsSpelledLine : Context → Type 0

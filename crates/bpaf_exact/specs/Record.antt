@@ -26,8 +26,7 @@ pub data RunAnswer (V : Type 0) : Type 0 where
 -- no value is answered
 abbrev pub IsNoValue : {V : Type 0} → RunAnswer V → Type 0
 IsNoValue (Accepted v) = ⊥
-IsNoValue NoMemory = Unit {0}
-IsNoValue Refusal = Unit {0}
+IsNoValue _ = Unit {0}
 
 -- What the steps of a run after the parser make of its answer: a value only where nothing is left
 -- present.
