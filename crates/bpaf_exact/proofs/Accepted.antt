@@ -152,24 +152,6 @@ module _ (r : Roles) (n : IsNamed r) where
           → Item before k after os
       at before after k e = item_of before k after (subst (λ z. Cut r z os) e c)
 
--- places that end alike end in the same item
-same_end : (cs bs : Cells) (k j : Arg) → cs ++ (Some k ∷ []) ≡ bs ++ (Some j ∷ []) → k ≡ j
-same_end [] [] k j e = cc
-same_end [] (b ∷ []) k j e = cc
-same_end [] (b ∷ (c ∷ bs)) k j e = cc
-same_end (a ∷ []) [] k j e = cc
-same_end (a ∷ (c ∷ cs)) [] k j e = cc
-same_end (a ∷ cs) (b ∷ bs) k j e = same_end cs bs k j cc
-
--- what an attached value stands behind is the key of an argument: so no flag's key has one
-pub attached_to : (r : Roles) (cs : Cells) (os : List LinePiece) → HoldsTogether r cs os
-    → (before after : Cells) (k : Arg) (text : List ℕ)
-    → cs ≡ before ++ (Some k ∷ (Some (ArgWord text) ∷ after)) → r k ≡ WithNext
-attached_to r cs os h before after k text e =
-    let i = h.attached (before ++ (Some k ∷ [])) after text
-    (e ∙ sym (append_assoc before (Some k ∷ []) (Some (ArgWord text) ∷ after))) in
-    ap r (same_end before i.before k i.key i.is) ∙ i.wants_value
-
 -- What is left to positional fields.
 
 -- without keys all is left

@@ -111,12 +111,15 @@ pub flat_listed_law : (T B : Type 0) (inner : Outcome T) (idle : Bool) (f : Clos
     → FormLaw inner names s
     → FormLaw (ClosedEval (List T) B (RepeatOutcome inner idle) f c) names
     (flat_closed f (flat_repeat s))
-flat_listed_law T B inner idle f c names (alternative q value) g l =
-    (closed_law (List T) B _ ByName q _
-    (repeat_law T inner ByName q _ _ (alternative_single T inner q value l.0) idle) f g c, l.1)
-flat_listed_law T B inner idle f c names (single k q group gap) g l =
-    (closed_law (List T) B _ (repeated k) q _ (repeat_law T inner k q group gap l.0 idle) f g c,
-    repeated_keys k q names l.1)
+flat_listed_law T B inner idle f c names (alternative q value) g l = (
+  closed_law (List T) B _ ByName q _
+      (repeat_law T inner ByName q _ _ (alternative_single T inner q value l.0) idle) f g c,
+  l.1,
+)
+flat_listed_law T B inner idle f c names (single k q group gap) g l = (
+  closed_law (List T) B _ (repeated k) q _ (repeat_law T inner k q group gap l.0 idle) f g c,
+  repeated_keys k q names l.1,
+)
 flat_listed_law T B inner idle f c names _ g l = tt
 
 -- some needs no premise: of the lists that the same pieces give, all are empty or none is

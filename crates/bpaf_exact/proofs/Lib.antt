@@ -28,7 +28,6 @@ pub mod FlatForm
 pub mod Exact
 pub mod ByTables
 pub mod SameParts
-pub mod WorkedRows
 pub mod OneView
 pub mod Agreeing
 pub mod Accepted
@@ -44,5 +43,4 @@ pub mod BeforeCommands
 pub mod Commands
 pub mod ProgramForm
 pub mod ProgramSays
-pub mod WorkedPrograms
 pub mod Pure

@@ -1,7 +1,7 @@
 -- Where closures can't tell apart what looks alike, the premise of exactness holds, and all values
 -- of a line look alike.
-use Rattle.std.proofs.Common.{◌≡◌, ℕ, Bool, true, false, List, [], ◌∷◌, ◌++◌, map, Option, Some}
-use Rattle.std.proofs.Common.{None, refl, sym, ap, ◌∙◌, subst}
+use Rattle.std.proofs.Common.{◌≡◌, ℕ, Bool, true, false, List, [], ◌∷◌, map, Option, Some, None}
+use Rattle.std.proofs.Common.{refl, sym, ap, ◌∙◌, subst}
 use Rattle.std.specs.Global.{Vec}
 use Rattle.std.specs.Prelude.{option_map}
 use Rattle.bpaf_doc.specs.Names.{Names}
@@ -9,31 +9,24 @@ use Rattle.bpaf_text.specs.Named.{Named as Key, KeyWithValue}
 use Rattle.bpaf_base.specs.Items.{item_text}
 use Rattle.bpaf_line.specs.Situation.{Context}
 use Rattle.bpaf_laws.specs.Reading.{Outcome}
-use Rattle.bpaf_exact.specs.Pieces.{Cells, Roles, LinePiece, One, Two, is_own, either}
-use Rattle.bpaf_exact.specs.Names.{are_all_apart}
+use Rattle.bpaf_exact.specs.Pieces.{Cells, Roles, LinePiece, One, Two}
 use Rattle.bpaf_exact.specs.Flat.{FieldsLaw, FieldsReading, FieldKind, ByName, ReadOff}
 use Rattle.bpaf_exact.specs.Single.{Groups, Gap, FrontOf, Own, own_none, own_more, SingleLaw}
 use Rattle.bpaf_exact.specs.Single.{SingleValue, of_group, of_gap, OwnList, listed}
 use Rattle.bpaf_exact.specs.Single.{listed_and_absent, only_absent, repeated}
 use Rattle.bpaf_exact.specs.Wrappers.{Closure, OptionalValue, some_value, no_value, FallbackValue}
 use Rattle.bpaf_exact.specs.Wrappers.{own_value, kept_value}
-use Rattle.bpaf_exact.specs.Gathered.{LastOf, list_closure}
-use Rattle.bpaf_exact.specs.Alternative.{pick_type}
+use Rattle.bpaf_exact.specs.Gathered.{list_closure}
 use Rattle.bpaf_exact.specs.Leaves.{FlagValue, ArgumentValue, WordValue, flag_field, LastGroup}
 use Rattle.bpaf_exact.specs.Leaves.{SideValue, argument_by, argument_field, argument_group}
 use Rattle.bpaf_exact.specs.Leaves.{variable_argument, word_by, word_field}
 use Rattle.bpaf_exact.specs.Record.{RunAnswer, Accepted, NoMemory, Refusal, RecordValue, IsExact}
 use Rattle.bpaf_exact.specs.Record.{line_cells}
 use Rattle.bpaf_exact.specs.FlatForm.{FlatForm, alternative, single, complete, product, FormLaw}
-use Rattle.bpaf_exact.specs.FlatForm.{only_if, flat_closed, flat_either, flat_choice}
-use Rattle.bpaf_exact.specs.FlatForm.{alternative_only, flat_repeat, flat_many, flat_last}
-use Rattle.bpaf_exact.specs.FlatForm.{flat_optional, flat_fallback, flat_field, may_follow}
-use Rattle.bpaf_exact.specs.FlatForm.{flat_both, flat_alone, flat_con, flat_record, is_record}
-use Rattle.bpaf_exact.specs.FlatForm.{product_roles, product_reading, flat_whole}
-use Rattle.bpaf_exact.specs.Programs.{ChoiceValue}
-use Rattle.bpaf_exact.specs.ProgramForm.{ProgramForm, plain, commands, are_words_apart, first_only}
-use Rattle.bpaf_exact.specs.ProgramForm.{flat_form, program_choice, program_choices, program_if}
-use Rattle.bpaf_exact.specs.ProgramForm.{program_rest}
+use Rattle.bpaf_exact.specs.FlatForm.{only_if, flat_closed, flat_repeat, flat_many, flat_optional}
+use Rattle.bpaf_exact.specs.FlatForm.{flat_fallback, flat_field, may_follow, flat_both, flat_alone}
+use Rattle.bpaf_exact.specs.FlatForm.{flat_con, flat_record, is_record, product_roles}
+use Rattle.bpaf_exact.specs.FlatForm.{product_reading, flat_whole}
 use Rattle.bpaf_exact.specs.OneView.{Alike, OneGroup, HasOneView, Respects, pair_view, LooksLike}
 use Rattle.bpaf_exact.specs.OneView.{RunsToOne}
 use Rattle.bpaf_exact.proofs.Alternative.{alternative_single}
@@ -160,88 +153,13 @@ pub side_view : (T X : Type 0) (see : T → X) (stops behind : Bool) (means : Li
 side_view T X see stops behind means u =
     (front_view T X see _ (side_piece T X see behind means u), λ v w a b. absurd a)
 
--- Choice.
-
 -- where a test holds
 if_view : (T X : Type 0) (see : T → X) (s : FlatForm T) (b : Bool) → HasOneView see s
     → HasOneView see (only_if b s)
 if_view T X see s true u = u
 if_view T X see s false u = tt
 
--- by a test
-pick_view : {T X : Type 0} (see : T → X) (c : Bool) (a b : T → Type 0) → Alike see a → Alike see b
-    → Alike see (λ v. pick_type c (a v) (b v))
-pick_view see true a b u n = u
-pick_view see false a b u n = n
-
--- a choice of two alternatives
-either_view : (T X : Type 0) (see : T → X) (s t : FlatForm T) → HasOneView see s → HasOneView see t
-    → HasOneView see (flat_either s t)
-either_view T X see (alternative q a) (alternative r b) u n =
-    λ o. pick_view see (is_own q o) (a o) (b o) (u o) (n o)
-either_view T X see _ _ u n = tt
-
--- the same, where the keys are apart
-pub choice_view : (T X : Type 0) (see : T → X) (own others : List Names) (s t : FlatForm T)
-    → HasOneView see s → HasOneView see t → HasOneView see (flat_choice own others s t)
-choice_view T X see own others s t u n =
-    if_view T X see (flat_either s t) (are_all_apart own others) (either_view T X see s t u n)
-
--- an alternative alone
-only_view : (T X : Type 0) (see : T → X) (s : FlatForm T) → HasOneView see s
-    → HasOneView see (alternative_only s)
-only_view T X see (alternative q value) u = u
-only_view T X see _ u = tt
-
-module _ (P T X : Type 0) (see : T → X) (keys : P → List Names) (words : P → List (List ℕ))
-    (form : P → ProgramForm T) (each : (p : P) → HasOneView see (flat_form (form p))) where
-  -- one parser more
-  more_view : (own others : List Names) (said more : List (List ℕ)) (s t : ProgramForm T)
-      → HasOneView see (flat_form s) → HasOneView see (flat_form t)
-      → HasOneView see (flat_form (program_choice own others said more s t))
-  more_view own others said more (plain false s) (plain false t) u n =
-      choice_view T X see own others s t u n
-  more_view own others said more (plain true s) (plain other t) u n = tt
-  more_view own others said more (plain false s) (plain true t) u n = tt
-  more_view own others said more (commands q a) (commands r other) u n =
-      none_if (are_words_apart said more)
-    where
-      none_if : (b : Bool) → HasOneView see
-          (flat_form (program_if b (commands (either q r) (ChoiceValue T a other))))
-      none_if true = tt
-      none_if false = tt
-  more_view own others said more _ _ u n = tt
-
-  -- a choice of what stands before and of parsers
-  rest_view : (ps : List P) (own : List Names) (said : List (List ℕ)) (s : ProgramForm T)
-      → HasOneView see (flat_form s)
-      → HasOneView see (flat_form (program_rest keys words form own said s ps))
-  rest_view [] own said s u = u
-  rest_view (p ∷ ps) own said s u =
-      rest_view ps (own ++ keys p) (said ++ words p)
-      (program_choice own (keys p) said (words p) s (form p))
-      (more_view own (keys p) said (words p) s (form p) u (each p))
-
-  -- the first of them
-  first_view : (s : ProgramForm T) → HasOneView see (flat_form s)
-      → HasOneView see (flat_form (first_only s))
-  first_view (plain false s) u = only_view T X see s u
-  first_view _ u = tt
-
-  -- a choice of any number of parsers
-  pub choices_view : (ps : List P)
-      → HasOneView see (flat_form (program_choices keys words form ps))
-  choices_view [] = tt
-  choices_view (p ∷ ps) =
-      rest_view ps (keys p) (words p) (first_only (form p)) (first_view (form p) (each p))
-
 -- Fields without a repeat or default, and what is made of them.
-
--- the view of a list with its last value
-map_last : (T X : Type 0) (see : T → X) (xs : List T) (v : T)
-    → map see (xs ++ (v ∷ [])) ≡ map see xs ++ (see v ∷ [])
-map_last T X see [] v = refl
-map_last T X see (x ∷ xs) v = ap (λ z. see x ∷ z) (map_last T X see xs v)
 
 module _ (T X : Type 0) (see : T → X) (inner : Outcome T)
     (k : FieldKind) (q : Roles) (group : Groups T)
@@ -283,15 +201,6 @@ module _ (T X : Type 0) (see : T → X) (inner : Outcome T)
       absurd (own_never v us p)
   list_view os vs ws (only_absent {a = x} h a) (only_absent {a = y} i b) =
       ap (λ z. z ∷ []) (absent x y a b)
-
-  -- and their last values
-  pub last_view : (os : List LinePiece) → Alike see (LastOf T group gap os)
-  last_view os v w a b =
-      last_same X (map see a.is.before) (map see b.is.before) (see v) (see w)
-      (sym (map_last T X see a.is.before v)
-      ∙ (ap (map see) (sym a.is.is)
-      ∙ (list_view os a.list b.list a.own b.own
-      ∙ (ap (map see) b.is.is ∙ map_last T X see b.is.before w))))
 
   -- the value of a single field
   pub value_view : (os : List LinePiece) → Alike see (SingleValue T group gap os)
@@ -348,12 +257,6 @@ module _ (T X : Type 0) (see : T → X) (inner : Outcome T) where
   pub repeat_view : (names : List Names) (s : FlatForm T) → FormLaw inner names s → HasOneView see s
       → HasOneView (map see) (flat_repeat s)
   repeat_view = whole_view (map see) repeated (OwnList T) (list_view T X see inner)
-
-  -- its last value
-  pub last_of_view : (names : List Names) (s : FlatForm T) → FormLaw inner names s
-      → HasOneView see s
-      → HasOneView see (flat_last s)
-  last_of_view = whole_view see repeated (LastOf T) (last_view T X see inner)
 
   -- a field that may be left out
   pub optional_field_view : (names : List Names) (s : FlatForm T) → FormLaw inner names s
