@@ -9,9 +9,10 @@ use Rattle.bpaf_exact.specs.Leaves.{argument_field, variable_argument}
 use Rattle.bpaf_exact.specs.OneView.{Alike, HasOneView, ProgramOneView, Respects}
 use Rattle.bpaf_exact.specs.ProgramForm.{ProgramAgrees, ProgramForm, commands, left_out, plain}
 use Rattle.bpaf_exact.specs.ProgramForm.{program_closed}
-use Rattle.bpaf_exact.specs.Variables.{Variables, argument_form, key_form}
+use Rattle.bpaf_exact.specs.Variables.{argument_form, key_form}
 use Rattle.bpaf_exact.specs.Wrappers.{AgreesOn, Closure, Decides}
 use Rattle.bpaf_exact.proofs.OneView.{argument_view, closed_view, variable_argument_view}
+use Rattle.bpaf_exact.specs.Flat.{Variables}
 
 -- the values of a parser on the same pieces are one
 abbrev pub HasOneValue : {T : Type 0} → ProgramForm T → Type 0

@@ -12,8 +12,8 @@ use Rattle.bpaf_exact.specs.Pieces.{Cells, Role, Foreign, Alone, WithNext, Roles
 use Rattle.bpaf_exact.specs.Pieces.{Apart, is_own_role, is_value, IsNamed, TakesPiece, takes_one}
 use Rattle.bpaf_exact.specs.Pieces.{takes_two, takes_later, TakesPieces, takes_none, takes_more}
 use Rattle.bpaf_exact.specs.Pieces.{either, either_role}
-use Rattle.bpaf_exact.specs.Flat.{OfMemory, class, cells, NonePresent, NoneOutside, ByName}
-use Rattle.bpaf_exact.specs.Flat.{FieldLaw}
+use Rattle.bpaf_exact.specs.Flat.{OfMemory, class, cells, NonePresent, IsWholeIn, ByName, FieldLaw}
+use Rattle.bpaf_exact.specs.Flat.{Variables}
 use Rattle.bpaf_exact.specs.Programs.{CellsValue, without, without_piece, without_value, FieldThen}
 use Rattle.bpaf_exact.specs.Programs.{LeavesToOthers, ProgramLaw, ClosedCells, is_spelled}
 use Rattle.bpaf_exact.specs.Programs.{IsSpelledLine, AllSpelled, no_cell, empty_cell, spelled_cell}
@@ -150,9 +150,9 @@ apart_second p q r a = record {
     by_own Foreign y e = e
     by_own _ y e = refl
 
-module _ (A B : Type 0) (first : Outcome A) (rest : Outcome B) (q r : Roles)
-    (fv : List LinePiece → A → Type 0) (rv : CellsValue B) (lf : FieldLaw A first ByName q fv)
-    (lr : ProgramLaw B rest r rv) (apart : Apart q r) where
+module _ {env : Variables} (A B : Type 0) (first : Outcome A) (rest : Outcome B) (q r : Roles)
+    (fv : List LinePiece → A → Type 0) (rv : CellsValue B) (lf : FieldLaw env A first ByName q fv)
+    (lr : ProgramLaw env B rest r rv) (apart : Apart q r) where
   -- the values of both
   abbrev value : CellsValue (A × B)
   value = FieldThen A B q fv rv
@@ -164,7 +164,7 @@ module _ (A B : Type 0) (first : Outcome A) (rest : Outcome B) (q r : Roles)
       (lr.others p n (apart_second p q r a) (without q cs) v.1 (without_spelled q s) h.left)
 
   -- the path gets no shorter
-  both_deep : (s t : Situation) (v : A × B) → NoneOutside s → BothOutcome first rest s (Ok v) t
+  both_deep : (s t : Situation) (v : A × B) → IsWholeIn env s → BothOutcome first rest s (Ok v) t
       → depth s ≤ depth t
   both_deep s t v w o =
       let h = values_of_both A B first rest s t v o in
@@ -174,7 +174,7 @@ module _ (A B : Type 0) (first : Outcome A) (rest : Outcome B) (q r : Roles)
       omega arith
 
   -- the field has its value on its own pieces, and the others on what is left without these
-  both_ok : (s t : Situation) (v : A × B) → NoneOutside s → IsSpelledLine s.context
+  both_ok : (s t : Situation) (v : A × B) → IsWholeIn env s → IsSpelledLine s.context
       → BothOutcome first rest s (Ok v) t → NonePresent (cells t) → value (cells s) v
   both_ok s t v w spelled o e =
       let h = values_of_both A B first rest s t v o in
@@ -191,7 +191,7 @@ module _ (A B : Type 0) (first : Outcome A) (rest : Outcome B) (q r : Roles)
       }
 
   -- where both have a value, the others answer one on what the field left, or want of memory
-  rest_gives : (s m t : Situation) (x : A) (y : Result B Error) (u : A × B) → NoneOutside s
+  rest_gives : (s m t : Situation) (x : A) (y : Result B Error) (u : A × B) → IsWholeIn env s
       → first s (Ok x) m → rest m y t → value (cells s) u
       → fv (pieces q (cells s)) x × GivesAll (rv (without q (cells s))) y t
   rest_gives s m t x y u w f g h =
@@ -205,7 +205,7 @@ module _ (A B : Type 0) (first : Outcome A) (rest : Outcome B) (q r : Roles)
       )
 
   -- each answer
-  both_answers : (s t : Situation) (a : Result (A × B) Error) (u : A × B) → NoneOutside s
+  both_answers : (s t : Situation) (a : Result (A × B) Error) (u : A × B) → IsWholeIn env s
       → BothOutcome first rest s a t → value (cells s) u → GivesAll (value (cells s)) a t
   both_answers s t (Ok v) u w o h =
       let i = values_of_both A B first rest s t v o in
@@ -219,7 +219,7 @@ module _ (A B : Type 0) (first : Outcome A) (rest : Outcome B) (q r : Roles)
       by_side (by_rest {v = v} {m = m} f g) = (rest_gives s m t v (Err e) u w f g h).1
 
   -- the laws
-  pub before_law : ProgramLaw (A × B) (BothOutcome first rest) (either q r) value
+  pub before_law : ProgramLaw env (A × B) (BothOutcome first rest) (either q r) value
   before_law = record {
     others = both_others;
     deep = both_deep;
@@ -228,19 +228,19 @@ module _ (A B : Type 0) (first : Outcome A) (rest : Outcome B) (q r : Roles)
   }
 
 -- The constructor of a product.
-module _ (A B : Type 0) (fields : Outcome A) (makes : A → B → Type 0) (r : Roles)
-    (inner : CellsValue A) (l : ProgramLaw A fields r inner) where
+module _ {env : Variables} (A B : Type 0) (fields : Outcome A) (makes : A → B → Type 0) (r : Roles)
+    (inner : CellsValue A) (l : ProgramLaw env A fields r inner) where
   -- what it makes of the fields' values
   abbrev made : CellsValue B
   made = ClosedCells A B inner (map_closure makes)
 
   -- it changes nothing
-  con_deep : (s t : Situation) (v : B) → NoneOutside s → ProductOutcome fields makes s (Ok v) t
+  con_deep : (s t : Situation) (v : B) → IsWholeIn env s → ProductOutcome fields makes s (Ok v) t
       → depth s ≤ depth t
   con_deep s t v w o = subst (λ z. depth s ≤ depth z) (sym o.4) (l.deep s o.0 o.1 w o.2)
 
   -- its value is made of theirs
-  con_ok : (s t : Situation) (v : B) → NoneOutside s → IsSpelledLine s.context
+  con_ok : (s t : Situation) (v : B) → IsWholeIn env s → IsSpelledLine s.context
       → ProductOutcome fields makes s (Ok v) t → NonePresent (cells t) → made (cells s) v
   con_ok s t v w spelled o n = record {
     from = o.1;
@@ -249,7 +249,7 @@ module _ (A B : Type 0) (fields : Outcome A) (makes : A → B → Type 0) (r : R
   }
 
   -- each answer
-  con_answers : (s t : Situation) (a : Result B Error) (u : B) → NoneOutside s
+  con_answers : (s t : Situation) (a : Result B Error) (u : B) → IsWholeIn env s
       → ProductOutcome fields makes s a t → made (cells s) u → GivesAll (made (cells s)) a t
   con_answers s t (Ok v) u w o h =
       let j = l.answers s o.0 (Ok o.1) h.from w o.2 h.read in (
@@ -259,7 +259,7 @@ module _ (A B : Type 0) (fields : Outcome A) (makes : A → B → Type 0) (r : R
   con_answers s t (Err e) u w o h = l.answers s o.0 (Err e) h.from w o.1 h.read
 
   -- the laws
-  pub con_program : ProgramLaw B (ProductOutcome fields makes) r made
+  pub con_program : ProgramLaw env B (ProductOutcome fields makes) r made
   con_program = record {
     others = λ q n a cs v s h. l.others q n a cs h.from s h.read;
     deep = con_deep;

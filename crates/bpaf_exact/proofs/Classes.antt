@@ -86,7 +86,8 @@ stop_class m untouched e =
     (sym (ap (λ b. not (is_memory m) && b) (stop_test m untouched)) ∙ e)
   where
     by_tests : (a b c : Bool) → (not a && (if b then untouched else c)) ≡ true
-        → ((class_of_tests a b c ≡ OfMissing) × (untouched ≡ true)) ⊎ (class_of_tests a b c ≡ Caught)
+        → ((class_of_tests a b c ≡ OfMissing) × (untouched ≡ true)) ⊎
+        (class_of_tests a b c ≡ Caught)
     by_tests true b c h = absurd cc
     by_tests false true c h = inl (refl, h)
     by_tests false false true h = inr refl
@@ -100,7 +101,8 @@ no_stop_class m untouched e c =
     (sym (ap (λ b. not (is_memory m) && b) (stop_test m untouched)) ∙ e) c
   where
     by_tests : (a b c : Bool) → (not a && (if b then untouched else c)) ≡ false
-        → ((class_of_tests a b c ≡ OfMissing) × (untouched ≡ true)) ⊎ (class_of_tests a b c ≡ Caught) → ⊥
+        → ((class_of_tests a b c ≡ OfMissing) × (untouched ≡ true)) ⊎
+        (class_of_tests a b c ≡ Caught) → ⊥
     by_tests true b c h (inl k) = let d = k.0 in cc
     by_tests true b c h (inr k) = cc
     by_tests false true c h (inl k) = true≢false (sym k.1 ∙ h)

@@ -9,8 +9,7 @@ use Rattle.bpaf_line.specs.Situation.{Context, Situation, beginning, item_in, is
 use Rattle.bpaf_line.specs.Taking.{open_item}
 use Rattle.bpaf_laws.specs.Reading.{Outcome}
 use Rattle.bpaf_exact.specs.Pieces.{Roles, LinePiece, Cut}
-use Rattle.bpaf_exact.specs.Flat.{cells, NonePresent, NoneOutside, FieldsLaw, FieldsReading}
-use Rattle.bpaf_exact.specs.Flat.{ReadOff}
+use Rattle.bpaf_exact.specs.Flat.{cells, NonePresent, IsWholeIn, FieldsLaw, FieldsReading, ReadOff}
 use Rattle.bpaf_exact.specs.Record.{line_cells, RecordValue, RunAnswer, Accepted, RunRan, run_value}
 use Rattle.bpaf_exact.specs.Record.{run_leftover, run_memory, run_refusal, IsNoValue}
 use Rattle.bpaf_exact.specs.Record.{IsAcceptedOrWant, IsExact}
@@ -51,14 +50,15 @@ no_value (Accepted x) v n h = n
 no_value _ v n h = cc
 
 module _ (V : Type 0) (outcome : Outcome V) (r : Roles) (reading : FieldsReading V)
-    (l : FieldsLaw V outcome r reading) (context : Context) where
+    (context : Context) (l : FieldsLaw context.env V outcome r reading) where
   -- the situation at the beginning
   abbrev s : Situation
   s = beginning context
 
   -- the scope is the whole line
-  whole : NoneOutside s
-  whole = record { end = refl; front = λ p l. absurd (omega arith) }
+  whole : IsWholeIn context.env s
+  whole =
+      record { end = refl; front = λ p l. absurd (omega arith); environment = refl }
 
   -- where no item is counted none is present
   nothing_left : (t : Situation) (v : V) → outcome s (Ok v) t → open_count t ≡ 0
@@ -117,8 +117,8 @@ module _ (V : Type 0) (outcome : Outcome V) (r : Roles) (reading : FieldsReading
 
 -- each answer of a run of a flat record is exact
 pub runs_exactly : (V : Type 0) (outcome : Outcome V) (names : List Names) (s : FlatForm V)
-    → is_record s ≡ true → FormLaw outcome names s → (context : Context)
+    → is_record s ≡ true → (context : Context) → FormLaw context.env outcome names s
     → RunsExactly outcome s context
-runs_exactly V outcome names s h l context a r =
-    exact V outcome (product_roles (flat_record s)) (product_reading (flat_record s))
-    (record_law V outcome names s h l) context a r
+runs_exactly V outcome names s h context l a r =
+    exact V outcome (product_roles (flat_record s)) (product_reading (flat_record s)) context
+    (record_law context.env V outcome names s h l) a r

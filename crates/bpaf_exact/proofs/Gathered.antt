@@ -7,8 +7,8 @@ use Rattle.bpaf_laws.specs.Reading.{Outcome}
 use Rattle.bpaf_laws.specs.Repeat.{LastOutcome, UntilRest}
 use Rattle.bpaf_exact.proofs.Fronts.{back_all, nil_each}
 use Rattle.bpaf_exact.specs.Pieces.{Roles, LinePiece, pieces}
-use Rattle.bpaf_exact.specs.Flat.{cells, NoneOutside, FieldKind, front, back, FieldTook, FieldLaw}
-use Rattle.bpaf_exact.specs.Flat.{NoKeysLeft, OfMemory, class}
+use Rattle.bpaf_exact.specs.Flat.{cells, IsWholeIn, FieldKind, front, back, FieldTook, FieldLaw}
+use Rattle.bpaf_exact.specs.Flat.{NoKeysLeft, OfMemory, class, Variables}
 use Rattle.bpaf_exact.specs.Single.{Groups, Gap, SingleOk, gave_absent, took, SingleLaw, OwnList}
 use Rattle.bpaf_exact.specs.Single.{listed, listed_and_absent, only_absent, Own, own_none, own_more}
 use Rattle.bpaf_exact.specs.Single.{repeated, RepeatOutcome}
@@ -25,11 +25,11 @@ no_last T vs v l e = by_before l.before (sym l.is ∙ e)
     by_before [] h = cc
     by_before (x ∷ xs) h = cc
 
-module _ (T : Type 0) (inner : Outcome T)
+module _ {env : Variables} (T : Type 0) (inner : Outcome T)
     (k : FieldKind) (q : Roles) (group : Groups T) (gap : Gap T)
-    (l : SingleLaw T inner k q group gap) where
+    (l : SingleLaw env T inner k q group gap) where
   -- the laws of the list
-  rl : FieldLaw (List T) (RepeatOutcome inner true) (repeated k) q (OwnList T group gap)
+  rl : FieldLaw env (List T) (RepeatOutcome inner true) (repeated k) q (OwnList T group gap)
   rl = repeat_law T inner k q group gap l true
 
   -- no value at all: there was no piece, and none has an absent value
@@ -66,7 +66,7 @@ module _ (T : Type 0) (inner : Outcome T)
   again_never m t v h p (took g) = g.found p
 
   -- so the evaluation after an empty list answers no value
-  again_ok : (s m t : Situation) (v : T) → NoneOutside s → UntilRest inner s [] m
+  again_ok : (s m t : Situation) (v : T) → IsWholeIn env s → UntilRest inner s [] m
       → inner m (Ok v) t → ⊥
   again_ok s m t v w f g =
       let i = repeat_took T inner k q group gap l true s m [] w f in
@@ -81,7 +81,7 @@ module _ (T : Type 0) (inner : Outcome T)
           again_never m t v h (nil_each k _ (ap (front (repeated k)) same ∙ e)) o
 
   -- a last value is that of the own list
-  last_took : (s t : Situation) (v : T) → NoneOutside s → LastOutcome inner s (Ok v) t
+  last_took : (s t : Situation) (v : T) → IsWholeIn env s → LastOutcome inner s (Ok v) t
       → FieldTook T (repeated k) q (LastOf T group gap) s v t
   last_took s t v w (inl o) =
       let vs = o.0 ++ v ∷ [] in
@@ -99,28 +99,28 @@ module _ (T : Type 0) (inner : Outcome T)
   last_took s t v w (inr o) = absurd (again_ok s o.0 t v w o.1 o.2)
 
   -- where the list has a last value it isn't empty
-  never_empty : (s m : Situation) (v : T) → NoneOutside s → UntilRest inner s [] m
+  never_empty : (s m : Situation) (v : T) → IsWholeIn env s → UntilRest inner s [] m
       → LastOf T group gap (front (repeated k) (pieces q (cells s))) v → ⊥
   never_empty s m v w f h =
       let i = repeat_took T inner k q group gap l true s m [] w f in
       no_last T h.list v h.is (empty_nothing _ h.list (empty_list _ [] refl i.list) h.own)
 
   -- so all is taken,
-  last_takes : (s t : Situation) (x v : T) → NoneOutside s → LastOutcome inner s (Ok x) t
+  last_takes : (s t : Situation) (x v : T) → IsWholeIn env s → LastOutcome inner s (Ok x) t
       → LastOf T group gap (front (repeated k) (pieces q (cells s))) v
       → NoKeysLeft (repeated k) q (cells t)
   last_takes s t x v w (inl o) h = rl.takes_all s t (o.0 ++ x ∷ []) h.list w o.1 h.own
   last_takes s t x v w (inr o) h = absurd (never_empty s o.0 v w o.1 h)
 
   -- and a refusal is want of memory
-  last_refuses : (s t : Situation) (e : Error) (v : T) → NoneOutside s
+  last_refuses : (s t : Situation) (e : Error) (v : T) → IsWholeIn env s
       → LastOutcome inner s (Err e) t
       → LastOf T group gap (front (repeated k) (pieces q (cells s))) v → class e ≡ OfMemory
   last_refuses s t e v w (inl o) h = rl.refuses s t e h.list w o h.own
   last_refuses s t e v w (inr o) h = absurd (never_empty s o.0 v w o.1 h)
 
   -- last keeps to the laws of a field
-  pub last_of_law : FieldLaw T (LastOutcome inner) (repeated k) q (LastOf T group gap)
+  pub last_of_law : FieldLaw env T (LastOutcome inner) (repeated k) q (LastOf T group gap)
   last_of_law = record {
     own = rl.own;
     ok = last_took;

@@ -22,8 +22,6 @@ pub mod Choice
 pub mod Records
 pub mod NamedProducts
 pub mod Narrow
-pub mod Variables
-pub mod Environments
 pub mod FlatForm
 pub mod Exact
 pub mod ByTables

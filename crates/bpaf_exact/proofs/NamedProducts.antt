@@ -6,8 +6,8 @@ use Rattle.bpaf_line.specs.declared.error.Error.{Error}
 use Rattle.bpaf_line.specs.Situation.{Situation}
 use Rattle.bpaf_laws.specs.Product.{BothOutcome, ProductOutcome}
 use Rattle.bpaf_laws.specs.Reading.{Outcome}
-use Rattle.bpaf_exact.specs.Flat.{ByName, FieldLaw, FieldTook, FieldsReading, NoneOutside, OfMemory}
-use Rattle.bpaf_exact.specs.Flat.{both_reading, cells, class}
+use Rattle.bpaf_exact.specs.Flat.{ByName, FieldLaw, FieldTook, FieldsReading, IsWholeIn, OfMemory}
+use Rattle.bpaf_exact.specs.Flat.{both_reading, cells, class, Variables}
 use Rattle.bpaf_exact.specs.Pieces.{Alone, Apart, Cells, Foreign, LinePiece, One, Role, Roles}
 use Rattle.bpaf_exact.specs.Pieces.{TakesPieces, WithNext, begin_piece, either, is_own_role, mine}
 use Rattle.bpaf_exact.specs.Pieces.{no_roles, others, pieces, takes_more, takes_none, with_next}
@@ -100,9 +100,10 @@ module _ (p q r : Roles) (u : Union p q r) where
   takes_some_left (takes_more t more) = takes_more (takes_left p q r u t) (takes_some_left more)
 
 -- A named field before other named fields.
-module _ (A B : Type 0) (first : Outcome A) (rest : Outcome B) (q r : Roles)
-    (fv : List LinePiece → A → Type 0) (read : FieldsReading B) (lf : FieldLaw A first ByName q fv)
-    (lr : FieldLaw B rest ByName r read.value) (apart : Apart q r) where
+module _ {env : Variables} (A B : Type 0) (first : Outcome A) (rest : Outcome B) (q r : Roles)
+    (fv : List LinePiece → A → Type 0) (read : FieldsReading B)
+    (lf : FieldLaw env A first ByName q fv)
+    (lr : FieldLaw env B rest ByName r read.value) (apart : Apart q r) where
   -- the values of both
   abbrev value : List LinePiece → A × B → Type 0
   value = (both_reading ByName q fv read).value
@@ -140,7 +141,7 @@ module _ (A B : Type 0) (first : Outcome A) (rest : Outcome B) (q r : Roles)
       keeps_other_some r q lr.own lf.own (record { left = apart.right; right = apart.left }) t
 
   -- a value, where nothing of either's own is left
-  both_took : (s t : Situation) (v : A × B) → NoneOutside s → BothOutcome first rest s (Ok v) t
+  both_took : (s t : Situation) (v : A × B) → IsWholeIn env s → BothOutcome first rest s (Ok v) t
       → FieldTook (A × B) ByName both value s v t
   both_took s t v w o =
       let h = values_of_both A B first rest s t v o in
@@ -159,14 +160,14 @@ module _ (A B : Type 0) (first : Outcome A) (rest : Outcome B) (q r : Roles)
       }
 
   -- where both have a value, so have the others after the first
-  rest_value : (s m : Situation) (x : A) (u : A × B) → NoneOutside s → first s (Ok x) m
+  rest_value : (s m : Situation) (x : A) (u : A × B) → IsWholeIn env s → first s (Ok x) m
       → value (pieces both (cells s)) u → read.value (pieces r (cells m)) u.1
   rest_value s m x u w f h =
       subst (λ os. read.value os u.1) (sym (rest_kept (lf.ok s m x w f).takes))
       (each_value (cells s) u h).1
 
   -- so nothing of either's own is left
-  both_take : (s t : Situation) (v u : A × B) → NoneOutside s → BothOutcome first rest s (Ok v) t
+  both_take : (s t : Situation) (v u : A × B) → IsWholeIn env s → BothOutcome first rest s (Ok v) t
       → value (pieces both (cells s)) u → pieces both (cells t) ≡ []
   both_take s t v u w o h =
       let i = values_of_both A B first rest s t v o in
@@ -178,7 +179,7 @@ module _ (A B : Type 0) (first : Outcome A) (rest : Outcome B) (q r : Roles)
       (rest_value s i.middle v.0 u w i.first_ran h))
 
   -- and a refusal is want of memory
-  both_refuse : (s t : Situation) (e : Error) (u : A × B) → NoneOutside s
+  both_refuse : (s t : Situation) (e : Error) (u : A × B) → IsWholeIn env s
       → BothOutcome first rest s (Err e) t → value (pieces both (cells s)) u → class e ≡ OfMemory
   both_refuse s t e u w o h = by_side (refused_by A B first rest s t e o)
     where
@@ -191,7 +192,7 @@ module _ (A B : Type 0) (first : Outcome A) (rest : Outcome B) (q r : Roles)
           (rest_value s m v u w f h)
 
   -- together they keep to the laws of a named field
-  pub named_both_law : FieldLaw (A × B) (BothOutcome first rest) ByName both value
+  pub named_both_law : FieldLaw env (A × B) (BothOutcome first rest) ByName both value
   named_both_law = record {
     own = union_named q r both together;
     ok = both_took;
@@ -206,8 +207,9 @@ none_of_nobody (None ∷ cs) = none_of_nobody cs
 none_of_nobody (Some k ∷ cs) = none_of_nobody cs
 
 -- The last of named fields.
-module _ (T : Type 0) (outcome : Outcome T) (q : Roles) (value : List LinePiece → T → Type 0)
-    (l : FieldLaw T outcome ByName q value) where
+module _ {env : Variables} (T : Type 0) (outcome : Outcome T) (q : Roles)
+    (value : List LinePiece → T → Type 0)
+    (l : FieldLaw env T outcome ByName q value) where
   -- its items
   abbrev alone : Roles
   alone = either q no_roles
@@ -230,7 +232,7 @@ module _ (T : Type 0) (outcome : Outcome T) (q : Roles) (value : List LinePiece 
   own_read cs v h = subst (λ os. value os v) (mine_of_both q no_roles alone by_itself cs) h.read
 
   -- a last field keeps to the laws of a named one
-  pub named_last_law : FieldLaw T outcome ByName alone (LastValue T ByName q value)
+  pub named_last_law : FieldLaw env T outcome ByName alone (LastValue T ByName q value)
   named_last_law = record {
     own = union_named q no_roles alone by_itself;
     ok = λ s t v w o. let i = l.ok s t v w o in record {
@@ -246,14 +248,14 @@ module _ (T : Type 0) (outcome : Outcome T) (q : Roles) (value : List LinePiece 
   }
 
 -- The constructor of named fields.
-module _ (A B : Type 0) (fields : Outcome A) (makes : A → B → Type 0) (q : Roles)
-    (value : List LinePiece → A → Type 0) (l : FieldLaw A fields ByName q value) where
+module _ {env : Variables} (A B : Type 0) (fields : Outcome A) (makes : A → B → Type 0) (q : Roles)
+    (value : List LinePiece → A → Type 0) (l : FieldLaw env A fields ByName q value) where
   -- what it makes of their values
   abbrev made : List LinePiece → B → Type 0
   made = ClosedValue A B value (map_closure makes)
 
   -- a value is made of one
-  con_took : (s t : Situation) (v : B) → NoneOutside s → ProductOutcome fields makes s (Ok v) t
+  con_took : (s t : Situation) (v : B) → IsWholeIn env s → ProductOutcome fields makes s (Ok v) t
       → FieldTook B ByName q made s v t
   con_took s t v w o =
       let i = l.ok s o.0 o.1 w o.2 in
@@ -269,14 +271,14 @@ module _ (A B : Type 0) (fields : Outcome A) (makes : A → B → Type 0) (q : R
       })
 
   -- where they have values, all is taken
-  con_takes : (s t : Situation) (v u : B) → NoneOutside s → ProductOutcome fields makes s (Ok v) t
+  con_takes : (s t : Situation) (v u : B) → IsWholeIn env s → ProductOutcome fields makes s (Ok v) t
       → made (pieces q (cells s)) u → pieces q (cells t) ≡ []
   con_takes s t v u w o h =
       ap (pieces q) (ap cells o.4 ∙ current_cells o.0)
       ∙ l.takes_all s o.0 o.1 h.from w o.2 h.read
 
   -- with its constructor a product keeps to the laws of a named field
-  pub named_con_law : FieldLaw B (ProductOutcome fields makes) ByName q made
+  pub named_con_law : FieldLaw env B (ProductOutcome fields makes) ByName q made
   named_con_law = record {
     own = l.own;
     ok = con_took;

@@ -10,7 +10,7 @@ use Rattle.bpaf_base.specs.Items.{item_text}
 use Rattle.bpaf_line.specs.Situation.{Context}
 use Rattle.bpaf_laws.specs.Reading.{Outcome}
 use Rattle.bpaf_exact.specs.Pieces.{Cells, Roles, LinePiece, One, Two}
-use Rattle.bpaf_exact.specs.Flat.{FieldsLaw, FieldsReading, FieldKind, ByName, ReadOff}
+use Rattle.bpaf_exact.specs.Flat.{FieldsLaw, FieldsReading, FieldKind, ByName, ReadOff, Variables}
 use Rattle.bpaf_exact.specs.Single.{Groups, Gap, FrontOf, Own, own_none, own_more, SingleLaw}
 use Rattle.bpaf_exact.specs.Single.{SingleValue, of_group, of_gap, OwnList, listed}
 use Rattle.bpaf_exact.specs.Single.{listed_and_absent, only_absent, repeated}
@@ -161,9 +161,9 @@ if_view T X see s false u = tt
 
 -- Fields without a repeat or default, and what is made of them.
 
-module _ (T X : Type 0) (see : T → X) (inner : Outcome T)
+module _ {env : Variables} (T X : Type 0) (see : T → X) (inner : Outcome T)
     (k : FieldKind) (q : Roles) (group : Groups T)
-    (gap : Gap T) (l : SingleLaw T inner k q group gap) (one : OneGroup see group)
+    (gap : Gap T) (l : SingleLaw env T inner k q group gap) (one : OneGroup see group)
     (absent : Alike see gap.absent) where
   -- own lists of the same pieces look alike
   own_view : (os : List LinePiece) (vs ws : List T) → Own T group os vs → Own T group os ws
@@ -237,14 +237,14 @@ module _ (T X : Type 0) (see : T → X) (inner : Outcome T)
       absurd (none_single [] w refl h g)
   fallback_value_view f given os v w (kept_value h y) (kept_value i z) = given v w y z
 
-module _ (T X : Type 0) (see : T → X) (inner : Outcome T) where
+module _ (env : Variables) (T X : Type 0) (see : T → X) (inner : Outcome T) where
   -- a repeat or default round a field, all values of which look alike
   whole_view : {B Y : Type 0} (look : B → Y) (kind : FieldKind → FieldKind)
       (value : Groups T → Gap T → List LinePiece → B → Type 0)
       → ((k : FieldKind) (q : Roles) (group : Groups T) (gap : Gap T)
-      → SingleLaw T inner k q group gap → OneGroup see group → Alike see gap.absent
+      → SingleLaw env T inner k q group gap → OneGroup see group → Alike see gap.absent
       → (os : List LinePiece) → Alike look (value group gap os))
-      → (names : List Names) (s : FlatForm T) → FormLaw inner names s → HasOneView see s
+      → (names : List Names) (s : FlatForm T) → FormLaw env inner names s → HasOneView see s
       → HasOneView look (flat_whole kind value s)
   whole_view look kind value each names (alternative q one) l u =
       each ByName q _ _ (alternative_single T inner q one l.0) (front_view T X see one u)
@@ -254,19 +254,20 @@ module _ (T X : Type 0) (see : T → X) (inner : Outcome T) where
   whole_view look kind value each names _ l u = tt
 
   -- the list of a repeat
-  pub repeat_view : (names : List Names) (s : FlatForm T) → FormLaw inner names s → HasOneView see s
+  pub repeat_view : (names : List Names) (s : FlatForm T) → FormLaw env inner names s
+      → HasOneView see s
       → HasOneView (map see) (flat_repeat s)
   repeat_view = whole_view (map see) repeated (OwnList T) (list_view T X see inner)
 
   -- a field that may be left out
-  pub optional_field_view : (names : List Names) (s : FlatForm T) → FormLaw inner names s
+  pub optional_field_view : (names : List Names) (s : FlatForm T) → FormLaw env inner names s
       → HasOneView see s → HasOneView (option_map see) (flat_optional s)
   optional_field_view =
       whole_view (option_map see) (λ k. k) (OptionalValue T) (optional_value_view T X see inner)
 
   -- a field with a default
   pub fallback_view : (f : Closure (Unit {0}) T) → Alike see (λ v. f.yes tt v)
-      → (names : List Names) (s : FlatForm T) → FormLaw inner names s → HasOneView see s
+      → (names : List Names) (s : FlatForm T) → FormLaw env inner names s → HasOneView see s
       → HasOneView see (flat_fallback f s)
   fallback_view f given =
       whole_view see (λ k. k) (λ group gap. FallbackValue T group gap f)
@@ -274,7 +275,8 @@ module _ (T X : Type 0) (see : T → X) (inner : Outcome T) where
       given)
 
   -- any field of a record
-  pub field_view : (names : List Names) (s : FlatForm T) → FormLaw inner names s → HasOneView see s
+  pub field_view : (names : List Names) (s : FlatForm T) → FormLaw env inner names s
+      → HasOneView see s
       → HasOneView see (flat_field s)
   field_view names (complete k q value) l u = u
   field_view names (product true q fields) l u = u
@@ -285,11 +287,11 @@ module _ (T X : Type 0) (see : T → X) (inner : Outcome T) where
 -- The list of a repeat, as the program keeps it.
 
 -- many
-pub many_view : (T X : Type 0) (see : T → X) (inner : Outcome T) (names : List Names)
-    (s : FlatForm T)
-    → FormLaw inner names s → HasOneView see s
+pub many_view : (env : Variables) (T X : Type 0) (see : T → X) (inner : Outcome T)
+    (names : List Names) (s : FlatForm T)
+    → FormLaw env inner names s → HasOneView see s
     → HasOneView (λ values. map see values.items) (flat_many s)
-many_view T X see inner names s l u =
+many_view env T X see inner names s l u =
     closed_view (List T) (Vec T) (List X) (List X) (map see) (λ values. map see values.items)
     (list_closure T)
     (record {
@@ -297,7 +299,7 @@ many_view T X see inner names s l u =
           ∙ (e ∙ sym (ap (map see) g));
       apart = λ x y v e f n. n;
     }) (flat_repeat s)
-    (repeat_view T X see inner names s l u)
+    (repeat_view env T X see inner names s l u)
 
 -- Products.
 
@@ -319,10 +321,12 @@ module _ (T X : Type 0) (see : T → X) where
   alone_view _ u = tt
 
   -- a record
-  record_view : (inner : Outcome T) (names : List Names) (s : FlatForm T) → FormLaw inner names s
+  record_view : (env : Variables) (inner : Outcome T) (names : List Names) (s : FlatForm T)
+      → FormLaw env inner names s
       → HasOneView see s → HasOneView see (flat_record s)
-  record_view inner names (product named q fields) l u = u
-  record_view inner names s l u = alone_view (flat_field s) (field_view T X see inner names s l u)
+  record_view env inner names (product named q fields) l u = u
+  record_view env inner names s l u =
+      alone_view (flat_field s) (field_view env T X see inner names s l u)
 
   -- the values of a record
   product_view : (s : FlatForm T) → HasOneView see s → (os : List LinePiece)
@@ -331,8 +335,9 @@ module _ (T X : Type 0) (see : T → X) where
   product_view _ u os v w a b = absurd a
 
   -- an exact answer looks like each value of the record
-  like_this : (inner : Outcome T) (r : Roles) (reading : FieldsReading T) (context : Context)
-      → FieldsLaw T inner r reading
+  like_this : {env : Variables} (inner : Outcome T) (r : Roles) (reading : FieldsReading T)
+      (context : Context)
+      → FieldsLaw env T inner r reading
       → Alike see (λ v. RecordValue r reading.value context v) → (a : RunAnswer T) (v : T)
       → IsExact T r reading context a
       → RecordValue r reading.value context v → LooksLike see v a
@@ -342,23 +347,24 @@ module _ (T X : Type 0) (see : T → X) where
       e.complete h.cut_into h.cut (l.has_each h.cut_into v h.read)
 
   -- All values of the same cells look alike.
-  pub record_looks_one : (outcome : Outcome T) (names : List Names) (s : FlatForm T)
-      → is_record s ≡ true → FormLaw outcome names s → HasOneView see s → (cs : Cells)
+  pub record_looks_one : (env : Variables) (outcome : Outcome T) (names : List Names)
+      (s : FlatForm T)
+      → is_record s ≡ true → FormLaw env outcome names s → HasOneView see s → (cs : Cells)
       → Alike see (ReadOff T (product_roles (flat_record s)) (product_reading (flat_record s)).value
       cs)
-  record_looks_one outcome names s h l u cs v w a b =
-      let f = record_law T outcome names s h l in
+  record_looks_one env outcome names s h l u cs v w a b =
+      let f = record_law env T outcome names s h l in
       let c = one_cut
       (product_roles (flat_record s)) _ a.cut_into b.cut_into f.named a.cut b.cut in
-      product_view (flat_record s) (record_view outcome names s l u) b.cut_into v w
+      product_view (flat_record s) (record_view env outcome names s l u) b.cut_into v w
       (subst (λ os. (product_reading (flat_record s)).value os v) c a.read) b.read
 
   -- Where the record has a value, each answer looks like it, or is want of memory; with the value
   -- itself for a view, it is that value.
   pub runs_to_one : (outcome : Outcome T) (names : List Names) (s : FlatForm T) → is_record s ≡ true
-      → FormLaw outcome names s → HasOneView see s → (context : Context)
+      → (context : Context) → FormLaw context.env outcome names s → HasOneView see s
       → RunsToOne see outcome s context
-  runs_to_one outcome names s h l u context a v ran r =
-      like_this outcome _ _ context (record_law T outcome names s h l)
-      (record_looks_one outcome names s h l u (line_cells context)) a v
-      (runs_exactly T outcome names s h l context a ran) r
+  runs_to_one outcome names s h context l u a v ran r =
+      like_this outcome _ _ context (record_law context.env T outcome names s h l)
+      (record_looks_one context.env outcome names s h l u (line_cells context)) a v
+      (runs_exactly T outcome names s h context l a ran) r

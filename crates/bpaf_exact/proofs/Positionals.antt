@@ -11,8 +11,8 @@ use Rattle.bpaf_line.specs.Taking.{TakesText}
 use Rattle.bpaf_line.proofs.Matches.{open_item_there}
 use Rattle.bpaf_exact.specs.Pieces.{Cells, Foreign, Alone, WithNext, LinePiece, One, word_roles}
 use Rattle.bpaf_exact.specs.Pieces.{pieces, stands_behind}
-use Rattle.bpaf_exact.specs.Flat.{cells, NoneOutside, Steady, EachWord, OneWord, front, back}
-use Rattle.bpaf_exact.specs.Flat.{is_behind}
+use Rattle.bpaf_exact.specs.Flat.{cells, IsWholeIn, Steady, EachWord, OneWord, front, back}
+use Rattle.bpaf_exact.specs.Flat.{is_behind, Variables}
 use Rattle.bpaf_exact.specs.Single.{Groups, FrontOf, no_gap, SingleOk, took, SingleErr, of_memory}
 use Rattle.bpaf_exact.specs.Single.{catch_missing, catch_other, of_missing, of_piece, WordByWord}
 use Rattle.bpaf_exact.specs.Single.{SingleLaw}
@@ -103,7 +103,8 @@ module _ (T : Type 0) (b : Bool) (value : LinePiece → T → Type 0)
   some_front w os may none = let e = front_one b (One w) os may in absurd cc
 
   -- a value is that of the first word
-  word_ok : (s t : Situation) (v : T) → NoneOutside s → WordEval T b value s (Ok v) t
+  word_ok : {env : Variables} (s t : Situation) (v : T) → IsWholeIn env s
+      → WordEval T b value s (Ok v) t
       → SingleOk T (OneWord b) word_roles group (no_gap T) s v t
   word_ok s t v w (word_read {p = p} {strict = strict} {text = text} takes y) =
       let m = took_word s t p strict text takes in
@@ -114,7 +115,8 @@ module _ (T : Type 0) (b : Bool) (value : LinePiece → T → Type 0)
       (some_front m.word _ (λ h. clear h (One m.word) v (y m.word m.text_is))))
 
   -- a refusal: there is no word, or the first can't be read
-  word_err : (s t : Situation) (e : Error) → NoneOutside s → WordEval T b value s (Err e) t
+  word_err : {env : Variables} (s t : Situation) (e : Error) → IsWholeIn env s
+      → WordEval T b value s (Err e) t
       → SingleErr T (OneWord b) word_roles group (no_gap T) s e t
   word_err s t e w (word_fault {p = p} {strict = strict} {text = text} takes before n c) =
       let m = took_word s t p strict text takes in
@@ -169,7 +171,8 @@ module _ (T : Type 0) (b : Bool) (value : LinePiece → T → Type 0)
   }
 
   -- a word keeps to the laws of one evaluation
-  word_law : SingleLaw T (WordEval T b value) (OneWord b) word_roles group (no_gap T)
+  word_law : {env : Variables} → SingleLaw env T (WordEval T b value) (OneWord b) word_roles group
+      (no_gap T)
   word_law = record {
     own = record { words = λ k. refl };
     words = one_by_one;
@@ -180,7 +183,7 @@ module _ (T : Type 0) (b : Bool) (value : LinePiece → T → Type 0)
   }
 
 -- a positional keeps to the laws of its form
-pub word_by_law : (T : Type 0) (b : Bool) (value : LinePiece → T → Type 0)
+pub word_by_law : (env : Variables) (T : Type 0) (b : Bool) (value : LinePiece → T → Type 0)
     → (b ≡ true → (o : LinePiece) (v : T) → value o v → is_behind o ≡ false)
-    → FormLaw (WordEval T b value) [] (word_by b value)
-word_by_law T b value clear = (word_law T b value clear, record { own = λ k e. absurd cc })
+    → FormLaw env (WordEval T b value) [] (word_by b value)
+word_by_law env T b value clear = (word_law T b value clear, record { own = λ k e. absurd cc })

@@ -11,10 +11,10 @@ use Rattle.bpaf_exact.specs.Pieces.{no_roles, Cells, Role, Foreign, Alone, WithN
 use Rattle.bpaf_exact.specs.Pieces.{LinePiece, One, Two, is_own_role, is_own, others, either_role}
 use Rattle.bpaf_exact.specs.Pieces.{either, IsNamed, Apart, Cut, at_end, passed, flag, argument}
 use Rattle.bpaf_exact.specs.Pieces.{word, pieces, TakesPieces}
-use Rattle.bpaf_exact.specs.Flat.{cells, NonePresent, NoneOutside, Steady, FieldKind, ByName}
-use Rattle.bpaf_exact.specs.Flat.{OneWord, EachWord, front, back, share, left, keys, IsWords}
-use Rattle.bpaf_exact.specs.Flat.{OwnItems, NoKeysLeft, FieldTook, FieldLaw, ReadOff, FieldsLaw}
-use Rattle.bpaf_exact.specs.Flat.{Before, FieldsReading, both_reading, class, OfMemory, HasValue}
+use Rattle.bpaf_exact.specs.Flat.{cells, NonePresent, IsWholeIn, Steady, FieldKind, ByName, OneWord}
+use Rattle.bpaf_exact.specs.Flat.{EachWord, front, back, share, left, keys, IsWords, OwnItems}
+use Rattle.bpaf_exact.specs.Flat.{NoKeysLeft, FieldTook, FieldLaw, ReadOff, FieldsLaw, Before}
+use Rattle.bpaf_exact.specs.Flat.{FieldsReading, both_reading, class, OfMemory, HasValue, Variables}
 use Rattle.bpaf_exact.proofs.Classes.{memory_class, not_memory}
 use Rattle.bpaf_exact.proofs.Cells.{value_foreign, word_foreign, begin_foreign, nil_rest}
 use Rattle.bpaf_exact.proofs.Cells.{nil_foreign, pieces_of_cut, others_foreign, put_back_some}
@@ -22,10 +22,12 @@ use Rattle.bpaf_exact.proofs.Cells.{take_some_from}
 use Rattle.bpaf_exact.proofs.Words.{NoKeys, put_words_back, take_words_from, words_of_cut}
 
 -- what isn't taken stays in the scope
-pub none_outside_after : (s t : Situation) → NoneOutside s → Steady s t → NoneOutside t
+pub none_outside_after : {env : Variables} (s t : Situation) → IsWholeIn env s → Steady s t
+    → IsWholeIn env t
 none_outside_after s t w k = record {
   end = k.end ∙ (w.end ∙ ap (λ c. length c.line) (sym k.context));
   front = λ p l. k.keeps p (w.front p (subst (λ n. p < n) k.start l));
+  environment = ap (λ c. c.env) k.context ∙ w.environment;
 }
 
 -- nothing has changed
@@ -299,15 +301,16 @@ module _ (A B : Type 0) (first : Outcome A) (rest : Outcome B) where
       joined_refused s o.middle t o.a o.b e o.first_ran o.rest_ran o.spared o.answer
   refused_by s t e (inr o) = for_memory (memory_class e.0 o.1)
 
-module _ (A B : Type 0) (first : Outcome A) (rest : Outcome B) (k : FieldKind) (q r : Roles)
-    (fv : List LinePiece → A → Type 0) (others_read : FieldsReading B)
-    (lf : FieldLaw A first k q fv) (lr : FieldsLaw B rest r others_read) (b : Before k q r) where
+module _ {env : Variables} (A B : Type 0) (first : Outcome A) (rest : Outcome B) (k : FieldKind)
+    (q r : Roles) (fv : List LinePiece → A → Type 0) (others_read : FieldsReading B)
+    (lf : FieldLaw env A first k q fv) (lr : FieldsLaw env B rest r others_read)
+    (b : Before k q r) where
   -- how both read the pieces
   abbrev reading : FieldsReading (A × B)
   reading = both_reading k q fv others_read
 
   -- a product changes nothing but what is taken
-  both_steady : (s t : Situation) (v : A × B) → NoneOutside s → BothOutcome first rest s (Ok v) t
+  both_steady : (s t : Situation) (v : A × B) → IsWholeIn env s → BothOutcome first rest s (Ok v) t
       → Steady s t
   both_steady s t v w o =
       let h = values_of_both A B first rest s t v o in
@@ -316,7 +319,7 @@ module _ (A B : Type 0) (first : Outcome A) (rest : Outcome B) (k : FieldKind) (
       (lr.steady h.middle t v.1 (none_outside_after s h.middle w i.steady) h.rest_ran)
 
   -- its values are read off a cut
-  both_reads : (s t : Situation) (v : A × B) → NoneOutside s → BothOutcome first rest s (Ok v) t
+  both_reads : (s t : Situation) (v : A × B) → IsWholeIn env s → BothOutcome first rest s (Ok v) t
       → NonePresent (cells t)
       → ReadOff (A × B) (either (keys k q) r) reading.value (cells s) v
   both_reads s t v w o e =
@@ -340,7 +343,7 @@ module _ (A B : Type 0) (first : Outcome A) (rest : Outcome B) (k : FieldKind) (
   own_value s os c h = subst (λ z. fv z h.0) (sym (own_share k q r lf.own b c)) h.1
 
   -- what the first leaves is cut into what it leaves of the pieces
-  rest_cut : (s m : Situation) (x : A) (os : List LinePiece) → NoneOutside s → first s (Ok x) m
+  rest_cut : (s m : Situation) (x : A) (os : List LinePiece) → IsWholeIn env s → first s (Ok x) m
       → Cut (either (keys k q) r) (cells s) os → HasValue fv (share k q os)
       → Cut r (cells m) (left k q os)
   rest_cut s m x os w f c h =
@@ -349,7 +352,7 @@ module _ (A B : Type 0) (first : Outcome A) (rest : Outcome B) (k : FieldKind) (
       (i.rest (lf.takes_all s m x h.0 w f (own_value s os c h))) c
 
   -- so the others leave nothing
-  both_take : (s t : Situation) (u : A × B) (os : List LinePiece) → NoneOutside s
+  both_take : (s t : Situation) (u : A × B) (os : List LinePiece) → IsWholeIn env s
       → BothOutcome first rest s (Ok u) t → Cut (either (keys k q) r) (cells s) os
       → reading.each os → NonePresent (cells t)
   both_take s t u os w o c h =
@@ -359,7 +362,7 @@ module _ (A B : Type 0) (first : Outcome A) (rest : Outcome B) (k : FieldKind) (
       (rest_cut s i.middle u.0 os w i.first_ran c h.0) h.1
 
   -- and a refusal is want of memory
-  both_refuse : (s t : Situation) (e : Error) (os : List LinePiece) → NoneOutside s
+  both_refuse : (s t : Situation) (e : Error) (os : List LinePiece) → IsWholeIn env s
       → BothOutcome first rest s (Err e) t → Cut (either (keys k q) r) (cells s) os
       → reading.each os → class e ≡ OfMemory
   both_refuse s t e os w o c h = by_side (refused_by A B first rest s t e o)
@@ -373,7 +376,7 @@ module _ (A B : Type 0) (first : Outcome A) (rest : Outcome B) (k : FieldKind) (
           (rest_cut s m v os w f c h.0) h.1
 
   -- a flat field before flat fields: together they keep to the laws
-  pub both_law : FieldsLaw (A × B) (BothOutcome first rest) (either (keys k q) r) reading
+  pub both_law : FieldsLaw env (A × B) (BothOutcome first rest) (either (keys k q) r) reading
   both_law = record {
     named = both_named k q r lf.own lr.named;
     steady = both_steady;

@@ -5,7 +5,7 @@ use Rattle.bpaf_line.specs.declared.error.Error.{Error}
 use Rattle.bpaf_laws.specs.Default.{GivesClone}
 use Rattle.bpaf_laws.specs.Pure.{PureOutcome}
 use Rattle.bpaf_doc.specs.Names.{Names}
-use Rattle.bpaf_exact.specs.Flat.{ByName, FieldTook, NoneOutside, OfMemory, cells, class}
+use Rattle.bpaf_exact.specs.Flat.{ByName, FieldTook, IsWholeIn, OfMemory, cells, class, Variables}
 use Rattle.bpaf_exact.specs.FlatForm.{FormLaw}
 use Rattle.bpaf_exact.specs.Leaves.{pure_field}
 use Rattle.bpaf_exact.specs.Pieces.{Cells, LinePiece, TakesPieces, no_roles, pieces, takes_none}
@@ -26,7 +26,7 @@ module _ (T : Type 0) (clones : T → T → Type 0) (kept : T) where
   value os v = clones kept v
 
   -- a value takes nothing
-  pure_ok : (s t : Situation) (v : T) → NoneOutside s
+  pure_ok : {env : Variables} (s t : Situation) (v : T) → IsWholeIn env s
       → PureOutcome (GivesClone clones kept) s (Ok v) t
       → FieldTook T ByName no_roles value s v t
   pure_ok s t v w o =
@@ -50,7 +50,8 @@ module _ (T : Type 0) (clones : T → T → Type 0) (kept : T) where
   pure_refuses s t e o = memory_class e.0 o.0
 
   -- the laws
-  pub pure_field_law : FormLaw (PureOutcome (GivesClone clones kept)) [] (pure_field (clones kept))
+  pub pure_field_law : {env : Variables}
+      → FormLaw env (PureOutcome (GivesClone clones kept)) [] (pure_field (clones kept))
   pure_field_law = (
     record {
       own = record { only_keys = λ k h. refl };

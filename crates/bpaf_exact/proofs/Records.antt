@@ -5,9 +5,9 @@ use Rattle.bpaf_laws.specs.Product.{ProductOutcome}
 use Rattle.bpaf_laws.specs.Reading.{Outcome}
 use Rattle.bpaf_exact.specs.Pieces.{Cells, Roles, Role, Foreign, LinePiece, IsNamed, Cut, either}
 use Rattle.bpaf_exact.specs.Pieces.{either_role, no_roles, pieces}
-use Rattle.bpaf_exact.specs.Flat.{cells, NonePresent, no_place, none_here, NoneOutside, Steady}
+use Rattle.bpaf_exact.specs.Flat.{cells, NonePresent, no_place, none_here, IsWholeIn, Steady}
 use Rattle.bpaf_exact.specs.Flat.{FieldKind, ByName, keys, OwnItems, FieldLaw, FieldsLaw, ReadOff}
-use Rattle.bpaf_exact.specs.Flat.{Before, FieldsReading, HasValue, share, front}
+use Rattle.bpaf_exact.specs.Flat.{Before, FieldsReading, HasValue, share, front, Variables}
 use Rattle.bpaf_exact.specs.Single.{present_count}
 use Rattle.bpaf_exact.specs.Wrappers.{map_closure}
 use Rattle.bpaf_exact.specs.Record.{LastValue, last_reading}
@@ -27,9 +27,9 @@ count_none no_place = refl
 count_none (none_here n) = count_none n
 
 -- The last field of a product, or a record of one field alone.
-module _ (T : Type 0) (outcome : Outcome T)
+module _ {env : Variables} (T : Type 0) (outcome : Outcome T)
     (k : FieldKind) (q : Roles) (value : List LinePiece → T → Type 0)
-    (l : FieldLaw T outcome k q value) where
+    (l : FieldLaw env T outcome k q value) where
   -- a field may stand before none
   pub before_none : Before k q no_roles
   before_none = by_kind k
@@ -51,7 +51,8 @@ module _ (T : Type 0) (outcome : Outcome T)
       by_kind _ n = record { only_keys = λ a h. refl }
 
   -- the value of a last field is read off a cut
-  last_reads : (s t : Situation) (v : T) → NoneOutside s → outcome s (Ok v) t → NonePresent (cells t)
+  last_reads : (s t : Situation) (v : T) → IsWholeIn env s → outcome s (Ok v) t
+      → NonePresent (cells t)
       → ReadOff T (either (keys k q) no_roles) (LastValue T k q value) (cells s) v
   last_reads s t v w o n =
       let i = l.ok s t v w o in
@@ -70,10 +71,12 @@ module _ (T : Type 0) (outcome : Outcome T)
   -- where the field has a value on its pieces, it has one on those of the cells
   own_value : (s : Situation) (os : List LinePiece) → Cut (either (keys k q) no_roles) (cells s) os
       → (h : HasValue value (share k q os)) → value (front k (pieces q (cells s))) h.0
-  own_value s os c h = subst (λ z. value z h.0) (sym (own_share k q no_roles l.own before_none c)) h.1
+  own_value s os c h = subst (λ z. value z h.0)
+      (sym (own_share k q no_roles l.own before_none c)) h.1
 
   -- so nothing is left
-  last_takes : (s t : Situation) (v : T) (os : List LinePiece) → NoneOutside s → outcome s (Ok v) t
+  last_takes : (s t : Situation) (v : T) (os : List LinePiece) → IsWholeIn env s
+      → outcome s (Ok v) t
       → Cut (either (keys k q) no_roles) (cells s) os → (last_reading k q value).each os
       → NonePresent (cells t)
   last_takes s t v os w o c h =
@@ -82,7 +85,7 @@ module _ (T : Type 0) (outcome : Outcome T)
       cut_empty no_roles (step_on k q no_roles l.own before_none i.takes (i.rest all) c) h.1
 
   -- a last field keeps to the laws of a list of fields
-  pub last_law : FieldsLaw T outcome (either (keys k q) no_roles) (last_reading k q value)
+  pub last_law : FieldsLaw env T outcome (either (keys k q) no_roles) (last_reading k q value)
   last_law = record {
     named = keys_named;
     steady = λ s t v w o. (l.ok s t v w o).steady;
@@ -109,20 +112,20 @@ same_steady a = record {
   keeps = a.keeps;
 }
 
-module _ (A B : Type 0) (fields : Outcome A) (makes : A → B → Type 0) (r : Roles)
-    (reading : FieldsReading A) (l : FieldsLaw A fields r reading) where
+module _ {env : Variables} (A B : Type 0) (fields : Outcome A) (makes : A → B → Type 0) (r : Roles)
+    (reading : FieldsReading A) (l : FieldsLaw env A fields r reading) where
   -- what the constructor makes of the fields' values
   abbrev made : FieldsReading B
   made = made_reading (map_closure makes) reading
 
   -- a constructor changes nothing
-  con_steady : (s t : Situation) (v : B) → NoneOutside s → ProductOutcome fields makes s (Ok v) t
+  con_steady : (s t : Situation) (v : B) → IsWholeIn env s → ProductOutcome fields makes s (Ok v) t
       → Steady s t
   con_steady s t v w o =
       subst (Steady s) (sym o.4) (same_steady (l.steady s o.0 o.1 w o.2))
 
   -- its value is made of those that are read off a cut
-  con_reads : (s t : Situation) (v : B) → NoneOutside s → ProductOutcome fields makes s (Ok v) t
+  con_reads : (s t : Situation) (v : B) → IsWholeIn env s → ProductOutcome fields makes s (Ok v) t
       → NonePresent (cells t) → ReadOff B r made.value (cells s) v
   con_reads s t v w o n =
       let a = l.ok s o.0 o.1 w o.2 (subst NonePresent (ap cells o.4 ∙ current_cells o.0) n) in
@@ -134,7 +137,7 @@ module _ (A B : Type 0) (fields : Outcome A) (makes : A → B → Type 0) (r : R
       }
 
   -- a product with its constructor keeps to the laws of a list of fields
-  pub con_law : FieldsLaw B (ProductOutcome fields makes) r made
+  pub con_law : FieldsLaw env B (ProductOutcome fields makes) r made
   con_law = record {
     named = l.named;
     steady = con_steady;

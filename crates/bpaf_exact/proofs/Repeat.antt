@@ -9,8 +9,8 @@ use Rattle.bpaf_laws.specs.Turn.{TurnOutcome}
 use Rattle.bpaf_exact.specs.Pieces.{Cells, Roles, LinePiece, pieces, TakesPieces, takes_none}
 use Rattle.bpaf_exact.specs.Pieces.{takes_more}
 use Rattle.bpaf_exact.specs.Flat.{ErrorClass, OfMemory, OfMissing, Caught, Refused, class, cells}
-use Rattle.bpaf_exact.specs.Flat.{NoneOutside, Steady, FieldKind, ByName, OneWord, EachWord, front}
-use Rattle.bpaf_exact.specs.Flat.{back, OwnItems, FieldLaw}
+use Rattle.bpaf_exact.specs.Flat.{IsWholeIn, Steady, FieldKind, ByName, OneWord, EachWord, front}
+use Rattle.bpaf_exact.specs.Flat.{back, OwnItems, FieldLaw, Variables}
 use Rattle.bpaf_exact.specs.Single.{Groups, Own, own_none, own_more, TakesAny, Readable, Gap}
 use Rattle.bpaf_exact.specs.Single.{TookGroup, SingleOk, gave_absent, took, SingleErr, of_memory}
 use Rattle.bpaf_exact.specs.Single.{of_missing, of_absent, of_piece, SingleLaw, OwnList, listed}
@@ -58,9 +58,8 @@ pub no_stop : (s m : Situation) (e : Error) (c : ErrorClass) → Stops e s m →
 no_stop s m e c (nothing_found h n) g a b = a (sym g ∙ h)
 no_stop s m e c (caught h) g a b = b (sym g ∙ h)
 
-module _ (T : Type 0) (inner : Outcome T) (k : FieldKind) (q : Roles) (group : Groups T)
-    (gap : Gap T)
-    (l : SingleLaw T inner k q group gap) where
+module _ {env : Variables} (T : Type 0) (inner : Outcome T) (k : FieldKind) (q : Roles)
+    (group : Groups T) (gap : Gap T) (l : SingleLaw env T inner k q group gap) where
   -- the pieces that a repeat takes
   abbrev own : Situation → List LinePiece
   own s = front (repeated k) (pieces q (cells s))
@@ -177,7 +176,7 @@ module _ (T : Type 0) (inner : Outcome T) (k : FieldKind) (q : Roles) (group : G
   enough_took s t v same (took h) = absurd (not_fewer s t same (fewer_count s t h.takes))
 
   -- a turn after a value that stops
-  stop_took : (s t : Situation) → NoneOutside s → TurnOutcome inner false false s (Ok None) t
+  stop_took : (s t : Situation) → IsWholeIn env s → TurnOutcome inner false false s (Ok None) t
       → Took s [] t
   stop_took s t w (inl o) = enough_took s t o.0 o.3 (l.ok s t o.0 w o.1)
   stop_took s t w (inr o) =
@@ -185,7 +184,7 @@ module _ (T : Type 0) (inner : Outcome T) (k : FieldKind) (q : Roles) (group : G
       (stop_after s o.0.1 o.0.0 (stops_at o.0.0 s o.0.1 o.0.3) (l.err s o.0.1 o.0.0 w o.0.2))
 
   -- Once it has the first value, a repeat that answers has read all its pieces.
-  later_took : (vs : List T) (s m t : Situation) → NoneOutside s → Turns inner false false s vs m
+  later_took : (vs : List T) (s m t : Situation) → IsWholeIn env s → Turns inner false false s vs m
       → TurnOutcome inner false false m (Ok None) t → Took s vs t
   later_took [] s m t w turns stop =
       stop_took s t w
@@ -254,7 +253,7 @@ module _ (T : Type 0) (inner : Outcome T) (k : FieldKind) (q : Roles) (group : G
       }
 
   -- a first value that took nothing
-  first_idle : (s t : Situation) (v : T) → NoneOutside s → open_count s ≤ open_count t
+  first_idle : (s t : Situation) (v : T) → IsWholeIn env s → open_count s ≤ open_count t
       → SingleOk T k q group gap s v t → RepeatTook s (v ∷ []) t
   first_idle s t v w e (gave_absent h p ab same st) =
       record {
@@ -283,7 +282,7 @@ module _ (T : Type 0) (inner : Outcome T) (k : FieldKind) (q : Roles) (group : G
   first_stop s m e h (of_piece c p n) = absurd (no_stop s m e Refused h c (λ i. cc) (λ i. cc))
 
   -- a first turn that stops read all
-  first_stopped : (s t : Situation) → NoneOutside s → TurnOutcome inner false true s (Ok None) t
+  first_stopped : (s t : Situation) → IsWholeIn env s → TurnOutcome inner false true s (Ok None) t
       → RepeatTook s [] t
   first_stopped s t w (inl o) = absurd (true≢false o.2)
   first_stopped s t w (inr o) =
@@ -291,7 +290,7 @@ module _ (T : Type 0) (inner : Outcome T) (k : FieldKind) (q : Roles) (group : G
       (first_stop s o.0.1 o.0.0 (stops_at o.0.0 s o.0.1 o.0.3) (l.err s o.0.1 o.0.0 w o.0.2))
 
   -- so did turns from the first one on, until one stops
-  turns_took : (first : Bool) (vs : List T) (s m t : Situation) → NoneOutside s
+  turns_took : (first : Bool) (vs : List T) (s m t : Situation) → IsWholeIn env s
       → Turns inner false first s vs m → TurnOutcome inner false (is_nil vs) m (Ok None) t
       → RepeatTook s vs t
   turns_took first [] s m t w turns stop =
@@ -302,7 +301,7 @@ module _ (T : Type 0) (inner : Outcome T) (k : FieldKind) (q : Roles) (group : G
       (λ st. later_took vs turns.0 m t (none_outside_after s turns.0 w st) turns.2 stop)
 
   -- A repeat that answers has read all its pieces.
-  pub repeat_took : (idle : Bool) (s t : Situation) (vs : List T) → NoneOutside s
+  pub repeat_took : (idle : Bool) (s t : Situation) (vs : List T) → IsWholeIn env s
       → RepeatOutcome inner idle s (Ok vs) t → RepeatTook s vs t
   repeat_took false s t vs w o = turns_took true vs s o.last t w o.steps o.stop
   repeat_took true s t vs w (stops m turns stop) = turns_took false vs s m t w turns stop
@@ -335,7 +334,7 @@ module _ (T : Type 0) (inner : Outcome T) (k : FieldKind) (q : Roles) (group : G
       (h.steady, us, subst (λ os. Own T group os us) (f.2 ∙ sym (ap (front (repeated k)) d.1)) o)
 
   -- where the pieces can be read a refusal is want of memory
-  failed_gives : (s t : Situation) (e : Error) (ws : List T) → NoneOutside s
+  failed_gives : (s t : Situation) (e : Error) (ws : List T) → IsWholeIn env s
       → (gap.has ≡ true → (a : T) × gap.absent a) → OwnView (own s) ws
       → (Stops e s t → ⊥)
       → SingleErr T k q group gap s e t → class e ≡ OfMemory
@@ -348,7 +347,7 @@ module _ (T : Type 0) (inner : Outcome T) (k : FieldKind) (q : Roles) (group : G
       let f = of_group _ v rest g in absurd (none v f.0 f.1)
 
   -- where the pieces can be read, a turn fails for want of memory alone
-  turn_fails : (first : Bool) (s t : Situation) (e : Error) (ws : List T) → NoneOutside s
+  turn_fails : (first : Bool) (s t : Situation) (e : Error) (ws : List T) → IsWholeIn env s
       → (gap.has ≡ true → (a : T) × gap.absent a) → OwnView (own s) ws
       → TurnOutcome inner false first s (Err e) t → class e ≡ OfMemory
   turn_fails first s t e ws w ab view (inl o) =
@@ -356,7 +355,7 @@ module _ (T : Type 0) (inner : Outcome T) (k : FieldKind) (q : Roles) (group : G
   turn_fails first s t e ws w ab view (inr o) = memory_class e.0 o.0
 
   -- and so do the turns after a value
-  later_fails : (vs : List T) (s m t : Situation) (e : Error) (ws : List T) → NoneOutside s
+  later_fails : (vs : List T) (s m t : Situation) (e : Error) (ws : List T) → IsWholeIn env s
       → (gap.has ≡ true → (a : T) × gap.absent a) → Own T group (own s) ws
       → Turns inner false false s vs m → TurnOutcome inner false false m (Err e) t
       → class e ≡ OfMemory
@@ -401,7 +400,7 @@ module _ (T : Type 0) (inner : Outcome T) (k : FieldKind) (q : Roles) (group : G
 
   -- so do turns from the first one on
   turns_fail : (first : Bool) (vs : List T) (s m t : Situation) (e : Error) (ws : List T)
-      → NoneOutside s → ListView (own s) ws → Turns inner false first s vs m
+      → IsWholeIn env s → ListView (own s) ws → Turns inner false first s vs m
       → TurnOutcome inner false (is_nil vs) m (Err e) t → class e ≡ OfMemory
   turns_fail first [] s m t e ws w view turns fails =
       by_view view (subst (λ z. TurnOutcome inner false true z (Err e) t) (sym turns) fails)
@@ -422,7 +421,7 @@ module _ (T : Type 0) (inner : Outcome T) (k : FieldKind) (q : Roles) (group : G
       (l.ok s turns.0 v w turns.1.0)
 
   -- where there is an own list a repeat fails for want of memory alone
-  repeat_fails : (idle : Bool) (s t : Situation) (e : Error) (ws : List T) → NoneOutside s
+  repeat_fails : (idle : Bool) (s t : Situation) (e : Error) (ws : List T) → IsWholeIn env s
       → RepeatOutcome inner idle s (Err e) t → OwnList T group gap (own s) ws
       → class e ≡ OfMemory
   repeat_fails false s t e ws w o own_list =
@@ -439,7 +438,7 @@ module _ (T : Type 0) (inner : Outcome T) (k : FieldKind) (q : Roles) (group : G
       by_kind _ o = o
 
   -- many, and what is built on it: the values of the own list
-  pub repeat_law : (idle : Bool) → FieldLaw (List T) (RepeatOutcome inner idle) (repeated k) q
+  pub repeat_law : (idle : Bool) → FieldLaw env (List T) (RepeatOutcome inner idle) (repeated k) q
       (OwnList T group gap)
   repeat_law idle = record {
     own = own_repeated;

@@ -7,7 +7,7 @@ use Rattle.bpaf_laws.specs.Reading.{Outcome}
 use Rattle.bpaf_exact.specs.Pieces.{Roles, LinePiece, One, Two, is_own, mine, others, either}
 use Rattle.bpaf_exact.specs.Pieces.{no_roles, stands_behind}
 use Rattle.bpaf_exact.specs.Flat.{FieldKind, ByName, OneWord, EachWord, FieldsReading, keys, front}
-use Rattle.bpaf_exact.specs.Flat.{back, both_reading}
+use Rattle.bpaf_exact.specs.Flat.{back, both_reading, Variables}
 use Rattle.bpaf_exact.specs.Names.{Owns, are_all_apart}
 use Rattle.bpaf_exact.specs.Single.{Groups, Gap, FrontOf, Own, own_none, own_more, OwnList, listed}
 use Rattle.bpaf_exact.specs.Single.{listed_and_absent, only_absent, SingleValue, of_group, of_gap}
@@ -328,11 +328,12 @@ pub record OwnsKeys {T : Type 0} (names : List Names) (s : FlatForm T) : Type 0 
   pub by : FormOwns names s
 
 -- of what keeps to its law,
-pub owned : {T : Type 0} (outcome : Outcome T) (names : List Names) (s : FlatForm T)
-    → FormLaw outcome names s → OwnsKeys names s
-owned outcome names (complete k q value) law = record { by = law.1 }
-owned outcome names (product named q fields) law = record { by = law.1 }
-owned outcome names _ law = record { by = tt }
+pub owned : (env : Variables) {T : Type 0} (outcome : Outcome T) (names : List Names)
+    (s : FlatForm T)
+    → FormLaw env outcome names s → OwnsKeys names s
+owned env outcome names (complete k q value) law = record { by = law.1 }
+owned env outcome names (product named q fields) law = record { by = law.1 }
+owned env outcome names _ law = record { by = tt }
 
 -- as a field
 pub field_says : {T : Type 0} {s : FlatForm T} {kind : SaidKind} {names : List Names}
@@ -361,8 +362,7 @@ optional_says {T} {s} {said = said} h = record {
 
 -- under a fallback
 pub fallback_says : {T : Type 0} (f : Closure (Unit {0}) T) {s : FlatForm T} {kind : SaidKind}
-    {names : List Names}
-    {said : Said T} → Says names s kind said
+    {names : List Names} {said : Said T} → Says names s kind said
     → Says names (flat_fallback f s) kind (FallbackSays said (f.yes tt))
 fallback_says {T} f {s} {said = said} h = record {
   by = whole_form_says (λ k. k) (λ j. j) (λ k. refl) (λ group gap. FallbackValue T group gap f) said
@@ -380,14 +380,12 @@ repeat_says {T} {s} {said = said} h = record {
 
 -- under `many`, `some`, `collect` or `count`
 pub listed_says : {T B : Type 0} (f : Closure (List T) B) {s : FlatForm T} {kind : SaidKind}
-    {names : List Names}
-    {said : Said T} → Says names s kind said
+    {names : List Names} {said : Said T} → Says names s kind said
     → Says names (flat_closed f (flat_repeat s)) (repeated_kind kind) (MadeSays (RepeatSays said) f)
 listed_says f h = closed_says f (repeat_says h)
 
 -- under `last`
-pub last_says : {T : Type 0} {s : FlatForm T} {kind : SaidKind} {names : List Names}
-    {said : Said T}
+pub last_says : {T : Type 0} {s : FlatForm T} {kind : SaidKind} {names : List Names} {said : Said T}
     → Says names s kind said → Says names (flat_last s) (repeated_kind kind) (LastSays said)
 last_says {T} {s} {said = said} h = record {
   by = whole_form_says repeated repeated_kind (λ k. refl) (LastOf T) said (LastSays said)
@@ -408,11 +406,12 @@ unless_says false h = h
 -- Products.
 
 -- also as a field
-pub field_owned : {T : Type 0} (outcome : Outcome T) (names : List Names) (s : FlatForm T)
-    → FormLaw outcome names s → OwnsKeys names (flat_field s)
-field_owned outcome names not_flat law = record { by = tt }
-field_owned outcome names (product true q fields) law = record { by = law.1 }
-field_owned outcome names _ law = record { by = law.1 }
+pub field_owned : (env : Variables) {T : Type 0} (outcome : Outcome T) (names : List Names)
+    (s : FlatForm T)
+    → FormLaw env outcome names s → OwnsKeys names (flat_field s)
+field_owned env outcome names not_flat law = record { by = tt }
+field_owned env outcome names (product true q fields) law = record { by = law.1 }
+field_owned env outcome names _ law = record { by = law.1 }
 
 -- the last field
 pub alone_says : {T : Type 0} {names : List Names} {s : FlatForm T} {kind : SaidKind}

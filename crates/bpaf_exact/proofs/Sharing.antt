@@ -122,8 +122,11 @@ module _ (q r : Roles) (own behind : List Names) (owned : Owns q own) (owned_beh
   -- the second
   pub second_fits : (os : List LinePiece) → Fits (own ++ behind) (either q r) os → Fits behind r os
   second_fits [] fits = tt
-  second_fits (o ∷ os) fits =
-      (same_truth _ _ (own_keyed r behind owned_behind o) (other_names o fits.0), second_fits os fits.1)
+  second_fits (o ∷ os) fits = (
+    same_truth _ _ (own_keyed r behind owned_behind o)
+        (other_names o fits.0),
+    second_fits os fits.1,
+  )
 
 -- the own ones of pieces are all one's own
 pub each_own : (q : Roles) (os : List LinePiece) → EachOwn q (mine q os)

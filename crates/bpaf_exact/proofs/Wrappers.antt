@@ -6,8 +6,8 @@ use Rattle.bpaf_line.specs.Situation.{Situation}
 use Rattle.bpaf_laws.specs.Reading.{Outcome}
 use Rattle.bpaf_exact.specs.Pieces.{Roles, LinePiece, pieces, takes_none}
 use Rattle.bpaf_exact.specs.Flat.{ErrorClass, OfMemory, OfMissing, Caught, Refused, class, cells}
-use Rattle.bpaf_exact.specs.Flat.{NoneOutside, FieldKind, ByName, OneWord, EachWord, front, back}
-use Rattle.bpaf_exact.specs.Flat.{NoKeysLeft, FieldTook, FieldLaw}
+use Rattle.bpaf_exact.specs.Flat.{IsWholeIn, FieldKind, ByName, OneWord, EachWord, front, back}
+use Rattle.bpaf_exact.specs.Flat.{NoKeysLeft, FieldTook, FieldLaw, Variables}
 use Rattle.bpaf_exact.specs.Single.{Groups, Own, own_none, Readable, Gap, SingleOk, gave_absent}
 use Rattle.bpaf_exact.specs.Single.{took, SingleErr, of_memory, of_missing, of_absent, of_piece}
 use Rattle.bpaf_exact.specs.Single.{ReadsWords, SingleLaw, SingleValue, of_group, of_gap, Stops}
@@ -23,12 +23,12 @@ use Rattle.bpaf_exact.proofs.Fronts.{back_all, no_keys_left}
 use Rattle.bpaf_exact.proofs.Repeat.{any_some, same_takes, no_stop, stops_by}
 
 -- outer closures
-module _ (A B : Type 0) (inner : Outcome A) (k : FieldKind) (q : Roles)
+module _ {env : Variables} (A B : Type 0) (inner : Outcome A) (k : FieldKind) (q : Roles)
     (value : List LinePiece → A → Type 0)
-    (l : FieldLaw A inner k q value) (f : Closure A B)
+    (l : FieldLaw env A inner k q value) (f : Closure A B)
     (agrees : (os : List LinePiece) → AgreesOn (value os) f) (c : ErrorClass) where
   -- a value that the closure gave
-  closed_ok : (s t : Situation) (v : B) → NoneOutside s → ClosedEval A B inner f c s (Ok v) t
+  closed_ok : (s t : Situation) (v : B) → IsWholeIn env s → ClosedEval A B inner f c s (Ok v) t
       → FieldTook B k q (ClosedValue A B value f) s v t
   closed_ok s t v w (closed_yes {x = x} i y) =
       let a = l.ok s t x w i in
@@ -41,12 +41,12 @@ module _ (A B : Type 0) (inner : Outcome A) (k : FieldKind) (q : Roles)
       }
 
   -- where the share has a value it takes all,
-  closed_takes : (s t : Situation) (u v : B) → NoneOutside s → ClosedEval A B inner f c s (Ok u) t
+  closed_takes : (s t : Situation) (u v : B) → IsWholeIn env s → ClosedEval A B inner f c s (Ok u) t
       → ClosedValue A B value f (front k (pieces q (cells s))) v → NoKeysLeft k q (cells t)
   closed_takes s t u v w (closed_yes {x = x} i y) h = l.takes_all s t x h.from w i h.read
 
   -- and a refusal is want of memory
-  closed_refuses : (s t : Situation) (e : Error) (v : B) → NoneOutside s
+  closed_refuses : (s t : Situation) (e : Error) (v : B) → IsWholeIn env s
       → ClosedEval A B inner f c s (Err e) t
       → ClosedValue A B value f (front k (pieces q (cells s))) v → class e ≡ OfMemory
   closed_refuses s t e v w (closed_no {x = x} i n g) h =
@@ -56,7 +56,7 @@ module _ (A B : Type 0) (inner : Outcome A) (k : FieldKind) (q : Roles)
   closed_refuses s t e v w (closed_err i) h = l.refuses s t e h.from w i h.read
 
   -- a closure round a field is one
-  pub closed_law : FieldLaw B (ClosedEval A B inner f c) k q (ClosedValue A B value f)
+  pub closed_law : FieldLaw env B (ClosedEval A B inner f c) k q (ClosedValue A B value f)
   closed_law = record {
     own = l.own;
     ok = closed_ok;
@@ -64,9 +64,8 @@ module _ (A B : Type 0) (inner : Outcome A) (k : FieldKind) (q : Roles)
     refuses = closed_refuses;
   }
 
-module _ (T : Type 0) (inner : Outcome T) (k : FieldKind) (q : Roles) (group : Groups T)
-    (gap : Gap T)
-    (l : SingleLaw T inner k q group gap) where
+module _ {env : Variables} (T : Type 0) (inner : Outcome T) (k : FieldKind) (q : Roles)
+    (group : Groups T) (gap : Gap T) (l : SingleLaw env T inner k q group gap) where
   -- the value of a single field: of a group, or the absent one
   data SingleView (os : List LinePiece) (v : T) : Type 0 where
     view_group : group os v [] → SingleView os v
@@ -152,18 +151,18 @@ module _ (T : Type 0) (inner : Outcome T) (k : FieldKind) (q : Roles) (group : G
   err_gives s t e w (of_piece c ne n) (view_gap x a) = absurd (ne x)
 
   -- so it is of each answer
-  single_takes : (s t : Situation) (v w : T) → NoneOutside s → inner s (Ok v) t
+  single_takes : (s t : Situation) (v w : T) → IsWholeIn env s → inner s (Ok v) t
       → SingleValue T group gap (front k (pieces q (cells s))) w → NoKeysLeft k q (cells t)
   single_takes s t v w h i g =
       no_keys_left k q (cells t) _ (ok_takes s t v w (l.ok s t v h i) (single_view _ w g))
 
   -- and of each refusal
-  single_refuses : (s t : Situation) (e : Error) (w : T) → NoneOutside s → inner s (Err e) t
+  single_refuses : (s t : Situation) (e : Error) (w : T) → IsWholeIn env s → inner s (Err e) t
       → SingleValue T group gap (front k (pieces q (cells s))) w → class e ≡ OfMemory
   single_refuses s t e w h i g = err_gives s t e w (l.err s t e h i) (single_view _ w g)
 
   -- a field without a repeat or default keeps to the laws of a field
-  pub single_law : FieldLaw T inner k q (SingleValue T group gap)
+  pub single_law : FieldLaw env T inner k q (SingleValue T group gap)
   single_law = record {
     own = l.own;
     ok = λ s t v w i. single_took s t v (l.ok s t v w i);
@@ -182,7 +181,7 @@ module _ (T : Type 0) (inner : Outcome T) (k : FieldKind) (q : Roles) (group : G
   stop_missing s m e h (of_piece c p n) = absurd (no_stop s m e Refused h c (λ i. cc) (λ i. cc))
 
   -- a value that may be left out
-  optional_ok : (s t : Situation) (v : Option T) → NoneOutside s → OptionalEval T inner s (Ok v) t
+  optional_ok : (s t : Situation) (v : Option T) → IsWholeIn env s → OptionalEval T inner s (Ok v) t
       → FieldTook (Option T) k q (OptionalValue T group gap) s v t
   optional_ok s t v w (optional_some {v = x} i) =
       let a = single_took s t x (l.ok s t x w i) in
@@ -215,7 +214,7 @@ module _ (T : Type 0) (inner : Outcome T) (k : FieldKind) (q : Roles) (group : G
   optional_view os v (no_value h) = view_none refl refl h
 
   -- where the share has a value, Some took all
-  some_takes : (s t : Situation) (x : T) (v : Option T) → NoneOutside s → inner s (Ok x) t
+  some_takes : (s t : Situation) (x : T) (v : Option T) → IsWholeIn env s → inner s (Ok x) t
       → SingleOk T k q group gap s x t → OptionalView (front k (pieces q (cells s))) v
       → NoKeysLeft k q (cells t)
   some_takes s t x v w i o (view_some y e g) = single_takes s t x y w i g
@@ -227,7 +226,7 @@ module _ (T : Type 0) (inner : Outcome T) (k : FieldKind) (q : Roles) (group : G
   none_takes s none = no_keys_left k q (cells s) _ (nothing_left _ _ none refl)
 
   -- where nothing is there no other refusal comes
-  none_fails : (s t : Situation) (e : Error) → NoneOutside s → (Stops e s t → ⊥)
+  none_fails : (s t : Situation) (e : Error) → IsWholeIn env s → (Stops e s t → ⊥)
       → front k (pieces q (cells s)) ≡ [] → gap.has ≡ false → SingleErr T k q group gap s e t
       → class e ≡ OfMemory
   none_fails s t e w n p b (of_memory c) = c
@@ -237,7 +236,7 @@ module _ (T : Type 0) (inner : Outcome T) (k : FieldKind) (q : Roles) (group : G
   none_fails s t e w n p b (of_piece c ne x) = absurd (ne p)
 
   -- where the share has a value, all is taken
-  optional_takes : (s t : Situation) (u v : Option T) → NoneOutside s
+  optional_takes : (s t : Situation) (u v : Option T) → IsWholeIn env s
       → OptionalEval T inner s (Ok u) t → OptionalView (front k (pieces q (cells s))) v
       → NoKeysLeft k q (cells t)
   optional_takes s t u v w (optional_some {v = x} i) g = some_takes s t x v w i (l.ok s t x w i) g
@@ -245,7 +244,7 @@ module _ (T : Type 0) (inner : Outcome T) (k : FieldKind) (q : Roles) (group : G
       none_takes s (stop_missing s m e h (l.err s m e w i)).1
 
   -- and a refusal is want of memory
-  optional_refuses : (s t : Situation) (e : Error) (v : Option T) → NoneOutside s
+  optional_refuses : (s t : Situation) (e : Error) (v : Option T) → IsWholeIn env s
       → OptionalEval T inner s (Err e) t → OptionalView (front k (pieces q (cells s))) v
       → class e ≡ OfMemory
   optional_refuses s t e v w (optional_err i n) (view_some y x g) = single_refuses s t e y w i g
@@ -254,7 +253,7 @@ module _ (T : Type 0) (inner : Outcome T) (k : FieldKind) (q : Roles) (group : G
   optional_refuses s t e v w (optional_memory c) g = c
 
   -- what may be left out keeps to the laws of a field
-  pub optional_law : FieldLaw (Option T) (OptionalEval T inner) k q (OptionalValue T group gap)
+  pub optional_law : FieldLaw env (Option T) (OptionalEval T inner) k q (OptionalValue T group gap)
   optional_law =
       record {
         own = l.own;
@@ -280,7 +279,7 @@ module _ (T : Type 0) (inner : Outcome T) (k : FieldKind) (q : Roles) (group : G
     catch_nothing s m e (catch_missing h) (of_piece c p n) = absurd cc
     catch_nothing s m e (catch_other h) (of_piece c p n) = absurd cc
 
-    fallback_took : (s t : Situation) (v : T) → NoneOutside s → FallbackEval T inner f s (Ok v) t
+    fallback_took : (s t : Situation) (v : T) → IsWholeIn env s → FallbackEval T inner f s (Ok v) t
         → FieldTook T k q (FallbackValue T group gap f) s v t
     fallback_took s t v w (fallback_ok i) =
         let a = single_took s t v (l.ok s t v w i) in
@@ -330,7 +329,7 @@ module _ (T : Type 0) (inner : Outcome T) (k : FieldKind) (q : Roles) (group : G
     kept_fails s t e n p b (of_piece c ne x) = absurd (ne p)
 
     -- where the share has a value, all is taken
-    fallback_takes : (s t : Situation) (u v : T) → NoneOutside s
+    fallback_takes : (s t : Situation) (u v : T) → IsWholeIn env s
         → FallbackEval T inner f s (Ok u) t → FallbackView (front k (pieces q (cells s))) v
         → NoKeysLeft k q (cells t)
     fallback_takes s t u v w (fallback_ok i) (view_own g) = single_takes s t u v w i g
@@ -340,7 +339,7 @@ module _ (T : Type 0) (inner : Outcome T) (k : FieldKind) (q : Roles) (group : G
         none_takes s (catch_nothing s m e h (l.err s m e w i)).1
 
     -- and a refusal is want of memory
-    fallback_refuses : (s t : Situation) (g : Error) (v : T) → NoneOutside s
+    fallback_refuses : (s t : Situation) (g : Error) (v : T) → IsWholeIn env s
         → FallbackEval T inner f s (Err g) t → FallbackView (front k (pieces q (cells s))) v
         → class g ≡ OfMemory
     fallback_refuses s t g v w (fallback_no {e = e} {m = m} i h n c) (view_own o) =
@@ -352,7 +351,7 @@ module _ (T : Type 0) (inner : Outcome T) (k : FieldKind) (q : Roles) (group : G
     fallback_refuses s t g v w (fallback_err {m = m} i n) (view_kept p b z) =
         kept_fails s m g n p b (l.err s m g w i)
 
-    pub fallback_law : FieldLaw T (FallbackEval T inner f) k q (FallbackValue T group gap f)
+    pub fallback_law : FieldLaw env T (FallbackEval T inner f) k q (FallbackValue T group gap f)
     fallback_law =
         record {
           own = l.own;

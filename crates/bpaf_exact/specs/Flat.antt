@@ -52,11 +52,16 @@ pub data NonePresent : Cells → Type 0 where
   no_place : NonePresent []
   none_here : {cs : Cells} → NonePresent cs → NonePresent (None ∷ cs)
 
+-- the variables of an environment, by their names, each with its value
+abbrev pub Variables : Type 0
+Variables = List (List ℕ × List ℕ)
+
 -- each place that isn't taken lies in the scope: it reaches to the line's end, and nothing is left
--- in front of it
-pub record NoneOutside (s : Situation) : Type 0 where
+-- in front of it; and the environment has these variables
+pub record IsWholeIn (variables : Variables) (s : Situation) : Type 0 where
   pub end : s.end ≡ length s.context.line
   pub front : (p : ℕ) → p < s.start → is_taken s p ≡ true
+  pub environment : s.context.env ≡ variables
 
 -- nothing but what is taken, the conflicts and the current place has changed, and what was taken is
 -- taken still
@@ -148,13 +153,14 @@ pub record FieldTook (T : Type 0) (k : FieldKind) (q : Roles) (value : List Line
 
 -- The laws of a flat field. Where its share has a value, an answer leaves none of a named field's
 -- keys, and a refusal is want of memory.
-pub record FieldLaw (T : Type 0) (outcome : Outcome T) (k : FieldKind) (q : Roles)
-    (value : List LinePiece → T → Type 0) : Type 0 where
+pub record FieldLaw (variables : Variables) (T : Type 0) (outcome : Outcome T) (k : FieldKind)
+    (q : Roles) (value : List LinePiece → T → Type 0) : Type 0 where
   pub own : OwnItems k q
-  pub ok : (s t : Situation) (v : T) → NoneOutside s → outcome s (Ok v) t → FieldTook T k q value s v t
-  pub takes_all : (s t : Situation) (v w : T) → NoneOutside s → outcome s (Ok v) t
+  pub ok : (s t : Situation) (v : T) → IsWholeIn variables s → outcome s (Ok v) t
+      → FieldTook T k q value s v t
+  pub takes_all : (s t : Situation) (v w : T) → IsWholeIn variables s → outcome s (Ok v) t
       → value (front k (pieces q (cells s))) w → NoKeysLeft k q (cells t)
-  pub refuses : (s t : Situation) (e : Error) (w : T) → NoneOutside s → outcome s (Err e) t
+  pub refuses : (s t : Situation) (e : Error) (w : T) → IsWholeIn variables s → outcome s (Err e) t
       → value (front k (pieces q (cells s))) w → class e ≡ OfMemory
 
 -- the values of a list of fields are read off the pieces that a line is cut into
@@ -174,18 +180,19 @@ pub record FieldsReading (V : Type 0) : Type 1 where
   pub value : List LinePiece → V → Type 0
   pub each : List LinePiece → Type 0
 
--- the laws of a list of flat fields; where each has a value, an answer leaves nothing, and a refusal
--- is want of memory
-pub record FieldsLaw (V : Type 0) (outcome : Outcome V) (r : Roles)
+-- the laws of a list of flat fields; where each has a value, an answer leaves nothing, and a
+-- refusal is want of memory
+pub record FieldsLaw (variables : Variables) (V : Type 0) (outcome : Outcome V) (r : Roles)
     (reading : FieldsReading V) : Type 0 where
   pub named : IsNamed r
-  pub steady : (s t : Situation) (v : V) → NoneOutside s → outcome s (Ok v) t → Steady s t
-  pub ok : (s t : Situation) (v : V) → NoneOutside s → outcome s (Ok v) t → NonePresent (cells t)
+  pub steady : (s t : Situation) (v : V) → IsWholeIn variables s → outcome s (Ok v) t → Steady s t
+  pub ok : (s t : Situation) (v : V) → IsWholeIn variables s → outcome s (Ok v) t
+      → NonePresent (cells t)
       → ReadOff V r reading.value (cells s) v
   pub has_each : (os : List LinePiece) (v : V) → reading.value os v → reading.each os
-  pub takes_all : (s t : Situation) (v : V) (os : List LinePiece) → NoneOutside s
+  pub takes_all : (s t : Situation) (v : V) (os : List LinePiece) → IsWholeIn variables s
       → outcome s (Ok v) t → Cut r (cells s) os → reading.each os → NonePresent (cells t)
-  pub refuses : (s t : Situation) (e : Error) (os : List LinePiece) → NoneOutside s
+  pub refuses : (s t : Situation) (e : Error) (os : List LinePiece) → IsWholeIn variables s
       → outcome s (Err e) t → Cut r (cells s) os → reading.each os → class e ≡ OfMemory
 
 -- a field before others: their keys are apart, and after a positional field no named one stands

@@ -6,7 +6,7 @@ use Rattle.bpaf_laws.specs.Reading.{Outcome}
 use Rattle.bpaf_exact.specs.Pieces.{Roles, LinePiece, either, no_roles}
 use Rattle.bpaf_exact.specs.Names.{Owns, are_all_apart}
 use Rattle.bpaf_exact.specs.Flat.{FieldKind, ByName, FieldLaw, FieldsLaw, keys, FieldsReading}
-use Rattle.bpaf_exact.specs.Flat.{both_reading}
+use Rattle.bpaf_exact.specs.Flat.{both_reading, Variables}
 use Rattle.bpaf_exact.specs.Single.{Groups, Gap, FrontOf, no_gap, SingleLaw, SingleValue, OwnList}
 use Rattle.bpaf_exact.specs.Single.{repeated}
 use Rattle.bpaf_exact.specs.Wrappers.{Closure, AgreesOn, ClosedPiece, ClosedGroup, closed_gap}
@@ -31,22 +31,23 @@ pub data FlatForm (T : Type 0) : Type 1 where
   product : (named : Bool) → Roles → FieldsReading T → FlatForm T
 
 -- fields that are all named keep to the laws of a named field together
-abbrev pub NamedLaw : {T : Type 0} → Bool → Outcome T → Roles → (List LinePiece → T → Type 0)
-    → Type 0
-NamedLaw {T = T} true outcome q value = FieldLaw T outcome ByName q value
-NamedLaw false outcome q value = Unit {0}
+abbrev pub NamedLaw : {T : Type 0} → Variables → Bool → Outcome T → Roles
+    → (List LinePiece → T → Type 0) → Type 0
+NamedLaw {T = T} variables true outcome q value = FieldLaw variables T outcome ByName q value
+NamedLaw variables false outcome q value = Unit {0}
 
--- the laws of each, of a parser with these keys
-abbrev pub FormLaw : {T : Type 0} → Outcome T → List Names → FlatForm T → Type 0
-FormLaw outcome names not_flat = Unit {0}
-FormLaw {T = T} outcome names (alternative q value) =
-    AlternativeLaw T outcome q value × Owns q names
-FormLaw {T = T} outcome names (single k q group gap) =
-    SingleLaw T outcome k q group gap × Owns (keys k q) names
-FormLaw {T = T} outcome names (complete k q value) =
-    FieldLaw T outcome k q value × Owns (keys k q) names
-FormLaw {T = T} outcome names (product named q fields) =
-    FieldsLaw T outcome q fields × Owns q names × NamedLaw named outcome q fields.value
+-- the laws of each where the environment has these variables, of a parser with these keys
+abbrev pub FormLaw : {T : Type 0} → Variables → Outcome T → List Names → FlatForm T → Type 0
+FormLaw variables outcome names not_flat = Unit {0}
+FormLaw {T = T} variables outcome names (alternative q value) =
+    AlternativeLaw variables T outcome q value × Owns q names
+FormLaw {T = T} variables outcome names (single k q group gap) =
+    SingleLaw variables T outcome k q group gap × Owns (keys k q) names
+FormLaw {T = T} variables outcome names (complete k q value) =
+    FieldLaw variables T outcome k q value × Owns (keys k q) names
+FormLaw {T = T} variables outcome names (product named q fields) =
+    FieldsLaw variables T outcome q fields × Owns q names
+    × NamedLaw variables named outcome q fields.value
 
 -- the premise of exactness: whether a closure accepts depends on the pieces alone, also where they
 -- have several values

@@ -6,7 +6,7 @@ use Rattle.bpaf_doc.specs.Names.{Names}
 use Rattle.bpaf_laws.specs.Command.{Called, opening_words}
 use Rattle.bpaf_laws.specs.Reading.{Outcome}
 use Rattle.bpaf_exact.specs.Pieces.{Cells, Roles, either, no_roles}
-use Rattle.bpaf_exact.specs.Flat.{ByName, ReadOff}
+use Rattle.bpaf_exact.specs.Flat.{ByName, ReadOff, Variables}
 use Rattle.bpaf_exact.specs.FlatForm.{FlatForm, FormLaw, Agrees, complete, is_record, not_flat}
 use Rattle.bpaf_exact.specs.FlatForm.{product_roles, product_reading, flat_record, flat_closed}
 use Rattle.bpaf_exact.specs.FlatForm.{flat_optional, flat_choice, flat_alone, flat_both, flat_con}
@@ -30,17 +30,18 @@ pub data ProgramForm (T : Type 0) : Type 1 where
   -- a product of named fields, and then commands
   before_commands : Roles → CellsValue T → ProgramForm T
 
--- the laws of each, of a parser with these keys and these words of commands
-abbrev pub ProgramFormLaw : {T : Type 0} → Outcome T → List Names → List (List ℕ) → ProgramForm T
-    → Type 0
-ProgramFormLaw outcome names words no_program = Unit {0}
-ProgramFormLaw outcome names words (plain wide s) = FormLaw outcome names s
-ProgramFormLaw {T = T} outcome names words (commands r value) =
-    CommandsLaw T outcome r words value × Owns r names
-ProgramFormLaw {T = T} outcome names words (left_out r value) =
-    ProgramLaw T outcome r value × Owns r names
-ProgramFormLaw {T = T} outcome names words (before_commands r value) =
-    ProgramLaw T outcome r value × Owns r names
+-- the laws of each where the environment has these variables, of a parser with these keys and these
+-- words of commands
+abbrev pub ProgramFormLaw : {T : Type 0} → Variables → Outcome T → List Names → List (List ℕ)
+    → ProgramForm T → Type 0
+ProgramFormLaw variables outcome names words no_program = Unit {0}
+ProgramFormLaw variables outcome names words (plain wide s) = FormLaw variables outcome names s
+ProgramFormLaw {T = T} variables outcome names words (commands r value) =
+    CommandsLaw variables T outcome r words value × Owns r names
+ProgramFormLaw {T = T} variables outcome names words (left_out r value) =
+    ProgramLaw variables T outcome r value × Owns r names
+ProgramFormLaw {T = T} variables outcome names words (before_commands r value) =
+    ProgramLaw variables T outcome r value × Owns r names
 
 -- the premise of exactness: whether a closure accepts depends on the cells alone
 abbrev pub ProgramAgrees : {A B : Type 0} → Closure A B → ProgramForm A → Type 0
@@ -170,7 +171,8 @@ abbrev pub program_both : {A B : Type 0} → List Names → List Names → Progr
     → ProgramForm (A × B)
 program_both own others (plain wide s) (plain other t) =
     plain (wide || other) (flat_both own others s t)
-program_both {A = A} {B = B} own others (plain wide (complete ByName q first)) (before_commands r rest) =
+program_both {A = A} {B = B} own others (plain wide (complete ByName q first))
+    (before_commands r rest) =
     program_if (are_all_apart own others)
     (before_commands (either q r) (FieldThen A B q first rest))
 program_both own others _ _ = no_program

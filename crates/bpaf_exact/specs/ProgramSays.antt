@@ -5,7 +5,7 @@ use Rattle.std.specs.List.{Contains}
 use Rattle.bpaf_doc.specs.Names.{Names}
 use Rattle.bpaf_laws.specs.Command.{Called, opening_words}
 use Rattle.bpaf_laws.specs.Reading.{Outcome}
-use Rattle.bpaf_exact.specs.Flat.{ByName}
+use Rattle.bpaf_exact.specs.Flat.{ByName, Variables}
 use Rattle.bpaf_exact.specs.Names.{Owns}
 use Rattle.bpaf_exact.specs.Pieces.{Cells, Roles, LinePiece, Cut, pieces}
 use Rattle.bpaf_exact.specs.ProgramForm.{ProgramForm, no_program, plain, commands, left_out}
@@ -196,7 +196,7 @@ pub record ProgramFieldsSay {P V : Type 0} (names : List Names) (form : ProgramF
   pub by : ProgramFieldsFormSay names form said p
 
 -- fields of this form keep to it, and their values say so
-pub record FieldsKeep {P V : Type 0} (outcome : Outcome V) (names : List Names) (s : ProgramForm V)
-    (said : ProgramFieldsSaid P V) (p : P) : Type 0 where
-  pub law : ProgramFormLaw outcome names [] s
+pub record FieldsKeep {P V : Type 0} (variables : Variables) (outcome : Outcome V)
+    (names : List Names) (s : ProgramForm V) (said : ProgramFieldsSaid P V) (p : P) : Type 0 where
+  pub law : ProgramFormLaw variables outcome names [] s
   pub says : ProgramFieldsSay names s said p
