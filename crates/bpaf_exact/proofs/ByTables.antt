@@ -15,7 +15,7 @@ use Rattle.bpaf_laws.specs.Repeat.{ManyOutcome, SomeOutcome, CollectOutcome, Cou
 use Rattle.bpaf_laws.specs.Repeat.{LastOutcome, is_nil}
 use Rattle.bpaf_laws.specs.Turn.{TurnOutcome}
 use Rattle.bpaf_laws.specs.Transform.{MapOutcome, ParseOutcome, GuardOutcome}
-use Rattle.bpaf_exact.specs.Flat.{OfMemory, Caught, Refused, class, class_of, Variables}
+use Rattle.bpaf_exact.specs.Flat.{OfMemory, Caught, Refused, class, class_of, Variables, ErrorClass}
 use Rattle.bpaf_exact.specs.Single.{CanCatch, RepeatOutcome, catch_missing, catch_other}
 use Rattle.bpaf_exact.specs.Wrappers.{Closure, Decides, map_closure, parse_closure, guard_closure}
 use Rattle.bpaf_exact.specs.Wrappers.{answer_closure, kept_closure, ClosedEval, closed_yes}
@@ -24,8 +24,8 @@ use Rattle.bpaf_exact.specs.Wrappers.{optional_some, optional_none, optional_err
 use Rattle.bpaf_exact.specs.Wrappers.{FallbackEval, fallback_ok, fallback_given, fallback_no}
 use Rattle.bpaf_exact.specs.Wrappers.{fallback_memory, fallback_err}
 use Rattle.bpaf_exact.specs.Gathered.{list_closure, some_closure, count_closure, collect_closure}
-use Rattle.bpaf_exact.specs.FlatForm.{FlatForm, FormLaw, flat_repeat, flat_many, flat_some}
-use Rattle.bpaf_exact.specs.FlatForm.{flat_count, flat_collect, flat_last, flat_fallback, unless}
+use Rattle.bpaf_exact.specs.FlatForm.{FlatForm, FormLaw, flat_repeat, flat_last, flat_fallback}
+use Rattle.bpaf_exact.specs.FlatForm.{unless, Agrees, flat_closed}
 use Rattle.bpaf_exact.proofs.Classes.{memory_class, caught_class, kept_class, stops_at, goes_on}
 use Rattle.bpaf_exact.specs.ProgramForm.{ProgramForm, plain, commands, ProgramFormLaw}
 use Rattle.bpaf_exact.specs.ProgramForm.{ProgramAgrees, program_closed, program_dressed}
@@ -144,6 +144,26 @@ optional_law env T inner catch names words _ l = tt
 
 -- Repeats.
 
+-- what answers no more than a closure on the list of a repeat, where it has no `catch`, keeps to
+-- the laws of its form
+listed_law : (env : Variables) {T B : Type 0} (inner : Outcome T) (idle catch : Bool)
+    (f : Closure (List T) B) (c : ErrorClass) (outcome : Bool → Outcome B)
+    → AllowsNoMore B (ClosedEval (List T) B (RepeatOutcome inner idle) f c) (outcome false)
+    → (names : List Names)
+    → ((s : FlatForm T) → FormLaw env inner names s → Agrees f (flat_repeat s))
+    → (words : List (List ℕ)) (s : ProgramForm T) → ProgramFormLaw env inner names words s
+    → ProgramFormLaw env (outcome catch) names [] (program_repeat catch f s)
+listed_law env {T} {B} inner idle catch f c outcome within names agrees words =
+    flat_only_law env inner (outcome catch) names words []
+    (λ s. unless catch (flat_closed f (flat_repeat s))) (by_catch catch)
+  where
+    by_catch : (catch : Bool) (s : FlatForm T) → FormLaw env inner names s
+        → FormLaw env (outcome catch) names (unless catch (flat_closed f (flat_repeat s)))
+    by_catch true s l = tt
+    by_catch false s l =
+        narrower_form env B _ _ within names _
+        (flat_listed_law env T B inner idle f c names s (agrees s l) l)
+
 -- many
 many_within : (T : Type 0) (inner : Outcome T)
     → AllowsNoMore (Vec T)
@@ -159,24 +179,15 @@ many_within T inner = no_more by_answer
         closed_err o
 
 -- keeps to the laws of its form
-pub many_field_law : (env : Variables) (T : Type 0) (inner : Outcome T) (catch : Bool)
-    (names : List Names) (s : FlatForm T) → FormLaw env inner names s
-    → FormLaw env (ManyOutcome inner catch) names (unless catch (flat_many s))
-many_field_law env T inner true names s l = tt
-many_field_law env T inner false names s l =
-    narrower_form env (Vec T) _ _ (many_within T inner) names _
-    (flat_listed_law env T (Vec T) inner false (list_closure T) Refused names s
-    (never_refuses (List T) (Vec T) (list_closure T) (λ x n. n) (flat_repeat s)) l)
-
--- so over any form
 pub many_law : (env : Variables) (T : Type 0) (inner : Outcome T) (catch : Bool)
-    (names : List Names)
-    (words : List (List ℕ)) (s : ProgramForm T) → ProgramFormLaw env inner names words s
+    (names : List Names) (words : List (List ℕ)) (s : ProgramForm T)
+    → ProgramFormLaw env inner names words s
     → ProgramFormLaw env (ManyOutcome inner catch) names []
     (program_repeat catch (list_closure T) s)
-many_law env T inner catch names words s l =
-    flat_only_law env inner (ManyOutcome inner catch) names words []
-    (λ s. unless catch (flat_many s)) (λ s. many_field_law env T inner catch names s) s l
+many_law env T inner catch names words =
+    listed_law env inner false catch (list_closure T) Refused (ManyOutcome inner)
+    (many_within T inner) names
+    (λ s l. never_refuses (List T) (Vec T) (list_closure T) (λ x n. n) (flat_repeat s)) words
 
 -- some
 not_nil : (T : Type 0) (values : List T) → is_nil values ≡ false → values ≡ [] → ⊥
@@ -200,24 +211,14 @@ some_within T inner message = no_more by_answer
         (λ memory. closed_memory o.0 (ap class_of memory)) o.1
 
 -- keeps to the laws of its form
-some_field_law : (env : Variables) (T : Type 0) (inner : Outcome T) (catch : Bool)
-    (message : List ℕ) (names : List Names) (s : FlatForm T) → FormLaw env inner names s
-    → FormLaw env (SomeOutcome inner catch message) names (unless catch (flat_some s))
-some_field_law env T inner true message names s l = tt
-some_field_law env T inner false message names s l =
-    narrower_form env (Vec T) _ _ (some_within T inner message) names _
-    (flat_listed_law env T (Vec T) inner false (some_closure T) Caught names s
-    (some_agrees env T inner names s l) l)
-
--- so over any form
-pub some_law : (env : Variables) (T : Type 0) (inner : Outcome T) (catch : Bool) (message : List ℕ)
-    (names : List Names) (words : List (List ℕ)) (s : ProgramForm T)
+pub some_law : (env : Variables) (T : Type 0) (inner : Outcome T) (catch : Bool)
+    (message : List ℕ) (names : List Names) (words : List (List ℕ)) (s : ProgramForm T)
     → ProgramFormLaw env inner names words s
     → ProgramFormLaw env (SomeOutcome inner catch message) names []
     (program_repeat catch (some_closure T) s)
-some_law env T inner catch message names words s l =
-    flat_only_law env inner (SomeOutcome inner catch message) names words []
-    (λ s. unless catch (flat_some s)) (λ s. some_field_law env T inner catch message names s) s l
+some_law env T inner catch message names words =
+    listed_law env inner false catch (some_closure T) Caught (λ c. SomeOutcome inner c message)
+    (some_within T inner message) names (some_agrees env T inner names) words
 
 -- collect
 collect_within : (T C : Type 0) (inner : Outcome T) (fills : List T → C → Type 0)
@@ -236,26 +237,15 @@ collect_within T C inner fills = no_more by_answer
         closed_memory o.1 (memory_class e.0 o.2)
 
 -- keeps to the laws of its form
-collect_field_law : (env : Variables) (T C : Type 0) (inner : Outcome T) (catch : Bool)
-    (fills : List T → C → Type 0) (names : List Names) (s : FlatForm T) → FormLaw env inner names s
-    → FormLaw env (CollectOutcome inner catch fills) names (unless catch (flat_collect fills s))
-collect_field_law env T C inner true fills names s l = tt
-collect_field_law env T C inner false fills names s l =
-    narrower_form env C _ _ (collect_within T C inner fills) names _
-    (flat_listed_law env T C inner false (collect_closure fills) Refused names s
-    (never_refuses (List T) C (collect_closure fills) (λ x n. n) (flat_repeat s)) l)
-
--- so over any form
 pub collect_law : (env : Variables) (T C : Type 0) (inner : Outcome T) (catch : Bool)
-    (fills : List T → C → Type 0)
-    (names : List Names) (words : List (List ℕ)) (s : ProgramForm T)
-    → ProgramFormLaw env inner names words s
+    (fills : List T → C → Type 0) (names : List Names) (words : List (List ℕ))
+    (s : ProgramForm T) → ProgramFormLaw env inner names words s
     → ProgramFormLaw env (CollectOutcome inner catch fills) names []
     (program_repeat catch (collect_closure fills) s)
-collect_law env T C inner catch fills names words s l =
-    flat_only_law env inner (CollectOutcome inner catch fills) names words []
-    (λ s. unless catch (flat_collect fills s))
-    (λ s. collect_field_law env T C inner catch fills names s) s l
+collect_law env T C inner catch fills names words =
+    listed_law env inner false catch (collect_closure fills) Refused
+    (λ c. CollectOutcome inner c fills) (collect_within T C inner fills) names
+    (λ s l. never_refuses (List T) C (collect_closure fills) (λ x n. n) (flat_repeat s)) words
 
 -- count
 count_within : (T : Type 0) (inner : Outcome T)
@@ -269,21 +259,13 @@ count_within T inner = no_more by_answer
     by_answer s t (Err e) o = closed_err o
 
 -- keeps to the laws of its form
-count_field_law : (env : Variables) (T : Type 0) (inner : Outcome T) (names : List Names)
-    (s : FlatForm T)
-    → FormLaw env inner names s → FormLaw env (CountOutcome inner) names (flat_count s)
-count_field_law env T inner names s l =
-    narrower_form env ℕ _ _ (count_within T inner) names _
-    (flat_listed_law env T ℕ inner true (count_closure T) Refused names s
-    (never_refuses (List T) ℕ (count_closure T) (λ x n. n) (flat_repeat s)) l)
-
--- so over any form
 pub count_law : (env : Variables) (T : Type 0) (inner : Outcome T) (names : List Names)
     (words : List (List ℕ)) (s : ProgramForm T) → ProgramFormLaw env inner names words s
     → ProgramFormLaw env (CountOutcome inner) names [] (program_repeat false (count_closure T) s)
-count_law env T inner names words s l =
-    flat_only_law env inner (CountOutcome inner) names words [] (λ s. flat_count s)
-    (λ s. count_field_law env T inner names s) s l
+count_law env T inner names words =
+    listed_law env inner true false (count_closure T) Refused (λ c. CountOutcome inner)
+    (count_within T inner) names
+    (λ s l. never_refuses (List T) ℕ (count_closure T) (λ x n. n) (flat_repeat s)) words
 
 -- last keeps to the laws of its form
 pub last_law : (env : Variables) (T : Type 0) (inner : Outcome T) (names : List Names)
@@ -330,55 +312,36 @@ fallback_within T inner gives f given = no_more by_answer
         (given.no e o.1))
 
 -- a kept value
-fallback_field_law : (env : Variables) (T : Type 0) (inner : Outcome T) (clones : T → T → Type 0)
-    (kept : T) (names : List Names) (s : FlatForm T) → FormLaw env inner names s
-    → FormLaw env (FallbackOutcome inner (GivesClone clones kept)) names
-    (flat_fallback (kept_closure (clones kept)) s)
-fallback_field_law env T inner clones kept names s l =
-    narrower_form env T _ _
-    (fallback_within T inner (GivesClone clones kept) (kept_closure (clones kept))
-    (record { yes = λ v g. g; no = λ e g. inl (memory_class e.0 g) })) names _
-    (flat_fallback_law env T inner (kept_closure (clones kept)) (λ u v y n. n) names s l)
-
--- so over any form
 pub fallback_law : (env : Variables) (T : Type 0) (inner : Outcome T) (clones : T → T → Type 0)
     (kept : T) (names : List Names) (words : List (List ℕ)) (s : ProgramForm T)
     → ProgramFormLaw env inner names words s
     → ProgramFormLaw env (FallbackOutcome inner (GivesClone clones kept)) names []
     (program_fallback (kept_closure (clones kept)) s)
-fallback_law env T inner clones kept names words s l =
+fallback_law env T inner clones kept names words =
     flat_only_law env inner (FallbackOutcome inner (GivesClone clones kept)) names words []
     (λ s. flat_fallback (kept_closure (clones kept)) s)
-    (λ s. fallback_field_law env T inner clones kept names s) s l
+    (λ s l. narrower_form env T _ _
+    (fallback_within T inner (GivesClone clones kept) (kept_closure (clones kept))
+    (record { yes = λ v g. g; no = λ e g. inl (memory_class e.0 g) })) names _
+    (flat_fallback_law env T inner (kept_closure (clones kept)) (λ u v y n. n) names s l))
 
 -- a closure's value
-fallback_with_field_law : (env : Variables) (T E : Type 0) (inner : Outcome T)
-    (answers : Result T E → Type 0)
-    (shown : E → Option (List ℕ)) (names : List Names) (s : FlatForm T)
-    → Decides (answer_closure answers)
-    → FormLaw env inner names s
-    → FormLaw env (FallbackOutcome inner (GivesAnswer answers shown)) names
-    (flat_fallback (answer_closure answers) s)
-fallback_with_field_law env T E inner answers shown names s decides l =
-    narrower_form env T _ _
+pub fallback_with_law : (env : Variables) (T E : Type 0) (inner : Outcome T)
+    (answers : Result T E → Type 0) (shown : E → Option (List ℕ)) (names : List Names)
+    (words : List (List ℕ)) (s : ProgramForm T) → Decides (answer_closure answers)
+    → ProgramFormLaw env inner names words s
+    → ProgramFormLaw env (FallbackOutcome inner (GivesAnswer answers shown)) names []
+    (program_fallback (answer_closure answers) s)
+fallback_with_law env T E inner answers shown names words s decides =
+    flat_only_law env inner (FallbackOutcome inner (GivesAnswer answers shown)) names words []
+    (λ s. flat_fallback (answer_closure answers) s)
+    (λ s l. narrower_form env T _ _
     (fallback_within T inner (GivesAnswer answers shown) (answer_closure answers) (record {
       yes = λ v g. g;
       no = λ e g. ⊎_elim (λ memory. inl (ap class_of memory))
           (λ told. inr ((g.0, g.1), ap class_of told.1)) g.2;
     })) names _
-    (flat_fallback_law env T inner (answer_closure answers) decides names s l)
-
--- so over any form
-pub fallback_with_law : (env : Variables) (T E : Type 0) (inner : Outcome T)
-    (answers : Result T E → Type 0)
-    (shown : E → Option (List ℕ)) (names : List Names) (words : List (List ℕ))
-    (s : ProgramForm T) → Decides (answer_closure answers) → ProgramFormLaw env inner names words s
-    → ProgramFormLaw env (FallbackOutcome inner (GivesAnswer answers shown)) names []
-    (program_fallback (answer_closure answers) s)
-fallback_with_law env T E inner answers shown names words s decides l =
-    flat_only_law env inner (FallbackOutcome inner (GivesAnswer answers shown)) names words []
-    (λ s. flat_fallback (answer_closure answers) s)
-    (λ s. fallback_with_field_law env T E inner answers shown names s decides) s l
+    (flat_fallback_law env T inner (answer_closure answers) decides names s l)) s
 
 -- a hidden refusal is one of the same class
 hidden_class : (m : Message) → class_of m ≡ class_of (hidden m)

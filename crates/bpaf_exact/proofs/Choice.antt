@@ -16,6 +16,7 @@ use Rattle.bpaf_line.proofs.Matches.{open_has_item}
 use Rattle.bpaf_base.specs.Items.{any_item}
 use Rattle.bpaf_laws.proofs.ChoiceLaws.{not_winner}
 use Rattle.bpaf_laws.specs.Choice.{branch_of, ChoiceOutcome, EqualDepths, OneOk, Winner}
+use Rattle.bpaf_laws.specs.Choice.{BranchesEval}
 use Rattle.bpaf_laws.specs.Reading.{Outcome}
 use Rattle.bpaf_laws.specs.Spared.{IsNotMemory}
 use Rattle.bpaf_laws.specs.Turn.{is_untouched}
@@ -317,6 +318,16 @@ module _ {env : Variables} (T : Type 0) (a b : Outcome T) (qa qb : Roles)
       → length n.path < length m.path → ⊥
   never_deeper s m n e f h = let c = ap length (e ∙ sym f) in omega arith
 
+  -- and both are equally deep
+  equally_deep : (s t : Situation) (r : Result T Error) → IsWholeIn env s
+      → (o : BranchesEval a b s r t) → EqualDepths s o.a o.sa o.b o.sb r t
+  equally_deep s t r w o =
+      let pa = law_path a qa va la s o.sa o.a w o.first_ran o.first_spared in
+      let pb = law_path b qb vb lb s o.sb o.b w o.second_ran o.second_spared in
+      ⊎_elim (λ deeper. absurd (never_deeper s o.sa o.sb pa pb deeper.0))
+      (λ other. ⊎_elim (λ deeper. absurd (never_deeper s o.sb o.sa pb pa deeper.0))
+      (λ equal. equal.1) other) o.chosen
+
   -- an alternative that answered took something
   never_untouched : (q : Roles) (v : LinePiece → T → Type 0) (s m : Situation) (x : T)
       → AlternativeOk T q v s x m → is_untouched s m ≡ true → ⊥
@@ -355,30 +366,15 @@ module _ {env : Variables} (T : Type 0) (a b : Outcome T) (qa qb : Roles)
       (cells_same sb t (same_scope (saved_steady sb sa t p k.1)) k.1.taken))
 
   -- the value of one, where the other refused
-  first_alone_ok : (s sa sb t : Situation) (x v : T) (e : Error) → IsWholeIn env s → a s (Ok x) sa
-      → b s (Err e) sb → is_memory e.0 ≡ false → OneOk s (branch_of x sa) e (Ok v) t
+  alone_ok : (s m t : Situation) (x v : T) (e : Error)
+      → AlternativeOk T (either qa qb) vr s x m → OneOk s (branch_of x m) e (Ok v) t
       → AlternativeOk T (either qa qb) vr s v t
-  first_alone_ok s sa sb t x v e w f g h (inl o) = let i = o.1 in absurd cc
-  first_alone_ok s sa sb t x v e w f g h (inr o) =
+  alone_ok s m t x v e i (inl o) = let h = o.1 in absurd cc
+  alone_ok s m t x v e i (inr o) =
       let given = o.1.0 in
       let d : x ≡ v = cc in
       subst (λ z. AlternativeOk T (either qa qb) vr s v z) (sym o.1.1)
-      (subst (λ z. AlternativeOk T (either qa qb) vr s z sa) d
-      (first_won s sa sa x (la.ok s sa x w f)
-      (err_other qb vb s sb (cells sa) e h (lb.err s sb e w g)) (steady_refl sa) refl))
-
-  -- the value of the second, where the first refused
-  second_alone_ok : (s sa sb t : Situation) (y v : T) (e : Error) → IsWholeIn env s → a s (Err e) sa
-      → b s (Ok y) sb → is_memory e.0 ≡ false → OneOk s (branch_of y sb) e (Ok v) t
-      → AlternativeOk T (either qa qb) vr s v t
-  second_alone_ok s sa sb t y v e w f g h (inl o) = let i = o.1 in absurd cc
-  second_alone_ok s sa sb t y v e w f g h (inr o) =
-      let given = o.1.0 in
-      let d : y ≡ v = cc in
-      subst (λ z. AlternativeOk T (either qa qb) vr s v z) (sym o.1.1)
-      (subst (λ z. AlternativeOk T (either qa qb) vr s z sb) d
-      (second_won s sb sb y (lb.ok s sb y w g)
-      (err_other qa va s sa (cells sb) e h (la.err s sa e w f)) (steady_refl sb) refl))
+      (subst (λ z. AlternativeOk T (either qa qb) vr s z m) d i)
 
   -- the value where both paths are equally deep
   equal_ok : (s sa sb t : Situation) (v : T) (x y : Result T Error) → IsWholeIn env s → a s x sa
@@ -389,21 +385,20 @@ module _ {env : Variables} (T : Type 0) (a b : Outcome T) (qa qb : Roles)
       (and_parts (is_untouched s sa) (is_untouched s sb) o.0).0)
   equal_ok s sa sb t v (Ok x) (Ok y) w f g hf hg (inr o) =
       winner_ok s sa sb t x y v o.1.0 w (la.ok s sa x w f) (lb.ok s sb y w g) o.1.1 o.1.2
-  equal_ok s sa sb t v (Ok x) (Err e) w f g hf hg o = first_alone_ok s sa sb t x v e w f g hg o
-  equal_ok s sa sb t v (Err e) (Ok y) w f g hf hg o = second_alone_ok s sa sb t y v e w f g hf o
+  equal_ok s sa sb t v (Ok x) (Err e) w f g hf hg o =
+      alone_ok s sa t x v e (first_won s sa sa x (la.ok s sa x w f)
+      (err_other qb vb s sb (cells sa) e hg (lb.err s sb e w g)) (steady_refl sa) refl) o
+  equal_ok s sa sb t v (Err e) (Ok y) w f g hf hg o =
+      alone_ok s sb t y v e (second_won s sb sb y (lb.ok s sb y w g)
+      (err_other qa va s sa (cells sb) e hf (la.err s sa e w f)) (steady_refl sb) refl) o
   equal_ok s sa sb t v (Err e) (Err d) w f g hf hg o = let i = o.0.2 in absurd cc
 
   -- a value of the choice is that of an alternative
   choice_ok : (s t : Situation) (v : T) → IsWholeIn env s → ChoiceOutcome a b s (Ok v) t
       → AlternativeOk T (either qa qb) vr s v t
   choice_ok s t v w o =
-      let pa = law_path a qa va la s o.sa o.a w o.first_ran o.first_spared in
-      let pb = law_path b qb vb lb s o.sb o.b w o.second_ran o.second_spared in
-      ⊎_elim (λ deeper. absurd (never_deeper s o.sa o.sb pa pb deeper.0))
-      (λ other. ⊎_elim (λ deeper. absurd (never_deeper s o.sb o.sa pb pa deeper.0))
-      (λ equal. equal_ok s o.sa o.sb t v o.a o.b w o.first_ran o.second_ran o.first_spared
-      o.second_spared equal.1) other)
-      o.chosen
+      equal_ok s o.sa o.sb t v o.a o.b w o.first_ran o.second_ran o.first_spared o.second_spared
+      (equally_deep s t (Ok v) w o)
 
   -- both fail
   first_bad : (cs : Cells) → HasBad T va (pieces qa cs) → HasBad T vr (pieces (either qa qb) cs)
@@ -508,13 +503,8 @@ module _ {env : Variables} (T : Type 0) (a b : Outcome T) (qa qb : Roles)
   choice_err : (s t : Situation) (e : Error) → IsWholeIn env s → ChoiceOutcome a b s (Err e) t
       → AlternativeErr T (either qa qb) vr s e t
   choice_err s t e w (inl o) =
-      let pa = law_path a qa va la s o.sa o.a w o.first_ran o.first_spared in
-      let pb = law_path b qb vb lb s o.sb o.b w o.second_ran o.second_spared in
-      ⊎_elim (λ deeper. absurd (never_deeper s o.sa o.sb pa pb deeper.0))
-      (λ other. ⊎_elim (λ deeper. absurd (never_deeper s o.sb o.sa pb pa deeper.0))
-      (λ equal. equal_err s o.sa o.sb t e o.a o.b w o.first_ran o.second_ran o.first_spared
-      o.second_spared equal.1) other)
-      o.chosen
+      equal_err s o.sa o.sb t e o.a o.b w o.first_ran o.second_ran o.first_spared o.second_spared
+      (equally_deep s t (Err e) w o)
   choice_err s t e w (inr o) = alternative_memory (memory_class e.0 o.0)
 
   -- a choice of two alternatives whose keys are apart is an alternative

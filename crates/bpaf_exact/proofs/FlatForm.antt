@@ -16,12 +16,11 @@ use Rattle.bpaf_exact.specs.Wrappers.{Closure, Decides, map_closure, ClosedEval,
 use Rattle.bpaf_exact.specs.Wrappers.{FallbackEval, OptionalValue, FallbackValue}
 use Rattle.bpaf_exact.specs.Gathered.{some_closure, LastOf}
 use Rattle.bpaf_exact.specs.FlatForm.{FlatForm, not_flat, alternative, single, complete, product}
-use Rattle.bpaf_exact.specs.FlatForm.{FormLaw, Agrees, only_if, flat_closed, flat_either}
-use Rattle.bpaf_exact.specs.FlatForm.{flat_choice, alternative_only, flat_repeat, flat_last}
-use Rattle.bpaf_exact.specs.FlatForm.{flat_optional, flat_fallback, flat_field, may_follow}
-use Rattle.bpaf_exact.specs.FlatForm.{flat_both, flat_alone, flat_con, flat_record, NamedLaw}
-use Rattle.bpaf_exact.specs.FlatForm.{is_named, is_record, made_reading, product_reading}
-use Rattle.bpaf_exact.specs.FlatForm.{product_roles, flat_whole}
+use Rattle.bpaf_exact.specs.FlatForm.{FormLaw, Agrees, only_if, flat_closed, flat_choice}
+use Rattle.bpaf_exact.specs.FlatForm.{alternative_only, flat_repeat, flat_last, flat_optional}
+use Rattle.bpaf_exact.specs.FlatForm.{flat_fallback, flat_field, may_follow, flat_both, flat_alone}
+use Rattle.bpaf_exact.specs.FlatForm.{flat_con, flat_record, NamedLaw, is_named, is_record}
+use Rattle.bpaf_exact.specs.FlatForm.{made_reading, product_reading, product_roles, flat_whole}
 use Rattle.bpaf_exact.specs.Record.{LastValue}
 use Rattle.bpaf_exact.proofs.Names.{foreign_of, apart_of_names, either_owns}
 use Rattle.bpaf_exact.proofs.Alternative.{alternative_single, closed_alternative, closed_single}
@@ -61,26 +60,17 @@ if_law : (env : Variables) (T : Type 0) (outcome : Outcome T) (names : List Name
 if_law env T outcome names s true f = f refl
 if_law env T outcome names s false f = tt
 
--- a choice of two alternatives
-flat_either_law : (env : Variables) (T : Type 0) (a b : Outcome T) (own others : List Names)
-    (s t : FlatForm T)
-    → are_all_apart own others ≡ true → FormLaw env a own s → FormLaw env b others t
-    → FormLaw env (ChoiceOutcome a b) (own ++ others) (flat_either s t)
-flat_either_law env T a b own others (alternative q x) (alternative r y) h la lb = (
-  choice_law T a b q r x y la.0 lb.0
-      (apart_of_names q r own others la.1 lb.1 h),
-  either_owns q r own others la.1 lb.1,
-)
-flat_either_law env T a b own others _ _ h la lb = tt
-
--- the same, where the keys are apart
+-- a choice of two alternatives, where the keys are apart
 pub flat_choice_law : (env : Variables) (T : Type 0) (a b : Outcome T) (own others : List Names)
-    (s t : FlatForm T)
-    → FormLaw env a own s → FormLaw env b others t
+    (s t : FlatForm T) → FormLaw env a own s → FormLaw env b others t
     → FormLaw env (ChoiceOutcome a b) (own ++ others) (flat_choice own others s t)
-flat_choice_law env T a b own others s t la lb =
-    if_law env T (ChoiceOutcome a b) (own ++ others) (flat_either s t) (are_all_apart own others)
-    (λ h. flat_either_law env T a b own others s t h la lb)
+flat_choice_law env T a b own others (alternative q x) (alternative r y) la lb =
+    if_law env T (ChoiceOutcome a b) (own ++ others) _ (are_all_apart own others)
+    (λ h. (
+      choice_law T a b q r x y la.0 lb.0 (apart_of_names q r own others la.1 lb.1 h),
+      either_owns q r own others la.1 lb.1,
+    ))
+flat_choice_law env T a b own others _ _ la lb = tt
 
 -- an alternative alone
 pub only_law : (env : Variables) (T : Type 0) (outcome : Outcome T) (names : List Names)

@@ -12,7 +12,7 @@ use Rattle.bpaf_exact.specs.Pieces.{LinePiece, One, Two, is_own_role, is_own, ot
 use Rattle.bpaf_exact.specs.Pieces.{either, IsNamed, Apart, Cut, at_end, passed, flag, argument}
 use Rattle.bpaf_exact.specs.Pieces.{word, pieces, TakesPieces}
 use Rattle.bpaf_exact.specs.Flat.{cells, NonePresent, IsWholeIn, Steady, FieldKind, ByName, OneWord}
-use Rattle.bpaf_exact.specs.Flat.{EachWord, front, back, share, left, keys, IsWords, OwnItems}
+use Rattle.bpaf_exact.specs.Flat.{EachWord, front, back, portion, left, keys, IsWords, OwnItems}
 use Rattle.bpaf_exact.specs.Flat.{NoKeysLeft, FieldTook, FieldLaw, ReadOff, FieldsLaw, Before}
 use Rattle.bpaf_exact.specs.Flat.{FieldsReading, both_reading, class, OfMemory, HasValue, Variables}
 use Rattle.bpaf_exact.proofs.Classes.{memory_class, not_memory}
@@ -149,13 +149,13 @@ narrow q r n p (word {w = w} {cs = cs} {os = os} h c) =
 
 -- What is read off the pieces, seen from before a field was evaluated.
 
--- a cut from before a field was evaluated, with its share and what it left
+-- a cut from before a field was evaluated, with its portion and what it left
 pub record StepBack (k : FieldKind) (q r : Roles) (cs : Cells)
     (after : List LinePiece) : Type 0 where
   pub before : List LinePiece
   pub cut : Cut (either (keys k q) r) cs before
   pub leaves : left k q before ≡ after
-  pub own : front k (pieces q cs) ≡ share k q before
+  pub own : front k (pieces q cs) ≡ portion k q before
 
 -- that of a named field
 named_back : (q r : Roles) {cs ds : Cells} {os : List LinePiece} → IsNamed q → Apart q r
@@ -173,7 +173,7 @@ named_back q r n a t c =
 
 -- of a positional one
 word_back : (k : FieldKind) (q r : Roles) {cs ds : Cells} {os : List LinePiece}
-    → keys k q ≡ no_roles → ((ps : List LinePiece) → share k q ps ≡ front k ps)
+    → keys k q ≡ no_roles → ((ps : List LinePiece) → portion k q ps ≡ front k ps)
     → ((ps : List LinePiece) → left k q ps ≡ back k ps) → IsWords q → NoKeys r
     → TakesPieces q cs ds → pieces q ds ≡ back k (pieces q cs) → Cut r ds os → StepBack k q r cs os
 word_back k q r {cs = cs} no_keys shares leaves n f t e c =
@@ -207,13 +207,13 @@ none_left _ q r n b c = tt
 
 -- The cut after a field was evaluated.
 
--- a field's own pieces are its share of the cut
-pub own_share : (k : FieldKind) (q r : Roles) {cs : Cells} {os : List LinePiece} → OwnItems k q
-    → Before k q r → Cut (either (keys k q) r) cs os → front k (pieces q cs) ≡ share k q os
-own_share ByName q r n b c = pieces_of_cut q r n c
-own_share (OneWord z) q r n b c = ap (front (OneWord z)) (words_of_cut q r n (record { none = b })
+-- a field's own pieces are its portion of the cut
+pub own_portion : (k : FieldKind) (q r : Roles) {cs : Cells} {os : List LinePiece} → OwnItems k q
+    → Before k q r → Cut (either (keys k q) r) cs os → front k (pieces q cs) ≡ portion k q os
+own_portion ByName q r n b c = pieces_of_cut q r n c
+own_portion (OneWord z) q r n b c = ap (front (OneWord z)) (words_of_cut q r n (record { none = b })
     c)
-own_share (EachWord z) q r n b c =
+own_portion (EachWord z) q r n b c =
     ap (front (EachWord z)) (words_of_cut q r n (record { none = b }) c)
 
 -- the cut after a positional field was evaluated
@@ -339,12 +339,12 @@ module _ {env : Variables} (A B : Type 0) (first : Outcome A) (rest : Outcome B)
 
   -- where each field has a value, so has the first on its own pieces
   own_value : (s : Situation) (os : List LinePiece) → Cut (either (keys k q) r) (cells s) os
-      → (h : HasValue fv (share k q os)) → fv (front k (pieces q (cells s))) h.0
-  own_value s os c h = subst (λ z. fv z h.0) (sym (own_share k q r lf.own b c)) h.1
+      → (h : HasValue fv (portion k q os)) → fv (front k (pieces q (cells s))) h.0
+  own_value s os c h = subst (λ z. fv z h.0) (sym (own_portion k q r lf.own b c)) h.1
 
   -- what the first leaves is cut into what it leaves of the pieces
   rest_cut : (s m : Situation) (x : A) (os : List LinePiece) → IsWholeIn env s → first s (Ok x) m
-      → Cut (either (keys k q) r) (cells s) os → HasValue fv (share k q os)
+      → Cut (either (keys k q) r) (cells s) os → HasValue fv (portion k q os)
       → Cut r (cells m) (left k q os)
   rest_cut s m x os w f c h =
       let i = lf.ok s m x w f in

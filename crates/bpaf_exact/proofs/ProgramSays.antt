@@ -258,8 +258,8 @@ module _ {P Q T : Type 0} (q : Q) where
       said q
   more_says (of_pieces says) (of_pieces said) p kind names own others words more (plain wide a)
       (plain other b) h g into = record {
-        by = choice_into names others names own others kind (said q) (said q) (says p)
-            (λ os v m. m) into a b h.by g.by;
+        by = choice_into names others names own others (of_kind ByName) kind (said q) (said q)
+            (says p) (λ os v m. m) into a b h.by g.by;
       }
   more_says (of_cells says) (of_cells said) p kind names own others words more (commands r a)
       (commands u b) h g into =

@@ -7,13 +7,13 @@ use Rattle.bpaf_exact.specs.Pieces.{Cells, Roles, Role, Foreign, LinePiece, IsNa
 use Rattle.bpaf_exact.specs.Pieces.{either_role, no_roles, pieces}
 use Rattle.bpaf_exact.specs.Flat.{cells, NonePresent, no_place, none_here, IsWholeIn, Steady}
 use Rattle.bpaf_exact.specs.Flat.{FieldKind, ByName, keys, OwnItems, FieldLaw, FieldsLaw, ReadOff}
-use Rattle.bpaf_exact.specs.Flat.{Before, FieldsReading, HasValue, share, front, Variables}
+use Rattle.bpaf_exact.specs.Flat.{Before, FieldsReading, HasValue, portion, front, Variables}
 use Rattle.bpaf_exact.specs.Single.{present_count}
 use Rattle.bpaf_exact.specs.Wrappers.{map_closure}
 use Rattle.bpaf_exact.specs.Record.{LastValue, last_reading}
 use Rattle.bpaf_exact.specs.FlatForm.{made_reading}
 use Rattle.bpaf_exact.proofs.Words.{empty_cut, cut_empty}
-use Rattle.bpaf_exact.proofs.Product.{step_back, none_left, own_share, step_on}
+use Rattle.bpaf_exact.proofs.Product.{step_back, none_left, own_portion, step_on}
 
 -- Nothing is present where the count is nought.
 pub none_counted : (cs : Cells) → present_count cs ≡ 0 → NonePresent cs
@@ -70,9 +70,9 @@ module _ {env : Variables} (T : Type 0) (outcome : Outcome T)
 
   -- where the field has a value on its pieces, it has one on those of the cells
   own_value : (s : Situation) (os : List LinePiece) → Cut (either (keys k q) no_roles) (cells s) os
-      → (h : HasValue value (share k q os)) → value (front k (pieces q (cells s))) h.0
+      → (h : HasValue value (portion k q os)) → value (front k (pieces q (cells s))) h.0
   own_value s os c h = subst (λ z. value z h.0)
-      (sym (own_share k q no_roles l.own before_none c)) h.1
+      (sym (own_portion k q no_roles l.own before_none c)) h.1
 
   -- so nothing is left
   last_takes : (s t : Situation) (v : T) (os : List LinePiece) → IsWholeIn env s

@@ -15,18 +15,18 @@ use Rattle.bpaf_exact.specs.Single.{repeated}
 use Rattle.bpaf_exact.specs.Wrappers.{Closure, OptionalValue, some_value, no_value, FallbackValue}
 use Rattle.bpaf_exact.specs.Wrappers.{own_value, kept_value}
 use Rattle.bpaf_exact.specs.Gathered.{LastOf}
-use Rattle.bpaf_exact.specs.Alternative.{pick_type}
+use Rattle.bpaf_exact.specs.Alternative.{pick_type, either_value}
 use Rattle.bpaf_exact.specs.Leaves.{flag_field, flag_gap, FlagValue, argument_field, argument_by}
 use Rattle.bpaf_exact.specs.Leaves.{argument_gap, argument_group, variable_argument, variable_flag}
 use Rattle.bpaf_exact.specs.Leaves.{ArgumentValue, SideValue, WordValue, word_by}
 use Rattle.bpaf_exact.proofs.Fronts.{all_front}
 use Rattle.bpaf_exact.specs.Record.{LastValue}
 use Rattle.bpaf_exact.specs.FlatForm.{FlatForm, FormLaw, not_flat, alternative, single, complete}
-use Rattle.bpaf_exact.specs.FlatForm.{product, only_if, flat_closed, flat_either, flat_choice}
-use Rattle.bpaf_exact.specs.FlatForm.{alternative_only, flat_repeat, flat_last, flat_optional}
-use Rattle.bpaf_exact.specs.FlatForm.{flat_fallback, unless, flat_field, is_named, may_follow}
-use Rattle.bpaf_exact.specs.FlatForm.{product_roles, flat_both, flat_alone, flat_con, flat_record}
-use Rattle.bpaf_exact.specs.FlatForm.{product_reading, flat_whole}
+use Rattle.bpaf_exact.specs.FlatForm.{product, only_if, flat_closed, flat_choice, alternative_only}
+use Rattle.bpaf_exact.specs.FlatForm.{flat_repeat, flat_last, flat_optional, flat_fallback, unless}
+use Rattle.bpaf_exact.specs.FlatForm.{flat_field, is_named, may_follow, product_roles, flat_both}
+use Rattle.bpaf_exact.specs.FlatForm.{flat_alone, flat_con, flat_record, product_reading}
+use Rattle.bpaf_exact.specs.FlatForm.{flat_whole}
 use Rattle.bpaf_exact.specs.Says.{SaidKind, form_kind, of_kind, keyed, repeated_kind, AllOwn, Fits}
 use Rattle.bpaf_exact.specs.Says.{Said, FlagSays, says_present, says_absent, says_variable}
 use Rattle.bpaf_exact.specs.Says.{ArgumentSays, says_variable_text, says_text, says_last_text}
@@ -206,30 +206,26 @@ closed_says {A} {B} f {s} {kind} {names} {said} h = record { by = by_form s h.by
 -- Choices.
 
 -- of two, into what each says more of
-pub choice_into : {T : Type 0} (m n names own others : List Names) (kind : SaidKind)
+pub choice_into : {T : Type 0} (m n names own others : List Names) (j k : SaidKind)
     (said this that : Said T)
     → ((os : List LinePiece) (v : T) → this os v → said os v)
     → ((os : List LinePiece) (v : T) → that os v → said os v)
-    → (a b : FlatForm T) → FormSays m a (of_kind ByName) this → FormSays n b kind that
+    → (a b : FlatForm T) → FormSays m a j this → FormSays n b k that
     → FormSays names (flat_choice own others a b) (of_kind ByName) said
-choice_into {T} m n names own others kind said this that from_this from_that a b g h =
-    by_names (are_all_apart own others) a b g h
+choice_into {T} m n names own others j k said this that from_this from_that (alternative q first)
+    (alternative r second) g h = by_test (are_all_apart own others)
   where
-    piece : (q : Roles) (first second : LinePiece → T → Type 0)
-        → ((o : LinePiece) (v : T) → first o v → this (o ∷ []) v)
-        → ((o : LinePiece) (v : T) → second o v → that (o ∷ []) v)
-        → (o : LinePiece) (v : T) → (b : Bool) → pick_type b (first o v) (second o v)
+    piece : (o : LinePiece) (v : T) (b : Bool) → pick_type b (first o v) (second o v)
         → said (o ∷ []) v
-    piece q first second g h o v true m = from_this (o ∷ []) v (g o v m)
-    piece q first second g h o v false m = from_that (o ∷ []) v (h o v m)
+    piece o v true m = from_this (o ∷ []) v (g.1 o v m)
+    piece o v false m = from_that (o ∷ []) v (h.1 o v m)
 
-    by_names : (apart : Bool) (a b : FlatForm T) → FormSays m a (of_kind ByName) this
-        → FormSays n b kind that
-        → FormSays names (only_if apart (flat_either a b)) (of_kind ByName) said
-    by_names false a b g h = tt
-    by_names true (alternative q first) (alternative r second) g h =
-        (refl, λ o v m. piece q first second g.1 h.1 o v (is_own q o) m)
-    by_names true _ _ g h = tt
+    by_test : (apart : Bool) → FormSays names
+        (only_if apart (alternative (either q r) (either_value q first second))) (of_kind ByName)
+        said
+    by_test true = (refl, λ o v m. piece o v (is_own q o) m)
+    by_test false = tt
+choice_into m n names own others j k said this that from_this from_that _ _ g h = tt
 
 -- a parser that says so by whichever kind is an alternative or says nothing
 pub by_name : {T : Type 0} (names : List Names) (s : FlatForm T) (kind : SaidKind) (said : Said T)
@@ -237,27 +233,13 @@ pub by_name : {T : Type 0} (names : List Names) (s : FlatForm T) (kind : SaidKin
 by_name names (alternative q value) kind said h = (refl, h.1)
 by_name names _ kind said h = tt
 
--- a choice is of alternatives alone
-only_alternatives : {T : Type 0} (names own others : List Names) (said : Said T) (a b : FlatForm T)
-    → FormSays names (flat_choice own others (alternative_only a) b) (of_kind ByName) said
-    → FormSays names (flat_choice own others a b) (of_kind ByName) said
-only_alternatives {T} names own others said a b h = by_names (are_all_apart own others) a h
-  where
-    by_names : (apart : Bool) (a : FlatForm T)
-        → FormSays names (only_if apart (flat_either (alternative_only a) b)) (of_kind ByName) said
-        → FormSays names (only_if apart (flat_either a b)) (of_kind ByName) said
-    by_names false a h = tt
-    by_names true (alternative q value) h = h
-    by_names true _ h = tt
-
 -- of two
 pub choice_says : {T : Type 0} {m n names : List Names} (own others : List Names)
     {a b : FlatForm T} {j k : SaidKind} {this that : Said T} → Says m a j this → Says n b k that
     → Says names (flat_choice own others a b) (of_kind ByName) (EitherSays this that)
 choice_says {T} {m} {n} {names} own others {a} {b} {j} {k} {this} {that} g h = record {
-  by = only_alternatives names own others (EitherSays this that) a b
-      (choice_into m n names own others k (EitherSays this that) this that (λ os v m. says_this m)
-      (λ os v m. says_that m) (alternative_only a) b (by_name m a j this g.by) h.by);
+  by = choice_into m n names own others j k (EitherSays this that) this that
+      (λ os v m. says_this m) (λ os v m. says_that m) a b g.by h.by;
 }
 
 -- Repeats and defaults.

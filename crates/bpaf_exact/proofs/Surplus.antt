@@ -2,7 +2,7 @@
 use Rattle.std.proofs.Common.{◌≡◌, ℕ, Bool, true, false, List, [], ◌∷◌, Option, Some, None, subst}
 use Rattle.bpaf_doc.specs.Names.{Names}
 use Rattle.bpaf_exact.specs.Pieces.{Roles, LinePiece}
-use Rattle.bpaf_exact.specs.Flat.{FieldKind, FieldsReading, HasValue, both_reading, share, left}
+use Rattle.bpaf_exact.specs.Flat.{FieldKind, FieldsReading, HasValue, both_reading, portion, left}
 use Rattle.bpaf_exact.specs.Single.{Groups, Gap, FrontOf, own_none, own_more, OwnList, listed}
 use Rattle.bpaf_exact.specs.Single.{listed_and_absent, only_absent, SingleValue, of_group, of_gap}
 use Rattle.bpaf_exact.specs.Wrappers.{Closure, OptionalValue, some_value, no_value, FallbackValue}
@@ -134,7 +134,7 @@ module _ (T : Type 0) (value : LinePiece → T → Type 0) (gap : Gap T) where
 module _ {A B : Type 0} (k : FieldKind) (q : Roles) (first : List LinePiece → A → Type 0)
     (rest : FieldsReading B) where
   -- a field before others
-  pub first_part : IsPartOf (both_reading k q first rest).each (share k q) (HasValue first)
+  pub first_part : IsPartOf (both_reading k q first rest).each (portion k q) (HasValue first)
   first_part = λ os h. h.0
 
   -- the parts of those behind it
@@ -145,7 +145,7 @@ module _ {A B : Type 0} (k : FieldKind) (q : Roles) (first : List LinePiece → 
 
 module _ {T : Type 0} (k : FieldKind) (q : Roles) (value : List LinePiece → T → Type 0) where
   -- the last field
-  pub last_part : IsPartOf (last_reading k q value).each (share k q) (HasValue value)
+  pub last_part : IsPartOf (last_reading k q value).each (portion k q) (HasValue value)
   last_part = λ os h. h.0
 
   -- no piece is left behind it

@@ -40,7 +40,7 @@ module _ {env : Variables} (A B : Type 0) (inner : Outcome A) (k : FieldKind) (q
         rest = a.rest;
       }
 
-  -- where the share has a value it takes all,
+  -- where the portion has a value it takes all,
   closed_takes : (s t : Situation) (u v : B) → IsWholeIn env s → ClosedEval A B inner f c s (Ok u) t
       → ClosedValue A B value f (front k (pieces q (cells s))) v → NoKeysLeft k q (cells t)
   closed_takes s t u v w (closed_yes {x = x} i y) h = l.takes_all s t x h.from w i h.read
@@ -131,7 +131,7 @@ module _ {env : Variables} (T : Type 0) (inner : Outcome T) (k : FieldKind) (q :
   not_empty : (os : List LinePiece) (v : T) → front k os ≡ [] → group (front k os) v [] → ⊥
   not_empty os v e g = l.starts v [] (subst (λ z. group z v []) e g)
 
-  -- where the share has a value, all is taken
+  -- where the portion has a value, all is taken
   ok_takes : (s t : Situation) (v w : T) → SingleOk T k q group gap s v t
       → SingleView (front k (pieces q (cells s))) w
       → pieces q (cells t) ≡ back k (pieces q (cells s))
@@ -213,7 +213,7 @@ module _ {env : Variables} (T : Type 0) (inner : Outcome T) (k : FieldKind) (q :
   optional_view os v (some_value {v = x} g) = view_some x refl g
   optional_view os v (no_value h) = view_none refl refl h
 
-  -- where the share has a value, Some took all
+  -- where the portion has a value, Some took all
   some_takes : (s t : Situation) (x : T) (v : Option T) → IsWholeIn env s → inner s (Ok x) t
       → SingleOk T k q group gap s x t → OptionalView (front k (pieces q (cells s))) v
       → NoKeysLeft k q (cells t)
@@ -235,7 +235,7 @@ module _ {env : Variables} (T : Type 0) (inner : Outcome T) (k : FieldKind) (q :
   none_fails s t e w n p b (of_absent c g p' x) = absurd cc
   none_fails s t e w n p b (of_piece c ne x) = absurd (ne p)
 
-  -- where the share has a value, all is taken
+  -- where the portion has a value, all is taken
   optional_takes : (s t : Situation) (u v : Option T) → IsWholeIn env s
       → OptionalEval T inner s (Ok u) t → OptionalView (front k (pieces q (cells s))) v
       → NoKeysLeft k q (cells t)
@@ -328,7 +328,7 @@ module _ {env : Variables} (T : Type 0) (inner : Outcome T) (k : FieldKind) (q :
     kept_fails s t e n p b (of_absent c g p' x) = absurd cc
     kept_fails s t e n p b (of_piece c ne x) = absurd (ne p)
 
-    -- where the share has a value, all is taken
+    -- where the portion has a value, all is taken
     fallback_takes : (s t : Situation) (u v : T) → IsWholeIn env s
         → FallbackEval T inner f s (Ok u) t → FallbackView (front k (pieces q (cells s))) v
         → NoKeysLeft k q (cells t)

@@ -112,11 +112,11 @@ back (OneWord stops) [] = []
 back (OneWord false) (o ∷ os) = os
 back (OneWord true) (o ∷ os) = if is_behind o then o ∷ os else os
 
--- Of the pieces that the fields before it left, a field's share: for a named field those that begin
+-- Of the pieces that the fields before it left, a field's portion: for a named field those that begin
 -- with one of its names; for a positional field what it takes of them.
-abbrev pub share : FieldKind → Roles → List LinePiece → List LinePiece
-share ByName q os = mine q os
-share k q os = front k os
+abbrev pub portion : FieldKind → Roles → List LinePiece → List LinePiece
+portion ByName q os = mine q os
+portion k q os = front k os
 
 -- what it leaves to the fields after it
 abbrev pub left : FieldKind → Roles → List LinePiece → List LinePiece
@@ -143,7 +143,7 @@ NoKeysLeft ByName q cs = pieces q cs ≡ []
 NoKeysLeft k q cs = Unit {0}
 
 -- An answer of a field: it takes pieces of its own alone, and if none of a named field's is left
--- over, the answer is a value of its share.
+-- over, the answer is a value of its portion.
 pub record FieldTook (T : Type 0) (k : FieldKind) (q : Roles) (value : List LinePiece → T → Type 0)
     (s : Situation) (v : T) (t : Situation) : Type 0 where
   pub steady : Steady s t
@@ -151,7 +151,7 @@ pub record FieldTook (T : Type 0) (k : FieldKind) (q : Roles) (value : List Line
   pub read : NoKeysLeft k q (cells t) → value (front k (pieces q (cells s))) v
   pub rest : NoKeysLeft k q (cells t) → pieces q (cells t) ≡ back k (pieces q (cells s))
 
--- The laws of a flat field. Where its share has a value, an answer leaves none of a named field's
+-- The laws of a flat field. Where its portion has a value, an answer leaves none of a named field's
 -- keys, and a refusal is want of memory.
 pub record FieldLaw (variables : Variables) (T : Type 0) (outcome : Outcome T) (k : FieldKind)
     (q : Roles) (value : List LinePiece → T → Type 0) : Type 0 where
@@ -175,7 +175,7 @@ abbrev pub HasValue : {T : Type 0} → (List LinePiece → T → Type 0) → Lis
 HasValue {T = T} value os = (v : T) × value os v
 
 -- how the fields of a record read the pieces: which values these have, and whether each field has
--- one on its share, whatever a constructor makes of them
+-- one on its portion, whatever a constructor makes of them
 pub record FieldsReading (V : Type 0) : Type 1 where
   pub value : List LinePiece → V → Type 0
   pub each : List LinePiece → Type 0
@@ -200,15 +200,10 @@ abbrev pub Before : FieldKind → Roles → Roles → Type 0
 Before ByName q r = Apart q r
 Before k q r = (item : Arg) → r item ≡ Foreign
 
--- the values of a field and of those after it
-abbrev pub BothValue : {A B : Type 0} → FieldKind → Roles → (List LinePiece → A → Type 0)
-    → (List LinePiece → B → Type 0) → List LinePiece → A × B → Type 0
-BothValue k q first rest os v = first (share k q os) v.0 × rest (left k q os) v.1
-
--- how they read the pieces
+-- how a field and those after it read the pieces
 abbrev pub both_reading : {A B : Type 0} → FieldKind → Roles → (List LinePiece → A → Type 0)
     → FieldsReading B → FieldsReading (A × B)
 both_reading k q first rest = record {
-  value = BothValue k q first rest.value;
-  each = λ os. HasValue first (share k q os) × rest.each (left k q os);
+  value = λ os v. first (portion k q os) v.0 × rest.value (left k q os) v.1;
+  each = λ os. HasValue first (portion k q os) × rest.each (left k q os);
 }

@@ -1,5 +1,5 @@
 -- What a flat field is: how it reads its pieces, and the law that this puts on its outcome.
-use Rattle.std.specs.Prelude.{ℕ, Bool, true, false, ◌&&◌, List, [], ◌∷◌, Option}
+use Rattle.std.specs.Prelude.{Bool, true, false, ◌&&◌, List, [], ◌∷◌, Option}
 use Rattle.std.specs.Global.{Vec}
 use Rattle.bpaf_doc.specs.Names.{Names}
 use Rattle.bpaf_laws.specs.Reading.{Outcome}
@@ -11,8 +11,7 @@ use Rattle.bpaf_exact.specs.Single.{Groups, Gap, FrontOf, no_gap, SingleLaw, Sin
 use Rattle.bpaf_exact.specs.Single.{repeated}
 use Rattle.bpaf_exact.specs.Wrappers.{Closure, AgreesOn, ClosedPiece, ClosedGroup, closed_gap}
 use Rattle.bpaf_exact.specs.Wrappers.{ClosedValue, OptionalValue, FallbackValue}
-use Rattle.bpaf_exact.specs.Gathered.{LastOf, list_closure, some_closure, count_closure}
-use Rattle.bpaf_exact.specs.Gathered.{collect_closure}
+use Rattle.bpaf_exact.specs.Gathered.{LastOf, list_closure}
 use Rattle.bpaf_exact.specs.Alternative.{AlternativeLaw, either_value}
 use Rattle.bpaf_exact.specs.Record.{last_reading}
 
@@ -78,15 +77,12 @@ flat_closed {A = A} {B = B} f (single k q group gap) =
 flat_closed {A = A} {B = B} f (complete k q value) = complete k q (ClosedValue A B value f)
 flat_closed f (product named q fields) = not_flat
 
--- a choice of two alternatives
-abbrev pub flat_either : {T : Type 0} → FlatForm T → FlatForm T → FlatForm T
-flat_either (alternative q a) (alternative r b) = alternative (either q r) (either_value q a b)
-flat_either _ _ = not_flat
-
--- the same, where the keys of the one are apart from those of the other
+-- a choice of two alternatives, where the keys of the one are apart from those of the other
 abbrev pub flat_choice : {T : Type 0} → List Names → List Names → FlatForm T → FlatForm T
     → FlatForm T
-flat_choice own others a b = only_if (are_all_apart own others) (flat_either a b)
+flat_choice own others (alternative q a) (alternative r b) =
+    only_if (are_all_apart own others) (alternative (either q r) (either_value q a b))
+flat_choice own others _ _ = not_flat
 
 -- an alternative, and nothing else
 abbrev pub alternative_only : {T : Type 0} → FlatForm T → FlatForm T
@@ -105,21 +101,9 @@ flat_whole kind value _ = not_flat
 abbrev pub flat_repeat : {T : Type 0} → FlatForm T → FlatForm (List T)
 flat_repeat {T = T} s = flat_whole repeated (OwnList T) s
 
--- many, some, count and collect
+-- many
 abbrev pub flat_many : {T : Type 0} → FlatForm T → FlatForm (Vec T)
 flat_many {T = T} s = flat_closed (list_closure T) (flat_repeat s)
-
--- the same, not empty
-abbrev pub flat_some : {T : Type 0} → FlatForm T → FlatForm (Vec T)
-flat_some {T = T} s = flat_closed (some_closure T) (flat_repeat s)
-
--- how many there are
-abbrev pub flat_count : {T : Type 0} → FlatForm T → FlatForm ℕ
-flat_count {T = T} s = flat_closed (count_closure T) (flat_repeat s)
-
--- what is filled from them
-abbrev pub flat_collect : {T C : Type 0} → (List T → C → Type 0) → FlatForm T → FlatForm C
-flat_collect fills s = flat_closed (collect_closure fills) (flat_repeat s)
 
 -- the last of them
 abbrev pub flat_last : {T : Type 0} → FlatForm T → FlatForm T

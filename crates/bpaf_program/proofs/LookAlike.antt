@@ -35,7 +35,7 @@ use Rattle.bpaf_exact.proofs.OneView.{alone_view, argument_view, both_view, con_
 use Rattle.bpaf_exact.proofs.OneView.{fallback_view, flag_view, many_view, optional_field_view}
 use Rattle.bpaf_exact.proofs.OneView.{record_looks_one, side_view, word_view}
 use Rattle.bpaf_exact.proofs.Positionals.{word_by_law}
-use Rattle.bpaf_exact.proofs.ByTables.{fallback_law, many_field_law, optional_law}
+use Rattle.bpaf_exact.proofs.ByTables.{fallback_law, many_law, optional_law}
 use Rattle.bpaf_record.proofs.OneLine.{same_context}
 use Rattle.bpaf_program.specs.ReadBy.{IsReadBy}
 use Rattle.bpaf_program.specs.Values.{IsKept, MeansText, String}
@@ -117,7 +117,7 @@ module _ {T X : Type 0} {outcome : Outcome T} {see : T → X} {names : List Name
   pub many_seen : IsSeen (ManyOutcome outcome false) (λ values. map see values.items) names
       (flat_many form)
   many_seen = record {
-    law = λ env. many_field_law env T outcome false names form (is.law env);
+    law = λ env. many_law env T outcome false names [] (plain false form) (is.law env);
     view = many_view [] T X see outcome names form (is.law []) is.view;
   }
 

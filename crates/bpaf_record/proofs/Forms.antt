@@ -5,7 +5,7 @@ use Rattle.bpaf_doc.specs.Names.{Names}
 use Rattle.bpaf_exact.specs.Flat.{FieldKind, ByName, OneWord, EachWord}
 use Rattle.bpaf_exact.specs.FlatForm.{FlatForm, not_flat, alternative, single, complete, product}
 use Rattle.bpaf_exact.specs.FlatForm.{alternative_only, flat_alone, flat_both, flat_choice}
-use Rattle.bpaf_exact.specs.FlatForm.{flat_closed, flat_con, flat_either, flat_fallback, flat_last}
+use Rattle.bpaf_exact.specs.FlatForm.{flat_closed, flat_con, flat_fallback, flat_last}
 use Rattle.bpaf_exact.specs.FlatForm.{flat_optional, flat_repeat, flat_field, is_named, is_product}
 use Rattle.bpaf_exact.specs.FlatForm.{is_record, may_follow, only_if, unless}
 use Rattle.bpaf_exact.specs.Names.{are_all_apart}
@@ -15,7 +15,11 @@ use Rattle.bpaf_record.specs.Form.{alone_form, alternative_form, before_form, cl
 use Rattle.bpaf_record.specs.Form.{completed_form, field_form, form_if, form_of, is_named_kind}
 use Rattle.bpaf_record.specs.Form.{is_product_form, is_record_form, joined_form, kind_of, made_form}
 use Rattle.bpaf_record.specs.Form.{may_stand, unless_form}
-use Rattle.bpaf_record.specs.declared.form.Form.TheVariants.{Complete, Product}
+use Rattle.bpaf_record.specs.declared.form.Form.TheVariants.{Alternative, Complete, NotFlat}
+use Rattle.bpaf_record.specs.declared.form.Form.TheVariants.{Product}
+use Rattle.bpaf_record.specs.declared.form.Form.{Form}
+use Rattle.bpaf_exact.specs.Alternative.{either_value}
+use Rattle.bpaf_exact.specs.Pieces.{either}
 
 -- a closure
 pub closed_is : {A B : Type 0} (f : Closure A B) (s : FlatForm A)
@@ -107,22 +111,22 @@ pub only_is : {T : Type 0} (s : FlatForm T)
 only_is not_flat = refl
 only_is _ = refl
 
--- a choice of two whose keys are apart
-either_is : {T : Type 0} (s t : FlatForm T)
-    → joined_form true (form_of s) (form_of t) ≡ form_of (flat_either s t)
-either_is (alternative q value) (alternative r other) = refl
-either_is _ _ = refl
-
 -- a choice of two
 pub choice_is : {T : Type 0} (own others : List Names) (s t : FlatForm T)
     → joined_form (are_all_apart own others) (form_of s) (form_of t)
     ≡ form_of (flat_choice own others s t)
-choice_is own others s t = joined_is (are_all_apart own others)
+choice_is own others (alternative q value) (alternative r other) = by_test (are_all_apart own others)
   where
-    joined_is : (apart : Bool)
-        → joined_form apart (form_of s) (form_of t) ≡ form_of (only_if apart (flat_either s t))
-    joined_is true = either_is s t
-    joined_is false = refl
+    by_test : (apart : Bool) → joined_form apart Alternative Alternative
+        ≡ form_of (only_if apart (alternative (either q r) (either_value q value other)))
+    by_test true = refl
+    by_test false = refl
+choice_is own others _ _ = not_joined _ _ refl (are_all_apart own others)
+  where
+    not_joined : (s t : Form) → joined_form true s t ≡ NotFlat → (apart : Bool)
+        → joined_form apart s t ≡ NotFlat
+    not_joined s t none true = none
+    not_joined s t none false = refl
 
 -- where a test holds
 if_is : {T : Type 0} (b : Bool) (s : FlatForm T) → form_if b (form_of s) ≡ form_of (only_if b s)
