@@ -20,7 +20,8 @@ use Rattle.bpaf_exact.specs.Gathered.{list_closure}
 use Rattle.bpaf_exact.specs.FlatForm.{product_reading, product_roles}
 use Rattle.bpaf_exact.specs.ProgramForm.{ProgramForm, flat_form, plain, program_alone, program_both}
 use Rattle.bpaf_exact.specs.ProgramForm.{program_con, program_field, program_repeat}
-use Rattle.bpaf_exact.specs.Variables.{Variables, argument_form, flag_form}
+use Rattle.bpaf_exact.specs.Variables.{argument_form, flag_form}
+use Rattle.bpaf_exact.specs.Flat.{Variables}
 use Rattle.bpaf_exact.specs.Wrappers.{map_closure}
 use Rattle.bpaf_record.specs.Positional.{is_sided, positional_field}
 use Rattle.bpaf_record.specs.Record.{AnswersExactly, is_flat_record}

@@ -1,17 +1,15 @@
 -- A cut line holds together, and what its named fields leave to positional ones.
-use Rattle.std.proofs.Common.{◌≡◌, ℕ, Bool, true, false, List, [], ◌∷◌, ◌++◌, Some, None, refl}
-use Rattle.std.proofs.Common.{sym, ap, ◌∙◌, subst, if◌then◌else◌}
+use Rattle.std.proofs.Common.{◌≡◌, ℕ, Bool, true, false, List, [], ◌∷◌, ◌++◌, Some, None, refl, sym}
+use Rattle.std.proofs.Common.{ap, ◌∙◌, subst, if◌then◌else◌}
 use Rattle.std.specs.List.{AllPass}
 use Rattle.std.proofs.lemmas.List.{append_assoc}
 use Rattle.std.proofs.lemmas.List.Elements.{All-nil, All-cons}
 use Rattle.bpaf_base.specs.Items.{is_positional}
 use Rattle.bpaf_base.specs.declared.arg.Arg.{Arg}
 use Rattle.bpaf_base.specs.declared.arg.Arg.TheVariants.{ArgWord}
-use Rattle.bpaf_exact.specs.Pieces.{Cells, Roles, Alone, WithNext, LinePiece, One}
-use Rattle.bpaf_exact.specs.Pieces.{Two}
-use Rattle.bpaf_exact.specs.Pieces.{is_value, is_key, is_own_role, is_own, others, IsNamed, Cut}
-use Rattle.bpaf_exact.specs.Pieces.{at_end, passed, flag, argument, word}
-use Rattle.bpaf_exact.specs.Pieces.{no_roles}
+use Rattle.bpaf_exact.specs.Pieces.{Cells, Roles, Alone, WithNext, LinePiece, One, Two, is_value}
+use Rattle.bpaf_exact.specs.Pieces.{is_key, is_own_role, is_own, others, IsNamed, Cut, at_end}
+use Rattle.bpaf_exact.specs.Pieces.{passed, flag, argument, word, no_roles}
 use Rattle.bpaf_exact.specs.Accepted.{HasItsValue, EndsInKey, is_word_alone, HoldsTogether}
 use Rattle.bpaf_exact.proofs.Cells.{value_not_key, word_not_key, value_foreign, word_foreign}
 use Rattle.bpaf_exact.proofs.Cells.{others_own, others_foreign}
@@ -153,24 +151,6 @@ module _ (r : Roles) (n : IsNamed r) where
       at : (before after : Cells) (k : Arg) → cs ≡ before ++ (Some k ∷ after)
           → Item before k after os
       at before after k e = item_of before k after (subst (λ z. Cut r z os) e c)
-
--- places that end alike end in the same item
-same_end : (cs bs : Cells) (k j : Arg) → cs ++ (Some k ∷ []) ≡ bs ++ (Some j ∷ []) → k ≡ j
-same_end [] [] k j e = cc
-same_end [] (b ∷ []) k j e = cc
-same_end [] (b ∷ (c ∷ bs)) k j e = cc
-same_end (a ∷ []) [] k j e = cc
-same_end (a ∷ (c ∷ cs)) [] k j e = cc
-same_end (a ∷ cs) (b ∷ bs) k j e = same_end cs bs k j cc
-
--- what an attached value stands behind is the key of an argument: so no flag's key has one
-pub attached_to : (r : Roles) (cs : Cells) (os : List LinePiece) → HoldsTogether r cs os
-    → (before after : Cells) (k : Arg) (text : List ℕ)
-    → cs ≡ before ++ (Some k ∷ (Some (ArgWord text) ∷ after)) → r k ≡ WithNext
-attached_to r cs os h before after k text e =
-    let i = h.attached (before ++ (Some k ∷ [])) after text
-    (e ∙ sym (append_assoc before (Some k ∷ []) (Some (ArgWord text) ∷ after))) in
-    ap r (same_end before i.before k i.key i.is) ∙ i.wants_value
 
 -- What is left to positional fields.
 

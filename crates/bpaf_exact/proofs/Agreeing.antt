@@ -7,11 +7,12 @@ use Rattle.bpaf_exact.specs.FlatForm.{Agrees, FlatForm, alternative, complete, n
 use Rattle.bpaf_exact.specs.FlatForm.{single}
 use Rattle.bpaf_exact.specs.Leaves.{argument_field, variable_argument}
 use Rattle.bpaf_exact.specs.OneView.{Alike, HasOneView, ProgramOneView, Respects}
-use Rattle.bpaf_exact.specs.ProgramForm.{ProgramAgrees, ProgramForm, before_commands, commands}
-use Rattle.bpaf_exact.specs.ProgramForm.{left_out, no_program, plain, program_closed}
-use Rattle.bpaf_exact.specs.Variables.{Variables, argument_form, key_form}
+use Rattle.bpaf_exact.specs.ProgramForm.{ProgramAgrees, ProgramForm, commands, left_out, plain}
+use Rattle.bpaf_exact.specs.ProgramForm.{program_closed}
+use Rattle.bpaf_exact.specs.Variables.{argument_form, key_form}
 use Rattle.bpaf_exact.specs.Wrappers.{AgreesOn, Closure, Decides}
 use Rattle.bpaf_exact.proofs.OneView.{argument_view, closed_view, variable_argument_view}
+use Rattle.bpaf_exact.specs.Flat.{Variables}
 
 -- the values of a parser on the same pieces are one
 abbrev pub HasOneValue : {T : Type 0} → ProgramForm T → Type 0
@@ -37,11 +38,10 @@ module _ {A B X : Type 0} (see : A → X) (f : Closure A B)
 
   -- and round any parser whose values on the same pieces do
   pub view_agrees : (s : ProgramForm A) → ProgramOneView see s → ProgramAgrees f s
-  view_agrees no_program one = tt
   view_agrees (plain wide s) one = flat_agrees s one
   view_agrees (commands r value) one = λ cs. alike_agrees (value cs) (one cs)
   view_agrees (left_out r value) one = λ cs. alike_agrees (value cs) (one cs)
-  view_agrees (before_commands r value) one = tt
+  view_agrees _ one = tt
 
 module _ {A B : Type 0} (f : Closure A B) (decides : Decides f) where
   -- So does one that decides, where they are one.
@@ -64,14 +64,13 @@ module _ {A B : Type 0} (f : Closure A B) (decides : Decides f) where
       made value one x y v w a b this that = respects.same x y v w (one x y a b) this that
 
       by_form : (s : ProgramForm A) → HasOneValue s → HasOneValue (program_closed f s)
-      by_form no_program one = tt
       by_form (plain wide s) one =
           closed_view A B A B (λ v. v) (λ v. v) f respects s one
       by_form (commands r value) one =
           λ cs v w a b. made (value cs) (one cs) a.from b.from v w a.read b.read a.made b.made
       by_form (left_out r value) one =
           λ cs v w a b. made (value cs) (one cs) a.from b.from v w a.read b.read a.made b.made
-      by_form (before_commands r value) one = tt
+      by_form _ one = tt
 
 -- an argument has one value where each text means one
 pub argument_one : {T : Type 0} {means : List ℕ → T → Type 0}

@@ -3,14 +3,13 @@ use Rattle.std.proofs.Common.{◌≡◌, List, [], ◌∷◌, Ok, Err, refl, sym
 use Rattle.bpaf_line.specs.declared.error.Error.{Error}
 use Rattle.bpaf_line.specs.Situation.{Situation}
 use Rattle.bpaf_laws.specs.Reading.{Outcome}
-use Rattle.bpaf_exact.specs.Flat.{front}
+use Rattle.bpaf_exact.specs.Flat.{front, Refused, class, cells, IsWholeIn, Steady, FieldKind}
+use Rattle.bpaf_exact.specs.Flat.{ByName, OneWord, EachWord, Variables}
 use Rattle.bpaf_exact.specs.Pieces.{Roles, LinePiece, pieces, takes_none}
-use Rattle.bpaf_exact.specs.Flat.{Refused, class, cells, NoneOutside, Steady, FieldKind, ByName}
-use Rattle.bpaf_exact.specs.Flat.{OneWord}
-use Rattle.bpaf_exact.specs.Flat.{EachWord}
 use Rattle.bpaf_exact.specs.Single.{Groups, FrontOf, Own, own_none, own_more, Readable, Gap, no_gap}
 use Rattle.bpaf_exact.specs.Single.{TookGroup, SingleOk, gave_absent, took, SingleErr, of_memory}
-use Rattle.bpaf_exact.specs.Single.{catch_missing, of_missing, of_absent, of_piece, ReadsWords, SingleLaw}
+use Rattle.bpaf_exact.specs.Single.{catch_missing, of_missing, of_absent, of_piece, ReadsWords}
+use Rattle.bpaf_exact.specs.Single.{SingleLaw}
 use Rattle.bpaf_exact.specs.Wrappers.{Closure, AgreesOn, ClosedEval, closed_yes, closed_no}
 use Rattle.bpaf_exact.specs.Wrappers.{closed_memory, closed_err, ClosedGroup, closed_gap}
 use Rattle.bpaf_exact.specs.Wrappers.{ClosedPiece}
@@ -42,8 +41,7 @@ front_alone T value o v {left = left} {rest = rest} e means g =
 
 -- where the first piece was taken and has the value, it is the first group
 pub took_front : (T : Type 0) (value : LinePiece → T → Type 0) (k : FieldKind) (q : Roles)
-    (s t : Situation)
-    (v : T) (o : LinePiece) → Steady s t → TakesFirst q (cells s) o (cells t)
+    (s t : Situation) (v : T) (o : LinePiece) → Steady s t → TakesFirst q (cells s) o (cells t)
     → pieces q (cells s) ≡ o ∷ pieces q (cells t) → value o v
     → (front k (o ∷ pieces q (cells t)) ≡ [] → ⊥)
     → TookGroup T k q (FrontOf T value) s v t
@@ -57,8 +55,9 @@ took_front T value k q s t v o st f e means some =
     }
 
 -- An alternative is a field without a repeat or default.
-module _ (T : Type 0) (outcome : Outcome T) (q : Roles) (value : LinePiece → T → Type 0)
-    (l : AlternativeLaw T outcome q value) where
+module _ {env : Variables} (T : Type 0) (outcome : Outcome T) (q : Roles)
+    (value : LinePiece → T → Type 0)
+    (l : AlternativeLaw env T outcome q value) where
   -- its value is that of the first piece, where all others can be read
   alternative_reads : (s t : Situation) (v : T) (a : AlternativeOk T q value s v t)
       → TakesFirst q (cells s) a.piece (cells t) ⊎ HasBad T value (pieces q (cells t))
@@ -69,7 +68,7 @@ module _ (T : Type 0) (outcome : Outcome T) (q : Roles) (value : LinePiece → T
   alternative_reads s t v a (inr b) o = absurd (own_bad T value _ o.0 b o.1)
 
   -- its value, as that of one evaluation
-  alternative_ok : (s t : Situation) (v : T) → NoneOutside s → outcome s (Ok v) t
+  alternative_ok : (s t : Situation) (v : T) → IsWholeIn env s → outcome s (Ok v) t
       → SingleOk T ByName q (FrontOf T value) (no_gap T) s v t
   alternative_ok s t v w o =
       let a = l.ok s t v w o in
@@ -93,7 +92,7 @@ module _ (T : Type 0) (outcome : Outcome T) (q : Roles) (value : LinePiece → T
       of_piece c (bad_nonempty T value _ b) (λ w rest g. n g.piece rest w g.is g.means)
 
   -- so it keeps to the laws of one evaluation
-  pub alternative_single : SingleLaw T outcome ByName q (FrontOf T value) (no_gap T)
+  pub alternative_single : SingleLaw env T outcome ByName q (FrontOf T value) (no_gap T)
   alternative_single = record {
     own = l.named;
     words = tt;
@@ -104,8 +103,9 @@ module _ (T : Type 0) (outcome : Outcome T) (q : Roles) (value : LinePiece → T
   }
 
 -- inner closures round an alternative
-module _ (A B : Type 0) (inner : Outcome A) (q : Roles) (value : LinePiece → A → Type 0)
-    (l : AlternativeLaw A inner q value) (f : Closure A B)
+module _ {env : Variables} (A B : Type 0) (inner : Outcome A) (q : Roles)
+    (value : LinePiece → A → Type 0)
+    (l : AlternativeLaw env A inner q value) (f : Closure A B)
     (agrees : (o : LinePiece) → AgreesOn (value o) f) where
   -- a piece that can't be read can't be read through a closure either
   closed_bad : (os : List LinePiece) → HasBad A value os → HasBad B (ClosedPiece A B value f) os
@@ -119,7 +119,7 @@ module _ (A B : Type 0) (inner : Outcome A) (q : Roles) (value : LinePiece → A
   refused_value x o g n v c = agrees o c.from x v c.read g c.made n
 
   -- a value that the closure gave
-  closed_alternative_ok : (s t : Situation) (v : B) → NoneOutside s
+  closed_alternative_ok : (s t : Situation) (v : B) → IsWholeIn env s
       → ClosedEval A B inner f Refused s (Ok v) t
       → AlternativeOk B q (ClosedPiece A B value f) s v t
   closed_alternative_ok s t v w (closed_yes {x = x} i y) =
@@ -158,7 +158,7 @@ module _ (A B : Type 0) (inner : Outcome A) (q : Roles) (value : LinePiece → A
       alternative_refused c p (closed_bad _ b) (λ o os v h g. n o os g.from h g.read)
 
   -- a refusal, of the closure or from inside
-  closed_alternative_err : (s t : Situation) (e : Error) → NoneOutside s
+  closed_alternative_err : (s t : Situation) (e : Error) → IsWholeIn env s
       → ClosedEval A B inner f Refused s (Err e) t
       → AlternativeErr B q (ClosedPiece A B value f) s e t
   closed_alternative_err s t e w (closed_no {x = x} i n c) =
@@ -173,7 +173,7 @@ module _ (A B : Type 0) (inner : Outcome A) (q : Roles) (value : LinePiece → A
   closed_alternative_err s t e w (closed_err i) = err_closed s t e (l.err s t e w i)
 
   -- a closure round an alternative is one
-  pub closed_alternative : AlternativeLaw B (ClosedEval A B inner f Refused) q
+  pub closed_alternative : AlternativeLaw env B (ClosedEval A B inner f Refused) q
       (ClosedPiece A B value f)
   closed_alternative = record {
     named = l.named;
@@ -182,9 +182,8 @@ module _ (A B : Type 0) (inner : Outcome A) (q : Roles) (value : LinePiece → A
   }
 
 -- inner closures round a field without a repeat or default
-module _ (A B : Type 0) (inner : Outcome A) (k : FieldKind) (q : Roles) (group : Groups A)
-    (gap : Gap A)
-    (l : SingleLaw A inner k q group gap) (f : Closure A B)
+module _ {env : Variables} (A B : Type 0) (inner : Outcome A) (k : FieldKind) (q : Roles)
+    (group : Groups A) (gap : Gap A) (l : SingleLaw env A inner k q group gap) (f : Closure A B)
     (agrees : (os rest : List LinePiece) → AgreesOn (λ v. group os v rest) f)
     (gap_agrees : AgreesOn gap.absent f) where
   -- a list of inner values of the pieces
@@ -203,8 +202,7 @@ module _ (A B : Type 0) (inner : Outcome A) (k : FieldKind) (q : Roles) (group :
   inner_readable : (z : FieldKind) (os : List LinePiece) → Readable z (ClosedGroup A B group f) os
       → Readable z group os
   inner_readable ByName os r = let i = inner_list os r.0 r.1 in (i.list, i.own)
-  inner_readable (OneWord b) os r = tt
-  inner_readable (EachWord b) os r = tt
+  inner_readable _ os r = tt
 
   -- with a closure a field reads words as before
   closed_words : (z : FieldKind) → ReadsWords z group → ReadsWords z (ClosedGroup A B group f)
@@ -258,13 +256,13 @@ module _ (A B : Type 0) (inner : Outcome A) (k : FieldKind) (q : Roles) (group :
   err_single s t e (of_piece c ne n) = of_piece c ne (λ w rest g. n g.from rest g.read)
 
   -- a value of one evaluation
-  closed_single_ok : (s t : Situation) (v : B) → NoneOutside s
+  closed_single_ok : (s t : Situation) (v : B) → IsWholeIn env s
       → ClosedEval A B inner f Refused s (Ok v) t
       → SingleOk B k q (ClosedGroup A B group f) (closed_gap gap f) s v t
   closed_single_ok s t v w (closed_yes {x = x} i y) = yes_single s t x v y (l.ok s t x w i)
 
   -- a refusal of one evaluation
-  closed_single_err : (s t : Situation) (e : Error) → NoneOutside s
+  closed_single_err : (s t : Situation) (e : Error) → IsWholeIn env s
       → ClosedEval A B inner f Refused s (Err e) t
       → SingleErr B k q (ClosedGroup A B group f) (closed_gap gap f) s e t
   closed_single_err s t e w (closed_no {x = x} i n c) = no_single s t x e c n (l.ok s t x w i)
@@ -272,7 +270,7 @@ module _ (A B : Type 0) (inner : Outcome A) (k : FieldKind) (q : Roles) (group :
   closed_single_err s t e w (closed_err i) = err_single s t e (l.err s t e w i)
 
   -- a closure round a single field is one
-  pub closed_single : SingleLaw B (ClosedEval A B inner f Refused) k q (ClosedGroup A B group f)
+  pub closed_single : SingleLaw env B (ClosedEval A B inner f Refused) k q (ClosedGroup A B group f)
       (closed_gap gap f)
   closed_single = record {
     own = l.own;

@@ -1,6 +1,6 @@
 -- A key of an argument and its value are a piece.
-use Rattle.std.proofs.Common.{◌≡◌, ℕ, true, false, List, [], ◌∷◌, Option, Some, None, refl, sym}
-use Rattle.std.proofs.Common.{ap, ◌∙◌, subst}
+use Rattle.std.proofs.Common.{◌≡◌, ℕ, true, false, List, [], ◌∷◌, Option, Some, None, refl, sym, ap}
+use Rattle.std.proofs.Common.{◌∙◌, subst}
 use Rattle.std.proofs.lemmas.Bool.{and_parts}
 use Rattle.bpaf_text.specs.Named.{KeyWithValue, argument_part}
 use Rattle.bpaf_base.specs.declared.arg.Arg.{Arg}
@@ -12,12 +12,11 @@ use Rattle.bpaf_laws.specs.Argument.{TakesKeyWithText, HasNoKey, IsNowhere, Read
 use Rattle.bpaf_laws.specs.Argument.{is_key_with_value}
 use Rattle.bpaf_laws.specs.Environment.{first_set}
 use Rattle.bpaf_exact.specs.Pieces.{WithNext, Roles, Two, IsNamed, pieces}
-use Rattle.bpaf_exact.specs.Flat.{ByName, Refused, Steady, cells, class, class_of}
+use Rattle.bpaf_exact.specs.Flat.{ByName, Refused, Steady, cells, class, class_of, Variables}
 use Rattle.bpaf_exact.specs.Alternative.{TakesFirst}
 use Rattle.bpaf_exact.specs.Leaves.{argument_gap, argument_roles}
 use Rattle.bpaf_exact.specs.Names.{Owns}
 use Rattle.bpaf_exact.specs.Single.{Groups, SingleErr, SingleOk, gave_absent, of_absent, of_missing}
-use Rattle.bpaf_exact.specs.Variables.{Variables}
 use Rattle.bpaf_exact.proofs.Matching.{match_of, ByTest, by_test, test_named, test_owns, behind_of}
 use Rattle.bpaf_exact.proofs.Matching.{pair_is, two_taken, two_steady, no_pieces, absence_caught}
 use Rattle.bpaf_exact.proofs.Product.{steady_refl}

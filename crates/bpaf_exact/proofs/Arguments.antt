@@ -10,16 +10,16 @@ use Rattle.bpaf_laws.specs.Argument.{ArgumentOutcome, ArgumentFails, TakesOwnTex
 use Rattle.bpaf_laws.specs.Argument.{GetsText, IsVariable, LacksText, is_key_with_value}
 use Rattle.bpaf_laws.specs.Environment.{first_set}
 use Rattle.bpaf_exact.specs.Pieces.{Roles, LinePiece, One, Two, pieces}
-use Rattle.bpaf_exact.specs.Flat.{ByName, class, class_of, cells, NoneOutside}
-use Rattle.bpaf_exact.specs.Alternative.{AlternativeOk, AlternativeErr}
-use Rattle.bpaf_exact.specs.Alternative.{alternative_memory, AlternativeLaw}
+use Rattle.bpaf_exact.specs.Flat.{ByName, class, class_of, cells, IsWholeIn, Variables}
+use Rattle.bpaf_exact.specs.Alternative.{AlternativeOk, AlternativeErr, alternative_memory}
+use Rattle.bpaf_exact.specs.Alternative.{AlternativeLaw}
 use Rattle.bpaf_exact.specs.Single.{FrontOf, Gap, Groups, SingleErr, SingleLaw, SingleOk, took}
 use Rattle.bpaf_exact.specs.Single.{of_memory, of_piece}
 use Rattle.bpaf_exact.specs.Leaves.{argument_roles, ArgumentValue, argument_by, argument_field}
 use Rattle.bpaf_exact.specs.Leaves.{argument_gap, argument_group, argument_with, variable_argument}
 use Rattle.bpaf_exact.specs.FlatForm.{FormLaw}
 use Rattle.bpaf_exact.specs.ProgramForm.{ProgramFormLaw}
-use Rattle.bpaf_exact.specs.Variables.{Variables, WithVariables, argument_form, key_form}
+use Rattle.bpaf_exact.specs.Variables.{argument_form, key_form}
 use Rattle.bpaf_exact.proofs.Alternative.{took_front}
 use Rattle.bpaf_exact.proofs.ArgumentPieces.{TookPair, gap_empty, named, nowhere, owns, took_pair}
 use Rattle.bpaf_exact.proofs.ArgumentPieces.{test, no_key, variable_fault, variable_read}
@@ -28,7 +28,6 @@ use Rattle.bpaf_exact.proofs.First.{first_pieces, first_takes, takes_nonempty}
 use Rattle.bpaf_exact.proofs.LastArguments.{last_argument_law}
 use Rattle.bpaf_exact.proofs.Matching.{match_of, bare_taken, first_alternative, first_refused}
 use Rattle.bpaf_exact.proofs.Matching.{missing_same, absence_missing}
-use Rattle.bpaf_exact.proofs.Variables.{each_single, form_with}
 
 -- the text of an argument behind its key
 takes_pair : (argument : KeyWithValue) → argument.last ≡ false → (s t : Situation) (text : List ℕ)
@@ -39,8 +38,7 @@ takes_pair argument once s t text takes =
 
 -- an argument without a name in the environment
 module _ (T : Type 0) (means : List ℕ → T → Type 0) (argument : KeyWithValue)
-    (no_envs : argument.named.envs ≡ [])
-    (once : argument.last ≡ false) where
+    (no_envs : argument.named.envs ≡ []) (once : argument.last ≡ false) where
   -- the items of the argument
   abbrev q : Roles
   q = argument_roles argument.adjacent argument.named.names
@@ -63,7 +61,8 @@ module _ (T : Type 0) (means : List ℕ → T → Type 0) (argument : KeyWithVal
       (λ variable. absurd (never_set s text variable.set)) gets
 
   -- a value is that of the first piece
-  argument_ok : (s t : Situation) (v : T) → NoneOutside s → ArgumentOutcome means argument s (Ok v) t
+  argument_ok : {env : Variables} (s t : Situation) (v : T) → IsWholeIn env s
+      → ArgumentOutcome means argument s (Ok v) t
       → AlternativeOk T q value s v t
   argument_ok s t v w o =
       let m = gets_pair s t o.0 o.1 in
@@ -93,7 +92,7 @@ module _ (T : Type 0) (means : List ℕ → T → Type 0) (argument : KeyWithVal
       (no_key argument s o.0) o.2
 
   -- an argument keeps to the laws of an alternative
-  argument_law : AlternativeLaw T (ArgumentOutcome means argument) q value
+  argument_law : {env : Variables} → AlternativeLaw env T (ArgumentOutcome means argument) q value
   argument_law =
       record {
         named = named argument;
@@ -114,15 +113,15 @@ module _ (T : Type 0) (means : List ℕ → T → Type 0) (argument : KeyWithVal
   gap = argument_gap means (first_set variables argument.named.envs)
 
   -- a value is that of the first piece, or of the variable
-  variable_ok : (s t : Situation) (v : T) → NoneOutside s
-      → WithVariables variables (ArgumentOutcome means argument) s (Ok v) t
+  variable_ok : (s t : Situation) (v : T) → IsWholeIn variables s
+      → ArgumentOutcome means argument s (Ok v) t
       → SingleOk T ByName roles group gap s v t
   variable_ok s t v w o = ⊎_elim
-      (λ takes. let m = takes_pair argument once s t o.1.0 takes in
+      (λ takes. let m = takes_pair argument once s t o.0 takes in
       took (took_front T (ArgumentValue means) ByName roles s t v (Two m.key m.word) m.steady
       m.takes (first_pieces roles (named argument) m.takes)
-      (subst (λ z. means z v) (sym m.text_is) o.1.2) (λ none. absurd cc)))
-      (λ read. variable_read T means argument group variables s t o.1.0 v o.0 read o.1.2) o.1.1
+      (subst (λ z. means z v) (sym m.text_is) o.2) (λ none. absurd cc)))
+      (λ read. variable_read T means argument group variables s t o.0 v w.environment read o.2) o.1
 
   -- a refusal: neither, or what can't be read
   variable_err : (s t : Situation) (e : Error) (m : Message) → class e ≡ class_of m
@@ -150,7 +149,7 @@ module _ (T : Type 0) (means : List ℕ → T → Type 0) (argument : KeyWithVal
   variable_err s t e other c same o =
       nowhere T means argument group variables s t e other c same o.0 o.1 o.2
 
-  variable_law : SingleLaw T (WithVariables variables (ArgumentOutcome means argument)) ByName
+  variable_law : SingleLaw variables T (ArgumentOutcome means argument) ByName
       roles group gap
   variable_law = record {
     own = named argument;
@@ -158,38 +157,38 @@ module _ (T : Type 0) (means : List ℕ → T → Type 0) (argument : KeyWithVal
     starts = λ v rest g. let e = g.is in cc;
     no_absent = gap_empty T means argument group variables;
     ok = variable_ok;
-    err = λ s t e w o. variable_err s t e e.0 refl o.0 o.1;
+    err = λ s t e w o. variable_err s t e e.0 refl w.environment o;
   }
 
 -- an argument without a name in the environment keeps to the laws of its form
-pub argument_field_law : (T : Type 0) (means : List ℕ → T → Type 0) (argument : KeyWithValue)
+pub argument_field_law : (env : Variables) (T : Type 0) (means : List ℕ → T → Type 0)
+    (argument : KeyWithValue)
     → argument.named.envs ≡ []
-    → FormLaw (ArgumentOutcome means argument) (argument.named.names ∷ [])
+    → FormLaw env (ArgumentOutcome means argument) (argument.named.names ∷ [])
     (argument_field means argument)
-argument_field_law T means argument e = by_last argument.last refl
+argument_field_law env T means argument e = by_last argument.last refl
   where
     by_last : (last : Bool) → argument.last ≡ last
-        → FormLaw (ArgumentOutcome means argument) (argument.named.names ∷ [])
+        → FormLaw env (ArgumentOutcome means argument) (argument.named.names ∷ [])
         (argument_by means argument.named.names argument.adjacent last)
     by_last false g = (argument_law T means argument e g, owns argument)
     by_last true g = (
-      each_single T _ ByName _ _ _ (λ variables.
-          subst (λ envs. SingleLaw T (WithVariables variables (ArgumentOutcome means argument))
-          ByName (argument_roles argument.adjacent argument.named.names)
-          (argument_group means true) (argument_gap means (first_set variables envs))) e
-          (last_argument_law T means argument g variables)),
+      subst (λ envs. SingleLaw env T (ArgumentOutcome means argument) ByName
+          (argument_roles argument.adjacent argument.named.names) (argument_group means true)
+          (argument_gap means (first_set env envs))) e
+          (last_argument_law T means argument g env),
       owns argument,
     )
 
 -- an argument keeps to the laws of its form
 pub argument_form_law : (T : Type 0) (means : List ℕ → T → Type 0) (argument : KeyWithValue)
     (variables : Variables) (words : List (List ℕ))
-    → ProgramFormLaw (WithVariables variables (ArgumentOutcome means argument))
+    → ProgramFormLaw variables (ArgumentOutcome means argument)
     (argument.named.names ∷ []) words (argument_form means argument variables)
 argument_form_law T means argument variables words = by_envs argument.named.envs refl
   where
     by_last : (last : Bool) → argument.last ≡ last
-        → FormLaw (WithVariables variables (ArgumentOutcome means argument))
+        → FormLaw variables (ArgumentOutcome means argument)
         (argument.named.names ∷ [])
         (argument_with means argument.named.names argument.adjacent last
         (argument_gap means (first_set variables argument.named.envs)))
@@ -197,14 +196,13 @@ argument_form_law T means argument variables words = by_envs argument.named.envs
     by_last true g = (last_argument_law T means argument g variables, owns argument)
 
     by_envs : (envs : List (List ℕ)) → argument.named.envs ≡ envs
-        → ProgramFormLaw (WithVariables variables (ArgumentOutcome means argument))
+        → ProgramFormLaw variables (ArgumentOutcome means argument)
         (argument.named.names ∷ []) words
         (key_form argument.adjacent (argument_field means argument)
         (variable_argument means argument) variables envs)
-    by_envs [] e = form_with T _ variables (argument.named.names ∷ []) _
-        (argument_field_law T means argument e)
+    by_envs [] e = argument_field_law variables T means argument e
     by_envs (env ∷ envs) e =
-        subst (λ names. FormLaw (WithVariables variables (ArgumentOutcome means argument))
+        subst (λ names. FormLaw variables (ArgumentOutcome means argument)
         (argument.named.names ∷ [])
         (variable_argument means argument (first_set variables names))) e
         (by_last argument.last refl)

@@ -1,28 +1,27 @@
 -- A named field before others, the last of which are commands: together they keep to the laws of a
 -- program.
 use Rattle.std.proofs.Common.{◌≡◌, ◌≤◌, Bool, true, false, List, [], ◌∷◌, length, Some, None}
-use Rattle.std.proofs.Common.{Result, Ok, Err, refl, sym, ap, ◌∙◌, subst, inl, inr, arith}
-use Rattle.std.proofs.Common.{if◌then◌else◌}
+use Rattle.std.proofs.Common.{Result, Ok, Err, refl, sym, ap, ◌∙◌, subst, arith, if◌then◌else◌}
 use Rattle.bpaf_base.specs.declared.arg.Arg.{Arg}
 use Rattle.bpaf_line.specs.declared.error.Error.{Error}
 use Rattle.bpaf_line.specs.Situation.{Situation}
 use Rattle.bpaf_laws.specs.Choice.{depth}
-use Rattle.bpaf_laws.specs.Product.{BothOutcome, ProductOutcome, joined}
+use Rattle.bpaf_laws.specs.Product.{BothOutcome, ProductOutcome}
 use Rattle.bpaf_laws.specs.Reading.{Outcome}
-use Rattle.bpaf_laws.specs.Spared.{IsNotMemory}
 use Rattle.bpaf_exact.specs.Pieces.{Cells, Role, Foreign, Alone, WithNext, Roles, LinePiece, pieces}
 use Rattle.bpaf_exact.specs.Pieces.{Apart, is_own_role, is_value, IsNamed, TakesPiece, takes_one}
 use Rattle.bpaf_exact.specs.Pieces.{takes_two, takes_later, TakesPieces, takes_none, takes_more}
 use Rattle.bpaf_exact.specs.Pieces.{either, either_role}
-use Rattle.bpaf_exact.specs.Flat.{OfMemory, class, cells, NonePresent, NoneOutside, GivesAll}
-use Rattle.bpaf_exact.specs.Flat.{ByName, FieldLaw}
+use Rattle.bpaf_exact.specs.Flat.{OfMemory, class, cells, NonePresent, IsWholeIn, ByName, FieldLaw}
+use Rattle.bpaf_exact.specs.Flat.{Variables}
 use Rattle.bpaf_exact.specs.Programs.{CellsValue, without, without_piece, without_value, FieldThen}
 use Rattle.bpaf_exact.specs.Programs.{LeavesToOthers, ProgramLaw, ClosedCells, is_spelled}
 use Rattle.bpaf_exact.specs.Programs.{IsSpelledLine, AllSpelled, no_cell, empty_cell, spelled_cell}
+use Rattle.bpaf_exact.specs.Programs.{GivesAll}
 use Rattle.bpaf_exact.specs.Wrappers.{map_closure}
 use Rattle.bpaf_exact.proofs.Cells.{begin_foreign, nil_rest, nil_foreign, value_foreign}
-use Rattle.bpaf_exact.proofs.Classes.{memory_class, not_memory}
-use Rattle.bpaf_exact.proofs.Product.{none_outside_after, values_of_both}
+use Rattle.bpaf_exact.proofs.Product.{none_outside_after, values_of_both, RefusedBy, for_memory}
+use Rattle.bpaf_exact.proofs.Product.{by_first, by_rest, refused_by}
 use Rattle.bpaf_exact.proofs.Programs.{cells_spelled}
 use Rattle.bpaf_exact.proofs.Records.{current_cells}
 
@@ -130,13 +129,11 @@ apart_first p q r a = record {
   where
     by_role : (x y : Role) → either_role x y ≡ Foreign → x ≡ Foreign
     by_role Foreign y e = refl
-    by_role Alone y e = e
-    by_role WithNext y e = e
+    by_role _ y e = e
 
     by_own : (x y : Role) → is_own_role x ≡ true → is_own_role (either_role x y) ≡ true
     by_own Foreign y e = cc
-    by_own Alone y e = refl
-    by_own WithNext y e = refl
+    by_own _ y e = refl
 
 -- and from the other
 pub apart_second : (p q r : Roles) → Apart p (either q r) → Apart p r
@@ -147,17 +144,15 @@ apart_second p q r a = record {
   where
     by_role : (x y : Role) → either_role x y ≡ Foreign → y ≡ Foreign
     by_role Foreign y e = e
-    by_role Alone y e = cc
-    by_role WithNext y e = cc
+    by_role _ y e = cc
 
     by_own : (x y : Role) → is_own_role y ≡ true → is_own_role (either_role x y) ≡ true
     by_own Foreign y e = e
-    by_own Alone y e = refl
-    by_own WithNext y e = refl
+    by_own _ y e = refl
 
-module _ (A B : Type 0) (first : Outcome A) (rest : Outcome B) (q r : Roles)
-    (fv : List LinePiece → A → Type 0) (rv : CellsValue B) (lf : FieldLaw A first ByName q fv)
-    (lr : ProgramLaw B rest r rv) (apart : Apart q r) where
+module _ {env : Variables} (A B : Type 0) (first : Outcome A) (rest : Outcome B) (q r : Roles)
+    (fv : List LinePiece → A → Type 0) (rv : CellsValue B) (lf : FieldLaw env A first ByName q fv)
+    (lr : ProgramLaw env B rest r rv) (apart : Apart q r) where
   -- the values of both
   abbrev value : CellsValue (A × B)
   value = FieldThen A B q fv rv
@@ -169,7 +164,7 @@ module _ (A B : Type 0) (first : Outcome A) (rest : Outcome B) (q r : Roles)
       (lr.others p n (apart_second p q r a) (without q cs) v.1 (without_spelled q s) h.left)
 
   -- the path gets no shorter
-  both_deep : (s t : Situation) (v : A × B) → NoneOutside s → BothOutcome first rest s (Ok v) t
+  both_deep : (s t : Situation) (v : A × B) → IsWholeIn env s → BothOutcome first rest s (Ok v) t
       → depth s ≤ depth t
   both_deep s t v w o =
       let h = values_of_both A B first rest s t v o in
@@ -179,7 +174,7 @@ module _ (A B : Type 0) (first : Outcome A) (rest : Outcome B) (q r : Roles)
       omega arith
 
   -- the field has its value on its own pieces, and the others on what is left without these
-  both_ok : (s t : Situation) (v : A × B) → NoneOutside s → IsSpelledLine s.context
+  both_ok : (s t : Situation) (v : A × B) → IsWholeIn env s → IsSpelledLine s.context
       → BothOutcome first rest s (Ok v) t → NonePresent (cells t) → value (cells s) v
   both_ok s t v w spelled o e =
       let h = values_of_both A B first rest s t v o in
@@ -196,43 +191,35 @@ module _ (A B : Type 0) (first : Outcome A) (rest : Outcome B) (q r : Roles)
       }
 
   -- where both have a value, the others answer one on what the field left, or want of memory
-  rest_gives : (s m t : Situation) (x : A) (y : Result B Error) (u : A × B) → NoneOutside s
+  rest_gives : (s m t : Situation) (x : A) (y : Result B Error) (u : A × B) → IsWholeIn env s
       → first s (Ok x) m → rest m y t → value (cells s) u
       → fv (pieces q (cells s)) x × GivesAll (rv (without q (cells s))) y t
   rest_gives s m t x y u w f g h =
       let i = lf.ok s m x w f in
-      let j = lf.answers s m (Ok x) u.0 w f h.own in
-      let e = all_taken q lf.own i.takes j.1 in (
-        j.0,
+      let none = lf.takes_all s m x u.0 w f h.own in
+      let e = all_taken q lf.own i.takes none in (
+        i.read none,
         subst (λ cs. GivesAll (rv cs) y t) e
             (lr.answers m t y u.1 (none_outside_after s m w i.steady) g
             (subst (λ cs. rv cs u.1) (sym e) h.left)),
       )
 
-  -- then a refusal is want of memory
-  both_fails : (s m t : Situation) (x : Result A Error) (y : Result B Error) (e : Error) (u : A × B)
-      → NoneOutside s → first s x m → rest m y t → IsNotMemory x → Err e ≡ joined x y
-      → value (cells s) u → class e ≡ OfMemory
-  both_fails s m t (Ok x) (Ok y) e u w f g spared i h = absurd cc
-  both_fails s m t (Ok x) (Err y) e u w f g spared i h =
-      let d : e ≡ y = cc in
-      ap class d ∙ (rest_gives s m t x (Err y) u w f g h).1
-  both_fails s m t (Err x) y e u w f g spared i h =
-      absurd (not_memory x.0 spared (lf.answers s m (Err x) u.0 w f h.own))
-
   -- each answer
-  both_answers : (s t : Situation) (a : Result (A × B) Error) (u : A × B) → NoneOutside s
+  both_answers : (s t : Situation) (a : Result (A × B) Error) (u : A × B) → IsWholeIn env s
       → BothOutcome first rest s a t → value (cells s) u → GivesAll (value (cells s)) a t
   both_answers s t (Ok v) u w o h =
       let i = values_of_both A B first rest s t v o in
       let j = rest_gives s i.middle t v.0 (Ok v.1) u w i.first_ran i.rest_ran h in
       (record { own = j.0; left = j.1.0 }, j.1.1)
-  both_answers s t (Err e) u w (inl o) h =
-      both_fails s o.middle t o.a o.b e u w o.first_ran o.rest_ran o.spared o.answer h
-  both_answers s t (Err e) u w (inr o) h = memory_class e.0 o.1
+  both_answers s t (Err e) u w o h = by_side (refused_by A B first rest s t e o)
+    where
+      by_side : RefusedBy A B first rest s e t → class e ≡ OfMemory
+      by_side (for_memory m) = m
+      by_side (by_first {d = d} {m = m} f spared) = absurd (spared (lf.refuses s m d u.0 w f h.own))
+      by_side (by_rest {v = v} {m = m} f g) = (rest_gives s m t v (Err e) u w f g h).1
 
   -- the laws
-  pub before_law : ProgramLaw (A × B) (BothOutcome first rest) (either q r) value
+  pub before_law : ProgramLaw env (A × B) (BothOutcome first rest) (either q r) value
   before_law = record {
     others = both_others;
     deep = both_deep;
@@ -241,19 +228,19 @@ module _ (A B : Type 0) (first : Outcome A) (rest : Outcome B) (q r : Roles)
   }
 
 -- The constructor of a product.
-module _ (A B : Type 0) (fields : Outcome A) (makes : A → B → Type 0) (r : Roles)
-    (inner : CellsValue A) (l : ProgramLaw A fields r inner) where
+module _ {env : Variables} (A B : Type 0) (fields : Outcome A) (makes : A → B → Type 0) (r : Roles)
+    (inner : CellsValue A) (l : ProgramLaw env A fields r inner) where
   -- what it makes of the fields' values
   abbrev made : CellsValue B
   made = ClosedCells A B inner (map_closure makes)
 
   -- it changes nothing
-  con_deep : (s t : Situation) (v : B) → NoneOutside s → ProductOutcome fields makes s (Ok v) t
+  con_deep : (s t : Situation) (v : B) → IsWholeIn env s → ProductOutcome fields makes s (Ok v) t
       → depth s ≤ depth t
   con_deep s t v w o = subst (λ z. depth s ≤ depth z) (sym o.4) (l.deep s o.0 o.1 w o.2)
 
   -- its value is made of theirs
-  con_ok : (s t : Situation) (v : B) → NoneOutside s → IsSpelledLine s.context
+  con_ok : (s t : Situation) (v : B) → IsWholeIn env s → IsSpelledLine s.context
       → ProductOutcome fields makes s (Ok v) t → NonePresent (cells t) → made (cells s) v
   con_ok s t v w spelled o n = record {
     from = o.1;
@@ -262,7 +249,7 @@ module _ (A B : Type 0) (fields : Outcome A) (makes : A → B → Type 0) (r : R
   }
 
   -- each answer
-  con_answers : (s t : Situation) (a : Result B Error) (u : B) → NoneOutside s
+  con_answers : (s t : Situation) (a : Result B Error) (u : B) → IsWholeIn env s
       → ProductOutcome fields makes s a t → made (cells s) u → GivesAll (made (cells s)) a t
   con_answers s t (Ok v) u w o h =
       let j = l.answers s o.0 (Ok o.1) h.from w o.2 h.read in (
@@ -272,7 +259,7 @@ module _ (A B : Type 0) (fields : Outcome A) (makes : A → B → Type 0) (r : R
   con_answers s t (Err e) u w o h = l.answers s o.0 (Err e) h.from w o.1 h.read
 
   -- the laws
-  pub con_program : ProgramLaw B (ProductOutcome fields makes) r made
+  pub con_program : ProgramLaw env B (ProductOutcome fields makes) r made
   con_program = record {
     others = λ q n a cs v s h. l.others q n a cs h.from s h.read;
     deep = con_deep;

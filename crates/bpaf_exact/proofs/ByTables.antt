@@ -15,28 +15,26 @@ use Rattle.bpaf_laws.specs.Repeat.{ManyOutcome, SomeOutcome, CollectOutcome, Cou
 use Rattle.bpaf_laws.specs.Repeat.{LastOutcome, is_nil}
 use Rattle.bpaf_laws.specs.Turn.{TurnOutcome}
 use Rattle.bpaf_laws.specs.Transform.{MapOutcome, ParseOutcome, GuardOutcome}
-use Rattle.bpaf_exact.specs.Flat.{OfMemory, Caught, Refused, class, class_of}
+use Rattle.bpaf_exact.specs.Flat.{OfMemory, Caught, Refused, class, class_of, Variables, ErrorClass}
 use Rattle.bpaf_exact.specs.Single.{CanCatch, RepeatOutcome, catch_missing, catch_other}
 use Rattle.bpaf_exact.specs.Wrappers.{Closure, Decides, map_closure, parse_closure, guard_closure}
 use Rattle.bpaf_exact.specs.Wrappers.{answer_closure, kept_closure, ClosedEval, closed_yes}
 use Rattle.bpaf_exact.specs.Wrappers.{closed_no, closed_memory, closed_err, OptionalEval}
 use Rattle.bpaf_exact.specs.Wrappers.{optional_some, optional_none, optional_err, optional_memory}
-use Rattle.bpaf_exact.specs.Wrappers.{FallbackEval}
-use Rattle.bpaf_exact.specs.Wrappers.{fallback_ok, fallback_given, fallback_no, fallback_memory}
-use Rattle.bpaf_exact.specs.Wrappers.{fallback_err}
+use Rattle.bpaf_exact.specs.Wrappers.{FallbackEval, fallback_ok, fallback_given, fallback_no}
+use Rattle.bpaf_exact.specs.Wrappers.{fallback_memory, fallback_err}
 use Rattle.bpaf_exact.specs.Gathered.{list_closure, some_closure, count_closure, collect_closure}
-use Rattle.bpaf_exact.specs.FlatForm.{FlatForm, FormLaw, flat_repeat, flat_many, flat_some}
-use Rattle.bpaf_exact.specs.FlatForm.{flat_count, flat_collect, flat_last, flat_fallback, unless}
+use Rattle.bpaf_exact.specs.FlatForm.{FlatForm, FormLaw, flat_repeat, flat_last, flat_fallback}
+use Rattle.bpaf_exact.specs.FlatForm.{unless, Agrees, flat_closed}
 use Rattle.bpaf_exact.proofs.Classes.{memory_class, caught_class, kept_class, stops_at, goes_on}
-use Rattle.bpaf_exact.specs.ProgramForm.{ProgramForm, no_program, plain, commands, left_out}
-use Rattle.bpaf_exact.specs.ProgramForm.{before_commands, ProgramFormLaw, ProgramAgrees}
-use Rattle.bpaf_exact.specs.ProgramForm.{program_closed, program_dressed, program_fallback}
-use Rattle.bpaf_exact.specs.ProgramForm.{program_last}
-use Rattle.bpaf_exact.specs.ProgramForm.{program_optional, program_repeat}
+use Rattle.bpaf_exact.specs.ProgramForm.{ProgramForm, plain, commands, ProgramFormLaw}
+use Rattle.bpaf_exact.specs.ProgramForm.{ProgramAgrees, program_closed, program_dressed}
+use Rattle.bpaf_exact.specs.ProgramForm.{program_fallback, program_last, program_optional}
+use Rattle.bpaf_exact.specs.ProgramForm.{program_repeat}
 use Rattle.bpaf_exact.proofs.Narrow.{AllowsNoMore, narrower_form, no_more}
 use Rattle.bpaf_exact.proofs.ProgramForm.{flat_only_law, narrower_program_form, program_closed_law}
-use Rattle.bpaf_exact.proofs.ProgramForm.{program_dressed_law}
-use Rattle.bpaf_exact.proofs.ProgramForm.{program_never_refuses, program_optional_law}
+use Rattle.bpaf_exact.proofs.ProgramForm.{program_dressed_law, program_never_refuses}
+use Rattle.bpaf_exact.proofs.ProgramForm.{program_optional_law}
 use Rattle.bpaf_exact.proofs.FlatForm.{never_refuses, flat_listed_law, some_agrees, flat_last_law}
 use Rattle.bpaf_exact.proofs.FlatForm.{flat_fallback_law}
 
@@ -51,13 +49,14 @@ map_within A B inner answers = no_more by_answer
     by_answer s t (Err e) o = closed_err o
 
 -- keeps to the laws of its form
-pub map_law : (A B : Type 0) (inner : Outcome A) (answers : A → B → Type 0) (names : List Names)
-    (words : List (List ℕ)) (s : ProgramForm A) → ProgramFormLaw inner names words s
-    → ProgramFormLaw (MapOutcome inner answers) names words
+pub map_law : (env : Variables) (A B : Type 0) (inner : Outcome A) (answers : A → B → Type 0)
+    (names : List Names)
+    (words : List (List ℕ)) (s : ProgramForm A) → ProgramFormLaw env inner names words s
+    → ProgramFormLaw env (MapOutcome inner answers) names words
     (program_closed (map_closure answers) s)
-map_law A B inner answers names words s l =
-    narrower_program_form B _ _ (map_within A B inner answers) names words _
-    (program_closed_law A B inner (map_closure answers) names words s
+map_law env A B inner answers names words s l =
+    narrower_program_form env B _ _ (map_within A B inner answers) names words _
+    (program_closed_law env A B inner (map_closure answers) names words s
     (program_never_refuses A B (map_closure answers) (λ x n. n) s) l)
 
 -- parse
@@ -76,15 +75,16 @@ parse_within A B E inner answers shown = no_more by_answer
         (λ told. closed_no o.1 (o.2, o.3) (ap class_of told.1)) o.4
 
 -- keeps to the laws of its form
-pub parse_law : (A B E : Type 0) (inner : Outcome A) (answers : A → Result B E → Type 0)
+pub parse_law : (env : Variables) (A B E : Type 0) (inner : Outcome A)
+    (answers : A → Result B E → Type 0)
     (shown : E → Option (List ℕ)) (names : List Names) (words : List (List ℕ))
     (s : ProgramForm A) → ProgramAgrees (parse_closure answers) s
-    → ProgramFormLaw inner names words s
-    → ProgramFormLaw (ParseOutcome inner answers shown) names words
+    → ProgramFormLaw env inner names words s
+    → ProgramFormLaw env (ParseOutcome inner answers shown) names words
     (program_closed (parse_closure answers) s)
-parse_law A B E inner answers shown names words s g l =
-    narrower_program_form B _ _ (parse_within A B E inner answers shown) names words _
-    (program_closed_law A B inner (parse_closure answers) names words s g l)
+parse_law env A B E inner answers shown names words s g l =
+    narrower_program_form env B _ _ (parse_within A B E inner answers shown) names words _
+    (program_closed_law env A B inner (parse_closure answers) names words s g l)
 
 -- guard
 guard_within : (A : Type 0) (inner : Outcome A) (checks : A → Bool → Type 0) (message : List ℕ)
@@ -101,14 +101,14 @@ guard_within A inner checks message = no_more by_answer
         (λ memory. closed_memory o.1 (ap class_of memory)) o.3
 
 -- keeps to the laws of its form
-pub guard_law : (A : Type 0) (inner : Outcome A) (checks : A → Bool → Type 0)
+pub guard_law : (env : Variables) (A : Type 0) (inner : Outcome A) (checks : A → Bool → Type 0)
     (message : List ℕ) (names : List Names) (words : List (List ℕ)) (s : ProgramForm A)
-    → ProgramAgrees (guard_closure checks) s → ProgramFormLaw inner names words s
-    → ProgramFormLaw (GuardOutcome inner checks message) names words
+    → ProgramAgrees (guard_closure checks) s → ProgramFormLaw env inner names words s
+    → ProgramFormLaw env (GuardOutcome inner checks message) names words
     (program_closed (guard_closure checks) s)
-guard_law A inner checks message names words s g l =
-    narrower_program_form A _ _ (guard_within A inner checks message) names words _
-    (program_closed_law A A inner (guard_closure checks) names words s g l)
+guard_law env A inner checks message names words s g l =
+    narrower_program_form env A _ _ (guard_within A inner checks message) names words _
+    (program_closed_law env A A inner (guard_closure checks) names words s g l)
 
 -- optional
 optional_within : (T : Type 0) (inner : Outcome T)
@@ -126,23 +126,43 @@ optional_within T inner = no_more by_answer
     by_answer s t (Err e) (inr o) = optional_memory (memory_class e.0 o.0)
 
 -- keeps to the laws of its form
-pub optional_law : (T : Type 0) (inner : Outcome T) (catch : Bool) (names : List Names)
-    (words : List (List ℕ)) (s : ProgramForm T) → ProgramFormLaw inner names words s
-    → ProgramFormLaw (TurnOutcome inner catch true) names [] (program_optional catch s)
-optional_law T inner catch names words no_program l = tt
-optional_law T inner true names words (plain wide s) l = tt
-optional_law T inner true names words (commands r value) l = tt
-optional_law T inner false names words (plain wide s) l =
-    narrower_program_form (Option T) _ _ (optional_within T inner) names []
-    (program_optional false (plain wide s)) (program_optional_law T inner names words (plain wide s) l)
-optional_law T inner false names words (commands r value) l =
-    narrower_program_form (Option T) _ _ (optional_within T inner) names []
+pub optional_law : (env : Variables) (T : Type 0) (inner : Outcome T) (catch : Bool)
+    (names : List Names)
+    (words : List (List ℕ)) (s : ProgramForm T) → ProgramFormLaw env inner names words s
+    → ProgramFormLaw env (TurnOutcome inner catch true) names [] (program_optional catch s)
+optional_law env T inner true names words (plain wide s) l = tt
+optional_law env T inner true names words (commands r value) l = tt
+optional_law env T inner false names words (plain wide s) l =
+    narrower_program_form env (Option T) _ _ (optional_within T inner) names []
+    (program_optional false (plain wide s))
+    (program_optional_law env T inner names words (plain wide s) l)
+optional_law env T inner false names words (commands r value) l =
+    narrower_program_form env (Option T) _ _ (optional_within T inner) names []
     (program_optional false (commands r value))
-    (program_optional_law T inner names words (commands r value) l)
-optional_law T inner catch names words (left_out r value) l = tt
-optional_law T inner catch names words (before_commands r value) l = tt
+    (program_optional_law env T inner names words (commands r value) l)
+optional_law env T inner catch names words _ l = tt
 
 -- Repeats.
+
+-- what answers no more than a closure on the list of a repeat, where it has no `catch`, keeps to
+-- the laws of its form
+listed_law : (env : Variables) {T B : Type 0} (inner : Outcome T) (idle catch : Bool)
+    (f : Closure (List T) B) (c : ErrorClass) (outcome : Bool → Outcome B)
+    → AllowsNoMore B (ClosedEval (List T) B (RepeatOutcome inner idle) f c) (outcome false)
+    → (names : List Names)
+    → ((s : FlatForm T) → FormLaw env inner names s → Agrees f (flat_repeat s))
+    → (words : List (List ℕ)) (s : ProgramForm T) → ProgramFormLaw env inner names words s
+    → ProgramFormLaw env (outcome catch) names [] (program_repeat catch f s)
+listed_law env {T} {B} inner idle catch f c outcome within names agrees words =
+    flat_only_law env inner (outcome catch) names words []
+    (λ s. unless catch (flat_closed f (flat_repeat s))) (by_catch catch)
+  where
+    by_catch : (catch : Bool) (s : FlatForm T) → FormLaw env inner names s
+        → FormLaw env (outcome catch) names (unless catch (flat_closed f (flat_repeat s)))
+    by_catch true s l = tt
+    by_catch false s l =
+        narrower_form env B _ _ within names _
+        (flat_listed_law env T B inner idle f c names s (agrees s l) l)
 
 -- many
 many_within : (T : Type 0) (inner : Outcome T)
@@ -159,22 +179,15 @@ many_within T inner = no_more by_answer
         closed_err o
 
 -- keeps to the laws of its form
-pub many_field_law : (T : Type 0) (inner : Outcome T) (catch : Bool) (names : List Names)
-    (s : FlatForm T) → FormLaw inner names s
-    → FormLaw (ManyOutcome inner catch) names (unless catch (flat_many s))
-many_field_law T inner true names s l = tt
-many_field_law T inner false names s l =
-    narrower_form (Vec T) _ _ (many_within T inner) names _
-    (flat_listed_law T (Vec T) inner false (list_closure T) Refused names s
-    (never_refuses (List T) (Vec T) (list_closure T) (λ x n. n) (flat_repeat s)) l)
-
--- so over any form
-pub many_law : (T : Type 0) (inner : Outcome T) (catch : Bool) (names : List Names)
-    (words : List (List ℕ)) (s : ProgramForm T) → ProgramFormLaw inner names words s
-    → ProgramFormLaw (ManyOutcome inner catch) names [] (program_repeat catch (list_closure T) s)
-many_law T inner catch names words s l =
-    flat_only_law inner (ManyOutcome inner catch) names words []
-    (λ s. unless catch (flat_many s)) (λ s. many_field_law T inner catch names s) s l
+pub many_law : (env : Variables) (T : Type 0) (inner : Outcome T) (catch : Bool)
+    (names : List Names) (words : List (List ℕ)) (s : ProgramForm T)
+    → ProgramFormLaw env inner names words s
+    → ProgramFormLaw env (ManyOutcome inner catch) names []
+    (program_repeat catch (list_closure T) s)
+many_law env T inner catch names words =
+    listed_law env inner false catch (list_closure T) Refused (ManyOutcome inner)
+    (many_within T inner) names
+    (λ s l. never_refuses (List T) (Vec T) (list_closure T) (λ x n. n) (flat_repeat s)) words
 
 -- some
 not_nil : (T : Type 0) (values : List T) → is_nil values ≡ false → values ≡ [] → ⊥
@@ -198,24 +211,14 @@ some_within T inner message = no_more by_answer
         (λ memory. closed_memory o.0 (ap class_of memory)) o.1
 
 -- keeps to the laws of its form
-some_field_law : (T : Type 0) (inner : Outcome T) (catch : Bool) (message : List ℕ)
-    (names : List Names) (s : FlatForm T) → FormLaw inner names s
-    → FormLaw (SomeOutcome inner catch message) names (unless catch (flat_some s))
-some_field_law T inner true message names s l = tt
-some_field_law T inner false message names s l =
-    narrower_form (Vec T) _ _ (some_within T inner message) names _
-    (flat_listed_law T (Vec T) inner false (some_closure T) Caught names s
-    (some_agrees T inner names s l) l)
-
--- so over any form
-pub some_law : (T : Type 0) (inner : Outcome T) (catch : Bool) (message : List ℕ)
-    (names : List Names) (words : List (List ℕ)) (s : ProgramForm T)
-    → ProgramFormLaw inner names words s
-    → ProgramFormLaw (SomeOutcome inner catch message) names []
+pub some_law : (env : Variables) (T : Type 0) (inner : Outcome T) (catch : Bool)
+    (message : List ℕ) (names : List Names) (words : List (List ℕ)) (s : ProgramForm T)
+    → ProgramFormLaw env inner names words s
+    → ProgramFormLaw env (SomeOutcome inner catch message) names []
     (program_repeat catch (some_closure T) s)
-some_law T inner catch message names words s l =
-    flat_only_law inner (SomeOutcome inner catch message) names words []
-    (λ s. unless catch (flat_some s)) (λ s. some_field_law T inner catch message names s) s l
+some_law env T inner catch message names words =
+    listed_law env inner false catch (some_closure T) Caught (λ c. SomeOutcome inner c message)
+    (some_within T inner message) names (some_agrees env T inner names) words
 
 -- collect
 collect_within : (T C : Type 0) (inner : Outcome T) (fills : List T → C → Type 0)
@@ -234,25 +237,15 @@ collect_within T C inner fills = no_more by_answer
         closed_memory o.1 (memory_class e.0 o.2)
 
 -- keeps to the laws of its form
-collect_field_law : (T C : Type 0) (inner : Outcome T) (catch : Bool)
-    (fills : List T → C → Type 0) (names : List Names) (s : FlatForm T) → FormLaw inner names s
-    → FormLaw (CollectOutcome inner catch fills) names (unless catch (flat_collect fills s))
-collect_field_law T C inner true fills names s l = tt
-collect_field_law T C inner false fills names s l =
-    narrower_form C _ _ (collect_within T C inner fills) names _
-    (flat_listed_law T C inner false (collect_closure fills) Refused names s
-    (never_refuses (List T) C (collect_closure fills) (λ x n. n) (flat_repeat s)) l)
-
--- so over any form
-pub collect_law : (T C : Type 0) (inner : Outcome T) (catch : Bool) (fills : List T → C → Type 0)
-    (names : List Names) (words : List (List ℕ)) (s : ProgramForm T)
-    → ProgramFormLaw inner names words s
-    → ProgramFormLaw (CollectOutcome inner catch fills) names []
+pub collect_law : (env : Variables) (T C : Type 0) (inner : Outcome T) (catch : Bool)
+    (fills : List T → C → Type 0) (names : List Names) (words : List (List ℕ))
+    (s : ProgramForm T) → ProgramFormLaw env inner names words s
+    → ProgramFormLaw env (CollectOutcome inner catch fills) names []
     (program_repeat catch (collect_closure fills) s)
-collect_law T C inner catch fills names words s l =
-    flat_only_law inner (CollectOutcome inner catch fills) names words []
-    (λ s. unless catch (flat_collect fills s))
-    (λ s. collect_field_law T C inner catch fills names s) s l
+collect_law env T C inner catch fills names words =
+    listed_law env inner false catch (collect_closure fills) Refused
+    (λ c. CollectOutcome inner c fills) (collect_within T C inner fills) names
+    (λ s l. never_refuses (List T) C (collect_closure fills) (λ x n. n) (flat_repeat s)) words
 
 -- count
 count_within : (T : Type 0) (inner : Outcome T)
@@ -266,28 +259,21 @@ count_within T inner = no_more by_answer
     by_answer s t (Err e) o = closed_err o
 
 -- keeps to the laws of its form
-count_field_law : (T : Type 0) (inner : Outcome T) (names : List Names) (s : FlatForm T)
-    → FormLaw inner names s → FormLaw (CountOutcome inner) names (flat_count s)
-count_field_law T inner names s l =
-    narrower_form ℕ _ _ (count_within T inner) names _
-    (flat_listed_law T ℕ inner true (count_closure T) Refused names s
-    (never_refuses (List T) ℕ (count_closure T) (λ x n. n) (flat_repeat s)) l)
-
--- so over any form
-pub count_law : (T : Type 0) (inner : Outcome T) (names : List Names) (words : List (List ℕ))
-    (s : ProgramForm T) → ProgramFormLaw inner names words s
-    → ProgramFormLaw (CountOutcome inner) names [] (program_repeat false (count_closure T) s)
-count_law T inner names words s l =
-    flat_only_law inner (CountOutcome inner) names words [] (λ s. flat_count s)
-    (λ s. count_field_law T inner names s) s l
+pub count_law : (env : Variables) (T : Type 0) (inner : Outcome T) (names : List Names)
+    (words : List (List ℕ)) (s : ProgramForm T) → ProgramFormLaw env inner names words s
+    → ProgramFormLaw env (CountOutcome inner) names [] (program_repeat false (count_closure T) s)
+count_law env T inner names words =
+    listed_law env inner true false (count_closure T) Refused (λ c. CountOutcome inner)
+    (count_within T inner) names
+    (λ s l. never_refuses (List T) ℕ (count_closure T) (λ x n. n) (flat_repeat s)) words
 
 -- last keeps to the laws of its form
-pub last_law : (T : Type 0) (inner : Outcome T) (names : List Names) (words : List (List ℕ))
-    (s : ProgramForm T) → ProgramFormLaw inner names words s
-    → ProgramFormLaw (LastOutcome inner) names [] (program_last s)
-last_law T inner names words s l =
-    flat_only_law inner (LastOutcome inner) names words [] (λ s. flat_last s)
-    (λ s. flat_last_law T inner names s) s l
+pub last_law : (env : Variables) (T : Type 0) (inner : Outcome T) (names : List Names)
+    (words : List (List ℕ)) (s : ProgramForm T) → ProgramFormLaw env inner names words s
+    → ProgramFormLaw env (LastOutcome inner) names [] (program_last s)
+last_law env T inner names words s l =
+    flat_only_law env inner (LastOutcome inner) names words [] (λ s. flat_last s)
+    (λ s. flat_last_law env T inner names s) s l
 
 -- Defaults.
 
@@ -326,53 +312,36 @@ fallback_within T inner gives f given = no_more by_answer
         (given.no e o.1))
 
 -- a kept value
-fallback_field_law : (T : Type 0) (inner : Outcome T) (clones : T → T → Type 0) (kept : T)
-    (names : List Names) (s : FlatForm T) → FormLaw inner names s
-    → FormLaw (FallbackOutcome inner (GivesClone clones kept)) names
-    (flat_fallback (kept_closure (clones kept)) s)
-fallback_field_law T inner clones kept names s l =
-    narrower_form T _ _
+pub fallback_law : (env : Variables) (T : Type 0) (inner : Outcome T) (clones : T → T → Type 0)
+    (kept : T) (names : List Names) (words : List (List ℕ)) (s : ProgramForm T)
+    → ProgramFormLaw env inner names words s
+    → ProgramFormLaw env (FallbackOutcome inner (GivesClone clones kept)) names []
+    (program_fallback (kept_closure (clones kept)) s)
+fallback_law env T inner clones kept names words =
+    flat_only_law env inner (FallbackOutcome inner (GivesClone clones kept)) names words []
+    (λ s. flat_fallback (kept_closure (clones kept)) s)
+    (λ s l. narrower_form env T _ _
     (fallback_within T inner (GivesClone clones kept) (kept_closure (clones kept))
     (record { yes = λ v g. g; no = λ e g. inl (memory_class e.0 g) })) names _
-    (flat_fallback_law T inner (kept_closure (clones kept)) (λ u v y n. n) names s l)
-
--- so over any form
-pub fallback_law : (T : Type 0) (inner : Outcome T) (clones : T → T → Type 0) (kept : T)
-    (names : List Names) (words : List (List ℕ)) (s : ProgramForm T)
-    → ProgramFormLaw inner names words s
-    → ProgramFormLaw (FallbackOutcome inner (GivesClone clones kept)) names []
-    (program_fallback (kept_closure (clones kept)) s)
-fallback_law T inner clones kept names words s l =
-    flat_only_law inner (FallbackOutcome inner (GivesClone clones kept)) names words []
-    (λ s. flat_fallback (kept_closure (clones kept)) s)
-    (λ s. fallback_field_law T inner clones kept names s) s l
+    (flat_fallback_law env T inner (kept_closure (clones kept)) (λ u v y n. n) names s l))
 
 -- a closure's value
-fallback_with_field_law : (T E : Type 0) (inner : Outcome T) (answers : Result T E → Type 0)
-    (shown : E → Option (List ℕ)) (names : List Names) (s : FlatForm T)
-    → Decides (answer_closure answers)
-    → FormLaw inner names s
-    → FormLaw (FallbackOutcome inner (GivesAnswer answers shown)) names
-    (flat_fallback (answer_closure answers) s)
-fallback_with_field_law T E inner answers shown names s decides l =
-    narrower_form T _ _
+pub fallback_with_law : (env : Variables) (T E : Type 0) (inner : Outcome T)
+    (answers : Result T E → Type 0) (shown : E → Option (List ℕ)) (names : List Names)
+    (words : List (List ℕ)) (s : ProgramForm T) → Decides (answer_closure answers)
+    → ProgramFormLaw env inner names words s
+    → ProgramFormLaw env (FallbackOutcome inner (GivesAnswer answers shown)) names []
+    (program_fallback (answer_closure answers) s)
+fallback_with_law env T E inner answers shown names words s decides =
+    flat_only_law env inner (FallbackOutcome inner (GivesAnswer answers shown)) names words []
+    (λ s. flat_fallback (answer_closure answers) s)
+    (λ s l. narrower_form env T _ _
     (fallback_within T inner (GivesAnswer answers shown) (answer_closure answers) (record {
       yes = λ v g. g;
       no = λ e g. ⊎_elim (λ memory. inl (ap class_of memory))
           (λ told. inr ((g.0, g.1), ap class_of told.1)) g.2;
     })) names _
-    (flat_fallback_law T inner (answer_closure answers) decides names s l)
-
--- so over any form
-pub fallback_with_law : (T E : Type 0) (inner : Outcome T) (answers : Result T E → Type 0)
-    (shown : E → Option (List ℕ)) (names : List Names) (words : List (List ℕ))
-    (s : ProgramForm T) → Decides (answer_closure answers) → ProgramFormLaw inner names words s
-    → ProgramFormLaw (FallbackOutcome inner (GivesAnswer answers shown)) names []
-    (program_fallback (answer_closure answers) s)
-fallback_with_law T E inner answers shown names words s decides l =
-    flat_only_law inner (FallbackOutcome inner (GivesAnswer answers shown)) names words []
-    (λ s. flat_fallback (answer_closure answers) s)
-    (λ s. fallback_with_field_law T E inner answers shown names s decides) s l
+    (flat_fallback_law env T inner (answer_closure answers) decides names s l)) s
 
 -- a hidden refusal is one of the same class
 hidden_class : (m : Message) → class_of m ≡ class_of (hidden m)
@@ -380,12 +349,12 @@ hidden_class (Missing items) = refl
 hidden_class m = refl
 
 -- hide
-pub hide_law : (T : Type 0) (inner : Outcome T) (names : List Names) (words : List (List ℕ))
-    (s : ProgramForm T) → ProgramFormLaw inner names words s
-    → ProgramFormLaw (HideOutcome inner) names words (program_dressed s)
-hide_law T inner names words s l =
-    program_dressed_law T (HideOutcome inner) names words s
-    (narrower_program_form T inner (HideOutcome inner)
+pub hide_law : (env : Variables) (T : Type 0) (inner : Outcome T) (names : List Names)
+    (words : List (List ℕ)) (s : ProgramForm T) → ProgramFormLaw env inner names words s
+    → ProgramFormLaw env (HideOutcome inner) names words (program_dressed s)
+hide_law env T inner names words s l =
+    program_dressed_law env T (HideOutcome inner) names words s
+    (narrower_program_form env T inner (HideOutcome inner)
     (record {
       value = λ s t v o. o;
       refusal = λ s t e o. (o.0, o.1, hidden_class o.0.0 ∙ ap class_of (sym o.2));

@@ -2,11 +2,10 @@
 use Rattle.std.proofs.Common.{◌≡◌, true, false, List, [], ◌∷◌, Some, None, refl, sym, ap, ◌∙◌}
 use Rattle.std.proofs.Common.{if◌then◌else◌}
 use Rattle.bpaf_base.specs.declared.arg.Arg.{Arg}
-use Rattle.bpaf_base.specs.declared.arg.Arg.TheVariants.{Short, Long, ArgWord, Word, PosWord}
+use Rattle.bpaf_base.specs.declared.arg.Arg.TheVariants.{Short, Long, ArgWord, Word}
 use Rattle.bpaf_base.specs.Items.{is_positional}
 use Rattle.bpaf_exact.specs.Pieces.{Cells, Role, Foreign, Alone, WithNext, Roles, LinePiece, One}
-use Rattle.bpaf_exact.specs.Pieces.{Two}
-use Rattle.bpaf_exact.specs.Pieces.{is_value, is_key, is_own_role, is_own, mine, others}
+use Rattle.bpaf_exact.specs.Pieces.{Two, is_value, is_key, is_own_role, is_own, mine, others}
 use Rattle.bpaf_exact.specs.Pieces.{either_role, either, IsNamed, Apart, Cut, at_end, passed, flag}
 use Rattle.bpaf_exact.specs.Pieces.{argument, word, with_next, begin_piece, pieces, TakesPiece}
 use Rattle.bpaf_exact.specs.Pieces.{takes_one, takes_two, takes_later, TakesPieces, takes_none}
@@ -16,28 +15,22 @@ use Rattle.bpaf_exact.specs.Pieces.{takes_more}
 pub value_not_key : (w : Arg) → is_value w ≡ true → is_key w ≡ false
 value_not_key (Short c a t) h = cc
 value_not_key (Long c a t) h = cc
-value_not_key (ArgWord t) h = refl
-value_not_key (Word t) h = refl
-value_not_key (PosWord t) h = refl
+value_not_key _ h = refl
 
 -- a word is no key
 pub word_not_key : (w : Arg) → is_positional w ≡ true → is_key w ≡ false
 word_not_key (Short c a t) h = cc
 word_not_key (Long c a t) h = cc
-word_not_key (ArgWord t) h = refl
-word_not_key (Word t) h = refl
-word_not_key (PosWord t) h = refl
+word_not_key _ h = refl
 
 -- an item of a named field is no value
 pub own_not_value : (q : Roles) (k : Arg) → IsNamed q → is_own_role (q k) ≡ true
     → is_value k ≡ false
-own_not_value q (Short c a t) n h = refl
-own_not_value q (Long c a t) n h = refl
 own_not_value q (ArgWord t) n h = let e : is_own_role (q (ArgWord t))
     ≡ false = ap is_own_role (n.only_keys (ArgWord t) refl) in cc
 own_not_value q (Word t) n h = let e : is_own_role (q (Word t))
     ≡ false = ap is_own_role (n.only_keys (Word t) refl) in cc
-own_not_value q (PosWord t) n h = refl
+own_not_value q _ n h = refl
 
 -- a value belongs to no named field
 pub value_foreign : (q : Roles) (w : Arg) → IsNamed q → is_value w ≡ true → q w ≡ Foreign
@@ -63,16 +56,14 @@ begin_foreign k cs os e = ap (λ z. begin_piece z k cs os) e
 pub nil_rest : (x : Role) (k : Arg) (cs : Cells) (os : List LinePiece) → begin_piece x k cs os ≡ []
     → os ≡ []
 nil_rest Foreign k cs os e = e
-nil_rest Alone k cs os e = cc
-nil_rest WithNext k cs os e = cc
+nil_rest _ k cs os e = cc
 
 -- and the item isn't the field's own
 pub nil_foreign : (x : Role) (k : Arg) (cs : Cells) (os : List LinePiece)
     → begin_piece x k cs os ≡ []
     → x ≡ Foreign
 nil_foreign Foreign k cs os e = refl
-nil_foreign Alone k cs os e = cc
-nil_foreign WithNext k cs os e = cc
+nil_foreign _ k cs os e = cc
 
 -- An item that is no value makes no piece of two.
 no_value_next : (k w : Arg) (cs : Cells) → is_value w ≡ false → with_next k (Some w ∷ cs) ≡ One k
@@ -133,8 +124,7 @@ foreign_mine : (x : Role) (w : Arg) (cs : Cells) (o : LinePiece) (os ps : List L
     → os ≡ ps
     → begin_piece x w cs os ≡ (if is_own_role x then (o ∷ ps) else ps)
 foreign_mine Foreign w cs o os ps e h = h
-foreign_mine Alone w cs o os ps e h = cc
-foreign_mine WithNext w cs o os ps e h = cc
+foreign_mine _ w cs o os ps e h = cc
 
 -- the pieces of a field's own are those of the cut that begin with its keys
 pub pieces_of_cut : (q r : Roles) {cs : Cells} {os : List LinePiece} → IsNamed q
@@ -155,10 +145,8 @@ pieces_of_cut q r n (word {w = w} {cs = cs} {os = os} h c) =
 -- an item of the one is of the same role to both
 either_own : (x y z : Role) → x ≡ z → is_own_role z ≡ true → either_role x y ≡ z
 either_own Foreign y Foreign e h = cc
-either_own Foreign y Alone e h = cc
-either_own Foreign y WithNext e h = cc
-either_own Alone y z e h = e
-either_own WithNext y z e h = e
+either_own Foreign y _ e h = cc
+either_own _ y z e h = e
 
 -- a piece of the field's own isn't one of others
 pub others_own : (q : Roles) (o : LinePiece) (os : List LinePiece) → is_own q o ≡ true

@@ -16,13 +16,14 @@ use Rattle.bpaf_line.proofs.Matches.{open_has_item}
 use Rattle.bpaf_base.specs.Items.{any_item}
 use Rattle.bpaf_laws.proofs.ChoiceLaws.{not_winner}
 use Rattle.bpaf_laws.specs.Choice.{branch_of, ChoiceOutcome, EqualDepths, OneOk, Winner}
+use Rattle.bpaf_laws.specs.Choice.{BranchesEval}
 use Rattle.bpaf_laws.specs.Reading.{Outcome}
 use Rattle.bpaf_laws.specs.Spared.{IsNotMemory}
 use Rattle.bpaf_laws.specs.Turn.{is_untouched}
 use Rattle.bpaf_exact.specs.Pieces.{Cells, Roles, LinePiece, One, Two, is_own_role, is_own, Apart}
 use Rattle.bpaf_exact.specs.Pieces.{either, pieces, TakesPiece, takes_one, takes_two, takes_later}
-use Rattle.bpaf_exact.specs.Flat.{OfMemory, OfMissing, Refused, class, cells, first_cells, NoneOutside}
-use Rattle.bpaf_exact.specs.Flat.{Steady}
+use Rattle.bpaf_exact.specs.Flat.{OfMemory, OfMissing, Refused, class, cells, first_cells}
+use Rattle.bpaf_exact.specs.Flat.{IsWholeIn, Steady, Variables}
 use Rattle.bpaf_exact.specs.Alternative.{TakesFirst, HasBad, AlternativeOk, AlternativeErr}
 use Rattle.bpaf_exact.specs.Alternative.{alternative_memory, alternative_missing}
 use Rattle.bpaf_exact.specs.Alternative.{alternative_refused, AlternativeLaw, either_value}
@@ -96,7 +97,8 @@ pub record HasItem (s : Situation) (p : ℕ) : Type 0 where
   pub is : open_item s p ≡ Some item
 
 -- what isn't taken is open
-pub has_item : (s : Situation) (p : ℕ) → NoneOutside s → is_taken s p ≡ false → HasItem s p
+pub has_item : {env : Variables} (s : Situation) (p : ℕ) → IsWholeIn env s → is_taken s p ≡ false
+    → HasItem s p
 has_item s p w free =
     let l = present_in_line s p free in
     let a : s.start ≤ p = ⊎_elim
@@ -121,7 +123,8 @@ has_item s p w free =
     by_item (Some k) f h = record { item = k; is = f }
 
 -- the one that took the leftmost place that only one took, by their cells
-left_of : (s m n : Situation) (p : ℕ) → NoneOutside s → Steady s m → Steady s n → is_taken m p ≡ true
+left_of : {env : Variables} (s m n : Situation) (p : ℕ) → IsWholeIn env s → Steady s m → Steady s n
+    → is_taken m p ≡ true
     → is_taken n p ≡ false → ((q : ℕ) → q < p → is_taken m q ≡ is_taken n q)
     → TookLeft (cells m) (cells n)
 unfolding cells
@@ -227,8 +230,10 @@ module _ (T : Type 0) (qa qb r : Roles) (u : Union qa qb r) (va vb vr : LinePiec
         (won_readable a.takes o a.readable p ps w h v);
   }
 
-module _ (T : Type 0) (a b : Outcome T) (qa qb : Roles) (va vb : LinePiece → T → Type 0)
-    (la : AlternativeLaw T a qa va) (lb : AlternativeLaw T b qb vb) (apart : Apart qa qb) where
+module _ {env : Variables} (T : Type 0) (a b : Outcome T) (qa qb : Roles)
+    (va vb : LinePiece → T → Type 0)
+    (la : AlternativeLaw env T a qa va) (lb : AlternativeLaw env T b qb vb)
+    (apart : Apart qa qb) where
   -- the items of both
   u : Union qa qb (either qa qb)
   u = either_union qa qb la.named lb.named apart
@@ -302,8 +307,8 @@ module _ (T : Type 0) (a b : Outcome T) (qa qb : Roles) (va vb : LinePiece → T
   err_path q v s n e h (alternative_refused c p b g) = p
 
   -- an alternative leaves the path as it was
-  law_path : (z : Outcome T) (q : Roles) (v : LinePiece → T → Type 0) → AlternativeLaw T z q v
-      → (s n : Situation) (r : Result T Error) → NoneOutside s → z s r n → IsNotMemory r
+  law_path : (z : Outcome T) (q : Roles) (v : LinePiece → T → Type 0) → AlternativeLaw env T z q v
+      → (s n : Situation) (r : Result T Error) → IsWholeIn env s → z s r n → IsNotMemory r
       → n.path ≡ s.path
   law_path z q v l s n (Ok x) w o h = (l.ok s n x w o).steady.path
   law_path z q v l s n (Err e) w o h = err_path q v s n e h (l.err s n e w o)
@@ -312,6 +317,16 @@ module _ (T : Type 0) (a b : Outcome T) (qa qb : Roles) (va vb : LinePiece → T
   never_deeper : (s m n : Situation) → m.path ≡ s.path → n.path ≡ s.path
       → length n.path < length m.path → ⊥
   never_deeper s m n e f h = let c = ap length (e ∙ sym f) in omega arith
+
+  -- and both are equally deep
+  equally_deep : (s t : Situation) (r : Result T Error) → IsWholeIn env s
+      → (o : BranchesEval a b s r t) → EqualDepths s o.a o.sa o.b o.sb r t
+  equally_deep s t r w o =
+      let pa = law_path a qa va la s o.sa o.a w o.first_ran o.first_spared in
+      let pb = law_path b qb vb lb s o.sb o.b w o.second_ran o.second_spared in
+      ⊎_elim (λ deeper. absurd (never_deeper s o.sa o.sb pa pb deeper.0))
+      (λ other. ⊎_elim (λ deeper. absurd (never_deeper s o.sb o.sa pb pa deeper.0))
+      (λ equal. equal.1) other) o.chosen
 
   -- an alternative that answered took something
   never_untouched : (q : Roles) (v : LinePiece → T → Type 0) (s m : Situation) (x : T)
@@ -324,7 +339,7 @@ module _ (T : Type 0) (a b : Outcome T) (qa qb : Roles) (va vb : LinePiece → T
       absurd (omega arith)
 
   -- the winner's value, where both answered
-  winner_ok : (s sa sb t : Situation) (x y v : T) (winner : Bool × Option ℕ) → NoneOutside s
+  winner_ok : (s sa sb t : Situation) (x y v : T) (winner : Bool × Option ℕ) → IsWholeIn env s
       → AlternativeOk T qa va s x sa → AlternativeOk T qb vb s y sb
       → IsWinner sa sb winner → Winner (branch_of x sa) (branch_of y sb) winner (Ok v) t
       → AlternativeOk T (either qa qb) vr s v t
@@ -351,33 +366,18 @@ module _ (T : Type 0) (a b : Outcome T) (qa qb : Roles) (va vb : LinePiece → T
       (cells_same sb t (same_scope (saved_steady sb sa t p k.1)) k.1.taken))
 
   -- the value of one, where the other refused
-  first_alone_ok : (s sa sb t : Situation) (x v : T) (e : Error) → NoneOutside s → a s (Ok x) sa
-      → b s (Err e) sb → is_memory e.0 ≡ false → OneOk s (branch_of x sa) e (Ok v) t
+  alone_ok : (s m t : Situation) (x v : T) (e : Error)
+      → AlternativeOk T (either qa qb) vr s x m → OneOk s (branch_of x m) e (Ok v) t
       → AlternativeOk T (either qa qb) vr s v t
-  first_alone_ok s sa sb t x v e w f g h (inl o) = let i = o.1 in absurd cc
-  first_alone_ok s sa sb t x v e w f g h (inr o) =
+  alone_ok s m t x v e i (inl o) = let h = o.1 in absurd cc
+  alone_ok s m t x v e i (inr o) =
       let given = o.1.0 in
       let d : x ≡ v = cc in
       subst (λ z. AlternativeOk T (either qa qb) vr s v z) (sym o.1.1)
-      (subst (λ z. AlternativeOk T (either qa qb) vr s z sa) d
-      (first_won s sa sa x (la.ok s sa x w f)
-      (err_other qb vb s sb (cells sa) e h (lb.err s sb e w g)) (steady_refl sa) refl))
-
-  -- the value of the second, where the first refused
-  second_alone_ok : (s sa sb t : Situation) (y v : T) (e : Error) → NoneOutside s → a s (Err e) sa
-      → b s (Ok y) sb → is_memory e.0 ≡ false → OneOk s (branch_of y sb) e (Ok v) t
-      → AlternativeOk T (either qa qb) vr s v t
-  second_alone_ok s sa sb t y v e w f g h (inl o) = let i = o.1 in absurd cc
-  second_alone_ok s sa sb t y v e w f g h (inr o) =
-      let given = o.1.0 in
-      let d : y ≡ v = cc in
-      subst (λ z. AlternativeOk T (either qa qb) vr s v z) (sym o.1.1)
-      (subst (λ z. AlternativeOk T (either qa qb) vr s z sb) d
-      (second_won s sb sb y (lb.ok s sb y w g)
-      (err_other qa va s sa (cells sb) e h (la.err s sa e w f)) (steady_refl sb) refl))
+      (subst (λ z. AlternativeOk T (either qa qb) vr s z m) d i)
 
   -- the value where both paths are equally deep
-  equal_ok : (s sa sb t : Situation) (v : T) (x y : Result T Error) → NoneOutside s → a s x sa
+  equal_ok : (s sa sb t : Situation) (v : T) (x y : Result T Error) → IsWholeIn env s → a s x sa
       → b s y sb → IsNotMemory x → IsNotMemory y → EqualDepths s x sa y sb (Ok v) t
       → AlternativeOk T (either qa qb) vr s v t
   equal_ok s sa sb t v (Ok x) (Ok y) w f g hf hg (inl o) =
@@ -385,21 +385,20 @@ module _ (T : Type 0) (a b : Outcome T) (qa qb : Roles) (va vb : LinePiece → T
       (and_parts (is_untouched s sa) (is_untouched s sb) o.0).0)
   equal_ok s sa sb t v (Ok x) (Ok y) w f g hf hg (inr o) =
       winner_ok s sa sb t x y v o.1.0 w (la.ok s sa x w f) (lb.ok s sb y w g) o.1.1 o.1.2
-  equal_ok s sa sb t v (Ok x) (Err e) w f g hf hg o = first_alone_ok s sa sb t x v e w f g hg o
-  equal_ok s sa sb t v (Err e) (Ok y) w f g hf hg o = second_alone_ok s sa sb t y v e w f g hf o
+  equal_ok s sa sb t v (Ok x) (Err e) w f g hf hg o =
+      alone_ok s sa t x v e (first_won s sa sa x (la.ok s sa x w f)
+      (err_other qb vb s sb (cells sa) e hg (lb.err s sb e w g)) (steady_refl sa) refl) o
+  equal_ok s sa sb t v (Err e) (Ok y) w f g hf hg o =
+      alone_ok s sb t y v e (second_won s sb sb y (lb.ok s sb y w g)
+      (err_other qa va s sa (cells sb) e hf (la.err s sa e w f)) (steady_refl sb) refl) o
   equal_ok s sa sb t v (Err e) (Err d) w f g hf hg o = let i = o.0.2 in absurd cc
 
   -- a value of the choice is that of an alternative
-  choice_ok : (s t : Situation) (v : T) → NoneOutside s → ChoiceOutcome a b s (Ok v) t
+  choice_ok : (s t : Situation) (v : T) → IsWholeIn env s → ChoiceOutcome a b s (Ok v) t
       → AlternativeOk T (either qa qb) vr s v t
   choice_ok s t v w o =
-      let pa = law_path a qa va la s o.sa o.a w o.first_ran o.first_spared in
-      let pb = law_path b qb vb lb s o.sb o.b w o.second_ran o.second_spared in
-      ⊎_elim (λ deeper. absurd (never_deeper s o.sa o.sb pa pb deeper.0))
-      (λ other. ⊎_elim (λ deeper. absurd (never_deeper s o.sb o.sa pb pa deeper.0))
-      (λ equal. equal_ok s o.sa o.sb t v o.a o.b w o.first_ran o.second_ran o.first_spared
-      o.second_spared equal.1) other)
-      o.chosen
+      equal_ok s o.sa o.sb t v o.a o.b w o.first_ran o.second_ran o.first_spared o.second_spared
+      (equally_deep s t (Ok v) w o)
 
   -- both fail
   first_bad : (cs : Cells) → HasBad T va (pieces qa cs) → HasBad T vr (pieces (either qa qb) cs)
@@ -482,7 +481,8 @@ module _ (T : Type 0) (a b : Outcome T) (qa qb : Roles) (va vb : LinePiece → T
   one_no_refusal q v s m t x e g i (inr o) = let h = o.1.0 in cc
 
   -- the refusal where both paths are equally deep
-  equal_err : (s sa sb t : Situation) (g : Error) (x y : Result T Error) → NoneOutside s → a s x sa
+  equal_err : (s sa sb t : Situation) (g : Error) (x y : Result T Error) → IsWholeIn env s
+      → a s x sa
       → b s y sb → IsNotMemory x → IsNotMemory y → EqualDepths s x sa y sb (Err g) t
       → AlternativeErr T (either qa qb) vr s g t
   equal_err s sa sb t g (Ok x) (Ok y) w f h hf hg (inl o) = let i = o.1.0 in absurd cc
@@ -500,20 +500,15 @@ module _ (T : Type 0) (a b : Outcome T) (qa qb : Roles) (va vb : LinePiece → T
       (both_failed s sa sb e d o.0.0 hf hg o.0.1 (la.err s sa e w f) (lb.err s sb d w h)))
 
   -- a refusal of the choice is that of an alternative
-  choice_err : (s t : Situation) (e : Error) → NoneOutside s → ChoiceOutcome a b s (Err e) t
+  choice_err : (s t : Situation) (e : Error) → IsWholeIn env s → ChoiceOutcome a b s (Err e) t
       → AlternativeErr T (either qa qb) vr s e t
   choice_err s t e w (inl o) =
-      let pa = law_path a qa va la s o.sa o.a w o.first_ran o.first_spared in
-      let pb = law_path b qb vb lb s o.sb o.b w o.second_ran o.second_spared in
-      ⊎_elim (λ deeper. absurd (never_deeper s o.sa o.sb pa pb deeper.0))
-      (λ other. ⊎_elim (λ deeper. absurd (never_deeper s o.sb o.sa pb pa deeper.0))
-      (λ equal. equal_err s o.sa o.sb t e o.a o.b w o.first_ran o.second_ran o.first_spared
-      o.second_spared equal.1) other)
-      o.chosen
+      equal_err s o.sa o.sb t e o.a o.b w o.first_ran o.second_ran o.first_spared o.second_spared
+      (equally_deep s t (Err e) w o)
   choice_err s t e w (inr o) = alternative_memory (memory_class e.0 o.0)
 
   -- a choice of two alternatives whose keys are apart is an alternative
-  pub choice_law : AlternativeLaw T (ChoiceOutcome a b) (either qa qb) (either_value qa va vb)
+  pub choice_law : AlternativeLaw env T (ChoiceOutcome a b) (either qa qb) (either_value qa va vb)
   choice_law = record {
     named = union_named qa qb (either qa qb) u;
     ok = choice_ok;

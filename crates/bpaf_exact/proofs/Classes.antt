@@ -8,18 +8,18 @@ use Rattle.bpaf_line.specs.declared.error.Message.TheVariants.{Memory, Missing, 
 use Rattle.bpaf_line.specs.Messages.{is_memory, can_catch}
 use Rattle.bpaf_line.specs.Situation.{Situation, open_count}
 use Rattle.bpaf_laws.specs.Turn.{stops_step, stops_spared, is_untouched}
-use Rattle.bpaf_exact.specs.Flat.{OfMemory, OfMissing, Caught, is_missing, class_by, class_of}
+use Rattle.bpaf_exact.specs.Flat.{OfMemory, OfMissing, Caught, is_missing, class_of_tests, class_of}
 use Rattle.bpaf_exact.specs.Single.{Stops, nothing_found, caught}
 
 -- want of memory is of its class
 pub memory_class : (m : Message) → is_memory m ≡ true → class_of m ≡ OfMemory
-memory_class m e = ap (λ b. class_by b (is_missing m) (can_catch m)) e
+memory_class m e = ap (λ b. class_of_tests b (is_missing m) (can_catch m)) e
 
 -- and nothing else is
 pub memory_of : (m : Message) → class_of m ≡ OfMemory → is_memory m ≡ true
 memory_of m e = by_test (is_memory m) (is_missing m) (can_catch m) e
   where
-    by_test : (a b c : Bool) → class_by a b c ≡ OfMemory → a ≡ true
+    by_test : (a b c : Bool) → class_of_tests a b c ≡ OfMemory → a ≡ true
     by_test true b c e = refl
     by_test false true c e = cc
     by_test false false true e = cc
@@ -37,7 +37,7 @@ missing_caught other e = absurd cc
 
 -- and is of its class
 pub missing_class : (m : Message) → is_missing m ≡ true → class_of m ≡ OfMissing
-missing_class m e = ap₂ (λ a b. class_by a b (can_catch m)) (missing_caught m e).0 e
+missing_class m e = ap₂ (λ a b. class_of_tests a b (can_catch m)) (missing_caught m e).0 e
 
 -- want of memory can't be caught
 memory_kept : (m : Message) → is_memory m ≡ true → can_catch m ≡ false
@@ -51,7 +51,7 @@ pub caught_class : (m : Message) → can_catch m ≡ true
 caught_class m e = by_test (is_memory m) (is_missing m) (can_catch m) e (λ h. memory_kept m h)
   where
     by_test : (a b c : Bool) → c ≡ true → (a ≡ true → c ≡ false)
-        → (class_by a b c ≡ OfMissing) ⊎ (class_by a b c ≡ Caught)
+        → (class_of_tests a b c ≡ OfMissing) ⊎ (class_of_tests a b c ≡ Caught)
     by_test true b c e f = let g = f refl in absurd cc
     by_test false true c e f = inl refl
     by_test false false true e f = inr refl
@@ -64,7 +64,7 @@ kept_class m e c =
     by_test (is_memory m) (is_missing m) (can_catch m) e (λ h. (missing_caught m h).1) c
   where
     by_test : (a b c : Bool) → c ≡ false → (b ≡ true → c ≡ true)
-        → (class_by a b c ≡ OfMissing) ⊎ (class_by a b c ≡ Caught) → ⊥
+        → (class_of_tests a b c ≡ OfMissing) ⊎ (class_of_tests a b c ≡ Caught) → ⊥
     by_test true b c e f (inl h) = cc
     by_test true b c e f (inr h) = cc
     by_test false true c e f h = let g = f refl in absurd cc
@@ -86,7 +86,8 @@ stop_class m untouched e =
     (sym (ap (λ b. not (is_memory m) && b) (stop_test m untouched)) ∙ e)
   where
     by_tests : (a b c : Bool) → (not a && (if b then untouched else c)) ≡ true
-        → ((class_by a b c ≡ OfMissing) × (untouched ≡ true)) ⊎ (class_by a b c ≡ Caught)
+        → ((class_of_tests a b c ≡ OfMissing) × (untouched ≡ true)) ⊎
+        (class_of_tests a b c ≡ Caught)
     by_tests true b c h = absurd cc
     by_tests false true c h = inl (refl, h)
     by_tests false false true h = inr refl
@@ -100,7 +101,8 @@ no_stop_class m untouched e c =
     (sym (ap (λ b. not (is_memory m) && b) (stop_test m untouched)) ∙ e) c
   where
     by_tests : (a b c : Bool) → (not a && (if b then untouched else c)) ≡ false
-        → ((class_by a b c ≡ OfMissing) × (untouched ≡ true)) ⊎ (class_by a b c ≡ Caught) → ⊥
+        → ((class_of_tests a b c ≡ OfMissing) × (untouched ≡ true)) ⊎
+        (class_of_tests a b c ≡ Caught) → ⊥
     by_tests true b c h (inl k) = let d = k.0 in cc
     by_tests true b c h (inr k) = cc
     by_tests false true c h (inl k) = true≢false (sym k.1 ∙ h)

@@ -5,7 +5,8 @@ use Rattle.bpaf_line.specs.declared.error.Message.{Message}
 use Rattle.bpaf_line.specs.declared.error.Message.TheVariants.{Missing, ParseFailure}
 use Rattle.bpaf_line.specs.Combining.{Combines, CombinesSpared}
 use Rattle.bpaf_line.specs.Messages.{is_memory, can_catch}
-use Rattle.bpaf_exact.specs.Flat.{OfMemory, OfMissing, Refused, is_missing, class_by, class_of}
+use Rattle.bpaf_exact.specs.Flat.{OfMemory, OfMissing, Refused, is_missing, class_of_tests}
+use Rattle.bpaf_exact.specs.Flat.{class_of}
 use Rattle.bpaf_exact.proofs.Classes.{missing_caught}
 
 -- which of two refusals stands for both, where neither is want of memory
@@ -33,7 +34,7 @@ stands_of m n g c = by_catch m n g (can_catch m) refl (λ e f. cc) c
 
 -- a missing item can be caught, and the others of an alternative's refusals can't
 class_tests : (a b c : Bool)
-    → (class_by a b c ≡ OfMissing → b ≡ true) × (class_by a b c ≡ Refused → c ≡ false)
+    → (class_of_tests a b c ≡ OfMissing → b ≡ true) × (class_of_tests a b c ≡ Refused → c ≡ false)
 class_tests true b c = (λ e. absurd cc, λ e. absurd cc)
 class_tests false true c = (λ e. refl, λ e. absurd cc)
 class_tests false false true = (λ e. absurd cc, λ e. absurd cc)

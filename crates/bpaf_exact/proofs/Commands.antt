@@ -19,7 +19,7 @@ use Rattle.bpaf_laws.specs.Spared.{IsNotMemory}
 use Rattle.bpaf_laws.specs.Turn.{is_untouched}
 use Rattle.bpaf_exact.specs.Pieces.{Cells, Roles, pieces, either}
 use Rattle.bpaf_exact.specs.Flat.{ErrorClass, OfMemory, OfMissing, is_missing, class, cells}
-use Rattle.bpaf_exact.specs.Flat.{NonePresent, no_place, none_here, NoneOutside, GivesAll}
+use Rattle.bpaf_exact.specs.Flat.{NonePresent, no_place, none_here, IsWholeIn, Variables}
 use Rattle.bpaf_exact.specs.Record.{line_cells, RunAnswer, Accepted, RunRan, run_value}
 use Rattle.bpaf_exact.specs.Record.{run_leftover, run_memory, run_refusal, IsAcceptedOrWant}
 use Rattle.bpaf_exact.specs.Single.{Stops, nothing_found, caught, present_count}
@@ -30,6 +30,7 @@ use Rattle.bpaf_exact.specs.Programs.{CellsValue, Opens, opens_here, opens_later
 use Rattle.bpaf_exact.specs.Programs.{ChoiceValue, first_value, second_value, OptionalCommands}
 use Rattle.bpaf_exact.specs.Programs.{some_command, no_command, ClosedCells, ProgramLaw}
 use Rattle.bpaf_exact.specs.Programs.{CommandsLaw, FindsNoCommand, WordsApart, IsSpelledLine}
+use Rattle.bpaf_exact.specs.Programs.{GivesAll}
 use Rattle.bpaf_exact.proofs.BeforeCommands.{apart_first, apart_second}
 use Rattle.bpaf_exact.proofs.Choice.{same_scope, cells_same, saved_steady}
 use Rattle.bpaf_exact.proofs.Classes.{memory_class, not_memory}
@@ -46,8 +47,9 @@ module _ (A B : Type 0) (inner : Outcome A) (r : Roles) (value : CellsValue A) (
   closed = ClosedCells A B value f
 
   -- round a program
-  pub closed_program : ProgramLaw A inner r value → ProgramLaw B (ClosedEval A B inner f c) r closed
-  closed_program l =
+  pub closed_program : {env : Variables} → ProgramLaw env A inner r value
+      → ProgramLaw env B (ClosedEval A B inner f c) r closed
+  closed_program {env} l =
       record {
         others = λ q n a cs v s h. l.others q n a cs h.from s h.read;
         deep = closed_deep l;
@@ -55,18 +57,19 @@ module _ (A B : Type 0) (inner : Outcome A) (r : Roles) (value : CellsValue A) (
         answers = closed_answers l;
       }
     where
-      closed_deep : ProgramLaw A inner r value → (s t : Situation) (v : B) → NoneOutside s
+      closed_deep : ProgramLaw env A inner r value → (s t : Situation) (v : B) → IsWholeIn env s
           → ClosedEval A B inner f c s (Ok v) t → depth s ≤ depth t
       closed_deep l s t v w (closed_yes {x = x} i y) = l.deep s t x w i
 
-      closed_ok : ProgramLaw A inner r value → (s t : Situation) (v : B) → NoneOutside s
+      closed_ok : ProgramLaw env A inner r value → (s t : Situation) (v : B) → IsWholeIn env s
           → IsSpelledLine s.context → ClosedEval A B inner f c s (Ok v) t → NonePresent (cells t)
           → closed (cells s) v
       closed_ok l s t v w spelled (closed_yes {x = x} i y) n =
           record { from = x; read = l.ok s t x w spelled i n; made = y }
 
-      closed_answers : ProgramLaw A inner r value → (s t : Situation) (a : Result B Error) (u : B)
-          → NoneOutside s → ClosedEval A B inner f c s a t → closed (cells s) u
+      closed_answers : ProgramLaw env A inner r value
+          → (s t : Situation) (a : Result B Error) (u : B)
+          → IsWholeIn env s → ClosedEval A B inner f c s a t → closed (cells s) u
           → GivesAll (closed (cells s)) a t
       closed_answers l s t a u w (closed_yes {x = x} i y) h =
           let g = l.answers s t (Ok x) h.from w i h.read in
@@ -78,17 +81,18 @@ module _ (A B : Type 0) (inner : Outcome A) (r : Roles) (value : CellsValue A) (
       closed_answers l s t a u w (closed_err {e = e} i) h = l.answers s t (Err e) h.from w i h.read
 
   -- round commands
-  pub closed_commands : (words : List (List ℕ)) → CommandsLaw A inner r words value
-      → CommandsLaw B (ClosedEval A B inner f c) r words closed
-  closed_commands words l =
+  pub closed_commands : {env : Variables} (words : List (List ℕ))
+      → CommandsLaw env A inner r words value
+      → CommandsLaw env B (ClosedEval A B inner f c) r words closed
+  closed_commands {env} words l =
       record {
         program = closed_program l.program;
         opened = λ cs v h. l.opened cs h.from h.read;
         none = closed_none l;
       }
     where
-      closed_none : CommandsLaw A inner r words value → (s t : Situation) (a : Result B Error)
-          → NoneOutside s → ClosedEval A B inner f c s a t → OpensNone words (cells s)
+      closed_none : CommandsLaw env A inner r words value → (s t : Situation) (a : Result B Error)
+          → IsWholeIn env s → ClosedEval A B inner f c s a t → OpensNone words (cells s)
           → FindsNoCommand s a t
       closed_none l s t a w (closed_yes {x = x} i y) n = absurd (l.none s t (Ok x) w i n)
       closed_none l s t a w (closed_no {x = x} i refuses e) n = absurd (l.none s t (Ok x) w i n)
@@ -107,20 +111,21 @@ none_opens : (words : List (List ℕ)) {cs : Cells} → NonePresent cs → Opens
 none_opens words no_place ds o = elim o [ ]
 none_opens words (none_here n) ds (opens_later {ds = es} o) = none_opens words n es o
 
-module _ (T : Type 0) (inner : Outcome T) (r : Roles) (words : List (List ℕ)) (value : CellsValue T)
-    (l : CommandsLaw T inner r words value) where
+module _ {env : Variables} (T : Type 0) (inner : Outcome T) (r : Roles) (words : List (List ℕ))
+    (value : CellsValue T) (l : CommandsLaw env T inner r words value) where
   -- its values
   abbrev optional : CellsValue (Option T)
   optional = OptionalCommands T value
 
   -- the path gets no shorter
-  optional_deep : (s t : Situation) (v : Option T) → NoneOutside s → OptionalEval T inner s (Ok v) t
+  optional_deep : (s t : Situation) (v : Option T) → IsWholeIn env s
+      → OptionalEval T inner s (Ok v) t
       → depth s ≤ depth t
   optional_deep s t v w (optional_some {v = x} i) = l.program.deep s t x w i
   optional_deep s t v w (optional_none i stops) = omega arith
 
   -- the value is that of a command, or nothing is present
-  optional_ok : (s t : Situation) (v : Option T) → NoneOutside s → IsSpelledLine s.context
+  optional_ok : (s t : Situation) (v : Option T) → IsWholeIn env s → IsSpelledLine s.context
       → OptionalEval T inner s (Ok v) t → NonePresent (cells t) → optional (cells s) v
   optional_ok s t v w spelled (optional_some {v = x} i) n =
       some_command (l.program.ok s t x w spelled i n)
@@ -132,7 +137,7 @@ module _ (T : Type 0) (inner : Outcome T) (r : Roles) (words : List (List ℕ)) 
   memory_goes_on e s m h (caught g) = cc
 
   -- where a command has a value each answer is such
-  some_answers : (s t : Situation) (a : Result (Option T) Error) (x : T) → NoneOutside s
+  some_answers : (s t : Situation) (a : Result (Option T) Error) (x : T) → IsWholeIn env s
       → OptionalEval T inner s a t → value (cells s) x → GivesAll (optional (cells s)) a t
   some_answers s t a x w (optional_some {v = v} i) h =
       let g = l.program.answers s t (Ok v) x w i h in
@@ -152,7 +157,7 @@ module _ (T : Type 0) (inner : Outcome T) (r : Roles) (words : List (List ℕ)) 
       (open_present t ∙ ap present_count found.1 ∙ sym (open_present s))))
 
   -- where nothing is present it is None
-  none_answers : (s t : Situation) (a : Result (Option T) Error) → NoneOutside s
+  none_answers : (s t : Situation) (a : Result (Option T) Error) → IsWholeIn env s
       → OptionalEval T inner s a t → NonePresent (cells s) → GivesAll (optional (cells s)) a t
   none_answers s t a w (optional_some {v = v} i) n =
       absurd (l.none s t (Ok v) w i (none_opens words n))
@@ -162,13 +167,14 @@ module _ (T : Type 0) (inner : Outcome T) (r : Roles) (words : List (List ℕ)) 
   none_answers s t a w (optional_memory e) n = e
 
   -- each answer
-  optional_answers : (s t : Situation) (a : Result (Option T) Error) (u : Option T) → NoneOutside s
+  optional_answers : (s t : Situation) (a : Result (Option T) Error) (u : Option T)
+      → IsWholeIn env s
       → OptionalEval T inner s a t → optional (cells s) u → GivesAll (optional (cells s)) a t
   optional_answers s t a u w o (some_command {v = x} h) = some_answers s t a x w o h
   optional_answers s t a u w o (no_command n) = none_answers s t a w o n
 
   -- the laws
-  pub optional_commands : ProgramLaw (Option T) (OptionalEval T inner) r optional
+  pub optional_commands : ProgramLaw env (Option T) (OptionalEval T inner) r optional
   optional_commands = record {
     others = λ q n a cs v s h. by_value q (λ x g. l.program.others q n a cs x s g) h;
     deep = optional_deep;
@@ -231,8 +237,8 @@ alike_saved m other t place c = record {
   depth_alike = ap length c.path;
 }
 
-module _ (T : Type 0) (a b : Outcome T) (ra rb : Roles) (wa wb : List (List ℕ))
-    (va vb : CellsValue T) (la : CommandsLaw T a ra wa va) (lb : CommandsLaw T b rb wb vb)
+module _ {env : Variables} (T : Type 0) (a b : Outcome T) (ra rb : Roles) (wa wb : List (List ℕ))
+    (va vb : CellsValue T) (la : CommandsLaw env T a ra wa va) (lb : CommandsLaw env T b rb wb vb)
     (apart : WordsApart wa wb) where
   -- the values of either
   abbrev value : CellsValue T
@@ -291,7 +297,7 @@ module _ (T : Type 0) (a b : Outcome T) (ra rb : Roles) (wa wb : List (List ℕ)
       o.chosen
 
   -- the path gets no shorter
-  choice_deep : (s t : Situation) (v : T) → NoneOutside s → ChoiceOutcome a b s (Ok v) t
+  choice_deep : (s t : Situation) (v : T) → IsWholeIn env s → ChoiceOutcome a b s (Ok v) t
       → depth s ≤ depth t
   choice_deep s t v w o = by_branch (branch_ok s t v o)
     where
@@ -302,7 +308,7 @@ module _ (T : Type 0) (a b : Outcome T) (ra rb : Roles) (wa wb : List (List ℕ)
           subst (λ n. depth s ≤ n) (sym e.depth_alike) (lb.program.deep s m v w i)
 
   -- a value of the choice is one of the branch that was opened
-  choice_ok : (s t : Situation) (v : T) → NoneOutside s → IsSpelledLine s.context
+  choice_ok : (s t : Situation) (v : T) → IsWholeIn env s → IsSpelledLine s.context
       → ChoiceOutcome a b s (Ok v) t → NonePresent (cells t) → value (cells s) v
   choice_ok s t v w spelled o n = by_branch (branch_ok s t v o)
     where
@@ -321,7 +327,7 @@ module _ (T : Type 0) (a b : Outcome T) (ra rb : Roles) (wa wb : List (List ℕ)
   first_closed cs u h ds o = let i = lb.opened cs u h in opens_apart wa wb apart o i.1
 
   -- where the first has a value each value of the choice is one of its
-  first_gives : (s t : Situation) (v u : T) → NoneOutside s → BranchOk s v t → va (cells s) u
+  first_gives : (s t : Situation) (v u : T) → IsWholeIn env s → BranchOk s v t → va (cells s) u
       → GivesAll (value (cells s)) (Ok v) t
   first_gives s t v u w (of_first {m = m} i e) h =
       let g = la.program.answers s m (Ok v) u w i h in
@@ -330,7 +336,7 @@ module _ (T : Type 0) (a b : Outcome T) (ra rb : Roles) (wa wb : List (List ℕ)
       absurd (lb.none s m (Ok v) w i (second_closed (cells s) u h))
 
   -- so where the second has
-  second_gives : (s t : Situation) (v u : T) → NoneOutside s → BranchOk s v t → vb (cells s) u
+  second_gives : (s t : Situation) (v u : T) → IsWholeIn env s → BranchOk s v t → vb (cells s) u
       → GivesAll (value (cells s)) (Ok v) t
   second_gives s t v u w (of_first {m = m} i e) h =
       absurd (la.none s m (Ok v) w i (first_closed (cells s) u h))
@@ -358,7 +364,7 @@ module _ (T : Type 0) (a b : Outcome T) (ra rb : Roles) (wa wb : List (List ℕ)
   no_fault s m t x e g c (inr o) = let h = o.1.0 in cc
 
   -- where the first has a value no refusal is chosen
-  first_fails : (s sa sb t : Situation) (x y : Result T Error) (g : Error) (u : T) → NoneOutside s
+  first_fails : (s sa sb t : Situation) (x y : Result T Error) (g : Error) (u : T) → IsWholeIn env s
       → a s x sa → b s y sb → IsNotMemory x → IsNotMemory y
       → Chosen s x sa y sb (Err g) t → va (cells s) u → ⊥
   first_fails s sa sb t (Err d) y g u w i j hx hy chosen h =
@@ -378,7 +384,8 @@ module _ (T : Type 0) (a b : Outcome T) (ra rb : Roles) (wa wb : List (List ℕ)
       no_fault s sa t x e g k.0 equal.1
 
   -- nor where the second has
-  second_fails : (s sa sb t : Situation) (x y : Result T Error) (g : Error) (u : T) → NoneOutside s
+  second_fails : (s sa sb t : Situation) (x y : Result T Error) (g : Error) (u : T)
+      → IsWholeIn env s
       → a s x sa → b s y sb → IsNotMemory x → IsNotMemory y
       → Chosen s x sa y sb (Err g) t → vb (cells s) u → ⊥
   second_fails s sa sb t x (Err d) g u w i j hx hy chosen h =
@@ -398,7 +405,7 @@ module _ (T : Type 0) (a b : Outcome T) (ra rb : Roles) (wa wb : List (List ℕ)
       no_fault s sb t y e g k.0 equal.1
 
   -- each answer
-  choice_answers : (s t : Situation) (r : Result T Error) (u : T) → NoneOutside s
+  choice_answers : (s t : Situation) (r : Result T Error) (u : T) → IsWholeIn env s
       → ChoiceOutcome a b s r t → value (cells s) u → GivesAll (value (cells s)) r t
   choice_answers s t (Ok v) u w o (first_value h) = first_gives s t v u w (branch_ok s t v o) h
   choice_answers s t (Ok v) u w o (second_value h) = second_gives s t v u w (branch_ok s t v o) h
@@ -411,7 +418,7 @@ module _ (T : Type 0) (a b : Outcome T) (ra rb : Roles) (wa wb : List (List ℕ)
       o.second_spared o.chosen h)
 
   -- where no word opens anything
-  none_chosen : (s sa sb t : Situation) (x y : Result T Error) (g : Error) → NoneOutside s
+  none_chosen : (s sa sb t : Situation) (x y : Result T Error) (g : Error) → IsWholeIn env s
       → a s x sa → b s y sb → IsNotMemory x → IsNotMemory y → OpensNone wa (cells s)
       → OpensNone wb (cells s)
       → Chosen s x sa y sb (Err g) t → FindsNoCommand {T = T} s (Err g) t
@@ -445,7 +452,7 @@ module _ (T : Type 0) (a b : Outcome T) (ra rb : Roles) (wa wb : List (List ℕ)
           (combined_missing d.0 e.0 o.0.0.0 k.0 l.0 o.0.1)
 
   -- it is missing
-  choice_none : (s t : Situation) (r : Result T Error) → NoneOutside s → ChoiceOutcome a b s r t
+  choice_none : (s t : Situation) (r : Result T Error) → IsWholeIn env s → ChoiceOutcome a b s r t
       → OpensNone (wa ++ wb) (cells s) → FindsNoCommand s r t
   choice_none s t (Ok v) w o n = by_branch (branch_ok s t v o)
     where
@@ -460,7 +467,7 @@ module _ (T : Type 0) (a b : Outcome T) (ra rb : Roles) (wa wb : List (List ℕ)
       (λ ds p. n ds (opens_left wa wb p)) (λ ds p. n ds (opens_right wa wb p)) o.chosen
 
   -- the laws
-  pub choice_commands : CommandsLaw T (ChoiceOutcome a b) (either ra rb) (wa ++ wb) value
+  pub choice_commands : CommandsLaw env T (ChoiceOutcome a b) (either ra rb) (wa ++ wb) value
   choice_commands = record {
     program = record {
       others = λ q n p cs v s h. by_others q
@@ -487,14 +494,15 @@ module _ (T : Type 0) (a b : Outcome T) (ra rb : Roles) (wa wb : List (List ℕ)
 
 -- A run of a program.
 module _ (V : Type 0) (outcome : Outcome V) (r : Roles) (value : CellsValue V)
-    (l : ProgramLaw V outcome r value) (context : Context) where
+    (context : Context) (l : ProgramLaw context.env V outcome r value) where
   -- the situation at the beginning
   abbrev s : Situation
   s = beginning context
 
   -- all that isn't taken lies in the scope
-  whole : NoneOutside s
-  whole = record { end = refl; front = λ p l. absurd (omega arith) }
+  whole : IsWholeIn context.env s
+  whole =
+      record { end = refl; front = λ p l. absurd (omega arith); environment = refl }
 
   -- a value comes only where it is one of the program's
   pub program_sound : IsSpelledLine context → (a : RunAnswer V) → RunRan V outcome s a → (v : V)

@@ -1,7 +1,7 @@
 -- The exactness theorem: a run of a flat record answers the record's value, or want of memory.
 use Rattle.std.proofs.Common.{◌≡◌, ℕ, zero, ◌<◌, Bool, true, false, not, ◌&&◌, ◌||◌, List, length}
-use Rattle.std.proofs.Common.{Option, slice_get, None, Ok, Err, if◌then◌else◌, refl, sym, ◌∙◌}
-use Rattle.std.proofs.Common.{subst, arith, nat_lt, nat_le}
+use Rattle.std.proofs.Common.{Option, slice_get, None, Ok, if◌then◌else◌, refl, sym, ◌∙◌, subst}
+use Rattle.std.proofs.Common.{arith, nat_lt, nat_le}
 use Rattle.std.proofs.lemmas.Bool.{lt-ltb, le-leb}
 use Rattle.bpaf_base.specs.declared.arg.Arg.{Arg}
 use Rattle.bpaf_doc.specs.Names.{Names}
@@ -9,10 +9,10 @@ use Rattle.bpaf_line.specs.Situation.{Context, Situation, beginning, item_in, is
 use Rattle.bpaf_line.specs.Taking.{open_item}
 use Rattle.bpaf_laws.specs.Reading.{Outcome}
 use Rattle.bpaf_exact.specs.Pieces.{Roles, LinePiece, Cut}
-use Rattle.bpaf_exact.specs.Flat.{cells, NonePresent, NoneOutside, FieldsLaw, FieldsReading, ReadOff}
-use Rattle.bpaf_exact.specs.Record.{line_cells, RecordValue, RunAnswer, Accepted, NoMemory, Refusal}
-use Rattle.bpaf_exact.specs.Record.{RunRan, run_value, run_leftover, run_memory, run_refusal}
-use Rattle.bpaf_exact.specs.Record.{IsNoValue, IsAcceptedOrWant, IsExact}
+use Rattle.bpaf_exact.specs.Flat.{cells, NonePresent, IsWholeIn, FieldsLaw, FieldsReading, ReadOff}
+use Rattle.bpaf_exact.specs.Record.{line_cells, RecordValue, RunAnswer, Accepted, RunRan, run_value}
+use Rattle.bpaf_exact.specs.Record.{run_leftover, run_memory, run_refusal, IsNoValue}
+use Rattle.bpaf_exact.specs.Record.{IsAcceptedOrWant, IsExact}
 use Rattle.bpaf_exact.specs.FlatForm.{FlatForm, FormLaw, is_record, product_roles, product_reading}
 use Rattle.bpaf_exact.specs.FlatForm.{flat_record}
 use Rattle.bpaf_exact.specs.Theorem.{RunsExactly}
@@ -47,18 +47,18 @@ first_cells_are context =
 -- no value is none
 pub no_value : {V : Type 0} (a : RunAnswer V) (v : V) → IsNoValue a → a ≡ Accepted v → ⊥
 no_value (Accepted x) v n h = n
-no_value NoMemory v n h = cc
-no_value Refusal v n h = cc
+no_value _ v n h = cc
 
 module _ (V : Type 0) (outcome : Outcome V) (r : Roles) (reading : FieldsReading V)
-    (l : FieldsLaw V outcome r reading) (context : Context) where
+    (context : Context) (l : FieldsLaw context.env V outcome r reading) where
   -- the situation at the beginning
   abbrev s : Situation
   s = beginning context
 
   -- the scope is the whole line
-  whole : NoneOutside s
-  whole = record { end = refl; front = λ p l. absurd (omega arith) }
+  whole : IsWholeIn context.env s
+  whole =
+      record { end = refl; front = λ p l. absurd (omega arith); environment = refl }
 
   -- where no item is counted none is present
   nothing_left : (t : Situation) (v : V) → outcome s (Ok v) t → open_count t ≡ 0
@@ -94,16 +94,12 @@ module _ (V : Type 0) (outcome : Outcome V) (r : Roles) (reading : FieldsReading
       → Cut r (line_cells context) os → reading.each os
       → IsAcceptedOrWant (λ w. RecordValue r reading.value context w) a
   complete a (run_value {v = x} {t = t} o e) os c h =
-      to_line x (record {
-        cut_into = os;
-        cut = from_line os c;
-        read = (l.answers s t (Ok x) os whole o (from_line os c) h).0;
-      })
+      to_line x (l.ok s t x whole o (nothing_left t x o e))
   complete a (run_leftover {v = x} {t = t} o e n) os c h =
-      absurd (e (counts_none t x o (l.answers s t (Ok x) os whole o (from_line os c) h).1))
+      absurd (e (counts_none t x o (l.takes_all s t x os whole o (from_line os c) h)))
   complete a (run_memory o e) os c h = tt
   complete a (run_refusal {e = x} {t = t} o e n) os c h =
-      absurd (e (l.answers s t (Err x) os whole o (from_line os c) h))
+      absurd (e (l.refuses s t x os whole o (from_line os c) h))
 
   -- where one has none, no answer is a value: the line has one cut
   refused : (a : RunAnswer V) → RunRan V outcome s a → (os : List LinePiece)
@@ -121,8 +117,8 @@ module _ (V : Type 0) (outcome : Outcome V) (r : Roles) (reading : FieldsReading
 
 -- each answer of a run of a flat record is exact
 pub runs_exactly : (V : Type 0) (outcome : Outcome V) (names : List Names) (s : FlatForm V)
-    → is_record s ≡ true → FormLaw outcome names s → (context : Context)
+    → is_record s ≡ true → (context : Context) → FormLaw context.env outcome names s
     → RunsExactly outcome s context
-runs_exactly V outcome names s h l context a r =
-    exact V outcome (product_roles (flat_record s)) (product_reading (flat_record s))
-    (record_law V outcome names s h l) context a r
+runs_exactly V outcome names s h context l a r =
+    exact V outcome (product_roles (flat_record s)) (product_reading (flat_record s)) context
+    (record_law context.env V outcome names s h l) a r

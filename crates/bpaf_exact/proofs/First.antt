@@ -3,11 +3,9 @@ use Rattle.std.proofs.Common.{◌≡◌, ◌<◌, Bool, true, false, List, [], �
 use Rattle.std.proofs.Common.{None, refl, sym, ap, ◌∙◌, subst, inl, inr, ◌⊎◌, if◌then◌else◌, arith}
 use Rattle.bpaf_base.specs.declared.arg.Arg.{Arg}
 use Rattle.bpaf_exact.specs.Pieces.{Cells, Role, Foreign, Alone, WithNext, Roles, LinePiece, One}
-use Rattle.bpaf_exact.specs.Pieces.{Two}
-use Rattle.bpaf_exact.specs.Pieces.{is_value, is_own_role, is_own, IsNamed, Apart, either}
+use Rattle.bpaf_exact.specs.Pieces.{Two, is_value, is_own_role, is_own, IsNamed, Apart, either}
 use Rattle.bpaf_exact.specs.Pieces.{either_role, with_next, begin_piece, pieces, TakesPiece}
-use Rattle.bpaf_exact.specs.Pieces.{takes_one}
-use Rattle.bpaf_exact.specs.Pieces.{takes_two, takes_later}
+use Rattle.bpaf_exact.specs.Pieces.{takes_one, takes_two, takes_later}
 use Rattle.bpaf_exact.specs.Alternative.{TakesFirst, first_one, first_two, first_later, HasBad}
 use Rattle.bpaf_exact.specs.Alternative.{bad_here, bad_later}
 use Rattle.bpaf_exact.proofs.Cells.{value_foreign, nil_rest, nil_foreign, keeps_other, same_next}
@@ -118,14 +116,12 @@ swap_union qa qb r u = record {
 -- an item of the first is of the same role to both
 either_left : (x y : Role) → is_own_role x ≡ true → either_role x y ≡ x
 either_left Foreign y e = absurd cc
-either_left Alone y e = refl
-either_left WithNext y e = refl
+either_left _ y e = refl
 
 -- so is one of the second
 either_right : (x y : Role) → x ≡ Foreign → either_role x y ≡ y
 either_right Foreign y e = refl
-either_right Alone y e = absurd cc
-either_right WithNext y e = absurd cc
+either_right _ y e = absurd cc
 
 -- the items of two fields that share none
 pub either_union : (qa qb : Roles) → IsNamed qa → IsNamed qb → Apart qa qb
@@ -191,16 +187,13 @@ belongs qa qb r k u = by_role (qa k) (qb k) refl refl
   where
     by_role : (x y : Role) → qa k ≡ x → qb k ≡ y → Belongs qa qb r k
     by_role Foreign Foreign e f = to_none e f (u.none k e f)
-    by_role Foreign Alone e f = let h = ap is_own_role f in to_second h (u.right k h) e
-    by_role Foreign WithNext e f = let h = ap is_own_role f in to_second h (u.right k h) e
-    by_role Alone y e f = let h = ap is_own_role e in to_first h (u.left k h) (u.apart.left k h)
-    by_role WithNext y e f = let h = ap is_own_role e in to_first h (u.left k h) (u.apart.left k h)
+    by_role Foreign _ e f = let h = ap is_own_role f in to_second h (u.right k h) e
+    by_role _ y e f = let h = ap is_own_role e in to_first h (u.left k h) (u.apart.left k h)
 
 -- an item isn't both the field's own and not
 own_or_not : (x : Role) → is_own_role x ≡ true → x ≡ Foreign → ⊥
 own_or_not Foreign h e = cc
-own_or_not Alone h e = cc
-own_or_not WithNext h e = cc
+own_or_not _ h e = cc
 
 -- the first piece of both is the first piece of its owner
 pub record HeadOf (q : Roles) (cs : Cells) (o : LinePiece) : Type 0 where
@@ -372,8 +365,7 @@ not_left qa qb r {o = o} {os = os} u e h (takes_two {k = k} {w = j} {cs = cs} x 
 begin_length : (x : Role) (k : Arg) (cs ds : Cells) (os ps : List LinePiece) → length os < length ps
     → length (begin_piece x k cs os) < length (begin_piece x k ds ps)
 begin_length Foreign k cs ds os ps h = h
-begin_length Alone k cs ds os ps h = omega arith
-begin_length WithNext k cs ds os ps h = omega arith
+begin_length _ k cs ds os ps h = omega arith
 
 -- taking a piece leaves fewer
 takes_shorter : (q : Roles) {cs ds : Cells} {o : LinePiece} → IsNamed q → TakesPiece q cs o ds
@@ -404,8 +396,7 @@ module _ (T : Type 0) (va vr : LinePiece → T → Type 0) (qa qb r : Roles) (u 
   bad_any : (x : Role) (k : Arg) (cs : Cells) (os : List LinePiece) → HasBad T vr os
       → HasBad T vr (begin_piece x k cs os)
   bad_any Foreign k cs os h = h
-  bad_any Alone k cs os h = bad_later h
-  bad_any WithNext k cs os h = bad_later h
+  bad_any _ k cs os h = bad_later h
 
   -- a piece of the first that can't be read, behind an item
   bad_at : (x y : Role) (k : Arg) (cs : Cells) (os ps : List LinePiece)
@@ -417,13 +408,11 @@ module _ (T : Type 0) (va vr : LinePiece → T → Type 0) (qa qb r : Roles) (u 
   bad_at Alone y k cs os ps e g f (bad_here h) =
       subst (λ z. HasBad T vr (begin_piece z k cs ps)) (sym (e refl))
       (bad_here (λ v x. h v (back (One k) v (g (One k) refl) x)))
-  bad_at Alone y k cs os ps e g f (bad_later h) =
-      subst (λ z. HasBad T vr (begin_piece z k cs ps)) (sym (e refl)) (bad_later (f h))
   bad_at WithNext y k cs os ps e g f (bad_here h) =
       subst (λ z. HasBad T vr (begin_piece z k cs ps)) (sym (e refl))
       (bad_here (λ v x. h v
       (back (with_next k cs) v (g (with_next k cs) (own_next qa k cs)) x)))
-  bad_at WithNext y k cs os ps e g f (bad_later h) =
+  bad_at _ y k cs os ps e g f (bad_later h) =
       subst (λ z. HasBad T vr (begin_piece z k cs ps)) (sym (e refl)) (bad_later (f h))
 
   -- a piece of the first that can't be read is one of both

@@ -12,7 +12,7 @@ use Rattle.bpaf_line.specs.Taking.{HasNone, TakesFlag}
 use Rattle.bpaf_laws.specs.Environment.{first_set, is_set}
 use Rattle.bpaf_laws.specs.Flag.{FlagOutcome, FlagFails, IsAbsentValue}
 use Rattle.bpaf_exact.specs.Pieces.{Alone, Roles, LinePiece, One, IsNamed}
-use Rattle.bpaf_exact.specs.Flat.{class, class_of, NoneOutside, ByName}
+use Rattle.bpaf_exact.specs.Flat.{class, class_of, IsWholeIn, ByName, Variables}
 use Rattle.bpaf_exact.specs.Names.{Owns}
 use Rattle.bpaf_exact.specs.Single.{Groups, Gap, FrontOf, SingleOk, gave_absent, took, SingleErr}
 use Rattle.bpaf_exact.specs.Single.{of_memory, of_missing, SingleLaw}
@@ -21,7 +21,7 @@ use Rattle.bpaf_exact.specs.Alternative.{AlternativeLaw}
 use Rattle.bpaf_exact.specs.Leaves.{flag_roles, FlagValue, flag_gap, flag_field, variable_flag}
 use Rattle.bpaf_exact.specs.FlatForm.{FormLaw}
 use Rattle.bpaf_exact.specs.ProgramForm.{ProgramFormLaw}
-use Rattle.bpaf_exact.specs.Variables.{Variables, WithVariables, key_form, flag_form}
+use Rattle.bpaf_exact.specs.Variables.{key_form, flag_form}
 use Rattle.bpaf_exact.proofs.Classes.{missing_class}
 use Rattle.bpaf_exact.proofs.Product.{steady_refl}
 use Rattle.bpaf_exact.proofs.First.{first_pieces}
@@ -30,7 +30,6 @@ use Rattle.bpaf_exact.proofs.Places.{take_steady}
 use Rattle.bpaf_exact.proofs.Matching.{match_of, ByTest, by_test, test_named, no_pieces, one_taken}
 use Rattle.bpaf_exact.proofs.Matching.{first_alternative, missing_same, absence_missing, test_owns}
 use Rattle.bpaf_exact.proofs.Matching.{absence_caught}
-use Rattle.bpaf_exact.proofs.Variables.{each_single, form_with}
 
 -- a flag
 module _ (T : Type 0) (clones : T → T → Type 0) (key : Key) (present : T) where
@@ -71,7 +70,8 @@ module _ (T : Type 0) (clones : T → T → Type 0) (key : Key) (present : T)
   never_set s e = true≢false (sym e ∙ ap (is_set s.context.env) no_envs)
 
   -- a value is that of the first piece
-  flag_ok : (s t : Situation) (v : T) → NoneOutside s → FlagOutcome clones key present None s (Ok v) t
+  flag_ok : {env : Variables} (s t : Situation) (v : T) → IsWholeIn env s
+      → FlagOutcome clones key present None s (Ok v) t
       → AlternativeOk T (flag_roles key.names) (FlagValue (clones present)) s v t
   flag_ok s t v w o = ⊎_elim
       (λ here. ⊎_elim (λ takes. flag_found T clones key present s t v takes here.1)
@@ -90,7 +90,8 @@ module _ (T : Type 0) (clones : T → T → Type 0) (key : Key) (present : T)
       o.0.0.0) o.0.0.1
 
   -- a flag that must be there
-  flag_law : AlternativeLaw T (FlagOutcome clones key present None) (flag_roles key.names)
+  flag_law : {env : Variables} → AlternativeLaw env T (FlagOutcome clones key present None)
+      (flag_roles key.names)
       (FlagValue (clones present))
   flag_law = record {
     named = named T clones key present;
@@ -170,15 +171,15 @@ module _ (T : Type 0) (clones : T → T → Type 0) (key : Key) (present : T) (a
       → is_set s.context.env key.envs ≡ b → is_some (first_set variables key.envs) ≡ b
   set_here s b e f = subst (λ z. is_set z key.envs ≡ b) e f
 
-  switch_ok : (s t : Situation) (v : T) → NoneOutside s
-      → WithVariables variables (FlagOutcome clones key present absent) s (Ok v) t
+  switch_ok : (s t : Situation) (v : T) → IsWholeIn variables s
+      → FlagOutcome clones key present absent s (Ok v) t
       → SingleOk T ByName roles group gap s v t
   switch_ok s t v w o = ⊎_elim
       (λ here. ⊎_elim (λ takes. switch_found s t v takes here.1)
       (λ set. switch_none s t v set.0.0 set.0.1
-      (gap_set T clones present absent _ v (set_here s true o.0 set.1) here.1)) here.0)
+      (gap_set T clones present absent _ v (set_here s true w.environment set.1) here.1)) here.0)
       (λ none. switch_none s t v none.0.0.0 none.0.0.1
-      (gap_unset T clones present absent _ v (set_here s false o.0 none.0.1) none.1)) o.1
+      (gap_unset T clones present absent _ v (set_here s false w.environment none.0.1) none.1)) o
 
   switch_err : (s t : Situation) (e : Error) (m : Message) → class e ≡ class_of m
       → s.context.env ≡ variables → FlagFails {T = T} key absent s m t
@@ -191,7 +192,7 @@ module _ (T : Type 0) (clones : T → T → Type 0) (key : Key) (present : T) (a
       (no_pieces (is_key_of key.names) roles Alone s (test T clones key present) o.0.0.0)
       (λ c. refl))
 
-  pub switch_law : SingleLaw T (WithVariables variables (FlagOutcome clones key present absent))
+  pub switch_law : SingleLaw variables T (FlagOutcome clones key present absent)
       ByName roles group gap
   switch_law = record {
     own = named T clones key present;
@@ -199,42 +200,39 @@ module _ (T : Type 0) (clones : T → T → Type 0) (key : Key) (present : T) (a
     starts = λ v rest g. let e = g.is in cc;
     no_absent = λ v h a. gap_empty T clones present absent _ v h a;
     ok = switch_ok;
-    err = λ s t e w o. switch_err s t e e.0 refl o.0 o.1;
+    err = λ s t e w o. switch_err s t e e.0 refl w.environment o;
   }
 
 -- a flag without a name in the environment keeps to the laws of its form
-pub flag_field_law : (T : Type 0) (clones : T → T → Type 0) (key : Key) (present : T)
-    (absent : Option T) → key.envs ≡ []
-    → FormLaw (FlagOutcome clones key present absent) (key.names ∷ [])
+pub flag_field_law : (env : Variables) (T : Type 0) (clones : T → T → Type 0) (key : Key)
+    (present : T) (absent : Option T) → key.envs ≡ []
+    → FormLaw env (FlagOutcome clones key present absent) (key.names ∷ [])
     (flag_field clones key present absent)
-flag_field_law T clones key present None e =
+flag_field_law env T clones key present None e =
     (flag_law T clones key present e, owned T clones key present)
-flag_field_law T clones key present (Some absent) e = (
-  each_single T _ ByName _ _ _ (λ variables.
-      subst (λ envs. SingleLaw T
-      (WithVariables variables (FlagOutcome clones key present (Some absent))) ByName
+flag_field_law env T clones key present (Some absent) e = (
+  subst (λ envs. SingleLaw env T (FlagOutcome clones key present (Some absent)) ByName
       (flag_roles key.names) (FrontOf T (FlagValue (clones present)))
-      (flag_gap clones present (Some absent) (first_set variables envs))) e
-      (switch_law T clones key present (Some absent) variables)),
+      (flag_gap clones present (Some absent) (first_set env envs))) e
+      (switch_law T clones key present (Some absent) env),
   owned T clones key present,
 )
 
 -- a flag keeps to the laws of its form
 pub flag_form_law : (T : Type 0) (clones : T → T → Type 0) (key : Key) (present : T)
     (absent : Option T) (variables : Variables) (words : List (List ℕ))
-    → ProgramFormLaw (WithVariables variables (FlagOutcome clones key present absent))
+    → ProgramFormLaw variables (FlagOutcome clones key present absent)
     (key.names ∷ []) words (flag_form clones key present absent variables)
 flag_form_law T clones key present absent variables words = by_envs key.envs refl
   where
     by_envs : (envs : List (List ℕ)) → key.envs ≡ envs
-        → ProgramFormLaw (WithVariables variables (FlagOutcome clones key present absent))
+        → ProgramFormLaw variables (FlagOutcome clones key present absent)
         (key.names ∷ []) words (key_form false (flag_field clones key present absent)
         (variable_flag clones key present absent) variables envs)
-    by_envs [] e = form_with T _ variables (key.names ∷ []) _
-        (flag_field_law T clones key present absent e)
+    by_envs [] e = flag_field_law variables T clones key present absent e
     by_envs (env ∷ envs) e = (
-      subst (λ names. SingleLaw T
-          (WithVariables variables (FlagOutcome clones key present absent)) ByName
+      subst (λ names. SingleLaw variables T
+          (FlagOutcome clones key present absent) ByName
           (flag_roles key.names) (FrontOf T (FlagValue (clones present)))
           (flag_gap clones present absent (first_set variables names))) e
           (switch_law T clones key present absent variables),

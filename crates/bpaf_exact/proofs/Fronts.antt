@@ -1,8 +1,8 @@
 -- What a field takes of pieces, and what it leaves.
 use Rattle.std.proofs.Common.{◌≡◌, Bool, true, false, List, [], ◌∷◌, ap, refl, if◌then◌else◌}
-use Rattle.bpaf_exact.specs.Pieces.{LinePiece}
+use Rattle.bpaf_exact.specs.Pieces.{Cells, LinePiece, Roles, pieces}
 use Rattle.bpaf_exact.specs.Flat.{FieldKind, ByName, OneWord, EachWord, back, front, from_marker}
-use Rattle.bpaf_exact.specs.Flat.{is_behind, up_to_marker}
+use Rattle.bpaf_exact.specs.Flat.{NoKeysLeft, is_behind, up_to_marker}
 use Rattle.bpaf_exact.specs.Single.{repeated}
 
 -- where no piece stands before the first one behind `--`, all stand from there on
@@ -15,8 +15,6 @@ none_before (o ∷ os) none =
 
 -- where a field takes none it leaves all
 pub back_all : (k : FieldKind) (os : List LinePiece) → front k os ≡ [] → back k os ≡ os
-back_all ByName os none = cc
-back_all (EachWord false) os none = cc
 back_all (EachWord true) os none = none_before os none
 back_all (OneWord stops) [] none = refl
 back_all (OneWord false) (o ∷ os) none = absurd cc
@@ -24,11 +22,10 @@ back_all (OneWord true) (o ∷ os) none =
     elim (is_behind o) as (λ b. (if b then [] else o ∷ []) ≡ [] → (if b then o ∷ os else os) ≡ o ∷
     os)
     [ true ↦ λ none. refl | false ↦ λ none. absurd cc ] none
+back_all _ os none = cc
 
 -- where a field takes none, nor does a repeat of it
 pub each_nil : (k : FieldKind) (os : List LinePiece) → front k os ≡ [] → front (repeated k) os ≡ []
-each_nil ByName os none = none
-each_nil (EachWord stops) os none = none
 each_nil (OneWord false) [] none = refl
 each_nil (OneWord true) [] none = refl
 each_nil (OneWord false) (o ∷ os) none = absurd cc
@@ -36,17 +33,23 @@ each_nil (OneWord true) (o ∷ os) none =
     elim (is_behind o) as (λ b. (if b then [] else o ∷ []) ≡ []
     → (if b then [] else o ∷ up_to_marker os) ≡ [])
     [ true ↦ λ none. refl | false ↦ λ none. absurd cc ] none
+each_nil _ os none = none
 
 -- and the other way
 pub nil_each : (k : FieldKind) (os : List LinePiece) → front (repeated k) os ≡ [] → front k os ≡ []
-nil_each ByName os none = none
-nil_each (EachWord stops) os none = none
 nil_each (OneWord stops) [] none = refl
 nil_each (OneWord false) (o ∷ os) none = absurd cc
 nil_each (OneWord true) (o ∷ os) none =
     elim (is_behind o) as (λ b. (if b then [] else o ∷ up_to_marker os) ≡ []
     → (if b then [] else o ∷ []) ≡ [])
     [ true ↦ λ none. refl | false ↦ λ none. absurd cc ] none
+nil_each _ os none = none
+
+-- where nothing but what a field leaves is left, none of a named field's keys is
+pub no_keys_left : (k : FieldKind) (q : Roles) (cs : Cells) (os : List LinePiece)
+    → pieces q cs ≡ back k os → NoKeysLeft k q cs
+no_keys_left ByName q cs os e = e
+no_keys_left _ q cs os e = tt
 
 -- A first piece that a field may take: any, where it doesn't stop before one behind `--`.
 
@@ -105,8 +108,6 @@ all_before (o ∷ os) none =
 
 -- where a field leaves none it takes all
 pub all_front : (k : FieldKind) (os : List LinePiece) → back k os ≡ [] → front k os ≡ os
-all_front ByName os none = refl
-all_front (EachWord false) os none = refl
 all_front (EachWord true) os none = all_before os none
 all_front (OneWord stops) [] none = refl
 all_front (OneWord false) (o ∷ os) none = cc
@@ -114,3 +115,4 @@ all_front (OneWord true) (o ∷ os) none =
     elim (is_behind o) as (λ b. (if b then o ∷ os else os) ≡ [] → (if b then [] else o ∷ []) ≡ o ∷
     os)
     [ true ↦ λ none. absurd cc | false ↦ λ none. cc ] none
+all_front _ os none = refl

@@ -1,15 +1,14 @@
 -- some and last keep to the laws of a field.
-use Rattle.std.proofs.Common.{◌≡◌, true, false, List, [], ◌∷◌, ◌++◌, Result, Ok, Err, refl, sym}
-use Rattle.std.proofs.Common.{◌∙◌, inl, inr}
+use Rattle.std.proofs.Common.{◌≡◌, true, false, List, [], ◌∷◌, ◌++◌, Ok, Err, refl, sym, ◌∙◌, inl}
+use Rattle.std.proofs.Common.{inr, ap}
 use Rattle.bpaf_line.specs.declared.error.Error.{Error}
 use Rattle.bpaf_line.specs.Situation.{Situation}
 use Rattle.bpaf_laws.specs.Reading.{Outcome}
 use Rattle.bpaf_laws.specs.Repeat.{LastOutcome, UntilRest}
-use Rattle.std.proofs.Common.{ap}
 use Rattle.bpaf_exact.proofs.Fronts.{back_all, nil_each}
 use Rattle.bpaf_exact.specs.Pieces.{Roles, LinePiece, pieces}
-use Rattle.bpaf_exact.specs.Flat.{cells, NoneOutside, FieldKind, front, back, FieldTook, FieldLaw}
-use Rattle.bpaf_exact.specs.Flat.{Gives}
+use Rattle.bpaf_exact.specs.Flat.{cells, IsWholeIn, FieldKind, front, back, FieldTook, FieldLaw}
+use Rattle.bpaf_exact.specs.Flat.{NoKeysLeft, OfMemory, class, Variables}
 use Rattle.bpaf_exact.specs.Single.{Groups, Gap, SingleOk, gave_absent, took, SingleLaw, OwnList}
 use Rattle.bpaf_exact.specs.Single.{listed, listed_and_absent, only_absent, Own, own_none, own_more}
 use Rattle.bpaf_exact.specs.Single.{repeated, RepeatOutcome}
@@ -26,11 +25,11 @@ no_last T vs v l e = by_before l.before (sym l.is ∙ e)
     by_before [] h = cc
     by_before (x ∷ xs) h = cc
 
-module _ (T : Type 0) (inner : Outcome T)
+module _ {env : Variables} (T : Type 0) (inner : Outcome T)
     (k : FieldKind) (q : Roles) (group : Groups T) (gap : Gap T)
-    (l : SingleLaw T inner k q group gap) where
+    (l : SingleLaw env T inner k q group gap) where
   -- the laws of the list
-  rl : FieldLaw (List T) (RepeatOutcome inner true) (repeated k) q (OwnList T group gap)
+  rl : FieldLaw env (List T) (RepeatOutcome inner true) (repeated k) q (OwnList T group gap)
   rl = repeat_law T inner k q group gap l true
 
   -- no value at all: there was no piece, and none has an absent value
@@ -67,7 +66,7 @@ module _ (T : Type 0) (inner : Outcome T)
   again_never m t v h p (took g) = g.found p
 
   -- so the evaluation after an empty list answers no value
-  again_ok : (s m t : Situation) (v : T) → NoneOutside s → UntilRest inner s [] m
+  again_ok : (s m t : Situation) (v : T) → IsWholeIn env s → UntilRest inner s [] m
       → inner m (Ok v) t → ⊥
   again_ok s m t v w f g =
       let i = repeat_took T inner k q group gap l true s m [] w f in
@@ -82,7 +81,7 @@ module _ (T : Type 0) (inner : Outcome T)
           again_never m t v h (nil_each k _ (ap (front (repeated k)) same ∙ e)) o
 
   -- a last value is that of the own list
-  last_took : (s t : Situation) (v : T) → NoneOutside s → LastOutcome inner s (Ok v) t
+  last_took : (s t : Situation) (v : T) → IsWholeIn env s → LastOutcome inner s (Ok v) t
       → FieldTook T (repeated k) q (LastOf T group gap) s v t
   last_took s t v w (inl o) =
       let vs = o.0 ++ v ∷ [] in
@@ -100,29 +99,31 @@ module _ (T : Type 0) (inner : Outcome T)
   last_took s t v w (inr o) = absurd (again_ok s o.0 t v w o.1 o.2)
 
   -- where the list has a last value it isn't empty
-  again_gives : (s m t : Situation) (r : Result T Error) (v : T) → NoneOutside s
-      → UntilRest inner s [] m
-      → LastOf T group gap (front (repeated k) (pieces q (cells s))) v
-      → Gives q (LastOf T group gap (front (repeated k) (pieces q (cells s))))
-      (back (repeated k) (pieces q (cells s))) r t
-  again_gives s m t r v w f h =
-      let j = rl.answers s m (Ok []) h.list w f h.own in
-      absurd (no_last T h.list v h.is (empty_nothing _ h.list (empty_list _ [] refl j.0) h.own))
+  never_empty : (s m : Situation) (v : T) → IsWholeIn env s → UntilRest inner s [] m
+      → LastOf T group gap (front (repeated k) (pieces q (cells s))) v → ⊥
+  never_empty s m v w f h =
+      let i = repeat_took T inner k q group gap l true s m [] w f in
+      no_last T h.list v h.is (empty_nothing _ h.list (empty_list _ [] refl i.list) h.own)
 
-  -- each answer is the last of an own list, or want of memory
-  last_answers : (s t : Situation) (r : Result T Error) (v : T) → NoneOutside s
-      → LastOutcome inner s r t
+  -- so all is taken,
+  last_takes : (s t : Situation) (x v : T) → IsWholeIn env s → LastOutcome inner s (Ok x) t
       → LastOf T group gap (front (repeated k) (pieces q (cells s))) v
-      → Gives q (LastOf T group gap (front (repeated k) (pieces q (cells s))))
-      (back (repeated k) (pieces q (cells s))) r t
-  last_answers s t (Ok x) v w (inl o) g =
-      let vs = o.0 ++ x ∷ [] in
-      let j = rl.answers s t (Ok vs) g.list w o.1 g.own in
-      (record { list = vs; own = j.0; is = record { before = o.0; is = refl } }, j.1)
-  last_answers s t (Ok x) v w (inr o) g = again_gives s o.0 t (Ok x) v w o.1 g
-  last_answers s t (Err e) v w (inl o) g = rl.answers s t (Err e) g.list w o g.own
-  last_answers s t (Err e) v w (inr o) g = again_gives s o.0 t (Err e) v w o.1 g
+      → NoKeysLeft (repeated k) q (cells t)
+  last_takes s t x v w (inl o) h = rl.takes_all s t (o.0 ++ x ∷ []) h.list w o.1 h.own
+  last_takes s t x v w (inr o) h = absurd (never_empty s o.0 v w o.1 h)
+
+  -- and a refusal is want of memory
+  last_refuses : (s t : Situation) (e : Error) (v : T) → IsWholeIn env s
+      → LastOutcome inner s (Err e) t
+      → LastOf T group gap (front (repeated k) (pieces q (cells s))) v → class e ≡ OfMemory
+  last_refuses s t e v w (inl o) h = rl.refuses s t e h.list w o h.own
+  last_refuses s t e v w (inr o) h = absurd (never_empty s o.0 v w o.1 h)
 
   -- last keeps to the laws of a field
-  pub last_of_law : FieldLaw T (LastOutcome inner) (repeated k) q (LastOf T group gap)
-  last_of_law = record { own = rl.own; ok = last_took; answers = last_answers }
+  pub last_of_law : FieldLaw env T (LastOutcome inner) (repeated k) q (LastOf T group gap)
+  last_of_law = record {
+    own = rl.own;
+    ok = last_took;
+    takes_all = last_takes;
+    refuses = last_refuses;
+  }

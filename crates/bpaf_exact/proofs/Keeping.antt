@@ -1,5 +1,5 @@
 -- What fields keep to, and what their values say: of a field before others, as of those others.
-use Rattle.std.proofs.Common.{ℕ, List, [], ◌++◌}
+use Rattle.std.proofs.Common.{ℕ, List, ◌++◌}
 use Rattle.bpaf_doc.specs.Names.{Names}
 use Rattle.bpaf_laws.specs.Product.{BothOutcome}
 use Rattle.bpaf_laws.specs.Reading.{Outcome}
@@ -8,55 +8,49 @@ use Rattle.bpaf_exact.specs.ProgramForm.{ProgramForm, ProgramFormLaw, program_al
 use Rattle.bpaf_exact.specs.ProgramForm.{program_field}
 use Rattle.bpaf_exact.specs.ProgramSays.{FieldsKeep, ProgramFieldsSaid, ProgramSaid, ProgramSays}
 use Rattle.bpaf_exact.specs.ProgramSays.{fields_said_inside, said_alone, said_both}
-use Rattle.bpaf_exact.specs.Variables.{KeepsVariables, Variables, WithVariables}
-use Rattle.bpaf_exact.proofs.Environments.{both_with}
-use Rattle.bpaf_exact.proofs.ProgramForm.{narrower_program_form, program_alone_law}
-use Rattle.bpaf_exact.proofs.ProgramForm.{program_both_law, program_field_law}
+use Rattle.bpaf_exact.proofs.ProgramForm.{program_alone_law, program_both_law, program_field_law}
 use Rattle.bpaf_exact.proofs.ProgramSays.{inside_say, program_alone_says, program_both_say}
+use Rattle.bpaf_exact.specs.Flat.{Variables}
 
 -- the last field
-pub keep_last : {P R A : Type 0} (last : R → P) (r : R) (outcome : Outcome A) (kind : P → SaidKind)
+pub keep_last : {env : Variables} {P R A : Type 0} (last : R → P) (r : R) (outcome : Outcome A)
+    (kind : P → SaidKind)
     (names : P → List Names) (words : List (List ℕ)) (s : ProgramForm A) (said : ProgramSaid P A)
-    → ProgramFormLaw outcome (names (last r)) words s
+    → ProgramFormLaw env outcome (names (last r)) words s
     → ProgramSays (names (last r)) s (kind (last r)) said (last r)
-    → FieldsKeep outcome (names (last r)) (program_alone (program_field s))
+    → FieldsKeep env outcome (names (last r)) (program_alone (program_field s))
     (said_alone last kind names said) r
-keep_last {A = A} last r outcome kind names words s said law says = record {
-  law = program_alone_law A outcome (names (last r)) words (program_field s)
-      (program_field_law A outcome (names (last r)) words s law);
-  says = program_alone_says last r outcome kind names words law says;
+keep_last {env} {A = A} last r outcome kind names words s said law says = record {
+  law = program_alone_law env A outcome (names (last r)) words (program_field s)
+      (program_field_law env A outcome (names (last r)) words s law);
+  says = program_alone_says env last r outcome kind names words law says;
 }
 
 -- fields that stand inside of others
-pub keep_inside : {P R V : Type 0} (inside : R → P) (r : R) {outcome : Outcome V}
+pub keep_inside : {env : Variables} {P R V : Type 0} (inside : R → P) (r : R) {outcome : Outcome V}
     {names : List Names} {s : ProgramForm V} {said : ProgramFieldsSaid P V}
-    → FieldsKeep outcome names s said (inside r)
-    → FieldsKeep outcome names s (fields_said_inside inside said) r
+    → FieldsKeep env outcome names s said (inside r)
+    → FieldsKeep env outcome names s (fields_said_inside inside said) r
 keep_inside inside r kept = record { law = kept.law; says = inside_say inside r kept.says }
 
--- a field before such fields, in an environment that it leaves as it is
-pub keep_before : {P Q R A B : Type 0} (variables : Variables) (first : R → P) (rest : R → Q)
-    (r : R) (outcome : Outcome A) → KeepsVariables outcome
-    → (kind : P → SaidKind) (names : P → List Names) (words : List (List ℕ)) (s : ProgramForm A)
-    (said : ProgramSaid P A)
-    → ProgramFormLaw (WithVariables variables outcome) (names (first r)) words s
+-- a field before such fields
+pub keep_before : {env : Variables} {P Q R A B : Type 0} (first : R → P) (rest : R → Q) (r : R)
+    (outcome : Outcome A) (kind : P → SaidKind) (names : P → List Names) (words : List (List ℕ))
+    (s : ProgramForm A) (said : ProgramSaid P A)
+    → ProgramFormLaw env outcome (names (first r)) words s
     → ProgramSays (names (first r)) s (kind (first r)) said (first r)
     → {behind : Outcome B} {others : List Names} {t : ProgramForm B}
     {more : ProgramFieldsSaid Q B}
-    → FieldsKeep (WithVariables variables behind) others t more (rest r)
-    → FieldsKeep (WithVariables variables (BothOutcome outcome behind)) (names (first r) ++ others)
+    → FieldsKeep env behind others t more (rest r)
+    → FieldsKeep env (BothOutcome outcome behind) (names (first r) ++ others)
     (program_both (names (first r)) others (program_field s) t)
     (said_both first rest kind names said more) r
-keep_before {P} {Q} {R} {A} {B} variables first rest r outcome keeps kind names words s said law
-    says {behind} {others} {t} {more} kept =
-    let here = WithVariables variables outcome in
-    let there = WithVariables variables behind in record {
-      law = narrower_program_form (A × B) (BothOutcome here there)
-          (WithVariables variables (BothOutcome outcome behind))
-          (both_with variables outcome keeps behind) (names (first r) ++ others) []
-          (program_both (names (first r)) others (program_field s) t)
-          (program_both_law A B here there (names (first r)) others words (program_field s) t
-          (program_field_law A here (names (first r)) words s law) kept.law);
-      says = program_both_say first rest r here there kind names words others law kept.law says
+keep_before {env} {P} {Q} {R} {A} {B} first rest r outcome kind names words s said law says
+    {behind} {others} {t} {more} kept = record {
+      law = program_both_law env A B outcome behind (names (first r)) others words
+          (program_field s) t
+          (program_field_law env A outcome (names (first r)) words s law) kept.law;
+      says = program_both_say first rest r outcome behind kind names words others env law kept.law
+          says
           kept.says;
     }

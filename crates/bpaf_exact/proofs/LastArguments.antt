@@ -1,6 +1,6 @@
 -- An argument that takes all its keys at once keeps to the laws of a field.
-use Rattle.std.proofs.Common.{◌≡◌, ℕ, true, List, [], ◌∷◌, ◌++◌, Ok, refl, sym, ap, ◌∙◌}
-use Rattle.std.proofs.Common.{subst, ⊎_elim}
+use Rattle.std.proofs.Common.{◌≡◌, ℕ, true, List, [], ◌∷◌, ◌++◌, Ok, refl, sym, ap, ◌∙◌, subst}
+use Rattle.std.proofs.Common.{⊎_elim}
 use Rattle.bpaf_text.specs.Named.{KeyWithValue}
 use Rattle.bpaf_base.specs.declared.arg.Arg.{Arg}
 use Rattle.bpaf_base.specs.Items.{item_text}
@@ -12,12 +12,12 @@ use Rattle.bpaf_laws.specs.Argument.{ArgumentOutcome, ArgumentFails, TakesKeysWi
 use Rattle.bpaf_laws.specs.Argument.{TakesOwnText, TakesBefore, is_key_with_value}
 use Rattle.bpaf_laws.specs.Environment.{first_set}
 use Rattle.bpaf_exact.specs.Pieces.{Roles, LinePiece, One, Two, pieces, takes_none, takes_more}
-use Rattle.bpaf_exact.specs.Flat.{class, class_of, cells, NoneOutside, ByName, Steady, Refused}
+use Rattle.bpaf_exact.specs.Flat.{class, class_of, cells, IsWholeIn, ByName, Steady, Refused}
+use Rattle.bpaf_exact.specs.Flat.{Variables}
 use Rattle.bpaf_exact.specs.Single.{Gap, TakesAny, SingleOk, took, SingleErr, of_memory, of_piece}
 use Rattle.bpaf_exact.specs.Single.{SingleLaw}
 use Rattle.bpaf_exact.specs.Leaves.{argument_gap, argument_roles, HaveValues, no_more, one_more}
 use Rattle.bpaf_exact.specs.Leaves.{LastGroup}
-use Rattle.bpaf_exact.specs.Variables.{Variables, WithVariables}
 use Rattle.bpaf_exact.proofs.ArgumentPieces.{TookPair, test, named, took_pair, no_key, nowhere}
 use Rattle.bpaf_exact.proofs.ArgumentPieces.{variable_read, variable_fault, gap_empty}
 use Rattle.bpaf_exact.proofs.First.{first_takes, first_pieces, takes_nonempty}
@@ -188,14 +188,13 @@ module _ (T : Type 0) (means : List ℕ → T → Type 0) (argument : KeyWithVal
       })
 
   -- or that of the variable
-  last_ok : (s t : Situation) (v : T) → NoneOutside s
-      → WithVariables variables (ArgumentOutcome means argument) s (Ok v) t
+  last_ok : (s t : Situation) (v : T) → IsWholeIn variables s
+      → ArgumentOutcome means argument s (Ok v) t
       → SingleOk T ByName q (LastGroup T means) gap s v t
   last_ok s t v w o = ⊎_elim
-      (λ takes. last_read s t o.1.0 v (takes_all s t o.1.0 takes) o.1.2)
-      (λ read. variable_read T means argument (LastGroup T means) variables s t o.1.0 v o.0 read
-      o.1.2)
-      o.1.1
+      (λ takes. last_read s t o.0 v (takes_all s t o.0 takes) o.2)
+      (λ read. variable_read T means argument (LastGroup T means) variables s t o.0 v w.environment
+      read o.2) o.1
 
   -- where a last text means no value, the pieces have none
   fault_group : (s t : Situation) (text : List ℕ) → GotAll s t text
@@ -245,7 +244,7 @@ module _ (T : Type 0) (means : List ℕ → T → Type 0) (argument : KeyWithVal
       nowhere T means argument (LastGroup T means) variables s t e other c same o.0 o.1 o.2
 
   -- such an argument keeps to the laws of a field
-  pub last_argument_law : SingleLaw T (WithVariables variables (ArgumentOutcome means argument))
+  pub last_argument_law : SingleLaw variables T (ArgumentOutcome means argument)
       ByName q (LastGroup T means) gap
   last_argument_law = record {
     own = named argument;
@@ -253,5 +252,5 @@ module _ (T : Type 0) (means : List ℕ → T → Type 0) (argument : KeyWithVal
     starts = λ v rest g. not_nil g.before (Two g.key g.word) (sym g.is);
     no_absent = gap_empty T means argument (LastGroup T means) variables;
     ok = last_ok;
-    err = λ s t e w o. last_err s t e e.0 refl o.0 o.1;
+    err = λ s t e w o. last_err s t e e.0 refl w.environment o;
   }

@@ -22,13 +22,10 @@ pub mod Choice
 pub mod Records
 pub mod NamedProducts
 pub mod Narrow
-pub mod Variables
-pub mod Environments
 pub mod FlatForm
 pub mod Exact
 pub mod ByTables
 pub mod SameParts
-pub mod WorkedRows
 pub mod OneView
 pub mod Agreeing
 pub mod Accepted
@@ -44,5 +41,4 @@ pub mod BeforeCommands
 pub mod Commands
 pub mod ProgramForm
 pub mod ProgramSays
-pub mod WorkedPrograms
 pub mod Pure

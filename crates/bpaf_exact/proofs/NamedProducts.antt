@@ -1,25 +1,24 @@
 -- A product of named fields keeps to the laws of a named field, so it may stand in another product.
-use Rattle.std.proofs.Common.{◌≡◌, true, false, List, [], ◌∷◌, Some, None, Result, Ok, Err}
-use Rattle.std.proofs.Common.{refl, sym, ap, ap₂, ◌∙◌, subst, inl, inr, if◌then◌else◌}
+use Rattle.std.proofs.Common.{◌≡◌, true, false, List, [], ◌∷◌, Some, None, Ok, Err, refl, sym, ap}
+use Rattle.std.proofs.Common.{ap₂, ◌∙◌, subst, if◌then◌else◌}
 use Rattle.bpaf_base.specs.declared.arg.Arg.{Arg}
 use Rattle.bpaf_line.specs.declared.error.Error.{Error}
 use Rattle.bpaf_line.specs.Situation.{Situation}
-use Rattle.bpaf_laws.specs.Product.{BothOutcome, ProductOutcome, joined}
+use Rattle.bpaf_laws.specs.Product.{BothOutcome, ProductOutcome}
 use Rattle.bpaf_laws.specs.Reading.{Outcome}
-use Rattle.bpaf_laws.specs.Spared.{IsNotMemory}
-use Rattle.bpaf_exact.specs.Flat.{ByName, FieldLaw, FieldTook, FieldsReading, Gives, NoneOutside}
-use Rattle.bpaf_exact.specs.Flat.{OfMemory, both_reading, cells, class}
+use Rattle.bpaf_exact.specs.Flat.{ByName, FieldLaw, FieldTook, FieldsReading, IsWholeIn, OfMemory}
+use Rattle.bpaf_exact.specs.Flat.{both_reading, cells, class, Variables}
 use Rattle.bpaf_exact.specs.Pieces.{Alone, Apart, Cells, Foreign, LinePiece, One, Role, Roles}
 use Rattle.bpaf_exact.specs.Pieces.{TakesPieces, WithNext, begin_piece, either, is_own_role, mine}
 use Rattle.bpaf_exact.specs.Pieces.{no_roles, others, pieces, takes_more, takes_none, with_next}
 use Rattle.bpaf_exact.specs.Record.{LastValue}
 use Rattle.bpaf_exact.specs.Wrappers.{ClosedValue, map_closure}
 use Rattle.bpaf_exact.proofs.Cells.{begin_foreign, keeps_other_some}
-use Rattle.bpaf_exact.proofs.Classes.{memory_class, not_memory}
 use Rattle.bpaf_exact.proofs.First.{Belongs, Union, belongs, both_nil, either_union, own_next}
 use Rattle.bpaf_exact.proofs.First.{swap_union, takes_left, to_first, to_none, to_second}
 use Rattle.bpaf_exact.proofs.First.{union_named}
-use Rattle.bpaf_exact.proofs.Product.{none_outside_after, steady_trans, values_of_both}
+use Rattle.bpaf_exact.proofs.Product.{RefusedBy, by_first, by_rest, for_memory, none_outside_after}
+use Rattle.bpaf_exact.proofs.Product.{refused_by, steady_trans, values_of_both}
 use Rattle.bpaf_exact.proofs.Records.{before_none, current_cells, same_steady}
 use Rattle.bpaf_exact.proofs.Repeat.{some_trans}
 
@@ -101,9 +100,10 @@ module _ (p q r : Roles) (u : Union p q r) where
   takes_some_left (takes_more t more) = takes_more (takes_left p q r u t) (takes_some_left more)
 
 -- A named field before other named fields.
-module _ (A B : Type 0) (first : Outcome A) (rest : Outcome B) (q r : Roles)
-    (fv : List LinePiece → A → Type 0) (read : FieldsReading B) (lf : FieldLaw A first ByName q fv)
-    (lr : FieldLaw B rest ByName r read.value) (apart : Apart q r) where
+module _ {env : Variables} (A B : Type 0) (first : Outcome A) (rest : Outcome B) (q r : Roles)
+    (fv : List LinePiece → A → Type 0) (read : FieldsReading B)
+    (lf : FieldLaw env A first ByName q fv)
+    (lr : FieldLaw env B rest ByName r read.value) (apart : Apart q r) where
   -- the values of both
   abbrev value : List LinePiece → A × B → Type 0
   value = (both_reading ByName q fv read).value
@@ -141,7 +141,7 @@ module _ (A B : Type 0) (first : Outcome A) (rest : Outcome B) (q r : Roles)
       keeps_other_some r q lr.own lf.own (record { left = apart.right; right = apart.left }) t
 
   -- a value, where nothing of either's own is left
-  both_took : (s t : Situation) (v : A × B) → NoneOutside s → BothOutcome first rest s (Ok v) t
+  both_took : (s t : Situation) (v : A × B) → IsWholeIn env s → BothOutcome first rest s (Ok v) t
       → FieldTook (A × B) ByName both value s v t
   both_took s t v w o =
       let h = values_of_both A B first rest s t v o in
@@ -159,54 +159,45 @@ module _ (A B : Type 0) (first : Outcome A) (rest : Outcome B) (q r : Roles)
         rest = λ none. none;
       }
 
-  -- where both have a value, so do the others after the first
-  rest_gives : (s m t : Situation) (x : A) (y : Result B Error) (u : A × B) → NoneOutside s
-      → first s (Ok x) m → rest m y t → value (pieces both (cells s)) u
-      → (fv (pieces q (cells s)) x × (pieces q (cells m) ≡ []))
-      × Gives r (read.value (pieces r (cells s))) [] y t
-  rest_gives s m t x y u w f g h =
-      let each = each_value (cells s) u h in
-      let i = lf.ok s m x w f in (
-        lf.answers s m (Ok x) u.0 w f each.0,
-        subst (λ os. Gives r (read.value os) [] y t) (rest_kept i.takes)
-            (lr.answers m t y u.1 (none_outside_after s m w i.steady) g
-            (subst (λ os. read.value os u.1) (sym (rest_kept i.takes)) each.1)),
-      )
+  -- where both have a value, so have the others after the first
+  rest_value : (s m : Situation) (x : A) (u : A × B) → IsWholeIn env s → first s (Ok x) m
+      → value (pieces both (cells s)) u → read.value (pieces r (cells m)) u.1
+  rest_value s m x u w f h =
+      subst (λ os. read.value os u.1) (sym (rest_kept (lf.ok s m x w f).takes))
+      (each_value (cells s) u h).1
 
-  -- then a refusal is want of memory
-  both_fails : (s m t : Situation) (x : Result A Error) (y : Result B Error) (e : Error) (u : A × B)
-      → NoneOutside s → first s x m → rest m y t → IsNotMemory x → Err e ≡ joined x y
-      → value (pieces both (cells s)) u → class e ≡ OfMemory
-  both_fails s m t (Ok x) (Ok y) e u w f g spared i h = absurd cc
-  both_fails s m t (Ok x) (Err y) e u w f g spared i h =
-      let d : e ≡ y = cc in
-      ap class d ∙ (rest_gives s m t x (Err y) u w f g h).1
-  both_fails s m t (Err x) y e u w f g spared i h =
-      absurd (not_memory x.0 spared
-      (lf.answers s m (Err x) u.0 w f (each_value (cells s) u h).0))
-
-  -- each answer
-  both_gives : (s t : Situation) (a : Result (A × B) Error) (u : A × B) → NoneOutside s
-      → BothOutcome first rest s a t → value (pieces both (cells s)) u
-      → Gives both (value (pieces both (cells s))) [] a t
-  both_gives s t (Ok v) u w o h =
+  -- so nothing of either's own is left
+  both_take : (s t : Situation) (v u : A × B) → IsWholeIn env s → BothOutcome first rest s (Ok v) t
+      → value (pieces both (cells s)) u → pieces both (cells t) ≡ []
+  both_take s t v u w o h =
       let i = values_of_both A B first rest s t v o in
-      let j = rest_gives s i.middle t v.0 (Ok v.1) u w i.first_ran i.rest_ran h in
-      let l = lr.ok i.middle t v.1
-      (none_outside_after s i.middle w (lf.ok s i.middle v.0 w i.first_ran).steady) i.rest_ran in (
-        both_value (cells s) v j.0.0 j.1.0,
-        both_nil q r both (cells t) together (first_kept l.takes ∙ j.0.1) j.1.1,
-      )
-  both_gives s t (Err e) u w (inl o) h =
-      both_fails s o.middle t o.a o.b e u w o.first_ran o.rest_ran o.spared o.answer h
-  both_gives s t (Err e) u w (inr o) h = memory_class e.0 o.1
+      let after = none_outside_after s i.middle w (lf.ok s i.middle v.0 w i.first_ran).steady in
+      both_nil q r both (cells t) together
+      (first_kept (lr.ok i.middle t v.1 after i.rest_ran).takes
+      ∙ lf.takes_all s i.middle v.0 u.0 w i.first_ran (each_value (cells s) u h).0)
+      (lr.takes_all i.middle t v.1 u.1 after i.rest_ran
+      (rest_value s i.middle v.0 u w i.first_ran h))
+
+  -- and a refusal is want of memory
+  both_refuse : (s t : Situation) (e : Error) (u : A × B) → IsWholeIn env s
+      → BothOutcome first rest s (Err e) t → value (pieces both (cells s)) u → class e ≡ OfMemory
+  both_refuse s t e u w o h = by_side (refused_by A B first rest s t e o)
+    where
+      by_side : RefusedBy A B first rest s e t → class e ≡ OfMemory
+      by_side (for_memory m) = m
+      by_side (by_first {d = d} {m = m} f spared) =
+          absurd (spared (lf.refuses s m d u.0 w f (each_value (cells s) u h).0))
+      by_side (by_rest {v = v} {m = m} f g) =
+          lr.refuses m t e u.1 (none_outside_after s m w (lf.ok s m v w f).steady) g
+          (rest_value s m v u w f h)
 
   -- together they keep to the laws of a named field
-  pub named_both_law : FieldLaw (A × B) (BothOutcome first rest) ByName both value
+  pub named_both_law : FieldLaw env (A × B) (BothOutcome first rest) ByName both value
   named_both_law = record {
     own = union_named q r both together;
     ok = both_took;
-    answers = both_gives;
+    takes_all = both_take;
+    refuses = both_refuse;
   }
 
 -- no item is nobody's own
@@ -216,8 +207,9 @@ none_of_nobody (None ∷ cs) = none_of_nobody cs
 none_of_nobody (Some k ∷ cs) = none_of_nobody cs
 
 -- The last of named fields.
-module _ (T : Type 0) (outcome : Outcome T) (q : Roles) (value : List LinePiece → T → Type 0)
-    (l : FieldLaw T outcome ByName q value) where
+module _ {env : Variables} (T : Type 0) (outcome : Outcome T) (q : Roles)
+    (value : List LinePiece → T → Type 0)
+    (l : FieldLaw env T outcome ByName q value) where
   -- its items
   abbrev alone : Roles
   alone = either q no_roles
@@ -234,8 +226,13 @@ module _ (T : Type 0) (outcome : Outcome T) (q : Roles) (value : List LinePiece 
     none_left = others_of_both q no_roles alone by_itself cs ∙ none_of_nobody cs;
   }
 
+  -- and the other way
+  own_read : (cs : Cells) (v : T) → LastValue T ByName q value (pieces alone cs) v
+      → value (pieces q cs) v
+  own_read cs v h = subst (λ os. value os v) (mine_of_both q no_roles alone by_itself cs) h.read
+
   -- a last field keeps to the laws of a named one
-  pub named_last_law : FieldLaw T outcome ByName alone (LastValue T ByName q value)
+  pub named_last_law : FieldLaw env T outcome ByName alone (LastValue T ByName q value)
   named_last_law = record {
     own = union_named q no_roles alone by_itself;
     ok = λ s t v w o. let i = l.ok s t v w o in record {
@@ -245,31 +242,20 @@ module _ (T : Type 0) (outcome : Outcome T) (q : Roles) (value : List LinePiece 
           (i.read (sym (mine_of_both q no_roles alone by_itself (cells t)) ∙ ap (mine q) none));
       rest = λ none. none;
     };
-    answers = last_gives;
+    takes_all = λ s t v u w o h. both_nil q no_roles alone (cells t) by_itself
+        (l.takes_all s t v u w o (own_read (cells s) u h)) (none_of_nobody (cells t));
+    refuses = λ s t e u w o h. l.refuses s t e u w o (own_read (cells s) u h);
   }
-    where
-      last_gives : (s t : Situation) (a : Result T Error) (u : T) → NoneOutside s → outcome s a t
-          → LastValue T ByName q value (pieces alone (cells s)) u
-          → Gives alone (LastValue T ByName q value (pieces alone (cells s))) [] a t
-      last_gives s t (Ok v) u w o h =
-          let j = l.answers s t (Ok v) u w o
-          (subst (λ os. value os u) (mine_of_both q no_roles alone by_itself (cells s)) h.read) in (
-            last_value (cells s) v j.0,
-            both_nil q no_roles alone (cells t) by_itself j.1 (none_of_nobody (cells t)),
-          )
-      last_gives s t (Err e) u w o h =
-          l.answers s t (Err e) u w o
-          (subst (λ os. value os u) (mine_of_both q no_roles alone by_itself (cells s)) h.read)
 
 -- The constructor of named fields.
-module _ (A B : Type 0) (fields : Outcome A) (makes : A → B → Type 0) (q : Roles)
-    (value : List LinePiece → A → Type 0) (l : FieldLaw A fields ByName q value) where
+module _ {env : Variables} (A B : Type 0) (fields : Outcome A) (makes : A → B → Type 0) (q : Roles)
+    (value : List LinePiece → A → Type 0) (l : FieldLaw env A fields ByName q value) where
   -- what it makes of their values
   abbrev made : List LinePiece → B → Type 0
   made = ClosedValue A B value (map_closure makes)
 
   -- a value is made of one
-  con_took : (s t : Situation) (v : B) → NoneOutside s → ProductOutcome fields makes s (Ok v) t
+  con_took : (s t : Situation) (v : B) → IsWholeIn env s → ProductOutcome fields makes s (Ok v) t
       → FieldTook B ByName q made s v t
   con_took s t v w o =
       let i = l.ok s o.0 o.1 w o.2 in
@@ -284,17 +270,18 @@ module _ (A B : Type 0) (fields : Outcome A) (makes : A → B → Type 0) (q : R
         rest = λ none. none;
       })
 
-  -- each answer
-  con_gives : (s t : Situation) (a : Result B Error) (u : B) → NoneOutside s
-      → ProductOutcome fields makes s a t → made (pieces q (cells s)) u
-      → Gives q (made (pieces q (cells s))) [] a t
-  con_gives s t (Ok v) u w o h =
-      let j = l.answers s o.0 (Ok o.1) h.from w o.2 h.read in (
-        record { from = o.1; read = j.0; made = o.3 },
-        ap (pieces q) (ap cells o.4 ∙ current_cells o.0) ∙ j.1,
-      )
-  con_gives s t (Err e) u w o h = l.answers s o.0 (Err e) h.from w o.1 h.read
+  -- where they have values, all is taken
+  con_takes : (s t : Situation) (v u : B) → IsWholeIn env s → ProductOutcome fields makes s (Ok v) t
+      → made (pieces q (cells s)) u → pieces q (cells t) ≡ []
+  con_takes s t v u w o h =
+      ap (pieces q) (ap cells o.4 ∙ current_cells o.0)
+      ∙ l.takes_all s o.0 o.1 h.from w o.2 h.read
 
   -- with its constructor a product keeps to the laws of a named field
-  pub named_con_law : FieldLaw B (ProductOutcome fields makes) ByName q made
-  named_con_law = record { own = l.own; ok = con_took; answers = con_gives }
+  pub named_con_law : FieldLaw env B (ProductOutcome fields makes) ByName q made
+  named_con_law = record {
+    own = l.own;
+    ok = con_took;
+    takes_all = con_takes;
+    refuses = λ s t e u w o h. l.refuses s o.0 e h.from w o.1 h.read;
+  }

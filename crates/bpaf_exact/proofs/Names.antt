@@ -1,16 +1,16 @@
 -- Fields whose keys are apart have no item in common.
-use Rattle.std.proofs.Common.{◌≡◌, Bool, true, false, not, ◌||◌, ◌==◌, List, [], ◌∷◌, ◌++◌}
-use Rattle.std.proofs.Common.{refl, sym, ap, ◌∙◌, subst, ⊎_elim, bytes_eq}
+use Rattle.std.proofs.Common.{◌≡◌, Bool, true, false, not, ◌||◌, ◌==◌, List, [], ◌∷◌, ◌++◌, refl}
+use Rattle.std.proofs.Common.{sym, ap, ◌∙◌, subst, ⊎_elim, bytes_eq}
 use Rattle.std.specs.List.{list_all, list_any}
 use Rattle.std.proofs.lemmas.Bool.{eqb-true, false_from_ne_true, and_parts, or_cases}
 use Rattle.std.proofs.lemmas.List.Folds.{list_any-append}
 use Rattle.std.proofs.lemmas.Slice.Eq.{bytes_eq-Decides}
 use Rattle.bpaf_doc.specs.Names.{Names}
 use Rattle.bpaf_base.specs.declared.arg.Arg.{Arg}
-use Rattle.bpaf_base.specs.declared.arg.Arg.TheVariants.{Short, Long, ArgWord, Word, PosWord}
+use Rattle.bpaf_base.specs.declared.arg.Arg.TheVariants.{Short, Long}
 use Rattle.bpaf_base.specs.Items.{is_among, is_text_among, is_key_of}
-use Rattle.bpaf_exact.specs.Pieces.{Role, Foreign, Alone, WithNext, Roles, is_own_role, is_key}
-use Rattle.bpaf_exact.specs.Pieces.{Apart, either, either_role}
+use Rattle.bpaf_exact.specs.Pieces.{Role, Foreign, Roles, is_own_role, is_key, Apart, either}
+use Rattle.bpaf_exact.specs.Pieces.{either_role}
 use Rattle.bpaf_exact.specs.Names.{is_key_of_any, are_apart, are_all_apart, Owns}
 
 -- a test that holds of each element of a list holds of one that a second test picks
@@ -39,9 +39,7 @@ one_owner own others (Long name attached word) apart e f =
     never_both (is_text_among others.longs name)
     (picked (λ other. not (is_text_among others.longs other)) (λ other. bytes_eq other name) name
     (λ other h. (bytes_eq-Decides other name).0 h) own.longs (and_parts _ _ apart).1 e) f
-one_owner own others (ArgWord text) apart e f = cc
-one_owner own others (Word text) apart e f = cc
-one_owner own others (PosWord text) apart e f = cc
+one_owner own others _ apart e f = cc
 
 -- nor of keys of which each is apart from it
 none_owner : (names : Names) (others : List Names) (k : Arg)
@@ -69,8 +67,7 @@ one_list (names ∷ keys) others k apart e f = ⊎_elim
 -- what isn't the field's own
 pub foreign_of : (x : Role) → is_own_role x ≡ false → x ≡ Foreign
 foreign_of Foreign e = refl
-foreign_of Alone e = cc
-foreign_of WithNext e = cc
+foreign_of _ e = cc
 
 -- keys that are apart keep the fields apart
 pub apart_of_names : (q r : Roles) (keys others : List Names) → Owns q keys → Owns r others
@@ -85,8 +82,7 @@ apart_of_names q r keys others a b h = record {
 -- an item of both is one of either
 either_own : (x y : Role) → is_own_role (either_role x y) ≡ (is_own_role x || is_own_role y)
 either_own Foreign y = refl
-either_own Alone y = refl
-either_own WithNext y = refl
+either_own _ y = refl
 
 -- either, where the second holds
 pub or_true : (b : Bool) → (b || true) ≡ true
@@ -110,6 +106,4 @@ either_owns q r keys others a b = record {
 pub named_key : (names : Names) (k : Arg) → is_key_of names k ≡ true → is_key k ≡ true
 named_key names (Short c attached word) h = refl
 named_key names (Long name attached word) h = refl
-named_key names (ArgWord text) h = absurd cc
-named_key names (Word text) h = absurd cc
-named_key names (PosWord text) h = absurd cc
+named_key names _ h = absurd cc

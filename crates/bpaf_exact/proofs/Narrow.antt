@@ -6,11 +6,11 @@ use Rattle.bpaf_laws.specs.Reading.{Outcome}
 use Rattle.bpaf_doc.specs.Names.{Names}
 use Rattle.bpaf_exact.specs.Alternative.{AlternativeErr, alternative_memory, alternative_missing}
 use Rattle.bpaf_exact.specs.Alternative.{alternative_refused}
-use Rattle.bpaf_exact.specs.Flat.{ByName, FieldKind, FieldLaw, FieldsLaw, FieldsReading, Gives, GivesAll}
-use Rattle.bpaf_exact.specs.Flat.{NoneOutside, OfMemory, back, cells, class, front}
+use Rattle.bpaf_exact.specs.Flat.{ByName, FieldKind, FieldLaw, FieldsLaw, FieldsReading, OfMemory}
+use Rattle.bpaf_exact.specs.Flat.{class, Variables}
 use Rattle.bpaf_exact.specs.FlatForm.{FlatForm, not_flat, alternative, single, complete, product}
 use Rattle.bpaf_exact.specs.FlatForm.{FormLaw, NamedLaw}
-use Rattle.bpaf_exact.specs.Pieces.{LinePiece, Roles, pieces}
+use Rattle.bpaf_exact.specs.Pieces.{LinePiece, Roles}
 use Rattle.bpaf_exact.specs.Single.{CanCatch, Gap, Groups, SingleErr, catch_missing, catch_other}
 use Rattle.bpaf_exact.specs.Single.{of_absent, of_memory, of_missing, of_piece}
 
@@ -54,26 +54,21 @@ module _ (T : Type 0) (d e : Error) (same : class d ≡ class e) where
   single_like k q group gap s t (of_piece h some refused) = of_piece (sym same ∙ h) some refused
 
 -- a field keeps to its laws too where its refusals are others, but for want of memory
-pub other_refusals : (T : Type 0) (a b : Outcome T) (k : FieldKind) (q : Roles)
+pub other_refusals : {env : Variables} (T : Type 0) (a b : Outcome T) (k : FieldKind) (q : Roles)
     (value : List LinePiece → T → Type 0)
     → ((s t : Situation) (v : T) → b s (Ok v) t → a s (Ok v) t)
     → ((s t : Situation) (e : Error) → b s (Err e) t
     → (d : Error) × a s (Err d) t × (class d ≡ OfMemory → class e ≡ OfMemory))
-    → FieldLaw T a k q value → FieldLaw T b k q value
+    → FieldLaw env T a k q value → FieldLaw env T b k q value
 other_refusals T a b k q value values refusals l = record {
   own = l.own;
   ok = λ s t v w o. l.ok s t v w (values s t v o);
-  answers = by_answer;
+  takes_all = λ s t v u w o. l.takes_all s t v u w (values s t v o);
+  refuses = λ s t e u w o h.
+      let other = refusals s t e o in other.2 (l.refuses s t other.0 u w other.1 h);
 }
-  where
-    by_answer : (s t : Situation) (r : Result T Error) (w : T) → NoneOutside s → b s r t
-        → value (front k (pieces q (cells s))) w
-        → Gives q (value (front k (pieces q (cells s)))) (back k (pieces q (cells s))) r t
-    by_answer s t (Ok v) w n o h = l.answers s t (Ok v) w n (values s t v o) h
-    by_answer s t (Err e) w n o h =
-        let other = refusals s t e o in other.2 (l.answers s t (Err other.0) w n other.1 h)
 
-module _ (T : Type 0) (a b : Outcome T) (n : AllowsNoMore T a b) where
+module _ (env : Variables) (T : Type 0) (a b : Outcome T) (n : AllowsNoMore T a b) where
   -- what is given by each answer of the one is by each of the other
   pub narrower_gives : (gives : Result T Error → Situation → Type 0)
       → ((d e : Error) (t : Situation) → class d ≡ class e → gives (Err d) t → gives (Err e) t)
@@ -84,26 +79,28 @@ module _ (T : Type 0) (a b : Outcome T) (n : AllowsNoMore T a b) where
       let other = n.refusal s t e o in like other.0 e t other.2 (all (Err other.0) t other.1)
 
   -- a list of fields
-  narrower_fields : (r : Roles) (fields : FieldsReading T) → FieldsLaw T a r fields
-      → FieldsLaw T b r fields
+  narrower_fields : (r : Roles) (fields : FieldsReading T) → FieldsLaw env T a r fields
+      → FieldsLaw env T b r fields
   narrower_fields r fields l = record {
     named = l.named;
     steady = λ s t v w o. l.steady s t v w (n.value s t v o);
     ok = λ s t v w o e. l.ok s t v w (n.value s t v o) e;
     has_each = l.has_each;
-    answers = λ s t x os w o c h. narrower_gives (GivesAll (fields.value os))
-        (λ d e t same m. sym same ∙ m) s (λ y u g. l.answers s u y os w g c h) x t o;
+    takes_all = λ s t v os w o. l.takes_all s t v os w (n.value s t v o);
+    refuses = λ s t e os w o c h. let other = n.refusal s t e o in
+        sym other.2 ∙ l.refuses s t other.0 os w other.1 c h;
   }
 
   -- a field
   narrower_field : (k : FieldKind) (q : Roles) (value : List LinePiece → T → Type 0)
-      → FieldLaw T a k q value → FieldLaw T b k q value
+      → FieldLaw env T a k q value → FieldLaw env T b k q value
   narrower_field k q value l =
       other_refusals T a b k q value n.value (λ s t e o. let other = n.refusal s t e o in
       (other.0, other.1, λ m. sym other.2 ∙ m)) l
 
   -- and a field of any form
-  pub narrower_form : (keys : List Names) (h : FlatForm T) → FormLaw a keys h → FormLaw b keys h
+  pub narrower_form : (keys : List Names) (h : FlatForm T) → FormLaw env a keys h
+      → FormLaw env b keys h
   narrower_form keys not_flat l = tt
   narrower_form keys (alternative q value) l = (
     record {
@@ -132,6 +129,6 @@ module _ (T : Type 0) (a b : Outcome T) (n : AllowsNoMore T a b) where
   narrower_form keys (product named q fields) l =
       (narrower_fields q fields l.0, l.1, by_name named l.2)
     where
-      by_name : (all : Bool) → NamedLaw all a q fields.value → NamedLaw all b q fields.value
+      by_name : (all : Bool) → NamedLaw env all a q fields.value → NamedLaw env all b q fields.value
       by_name true l = narrower_field ByName q fields.value l
       by_name false l = tt

@@ -2,9 +2,9 @@
 use Rattle.std.proofs.Common.{◌≡◌, ◌≢◌, ℕ, Bool, List, [], ◌∷◌, ◌++◌, Option, None, refl, sym, ◌∙◌}
 use Rattle.bpaf_exact.specs.Pieces.{LinePiece, Two}
 use Rattle.bpaf_exact.specs.Says.{Said, FlagSays, says_present, says_absent, ArgumentSays}
-use Rattle.bpaf_exact.specs.Says.{says_variable, says_variable_text}
-use Rattle.bpaf_exact.specs.Says.{says_text, says_last_text, MadeSays, FrontSays, RepeatSays}
-use Rattle.bpaf_exact.specs.Says.{says_in_turn, says_alone, LastSays}
+use Rattle.bpaf_exact.specs.Says.{says_variable, says_variable_text, says_text, says_last_text}
+use Rattle.bpaf_exact.specs.Says.{MadeSays, FrontSays, RepeatSays, says_in_turn, says_alone}
+use Rattle.bpaf_exact.specs.Says.{LastSays}
 use Rattle.bpaf_exact.specs.Single.{Own, own_none, own_more}
 use Rattle.bpaf_exact.specs.Wrappers.{Closure}
 

@@ -3,23 +3,22 @@ use Rattle.std.proofs.Common.{◌≡◌, ℕ, Bool, true, false, List, [], ◌�
 use Rattle.std.proofs.Common.{sym, ap, ◌∙◌, subst, if◌then◌else◌, option_and_then}
 use Rattle.std.specs.Option.{option_map_or}
 use Rattle.bpaf_base.specs.declared.arg.Arg.{Arg}
-use Rattle.bpaf_base.specs.declared.arg.Arg.TheVariants.{Short, Long, ArgWord, Word, PosWord}
+use Rattle.bpaf_base.specs.declared.arg.Arg.TheVariants.{Word, PosWord}
 use Rattle.bpaf_base.specs.Items.{is_positional, word_text, item_text}
 use Rattle.bpaf_line.specs.declared.error.Error.{Error}
 use Rattle.bpaf_line.specs.Situation.{Situation}
 use Rattle.bpaf_line.specs.Taking.{TakesText}
 use Rattle.bpaf_line.proofs.Matches.{open_item_there}
 use Rattle.bpaf_exact.specs.Pieces.{Cells, Foreign, Alone, WithNext, LinePiece, One, word_roles}
-use Rattle.bpaf_exact.specs.Pieces.{pieces}
-use Rattle.bpaf_exact.specs.Flat.{cells, NoneOutside, Steady, EachWord, OneWord, front, back}
-use Rattle.bpaf_exact.specs.Flat.{is_behind}
+use Rattle.bpaf_exact.specs.Pieces.{pieces, stands_behind}
+use Rattle.bpaf_exact.specs.Flat.{cells, IsWholeIn, Steady, EachWord, OneWord, front, back}
+use Rattle.bpaf_exact.specs.Flat.{is_behind, Variables}
 use Rattle.bpaf_exact.specs.Single.{Groups, FrontOf, no_gap, SingleOk, took, SingleErr, of_memory}
 use Rattle.bpaf_exact.specs.Single.{catch_missing, catch_other, of_missing, of_piece, WordByWord}
 use Rattle.bpaf_exact.specs.Single.{SingleLaw}
 use Rattle.bpaf_exact.specs.Alternative.{TakesFirst, first_one, first_two, first_later}
-use Rattle.bpaf_exact.specs.Pieces.{stands_behind}
-use Rattle.bpaf_exact.specs.Leaves.{WordEval, word_by, word_fault, word_memory}
-use Rattle.bpaf_exact.specs.Leaves.{word_missing, word_passed, word_read}
+use Rattle.bpaf_exact.specs.Leaves.{WordEval, word_by, word_fault, word_memory, word_missing}
+use Rattle.bpaf_exact.specs.Leaves.{word_passed, word_read}
 use Rattle.bpaf_exact.proofs.Fronts.{back_more, back_one, front_more, front_one, of_front_more}
 use Rattle.bpaf_exact.proofs.Fronts.{of_front_one}
 use Rattle.bpaf_exact.specs.FlatForm.{FormLaw}
@@ -31,9 +30,6 @@ use Rattle.bpaf_exact.proofs.Matching.{match_of, ByTest, by_test, no_pieces, one
 -- the text and the side of a word are those of its item
 pub word_is : (w : Arg) (strict : Bool) (text : List ℕ) → word_text w ≡ Some (strict, text)
     → (item_text w ≡ text) × (stands_behind w ≡ strict)
-word_is (Short c attached word) strict text e = absurd cc
-word_is (Long name attached word) strict text e = absurd cc
-word_is (ArgWord own) strict text e = absurd cc
 word_is (Word own) strict text e = (
   ap (λ z. option_map_or (λ word. word.1) z own) e,
   ap (λ z. option_map_or (λ word. word.0) z false) e,
@@ -42,6 +38,7 @@ word_is (PosWord own) strict text e = (
   ap (λ z. option_map_or (λ word. word.1) z own) e,
   ap (λ z. option_map_or (λ word. word.0) z false) e,
 )
+word_is _ strict text e = absurd cc
 
 -- a field that stops takes none behind `--`
 passed_by : (b : Bool) → b ≡ true → (o : LinePiece) (os : List LinePiece) → is_behind o ≡ true
@@ -106,7 +103,8 @@ module _ (T : Type 0) (b : Bool) (value : LinePiece → T → Type 0)
   some_front w os may none = let e = front_one b (One w) os may in absurd cc
 
   -- a value is that of the first word
-  word_ok : (s t : Situation) (v : T) → NoneOutside s → WordEval T b value s (Ok v) t
+  word_ok : {env : Variables} (s t : Situation) (v : T) → IsWholeIn env s
+      → WordEval T b value s (Ok v) t
       → SingleOk T (OneWord b) word_roles group (no_gap T) s v t
   word_ok s t v w (word_read {p = p} {strict = strict} {text = text} takes y) =
       let m = took_word s t p strict text takes in
@@ -117,7 +115,8 @@ module _ (T : Type 0) (b : Bool) (value : LinePiece → T → Type 0)
       (some_front m.word _ (λ h. clear h (One m.word) v (y m.word m.text_is))))
 
   -- a refusal: there is no word, or the first can't be read
-  word_err : (s t : Situation) (e : Error) → NoneOutside s → WordEval T b value s (Err e) t
+  word_err : {env : Variables} (s t : Situation) (e : Error) → IsWholeIn env s
+      → WordEval T b value s (Err e) t
       → SingleErr T (OneWord b) word_roles group (no_gap T) s e t
   word_err s t e w (word_fault {p = p} {strict = strict} {text = text} takes before n c) =
       let m = took_word s t p strict text takes in
@@ -172,7 +171,8 @@ module _ (T : Type 0) (b : Bool) (value : LinePiece → T → Type 0)
   }
 
   -- a word keeps to the laws of one evaluation
-  word_law : SingleLaw T (WordEval T b value) (OneWord b) word_roles group (no_gap T)
+  word_law : {env : Variables} → SingleLaw env T (WordEval T b value) (OneWord b) word_roles group
+      (no_gap T)
   word_law = record {
     own = record { words = λ k. refl };
     words = one_by_one;
@@ -183,7 +183,7 @@ module _ (T : Type 0) (b : Bool) (value : LinePiece → T → Type 0)
   }
 
 -- a positional keeps to the laws of its form
-pub word_by_law : (T : Type 0) (b : Bool) (value : LinePiece → T → Type 0)
+pub word_by_law : (env : Variables) (T : Type 0) (b : Bool) (value : LinePiece → T → Type 0)
     → (b ≡ true → (o : LinePiece) (v : T) → value o v → is_behind o ≡ false)
-    → FormLaw (WordEval T b value) [] (word_by b value)
-word_by_law T b value clear = (word_law T b value clear, record { own = λ k e. absurd cc })
+    → FormLaw env (WordEval T b value) [] (word_by b value)
+word_by_law env T b value clear = (word_law T b value clear, record { own = λ k e. absurd cc })

@@ -7,16 +7,14 @@ use Rattle.bpaf_line.specs.Messages.{is_memory}
 use Rattle.bpaf_laws.specs.Product.{BothOutcome, joined}
 use Rattle.bpaf_laws.specs.Reading.{Outcome}
 use Rattle.bpaf_laws.specs.Spared.{IsNotMemory}
-use Rattle.bpaf_exact.specs.Pieces.{no_roles}
-use Rattle.bpaf_exact.specs.Pieces.{Cells, Role, Foreign, Alone, WithNext, Roles, LinePiece, One}
-use Rattle.bpaf_exact.specs.Pieces.{Two}
-use Rattle.bpaf_exact.specs.Pieces.{is_own_role, is_own, others, either_role, either, IsNamed}
-use Rattle.bpaf_exact.specs.Pieces.{Apart, Cut, at_end, passed, flag, argument, word}
-use Rattle.bpaf_exact.specs.Pieces.{pieces, TakesPieces}
-use Rattle.bpaf_exact.specs.Flat.{cells, NonePresent, NoneOutside, Steady, FieldKind, ByName, OneWord}
-use Rattle.bpaf_exact.specs.Flat.{EachWord, front, back, share, left, keys, IsWords, OwnItems}
-use Rattle.bpaf_exact.specs.Flat.{LeavesNone, FieldTook, FieldLaw, ReadOff, GivesAll, FieldsLaw}
-use Rattle.bpaf_exact.specs.Flat.{Before, FieldsReading, Gives, both_reading, class, OfMemory}
+use Rattle.bpaf_exact.specs.Pieces.{no_roles, Cells, Role, Foreign, Alone, WithNext, Roles}
+use Rattle.bpaf_exact.specs.Pieces.{LinePiece, One, Two, is_own_role, is_own, others, either_role}
+use Rattle.bpaf_exact.specs.Pieces.{either, IsNamed, Apart, Cut, at_end, passed, flag, argument}
+use Rattle.bpaf_exact.specs.Pieces.{word, pieces, TakesPieces}
+use Rattle.bpaf_exact.specs.Flat.{cells, NonePresent, IsWholeIn, Steady, FieldKind, ByName, OneWord}
+use Rattle.bpaf_exact.specs.Flat.{EachWord, front, back, portion, left, keys, IsWords, OwnItems}
+use Rattle.bpaf_exact.specs.Flat.{NoKeysLeft, FieldTook, FieldLaw, ReadOff, FieldsLaw, Before}
+use Rattle.bpaf_exact.specs.Flat.{FieldsReading, both_reading, class, OfMemory, HasValue, Variables}
 use Rattle.bpaf_exact.proofs.Classes.{memory_class, not_memory}
 use Rattle.bpaf_exact.proofs.Cells.{value_foreign, word_foreign, begin_foreign, nil_rest}
 use Rattle.bpaf_exact.proofs.Cells.{nil_foreign, pieces_of_cut, others_foreign, put_back_some}
@@ -24,10 +22,12 @@ use Rattle.bpaf_exact.proofs.Cells.{take_some_from}
 use Rattle.bpaf_exact.proofs.Words.{NoKeys, put_words_back, take_words_from, words_of_cut}
 
 -- what isn't taken stays in the scope
-pub none_outside_after : (s t : Situation) → NoneOutside s → Steady s t → NoneOutside t
+pub none_outside_after : {env : Variables} (s t : Situation) → IsWholeIn env s → Steady s t
+    → IsWholeIn env t
 none_outside_after s t w k = record {
   end = k.end ∙ (w.end ∙ ap (λ c. length c.line) (sym k.context));
   front = λ p l. k.keeps p (w.front p (subst (λ n. p < n) k.start l));
+  environment = ap (λ c. c.env) k.context ∙ w.environment;
 }
 
 -- nothing has changed
@@ -64,8 +64,7 @@ no_own_in_cut q r n a (word {w = w} {cs = cs} h c) =
 -- an item that isn't the first's has the role that it has to the second
 either_foreign : (x y z : Role) → x ≡ Foreign → y ≡ z → either_role x y ≡ z
 either_foreign Foreign y z e h = h
-either_foreign Alone y z e h = cc
-either_foreign WithNext y z e h = cc
+either_foreign _ y z e h = cc
 
 -- with a piece of others more all are of others
 others_all : (q : Roles) (o : LinePiece) (os : List LinePiece) → is_own q o ≡ false
@@ -115,8 +114,7 @@ record Narrowed (q r : Roles) (cs : Cells) (os : List LinePiece) : Type 0 where
 -- an item that isn't the first's has its role to the others
 other_role : (x y z : Role) → x ≡ Foreign → either_role x y ≡ z → y ≡ z
 other_role Foreign y z e h = h
-other_role Alone y z e h = cc
-other_role WithNext y z e h = cc
+other_role _ y z e h = cc
 
 -- where the field has no piece left the cut is one by the others' keys
 narrow : (q r : Roles) {cs : Cells} {os : List LinePiece} → IsNamed q → pieces q cs ≡ []
@@ -151,13 +149,13 @@ narrow q r n p (word {w = w} {cs = cs} {os = os} h c) =
 
 -- What is read off the pieces, seen from before a field was evaluated.
 
--- a cut from before a field was evaluated, with its share and what it left
+-- a cut from before a field was evaluated, with its portion and what it left
 pub record StepBack (k : FieldKind) (q r : Roles) (cs : Cells)
     (after : List LinePiece) : Type 0 where
   pub before : List LinePiece
   pub cut : Cut (either (keys k q) r) cs before
   pub leaves : left k q before ≡ after
-  pub own : front k (pieces q cs) ≡ share k q before
+  pub own : front k (pieces q cs) ≡ portion k q before
 
 -- that of a named field
 named_back : (q r : Roles) {cs ds : Cells} {os : List LinePiece} → IsNamed q → Apart q r
@@ -175,7 +173,7 @@ named_back q r n a t c =
 
 -- of a positional one
 word_back : (k : FieldKind) (q r : Roles) {cs ds : Cells} {os : List LinePiece}
-    → keys k q ≡ no_roles → ((ps : List LinePiece) → share k q ps ≡ front k ps)
+    → keys k q ≡ no_roles → ((ps : List LinePiece) → portion k q ps ≡ front k ps)
     → ((ps : List LinePiece) → left k q ps ≡ back k ps) → IsWords q → NoKeys r
     → TakesPieces q cs ds → pieces q ds ≡ back k (pieces q cs) → Cut r ds os → StepBack k q r cs os
 word_back k q r {cs = cs} no_keys shares leaves n f t e c =
@@ -203,20 +201,19 @@ step_back (EachWord z) q r T value n b f c =
 
 -- a field that left nothing of its own
 pub none_left : (k : FieldKind) (q r : Roles) {cs : Cells} {os : List LinePiece} → OwnItems k q
-    → Before k q r → Cut r cs os → LeavesNone k q cs
+    → Before k q r → Cut r cs os → NoKeysLeft k q cs
 none_left ByName q r n b c = no_own_in_cut q r n b c
-none_left (OneWord z) q r n b c = tt
-none_left (EachWord z) q r n b c = tt
+none_left _ q r n b c = tt
 
 -- The cut after a field was evaluated.
 
--- a field's own pieces are its share of the cut
-pub own_share : (k : FieldKind) (q r : Roles) {cs : Cells} {os : List LinePiece} → OwnItems k q
-    → Before k q r → Cut (either (keys k q) r) cs os → front k (pieces q cs) ≡ share k q os
-own_share ByName q r n b c = pieces_of_cut q r n c
-own_share (OneWord z) q r n b c = ap (front (OneWord z)) (words_of_cut q r n (record { none = b })
+-- a field's own pieces are its portion of the cut
+pub own_portion : (k : FieldKind) (q r : Roles) {cs : Cells} {os : List LinePiece} → OwnItems k q
+    → Before k q r → Cut (either (keys k q) r) cs os → front k (pieces q cs) ≡ portion k q os
+own_portion ByName q r n b c = pieces_of_cut q r n c
+own_portion (OneWord z) q r n b c = ap (front (OneWord z)) (words_of_cut q r n (record { none = b })
     c)
-own_share (EachWord z) q r n b c =
+own_portion (EachWord z) q r n b c =
     ap (front (EachWord z)) (words_of_cut q r n (record { none = b }) c)
 
 -- the cut after a positional field was evaluated
@@ -248,8 +245,7 @@ both_named ByName q r n m =
       only_keys =
           λ a h. either_foreign (q a) (r a) Foreign (n.only_keys a h) (m.only_keys a h);
     }
-both_named (OneWord z) q r n m = m
-both_named (EachWord z) q r n m = m
+both_named _ q r n m = m
 
 -- two values of fields that were all evaluated
 pub record ValuesOfBoth (A B : Type 0) (first : Outcome A) (rest : Outcome B) (s : Situation)
@@ -282,15 +278,39 @@ module _ (A B : Type 0) (first : Outcome A) (rest : Outcome B) where
       → ValuesOfBoth A B first rest s v t
   values_of_both s t v o = joined_values s o.middle t o.a o.b v o.first_ran o.rest_ran o.answer
 
-module _ (A B : Type 0) (first : Outcome A) (rest : Outcome B) (k : FieldKind) (q r : Roles)
-    (fv : List LinePiece → A → Type 0) (others_read : FieldsReading B)
-    (lf : FieldLaw A first k q fv) (lr : FieldsLaw B rest r others_read) (b : Before k q r) where
+  -- a refusal is of the first, not for want of memory; of the others, after its value; or want of
+  -- memory
+  pub data RefusedBy (s : Situation) (e : Error) (t : Situation) : Type 0 where
+    for_memory : class e ≡ OfMemory → RefusedBy s e t
+    by_first : {d : Error} {m : Situation} → first s (Err d) m → (class d ≡ OfMemory → ⊥)
+        → RefusedBy s e t
+    by_rest : {v : A} {m : Situation} → first s (Ok v) m → rest m (Err e) t → RefusedBy s e t
+
+  -- of joined answers
+  joined_refused : (s m t : Situation) (a : Result A Error) (b : Result B Error) (e : Error)
+      → first s a m → rest m b t → IsNotMemory a → Err e ≡ joined a b → RefusedBy s e t
+  joined_refused s m t (Ok a) (Ok b) e f g spared i = absurd cc
+  joined_refused s m t (Ok a) (Err b) e f g spared i =
+      let d : b ≡ e = cc in by_rest f (subst (λ z. rest m (Err z) t) d g)
+  joined_refused s m t (Err a) b e f g spared i = by_first f (not_memory a.0 spared)
+
+  -- and so each
+  pub refused_by : (s t : Situation) (e : Error) → BothOutcome first rest s (Err e) t
+      → RefusedBy s e t
+  refused_by s t e (inl o) =
+      joined_refused s o.middle t o.a o.b e o.first_ran o.rest_ran o.spared o.answer
+  refused_by s t e (inr o) = for_memory (memory_class e.0 o.1)
+
+module _ {env : Variables} (A B : Type 0) (first : Outcome A) (rest : Outcome B) (k : FieldKind)
+    (q r : Roles) (fv : List LinePiece → A → Type 0) (others_read : FieldsReading B)
+    (lf : FieldLaw env A first k q fv) (lr : FieldsLaw env B rest r others_read)
+    (b : Before k q r) where
   -- how both read the pieces
   abbrev reading : FieldsReading (A × B)
   reading = both_reading k q fv others_read
 
   -- a product changes nothing but what is taken
-  both_steady : (s t : Situation) (v : A × B) → NoneOutside s → BothOutcome first rest s (Ok v) t
+  both_steady : (s t : Situation) (v : A × B) → IsWholeIn env s → BothOutcome first rest s (Ok v) t
       → Steady s t
   both_steady s t v w o =
       let h = values_of_both A B first rest s t v o in
@@ -299,7 +319,7 @@ module _ (A B : Type 0) (first : Outcome A) (rest : Outcome B) (k : FieldKind) (
       (lr.steady h.middle t v.1 (none_outside_after s h.middle w i.steady) h.rest_ran)
 
   -- its values are read off a cut
-  both_reads : (s t : Situation) (v : A × B) → NoneOutside s → BothOutcome first rest s (Ok v) t
+  both_reads : (s t : Situation) (v : A × B) → IsWholeIn env s → BothOutcome first rest s (Ok v) t
       → NonePresent (cells t)
       → ReadOff (A × B) (either (keys k q) r) reading.value (cells s) v
   both_reads s t v w o e =
@@ -317,63 +337,51 @@ module _ (A B : Type 0) (first : Outcome A) (rest : Outcome B) (k : FieldKind) (
         );
       }
 
-  -- where each field has a value, the first answers one, or want of memory
-  first_gives : (s m : Situation) (a : Result A Error) (os : List LinePiece) → NoneOutside s
-      → first s a m → Cut (either (keys k q) r) (cells s) os → reading.each os
-      → Gives q (fv (front k (pieces q (cells s)))) (back k (pieces q (cells s))) a m
-  first_gives s m a os w f c h =
-      lf.answers s m a h.0.0 w f
-      (subst (λ z. fv z h.0.0) (sym (own_share k q r lf.own b c)) h.0.1)
+  -- where each field has a value, so has the first on its own pieces
+  own_value : (s : Situation) (os : List LinePiece) → Cut (either (keys k q) r) (cells s) os
+      → (h : HasValue fv (portion k q os)) → fv (front k (pieces q (cells s))) h.0
+  own_value s os c h = subst (λ z. fv z h.0) (sym (own_portion k q r lf.own b c)) h.1
 
-  -- and then so do the others
-  rest_gives : (s m t : Situation) (x : A) (y : Result B Error) (os : List LinePiece)
-      → NoneOutside s → first s (Ok x) m → rest m y t → Cut (either (keys k q) r) (cells s) os
-      → reading.each os → GivesAll (others_read.value (left k q os)) y t
-  rest_gives s m t x y os w f g c h =
+  -- what the first leaves is cut into what it leaves of the pieces
+  rest_cut : (s m : Situation) (x : A) (os : List LinePiece) → IsWholeIn env s → first s (Ok x) m
+      → Cut (either (keys k q) r) (cells s) os → HasValue fv (portion k q os)
+      → Cut r (cells m) (left k q os)
+  rest_cut s m x os w f c h =
       let i = lf.ok s m x w f in
-      let j = first_gives s m (Ok x) os w f c h in
-      lr.answers m t y (left k q os) (none_outside_after s m w i.steady) g
-      (step_on k q r lf.own b i.takes j.1 c) h.1
+      step_on k q r lf.own b i.takes
+      (i.rest (lf.takes_all s m x h.0 w f (own_value s os c h))) c
 
-  -- where each field has a value, the values of a product are such
-  both_values : (s t : Situation) (u : A × B) (os : List LinePiece) → NoneOutside s
-      → BothOutcome first rest s (Ok u) t
-      → Cut (either (keys k q) r) (cells s) os → reading.each os
-      → GivesAll (reading.value os) (Ok u) t
-  both_values s t u os w o c h =
+  -- so the others leave nothing
+  both_take : (s t : Situation) (u : A × B) (os : List LinePiece) → IsWholeIn env s
+      → BothOutcome first rest s (Ok u) t → Cut (either (keys k q) r) (cells s) os
+      → reading.each os → NonePresent (cells t)
+  both_take s t u os w o c h =
       let i = values_of_both A B first rest s t u o in
-      let j = first_gives s i.middle (Ok u.0) os w i.first_ran c h in
-      let l = rest_gives s i.middle t u.0 (Ok u.1) os w i.first_ran i.rest_ran c h in
-      ((subst (λ z. fv z u.0) (own_share k q r lf.own b c) j.0, l.0), l.1)
+      lr.takes_all i.middle t u.1 (left k q os)
+      (none_outside_after s i.middle w (lf.ok s i.middle u.0 w i.first_ran).steady) i.rest_ran
+      (rest_cut s i.middle u.0 os w i.first_ran c h.0) h.1
 
   -- and a refusal is want of memory
-  both_fails : (s m t : Situation) (x : Result A Error) (y : Result B Error) (e : Error)
-      (os : List LinePiece) → NoneOutside s → first s x m → rest m y t → IsNotMemory x
-      → Err e ≡ joined x y
-      → Cut (either (keys k q) r) (cells s) os → reading.each os → class e ≡ OfMemory
-  both_fails s m t (Ok x) (Ok y) e os w f g spared i c h = absurd cc
-  both_fails s m t (Ok x) (Err y) e os w f g spared i c h =
-      let d : e ≡ y = cc in
-      ap class d ∙ rest_gives s m t x (Err y) os w f g c h
-  both_fails s m t (Err x) y e os w f g spared i c h =
-      absurd (not_memory x.0 spared (first_gives s m (Err x) os w f c h))
-
-  -- each answer
-  both_answers : (s t : Situation) (a : Result (A × B) Error) (os : List LinePiece)
-      → NoneOutside s → BothOutcome first rest s a t
-      → Cut (either (keys k q) r) (cells s) os → reading.each os
-      → GivesAll (reading.value os) a t
-  both_answers s t (Ok u) os w o c h = both_values s t u os w o c h
-  both_answers s t (Err e) os w (inl o) c h =
-      both_fails s o.middle t o.a o.b e os w o.first_ran o.rest_ran o.spared o.answer c h
-  both_answers s t (Err e) os w (inr o) c h = memory_class e.0 o.1
+  both_refuse : (s t : Situation) (e : Error) (os : List LinePiece) → IsWholeIn env s
+      → BothOutcome first rest s (Err e) t → Cut (either (keys k q) r) (cells s) os
+      → reading.each os → class e ≡ OfMemory
+  both_refuse s t e os w o c h = by_side (refused_by A B first rest s t e o)
+    where
+      by_side : RefusedBy A B first rest s e t → class e ≡ OfMemory
+      by_side (for_memory m) = m
+      by_side (by_first {d = d} {m = m} f spared) =
+          absurd (spared (lf.refuses s m d h.0.0 w f (own_value s os c h.0)))
+      by_side (by_rest {v = v} {m = m} f g) =
+          lr.refuses m t e (left k q os) (none_outside_after s m w (lf.ok s m v w f).steady) g
+          (rest_cut s m v os w f c h.0) h.1
 
   -- a flat field before flat fields: together they keep to the laws
-  pub both_law : FieldsLaw (A × B) (BothOutcome first rest) (either (keys k q) r) reading
+  pub both_law : FieldsLaw env (A × B) (BothOutcome first rest) (either (keys k q) r) reading
   both_law = record {
     named = both_named k q r lf.own lr.named;
     steady = both_steady;
     ok = both_reads;
     has_each = λ os v h. ((v.0, h.0), lr.has_each (left k q os) v.1 h.1);
-    answers = both_answers;
+    takes_all = both_take;
+    refuses = both_refuse;
   }

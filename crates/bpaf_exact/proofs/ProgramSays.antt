@@ -7,13 +7,12 @@ use Rattle.bpaf_laws.specs.Command.{Called, opening_words}
 use Rattle.bpaf_laws.specs.Environment.{first_set}
 use Rattle.bpaf_laws.specs.Reading.{Outcome}
 use Rattle.bpaf_exact.specs.Pieces.{Roles, LinePiece, pieces}
-use Rattle.bpaf_exact.specs.Flat.{ByName}
-use Rattle.bpaf_exact.specs.Says.{SaidKind, of_kind, repeated_kind}
-use Rattle.bpaf_exact.specs.FlatForm.{FlatForm, not_flat, alternative, single, complete, product}
-use Rattle.bpaf_exact.specs.FlatForm.{EachAgrees, alternative_only, inner_field, is_product}
-use Rattle.bpaf_exact.specs.FlatForm.{is_record}
-use Rattle.bpaf_exact.specs.FlatForm.{product_roles, flat_record, unless, flat_fallback}
-use Rattle.bpaf_exact.specs.FlatForm.{flat_closed, flat_last, flat_repeat}
+use Rattle.bpaf_exact.specs.Flat.{ByName, Variables}
+use Rattle.bpaf_exact.specs.Says.{SaidKind, of_kind, repeated_kind, Said, Says, MadeSays, FormSays}
+use Rattle.bpaf_exact.specs.Says.{FallbackSays, LastSays, RepeatSays}
+use Rattle.bpaf_exact.specs.FlatForm.{FlatForm, alternative, complete, EachAgrees, alternative_only}
+use Rattle.bpaf_exact.specs.FlatForm.{flat_field, is_product, is_record, product_roles, flat_record}
+use Rattle.bpaf_exact.specs.FlatForm.{unless, flat_fallback, flat_closed, flat_last, flat_repeat}
 use Rattle.bpaf_exact.specs.Names.{are_all_apart}
 use Rattle.bpaf_exact.specs.ProgramForm.{ProgramForm, no_program, plain, commands, left_out}
 use Rattle.bpaf_exact.specs.ProgramForm.{before_commands, ProgramFormLaw, program_if, flat_only}
@@ -26,30 +25,26 @@ use Rattle.bpaf_exact.specs.ProgramForm.{program_fallback, program_last, program
 use Rattle.bpaf_exact.specs.Programs.{CellsValue, CommandValue, ChoiceValue, first_value}
 use Rattle.bpaf_exact.specs.Programs.{second_value, OptionalCommands, some_command, no_command}
 use Rattle.bpaf_exact.specs.Programs.{ClosedCells, are_plain, without}
-use Rattle.bpaf_exact.specs.Says.{Said, Says, MadeSays, OneOfSays, FormSays, FallbackSays, LastSays}
-use Rattle.bpaf_exact.specs.Says.{RepeatSays}
 use Rattle.bpaf_exact.specs.ProgramSays.{ProgramSaid, of_pieces, of_cells, ProgramFieldsSaid}
 use Rattle.bpaf_exact.specs.ProgramSays.{of_all_pieces, of_all_cells, IsSaid, ProgramFormSays}
-use Rattle.bpaf_exact.specs.ProgramSays.{program_kind}
-use Rattle.bpaf_exact.specs.ProgramSays.{ProgramSays, ProgramFieldsFormSay, ProgramFieldsSay}
-use Rattle.bpaf_exact.specs.ProgramSays.{cells_said, pieces_said, said_choice, OneOfCells}
+use Rattle.bpaf_exact.specs.ProgramSays.{program_kind, ProgramSays, ProgramFieldsFormSay}
+use Rattle.bpaf_exact.specs.ProgramSays.{ProgramFieldsSay, cells_said, pieces_said, said_choice}
 use Rattle.bpaf_exact.specs.ProgramSays.{said_alone, said_both, said_con, said_choices, said_closed}
 use Rattle.bpaf_exact.specs.ProgramSays.{said_command, said_dressed, said_flat, said_optional}
 use Rattle.bpaf_exact.specs.ProgramSays.{said_fallback, said_last, said_repeat, fields_said_inside}
-use Rattle.bpaf_exact.specs.Variables.{Variables, key_form}
 use Rattle.bpaf_exact.specs.Wrappers.{Closure}
 use Rattle.bpaf_exact.proofs.Says.{FormOwns, alone_says, both_say, by_name, choice_into}
-use Rattle.bpaf_exact.proofs.Says.{choice_says, closed_says, con_says, field_owned}
-use Rattle.bpaf_exact.proofs.Says.{field_says, optional_says, owned, record_says, unless_says}
-use Rattle.bpaf_exact.proofs.Says.{fallback_says, last_says, listed_says}
+use Rattle.bpaf_exact.proofs.Says.{choice_says, closed_says, con_says, field_owned, field_says}
+use Rattle.bpaf_exact.proofs.Says.{optional_says, owned, record_says, unless_says, fallback_says}
+use Rattle.bpaf_exact.proofs.Says.{last_says, listed_says}
 use Rattle.bpaf_exact.proofs.FlatForm.{flat_record_law}
 use Rattle.bpaf_exact.proofs.ProgramForm.{record_owns}
 use Rattle.bpaf_exact.proofs.Sharing.{cut_fit, pieces_own}
+use Rattle.bpaf_exact.specs.Variables.{key_form}
 
 -- where a test holds
 if_says : {P T : Type 0} (names : List Names) (b : Bool) (s : ProgramForm T) (kind : SaidKind)
-    (said : ProgramSaid P T)
-    (p : P) → (b ≡ true → ProgramFormSays names s kind said p)
+    (said : ProgramSaid P T) (p : P) → (b ≡ true → ProgramFormSays names s kind said p)
     → ProgramFormSays names (program_if b s) kind said p
 if_says names true s kind said p h = h refl
 if_says names false s kind said p h = tt
@@ -68,17 +63,13 @@ module _ {P Q A B : Type 0} (inside : Q → P) (q : Q) where
       by_form : (s : ProgramForm A) (said : ProgramSaid P A)
           → ProgramFormSays names s kind said (inside q)
           → ProgramFormSays names (flat_only g s) outer (said_flat inside pieces said) q
-      by_form no_program said h = tt
       by_form (plain wide s) (of_pieces said) h = each s (said (inside q)) h
       by_form (plain wide s) (of_cells said) h = absurd h
-      by_form (commands r value) said h = tt
-      by_form (left_out r value) said h = tt
-      by_form (before_commands r value) said h = tt
+      by_form _ said h = tt
 
   -- a closure
   pub program_closed_says : {s : ProgramForm A} {said : ProgramSaid P A} {kind : SaidKind}
-      {names : List Names}
-      (f : Q → Closure A B) → ProgramSays names s kind said (inside q)
+      {names : List Names} (f : Q → Closure A B) → ProgramSays names s kind said (inside q)
       → ProgramSays names (program_closed (f q) s) kind
       (said_closed inside f said) q
   program_closed_says {s} {said} {kind} {names} f h = record { by = by_form s said h.by }
@@ -92,14 +83,13 @@ module _ {P Q A B : Type 0} (inside : Q → P) (q : Q) where
           → ProgramFormSays names s kind said (inside q)
           → ProgramFormSays names (program_closed (f q) s) kind
           (said_closed inside f said) q
-      by_form no_program said h = tt
       by_form (plain wide s) (of_pieces said) h = closed_says (f q) h
       by_form (plain wide s) (of_cells said) h = absurd h
       by_form (commands r value) (of_pieces said) h = absurd h
       by_form (commands r value) (of_cells said) h = made value (said (inside q)) h
       by_form (left_out r value) (of_pieces said) h = absurd h
       by_form (left_out r value) (of_cells said) h = made value (said (inside q)) h
-      by_form (before_commands r value) said h = tt
+      by_form _ said h = tt
 
 -- what is made of a repeat
 pub program_repeat_says : {P Q T B : Type 0} (inside : Q → P) (q : Q) (catch : Bool)
@@ -144,19 +134,17 @@ module _ {P Q T : Type 0} (inside : Q → P) (q : Q) where
           → ProgramFormSays names s kind said (inside q)
           → ProgramFormSays names (program_dressed s) kind
           (said_dressed inside said) q
-      by_form no_program said h = tt
       by_form (plain wide s) (of_pieces said) h = h
       by_form (plain wide s) (of_cells said) h = absurd h
       by_form (commands r value) (of_pieces said) h = absurd h
       by_form (commands r value) (of_cells said) h = h
       by_form (left_out r value) (of_pieces said) h = absurd h
       by_form (left_out r value) (of_cells said) h = h
-      by_form (before_commands r value) said h = tt
+      by_form _ said h = tt
 
   -- what may be left out
   pub program_optional_says : {s : ProgramForm T} {said : ProgramSaid P T} {kind : SaidKind}
-      {names : List Names}
-      (catch : Bool) → ProgramSays names s kind said (inside q)
+      {names : List Names} (catch : Bool) → ProgramSays names s kind said (inside q)
       → ProgramSays names (program_optional catch s) kind
       (said_optional inside said) q
   program_optional_says {s} {said} {kind} {names} catch h = record { by = by_form s said h.by }
@@ -170,52 +158,49 @@ module _ {P Q T : Type 0} (inside : Q → P) (q : Q) where
           → ProgramFormSays names s kind said (inside q)
           → ProgramFormSays names (program_optional catch s) kind
           (said_optional inside said) q
-      by_form no_program said h = tt
       by_form (plain wide s) (of_pieces said) h = unless_says catch (optional_says h)
       by_form (plain wide s) (of_cells said) h = absurd h
       by_form (commands r value) (of_pieces said) h = absurd h
       by_form (commands r value) (of_cells said) h =
           if_says names (not catch) _ kind _ q (λ on. optional value (said (inside q)) h)
-      by_form (left_out r value) said h = tt
-      by_form (before_commands r value) said h = tt
+      by_form _ said h = tt
 
   -- a value of a whole program says so of the cells
-  whole_says : (outcome : Outcome T) (names : List Names) (words : List (List ℕ))
+  whole_says : (env : Variables) (outcome : Outcome T) (names : List Names) (words : List (List ℕ))
       (s : ProgramForm T) (kind : SaidKind) (said : ProgramSaid P T) (p : P)
-      → ProgramFormLaw outcome names words s → ProgramFormSays names s kind said p
+      → ProgramFormLaw env outcome names words s → ProgramFormSays names s kind said p
       → is_program s ≡ true
       → IsSaid (program_value s) (cells_said said p)
-  whole_says outcome names words no_program kind said p law h is = absurd cc
-  whole_says outcome names words (plain wide s) kind (of_pieces said) p law h is =
+  whole_says env outcome names words no_program kind said p law h is = absurd cc
+  whole_says env outcome names words (plain wide s) kind (of_pieces said) p law h is =
       λ cs v read. record {
         roles = product_roles (flat_record s);
         cut_into = read.cut_into;
         cut = read.cut;
         told = record_says s h read.cut_into v
             (cut_fit (product_roles (flat_record s)) names
-            (record_owns T outcome names s is (flat_record_law T outcome names s law)) read.cut)
+            (record_owns env T outcome names s is (flat_record_law env T outcome names s law))
+            read.cut)
             read.read;
       }
-  whole_says outcome names words (plain wide s) kind (of_cells said) p law h is = absurd h
-  whole_says outcome names words (commands r value) kind (of_pieces said) p law h is = absurd h
-  whole_says outcome names words (commands r value) kind (of_cells said) p law h is = h
-  whole_says outcome names words (left_out r value) kind (of_pieces said) p law h is = absurd h
-  whole_says outcome names words (left_out r value) kind (of_cells said) p law h is = h
-  whole_says outcome names words (before_commands r value) kind (of_pieces said) p law h is =
-      absurd h
-  whole_says outcome names words (before_commands r value) kind (of_cells said) p law h is = h
+  whole_says env outcome names words (plain wide s) kind (of_cells said) p law h is = absurd h
+  whole_says env outcome names words (commands r value) kind (of_cells said) p law h is = h
+  whole_says env outcome names words (left_out r value) kind (of_cells said) p law h is = h
+  whole_says env outcome names words (before_commands r value) kind (of_cells said) p law h is = h
+  whole_says env outcome names words _ kind (of_pieces said) p law h is = absurd h
 
   -- a command
-  pub program_command_says : (outcome : Outcome T) (words : List (List ℕ)) {s : ProgramForm T}
+  pub program_command_says : (env : Variables) (outcome : Outcome T) (words : List (List ℕ))
+      {s : ProgramForm T}
       {said : ProgramSaid P T} {kind : SaidKind} {names : List Names} (adjacent apart : Bool)
-      (called : Q → Called) → ProgramFormLaw outcome names words s
+      (called : Q → Called) → ProgramFormLaw env outcome names words s
       → ProgramSays names s kind said (inside q)
       → ProgramSays names (program_command adjacent apart (called q) s) (of_kind ByName)
       (said_command inside called said) q
-  program_command_says outcome words {s} {said} {kind} {names} adjacent apart called law h =
+  program_command_says env outcome words {s} {said} {kind} {names} adjacent apart called law h =
       record {
         by = if_says names (not adjacent && apart) _ (of_kind ByName) _ q (λ on. by_form s
-            (whole_says outcome names words s kind said (inside q) law h.by));
+            (whole_says env outcome names words s kind said (inside q) law h.by));
       }
     where
       Told : CellsValue T
@@ -256,40 +241,42 @@ module _ {P Q T : Type 0} (inside : Q → P) (q : Q) where
 
 -- Choices.
 
-module _ {Q T : Type 0} (q : Q) where
-  -- one more parser, which says so of pieces, into what is said of them
-  more_pieces : {P : Type 0} (said : Q → Said T) (says : P → Said T) (p : P) (kind : SaidKind)
-      (names own others : List Names) (words more : List (List ℕ)) (before s : ProgramForm T)
-      → ProgramFormSays names before (of_kind ByName) (of_pieces said) q
-      → ProgramFormSays others s kind (of_pieces says) p
-      → ((os : List LinePiece) (v : T) → says p os v → said q os v)
-      → ProgramFormSays names (program_choice own others words more before s) (of_kind ByName)
-      (of_pieces said) q
-  more_pieces said says p kind names own others words more (plain wide a) (plain other b)
-      h g into = record {
-        by =
-            choice_into names others names own others kind (said q) (said q) (says p) (λ os v m. m)
-            into a b h.by g.by;
-      }
-  more_pieces said says p kind names own others words more (commands r a) s h g into = absurd h
-  more_pieces said says p kind names own others words more _ _ h g into = tt
+module _ {P Q T : Type 0} (q : Q) where
+  -- what one parser says goes into what is said of all
+  abbrev Into : ProgramSaid P T → ProgramSaid Q T → P → Type 0
+  Into (of_pieces says) (of_pieces said) p =
+      (os : List LinePiece) (v : T) → says p os v → said q os v
+  Into (of_cells says) (of_cells said) p = IsSaid (says p) (said q)
+  Into _ _ p = ⊥
 
-  -- one more, which says so of cells
-  more_cells : {P : Type 0} (said : Q → CellsValue T) (says : P → CellsValue T) (p : P)
-      (kind : SaidKind) (names own others : List Names) (words more : List (List ℕ))
-      (before s : ProgramForm T) → ProgramFormSays names before (of_kind ByName) (of_cells said) q
-      → ProgramFormSays others s kind (of_cells says) p → IsSaid (says p) (said q)
+  -- one more parser, into what is said of all
+  more_says : (says : ProgramSaid P T) (said : ProgramSaid Q T) (p : P) (kind : SaidKind)
+      (names own others : List Names) (words more : List (List ℕ)) (before s : ProgramForm T)
+      → ProgramFormSays names before (of_kind ByName) said q
+      → ProgramFormSays others s kind says p → Into says said p
       → ProgramFormSays names (program_choice own others words more before s) (of_kind ByName)
-      (of_cells said) q
-  more_cells said says p kind names own others words more (plain wide a) (plain other b) h g into =
-      absurd h
-  more_cells said says p kind names own others words more (commands r a) (commands u b) h g into =
+      said q
+  more_says (of_pieces says) (of_pieces said) p kind names own others words more (plain wide a)
+      (plain other b) h g into = record {
+        by = choice_into names others names own others (of_kind ByName) kind (said q) (said q)
+            (says p) (λ os v m. m) into a b h.by g.by;
+      }
+  more_says (of_cells says) (of_cells said) p kind names own others words more (commands r a)
+      (commands u b) h g into =
       if_says names (are_words_apart words more) _ (of_kind ByName) _ q (λ on. either)
     where
       either : IsSaid (ChoiceValue T a b) (said q)
       either cs v (first_value c) = h cs v c
       either cs v (second_value c) = into cs v (g cs v c)
-  more_cells said says p kind names own others words more _ _ h g into = tt
+  more_says says (of_cells said) p kind names own others words more (plain wide a) s h g into =
+      absurd h
+  more_says says (of_pieces said) p kind names own others words more (commands r a) s h g into =
+      absurd h
+  more_says (of_cells says) (of_pieces said) p kind names own others words more (plain wide a)
+      (plain other b) h g into = absurd into
+  more_says (of_pieces says) (of_cells said) p kind names own others words more (commands r a)
+      (commands u b) h g into = absurd into
+  more_says says said p kind names own others words more _ _ h g into = tt
 
 -- of two
 pub program_choice_says : {P Q R T : Type 0} (this : R → P) (that : R → Q) (r : R)
@@ -326,75 +313,41 @@ program_choice_says {P} {Q} {R} {T} this that r own others words more {s} {t} {a
 module _ {P Q T : Type 0} (keys : P → List Names) (words : P → List (List ℕ))
     (form : P → ProgramForm T) (kind : P → SaidKind) (agrees : P → Type 0) (q : Q)
     (names : List Names) where
-  module _ (says : P → Said T)
-      (each : (p : P) → agrees p → ProgramFormSays (keys p) (form p) (kind p) (of_pieces says) p)
+  -- of what stands before and of more
+  rest_says : (says : ProgramSaid P T) (said : ProgramSaid Q T)
+      → ((p : P) → agrees p → ProgramSays (keys p) (form p) (kind p) says p)
+      → (own : List Names) (heard : List (List ℕ)) (before : ProgramForm T) (ps : List P)
+      → ProgramFormSays names before (of_kind ByName) said q → EachAgrees agrees ps
+      → ((p : P) → Contains ps p → Into q says said p)
+      → ProgramFormSays names (program_rest keys words form own heard before ps) (of_kind ByName)
+      said q
+  rest_says says said each own heard before [] h agree into = h
+  rest_says says said each own heard before (p ∷ ps) h agree into =
+      rest_says says said each (own ++ keys p) (heard ++ words p)
+      (program_choice own (keys p) heard (words p) before (form p)) ps
+      (more_says q says said p (kind p) names own (keys p) heard (words p) before (form p) h
+      (each p agree.0).by (into p (zero, omega arith, refl))) agree.1
+      (λ r there. into r (suc there.0, omega arith, there.2))
+
+  -- of the first of them
+  first_says : (says : ProgramSaid P T) (said : ProgramSaid Q T) (p : P) (s : ProgramForm T)
+      → ProgramFormSays (keys p) s (kind p) says p → Into q says said p
+      → ProgramFormSays names (first_only s) (of_kind ByName) said q
+  first_says (of_pieces says) (of_pieces said) p (plain wide s) h into =
+      record { by = by_flat s (by_name (keys p) s (kind p) (says p) h.by) }
     where
-      -- of what stands before and of more, by their pieces
-      rest_pieces : (said : Q → Said T) (own : List Names) (heard : List (List ℕ))
-          (before : ProgramForm T) (ps : List P)
-          → ProgramFormSays names before (of_kind ByName) (of_pieces said) q
-          → EachAgrees agrees ps
-          → ((p : P) → Contains ps p → (os : List LinePiece) (v : T) → says p os v → said q os v)
-          → ProgramFormSays names (program_rest keys words form own heard before ps)
-          (of_kind ByName)
-          (of_pieces said) q
-      rest_pieces said own heard before [] h agree into = h
-      rest_pieces said own heard before (p ∷ ps) h agree into =
-          rest_pieces said (own ++ keys p) (heard ++ words p)
-          (program_choice own (keys p) heard (words p) before (form p)) ps
-          (more_pieces q said says p (kind p) names own (keys p) heard (words p) before (form p) h
-          (each p agree.0) (into p (zero, omega arith, refl))) agree.1
-          (λ r there. into r (suc there.0, omega arith, there.2))
-
-      -- the first of them
-      first_pieces : (said : Q → Said T) (p : P) (s : ProgramForm T)
-          → ProgramFormSays (keys p) s (kind p) (of_pieces says) p
-          → ((os : List LinePiece) (v : T) → says p os v → said q os v)
-          → ProgramFormSays names (first_only s) (of_kind ByName) (of_pieces said) q
-      first_pieces said p no_program h into = tt
-      first_pieces said p (plain wide s) h into =
-          record { by = by_flat s (by_name (keys p) s (kind p) (says p) h.by) }
-        where
-          by_flat : (s : FlatForm T)
-              → FormSays (keys p) (alternative_only s) (of_kind ByName) (says p)
-              → FormSays names (alternative_only s) (of_kind ByName) (said q)
-          by_flat not_flat h = tt
-          by_flat (alternative r value) h = (refl, λ o v m. into (o ∷ []) v (h.1 o v m))
-          by_flat (single k r group gap) h = tt
-          by_flat (complete k r value) h = tt
-          by_flat (product named r fields) h = tt
-      first_pieces said p (commands r value) h into = absurd h
-      first_pieces said p (left_out r value) h into = tt
-      first_pieces said p (before_commands r value) h into = tt
-
-  module _ (says : P → CellsValue T)
-      (each : (p : P) → agrees p → ProgramFormSays (keys p) (form p) (kind p) (of_cells says) p)
-    where
-      -- of what stands before and of more, by the cells
-      rest_cells : (said : Q → CellsValue T) (own : List Names) (heard : List (List ℕ))
-          (before : ProgramForm T) (ps : List P)
-          → ProgramFormSays names before (of_kind ByName) (of_cells said) q
-          → EachAgrees agrees ps → ((p : P) → Contains ps p → IsSaid (says p) (said q))
-          → ProgramFormSays names (program_rest keys words form own heard before ps)
-          (of_kind ByName)
-          (of_cells said) q
-      rest_cells said own heard before [] h agree into = h
-      rest_cells said own heard before (p ∷ ps) h agree into =
-          rest_cells said (own ++ keys p) (heard ++ words p)
-          (program_choice own (keys p) heard (words p) before (form p)) ps
-          (more_cells q said says p (kind p) names own (keys p) heard (words p) before (form p) h
-          (each p agree.0) (into p (zero, omega arith, refl))) agree.1
-          (λ r there. into r (suc there.0, omega arith, there.2))
-
-      -- the first of them
-      first_cells : (said : Q → CellsValue T) (p : P) (s : ProgramForm T)
-          → ProgramFormSays (keys p) s (kind p) (of_cells says) p → IsSaid (says p) (said q)
-          → ProgramFormSays names (first_only s) (of_kind ByName) (of_cells said) q
-      first_cells said p no_program h into = tt
-      first_cells said p (plain wide s) h into = absurd h
-      first_cells said p (commands r value) h into = λ cs v c. into cs v (h cs v c)
-      first_cells said p (left_out r value) h into = tt
-      first_cells said p (before_commands r value) h into = tt
+      by_flat : (s : FlatForm T)
+          → FormSays (keys p) (alternative_only s) (of_kind ByName) (says p)
+          → FormSays names (alternative_only s) (of_kind ByName) (said q)
+      by_flat (alternative r value) h = (refl, λ o v m. into (o ∷ []) v (h.1 o v m))
+      by_flat _ h = tt
+  first_says (of_cells says) (of_cells said) p (commands r value) h into =
+      λ cs v c. into cs v (h cs v c)
+  first_says (of_cells says) said p (plain wide s) h into = absurd h
+  first_says (of_pieces says) said p (commands r value) h into = absurd h
+  first_says (of_pieces says) (of_cells said) p (plain wide s) h into = absurd into
+  first_says (of_cells says) (of_pieces said) p (commands r value) h into = absurd into
+  first_says says said p _ h into = tt
 
   -- of all
   pub program_choices_says : (parsers : Q → List P) (said : ProgramSaid P T)
@@ -403,75 +356,56 @@ module _ {P Q T : Type 0} (keys : P → List Names) (words : P → List (List �
       → ProgramSays names (program_choices keys words form (parsers q)) (of_kind ByName)
       (said_choices parsers said) q
   program_choices_says parsers said each agree =
-      record { by = by_said said (λ p a. (each p a).by) }
+      record { by = by_list (parsers q) agree (one_of said) }
     where
-      by_said : (said : ProgramSaid P T)
-          → ((p : P) → agrees p → ProgramFormSays (keys p) (form p) (kind p) said p)
-          → ProgramFormSays names (program_choices keys words form (parsers q)) (of_kind ByName)
+      one_of : (said : ProgramSaid P T) (p : P) → Contains (parsers q) p
+          → Into q said (said_choices parsers said) p
+      one_of (of_pieces said) p there = λ os v m. record { parser = p; among = there; told = m }
+      one_of (of_cells said) p there = λ cs v m. record { parser = p; among = there; told = m }
+
+      by_list : (ps : List P) → EachAgrees agrees ps
+          → ((p : P) → Contains ps p → Into q said (said_choices parsers said) p)
+          → ProgramFormSays names (program_choices keys words form ps) (of_kind ByName)
           (said_choices parsers said) q
-      by_said (of_pieces said) each = by_list (parsers q) agree (λ p there os v m.
-          record { parser = p; among = there; told = m })
-        where
-          by_list : (ps : List P) → EachAgrees agrees ps
-              → ((p : P) → Contains ps p → (os : List LinePiece) (v : T) → said p os v
-              → OneOfSays said (parsers q) os v)
-              → ProgramFormSays names (program_choices keys words form ps) (of_kind ByName)
-              (of_pieces (λ (q : Q). OneOfSays said (parsers q))) q
-          by_list [] agree into = tt
-          by_list (p ∷ ps) agree into =
-              rest_pieces said each (λ q. OneOfSays said (parsers q)) (keys p) (words p)
-              (first_only (form p)) ps
-              (first_pieces said each (λ q. OneOfSays said (parsers q)) p (form p)
-              (each p agree.0) (into p (zero, omega arith, refl))) agree.1
-              (λ r there. into r (suc there.0, omega arith, there.2))
-      by_said (of_cells said) each = by_list (parsers q) agree (λ p there cs v m.
-          record { parser = p; among = there; told = m })
-        where
-          by_list : (ps : List P) → EachAgrees agrees ps
-              → ((p : P) → Contains ps p → IsSaid (said p) (OneOfCells said (parsers q)))
-              → ProgramFormSays names (program_choices keys words form ps) (of_kind ByName)
-              (of_cells (λ (q : Q). OneOfCells said (parsers q))) q
-          by_list [] agree into = tt
-          by_list (p ∷ ps) agree into =
-              rest_cells said each (λ q. OneOfCells said (parsers q)) (keys p) (words p)
-              (first_only (form p)) ps
-              (first_cells said each (λ q. OneOfCells said (parsers q)) p (form p)
-              (each p agree.0) (into p (zero, omega arith, refl))) agree.1
-              (λ r there. into r (suc there.0, omega arith, there.2))
+      by_list [] agree into = tt
+      by_list (p ∷ ps) agree into =
+          rest_says said (said_choices parsers said) each (keys p) (words p) (first_only (form p))
+          ps
+          (first_says said (said_choices parsers said) p (form p) (each p agree.0).by
+          (into p (zero, omega arith, refl))) agree.1
+          (λ r there. into r (suc there.0, omega arith, there.2))
 
 -- Products.
 
 -- the last field
-pub program_alone_says : {P Q T : Type 0} (last : Q → P) (q : Q) (outcome : Outcome T)
+pub program_alone_says : (env : Variables) {P Q T : Type 0} (last : Q → P) (q : Q)
+    (outcome : Outcome T)
     (kind : P → SaidKind) (names : P → List Names) (words : List (List ℕ)) {s : ProgramForm T}
-    {said : ProgramSaid P T} → ProgramFormLaw outcome (names (last q)) words s
+    {said : ProgramSaid P T} → ProgramFormLaw env outcome (names (last q)) words s
     → ProgramSays (names (last q)) s (kind (last q)) said (last q)
     → ProgramFieldsSay (names (last q)) (program_alone (program_field s))
     (said_alone last kind names said) q
-program_alone_says {P} {Q} {T} last q outcome kind names words {s} {said} law h =
+program_alone_says env {P} {Q} {T} last q outcome kind names words {s} {said} law h =
     record { by = by_form s said law h.by }
   where
     by_form : (s : ProgramForm T) (said : ProgramSaid P T)
-        → ProgramFormLaw outcome (names (last q)) words s
+        → ProgramFormLaw env outcome (names (last q)) words s
         → ProgramFormSays (names (last q)) s (kind (last q)) said (last q)
         → ProgramFieldsFormSay (names (last q)) (program_alone (program_field s))
         (said_alone last kind names said) q
     by_form no_program said law h = tt
     by_form (plain wide s) (of_pieces said) law h =
-        alone_says (field_owned outcome (names (last q)) s law)
-        (field_says (owned outcome (names (last q)) s law) h)
+        alone_says (field_owned env outcome (names (last q)) s law)
+        (field_says (owned env outcome (names (last q)) s law) h)
     by_form (plain wide s) (of_cells said) law h = absurd h
-    by_form (commands r value) (of_pieces said) law h = absurd h
     by_form (commands r value) (of_cells said) law h = h
-    by_form (left_out r value) (of_pieces said) law h = absurd h
     by_form (left_out r value) (of_cells said) law h = h
-    by_form (before_commands r value) (of_pieces said) law h = absurd h
     by_form (before_commands r value) (of_cells said) law h = h
+    by_form _ (of_pieces said) law h = absurd h
 
 -- where a test holds
 fields_if_say : {P V : Type 0} (names : List Names) (b : Bool) (s : ProgramForm V)
-    (said : ProgramFieldsSaid P V)
-    (p : P) → (b ≡ true → ProgramFieldsFormSay names s said p)
+    (said : ProgramFieldsSaid P V) (p : P) → (b ≡ true → ProgramFieldsFormSay names s said p)
     → ProgramFieldsFormSay names (program_if b s) said p
 fields_if_say names true s said p h = h refl
 fields_if_say names false s said p h = tt
@@ -497,41 +431,42 @@ module _ {P Q R A B : Type 0} (first : R → P) (rest : R → Q) (r : R) (outcom
       })
   before_says said more wide _ u value own h g = tt
 
-  pub program_both_say : {s : ProgramForm A} {t : ProgramForm B} {said : ProgramSaid P A}
-      {more : ProgramFieldsSaid Q B} → ProgramFormLaw outcome (names (first r)) words s
-      → ProgramFormLaw behind others [] t
+  pub program_both_say : (env : Variables) {s : ProgramForm A} {t : ProgramForm B}
+      {said : ProgramSaid P A}
+      {more : ProgramFieldsSaid Q B} → ProgramFormLaw env outcome (names (first r)) words s
+      → ProgramFormLaw env behind others [] t
       → ProgramSays (names (first r)) s (kind (first r)) said (first r)
       → ProgramFieldsSay others t more (rest r)
       → ProgramFieldsSay (names (first r) ++ others)
       (program_both (names (first r)) others (program_field s) t)
       (said_both first rest kind names said more) r
-  program_both_say {s} {t} {said} {more} law laws h g =
+  program_both_say env {s} {t} {said} {more} law laws h g =
       record { by = by_form s t said more law laws h.by g.by }
     where
       by_form : (s : ProgramForm A) (t : ProgramForm B) (said : ProgramSaid P A)
-          (more : ProgramFieldsSaid Q B) → ProgramFormLaw outcome (names (first r)) words s
-          → ProgramFormLaw behind others [] t
+          (more : ProgramFieldsSaid Q B) → ProgramFormLaw env outcome (names (first r)) words s
+          → ProgramFormLaw env behind others [] t
           → ProgramFormSays (names (first r)) s (kind (first r)) said (first r)
           → ProgramFieldsFormSay others t more (rest r)
           → ProgramFieldsFormSay (names (first r) ++ others)
           (program_both (names (first r)) others (program_field s) t)
           (said_both first rest kind names said more) r
       by_form (plain wide s) (plain other t) (of_pieces said) (of_all_pieces more) law laws h g =
-          both_say (field_owned outcome (names (first r)) s law) (owned behind others t laws)
-          (field_says (owned outcome (names (first r)) s law) h) g
+          both_say (field_owned env outcome (names (first r)) s law)
+          (owned env behind others t laws)
+          (field_says (owned env outcome (names (first r)) s law) h) g
       by_form (plain wide s) (plain other t) (of_pieces said) (of_all_cells more) law laws h g =
           absurd g
-      by_form (plain wide s) (plain other t) (of_cells said) more law laws h g = absurd h
       by_form (plain wide s) (before_commands u value) (of_pieces said) (of_all_cells more)
           law laws h
           g =
-          before_says said more (wide || is_product s) (inner_field s) u value
-          (field_owned outcome (names (first r)) s law).by
-          (field_says (owned outcome (names (first r)) s law) h) g
+          before_says said more (wide || is_product s) (flat_field s) u value
+          (field_owned env outcome (names (first r)) s law).by
+          (field_says (owned env outcome (names (first r)) s law) h) g
       by_form (plain wide s) (before_commands u value) (of_pieces said) (of_all_pieces more)
           law laws h
           g = absurd g
-      by_form (plain wide s) (before_commands u value) (of_cells said) more law laws h g = absurd h
+      by_form (plain wide s) _ (of_cells said) more law laws h g = absurd h
       by_form _ _ said more law laws h g = tt
 
 -- fields that stand inside
@@ -543,51 +478,48 @@ inside_say {P} {Q} {V} inside q {names} {s} {said} h = record { by = by_form s s
     by_form : (s : ProgramForm V) (said : ProgramFieldsSaid P V)
         → ProgramFieldsFormSay names s said (inside q)
         → ProgramFieldsFormSay names s (fields_said_inside inside said) q
-    by_form no_program said h = tt
     by_form (plain wide s) (of_all_pieces said) h = h
     by_form (plain wide s) (of_all_cells said) h = absurd h
-    by_form (commands r value) said h = tt
-    by_form (left_out r value) said h = tt
     by_form (before_commands r value) (of_all_pieces said) h = absurd h
     by_form (before_commands r value) (of_all_cells said) h = h
+    by_form _ said h = tt
 
 -- a constructor
-pub program_con_says : {P Q A B : Type 0} (fields : Q → P) (q : Q) (outcome : Outcome A)
-    (names : P → List Names) (makes : Q → Closure A B) {s : ProgramForm A}
-    {said : ProgramFieldsSaid P A} → ProgramFormLaw outcome (names (fields q)) [] s
+pub program_con_says : (env : Variables) {P Q A B : Type 0} (fields : Q → P) (q : Q)
+    (outcome : Outcome A) (names : P → List Names) (makes : Q → Closure A B) {s : ProgramForm A}
+    {said : ProgramFieldsSaid P A} → ProgramFormLaw env outcome (names (fields q)) [] s
     → ProgramFieldsSay (names (fields q)) s said (fields q)
     → ProgramSays (names (fields q)) (program_con (makes q) s) (program_kind s)
     (said_con fields names makes said) q
-program_con_says {P} {Q} {A} {B} fields q outcome names makes {s} {said} law g =
+program_con_says env {P} {Q} {A} {B} fields q outcome names makes {s} {said} law g =
     record { by = by_form s said law g.by }
   where
     by_form : (s : ProgramForm A) (said : ProgramFieldsSaid P A)
-        → ProgramFormLaw outcome (names (fields q)) [] s
+        → ProgramFormLaw env outcome (names (fields q)) [] s
         → ProgramFieldsFormSay (names (fields q)) s said (fields q)
         → ProgramFormSays (names (fields q)) (program_con (makes q) s) (program_kind s)
         (said_con fields names makes said) q
-    by_form no_program said law g = tt
     by_form (plain wide s) (of_all_pieces said) law g =
-        con_says (makes q) (owned outcome (names (fields q)) s law) g
+        con_says (makes q) (owned env outcome (names (fields q)) s law) g
     by_form (plain wide s) (of_all_cells said) law g = absurd g
-    by_form (commands r value) said law g = tt
-    by_form (left_out r value) said law g = tt
     by_form (before_commands r value) (of_all_pieces said) law g = absurd g
     by_form (before_commands r value) (of_all_cells said) law g = λ cs v c. record {
       from = c.from;
       read = g cs c.from c.read;
       made = c.made;
     }
+    by_form _ said law g = tt
 
 -- The whole.
 
 -- a value of a program says so of the cells
-pub program_says : {P T : Type 0} (outcome : Outcome T) (words : List (List ℕ))
+pub program_says : (env : Variables) {P T : Type 0} (outcome : Outcome T) (words : List (List ℕ))
     (s : ProgramForm T) {kind : SaidKind} {names : List Names} {said : ProgramSaid P T} {p : P}
-    → ProgramFormLaw outcome names words s → ProgramSays names s kind said p → is_program s ≡ true
+    → ProgramFormLaw env outcome names words s → ProgramSays names s kind said p
+    → is_program s ≡ true
     → IsSaid (program_value s) (cells_said said p)
-program_says outcome words s {kind} {names} {said} {p} law h is =
-    whole_says (λ q. q) p outcome names words s kind said p law h.by is
+program_says env outcome words s {kind} {names} {said} {p} law h is =
+    whole_says (λ q. q) p env outcome names words s kind said p law h.by is
 
 -- a value of a flat record says so of the pieces
 pub flat_says : {P T : Type 0} (s : ProgramForm T) {kind : SaidKind} {names : List Names}
@@ -597,12 +529,9 @@ flat_says {P} {T} s {kind} {names} {said} {p} h = by_form s said h.by
   where
     by_form : (s : ProgramForm T) (said : ProgramSaid P T) → ProgramFormSays names s kind said p
         → Says names (flat_form s) kind (pieces_said said p)
-    by_form no_program said h = record { by = tt }
     by_form (plain wide s) (of_pieces said) h = unless_says wide h
     by_form (plain wide s) (of_cells said) h = absurd h
-    by_form (commands r value) said h = record { by = tt }
-    by_form (left_out r value) said h = record { by = tt }
-    by_form (before_commands r value) said h = record { by = tt }
+    by_form _ said h = record { by = tt }
 
 -- a key, by what its field says without a name in the environment and with some
 pub key_says : {P T : Type 0} {names : List Names} {kind : SaidKind}

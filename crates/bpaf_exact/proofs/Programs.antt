@@ -11,7 +11,7 @@ use Rattle.std.proofs.lemmas.Bool.Decides.{nat_tests}
 use Rattle.std.proofs.lemmas.List.{length_push}
 use Rattle.std.proofs.lemmas.Slice.Eq.{bytes_eq-Decides}
 use Rattle.bpaf_base.specs.declared.arg.Arg.{Arg}
-use Rattle.bpaf_base.specs.declared.arg.Arg.TheVariants.{Short, Long, ArgWord, Word, PosWord}
+use Rattle.bpaf_base.specs.declared.arg.Arg.TheVariants.{Short, Long}
 use Rattle.bpaf_base.specs.Items.{any_item}
 use Rattle.bpaf_line.specs.declared.error.Error.{Error}
 use Rattle.bpaf_line.specs.Situation.{Situation, in_scope, is_taken, item_at}
@@ -23,14 +23,14 @@ use Rattle.bpaf_laws.specs.Command.{Called, IsNotOpened, IsOpenedAt, inside, is_
 use Rattle.bpaf_laws.specs.Command.{opening_words}
 use Rattle.bpaf_laws.specs.Reading.{Outcome}
 use Rattle.bpaf_exact.specs.Pieces.{Cells, Roles, pieces, IsNamed, is_key}
-use Rattle.bpaf_exact.specs.Flat.{cells, first_cells, NonePresent, NoneOutside, GivesAll, FieldsLaw}
-use Rattle.bpaf_exact.specs.Flat.{FieldsReading, ReadOff}
+use Rattle.bpaf_exact.specs.Flat.{cells, first_cells, NonePresent, IsWholeIn, FieldsLaw}
+use Rattle.bpaf_exact.specs.Flat.{FieldsReading, ReadOff, Variables}
 use Rattle.bpaf_exact.specs.Programs.{CellsValue, Opens, opens_here, opens_later, OpensNone}
 use Rattle.bpaf_exact.specs.Programs.{is_dashed, is_spelled, IsSpelledLine, AllSpelled, no_cell}
 use Rattle.bpaf_exact.specs.Programs.{empty_cell, spelled_cell, are_plain, CommandValue}
 use Rattle.bpaf_exact.specs.Programs.{LeavesToOthers, ProgramLaw, FindsNoCommand, CommandsLaw}
 use Rattle.bpaf_exact.specs.Programs.{CommandEval, command_value, command_leftover, command_refused}
-use Rattle.bpaf_exact.specs.Programs.{command_missing, command_memory}
+use Rattle.bpaf_exact.specs.Programs.{command_missing, command_memory, GivesAll}
 use Rattle.bpaf_exact.proofs.Cells.{begin_foreign}
 use Rattle.bpaf_exact.proofs.Choice.{HasItem, has_item}
 use Rattle.bpaf_exact.proofs.Counts.{open_present}
@@ -153,9 +153,7 @@ no_key words plain (Long name true word) s h = absurd (true≢false (sym h ∙ n
     none (w ∷ ws) = none ws
 no_key words plain (Long name false word) s h =
     absurd (true≢false (sym h ∙ plain_word words plain word s))
-no_key words plain (ArgWord text) s h = refl
-no_key words plain (Word text) s h = refl
-no_key words plain (PosWord text) s h = refl
+no_key words plain _ s h = refl
 
 -- a word isn't a named field's own, and so the field has the same pieces behind it
 opens_pieces : (words : List (List ℕ)) (q : Roles) → are_plain words ≡ true → IsNamed q
@@ -226,8 +224,10 @@ module _ (called : Called) (s : Situation) (p : ℕ)
   behind_one = record {
     gone = closed_item behind p (taken_here s p);
     others = λ q other. ⊎_elim
-        (λ (before : q < p). closed_outside behind q (outside q before) ∙ sym (none_before q before))
-        (λ (after : p ≤ q). same_item s behind q (same_scope q after) refl (taken_other s p q other))
+        (λ (before : q < p). closed_outside behind q (outside q before)
+        ∙ sym (none_before q before))
+        (λ (after : p ≤ q). same_item s behind q (same_scope q after) refl
+        (taken_other s p q other))
         (cases_lt q p);
   }
     where
@@ -249,9 +249,10 @@ module _ (called : Called) (s : Situation) (p : ℕ)
       none_before behind_one
 
   -- what isn't taken lies in the scope behind it
-  pub whole_behind : NoneOutside s → NoneOutside behind
+  pub whole_behind : {env : Variables} → IsWholeIn env s → IsWholeIn env behind
   whole_behind w = record {
     end = w.end;
+    environment = w.environment;
     front = λ q before. taken_stays s p q (⊎_elim
         (λ (taken : is_taken s q ≡ true). taken)
         (λ (free : is_taken s q ≡ false). absurd (never q before (has_item s q w free)))
@@ -279,8 +280,8 @@ opens_none words s none ds o =
     }))
 
 -- A command keeps to the laws, where its program does.
-module _ (T : Type 0) (inner : Outcome T) (r : Roles) (value : CellsValue T)
-    (l : ProgramLaw T inner r value) (called : Called)
+module _ {env : Variables} (T : Type 0) (inner : Outcome T) (r : Roles) (value : CellsValue T)
+    (l : ProgramLaw env T inner r value) (called : Called)
     (plain : are_plain (opening_words called) ≡ true) where
   -- its words
   abbrev words : List (List ℕ)
@@ -309,7 +310,7 @@ module _ (T : Type 0) (inner : Outcome T) (r : Roles) (value : CellsValue T)
       subst (λ cs. value cs v) (opens_one words h.opens (opens_cells called s p at)) h.read
 
   -- the path gets no shorter
-  command_deep : (s t : Situation) (v : T) → NoneOutside s → CommandEval T inner called s (Ok v) t
+  command_deep : (s t : Situation) (v : T) → IsWholeIn env s → CommandEval T inner called s (Ok v) t
       → depth s ≤ depth t
   command_deep s t v w (command_value {p = p} at i e) =
       let a = deeper_behind called s p at in
@@ -317,7 +318,7 @@ module _ (T : Type 0) (inner : Outcome T) (r : Roles) (value : CellsValue T)
       omega arith
 
   -- an Ok took the word, and has the value of what is behind it
-  command_ok : (s t : Situation) (v : T) → NoneOutside s → IsSpelledLine s.context
+  command_ok : (s t : Situation) (v : T) → IsWholeIn env s → IsSpelledLine s.context
       → CommandEval T inner called s (Ok v) t
       → NonePresent (cells t) → opened_value (cells s) v
   command_ok s t v w spelled (command_value {p = p} at i e) n =
@@ -325,14 +326,14 @@ module _ (T : Type 0) (inner : Outcome T) (r : Roles) (value : CellsValue T)
       (l.ok (inside called s p) t v (whole_behind called s p at w) spelled i n)
 
   -- what its program answers behind the word where there is a value
-  answer_behind : (s m : Situation) (p : ℕ) (a : Result T Error) (u : T) → NoneOutside s
+  answer_behind : (s m : Situation) (p : ℕ) (a : Result T Error) (u : T) → IsWholeIn env s
       → IsOpenedAt words s p → inner (inside called s p) a m → opened_value (cells s) u
       → GivesAll (value (cells (inside called s p))) a m
   answer_behind s m p a u w at i h =
       l.answers (inside called s p) m a u (whole_behind called s p at w) i (to_behind s p u at h)
 
   -- where it has a value each answer is one, or want of memory
-  command_answers : (s t : Situation) (a : Result T Error) (u : T) → NoneOutside s
+  command_answers : (s t : Situation) (a : Result T Error) (u : T) → IsWholeIn env s
       → CommandEval T inner called s a t → opened_value (cells s) u
       → GivesAll (opened_value (cells s)) a t
   command_answers s t a u w (command_value {v = v} {p = p} at i e) h =
@@ -348,7 +349,7 @@ module _ (T : Type 0) (inner : Outcome T) (r : Roles) (value : CellsValue T)
   command_answers s t a u w (command_memory e) h = e
 
   -- where no word is the first thing present it is missing
-  command_none : (s t : Situation) (a : Result T Error) → NoneOutside s
+  command_none : (s t : Situation) (a : Result T Error) → IsWholeIn env s
       → CommandEval T inner called s a t → OpensNone words (cells s) → FindsNoCommand s a t
   unfolding cells
   command_none s t a w (command_value {p = p} at i e) n =
@@ -361,7 +362,7 @@ module _ (T : Type 0) (inner : Outcome T) (r : Roles) (value : CellsValue T)
   command_none s t a w (command_memory e) n = inl e
 
   -- the laws
-  pub command_law : CommandsLaw T (CommandEval T inner called) r words opened_value
+  pub command_law : CommandsLaw env T (CommandEval T inner called) r words opened_value
   command_law = record {
     program = record {
       others = command_others;
@@ -374,23 +375,23 @@ module _ (T : Type 0) (inner : Outcome T) (r : Roles) (value : CellsValue T)
   }
 
 -- A flat record is a program.
-module _ (V : Type 0) (outcome : Outcome V) (r : Roles) (reading : FieldsReading V)
-    (l : FieldsLaw V outcome r reading) where
+module _ {env : Variables} (V : Type 0) (outcome : Outcome V) (r : Roles)
+    (reading : FieldsReading V) (l : FieldsLaw env V outcome r reading) where
   -- its values, read off a cut
   abbrev record_value : CellsValue V
   record_value cs v = ReadOff V r reading.value cs v
 
   -- where it has a value each answer is one, or want of memory
-  record_answers : (s t : Situation) (a : Result V Error) (u : V) → NoneOutside s → outcome s a t
+  record_answers : (s t : Situation) (a : Result V Error) (u : V) → IsWholeIn env s → outcome s a t
       → record_value (cells s) u → GivesAll (record_value (cells s)) a t
   record_answers s t (Ok v) u w o h =
-      let g = l.answers s t (Ok v) h.cut_into w o h.cut (l.has_each h.cut_into u h.read) in
-      (record { cut_into = h.cut_into; cut = h.cut; read = g.0 }, g.1)
+      let n = l.takes_all s t v h.cut_into w o h.cut (l.has_each h.cut_into u h.read) in
+      (l.ok s t v w o n, n)
   record_answers s t (Err e) u w o h =
-      l.answers s t (Err e) h.cut_into w o h.cut (l.has_each h.cut_into u h.read)
+      l.refuses s t e h.cut_into w o h.cut (l.has_each h.cut_into u h.read)
 
   -- the laws
-  pub record_program : ProgramLaw V outcome r record_value
+  pub record_program : ProgramLaw env V outcome r record_value
   record_program = record {
     others = λ q n a cs v s h. no_own_in_cut q r n a h.cut;
     deep = λ s t v w o. let e = ap length (l.steady s t v w o).path in omega arith;

@@ -1,11 +1,11 @@
 -- A kept value is a field that takes no piece.
-use Rattle.std.proofs.Common.{◌≡◌, List, [], ◌∷◌, None, Result, Ok, Err, Some, refl, subst, sym}
+use Rattle.std.proofs.Common.{◌≡◌, List, [], ◌∷◌, None, Ok, Err, Some, refl, subst, sym}
 use Rattle.bpaf_line.specs.Situation.{Situation}
 use Rattle.bpaf_line.specs.declared.error.Error.{Error}
 use Rattle.bpaf_laws.specs.Default.{GivesClone}
 use Rattle.bpaf_laws.specs.Pure.{PureOutcome}
 use Rattle.bpaf_doc.specs.Names.{Names}
-use Rattle.bpaf_exact.specs.Flat.{ByName, FieldTook, Gives, NoneOutside, cells}
+use Rattle.bpaf_exact.specs.Flat.{ByName, FieldTook, IsWholeIn, OfMemory, cells, class, Variables}
 use Rattle.bpaf_exact.specs.FlatForm.{FormLaw}
 use Rattle.bpaf_exact.specs.Leaves.{pure_field}
 use Rattle.bpaf_exact.specs.Pieces.{Cells, LinePiece, TakesPieces, no_roles, pieces, takes_none}
@@ -26,7 +26,7 @@ module _ (T : Type 0) (clones : T → T → Type 0) (kept : T) where
   value os v = clones kept v
 
   -- a value takes nothing
-  pure_ok : (s t : Situation) (v : T) → NoneOutside s
+  pure_ok : {env : Variables} (s t : Situation) (v : T) → IsWholeIn env s
       → PureOutcome (GivesClone clones kept) s (Ok v) t
       → FieldTook T ByName no_roles value s v t
   pure_ok s t v w o =
@@ -44,19 +44,20 @@ module _ (T : Type 0) (clones : T → T → Type 0) (kept : T) where
         rest = λ none. none;
       })
 
-  -- each answer is such a value, or want of memory
-  pure_answers : (s t : Situation) (r : Result T Error) → PureOutcome (GivesClone clones kept) s r t
-      → Gives no_roles (clones kept) [] r t
-  pure_answers s t (Ok v) o = (o.0, none_pieces (cells t))
-  pure_answers s t (Err e) o = memory_class e.0 o.0
+  -- a refusal is want of memory
+  pure_refuses : (s t : Situation) (e : Error) → PureOutcome (GivesClone clones kept) s (Err e) t
+      → class e ≡ OfMemory
+  pure_refuses s t e o = memory_class e.0 o.0
 
   -- the laws
-  pub pure_field_law : FormLaw (PureOutcome (GivesClone clones kept)) [] (pure_field (clones kept))
+  pub pure_field_law : {env : Variables}
+      → FormLaw env (PureOutcome (GivesClone clones kept)) [] (pure_field (clones kept))
   pure_field_law = (
     record {
       own = record { only_keys = λ k h. refl };
       ok = pure_ok;
-      answers = λ s t r v w o h. pure_answers s t r o;
+      takes_all = λ s t v u w o h. none_pieces (cells t);
+      refuses = λ s t e v w o h. pure_refuses s t e o;
     },
     no_names,
   )

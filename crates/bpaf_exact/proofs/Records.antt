@@ -1,23 +1,19 @@
 -- The last field of a product, and its constructor.
-use Rattle.std.proofs.Common.{◌≡◌, List, [], ◌∷◌, Some, None, Result, Ok, Err, refl, sym, ap, ◌∙◌}
-use Rattle.std.proofs.Common.{subst, arith}
-use Rattle.bpaf_line.specs.declared.error.Error.{Error}
+use Rattle.std.proofs.Common.{◌≡◌, List, [], ◌∷◌, Some, None, Ok, refl, sym, ap, ◌∙◌, subst, arith}
 use Rattle.bpaf_line.specs.Situation.{Situation, with_current}
 use Rattle.bpaf_laws.specs.Product.{ProductOutcome}
 use Rattle.bpaf_laws.specs.Reading.{Outcome}
-use Rattle.bpaf_exact.specs.Pieces.{Cells, Roles, Role, Foreign, Alone, WithNext, LinePiece}
-use Rattle.bpaf_exact.specs.Pieces.{IsNamed}
-use Rattle.bpaf_exact.specs.Pieces.{Cut, either, either_role, no_roles}
-use Rattle.bpaf_exact.specs.Flat.{cells, NonePresent, no_place, none_here, NoneOutside, Steady}
-use Rattle.bpaf_exact.specs.Flat.{FieldKind}
-use Rattle.bpaf_exact.specs.Flat.{ByName, OneWord, EachWord, keys, OwnItems, FieldLaw, FieldsLaw}
-use Rattle.bpaf_exact.specs.Flat.{ReadOff, GivesAll, Before, FieldsReading}
+use Rattle.bpaf_exact.specs.Pieces.{Cells, Roles, Role, Foreign, LinePiece, IsNamed, Cut, either}
+use Rattle.bpaf_exact.specs.Pieces.{either_role, no_roles, pieces}
+use Rattle.bpaf_exact.specs.Flat.{cells, NonePresent, no_place, none_here, IsWholeIn, Steady}
+use Rattle.bpaf_exact.specs.Flat.{FieldKind, ByName, keys, OwnItems, FieldLaw, FieldsLaw, ReadOff}
+use Rattle.bpaf_exact.specs.Flat.{Before, FieldsReading, HasValue, portion, front, Variables}
 use Rattle.bpaf_exact.specs.Single.{present_count}
 use Rattle.bpaf_exact.specs.Wrappers.{map_closure}
 use Rattle.bpaf_exact.specs.Record.{LastValue, last_reading}
 use Rattle.bpaf_exact.specs.FlatForm.{made_reading}
 use Rattle.bpaf_exact.proofs.Words.{empty_cut, cut_empty}
-use Rattle.bpaf_exact.proofs.Product.{step_back, none_left, own_share, step_on}
+use Rattle.bpaf_exact.proofs.Product.{step_back, none_left, own_portion, step_on}
 
 -- Nothing is present where the count is nought.
 pub none_counted : (cs : Cells) → present_count cs ≡ 0 → NonePresent cs
@@ -31,17 +27,16 @@ count_none no_place = refl
 count_none (none_here n) = count_none n
 
 -- The last field of a product, or a record of one field alone.
-module _ (T : Type 0) (outcome : Outcome T)
+module _ {env : Variables} (T : Type 0) (outcome : Outcome T)
     (k : FieldKind) (q : Roles) (value : List LinePiece → T → Type 0)
-    (l : FieldLaw T outcome k q value) where
+    (l : FieldLaw env T outcome k q value) where
   -- a field may stand before none
   pub before_none : Before k q no_roles
   before_none = by_kind k
     where
       by_kind : (z : FieldKind) → Before z q no_roles
       by_kind ByName = record { left = λ a h. refl; right = λ a h. absurd cc }
-      by_kind (OneWord z) = λ a. refl
-      by_kind (EachWord z) = λ a. refl
+      by_kind _ = λ a. refl
 
   -- its keys are keys
   keys_named : IsNamed (either (keys k q) no_roles)
@@ -49,16 +44,15 @@ module _ (T : Type 0) (outcome : Outcome T)
     where
       alone : (x : Role) → x ≡ Foreign → either_role x Foreign ≡ Foreign
       alone Foreign e = refl
-      alone Alone e = absurd cc
-      alone WithNext e = absurd cc
+      alone _ e = absurd cc
 
       by_kind : (z : FieldKind) → OwnItems z q → IsNamed (either (keys z q) no_roles)
       by_kind ByName n = record { only_keys = λ a h. alone (q a) (n.only_keys a h) }
-      by_kind (OneWord z) n = record { only_keys = λ a h. refl }
-      by_kind (EachWord z) n = record { only_keys = λ a h. refl }
+      by_kind _ n = record { only_keys = λ a h. refl }
 
   -- the value of a last field is read off a cut
-  last_reads : (s t : Situation) (v : T) → NoneOutside s → outcome s (Ok v) t → NonePresent (cells t)
+  last_reads : (s t : Situation) (v : T) → IsWholeIn env s → outcome s (Ok v) t
+      → NonePresent (cells t)
       → ReadOff T (either (keys k q) no_roles) (LastValue T k q value) (cells s) v
   last_reads s t v w o n =
       let i = l.ok s t v w o in
@@ -74,32 +68,31 @@ module _ (T : Type 0) (outcome : Outcome T)
         };
       }
 
-  -- where the field has a value each answer is one
-  last_answers : (s t : Situation) (a : Result T Error) (os : List LinePiece) → NoneOutside s
-      → outcome s a t → Cut (either (keys k q) no_roles) (cells s) os
-      → (last_reading k q value).each os → GivesAll (LastValue T k q value os) a t
-  last_answers s t (Ok x) os w o c h =
-      let i = l.ok s t x w o in
-      let j = l.answers s t (Ok x) h.0.0 w o
-      (subst (λ z. value z h.0.0) (sym (own_share k q no_roles l.own before_none c)) h.0.1) in (
-        record {
-          read = subst (λ z. value z x) (own_share k q no_roles l.own before_none c) j.0;
-          none_left = h.1;
-        },
-        cut_empty no_roles (step_on k q no_roles l.own before_none i.takes j.1 c) h.1,
-      )
-  last_answers s t (Err e) os w o c h =
-      l.answers s t (Err e) h.0.0 w o
-      (subst (λ z. value z h.0.0) (sym (own_share k q no_roles l.own before_none c)) h.0.1)
+  -- where the field has a value on its pieces, it has one on those of the cells
+  own_value : (s : Situation) (os : List LinePiece) → Cut (either (keys k q) no_roles) (cells s) os
+      → (h : HasValue value (portion k q os)) → value (front k (pieces q (cells s))) h.0
+  own_value s os c h = subst (λ z. value z h.0)
+      (sym (own_portion k q no_roles l.own before_none c)) h.1
+
+  -- so nothing is left
+  last_takes : (s t : Situation) (v : T) (os : List LinePiece) → IsWholeIn env s
+      → outcome s (Ok v) t
+      → Cut (either (keys k q) no_roles) (cells s) os → (last_reading k q value).each os
+      → NonePresent (cells t)
+  last_takes s t v os w o c h =
+      let i = l.ok s t v w o in
+      let all = l.takes_all s t v h.0.0 w o (own_value s os c h.0) in
+      cut_empty no_roles (step_on k q no_roles l.own before_none i.takes (i.rest all) c) h.1
 
   -- a last field keeps to the laws of a list of fields
-  pub last_law : FieldsLaw T outcome (either (keys k q) no_roles) (last_reading k q value)
+  pub last_law : FieldsLaw env T outcome (either (keys k q) no_roles) (last_reading k q value)
   last_law = record {
     named = keys_named;
     steady = λ s t v w o. (l.ok s t v w o).steady;
     ok = last_reads;
     has_each = λ os v h. ((v, h.read), h.none_left);
-    answers = last_answers;
+    takes_all = last_takes;
+    refuses = λ s t e os w o c h. l.refuses s t e h.0.0 w o (own_value s os c h.0);
   }
 
 -- The constructor of a product.
@@ -119,20 +112,20 @@ same_steady a = record {
   keeps = a.keeps;
 }
 
-module _ (A B : Type 0) (fields : Outcome A) (makes : A → B → Type 0) (r : Roles)
-    (reading : FieldsReading A) (l : FieldsLaw A fields r reading) where
+module _ {env : Variables} (A B : Type 0) (fields : Outcome A) (makes : A → B → Type 0) (r : Roles)
+    (reading : FieldsReading A) (l : FieldsLaw env A fields r reading) where
   -- what the constructor makes of the fields' values
   abbrev made : FieldsReading B
   made = made_reading (map_closure makes) reading
 
   -- a constructor changes nothing
-  con_steady : (s t : Situation) (v : B) → NoneOutside s → ProductOutcome fields makes s (Ok v) t
+  con_steady : (s t : Situation) (v : B) → IsWholeIn env s → ProductOutcome fields makes s (Ok v) t
       → Steady s t
   con_steady s t v w o =
       subst (Steady s) (sym o.4) (same_steady (l.steady s o.0 o.1 w o.2))
 
   -- its value is made of those that are read off a cut
-  con_reads : (s t : Situation) (v : B) → NoneOutside s → ProductOutcome fields makes s (Ok v) t
+  con_reads : (s t : Situation) (v : B) → IsWholeIn env s → ProductOutcome fields makes s (Ok v) t
       → NonePresent (cells t) → ReadOff B r made.value (cells s) v
   con_reads s t v w o n =
       let a = l.ok s o.0 o.1 w o.2 (subst NonePresent (ap cells o.4 ∙ current_cells o.0) n) in
@@ -143,23 +136,14 @@ module _ (A B : Type 0) (fields : Outcome A) (makes : A → B → Type 0) (r : R
             record { from = o.1; read = a.read; made = o.3 };
       }
 
-  -- where each field has a value each answer is one made of such
-  con_answers : (s t : Situation) (a : Result B Error) (os : List LinePiece) → NoneOutside s
-      → ProductOutcome fields makes s a t → Cut r (cells s) os → reading.each os
-      → GivesAll (made.value os) a t
-  con_answers s t (Ok u) os w o c h =
-      let j = l.answers s o.0 (Ok o.1) os w o.2 c h in (
-        record { from = o.1; read = j.0; made = o.3 },
-        subst NonePresent (sym (ap cells o.4 ∙ current_cells o.0)) j.1,
-      )
-  con_answers s t (Err e) os w o c h = l.answers s o.0 (Err e) os w o.1 c h
-
   -- a product with its constructor keeps to the laws of a list of fields
-  pub con_law : FieldsLaw B (ProductOutcome fields makes) r made
+  pub con_law : FieldsLaw env B (ProductOutcome fields makes) r made
   con_law = record {
     named = l.named;
     steady = con_steady;
     ok = con_reads;
     has_each = λ os v h. l.has_each os h.from h.read;
-    answers = con_answers;
+    takes_all = λ s t u os w o c h. subst NonePresent (sym (ap cells o.4 ∙ current_cells o.0))
+        (l.takes_all s o.0 o.1 os w o.2 c h);
+    refuses = λ s t e os w o c h. l.refuses s o.0 e os w o.1 c h;
   }

@@ -1,6 +1,6 @@
 -- Repeats of a field that keeps to the laws of one evaluation.
-use Rattle.std.proofs.Common.{◌≡◌, ◌<◌, ◌≤◌, Bool, true, false, List, [], ◌∷◌, None, Result}
-use Rattle.std.proofs.Common.{Ok, Err, refl, sym, ap, ◌∙◌, subst, arith, inl, inr, ◌⊎◌, true≢false}
+use Rattle.std.proofs.Common.{◌≡◌, ◌<◌, ◌≤◌, Bool, true, false, List, [], ◌∷◌, None, Ok, Err, refl}
+use Rattle.std.proofs.Common.{sym, ap, ◌∙◌, subst, arith, inl, inr, ◌⊎◌, true≢false}
 use Rattle.bpaf_line.specs.declared.error.Error.{Error}
 use Rattle.bpaf_line.specs.Situation.{Situation, open_count}
 use Rattle.bpaf_laws.specs.Reading.{Outcome}
@@ -9,9 +9,8 @@ use Rattle.bpaf_laws.specs.Turn.{TurnOutcome}
 use Rattle.bpaf_exact.specs.Pieces.{Cells, Roles, LinePiece, pieces, TakesPieces, takes_none}
 use Rattle.bpaf_exact.specs.Pieces.{takes_more}
 use Rattle.bpaf_exact.specs.Flat.{ErrorClass, OfMemory, OfMissing, Caught, Refused, class, cells}
-use Rattle.bpaf_exact.specs.Flat.{NoneOutside, Steady, FieldKind, ByName, OneWord, EachWord, front}
-use Rattle.bpaf_exact.specs.Flat.{back}
-use Rattle.bpaf_exact.specs.Flat.{OwnItems, FieldLaw, Gives}
+use Rattle.bpaf_exact.specs.Flat.{IsWholeIn, Steady, FieldKind, ByName, OneWord, EachWord, front}
+use Rattle.bpaf_exact.specs.Flat.{back, OwnItems, FieldLaw, Variables}
 use Rattle.bpaf_exact.specs.Single.{Groups, Own, own_none, own_more, TakesAny, Readable, Gap}
 use Rattle.bpaf_exact.specs.Single.{TookGroup, SingleOk, gave_absent, took, SingleErr, of_memory}
 use Rattle.bpaf_exact.specs.Single.{of_missing, of_absent, of_piece, SingleLaw, OwnList, listed}
@@ -19,7 +18,7 @@ use Rattle.bpaf_exact.specs.Single.{listed_and_absent, only_absent, repeated, St
 use Rattle.bpaf_exact.specs.Single.{caught, CanCatch, catch_missing, catch_other, RepeatOutcome}
 use Rattle.bpaf_exact.specs.Single.{ReadsWords, present_count}
 use Rattle.bpaf_exact.proofs.Classes.{memory_class, stops_at, goes_on}
-use Rattle.bpaf_exact.proofs.Fronts.{back_all, each_nil, nil_each}
+use Rattle.bpaf_exact.proofs.Fronts.{back_all, each_nil, nil_each, no_keys_left}
 use Rattle.bpaf_exact.proofs.Product.{none_outside_after, steady_refl, steady_trans}
 use Rattle.bpaf_exact.proofs.Counts.{open_present, takes_any_fewer}
 
@@ -41,8 +40,7 @@ same_takes q {cs = cs} e = subst (TakesPieces q cs) (sym e) takes_none
 readable : {T : Type 0} (k : FieldKind) (group : Groups T) (os : List LinePiece) (vs : List T)
     → Own T group (front (repeated k) os) vs → Readable k group os
 readable ByName group os vs o = (vs, o)
-readable (OneWord b) group os vs o = tt
-readable (EachWord b) group os vs o = tt
+readable _ group os vs o = tt
 
 -- where the cells are the same as many items are present
 pub same_count : (s m : Situation) → cells m ≡ cells s → open_count m ≡ open_count s
@@ -60,9 +58,8 @@ pub no_stop : (s m : Situation) (e : Error) (c : ErrorClass) → Stops e s m →
 no_stop s m e c (nothing_found h n) g a b = a (sym g ∙ h)
 no_stop s m e c (caught h) g a b = b (sym g ∙ h)
 
-module _ (T : Type 0) (inner : Outcome T) (k : FieldKind) (q : Roles) (group : Groups T)
-    (gap : Gap T)
-    (l : SingleLaw T inner k q group gap) where
+module _ {env : Variables} (T : Type 0) (inner : Outcome T) (k : FieldKind) (q : Roles)
+    (group : Groups T) (gap : Gap T) (l : SingleLaw env T inner k q group gap) where
   -- the pieces that a repeat takes
   abbrev own : Situation → List LinePiece
   own s = front (repeated k) (pieces q (cells s))
@@ -179,7 +176,7 @@ module _ (T : Type 0) (inner : Outcome T) (k : FieldKind) (q : Roles) (group : G
   enough_took s t v same (took h) = absurd (not_fewer s t same (fewer_count s t h.takes))
 
   -- a turn after a value that stops
-  stop_took : (s t : Situation) → NoneOutside s → TurnOutcome inner false false s (Ok None) t
+  stop_took : (s t : Situation) → IsWholeIn env s → TurnOutcome inner false false s (Ok None) t
       → Took s [] t
   stop_took s t w (inl o) = enough_took s t o.0 o.3 (l.ok s t o.0 w o.1)
   stop_took s t w (inr o) =
@@ -187,7 +184,7 @@ module _ (T : Type 0) (inner : Outcome T) (k : FieldKind) (q : Roles) (group : G
       (stop_after s o.0.1 o.0.0 (stops_at o.0.0 s o.0.1 o.0.3) (l.err s o.0.1 o.0.0 w o.0.2))
 
   -- Once it has the first value, a repeat that answers has read all its pieces.
-  later_took : (vs : List T) (s m t : Situation) → NoneOutside s → Turns inner false false s vs m
+  later_took : (vs : List T) (s m t : Situation) → IsWholeIn env s → Turns inner false false s vs m
       → TurnOutcome inner false false m (Ok None) t → Took s vs t
   later_took [] s m t w turns stop =
       stop_took s t w
@@ -256,7 +253,7 @@ module _ (T : Type 0) (inner : Outcome T) (k : FieldKind) (q : Roles) (group : G
       }
 
   -- a first value that took nothing
-  first_idle : (s t : Situation) (v : T) → NoneOutside s → open_count s ≤ open_count t
+  first_idle : (s t : Situation) (v : T) → IsWholeIn env s → open_count s ≤ open_count t
       → SingleOk T k q group gap s v t → RepeatTook s (v ∷ []) t
   first_idle s t v w e (gave_absent h p ab same st) =
       record {
@@ -285,7 +282,7 @@ module _ (T : Type 0) (inner : Outcome T) (k : FieldKind) (q : Roles) (group : G
   first_stop s m e h (of_piece c p n) = absurd (no_stop s m e Refused h c (λ i. cc) (λ i. cc))
 
   -- a first turn that stops read all
-  first_stopped : (s t : Situation) → NoneOutside s → TurnOutcome inner false true s (Ok None) t
+  first_stopped : (s t : Situation) → IsWholeIn env s → TurnOutcome inner false true s (Ok None) t
       → RepeatTook s [] t
   first_stopped s t w (inl o) = absurd (true≢false o.2)
   first_stopped s t w (inr o) =
@@ -293,7 +290,7 @@ module _ (T : Type 0) (inner : Outcome T) (k : FieldKind) (q : Roles) (group : G
       (first_stop s o.0.1 o.0.0 (stops_at o.0.0 s o.0.1 o.0.3) (l.err s o.0.1 o.0.0 w o.0.2))
 
   -- so did turns from the first one on, until one stops
-  turns_took : (first : Bool) (vs : List T) (s m t : Situation) → NoneOutside s
+  turns_took : (first : Bool) (vs : List T) (s m t : Situation) → IsWholeIn env s
       → Turns inner false first s vs m → TurnOutcome inner false (is_nil vs) m (Ok None) t
       → RepeatTook s vs t
   turns_took first [] s m t w turns stop =
@@ -304,19 +301,14 @@ module _ (T : Type 0) (inner : Outcome T) (k : FieldKind) (q : Roles) (group : G
       (λ st. later_took vs turns.0 m t (none_outside_after s turns.0 w st) turns.2 stop)
 
   -- A repeat that answers has read all its pieces.
-  pub repeat_took : (idle : Bool) (s t : Situation) (vs : List T) → NoneOutside s
+  pub repeat_took : (idle : Bool) (s t : Situation) (vs : List T) → IsWholeIn env s
       → RepeatOutcome inner idle s (Ok vs) t → RepeatTook s vs t
   repeat_took false s t vs w o = turns_took true vs s o.last t w o.steps o.stop
   repeat_took true s t vs w (stops m turns stop) = turns_took false vs s m t w turns stop
   repeat_took true s t vs w (rests v e ran same) =
       subst (λ z. RepeatTook s z t) (sym e) (first_idle s t v w same (l.ok s t v w ran))
 
-  -- Where the pieces can be read no other answer comes, but for want of memory.
-
-  -- an own list of the pieces, or want of memory
-  abbrev GivesList : Situation → Result (List T) Error → Situation → Type 0
-  GivesList s (Ok vs) t = Own T group (own s) vs × (pieces q (cells t) ≡ left s)
-  GivesList s (Err e) t = class e ≡ OfMemory
+  -- Where the pieces can be read a refusal comes for want of memory alone.
 
   -- an own list is empty, or has a first value
   data OwnView (os : List LinePiece) (vs : List T) : Type 0 where
@@ -329,38 +321,20 @@ module _ (T : Type 0) (inner : Outcome T) (k : FieldKind) (q : Roles) (group : G
   own_view os vs own_none = view_none refl refl
   own_view os vs (own_more {rest = rest} {v = v} {vs = us} g o) = view_more v rest us refl g o
 
-  -- what is known of the rest after a turn that took something
-  record Onward (s m : Situation) (v : T) (r : Result (List T) Error) (t : Situation) : Type 0 where
-    read : group (pieces q (cells s)) v (pieces q (cells m))
-    gives : GivesList m r t
-
-  -- a turn where the pieces can be read
-  on_step : (s m t : Situation) (v : T) (ws : List T) (r : Result (List T) Error)
-      → (gap.has ≡ true → front k (pieces q (cells s)) ≡ [] → cells m ≡ cells s → Steady s m → ⊥)
-      → OwnView (own s) ws
-      → (Steady s m → (us : List T) → Own T group (own m) us
-      → GivesList m r t)
-      → SingleOk T k q group gap s v m → Onward s m v r t
-  on_step s m t v ws r n o i (gave_absent h p ab same st) = absurd (n h p same st)
-  on_step s m t v ws r n (view_none p e) i (took h) = absurd (h.found (nil_each k _ p))
-  on_step s m t v ws r n (view_more w rest us e g o) i (took h) =
+  -- what is left after a turn that took something can be read
+  on_step : (s m : Situation) (v : T) (ws : List T)
+      → (gap.has ≡ true → front k (pieces q (cells s)) ≡ [] → cells m ≡ cells s → ⊥)
+      → OwnView (own s) ws → SingleOk T k q group gap s v m
+      → Steady s m × (us : List T) × Own T group (own m) us
+  on_step s m v ws n o (gave_absent h p ab same st) = absurd (n h p same)
+  on_step s m v ws n (view_none p e) (took h) = absurd (h.found (nil_each k _ p))
+  on_step s m v ws n (view_more w rest us e g o) (took h) =
       let f = of_group _ w rest g in
       let d = h.readable w f.0 f.1 in
-      record {
-        read = subst (λ os. group (pieces q (cells s)) v os) (sym d.1) d.0;
-        gives =
-            i h.steady us
-            (subst (λ os. Own T group os us) (f.2 ∙ sym (ap (front (repeated k)) d.1)) o);
-      }
-
-  -- one value more
-  cons_gives : (s m t : Situation) (v : T) (us : List T) → Onward s m v (Ok us) t
-      → GivesList s (Ok (v ∷ us)) t
-  cons_gives s m t v us o =
-      let g = by_group _ v _ o.read in (own_more g.0 o.gives.0, o.gives.1 ∙ g.1)
+      (h.steady, us, subst (λ os. Own T group os us) (f.2 ∙ sym (ap (front (repeated k)) d.1)) o)
 
   -- where the pieces can be read a refusal is want of memory
-  failed_gives : (s t : Situation) (e : Error) (ws : List T) → NoneOutside s
+  failed_gives : (s t : Situation) (e : Error) (ws : List T) → IsWholeIn env s
       → (gap.has ≡ true → (a : T) × gap.absent a) → OwnView (own s) ws
       → (Stops e s t → ⊥)
       → SingleErr T k q group gap s e t → class e ≡ OfMemory
@@ -372,66 +346,16 @@ module _ (T : Type 0) (inner : Outcome T) (k : FieldKind) (q : Roles) (group : G
   failed_gives s t e ws w ab (view_more v rest us x g o) n (of_piece c ne none) =
       let f = of_group _ v rest g in absurd (none v f.0 f.1)
 
-  -- a turn that stops read all
-  stopped_gives : (s m : Situation) (e : Error) (ws : List T) → Stops e s m
-      → OwnView (own s) ws → SingleErr T k q group gap s e m
-      → GivesList s (Ok []) s
-  stopped_gives s m e ws h o (of_memory c) = absurd (no_stop s m e OfMemory h c (λ i. cc) (λ i. cc))
-  stopped_gives s m e ws h (view_none p x) (of_missing c g p' same) =
-      (subst (λ os. Own T group os []) (sym p) own_none, all_left s p')
-  stopped_gives s m e ws h (view_more v rest us x g o) (of_missing c h' p same) =
-      absurd (l.starts v rest (subst (λ z. group z v rest) (own_none_left s p) g))
-  stopped_gives s m e ws h o (of_absent c g p n) =
-      absurd (no_stop s m e Refused h c (λ i. cc) (λ i. cc))
-  stopped_gives s m e ws h o (of_piece c p n) =
-      absurd (no_stop s m e Refused h c (λ i. cc) (λ i. cc))
-
-  -- so did one that took nothing
-  enough_gives : (s t : Situation) (v : T) (ws : List T) → open_count s ≤ open_count t
-      → OwnView (own s) ws → SingleOk T k q group gap s v t
-      → GivesList s (Ok []) t
-  enough_gives s t v ws same (view_none p x) (gave_absent h p' ab e st) =
-      (subst (λ os. Own T group os []) (sym p) own_none, ap (pieces q) e ∙ all_left s p')
-  enough_gives s t v ws same (view_more y rest us x g o) (gave_absent h p ab e st) =
-      absurd (l.starts y rest (subst (λ z. group z y rest) (own_none_left s p) g))
-  enough_gives s t v ws same o (took h) = absurd (not_fewer s t same (fewer_count s t h.takes))
-
-  -- a turn after a value that stops
-  stop_gives : (s t : Situation) (ws : List T) → NoneOutside s → OwnView (own s) ws
-      → TurnOutcome inner false false s (Ok None) t → GivesList s (Ok []) t
-  stop_gives s t ws w view (inl o) = enough_gives s t o.0 ws o.3 view (l.ok s t o.0 w o.1)
-  stop_gives s t ws w view (inr o) =
-      subst (λ z. GivesList s (Ok []) z) (sym o.1)
-      (stopped_gives s o.0.1 o.0.0 ws (stops_at o.0.0 s o.0.1 o.0.3) view
-      (l.err s o.0.1 o.0.0 w o.0.2))
-
   -- where the pieces can be read, a turn fails for want of memory alone
-  turn_fails : (first : Bool) (s t : Situation) (e : Error) (ws : List T) → NoneOutside s
+  turn_fails : (first : Bool) (s t : Situation) (e : Error) (ws : List T) → IsWholeIn env s
       → (gap.has ≡ true → (a : T) × gap.absent a) → OwnView (own s) ws
       → TurnOutcome inner false first s (Err e) t → class e ≡ OfMemory
   turn_fails first s t e ws w ab view (inl o) =
       failed_gives s t e ws w ab view (goes_on e s t o.1) (l.err s t e w o.0)
   turn_fails first s t e ws w ab view (inr o) = memory_class e.0 o.0
 
-  -- where the pieces can be read, the turns after a value read them, until one stops
-  later_gives : (vs : List T) (s m t : Situation) (ws : List T) → NoneOutside s
-      → Own T group (own s) ws → Turns inner false false s vs m
-      → TurnOutcome inner false false m (Ok None) t → GivesList s (Ok vs) t
-  later_gives [] s m t ws w o turns stop =
-      stop_gives s t ws w (own_view _ ws o)
-      (subst (λ z. TurnOutcome inner false false z (Ok None) t) (sym turns) stop)
-  later_gives (v ∷ vs) s m t ws w o turns stop =
-      cons_gives s turns.0 t v vs
-      (on_step s turns.0 t v ws (Ok vs)
-      (λ h p same st.
-      not_fewer s turns.0 (not_less s turns.0 same) (took_item s turns.0 turns.1.1))
-      (own_view _ ws o)
-      (λ st xs own. later_gives vs turns.0 m t xs (none_outside_after s turns.0 w st) own turns.2
-      stop)
-      (l.ok s turns.0 v w turns.1.0))
-
-  -- and fail for want of memory alone
-  later_fails : (vs : List T) (s m t : Situation) (e : Error) (ws : List T) → NoneOutside s
+  -- and so do the turns after a value
+  later_fails : (vs : List T) (s m t : Situation) (e : Error) (ws : List T) → IsWholeIn env s
       → (gap.has ≡ true → (a : T) × gap.absent a) → Own T group (own s) ws
       → Turns inner false false s vs m → TurnOutcome inner false false m (Err e) t
       → class e ≡ OfMemory
@@ -439,14 +363,10 @@ module _ (T : Type 0) (inner : Outcome T) (k : FieldKind) (q : Roles) (group : G
       turn_fails false s t e ws w ab (own_view _ ws o)
       (subst (λ z. TurnOutcome inner false false z (Err e) t) (sym turns) fails)
   later_fails (v ∷ vs) s m t e ws w ab o turns fails =
-      let on = on_step s turns.0 t v ws (Err e)
-      (λ h p same st.
-      not_fewer s turns.0 (not_less s turns.0 same) (took_item s turns.0 turns.1.1))
-      (own_view _ ws o)
-      (λ st xs own.
-      later_fails vs turns.0 m t e xs (none_outside_after s turns.0 w st) ab own turns.2 fails)
-      (l.ok s turns.0 v w turns.1.0) in
-      on.gives
+      let on = on_step s turns.0 v ws
+      (λ h p same. not_fewer s turns.0 (not_less s turns.0 same) (took_item s turns.0 turns.1.1))
+      (own_view _ ws o) (l.ok s turns.0 v w turns.1.0) in
+      later_fails vs turns.0 m t e on.1 (none_outside_after s turns.0 w on.0) ab on.2 turns.2 fails
 
   -- an own list under a repeat: all that is read, or the absent value alone
   data ListView (os : List LinePiece) (vs : List T) : Type 0 where
@@ -461,37 +381,7 @@ module _ (T : Type 0) (inner : Outcome T) (k : FieldKind) (q : Roles) (group : G
       all_read (λ i. (a, ab)) o (λ i e. let n = own_nil os vs e o in absurd cc)
   list_view os vs (only_absent {a = a} h ab) = gap_read h a ab refl
 
-  -- an own list under a repeat, or want of memory
-  abbrev GivesOwn : Situation → Result (List T) Error → Situation → Type 0
-  GivesOwn s (Ok vs) t = OwnList T group gap (own s) vs × (pieces q (cells t) ≡ left s)
-  GivesOwn s (Err e) t = class e ≡ OfMemory
-
-  -- an own list as one under a repeat
-  list_of : (has : Bool) → gap.has ≡ has → (os : List LinePiece) (vs : List T)
-      → (gap.has ≡ true → (a : T) × gap.absent a) → (gap.has ≡ true → os ≡ [] → ⊥)
-      → Own T group os vs → OwnList T group gap os vs
-  list_of true e os vs ab n own_none = absurd (n e refl)
-  list_of true e os vs ab n (own_more g o) = let a = ab e in listed_and_absent e a.1 (own_more g o)
-  list_of false e os vs ab n o = listed e o
-
-  -- the same of an answer
-  own_given : (s : Situation) (r : Result (List T) Error) (t : Situation)
-      → (gap.has ≡ true → (a : T) × gap.absent a) → (gap.has ≡ true → own s ≡ [] → ⊥)
-      → GivesList s r t → GivesOwn s r t
-  own_given s (Ok vs) t ab n g = (list_of gap.has refl (own s) vs ab n g.0, g.1)
-  own_given s (Err e) t ab n g = g
-
-  -- a first turn where there is no piece
-  gap_step : (s m t : Situation) (v : T) (us : List T) → own s ≡ []
-      → (Steady s m → Took m us t) → SingleOk T k q group gap s v m
-      → GivesOwn s (Ok (v ∷ us)) t
-  gap_step s m t v us p i (gave_absent h p' ab same st) =
-      let j = i st in
-      let none : us ≡ [] = own_nil (own m) us (same_own s m same ∙ p) j.list in
-      (absent_alone s t v us none h p' ab, j.none ∙ same_left s m same)
-  gap_step s m t v us p i (took h) = absurd (h.found (nil_each k _ p))
-
-  -- turns that fail after it
+  -- turns that fail after a first one where there is no piece
   gap_step_failed : (s m t : Situation) (v : T) (e : Error) → own s ≡ []
       → (Steady s m → (gap.has ≡ true → (a : T) × gap.absent a)
       → Own T group (own m) [] → class e ≡ OfMemory)
@@ -499,13 +389,6 @@ module _ (T : Type 0) (inner : Outcome T) (k : FieldKind) (q : Roles) (group : G
   gap_step_failed s m t v e p i (gave_absent h p' ab same st) =
       i st (λ y. (v, ab)) (subst (λ os. Own T group os []) (sym (same_own s m same ∙ p)) own_none)
   gap_step_failed s m t v e p i (took h) = absurd (h.found (nil_each k _ p))
-
-  -- a first value that took nothing
-  gap_idle : (s t : Situation) (v : T) → own s ≡ [] → SingleOk T k q group gap s v t
-      → GivesOwn s (Ok (v ∷ [])) t
-  gap_idle s t v p (gave_absent h p' ab same st) =
-      (absent_alone s t v [] refl h p' ab, ap (pieces q) same ∙ all_left s p')
-  gap_idle s t v p (took h) = absurd (h.found (nil_each k _ p))
 
   -- where there is an absent value a refusal is want of memory
   gap_failed : (s t : Situation) (a : T) (e : Error) → gap.has ≡ true → gap.absent a
@@ -515,57 +398,9 @@ module _ (T : Type 0) (inner : Outcome T) (k : FieldKind) (q : Roles) (group : G
   gap_failed s t a e h ab p (of_absent c g p' none) = absurd (none a ab)
   gap_failed s t a e h ab p (of_piece c ne none) = absurd (ne (nil_each k _ p))
 
-  -- and no first turn stops
-  gap_stopped : (s m : Situation) (e : Error) → gap.has ≡ true → own s ≡ []
-      → Stops e s m → SingleErr T k q group gap s e m → ⊥
-  gap_stopped s m e h p x (of_memory c) = no_stop s m e OfMemory x c (λ i. cc) (λ i. cc)
-  gap_stopped s m e h p x (of_missing c g p' same) = cc
-  gap_stopped s m e h p x (of_absent c g p' none) = no_stop s m e Refused x c (λ i. cc) (λ i. cc)
-  gap_stopped s m e h p x (of_piece c ne none) = ne (nil_each k _ p)
-
-  -- where there are pieces the first value took one
-  own_idle : (s t : Situation) (v : T) → NoneOutside s
-      → (gap.has ≡ true → own s ≡ [] → ⊥)
-      → open_count s ≤ open_count t → SingleOk T k q group gap s v t → ⊥
-  own_idle s t v w n same (gave_absent h p ab e st) = n h (own_none_left s p)
-  own_idle s t v w n same (took h) = let f = fewer_count s t h.takes in omega arith
-
-  -- where there is an own list, a first turn that stops answers it
-  first_stop_gives : (s t : Situation) (ws : List T) → NoneOutside s
-      → ListView (own s) ws
-      → TurnOutcome inner false true s (Ok None) t → GivesOwn s (Ok []) t
-  first_stop_gives s t ws w view (inl o) = absurd (true≢false o.2)
-  first_stop_gives s t ws w (all_read ab own n) (inr o) =
-      subst (λ z. GivesOwn s (Ok []) z) (sym o.1)
-      (own_given s (Ok []) s ab n
-      (stopped_gives s o.0.1 o.0.0 ws (stops_at o.0.0 s o.0.1 o.0.3) (own_view _ ws own)
-      (l.err s o.0.1 o.0.0 w o.0.2)))
-  first_stop_gives s t ws w (gap_read h a ab p) (inr o) =
-      absurd (gap_stopped s o.0.1 o.0.0 h p (stops_at o.0.0 s o.0.1 o.0.3)
-      (l.err s o.0.1 o.0.0 w o.0.2))
-
-  -- so do turns from the first one on, until one stops
-  turns_give : (first : Bool) (vs : List T) (s m t : Situation) (ws : List T) → NoneOutside s
-      → ListView (own s) ws → Turns inner false first s vs m
-      → TurnOutcome inner false (is_nil vs) m (Ok None) t → GivesOwn s (Ok vs) t
-  turns_give first [] s m t ws w view turns stop =
-      first_stop_gives s t ws w view
-      (subst (λ z. TurnOutcome inner false true z (Ok None) t) (sym turns) stop)
-  turns_give first (v ∷ vs) s m t ws w (all_read ab o n) turns stop =
-      own_given s (Ok (v ∷ vs)) t ab n
-      (cons_gives s turns.0 t v vs
-      (on_step s turns.0 t v ws (Ok vs) (λ h p same st. n h (own_none_left s p)) (own_view _ ws o)
-      (λ st xs own. later_gives vs turns.0 m t xs (none_outside_after s turns.0 w st) own turns.2
-      stop)
-      (l.ok s turns.0 v w turns.1.0)))
-  turns_give first (v ∷ vs) s m t ws w (gap_read h a ab p) turns stop =
-      gap_step s turns.0 t v vs p
-      (λ st. later_took vs turns.0 m t (none_outside_after s turns.0 w st) turns.2 stop)
-      (l.ok s turns.0 v w turns.1.0)
-
-  -- and fail for want of memory alone
+  -- so do turns from the first one on
   turns_fail : (first : Bool) (vs : List T) (s m t : Situation) (e : Error) (ws : List T)
-      → NoneOutside s → ListView (own s) ws → Turns inner false first s vs m
+      → IsWholeIn env s → ListView (own s) ws → Turns inner false first s vs m
       → TurnOutcome inner false (is_nil vs) m (Err e) t → class e ≡ OfMemory
   turns_fail first [] s m t e ws w view turns fails =
       by_view view (subst (λ z. TurnOutcome inner false true z (Err e) t) (sym turns) fails)
@@ -576,41 +411,23 @@ module _ (T : Type 0) (inner : Outcome T) (k : FieldKind) (q : Roles) (group : G
       by_view (gap_read h a ab p) (inl one) = gap_failed s t a e h ab p (l.err s t e w one.0)
       by_view (gap_read h a ab p) (inr one) = memory_class e.0 one.0
   turns_fail first (v ∷ vs) s m t e ws w (all_read ab o n) turns fails =
-      let on = on_step s turns.0 t v ws (Err e) (λ h p same st. n h (own_none_left s p)) (own_view
-      _ ws o)
-      (λ st xs own.
-      later_fails vs turns.0 m t e xs (none_outside_after s turns.0 w st) ab own turns.2 fails)
+      let on = on_step s turns.0 v ws (λ h p same. n h (own_none_left s p)) (own_view _ ws o)
       (l.ok s turns.0 v w turns.1.0) in
-      on.gives
+      later_fails vs turns.0 m t e on.1 (none_outside_after s turns.0 w on.0) ab on.2 turns.2 fails
   turns_fail first (v ∷ vs) s m t e ws w (gap_read h a ab p) turns fails =
       gap_step_failed s turns.0 t v e p
       (λ st abs own.
       later_fails vs turns.0 m t e [] (none_outside_after s turns.0 w st) abs own turns.2 fails)
       (l.ok s turns.0 v w turns.1.0)
 
-  -- so it is of one value alone that took nothing
-  rest_gives : (s t : Situation) (v : T) (ws : List T) → NoneOutside s
-      → ListView (own s) ws → open_count s ≤ open_count t
-      → SingleOk T k q group gap s v t → GivesOwn s (Ok (v ∷ [])) t
-  rest_gives s t v ws w (all_read ab o n) same one = absurd (own_idle s t v w n same one)
-  rest_gives s t v ws w (gap_read h a ab p) same one = gap_idle s t v p one
-
-  -- where there is an own list, each answer is one, or want of memory
-  first_gives : (idle : Bool) (s t : Situation) (r : Result (List T) Error) (ws : List T)
-      → NoneOutside s → ListView (own s) ws → RepeatOutcome inner idle s r t
-      → GivesOwn s r t
-  first_gives false s t (Ok vs) ws w view o = turns_give true vs s o.last t ws w view o.steps o.stop
-  first_gives false s t (Err e) ws w view o =
-      turns_fail true o.values s o.last t e ws w view o.steps o.fails
-  first_gives true s t (Ok vs) ws w view (stops m turns stop) =
-      turns_give false vs s m t ws w view turns stop
-  first_gives true s t (Ok vs) ws w view (rests v e ran same) =
-      subst (λ z. GivesOwn s (Ok z) t) (sym e)
-      (rest_gives s t v ws w view same (l.ok s t v w ran))
-  first_gives true s t (Err e) ws w view o =
-      turns_fail false o.values s o.last t e ws w view o.steps o.fails
-
-  -- The values of a repeat are its own list, and no other answer comes but for want of memory.
+  -- where there is an own list a repeat fails for want of memory alone
+  repeat_fails : (idle : Bool) (s t : Situation) (e : Error) (ws : List T) → IsWholeIn env s
+      → RepeatOutcome inner idle s (Err e) t → OwnList T group gap (own s) ws
+      → class e ≡ OfMemory
+  repeat_fails false s t e ws w o own_list =
+      turns_fail true o.values s o.last t e ws w (list_view _ ws own_list) o.steps o.fails
+  repeat_fails true s t e ws w o own_list =
+      turns_fail false o.values s o.last t e ws w (list_view _ ws own_list) o.steps o.fails
 
   -- the items of a repeat are those of the field
   own_repeated : OwnItems (repeated k) q
@@ -618,20 +435,10 @@ module _ (T : Type 0) (inner : Outcome T) (k : FieldKind) (q : Roles) (group : G
     where
       by_kind : (z : FieldKind) → OwnItems z q → OwnItems (repeated z) q
       by_kind ByName o = o
-      by_kind (OneWord b) o = o
-      by_kind (EachWord b) o = o
-
-  -- each answer of a repeat
-  repeat_gives : (idle : Bool) (s t : Situation) (r : Result (List T) Error) (ws : List T)
-      → NoneOutside s → RepeatOutcome inner idle s r t → OwnList T group gap (own s) ws
-      → Gives q (OwnList T group gap (own s)) (left s) r t
-  repeat_gives idle s t (Ok vs) ws w f o =
-      first_gives idle s t (Ok vs) ws w (list_view (own s) ws o) f
-  repeat_gives idle s t (Err e) ws w f o =
-      first_gives idle s t (Err e) ws w (list_view (own s) ws o) f
+      by_kind _ o = o
 
   -- many, and what is built on it: the values of the own list
-  pub repeat_law : (idle : Bool) → FieldLaw (List T) (RepeatOutcome inner idle) (repeated k) q
+  pub repeat_law : (idle : Bool) → FieldLaw env (List T) (RepeatOutcome inner idle) (repeated k) q
       (OwnList T group gap)
   repeat_law idle = record {
     own = own_repeated;
@@ -641,5 +448,7 @@ module _ (T : Type 0) (inner : Outcome T) (k : FieldKind) (q : Roles) (group : G
       read = λ n. i.list;
       rest = λ n. i.none;
     };
-    answers = repeat_gives idle;
+    takes_all = λ s t vs ws w f o.
+        no_keys_left (repeated k) q (cells t) _ (repeat_took idle s t vs w f).none;
+    refuses = λ s t e ws w f o. repeat_fails idle s t e ws w f o;
   }

@@ -5,44 +5,39 @@ use Rattle.bpaf_doc.specs.Names.{Names}
 use Rattle.bpaf_text.specs.Named.{Named as Key, KeyWithValue}
 use Rattle.bpaf_laws.specs.Reading.{Outcome}
 use Rattle.bpaf_exact.specs.Pieces.{Roles, LinePiece, One, Two, is_own, mine, others, either}
-use Rattle.bpaf_exact.specs.Pieces.{no_roles}
+use Rattle.bpaf_exact.specs.Pieces.{no_roles, stands_behind}
 use Rattle.bpaf_exact.specs.Flat.{FieldKind, ByName, OneWord, EachWord, FieldsReading, keys, front}
-use Rattle.bpaf_exact.specs.Flat.{back, both_reading}
+use Rattle.bpaf_exact.specs.Flat.{back, both_reading, Variables}
 use Rattle.bpaf_exact.specs.Names.{Owns, are_all_apart}
 use Rattle.bpaf_exact.specs.Single.{Groups, Gap, FrontOf, Own, own_none, own_more, OwnList, listed}
 use Rattle.bpaf_exact.specs.Single.{listed_and_absent, only_absent, SingleValue, of_group, of_gap}
-use Rattle.bpaf_exact.specs.Single.{no_gap}
+use Rattle.bpaf_exact.specs.Single.{repeated}
 use Rattle.bpaf_exact.specs.Wrappers.{Closure, OptionalValue, some_value, no_value, FallbackValue}
 use Rattle.bpaf_exact.specs.Wrappers.{own_value, kept_value}
 use Rattle.bpaf_exact.specs.Gathered.{LastOf}
-use Rattle.bpaf_exact.specs.Alternative.{pick_type}
+use Rattle.bpaf_exact.specs.Alternative.{pick_type, either_value}
 use Rattle.bpaf_exact.specs.Leaves.{flag_field, flag_gap, FlagValue, argument_field, argument_by}
 use Rattle.bpaf_exact.specs.Leaves.{argument_gap, argument_group, variable_argument, variable_flag}
+use Rattle.bpaf_exact.specs.Leaves.{ArgumentValue, SideValue, WordValue, word_by}
 use Rattle.bpaf_exact.proofs.Fronts.{all_front}
-use Rattle.bpaf_exact.specs.Pieces.{stands_behind}
-use Rattle.bpaf_exact.specs.Leaves.{ArgumentValue, SideValue, WordValue}
-use Rattle.bpaf_exact.specs.Leaves.{word_by}
 use Rattle.bpaf_exact.specs.Record.{LastValue}
 use Rattle.bpaf_exact.specs.FlatForm.{FlatForm, FormLaw, not_flat, alternative, single, complete}
-use Rattle.bpaf_exact.specs.FlatForm.{product, only_if, flat_closed, flat_either}
-use Rattle.bpaf_exact.specs.FlatForm.{flat_choice, alternative_only, flat_repeat, flat_last}
-use Rattle.bpaf_exact.specs.FlatForm.{flat_optional, flat_fallback, unless, inner_field, is_named}
-use Rattle.bpaf_exact.specs.FlatForm.{may_follow, product_roles}
-use Rattle.bpaf_exact.specs.FlatForm.{flat_both, flat_alone, flat_con, flat_record, product_reading}
-use Rattle.bpaf_exact.specs.Says.{SaidKind, form_kind, of_kind}
-use Rattle.bpaf_exact.specs.Says.{keyed, repeated_kind}
-use Rattle.bpaf_exact.specs.Says.{AllOwn, Fits, Said, FlagSays, says_present, says_absent}
-use Rattle.bpaf_exact.specs.Says.{says_variable, ArgumentSays, says_variable_text}
-use Rattle.bpaf_exact.specs.Says.{says_text, says_last_text, WordSays, EitherSays, says_this}
-use Rattle.bpaf_exact.specs.Says.{says_that, MadeSays, OptionalSays, says_some, says_none}
-use Rattle.bpaf_exact.specs.Says.{FallbackSays, says_own, says_kept, FrontSays, RepeatSays}
-use Rattle.bpaf_exact.specs.Says.{says_in_turn, says_alone, LastSays, FieldsSaid, RecordSays}
-use Rattle.bpaf_exact.specs.Says.{FormSays, Says, FieldsFormSays, FieldsSay, its_pieces}
-use Rattle.bpaf_exact.specs.Says.{words_after}
+use Rattle.bpaf_exact.specs.FlatForm.{product, only_if, flat_closed, flat_choice, alternative_only}
+use Rattle.bpaf_exact.specs.FlatForm.{flat_repeat, flat_last, flat_optional, flat_fallback, unless}
+use Rattle.bpaf_exact.specs.FlatForm.{flat_field, is_named, may_follow, product_roles, flat_both}
+use Rattle.bpaf_exact.specs.FlatForm.{flat_alone, flat_con, flat_record, product_reading}
+use Rattle.bpaf_exact.specs.FlatForm.{flat_whole}
+use Rattle.bpaf_exact.specs.Says.{SaidKind, form_kind, of_kind, keyed, repeated_kind, AllOwn, Fits}
+use Rattle.bpaf_exact.specs.Says.{Said, FlagSays, says_present, says_absent, says_variable}
+use Rattle.bpaf_exact.specs.Says.{ArgumentSays, says_variable_text, says_text, says_last_text}
+use Rattle.bpaf_exact.specs.Says.{WordSays, EitherSays, says_this, says_that, MadeSays}
+use Rattle.bpaf_exact.specs.Says.{OptionalSays, says_some, says_none, FallbackSays, says_own}
+use Rattle.bpaf_exact.specs.Says.{says_kept, FrontSays, RepeatSays, says_in_turn, says_alone}
+use Rattle.bpaf_exact.specs.Says.{LastSays, FieldsSaid, RecordSays, FormSays, Says, FieldsFormSays}
+use Rattle.bpaf_exact.specs.Says.{FieldsSay, its_pieces, words_after}
 use Rattle.bpaf_exact.proofs.Names.{apart_of_names}
-use Rattle.bpaf_exact.proofs.Sharing.{mine_rest, others_fit, others_rest, rest_fit}
-use Rattle.bpaf_exact.proofs.Sharing.{apart_none, each_own, first_fits, no_fits, own_fit}
-use Rattle.bpaf_exact.proofs.Sharing.{second_fits}
+use Rattle.bpaf_exact.proofs.Sharing.{mine_rest, others_fit, others_rest, rest_fit, apart_none}
+use Rattle.bpaf_exact.proofs.Sharing.{each_own, first_fits, no_fits, own_fit, second_fits}
 use Rattle.bpaf_exact.proofs.Sharing.{mine_keyed, others_unkeyed, mine_within, first_within}
 use Rattle.bpaf_exact.proofs.Sharing.{second_within, mine_of_others, mine_none, others_none}
 use Rattle.bpaf_exact.proofs.Sharing.{all_mine, others_both, none_behind}
@@ -191,7 +186,6 @@ closed_says {A} {B} f {s} {kind} {names} {said} h = record { by = by_form s h.by
 
     by_form : (s : FlatForm A) → FormSays names s kind said
         → FormSays names (flat_closed f s) kind (MadeSays said f)
-    by_form not_flat h = tt
     by_form (alternative q value) h =
         (h.0, λ o v m. made (o ∷ []) m.from v (h.1 o m.from m.read) m.made)
     by_form (single k q group gap) h = (
@@ -207,76 +201,45 @@ closed_says {A} {B} f {s} {kind} {names} {said} h = record { by = by_form s h.by
     )
     by_form (complete k q value) h =
         (h.0, λ os v all m. made os m.from v (h.1 os m.from all m.read) m.made)
-    by_form (product named q fields) h = tt
+    by_form _ h = tt
 
 -- Choices.
 
 -- of two, into what each says more of
-pub choice_into : {T : Type 0} (m n names own others : List Names) (kind : SaidKind)
+pub choice_into : {T : Type 0} (m n names own others : List Names) (j k : SaidKind)
     (said this that : Said T)
     → ((os : List LinePiece) (v : T) → this os v → said os v)
     → ((os : List LinePiece) (v : T) → that os v → said os v)
-    → (a b : FlatForm T) → FormSays m a (of_kind ByName) this → FormSays n b kind that
+    → (a b : FlatForm T) → FormSays m a j this → FormSays n b k that
     → FormSays names (flat_choice own others a b) (of_kind ByName) said
-choice_into {T} m n names own others kind said this that from_this from_that a b g h =
-    by_names (are_all_apart own others) a b g h
+choice_into {T} m n names own others j k said this that from_this from_that (alternative q first)
+    (alternative r second) g h = by_test (are_all_apart own others)
   where
-    piece : (q : Roles) (first second : LinePiece → T → Type 0)
-        → ((o : LinePiece) (v : T) → first o v → this (o ∷ []) v)
-        → ((o : LinePiece) (v : T) → second o v → that (o ∷ []) v)
-        → (o : LinePiece) (v : T) → (b : Bool) → pick_type b (first o v) (second o v)
+    piece : (o : LinePiece) (v : T) (b : Bool) → pick_type b (first o v) (second o v)
         → said (o ∷ []) v
-    piece q first second g h o v true m = from_this (o ∷ []) v (g o v m)
-    piece q first second g h o v false m = from_that (o ∷ []) v (h o v m)
+    piece o v true m = from_this (o ∷ []) v (g.1 o v m)
+    piece o v false m = from_that (o ∷ []) v (h.1 o v m)
 
-    by_names : (apart : Bool) (a b : FlatForm T) → FormSays m a (of_kind ByName) this
-        → FormSays n b kind that
-        → FormSays names (only_if apart (flat_either a b)) (of_kind ByName) said
-    by_names false a b g h = tt
-    by_names true not_flat b g h = tt
-    by_names true (single k q group gap) b g h = tt
-    by_names true (complete k q value) b g h = tt
-    by_names true (product named q fields) b g h = tt
-    by_names true (alternative q first) not_flat g h = tt
-    by_names true (alternative q first) (single k r group gap) g h = tt
-    by_names true (alternative q first) (complete k r value) g h = tt
-    by_names true (alternative q first) (product named r fields) g h = tt
-    by_names true (alternative q first) (alternative r second) g h =
-        (refl, λ o v m. piece q first second g.1 h.1 o v (is_own q o) m)
+    by_test : (apart : Bool) → FormSays names
+        (only_if apart (alternative (either q r) (either_value q first second))) (of_kind ByName)
+        said
+    by_test true = (refl, λ o v m. piece o v (is_own q o) m)
+    by_test false = tt
+choice_into m n names own others j k said this that from_this from_that _ _ g h = tt
 
 -- a parser that says so by whichever kind is an alternative or says nothing
 pub by_name : {T : Type 0} (names : List Names) (s : FlatForm T) (kind : SaidKind) (said : Said T)
     → FormSays names s kind said → FormSays names (alternative_only s) (of_kind ByName) said
-by_name names not_flat kind said h = tt
 by_name names (alternative q value) kind said h = (refl, h.1)
-by_name names (single k q group gap) kind said h = tt
-by_name names (complete k q value) kind said h = tt
-by_name names (product named q fields) kind said h = tt
-
--- a choice is of alternatives alone
-only_alternatives : {T : Type 0} (names own others : List Names) (said : Said T) (a b : FlatForm T)
-    → FormSays names (flat_choice own others (alternative_only a) b) (of_kind ByName) said
-    → FormSays names (flat_choice own others a b) (of_kind ByName) said
-only_alternatives {T} names own others said a b h = by_names (are_all_apart own others) a h
-  where
-    by_names : (apart : Bool) (a : FlatForm T)
-        → FormSays names (only_if apart (flat_either (alternative_only a) b)) (of_kind ByName) said
-        → FormSays names (only_if apart (flat_either a b)) (of_kind ByName) said
-    by_names false a h = tt
-    by_names true not_flat h = tt
-    by_names true (alternative q value) h = h
-    by_names true (single k q group gap) h = tt
-    by_names true (complete k q value) h = tt
-    by_names true (product named q fields) h = tt
+by_name names _ kind said h = tt
 
 -- of two
 pub choice_says : {T : Type 0} {m n names : List Names} (own others : List Names)
     {a b : FlatForm T} {j k : SaidKind} {this that : Said T} → Says m a j this → Says n b k that
     → Says names (flat_choice own others a b) (of_kind ByName) (EitherSays this that)
 choice_says {T} {m} {n} {names} own others {a} {b} {j} {k} {this} {that} g h = record {
-  by = only_alternatives names own others (EitherSays this that) a b
-      (choice_into m n names own others k (EitherSays this that) this that (λ os v m. says_this m)
-      (λ os v m. says_that m) (alternative_only a) b (by_name m a j this g.by) h.by);
+  by = choice_into m n names own others j k (EitherSays this that) this that
+      (λ os v m. says_this m) (λ os v m. says_that m) a b g.by h.by;
 }
 
 -- Repeats and defaults.
@@ -318,17 +281,23 @@ module _ {T : Type 0} (said : Said T) (group : Groups T) (gap : Gap T)
   fallback_by f os v (own_value h) = says_own (whole_says os v h)
   fallback_by f [] v (kept_value h m) = says_kept refl m
 
--- an alternative's pieces are read one by one
-module _ {T : Type 0} (said : Said T) (value : LinePiece → T → Type 0)
-    (each : (o : LinePiece) (v : T) → value o v → said (o ∷ []) v) where
-  -- its front
-  abbrev piece_fronts : (os rest : List LinePiece) (v : T) → FrontOf T value os v rest
-      → FrontSays said os v rest
-  piece_fronts = front_says value said each
-
-  -- and it has no absent value
-  no_absent : (v : T) → (no_gap T).absent v → said [] v
-  no_absent v none = absurd none
+-- a repeat or default round a field, of which each value says so
+whole_form_says : {T B : Type 0} (kind : FieldKind → FieldKind) (lift : SaidKind → SaidKind)
+    → ((k : FieldKind) → lift (of_kind k) ≡ of_kind (kind k))
+    → (value : Groups T → Gap T → List LinePiece → B → Type 0) (said : Said T) (whole : Said B)
+    → ((group : Groups T) (gap : Gap T)
+    → ((os rest : List LinePiece) (v : T) → group os v rest → FrontSays said os v rest)
+    → ((v : T) → gap.absent v → said [] v)
+    → (os : List LinePiece) (v : B) → value group gap os v → whole os v)
+    → (names : List Names) (j : SaidKind) (s : FlatForm T) → FormSays names s j said
+    → FormSays names (flat_whole kind value s) (lift j) whole
+whole_form_says kind lift lifts value said whole each names j (alternative q one) h = (
+  ap lift h.0 ∙ lifts ByName,
+  λ os v all. each _ _ (front_says one said h.1) (λ v none. absurd none) os v,
+)
+whole_form_says kind lift lifts value said whole each names j (single k q group gap) h =
+    (ap lift h.0 ∙ lifts k, λ os v all. each group gap h.1 h.2 os v)
+whole_form_says kind lift lifts value said whole each names j _ h = tt
 
 -- own items are those with one of these names
 abbrev pub FormOwns : {T : Type 0} → List Names → FlatForm T → Type 0
@@ -341,125 +310,73 @@ pub record OwnsKeys {T : Type 0} (names : List Names) (s : FlatForm T) : Type 0 
   pub by : FormOwns names s
 
 -- of what keeps to its law,
-pub owned : {T : Type 0} (outcome : Outcome T) (names : List Names) (s : FlatForm T)
-    → FormLaw outcome names s → OwnsKeys names s
-owned outcome names not_flat law = record { by = tt }
-owned outcome names (alternative q value) law = record { by = tt }
-owned outcome names (single k q group gap) law = record { by = tt }
-owned outcome names (complete k q value) law = record { by = law.1 }
-owned outcome names (product named q fields) law = record { by = law.1 }
+pub owned : (env : Variables) {T : Type 0} (outcome : Outcome T) (names : List Names)
+    (s : FlatForm T)
+    → FormLaw env outcome names s → OwnsKeys names s
+owned env outcome names (complete k q value) law = record { by = law.1 }
+owned env outcome names (product named q fields) law = record { by = law.1 }
+owned env outcome names _ law = record { by = tt }
 
 -- as a field
 pub field_says : {T : Type 0} {s : FlatForm T} {kind : SaidKind} {names : List Names}
     {said : Said T}
-    → OwnsKeys names s → Says names s kind said → Says names (inner_field s) kind said
+    → OwnsKeys names s → Says names s kind said → Says names (flat_field s) kind said
 field_says {T} {s} {kind} {names} {said} own h = record { by = by_form s own.by h.by }
   where
     by_form : (s : FlatForm T) → FormOwns names s → FormSays names s kind said
-        → FormSays names (inner_field s) kind said
-    by_form not_flat own h = tt
-    by_form (alternative q value) own h = (
-      h.0,
-      λ os v all. whole_says said (FrontOf T value) (no_gap T) (piece_fronts said value h.1)
-          (no_absent said value h.1) os v,
-    )
-    by_form (single k q group gap) own h =
-        (h.0, λ os v all. whole_says said group gap h.1 h.2 os v)
+        → FormSays names (flat_field s) kind said
     by_form (complete k q value) own h = h
     by_form (product true q fields) own h =
         (h.0, λ os v all m. let fit = own_fit q names own os all in h.1 os os v fit fit m refl refl)
     by_form (product false q fields) own h = h
+    by_form s own h =
+        whole_form_says (λ k. k) (λ j. j) (λ k. refl) (SingleValue T) said said (whole_says said)
+        names kind s h
 
 -- under `optional`
 pub optional_says : {T : Type 0} {s : FlatForm T} {kind : SaidKind} {names : List Names}
     {said : Said T}
     → Says names s kind said → Says names (flat_optional s) kind (OptionalSays said)
-optional_says {T} {s} {kind} {names} {said} h = record { by = by_form s h.by }
-  where
-    by_form : (s : FlatForm T) → FormSays names s kind said
-        → FormSays names (flat_optional s) kind (OptionalSays said)
-    by_form not_flat h = tt
-    by_form (alternative q value) h = (
-      h.0,
-      λ os v all. optional_by said (FrontOf T value) (no_gap T) (piece_fronts said value h.1)
-          (no_absent said value h.1) os v,
-    )
-    by_form (single k q group gap) h = (h.0, λ os v all. optional_by said group gap h.1 h.2 os v)
-    by_form (complete k q value) h = tt
-    by_form (product named q fields) h = tt
+optional_says {T} {s} {said = said} h = record {
+  by = whole_form_says (λ k. k) (λ j. j) (λ k. refl) (OptionalValue T) said (OptionalSays said)
+      (optional_by said) _ _ s h.by;
+}
 
 -- under a fallback
 pub fallback_says : {T : Type 0} (f : Closure (Unit {0}) T) {s : FlatForm T} {kind : SaidKind}
-    {names : List Names}
-    {said : Said T} → Says names s kind said
+    {names : List Names} {said : Said T} → Says names s kind said
     → Says names (flat_fallback f s) kind (FallbackSays said (f.yes tt))
-fallback_says {T} f {s} {kind} {names} {said} h = record { by = by_form s h.by }
-  where
-    by_form : (s : FlatForm T) → FormSays names s kind said
-        → FormSays names (flat_fallback f s) kind (FallbackSays said (f.yes tt))
-    by_form not_flat h = tt
-    by_form (alternative q value) h = (
-      h.0,
-      λ os v all. fallback_by said (FrontOf T value) (no_gap T) (piece_fronts said value h.1)
-          (no_absent said value h.1) f os v,
-    )
-    by_form (single k q group gap) h = (h.0, λ os v all. fallback_by said group gap h.1 h.2 f os v)
-    by_form (complete k q value) h = tt
-    by_form (product named q fields) h = tt
+fallback_says {T} f {s} {said = said} h = record {
+  by = whole_form_says (λ k. k) (λ j. j) (λ k. refl) (λ group gap. FallbackValue T group gap f) said
+      (FallbackSays said (f.yes tt))
+      (λ group gap fronts absent. fallback_by said group gap fronts absent f) _ _ s h.by;
+}
 
 -- under a repeat, as a list
 repeat_says : {T : Type 0} {s : FlatForm T} {kind : SaidKind} {names : List Names} {said : Said T}
     → Says names s kind said → Says names (flat_repeat s) (repeated_kind kind) (RepeatSays said)
-repeat_says {T} {s} {kind} {names} {said} h = record { by = by_form s h.by }
-  where
-    by_form : (s : FlatForm T) → FormSays names s kind said
-        → FormSays names (flat_repeat s) (repeated_kind kind) (RepeatSays said)
-    by_form not_flat h = tt
-    by_form (alternative q value) h = (
-      ap repeated_kind h.0,
-      λ os v all. list_says said (FrontOf T value) (no_gap T) (piece_fronts said value h.1)
-          (no_absent said value h.1) os v,
-    )
-    by_form (single k q group gap) h =
-        (ap repeated_kind h.0, λ os v all. list_says said group gap h.1 h.2 os v)
-    by_form (complete k q value) h = tt
-    by_form (product named q fields) h = tt
+repeat_says {T} {s} {said = said} h = record {
+  by = whole_form_says repeated repeated_kind (λ k. refl) (OwnList T) said (RepeatSays said)
+      (list_says said) _ _ s h.by;
+}
 
 -- under `many`, `some`, `collect` or `count`
 pub listed_says : {T B : Type 0} (f : Closure (List T) B) {s : FlatForm T} {kind : SaidKind}
-    {names : List Names}
-    {said : Said T} → Says names s kind said
+    {names : List Names} {said : Said T} → Says names s kind said
     → Says names (flat_closed f (flat_repeat s)) (repeated_kind kind) (MadeSays (RepeatSays said) f)
 listed_says f h = closed_says f (repeat_says h)
 
 -- under `last`
-pub last_says : {T : Type 0} {s : FlatForm T} {kind : SaidKind} {names : List Names}
-    {said : Said T}
+pub last_says : {T : Type 0} {s : FlatForm T} {kind : SaidKind} {names : List Names} {said : Said T}
     → Says names s kind said → Says names (flat_last s) (repeated_kind kind) (LastSays said)
-last_says {T} {s} {kind} {names} {said} h = record { by = by_form s h.by }
-  where
-    last_by : (group : Groups T) (gap : Gap T)
-        → ((os rest : List LinePiece) (v : T) → group os v rest → FrontSays said os v rest)
-        → ((v : T) → gap.absent v → said [] v) → (os : List LinePiece) (v : T)
-        → LastOf T group gap os v → LastSays said os v
-    last_by group gap fronts absent os v m = record {
-      values = m.list;
-      told = list_says said group gap fronts absent os m.list m.own;
-      is = m.is;
-    }
-
-    by_form : (s : FlatForm T) → FormSays names s kind said
-        → FormSays names (flat_last s) (repeated_kind kind) (LastSays said)
-    by_form not_flat h = tt
-    by_form (alternative q value) h = (
-      ap repeated_kind h.0,
-      λ os v all. last_by (FrontOf T value) (no_gap T) (piece_fronts said value h.1)
-          (no_absent said value h.1) os v,
-    )
-    by_form (single k q group gap) h =
-        (ap repeated_kind h.0, λ os v all. last_by group gap h.1 h.2 os v)
-    by_form (complete k q value) h = tt
-    by_form (product named q fields) h = tt
+last_says {T} {s} {said = said} h = record {
+  by = whole_form_says repeated repeated_kind (λ k. refl) (LastOf T) said (LastSays said)
+      (λ group gap fronts absent os v m. record {
+        values = m.list;
+        told = list_says said group gap fronts absent os m.list m.own;
+        is = m.is;
+      }) _ _ s h.by;
+}
 
 -- without `catch`
 pub unless_says : {T : Type 0} (catch : Bool) {s : FlatForm T} {kind : SaidKind}
@@ -471,14 +388,12 @@ unless_says false h = h
 -- Products.
 
 -- also as a field
-pub field_owned : {T : Type 0} (outcome : Outcome T) (names : List Names) (s : FlatForm T)
-    → FormLaw outcome names s → OwnsKeys names (inner_field s)
-field_owned outcome names not_flat law = record { by = tt }
-field_owned outcome names (alternative q value) law = record { by = law.1 }
-field_owned outcome names (single k q group gap) law = record { by = law.1 }
-field_owned outcome names (complete k q value) law = record { by = law.1 }
-field_owned outcome names (product true q fields) law = record { by = law.1 }
-field_owned outcome names (product false q fields) law = record { by = law.1 }
+pub field_owned : (env : Variables) {T : Type 0} (outcome : Outcome T) (names : List Names)
+    (s : FlatForm T)
+    → FormLaw env outcome names s → OwnsKeys names (flat_field s)
+field_owned env outcome names not_flat law = record { by = tt }
+field_owned env outcome names (product true q fields) law = record { by = law.1 }
+field_owned env outcome names _ law = record { by = law.1 }
 
 -- the last field
 pub alone_says : {T : Type 0} {names : List Names} {s : FlatForm T} {kind : SaidKind}
@@ -515,10 +430,6 @@ alone_says {T} {names} {s} {kind} {said} own_keys h =
     by_form : (s : FlatForm T) → FormOwns names s → FormSays names s kind said
         → FieldsFormSays names (flat_alone s)
         (λ os words v. said (its_pieces kind names os words) v)
-    by_form not_flat law h = tt
-    by_form (alternative q value) law h = tt
-    by_form (single k q group gap) law h = tt
-    by_form (product true q fields) law h = tt
     by_form (product false q fields) law h = λ whole os v fits fit m same.
         subst (λ j. said (its_pieces j names whole (others q os)) v) (sym h.0)
         (h.1 (keyed names whole ++ others q os) os v (rest_fit q names whole os fits fit) fit m
@@ -527,6 +438,7 @@ alone_says {T} {names} {s} {kind} {said} own_keys h =
         subst (λ j. said (its_pieces j names whole (others (either (keys k q) no_roles) os)) v)
         (sym h.0)
         (own k q value law h.1 whole os v fits m same)
+    by_form _ law h = tt
 
 -- a field before others, by its kind
 module _ {A B : Type 0} (own behind : List Names) (said : Said A) (rest_said : FieldsSaid B)
@@ -629,16 +541,9 @@ both_say {A} {B} {own} {behind} {a} {s} {kind} {said} {rest_said} own_keys behin
         → FormOwns behind s → FormSays own a kind said → FieldsFormSays behind s rest_said
         → FieldsFormSays (own ++ behind) (flat_both own behind a s)
         (BothSaid own kind said rest_said)
-    by_form not_flat s law rest_law h g = tt
-    by_form (alternative q value) s law rest_law h g = tt
-    by_form (single k q group gap) s law rest_law h g = tt
-    by_form (product named q fields) s law rest_law h g = tt
-    by_form (complete k q first) not_flat law rest_law h g = tt
-    by_form (complete k q first) (alternative r value) law rest_law h g = tt
-    by_form (complete k q first) (single j r group gap) law rest_law h g = tt
-    by_form (complete k q first) (complete j r value) law rest_law h g = tt
     by_form (complete k q first) (product named r fields) law rest_law h g =
         by_test k named q r first fields law rest_law h.0 h.1 g (may_follow k own behind) refl
+    by_form _ _ law rest_law h g = tt
 
 -- what a constructor makes of the values of fields
 pub con_says : {A B : Type 0} {names : List Names} {s : FlatForm A} {said : FieldsSaid A}
@@ -649,10 +554,6 @@ con_says {A} {B} {names} {s} {said} f own_keys g =
   where
     by_form : (s : FlatForm A) → FormOwns names s → FieldsFormSays names s said
         → FormSays names (flat_con f s) (form_kind s) (RecordSays said names f)
-    by_form not_flat law g = tt
-    by_form (alternative q value) law g = tt
-    by_form (single k q group gap) law g = tt
-    by_form (complete k q value) law g = tt
     by_form (product named q fields) law g = (
       refl,
       λ whole os v fits fit m same other. record {
@@ -662,6 +563,7 @@ con_says {A} {B} {names} {s} {said} f own_keys g =
         made = m.made;
       },
     )
+    by_form _ law g = tt
 
 -- A value of a flat record says what its parser says of all pieces of the line.
 pub record_says : {T : Type 0} (s : FlatForm T) {kind : SaidKind} {names : List Names}
@@ -689,8 +591,8 @@ record_says {T} s {kind} {names} {said} h = by_form s h.by
         → (product_reading (flat_record s)).value os v → said os v
     by_form not_flat h os v fits m = absurd m
     by_form (alternative q value) h os v fits m = all_own ByName q _
-        (λ os v all. whole_says said (FrontOf T value) (no_gap T) (piece_fronts said value h.1)
-        (no_absent said value h.1) os v) os v m
+        (λ os v all. whole_says said _ _ (front_says value said h.1) (λ v none. absurd none) os v)
+        os v m
     by_form (single k q group gap) h os v fits m =
         all_own k q _ (λ os v all. whole_says said group gap h.1 h.2 os v) os v m
     by_form (complete k q value) h os v fits m = all_own k q value h.1 os v m

@@ -1,24 +1,20 @@
 -- Pieces that are shared out by roles are shared out by names.
-use Rattle.std.proofs.Common.{◌≡◌, Bool, true, false, List, [], ◌∷◌}
-use Rattle.std.proofs.Common.{refl, sym, ap, ◌∙◌, if◌then◌else◌}
-use Rattle.std.proofs.Common.{◌++◌, ◌||◌, ◌⊎◌, ⊎_elim, None, Some, inl, inr}
+use Rattle.std.proofs.Common.{◌≡◌, Bool, true, false, List, [], ◌∷◌, refl, sym, ap, ◌∙◌}
+use Rattle.std.proofs.Common.{if◌then◌else◌, ◌++◌, ◌||◌, ◌⊎◌, ⊎_elim, None, Some, inl, inr}
 use Rattle.std.proofs.lemmas.List.Folds.{list_any-append}
 use Rattle.bpaf_base.specs.Items.{is_key_of, is_positional}
-use Rattle.bpaf_base.specs.declared.arg.Arg.TheVariants.{Short, Long, ArgWord, Word, PosWord}
-use Rattle.bpaf_exact.specs.Names.{are_all_apart}
+use Rattle.bpaf_base.specs.declared.arg.Arg.TheVariants.{Word, PosWord}
+use Rattle.bpaf_exact.specs.Names.{are_all_apart, Owns, is_key_of_any}
 use Rattle.bpaf_exact.specs.Pieces.{Cells, Cut, argument, at_end, begin_piece, flag, passed, pieces}
-use Rattle.bpaf_exact.specs.Pieces.{word}
-use Rattle.bpaf_exact.specs.Says.{EachOwn, Fits}
+use Rattle.bpaf_exact.specs.Pieces.{word, Role, Foreign, Alone, WithNext, Roles, LinePiece, One}
+use Rattle.bpaf_exact.specs.Pieces.{Two, is_own_role, is_own, mine, others, either, either_role}
+use Rattle.bpaf_exact.specs.Says.{EachOwn, Fits, first_item, keyed, unkeyed}
 use Rattle.bpaf_exact.proofs.First.{own_next}
 use Rattle.bpaf_exact.proofs.Names.{one_list, or_true}
 use Rattle.bpaf_doc.specs.Names.{Names}
 use Rattle.bpaf_base.specs.declared.arg.Arg.{Arg}
-use Rattle.bpaf_exact.specs.Pieces.{Role, Foreign, Alone, WithNext, Roles, LinePiece, One, Two}
-use Rattle.bpaf_exact.specs.Pieces.{is_own_role, is_own, mine, others, either, either_role}
 use Rattle.bpaf_exact.specs.Flat.{OneWord}
-use Rattle.bpaf_exact.specs.Names.{Owns, is_key_of_any}
 use Rattle.bpaf_exact.specs.FlatForm.{may_follow}
-use Rattle.bpaf_exact.specs.Says.{first_item, keyed, unkeyed}
 
 -- a test that holds of no item fails
 fails : (c : Bool) → (c ≡ true → true ≡ false) → c ≡ false
@@ -33,13 +29,11 @@ same_truth false false f g = refl
 
 -- a word is no key
 no_key : (names : List Names) (w : Arg) → is_positional w ≡ true → is_key_of_any names w ≡ false
-no_key names (Short c attached text) h = absurd cc
-no_key names (Long name attached text) h = absurd cc
-no_key names (ArgWord text) h = absurd cc
 no_key [] (Word text) h = refl
 no_key (own ∷ names) (Word text) h = no_key names (Word text) h
 no_key [] (PosWord text) h = refl
 no_key (own ∷ names) (PosWord text) h = no_key names (PosWord text) h
+no_key names _ h = absurd cc
 
 -- a piece is one's own by its first item
 own_first : (r : Roles) (o : LinePiece) → is_own r o ≡ is_own_role (r (first_item o))
@@ -96,10 +90,9 @@ module _ (q r : Roles) (own behind : List Names) (owned : Owns q own) (owned_beh
   either_first o e = by_role (q (first_item o)) refl
     where
       by_role : (x : Role) → q (first_item o) ≡ x → (is_own q o ≡ true) ⊎ (is_own r o ≡ true)
-      by_role Alone f = inl (own_first q o ∙ ap is_own_role f)
-      by_role WithNext f = inl (own_first q o ∙ ap is_own_role f)
       by_role Foreign f = inr (own_first r o ∙ (sym (ap (λ x. is_own_role
           (either_role x (r (first_item o)))) f) ∙ (sym (own_first (either q r) o) ∙ e)))
+      by_role _ f = inl (own_first q o ∙ ap is_own_role f)
 
   both_names : (o : LinePiece)
       → is_own (either q r) o ≡ is_key_of_any (own ++ behind) (first_item o)
@@ -129,8 +122,11 @@ module _ (q r : Roles) (own behind : List Names) (owned : Owns q own) (owned_beh
   -- the second
   pub second_fits : (os : List LinePiece) → Fits (own ++ behind) (either q r) os → Fits behind r os
   second_fits [] fits = tt
-  second_fits (o ∷ os) fits =
-      (same_truth _ _ (own_keyed r behind owned_behind o) (other_names o fits.0), second_fits os fits.1)
+  second_fits (o ∷ os) fits = (
+    same_truth _ _ (own_keyed r behind owned_behind o)
+        (other_names o fits.0),
+    second_fits os fits.1,
+  )
 
 -- the own ones of pieces are all one's own
 pub each_own : (q : Roles) (os : List LinePiece) → EachOwn q (mine q os)
@@ -179,8 +175,7 @@ first_within q r k = by_role (q k)
   where
     by_role : (x : Role) → is_own_role x ≡ true → is_own_role (either_role x (r k)) ≡ true
     by_role Foreign e = absurd cc
-    by_role Alone e = refl
-    by_role WithNext e = refl
+    by_role _ e = refl
 
 -- the second
 pub second_within : (q r : Roles) (k : Arg) → is_own_role (r k) ≡ true
@@ -189,8 +184,7 @@ second_within q r k = by_role (q k)
   where
     by_role : (x : Role) → is_own_role (r k) ≡ true → is_own_role (either_role x (r k)) ≡ true
     by_role Foreign e = e
-    by_role Alone e = refl
-    by_role WithNext e = refl
+    by_role _ e = refl
 
 -- what is another's own isn't among one's own
 pub mine_of_others : (p q : Roles) → ((k : Arg) → is_own_role (q k) ≡ true → p k ≡ Foreign)

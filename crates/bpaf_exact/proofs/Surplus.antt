@@ -2,18 +2,18 @@
 use Rattle.std.proofs.Common.{◌≡◌, ℕ, Bool, true, false, List, [], ◌∷◌, Option, Some, None, subst}
 use Rattle.bpaf_doc.specs.Names.{Names}
 use Rattle.bpaf_exact.specs.Pieces.{Roles, LinePiece}
-use Rattle.bpaf_exact.specs.Flat.{FieldKind, FieldsReading, HasValue, both_reading, share, left}
+use Rattle.bpaf_exact.specs.Flat.{FieldKind, FieldsReading, HasValue, both_reading, portion, left}
 use Rattle.bpaf_exact.specs.Single.{Groups, Gap, FrontOf, own_none, own_more, OwnList, listed}
 use Rattle.bpaf_exact.specs.Single.{listed_and_absent, only_absent, SingleValue, of_group, of_gap}
-use Rattle.bpaf_exact.specs.Wrappers.{Closure, OptionalValue, some_value}
-use Rattle.bpaf_exact.specs.Wrappers.{no_value, FallbackValue, own_value, kept_value}
+use Rattle.bpaf_exact.specs.Wrappers.{Closure, OptionalValue, some_value, no_value, FallbackValue}
+use Rattle.bpaf_exact.specs.Wrappers.{own_value, kept_value}
 use Rattle.bpaf_exact.specs.Gathered.{LastOf}
 use Rattle.bpaf_exact.specs.Alternative.{HasBad}
 use Rattle.bpaf_exact.specs.Record.{last_reading}
 use Rattle.bpaf_exact.specs.Leaves.{flag_by, argument_by, word_field}
 use Rattle.bpaf_exact.specs.FlatForm.{FlatForm, not_flat, alternative, single, complete, product}
-use Rattle.bpaf_exact.specs.FlatForm.{flat_closed, flat_optional, flat_fallback, flat_field}
-use Rattle.bpaf_exact.specs.FlatForm.{unless}
+use Rattle.bpaf_exact.specs.FlatForm.{flat_closed, flat_optional, flat_fallback, flat_field, unless}
+use Rattle.bpaf_exact.specs.FlatForm.{is_product}
 use Rattle.bpaf_exact.specs.Accepted.{OneByOne, AtMostOne, HasNoSurplus, IsPartOf}
 use Rattle.bpaf_exact.proofs.Alternative.{own_bad}
 
@@ -46,19 +46,17 @@ module _ (T : Type 0) (group : Groups T) (gap : Gap T) (one : OneByOne group) wh
 -- a closure round a field keeps that
 pub closed_no_surplus : {A B : Type 0} (f : Closure A B) (s : FlatForm A) → HasNoSurplus s
     → HasNoSurplus (flat_closed f s)
-closed_no_surplus f not_flat h = tt
-closed_no_surplus f (alternative q value) h = tt
 closed_no_surplus f (single k q group gap) h = λ os rest v g. h os rest g.from g.read
 closed_no_surplus f (complete k q value) h = λ o p os v i. h o p os i.from i.read
-closed_no_surplus f (product named q fields) h = tt
+closed_no_surplus f _ h = tt
 
 -- a field without a repeat or default has no surplus
-pub field_no_surplus : {T : Type 0} (s : FlatForm T) → HasNoSurplus s → HasNoSurplus (flat_field s)
-field_no_surplus not_flat h = tt
-field_no_surplus {T = T} (alternative q value) h = single_once T _ _ (front_one T value)
-field_no_surplus {T = T} (single k q group gap) h = single_once T group gap h
-field_no_surplus (complete k q value) h = h
-field_no_surplus (product named q fields) h = tt
+pub field_no_surplus : {T : Type 0} (s : FlatForm T) → is_product s ≡ false → HasNoSurplus s
+    → HasNoSurplus (flat_field s)
+field_no_surplus {T = T} (alternative q value) n h = single_once T _ _ (front_one T value)
+field_no_surplus {T = T} (single k q group gap) n h = single_once T group gap h
+field_no_surplus (product named q fields) n h = absurd cc
+field_no_surplus s n h = h
 
 -- nor has what may be left out
 pub optional_no_surplus : {T : Type 0} (s : FlatForm T) → HasNoSurplus s
@@ -72,11 +70,10 @@ optional_no_surplus (product named q fields) h = tt
 -- nor what has a value that stands for it
 pub fallback_no_surplus : {T : Type 0} (f : Closure (Unit {0}) T) (s : FlatForm T) → HasNoSurplus s
     → HasNoSurplus (flat_fallback f s)
-fallback_no_surplus f not_flat h = tt
 fallback_no_surplus {T = T} f (alternative q value) h = fallback_once T _ _ (front_one T value) f
 fallback_no_surplus {T = T} f (single k q group gap) h = fallback_once T group gap h f
-fallback_no_surplus f (complete k q value) h = tt
-fallback_no_surplus f (product named q fields) h = tt
+fallback_no_surplus f not_flat h = tt
+fallback_no_surplus f _ h = tt
 
 -- whether `catch` is set changes nothing there
 pub unless_no_surplus : {T : Type 0} (catch : Bool) (s : FlatForm T) → HasNoSurplus s
@@ -137,7 +134,7 @@ module _ (T : Type 0) (value : LinePiece → T → Type 0) (gap : Gap T) where
 module _ {A B : Type 0} (k : FieldKind) (q : Roles) (first : List LinePiece → A → Type 0)
     (rest : FieldsReading B) where
   -- a field before others
-  pub first_part : IsPartOf (both_reading k q first rest).each (share k q) (HasValue first)
+  pub first_part : IsPartOf (both_reading k q first rest).each (portion k q) (HasValue first)
   first_part = λ os h. h.0
 
   -- the parts of those behind it
@@ -148,7 +145,7 @@ module _ {A B : Type 0} (k : FieldKind) (q : Roles) (first : List LinePiece → 
 
 module _ {T : Type 0} (k : FieldKind) (q : Roles) (value : List LinePiece → T → Type 0) where
   -- the last field
-  pub last_part : IsPartOf (last_reading k q value).each (share k q) (HasValue value)
+  pub last_part : IsPartOf (last_reading k q value).each (portion k q) (HasValue value)
   last_part = λ os h. h.0
 
   -- no piece is left behind it

@@ -4,11 +4,9 @@ use Rattle.std.proofs.Common.{if◌then◌else◌}
 use Rattle.bpaf_base.specs.declared.arg.Arg.{Arg}
 use Rattle.bpaf_base.specs.Items.{is_positional}
 use Rattle.bpaf_exact.specs.Pieces.{Cells, Role, Foreign, Alone, WithNext, Roles, LinePiece, One}
-use Rattle.bpaf_exact.specs.Pieces.{Cut}
-use Rattle.bpaf_exact.specs.Pieces.{at_end, passed, flag, argument, word, begin_piece, pieces}
+use Rattle.bpaf_exact.specs.Pieces.{Cut, at_end, passed, flag, argument, word, begin_piece, pieces}
 use Rattle.bpaf_exact.specs.Pieces.{TakesPiece, takes_one, takes_two, takes_later, TakesPieces}
-use Rattle.bpaf_exact.specs.Pieces.{takes_none}
-use Rattle.bpaf_exact.specs.Pieces.{takes_more}
+use Rattle.bpaf_exact.specs.Pieces.{takes_none, takes_more}
 use Rattle.bpaf_exact.specs.Flat.{IsWords, NonePresent, no_place, none_here}
 
 -- no item is a key

@@ -1,13 +1,13 @@
 -- Closures, optional and fallback keep to the laws.
-use Rattle.std.proofs.Common.{◌≡◌, false, List, [], Option, Some, None, Result, Ok, Err, refl}
-use Rattle.std.proofs.Common.{sym, ap, ◌∙◌, subst}
+use Rattle.std.proofs.Common.{◌≡◌, false, List, [], Option, Some, None, Ok, Err, refl, sym, ap, ◌∙◌}
+use Rattle.std.proofs.Common.{subst}
 use Rattle.bpaf_line.specs.declared.error.Error.{Error}
 use Rattle.bpaf_line.specs.Situation.{Situation}
 use Rattle.bpaf_laws.specs.Reading.{Outcome}
 use Rattle.bpaf_exact.specs.Pieces.{Roles, LinePiece, pieces, takes_none}
 use Rattle.bpaf_exact.specs.Flat.{ErrorClass, OfMemory, OfMissing, Caught, Refused, class, cells}
-use Rattle.bpaf_exact.specs.Flat.{NoneOutside, FieldKind, ByName, OneWord, EachWord, front, back}
-use Rattle.bpaf_exact.specs.Flat.{LeavesNone, FieldTook, FieldLaw, Gives}
+use Rattle.bpaf_exact.specs.Flat.{IsWholeIn, FieldKind, ByName, OneWord, EachWord, front, back}
+use Rattle.bpaf_exact.specs.Flat.{NoKeysLeft, FieldTook, FieldLaw, Variables}
 use Rattle.bpaf_exact.specs.Single.{Groups, Own, own_none, Readable, Gap, SingleOk, gave_absent}
 use Rattle.bpaf_exact.specs.Single.{took, SingleErr, of_memory, of_missing, of_absent, of_piece}
 use Rattle.bpaf_exact.specs.Single.{ReadsWords, SingleLaw, SingleValue, of_group, of_gap, Stops}
@@ -15,21 +15,20 @@ use Rattle.bpaf_exact.specs.Single.{CanCatch, catch_missing, catch_other}
 use Rattle.bpaf_exact.specs.Wrappers.{Closure, Decides, AgreesOn, ClosedEval, closed_yes, closed_no}
 use Rattle.bpaf_exact.specs.Wrappers.{closed_memory, closed_err, ClosedValue, OptionalEval}
 use Rattle.bpaf_exact.specs.Wrappers.{optional_some, optional_none, optional_err, optional_memory}
-use Rattle.bpaf_exact.specs.Wrappers.{OptionalValue, some_value, no_value}
-use Rattle.bpaf_exact.specs.Wrappers.{FallbackEval, fallback_ok, fallback_given}
-use Rattle.bpaf_exact.specs.Wrappers.{fallback_no, fallback_memory, fallback_err, FallbackValue}
-use Rattle.bpaf_exact.specs.Wrappers.{own_value, kept_value}
+use Rattle.bpaf_exact.specs.Wrappers.{OptionalValue, some_value, no_value, FallbackEval}
+use Rattle.bpaf_exact.specs.Wrappers.{fallback_ok, fallback_given, fallback_no, fallback_memory}
+use Rattle.bpaf_exact.specs.Wrappers.{fallback_err, FallbackValue, own_value, kept_value}
 use Rattle.bpaf_exact.proofs.Product.{steady_refl}
-use Rattle.bpaf_exact.proofs.Fronts.{back_all}
+use Rattle.bpaf_exact.proofs.Fronts.{back_all, no_keys_left}
 use Rattle.bpaf_exact.proofs.Repeat.{any_some, same_takes, no_stop, stops_by}
 
 -- outer closures
-module _ (A B : Type 0) (inner : Outcome A) (k : FieldKind) (q : Roles)
+module _ {env : Variables} (A B : Type 0) (inner : Outcome A) (k : FieldKind) (q : Roles)
     (value : List LinePiece → A → Type 0)
-    (l : FieldLaw A inner k q value) (f : Closure A B)
+    (l : FieldLaw env A inner k q value) (f : Closure A B)
     (agrees : (os : List LinePiece) → AgreesOn (value os) f) (c : ErrorClass) where
   -- a value that the closure gave
-  closed_ok : (s t : Situation) (v : B) → NoneOutside s → ClosedEval A B inner f c s (Ok v) t
+  closed_ok : (s t : Situation) (v : B) → IsWholeIn env s → ClosedEval A B inner f c s (Ok v) t
       → FieldTook B k q (ClosedValue A B value f) s v t
   closed_ok s t v w (closed_yes {x = x} i y) =
       let a = l.ok s t x w i in
@@ -41,27 +40,32 @@ module _ (A B : Type 0) (inner : Outcome A) (k : FieldKind) (q : Roles)
         rest = a.rest;
       }
 
-  -- where the share has a value the closure gives one
-  closed_answers : (s t : Situation) (r : Result B Error) (v : B) → NoneOutside s
-      → ClosedEval A B inner f c s r t → ClosedValue A B value f (front k (pieces q (cells s))) v
-      → Gives q (ClosedValue A B value f (front k (pieces q (cells s))))
-      (back k (pieces q (cells s))) r t
-  closed_answers s t r v w (closed_yes {x = x} {v = u} i y) h =
-      let a = l.answers s t (Ok x) h.from w i h.read in
-      (record { from = x; read = a.0; made = y }, a.1)
-  closed_answers s t r v w (closed_no {x = x} i n e) h =
-      let a = l.answers s t (Ok x) h.from w i h.read in
-      absurd (agrees (front k (pieces q (cells s))) h.from x v h.read a.0 h.made n)
-  closed_answers s t r v w (closed_memory i e) h = e
-  closed_answers s t r v w (closed_err {e = x} i) h = l.answers s t (Err x) h.from w i h.read
+  -- where the portion has a value it takes all,
+  closed_takes : (s t : Situation) (u v : B) → IsWholeIn env s → ClosedEval A B inner f c s (Ok u) t
+      → ClosedValue A B value f (front k (pieces q (cells s))) v → NoKeysLeft k q (cells t)
+  closed_takes s t u v w (closed_yes {x = x} i y) h = l.takes_all s t x h.from w i h.read
+
+  -- and a refusal is want of memory
+  closed_refuses : (s t : Situation) (e : Error) (v : B) → IsWholeIn env s
+      → ClosedEval A B inner f c s (Err e) t
+      → ClosedValue A B value f (front k (pieces q (cells s))) v → class e ≡ OfMemory
+  closed_refuses s t e v w (closed_no {x = x} i n g) h =
+      let read = (l.ok s t x w i).read (l.takes_all s t x h.from w i h.read) in
+      absurd (agrees (front k (pieces q (cells s))) h.from x v h.read read h.made n)
+  closed_refuses s t e v w (closed_memory i m) h = m
+  closed_refuses s t e v w (closed_err i) h = l.refuses s t e h.from w i h.read
 
   -- a closure round a field is one
-  pub closed_law : FieldLaw B (ClosedEval A B inner f c) k q (ClosedValue A B value f)
-  closed_law = record { own = l.own; ok = closed_ok; answers = closed_answers }
+  pub closed_law : FieldLaw env B (ClosedEval A B inner f c) k q (ClosedValue A B value f)
+  closed_law = record {
+    own = l.own;
+    ok = closed_ok;
+    takes_all = closed_takes;
+    refuses = closed_refuses;
+  }
 
-module _ (T : Type 0) (inner : Outcome T) (k : FieldKind) (q : Roles) (group : Groups T)
-    (gap : Gap T)
-    (l : SingleLaw T inner k q group gap) where
+module _ {env : Variables} (T : Type 0) (inner : Outcome T) (k : FieldKind) (q : Roles)
+    (group : Groups T) (gap : Gap T) (l : SingleLaw env T inner k q group gap) where
   -- the value of a single field: of a group, or the absent one
   data SingleView (os : List LinePiece) (v : T) : Type 0 where
     view_group : group os v [] → SingleView os v
@@ -83,7 +87,7 @@ module _ (T : Type 0) (inner : Outcome T) (k : FieldKind) (q : Roles) (group : G
 
   -- what was taken is the front
   took_read : (z : FieldKind) (s t : Situation) (v : T) → ReadsWords z group
-      → LeavesNone z q (cells t)
+      → NoKeysLeft z q (cells t)
       → (Readable z group (pieces q (cells t)) → group (pieces q (cells s)) v (pieces q (cells t)))
       → group (front z (pieces q (cells s))) v []
       × (pieces q (cells t) ≡ back z (pieces q (cells s)))
@@ -123,30 +127,17 @@ module _ (T : Type 0) (inner : Outcome T) (k : FieldKind) (q : Roles) (group : G
   of_front (OneWord b) os v u g = u.of_front os v g
   of_front (EachWord b) os v u g = absurd u
 
-  -- and the other way
-  to_front : (z : FieldKind) (os : List LinePiece) (v : T) → ReadsWords z group
-      → group os v (back z os)
-      → group (front z os) v []
-  to_front ByName os v u g = g
-  to_front (OneWord b) os v u g = (u.by_front os v (back (OneWord b) os) g).0
-  to_front (EachWord b) os v u g = absurd u
-
   -- no piece is no group
   not_empty : (os : List LinePiece) (v : T) → front k os ≡ [] → group (front k os) v [] → ⊥
   not_empty os v e g = l.starts v [] (subst (λ z. group z v []) e g)
 
-  -- where the share has a value, a value is one
-  ok_gives : (s t : Situation) (v w : T) → SingleOk T k q group gap s v t
+  -- where the portion has a value, all is taken
+  ok_takes : (s t : Situation) (v w : T) → SingleOk T k q group gap s v t
       → SingleView (front k (pieces q (cells s))) w
-      → Gives q (SingleValue T group gap (front k (pieces q (cells s))))
-      (back k (pieces q (cells s))) (Ok v) t
-  ok_gives s t v w (gave_absent h p ab same st) (view_group g) = absurd (not_empty _ w p g)
-  ok_gives s t v w (gave_absent h p ab same st) (view_gap e a) =
-      (nothing_read _ v p ab, nothing_left _ _ p (ap (pieces q) same))
-  ok_gives s t v w (took h) (view_group g) =
-      let d = h.readable w _ (of_front k _ w l.words g) in
-      (of_group (to_front k _ v l.words d.0), d.1)
-  ok_gives s t v w (took h) (view_gap e a) = absurd (h.found e)
+      → pieces q (cells t) ≡ back k (pieces q (cells s))
+  ok_takes s t v w (gave_absent h p ab same st) view = nothing_left _ _ p (ap (pieces q) same)
+  ok_takes s t v w (took h) (view_group g) = (h.readable w _ (of_front k _ w l.words g)).1
+  ok_takes s t v w (took h) (view_gap e a) = absurd (h.found e)
 
   -- and a refusal is want of memory
   err_gives : (s t : Situation) (e : Error) (w : T) → SingleErr T k q group gap s e t
@@ -159,21 +150,24 @@ module _ (T : Type 0) (inner : Outcome T) (k : FieldKind) (q : Roles) (group : G
   err_gives s t e w (of_piece c ne n) (view_group g) = absurd (n w _ (of_front k _ w l.words g))
   err_gives s t e w (of_piece c ne n) (view_gap x a) = absurd (ne x)
 
-  -- a field without a repeat or default
-  single_answers : (s t : Situation) (r : Result T Error) (w : T) → NoneOutside s → inner s r t
-      → SingleValue T group gap (front k (pieces q (cells s))) w
-      → Gives q (SingleValue T group gap (front k (pieces q (cells s))))
-      (back k (pieces q (cells s))) r t
-  single_answers s t (Ok v) w h i g = ok_gives s t v w (l.ok s t v h i) (single_view _ w g)
-  single_answers s t (Err e) w h i g = err_gives s t e w (l.err s t e h i) (single_view _ w g)
+  -- so it is of each answer
+  single_takes : (s t : Situation) (v w : T) → IsWholeIn env s → inner s (Ok v) t
+      → SingleValue T group gap (front k (pieces q (cells s))) w → NoKeysLeft k q (cells t)
+  single_takes s t v w h i g =
+      no_keys_left k q (cells t) _ (ok_takes s t v w (l.ok s t v h i) (single_view _ w g))
+
+  -- and of each refusal
+  single_refuses : (s t : Situation) (e : Error) (w : T) → IsWholeIn env s → inner s (Err e) t
+      → SingleValue T group gap (front k (pieces q (cells s))) w → class e ≡ OfMemory
+  single_refuses s t e w h i g = err_gives s t e w (l.err s t e h i) (single_view _ w g)
 
   -- a field without a repeat or default keeps to the laws of a field
-  pub single_law : FieldLaw T inner k q (SingleValue T group gap)
+  pub single_law : FieldLaw env T inner k q (SingleValue T group gap)
   single_law = record {
     own = l.own;
     ok = λ s t v w i. single_took s t v (l.ok s t v w i);
-    answers =
-        single_answers;
+    takes_all = single_takes;
+    refuses = single_refuses;
   }
 
   -- optional
@@ -187,7 +181,7 @@ module _ (T : Type 0) (inner : Outcome T) (k : FieldKind) (q : Roles) (group : G
   stop_missing s m e h (of_piece c p n) = absurd (no_stop s m e Refused h c (λ i. cc) (λ i. cc))
 
   -- a value that may be left out
-  optional_ok : (s t : Situation) (v : Option T) → NoneOutside s → OptionalEval T inner s (Ok v) t
+  optional_ok : (s t : Situation) (v : Option T) → IsWholeIn env s → OptionalEval T inner s (Ok v) t
       → FieldTook (Option T) k q (OptionalValue T group gap) s v t
   optional_ok s t v w (optional_some {v = x} i) =
       let a = single_took s t x (l.ok s t x w i) in
@@ -219,37 +213,20 @@ module _ (T : Type 0) (inner : Outcome T) (k : FieldKind) (q : Roles) (group : G
   optional_view os v (some_value {v = x} g) = view_some x refl g
   optional_view os v (no_value h) = view_none refl refl h
 
-  -- where the share has a value, Some is right
-  some_gives : (s t : Situation) (x : T) (v : Option T) → NoneOutside s → inner s (Ok x) t
+  -- where the portion has a value, Some took all
+  some_takes : (s t : Situation) (x : T) (v : Option T) → IsWholeIn env s → inner s (Ok x) t
       → SingleOk T k q group gap s x t → OptionalView (front k (pieces q (cells s))) v
-      → Gives q (OptionalValue T group gap (front k (pieces q (cells s))))
-      (back k (pieces q (cells s))) (Ok (Some x)) t
-  some_gives s t x v w i o (view_some y e g) = let a = single_answers s t (Ok x) y w i g in
-      (some_value a.0, a.1)
-  some_gives s t x v w i (gave_absent h p ab same st) (view_none e n b) = absurd cc
-  some_gives s t x v w i (took h) (view_none e n b) = absurd (h.found e)
+      → NoKeysLeft k q (cells t)
+  some_takes s t x v w i o (view_some y e g) = single_takes s t x y w i g
+  some_takes s t x v w i (gave_absent h p ab same st) (view_none e n b) = absurd cc
+  some_takes s t x v w i (took h) (view_none e n b) = absurd (h.found e)
 
-  -- and where it has none None is
-  none_gives : (s m : Situation) (e : Error) (v : Option T) → Stops e s m
-      → SingleErr T k q group gap s e m → OptionalView (front k (pieces q (cells s))) v
-      → Gives q (OptionalValue T group gap (front k (pieces q (cells s))))
-      (back k (pieces q (cells s))) (Ok None) s
-  none_gives s m e v h r (view_some y x g) = let a = stop_missing s m e h r in
-      absurd (by_view (single_view _ y g) a)
-    where
-      by_view : SingleView (front k (pieces q (cells s))) y
-          → (gap.has ≡ false) × (front k (pieces q (cells s)) ≡ []) → ⊥
-      by_view (view_group z) a = not_empty _ y a.1 z
-      by_view (view_gap z ab) a = l.no_absent y a.0 ab
-  none_gives s m e v h r (view_none x n b) =
-      let a = stop_missing s m e h r in (
-        subst (λ z. OptionalValue T group gap z None) (sym x)
-            (no_value b),
-        nothing_left _ _ a.1 refl,
-      )
+  -- None took all that is there
+  none_takes : (s : Situation) → front k (pieces q (cells s)) ≡ [] → NoKeysLeft k q (cells s)
+  none_takes s none = no_keys_left k q (cells s) _ (nothing_left _ _ none refl)
 
   -- where nothing is there no other refusal comes
-  none_fails : (s t : Situation) (e : Error) → NoneOutside s → (Stops e s t → ⊥)
+  none_fails : (s t : Situation) (e : Error) → IsWholeIn env s → (Stops e s t → ⊥)
       → front k (pieces q (cells s)) ≡ [] → gap.has ≡ false → SingleErr T k q group gap s e t
       → class e ≡ OfMemory
   none_fails s t e w n p b (of_memory c) = c
@@ -258,28 +235,31 @@ module _ (T : Type 0) (inner : Outcome T) (k : FieldKind) (q : Roles) (group : G
   none_fails s t e w n p b (of_absent c g p' x) = absurd cc
   none_fails s t e w n p b (of_piece c ne x) = absurd (ne p)
 
-  -- each answer
-  optional_answers : (s t : Situation) (r : Result (Option T) Error) (v : Option T) → NoneOutside s
-      → OptionalEval T inner s r t → OptionalView (front k (pieces q (cells s))) v
-      → Gives q (OptionalValue T group gap (front k (pieces q (cells s))))
-      (back k (pieces q (cells s))) r t
-  optional_answers s t r v w (optional_some {v = x} i) g = some_gives s t x v w i (l.ok s t x w i) g
-  optional_answers s t r v w (optional_none {e = e} {m = m} i h) g =
-      none_gives s m e v h (l.err s m e w i) g
-  optional_answers s t r v w (optional_err {e = e} i n) (view_some y x g) =
-      single_answers s t (Err e) y w i g
-  optional_answers s t r v w (optional_memory c) g = c
-  optional_answers s t r v w (optional_err {e = e} i n) (view_none x y b) =
+  -- where the portion has a value, all is taken
+  optional_takes : (s t : Situation) (u v : Option T) → IsWholeIn env s
+      → OptionalEval T inner s (Ok u) t → OptionalView (front k (pieces q (cells s))) v
+      → NoKeysLeft k q (cells t)
+  optional_takes s t u v w (optional_some {v = x} i) g = some_takes s t x v w i (l.ok s t x w i) g
+  optional_takes s t u v w (optional_none {e = e} {m = m} i h) g =
+      none_takes s (stop_missing s m e h (l.err s m e w i)).1
+
+  -- and a refusal is want of memory
+  optional_refuses : (s t : Situation) (e : Error) (v : Option T) → IsWholeIn env s
+      → OptionalEval T inner s (Err e) t → OptionalView (front k (pieces q (cells s))) v
+      → class e ≡ OfMemory
+  optional_refuses s t e v w (optional_err i n) (view_some y x g) = single_refuses s t e y w i g
+  optional_refuses s t e v w (optional_err i n) (view_none x y b) =
       none_fails s t e w n x b (l.err s t e w i)
+  optional_refuses s t e v w (optional_memory c) g = c
 
   -- what may be left out keeps to the laws of a field
-  pub optional_law : FieldLaw (Option T) (OptionalEval T inner) k q (OptionalValue T group gap)
+  pub optional_law : FieldLaw env (Option T) (OptionalEval T inner) k q (OptionalValue T group gap)
   optional_law =
       record {
         own = l.own;
         ok = optional_ok;
-        answers =
-            λ s t r v w i g. optional_answers s t r v w i (optional_view _ v g);
+        takes_all = λ s t u v w i g. optional_takes s t u v w i (optional_view _ v g);
+        refuses = λ s t e v w i g. optional_refuses s t e v w i (optional_view _ v g);
       }
 
   -- fallback
@@ -299,7 +279,7 @@ module _ (T : Type 0) (inner : Outcome T) (k : FieldKind) (q : Roles) (group : G
     catch_nothing s m e (catch_missing h) (of_piece c p n) = absurd cc
     catch_nothing s m e (catch_other h) (of_piece c p n) = absurd cc
 
-    fallback_took : (s t : Situation) (v : T) → NoneOutside s → FallbackEval T inner f s (Ok v) t
+    fallback_took : (s t : Situation) (v : T) → IsWholeIn env s → FallbackEval T inner f s (Ok v) t
         → FieldTook T k q (FallbackValue T group gap f) s v t
     fallback_took s t v w (fallback_ok i) =
         let a = single_took s t v (l.ok s t v w i) in
@@ -348,36 +328,34 @@ module _ (T : Type 0) (inner : Outcome T) (k : FieldKind) (q : Roles) (group : G
     kept_fails s t e n p b (of_absent c g p' x) = absurd cc
     kept_fails s t e n p b (of_piece c ne x) = absurd (ne p)
 
-    fallback_answers : (s t : Situation) (r : Result T Error) (v : T) → NoneOutside s
-        → FallbackEval T inner f s r t → FallbackView (front k (pieces q (cells s))) v
-        → Gives q (FallbackValue T group gap f (front k (pieces q (cells s))))
-        (back k (pieces q (cells s))) r t
-    fallback_answers s t r v w (fallback_ok {v = x} i) (view_own g) = let a =
-        single_answers s t (Ok x) v w i g in (own_value a.0, a.1)
-    fallback_answers s t r v w (fallback_ok {v = x} i) (view_kept e h y) =
-        absurd (kept_ok s t x e h (l.ok s t x w i))
-    fallback_answers s t r v w (fallback_given {v = x} {e = e} {m = m} i h y) (view_own g) =
-        absurd (own_missing s v (catch_nothing s m e h (l.err s m e w i)) (single_view _ v g))
-    fallback_answers s t r v w (fallback_given {v = x} {e = e} {m = m} i h y) (view_kept p b z) =
-        let a = catch_nothing s m e h (l.err s m e w i) in (
-          subst (λ os. FallbackValue T group gap f os x) (sym p)
-              (kept_value b y),
-          nothing_left _ _ a.1 refl,
-        )
-    fallback_answers s t r v w (fallback_no {e = e} {m = m} i h n c) (view_own g) =
-        absurd (own_missing s v (catch_nothing s m e h (l.err s m e w i)) (single_view _ v g))
-    fallback_answers s t r v w (fallback_no i h n c) (view_kept p b z) = absurd (decides tt v z n)
-    fallback_answers s t r v w (fallback_memory c) g = c
-    fallback_answers s t r v w (fallback_err {e = e} {m = m} i n) (view_own g) =
-        single_answers s m (Err e) v w i g
-    fallback_answers s t r v w (fallback_err {e = e} {m = m} i n) (view_kept p b z) =
-        kept_fails s m e n p b (l.err s m e w i)
+    -- where the portion has a value, all is taken
+    fallback_takes : (s t : Situation) (u v : T) → IsWholeIn env s
+        → FallbackEval T inner f s (Ok u) t → FallbackView (front k (pieces q (cells s))) v
+        → NoKeysLeft k q (cells t)
+    fallback_takes s t u v w (fallback_ok i) (view_own g) = single_takes s t u v w i g
+    fallback_takes s t u v w (fallback_ok i) (view_kept e h y) =
+        absurd (kept_ok s t u e h (l.ok s t u w i))
+    fallback_takes s t u v w (fallback_given {e = e} {m = m} i h y) g =
+        none_takes s (catch_nothing s m e h (l.err s m e w i)).1
 
-    pub fallback_law : FieldLaw T (FallbackEval T inner f) k q (FallbackValue T group gap f)
+    -- and a refusal is want of memory
+    fallback_refuses : (s t : Situation) (g : Error) (v : T) → IsWholeIn env s
+        → FallbackEval T inner f s (Err g) t → FallbackView (front k (pieces q (cells s))) v
+        → class g ≡ OfMemory
+    fallback_refuses s t g v w (fallback_no {e = e} {m = m} i h n c) (view_own o) =
+        absurd (own_missing s v (catch_nothing s m e h (l.err s m e w i)) (single_view _ v o))
+    fallback_refuses s t g v w (fallback_no i h n c) (view_kept p b z) = absurd (decides tt v z n)
+    fallback_refuses s t g v w (fallback_memory c) view = c
+    fallback_refuses s t g v w (fallback_err {m = m} i n) (view_own o) =
+        single_refuses s m g v w i o
+    fallback_refuses s t g v w (fallback_err {m = m} i n) (view_kept p b z) =
+        kept_fails s m g n p b (l.err s m g w i)
+
+    pub fallback_law : FieldLaw env T (FallbackEval T inner f) k q (FallbackValue T group gap f)
     fallback_law =
         record {
           own = l.own;
           ok = fallback_took;
-          answers =
-              λ s t r v w i g. fallback_answers s t r v w i (fallback_view _ v g);
+          takes_all = λ s t u v w i g. fallback_takes s t u v w i (fallback_view _ v g);
+          refuses = λ s t e v w i g. fallback_refuses s t e v w i (fallback_view _ v g);
         }

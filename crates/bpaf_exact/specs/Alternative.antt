@@ -7,7 +7,8 @@ use Rattle.bpaf_line.specs.Situation.{Situation}
 use Rattle.bpaf_laws.specs.Reading.{Outcome}
 use Rattle.bpaf_exact.specs.Pieces.{Cells, Roles, Foreign, Alone, WithNext, LinePiece, One, Two}
 use Rattle.bpaf_exact.specs.Pieces.{is_value, is_own, pieces, TakesPiece, IsNamed}
-use Rattle.bpaf_exact.specs.Flat.{OfMemory, OfMissing, Refused, class, cells, NoneOutside, Steady}
+use Rattle.bpaf_exact.specs.Flat.{OfMemory, OfMissing, Refused, class, cells, IsWholeIn, Steady}
+use Rattle.bpaf_exact.specs.Flat.{Variables}
 
 -- no item of the field's own
 abbrev pub NotOwn : Roles → Option Arg → Type 0
@@ -55,12 +56,12 @@ pub data AlternativeErr (T : Type 0) (q : Roles) (value : LinePiece → T → Ty
       → AlternativeErr T q value s e t
 
 -- the laws of a required flag or argument, or of a choice of them
-pub record AlternativeLaw (T : Type 0) (outcome : Outcome T) (q : Roles)
+pub record AlternativeLaw (variables : Variables) (T : Type 0) (outcome : Outcome T) (q : Roles)
     (value : LinePiece → T → Type 0) : Type 0 where
   pub named : IsNamed q
-  pub ok : (s t : Situation) (v : T) → NoneOutside s → outcome s (Ok v) t
+  pub ok : (s t : Situation) (v : T) → IsWholeIn variables s → outcome s (Ok v) t
       → AlternativeOk T q value s v t
-  pub err : (s t : Situation) (e : Error) → NoneOutside s → outcome s (Err e) t
+  pub err : (s t : Situation) (e : Error) → IsWholeIn variables s → outcome s (Err e) t
       → AlternativeErr T q value s e t
 
 -- one of two propositions, by a test

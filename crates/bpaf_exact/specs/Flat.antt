@@ -1,7 +1,7 @@
 -- What a flat field keeps to when it is evaluated: its answer and what it takes depend on its own
 -- pieces alone.
 use Rattle.std.specs.Prelude.{◌≡◌, ◌<◌, ℕ, zero, suc, Bool, true, false, List, [], ◌∷◌, length}
-use Rattle.std.specs.Prelude.{Option, None, Result, Ok, Err, if◌then◌else◌}
+use Rattle.std.specs.Prelude.{Option, None, Ok, Err, if◌then◌else◌}
 use Rattle.bpaf_base.specs.declared.arg.Arg.{Arg}
 use Rattle.bpaf_line.specs.declared.error.Error.{Error}
 use Rattle.bpaf_line.specs.declared.error.Message.{Message}
@@ -11,8 +11,8 @@ use Rattle.bpaf_line.specs.Situation.{Situation, is_taken}
 use Rattle.bpaf_line.specs.Taking.{open_item}
 use Rattle.bpaf_laws.specs.Reading.{Outcome}
 use Rattle.bpaf_exact.specs.Pieces.{Cells, Roles, Foreign, LinePiece, One, Two, mine, others}
-use Rattle.bpaf_exact.specs.Pieces.{no_roles, stands_behind}
-use Rattle.bpaf_exact.specs.Pieces.{word_roles, IsNamed, Apart, Cut, pieces, TakesPieces}
+use Rattle.bpaf_exact.specs.Pieces.{no_roles, stands_behind, word_roles, IsNamed, Apart, Cut}
+use Rattle.bpaf_exact.specs.Pieces.{pieces, TakesPieces}
 
 -- the classes of refusals
 pub data ErrorClass : Type 0 where
@@ -24,15 +24,15 @@ is_missing (Missing items) = true
 is_missing _ = false
 
 -- the class by three tests: want of memory, a missing item, and whether it can be caught
-abbrev pub class_by : Bool → Bool → Bool → ErrorClass
-class_by true missing caught = OfMemory
-class_by false true caught = OfMissing
-class_by false false true = Caught
-class_by false false false = Refused
+abbrev pub class_of_tests : Bool → Bool → Bool → ErrorClass
+class_of_tests true missing caught = OfMemory
+class_of_tests false true caught = OfMissing
+class_of_tests false false true = Caught
+class_of_tests false false false = Refused
 
 -- the class of a message
 abbrev pub class_of : Message → ErrorClass
-class_of m = class_by (is_memory m) (is_missing m) (can_catch m)
+class_of m = class_of_tests (is_memory m) (is_missing m) (can_catch m)
 
 -- the class of a refusal
 abbrev pub class : Error → ErrorClass
@@ -52,11 +52,16 @@ pub data NonePresent : Cells → Type 0 where
   no_place : NonePresent []
   none_here : {cs : Cells} → NonePresent cs → NonePresent (None ∷ cs)
 
+-- the variables of an environment, by their names, each with its value
+abbrev pub Variables : Type 0
+Variables = List (List ℕ × List ℕ)
+
 -- each place that isn't taken lies in the scope: it reaches to the line's end, and nothing is left
--- in front of it
-pub record NoneOutside (s : Situation) : Type 0 where
+-- in front of it; and the environment has these variables
+pub record IsWholeIn (variables : Variables) (s : Situation) : Type 0 where
   pub end : s.end ≡ length s.context.line
   pub front : (p : ℕ) → p < s.start → is_taken s p ≡ true
+  pub environment : s.context.env ≡ variables
 
 -- nothing but what is taken, the conflicts and the current place has changed, and what was taken is
 -- taken still
@@ -107,11 +112,11 @@ back (OneWord stops) [] = []
 back (OneWord false) (o ∷ os) = os
 back (OneWord true) (o ∷ os) = if is_behind o then o ∷ os else os
 
--- Of the pieces that the fields before it left, a field's share: for a named field those that begin
+-- Of the pieces that the fields before it left, a field's portion: for a named field those that begin
 -- with one of its names; for a positional field what it takes of them.
-abbrev pub share : FieldKind → Roles → List LinePiece → List LinePiece
-share ByName q os = mine q os
-share k q os = front k os
+abbrev pub portion : FieldKind → Roles → List LinePiece → List LinePiece
+portion ByName q os = mine q os
+portion k q os = front k os
 
 -- what it leaves to the fields after it
 abbrev pub left : FieldKind → Roles → List LinePiece → List LinePiece
@@ -133,33 +138,30 @@ OwnItems ByName q = IsNamed q
 OwnItems k q = IsWords q
 
 -- a named field leaves none of its own keys
-abbrev pub LeavesNone : FieldKind → Roles → Cells → Type 0
-LeavesNone ByName q cs = pieces q cs ≡ []
-LeavesNone k q cs = Unit {0}
+abbrev pub NoKeysLeft : FieldKind → Roles → Cells → Type 0
+NoKeysLeft ByName q cs = pieces q cs ≡ []
+NoKeysLeft k q cs = Unit {0}
 
 -- An answer of a field: it takes pieces of its own alone, and if none of a named field's is left
--- over, the answer is a value of its share.
+-- over, the answer is a value of its portion.
 pub record FieldTook (T : Type 0) (k : FieldKind) (q : Roles) (value : List LinePiece → T → Type 0)
     (s : Situation) (v : T) (t : Situation) : Type 0 where
   pub steady : Steady s t
   pub takes : TakesPieces q (cells s) (cells t)
-  pub read : LeavesNone k q (cells t) → value (front k (pieces q (cells s))) v
-  pub rest : LeavesNone k q (cells t) → pieces q (cells t) ≡ back k (pieces q (cells s))
+  pub read : NoKeysLeft k q (cells t) → value (front k (pieces q (cells s))) v
+  pub rest : NoKeysLeft k q (cells t) → pieces q (cells t) ≡ back k (pieces q (cells s))
 
--- the answer is one of these values, with these pieces left, or it is want of memory
-abbrev pub Gives : {T : Type 0} → Roles → (T → Type 0) → List LinePiece → Result T Error → Situation
-    → Type 0
-Gives q value rest (Ok v) t = value v × (pieces q (cells t) ≡ rest)
-Gives q value rest (Err e) t = class e ≡ OfMemory
-
--- the laws of a flat field; where its share has a value, each answer is one, or want of memory
-pub record FieldLaw (T : Type 0) (outcome : Outcome T) (k : FieldKind) (q : Roles)
-    (value : List LinePiece → T → Type 0) : Type 0 where
+-- The laws of a flat field. Where its portion has a value, an answer leaves none of a named field's
+-- keys, and a refusal is want of memory.
+pub record FieldLaw (variables : Variables) (T : Type 0) (outcome : Outcome T) (k : FieldKind)
+    (q : Roles) (value : List LinePiece → T → Type 0) : Type 0 where
   pub own : OwnItems k q
-  pub ok : (s t : Situation) (v : T) → NoneOutside s → outcome s (Ok v) t → FieldTook T k q value s v t
-  pub answers : (s t : Situation) (r : Result T Error) (w : T) → NoneOutside s → outcome s r t
-      → value (front k (pieces q (cells s))) w
-      → Gives q (value (front k (pieces q (cells s)))) (back k (pieces q (cells s))) r t
+  pub ok : (s t : Situation) (v : T) → IsWholeIn variables s → outcome s (Ok v) t
+      → FieldTook T k q value s v t
+  pub takes_all : (s t : Situation) (v w : T) → IsWholeIn variables s → outcome s (Ok v) t
+      → value (front k (pieces q (cells s))) w → NoKeysLeft k q (cells t)
+  pub refuses : (s t : Situation) (e : Error) (w : T) → IsWholeIn variables s → outcome s (Err e) t
+      → value (front k (pieces q (cells s))) w → class e ≡ OfMemory
 
 -- the values of a list of fields are read off the pieces that a line is cut into
 pub record ReadOff (V : Type 0) (r : Roles) (value : List LinePiece → V → Type 0) (cs : Cells)
@@ -168,47 +170,40 @@ pub record ReadOff (V : Type 0) (r : Roles) (value : List LinePiece → V → Ty
   pub cut : Cut r cs cut_into
   pub read : value cut_into v
 
--- the answer is one of these values, with nothing left, or it is want of memory
-abbrev pub GivesAll : {V : Type 0} → (V → Type 0) → Result V Error → Situation → Type 0
-GivesAll value (Ok v) t = value v × NonePresent (cells t)
-GivesAll value (Err e) t = class e ≡ OfMemory
-
 -- a field has a value on its pieces
 abbrev pub HasValue : {T : Type 0} → (List LinePiece → T → Type 0) → List LinePiece → Type 0
 HasValue {T = T} value os = (v : T) × value os v
 
 -- how the fields of a record read the pieces: which values these have, and whether each field has
--- one on its share, whatever a constructor makes of them
+-- one on its portion, whatever a constructor makes of them
 pub record FieldsReading (V : Type 0) : Type 1 where
   pub value : List LinePiece → V → Type 0
   pub each : List LinePiece → Type 0
 
--- the laws of a list of flat fields; where each has a value, each answer is of such, or want of
--- memory
-pub record FieldsLaw (V : Type 0) (outcome : Outcome V) (r : Roles)
+-- the laws of a list of flat fields; where each has a value, an answer leaves nothing, and a
+-- refusal is want of memory
+pub record FieldsLaw (variables : Variables) (V : Type 0) (outcome : Outcome V) (r : Roles)
     (reading : FieldsReading V) : Type 0 where
   pub named : IsNamed r
-  pub steady : (s t : Situation) (v : V) → NoneOutside s → outcome s (Ok v) t → Steady s t
-  pub ok : (s t : Situation) (v : V) → NoneOutside s → outcome s (Ok v) t → NonePresent (cells t)
+  pub steady : (s t : Situation) (v : V) → IsWholeIn variables s → outcome s (Ok v) t → Steady s t
+  pub ok : (s t : Situation) (v : V) → IsWholeIn variables s → outcome s (Ok v) t
+      → NonePresent (cells t)
       → ReadOff V r reading.value (cells s) v
   pub has_each : (os : List LinePiece) (v : V) → reading.value os v → reading.each os
-  pub answers : (s t : Situation) (a : Result V Error) (os : List LinePiece) → NoneOutside s
-      → outcome s a t → Cut r (cells s) os → reading.each os → GivesAll (reading.value os) a t
+  pub takes_all : (s t : Situation) (v : V) (os : List LinePiece) → IsWholeIn variables s
+      → outcome s (Ok v) t → Cut r (cells s) os → reading.each os → NonePresent (cells t)
+  pub refuses : (s t : Situation) (e : Error) (os : List LinePiece) → IsWholeIn variables s
+      → outcome s (Err e) t → Cut r (cells s) os → reading.each os → class e ≡ OfMemory
 
 -- a field before others: their keys are apart, and after a positional field no named one stands
 abbrev pub Before : FieldKind → Roles → Roles → Type 0
 Before ByName q r = Apart q r
 Before k q r = (item : Arg) → r item ≡ Foreign
 
--- the values of a field and of those after it
-abbrev pub BothValue : {A B : Type 0} → FieldKind → Roles → (List LinePiece → A → Type 0)
-    → (List LinePiece → B → Type 0) → List LinePiece → A × B → Type 0
-BothValue k q first rest os v = first (share k q os) v.0 × rest (left k q os) v.1
-
--- how they read the pieces
+-- how a field and those after it read the pieces
 abbrev pub both_reading : {A B : Type 0} → FieldKind → Roles → (List LinePiece → A → Type 0)
     → FieldsReading B → FieldsReading (A × B)
 both_reading k q first rest = record {
-  value = BothValue k q first rest.value;
-  each = λ os. HasValue first (share k q os) × rest.each (left k q os);
+  value = λ os v. first (portion k q os) v.0 × rest.value (left k q os) v.1;
+  each = λ os. HasValue first (portion k q os) × rest.each (left k q os);
 }

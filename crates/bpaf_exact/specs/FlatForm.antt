@@ -1,18 +1,17 @@
 -- What a flat field is: how it reads its pieces, and the law that this puts on its outcome.
-use Rattle.std.specs.Prelude.{ℕ, Bool, true, false, ◌&&◌, List, [], ◌∷◌, Option}
+use Rattle.std.specs.Prelude.{Bool, true, false, ◌&&◌, List, [], ◌∷◌, Option}
 use Rattle.std.specs.Global.{Vec}
 use Rattle.bpaf_doc.specs.Names.{Names}
 use Rattle.bpaf_laws.specs.Reading.{Outcome}
 use Rattle.bpaf_exact.specs.Pieces.{Roles, LinePiece, either, no_roles}
 use Rattle.bpaf_exact.specs.Names.{Owns, are_all_apart}
-use Rattle.bpaf_exact.specs.Flat.{FieldKind, ByName, FieldLaw, FieldsLaw, keys}
-use Rattle.bpaf_exact.specs.Flat.{FieldsReading, both_reading}
+use Rattle.bpaf_exact.specs.Flat.{FieldKind, ByName, FieldLaw, FieldsLaw, keys, FieldsReading}
+use Rattle.bpaf_exact.specs.Flat.{both_reading, Variables}
 use Rattle.bpaf_exact.specs.Single.{Groups, Gap, FrontOf, no_gap, SingleLaw, SingleValue, OwnList}
 use Rattle.bpaf_exact.specs.Single.{repeated}
 use Rattle.bpaf_exact.specs.Wrappers.{Closure, AgreesOn, ClosedPiece, ClosedGroup, closed_gap}
 use Rattle.bpaf_exact.specs.Wrappers.{ClosedValue, OptionalValue, FallbackValue}
-use Rattle.bpaf_exact.specs.Gathered.{LastOf, list_closure, some_closure, count_closure}
-use Rattle.bpaf_exact.specs.Gathered.{collect_closure}
+use Rattle.bpaf_exact.specs.Gathered.{LastOf, list_closure}
 use Rattle.bpaf_exact.specs.Alternative.{AlternativeLaw, either_value}
 use Rattle.bpaf_exact.specs.Record.{last_reading}
 
@@ -31,22 +30,23 @@ pub data FlatForm (T : Type 0) : Type 1 where
   product : (named : Bool) → Roles → FieldsReading T → FlatForm T
 
 -- fields that are all named keep to the laws of a named field together
-abbrev pub NamedLaw : {T : Type 0} → Bool → Outcome T → Roles → (List LinePiece → T → Type 0)
-    → Type 0
-NamedLaw {T = T} true outcome q value = FieldLaw T outcome ByName q value
-NamedLaw false outcome q value = Unit {0}
+abbrev pub NamedLaw : {T : Type 0} → Variables → Bool → Outcome T → Roles
+    → (List LinePiece → T → Type 0) → Type 0
+NamedLaw {T = T} variables true outcome q value = FieldLaw variables T outcome ByName q value
+NamedLaw variables false outcome q value = Unit {0}
 
--- the laws of each, of a parser with these keys
-abbrev pub FormLaw : {T : Type 0} → Outcome T → List Names → FlatForm T → Type 0
-FormLaw outcome names not_flat = Unit {0}
-FormLaw {T = T} outcome names (alternative q value) =
-    AlternativeLaw T outcome q value × Owns q names
-FormLaw {T = T} outcome names (single k q group gap) =
-    SingleLaw T outcome k q group gap × Owns (keys k q) names
-FormLaw {T = T} outcome names (complete k q value) =
-    FieldLaw T outcome k q value × Owns (keys k q) names
-FormLaw {T = T} outcome names (product named q fields) =
-    FieldsLaw T outcome q fields × Owns q names × NamedLaw named outcome q fields.value
+-- the laws of each where the environment has these variables, of a parser with these keys
+abbrev pub FormLaw : {T : Type 0} → Variables → Outcome T → List Names → FlatForm T → Type 0
+FormLaw variables outcome names not_flat = Unit {0}
+FormLaw {T = T} variables outcome names (alternative q value) =
+    AlternativeLaw variables T outcome q value × Owns q names
+FormLaw {T = T} variables outcome names (single k q group gap) =
+    SingleLaw variables T outcome k q group gap × Owns (keys k q) names
+FormLaw {T = T} variables outcome names (complete k q value) =
+    FieldLaw variables T outcome k q value × Owns (keys k q) names
+FormLaw {T = T} variables outcome names (product named q fields) =
+    FieldsLaw variables T outcome q fields × Owns q names
+    × NamedLaw variables named outcome q fields.value
 
 -- the premise of exactness: whether a closure accepts depends on the pieces alone, also where they
 -- have several values
@@ -77,97 +77,57 @@ flat_closed {A = A} {B = B} f (single k q group gap) =
 flat_closed {A = A} {B = B} f (complete k q value) = complete k q (ClosedValue A B value f)
 flat_closed f (product named q fields) = not_flat
 
--- a choice of two alternatives
-abbrev pub flat_either : {T : Type 0} → FlatForm T → FlatForm T → FlatForm T
-flat_either (alternative q a) (alternative r b) = alternative (either q r) (either_value q a b)
-flat_either _ _ = not_flat
-
--- the same, where the keys of the one are apart from those of the other
+-- a choice of two alternatives, where the keys of the one are apart from those of the other
 abbrev pub flat_choice : {T : Type 0} → List Names → List Names → FlatForm T → FlatForm T
     → FlatForm T
-flat_choice own others a b = only_if (are_all_apart own others) (flat_either a b)
+flat_choice own others (alternative q a) (alternative r b) =
+    only_if (are_all_apart own others) (alternative (either q r) (either_value q a b))
+flat_choice own others _ _ = not_flat
 
 -- an alternative, and nothing else
 abbrev pub alternative_only : {T : Type 0} → FlatForm T → FlatForm T
-alternative_only not_flat = not_flat
 alternative_only (alternative q value) = alternative q value
-alternative_only (single k q group gap) = not_flat
-alternative_only (complete k q value) = not_flat
-alternative_only (product named q fields) = not_flat
+alternative_only _ = not_flat
+
+-- what a repeat or default makes of a field without one: a field of a kind, with such values
+abbrev pub flat_whole : {T B : Type 0} → (FieldKind → FieldKind)
+    → (Groups T → Gap T → List LinePiece → B → Type 0) → FlatForm T → FlatForm B
+flat_whole {T = T} kind value (alternative q each) =
+    complete (kind ByName) q (value (FrontOf T each) (no_gap T))
+flat_whole kind value (single k q group gap) = complete (kind k) q (value group gap)
+flat_whole kind value _ = not_flat
 
 -- the values of a repeat, as a list
 abbrev pub flat_repeat : {T : Type 0} → FlatForm T → FlatForm (List T)
-flat_repeat not_flat = not_flat
-flat_repeat {T = T} (alternative q value) =
-    complete ByName q (OwnList T (FrontOf T value) (no_gap T))
-flat_repeat {T = T} (single k q group gap) = complete (repeated k) q (OwnList T group gap)
-flat_repeat (complete k q value) = not_flat
-flat_repeat (product named q fields) = not_flat
+flat_repeat {T = T} s = flat_whole repeated (OwnList T) s
 
--- many, some, count and collect
+-- many
 abbrev pub flat_many : {T : Type 0} → FlatForm T → FlatForm (Vec T)
 flat_many {T = T} s = flat_closed (list_closure T) (flat_repeat s)
 
--- the same, not empty
-abbrev pub flat_some : {T : Type 0} → FlatForm T → FlatForm (Vec T)
-flat_some {T = T} s = flat_closed (some_closure T) (flat_repeat s)
-
--- how many there are
-abbrev pub flat_count : {T : Type 0} → FlatForm T → FlatForm ℕ
-flat_count {T = T} s = flat_closed (count_closure T) (flat_repeat s)
-
--- what is filled from them
-abbrev pub flat_collect : {T C : Type 0} → (List T → C → Type 0) → FlatForm T → FlatForm C
-flat_collect fills s = flat_closed (collect_closure fills) (flat_repeat s)
-
 -- the last of them
 abbrev pub flat_last : {T : Type 0} → FlatForm T → FlatForm T
-flat_last not_flat = not_flat
-flat_last {T = T} (alternative q value) = complete ByName q (LastOf T (FrontOf T value) (no_gap T))
-flat_last {T = T} (single k q group gap) = complete (repeated k) q (LastOf T group gap)
-flat_last (complete k q value) = not_flat
-flat_last (product named q fields) = not_flat
+flat_last {T = T} s = flat_whole repeated (LastOf T) s
 
 -- what may be left out
 abbrev pub flat_optional : {T : Type 0} → FlatForm T → FlatForm (Option T)
-flat_optional not_flat = not_flat
-flat_optional {T = T} (alternative q value) =
-    complete ByName q (OptionalValue T (FrontOf T value) (no_gap T))
-flat_optional {T = T} (single k q group gap) = complete k q (OptionalValue T group gap)
-flat_optional (complete k q value) = not_flat
-flat_optional (product named q fields) = not_flat
+flat_optional {T = T} s = flat_whole (λ k. k) (OptionalValue T) s
 
 -- what has a value that stands for it
 abbrev pub flat_fallback : {T : Type 0} → Closure (Unit {0}) T → FlatForm T → FlatForm T
-flat_fallback f not_flat = not_flat
-flat_fallback {T = T} f (alternative q value) =
-    complete ByName q (FallbackValue T (FrontOf T value) (no_gap T) f)
-flat_fallback {T = T} f (single k q group gap) = complete k q (FallbackValue T group gap f)
-flat_fallback f (complete k q value) = not_flat
-flat_fallback f (product named q fields) = not_flat
+flat_fallback {T = T} f s = flat_whole (λ k. k) (λ group gap. FallbackValue T group gap f) s
 
 -- without `catch`
 abbrev pub unless : {T : Type 0} → Bool → FlatForm T → FlatForm T
 unless true s = not_flat
 unless false s = s
 
--- a field of a record, whichever it is
+-- a field of a product, whichever it is; a product of named fields too
 abbrev pub flat_field : {T : Type 0} → FlatForm T → FlatForm T
-flat_field not_flat = not_flat
-flat_field {T = T} (alternative q value) =
-    complete ByName q (SingleValue T (FrontOf T value) (no_gap T))
-flat_field {T = T} (single k q group gap) = complete k q (SingleValue T group gap)
 flat_field (complete k q value) = complete k q value
-flat_field (product named q fields) = not_flat
-
--- a field of a product, which may be a product too
-abbrev pub inner_field : {T : Type 0} → FlatForm T → FlatForm T
-inner_field not_flat = not_flat
-inner_field (alternative q value) = flat_field (alternative q value)
-inner_field (single k q group gap) = flat_field (single k q group gap)
-inner_field (complete k q value) = complete k q value
-inner_field (product true q fields) = complete ByName q fields.value
-inner_field (product false q fields) = product false q fields
+flat_field (product true q fields) = complete ByName q fields.value
+flat_field (product false q fields) = product false q fields
+flat_field {T = T} s = flat_whole (λ k. k) (SingleValue T) s
 
 -- keys may stand after a field: those that are apart from its own; after a positional field none
 abbrev pub may_follow : FieldKind → List Names → List Names → Bool
@@ -208,39 +168,24 @@ flat_con _ _ = not_flat
 -- a flat record: a product, or one field
 abbrev pub flat_record : {T : Type 0} → FlatForm T → FlatForm T
 flat_record (product named q fields) = product named q fields
-flat_record not_flat = not_flat
-flat_record (alternative q value) = flat_alone (flat_field (alternative q value))
-flat_record (single k q group gap) = flat_alone (flat_field (single k q group gap))
-flat_record (complete k q value) = flat_alone (complete k q value)
+flat_record s = flat_alone (flat_field s)
 
 -- it is a product
 abbrev pub is_product : {T : Type 0} → FlatForm T → Bool
-is_product not_flat = false
-is_product (alternative q value) = false
-is_product (single k q group gap) = false
-is_product (complete k q value) = false
 is_product (product named q fields) = true
+is_product _ = false
 
 -- it is a flat record: a field or a product of fields
 abbrev pub is_record : {T : Type 0} → FlatForm T → Bool
 is_record not_flat = false
-is_record (alternative q value) = true
-is_record (single k q group gap) = true
-is_record (complete k q value) = true
-is_record (product named q fields) = true
+is_record _ = true
 
 -- the items of a flat record
 abbrev pub product_roles : {T : Type 0} → FlatForm T → Roles
-product_roles not_flat = no_roles
-product_roles (alternative q value) = no_roles
-product_roles (single k q group gap) = no_roles
-product_roles (complete k q value) = no_roles
 product_roles (product named q fields) = q
+product_roles _ = no_roles
 
 -- how the fields of a flat record read the pieces
 abbrev pub product_reading : {T : Type 0} → FlatForm T → FieldsReading T
-product_reading not_flat = record { value = λ os v. ⊥; each = λ os. ⊥ }
-product_reading (alternative q value) = record { value = λ os v. ⊥; each = λ os. ⊥ }
-product_reading (single k q group gap) = record { value = λ os v. ⊥; each = λ os. ⊥ }
-product_reading (complete k q value) = record { value = λ os v. ⊥; each = λ os. ⊥ }
 product_reading (product named q fields) = fields
+product_reading _ = record { value = λ os v. ⊥; each = λ os. ⊥ }

@@ -4,17 +4,15 @@ use Rattle.std.specs.Prelude.{Ok, Err, if◌then◌else◌, ◌++◌}
 use Rattle.bpaf_doc.specs.Names.{Names}
 use Rattle.bpaf_text.specs.Named.{Named as Key, KeyWithValue}
 use Rattle.bpaf_base.specs.declared.arg.Arg.{Arg}
-use Rattle.bpaf_base.specs.Items.{is_argument_key, is_key_of, is_positional, item_text}
-use Rattle.bpaf_base.specs.Items.{word_text}
+use Rattle.bpaf_base.specs.Items.{is_argument_key, is_key_of, is_positional, item_text, word_text}
 use Rattle.bpaf_line.specs.declared.error.Error.{Error}
 use Rattle.bpaf_line.specs.Situation.{Situation}
 use Rattle.bpaf_line.specs.Taking.{TakesText, HasNone}
-use Rattle.bpaf_exact.specs.Pieces.{Roles, Foreign, Alone, WithNext, LinePiece, One, Two}
-use Rattle.bpaf_exact.specs.Pieces.{no_roles, stands_behind, word_roles}
+use Rattle.bpaf_exact.specs.Pieces.{Roles, Foreign, Alone, WithNext, LinePiece, One, Two, no_roles}
+use Rattle.bpaf_exact.specs.Pieces.{stands_behind, word_roles}
 use Rattle.bpaf_exact.specs.Flat.{ByName, Caught, OneWord, OfMemory, OfMissing, Refused, class}
 use Rattle.bpaf_exact.specs.Single.{Gap, Groups, FrontOf, no_gap}
-use Rattle.bpaf_exact.specs.FlatForm.{FlatForm, alternative, complete}
-use Rattle.bpaf_exact.specs.FlatForm.{single}
+use Rattle.bpaf_exact.specs.FlatForm.{FlatForm, alternative, complete, single}
 
 -- the items of a flag: keys with one of its names, each by itself
 abbrev pub flag_roles : Names → Roles

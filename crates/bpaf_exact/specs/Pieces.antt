@@ -4,7 +4,7 @@ use Rattle.std.specs.Prelude.{if◌then◌else◌}
 use Rattle.std.specs.Option.{is_some}
 use Rattle.bpaf_base.specs.Items.{value_text, is_positional}
 use Rattle.bpaf_base.specs.declared.arg.Arg.{Arg}
-use Rattle.bpaf_base.specs.declared.arg.Arg.TheVariants.{Short, Long, ArgWord, Word, PosWord}
+use Rattle.bpaf_base.specs.declared.arg.Arg.TheVariants.{Short, Long, PosWord}
 
 -- the places of a line, each with the item that is present there, if one is
 abbrev pub Cells : Type 0
@@ -32,23 +32,17 @@ is_value item = is_some (value_text item)
 abbrev pub is_key : Arg → Bool
 is_key (Short c a t) = true
 is_key (Long n a t) = true
-is_key (ArgWord t) = false
-is_key (Word t) = false
-is_key (PosWord t) = false
+is_key _ = false
 
 -- an item stands behind `--`
 abbrev pub stands_behind : Arg → Bool
 stands_behind (PosWord text) = true
-stands_behind (Short c attached word) = false
-stands_behind (Long name attached word) = false
-stands_behind (ArgWord text) = false
-stands_behind (Word text) = false
+stands_behind _ = false
 
 -- an item of the field's own
 abbrev pub is_own_role : Role → Bool
 is_own_role Foreign = false
-is_own_role Alone = true
-is_own_role WithNext = true
+is_own_role _ = true
 
 -- a piece that begins with an item of the field's own
 abbrev pub is_own : Roles → LinePiece → Bool

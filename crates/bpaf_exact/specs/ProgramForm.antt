@@ -6,11 +6,11 @@ use Rattle.bpaf_doc.specs.Names.{Names}
 use Rattle.bpaf_laws.specs.Command.{Called, opening_words}
 use Rattle.bpaf_laws.specs.Reading.{Outcome}
 use Rattle.bpaf_exact.specs.Pieces.{Cells, Roles, either, no_roles}
-use Rattle.bpaf_exact.specs.Flat.{ByName, ReadOff}
+use Rattle.bpaf_exact.specs.Flat.{ByName, ReadOff, Variables}
 use Rattle.bpaf_exact.specs.FlatForm.{FlatForm, FormLaw, Agrees, complete, is_record, not_flat}
 use Rattle.bpaf_exact.specs.FlatForm.{product_roles, product_reading, flat_record, flat_closed}
-use Rattle.bpaf_exact.specs.FlatForm.{flat_optional, flat_choice, flat_alone, flat_both}
-use Rattle.bpaf_exact.specs.FlatForm.{flat_con, flat_fallback, flat_last, flat_repeat, inner_field}
+use Rattle.bpaf_exact.specs.FlatForm.{flat_optional, flat_choice, flat_alone, flat_both, flat_con}
+use Rattle.bpaf_exact.specs.FlatForm.{flat_fallback, flat_last, flat_repeat, flat_field}
 use Rattle.bpaf_exact.specs.FlatForm.{alternative_only, is_product, unless}
 use Rattle.bpaf_exact.specs.Names.{Owns, are_all_apart}
 use Rattle.bpaf_exact.specs.Programs.{CellsValue, CommandValue, ChoiceValue, OptionalCommands}
@@ -30,25 +30,25 @@ pub data ProgramForm (T : Type 0) : Type 1 where
   -- a product of named fields, and then commands
   before_commands : Roles → CellsValue T → ProgramForm T
 
--- the laws of each, of a parser with these keys and these words of commands
-abbrev pub ProgramFormLaw : {T : Type 0} → Outcome T → List Names → List (List ℕ) → ProgramForm T
-    → Type 0
-ProgramFormLaw outcome names words no_program = Unit {0}
-ProgramFormLaw outcome names words (plain wide s) = FormLaw outcome names s
-ProgramFormLaw {T = T} outcome names words (commands r value) =
-    CommandsLaw T outcome r words value × Owns r names
-ProgramFormLaw {T = T} outcome names words (left_out r value) =
-    ProgramLaw T outcome r value × Owns r names
-ProgramFormLaw {T = T} outcome names words (before_commands r value) =
-    ProgramLaw T outcome r value × Owns r names
+-- the laws of each where the environment has these variables, of a parser with these keys and these
+-- words of commands
+abbrev pub ProgramFormLaw : {T : Type 0} → Variables → Outcome T → List Names → List (List ℕ)
+    → ProgramForm T → Type 0
+ProgramFormLaw variables outcome names words no_program = Unit {0}
+ProgramFormLaw variables outcome names words (plain wide s) = FormLaw variables outcome names s
+ProgramFormLaw {T = T} variables outcome names words (commands r value) =
+    CommandsLaw variables T outcome r words value × Owns r names
+ProgramFormLaw {T = T} variables outcome names words (left_out r value) =
+    ProgramLaw variables T outcome r value × Owns r names
+ProgramFormLaw {T = T} variables outcome names words (before_commands r value) =
+    ProgramLaw variables T outcome r value × Owns r names
 
 -- the premise of exactness: whether a closure accepts depends on the cells alone
 abbrev pub ProgramAgrees : {A B : Type 0} → Closure A B → ProgramForm A → Type 0
-ProgramAgrees f no_program = Unit {0}
 ProgramAgrees f (plain wide s) = Agrees f s
 ProgramAgrees f (commands r value) = (cs : Cells) → AgreesOn (value cs) f
 ProgramAgrees f (left_out r value) = (cs : Cells) → AgreesOn (value cs) f
-ProgramAgrees f (before_commands r value) = Unit {0}
+ProgramAgrees f _ = Unit {0}
 
 -- a form where a test holds
 abbrev pub program_if : {T : Type 0} → Bool → ProgramForm T → ProgramForm T
@@ -57,20 +57,16 @@ program_if false s = no_program
 
 -- a closure round a field or commands
 abbrev pub program_closed : {A B : Type 0} → Closure A B → ProgramForm A → ProgramForm B
-program_closed f no_program = no_program
 program_closed f (plain wide s) = plain wide (flat_closed f s)
 program_closed {A = A} {B = B} f (commands r value) =
     commands r (ClosedCells A B value f)
 program_closed {A = A} {B = B} f (left_out r value) = left_out r (ClosedCells A B value f)
-program_closed f (before_commands r value) = no_program
+program_closed f _ = no_program
 
 -- what a combinator makes that takes flat fields alone
 abbrev pub flat_only : {A B : Type 0} → (FlatForm A → FlatForm B) → ProgramForm A → ProgramForm B
-flat_only g no_program = no_program
 flat_only g (plain wide s) = plain wide (g s)
-flat_only g (commands r value) = no_program
-flat_only g (left_out r value) = no_program
-flat_only g (before_commands r value) = no_program
+flat_only g _ = no_program
 
 -- what is made of the values of a repeat; with `catch` it is none
 abbrev pub program_repeat : {T B : Type 0} → Bool → Closure (List T) B → ProgramForm T
@@ -87,20 +83,17 @@ program_fallback f = flat_only (λ s. flat_fallback f s)
 
 -- another look; a record with such a look round it is a wide one
 abbrev pub program_dressed : {T : Type 0} → ProgramForm T → ProgramForm T
-program_dressed no_program = no_program
 program_dressed (plain wide s) = plain (wide || is_product s) s
 program_dressed (commands r value) = commands r value
 program_dressed (left_out r value) = left_out r value
-program_dressed (before_commands r value) = no_program
+program_dressed _ = no_program
 
 -- what may be left out; with `catch` it is none
 abbrev pub program_optional : {T : Type 0} → Bool → ProgramForm T → ProgramForm (Option T)
-program_optional catch no_program = no_program
 program_optional catch (plain wide s) = plain wide (unless catch (flat_optional s))
 program_optional {T = T} catch (commands r value) =
     program_if (not catch) (left_out r (OptionalCommands T value))
-program_optional catch (left_out r value) = no_program
-program_optional catch (before_commands r value) = no_program
+program_optional catch _ = no_program
 
 -- no word is among others
 abbrev pub are_words_apart : List (List ℕ) → List (List ℕ) → Bool
@@ -126,11 +119,9 @@ program_rest names words form own said before (p ∷ ps) =
 
 -- what may stand first in a choice
 abbrev pub first_only : {T : Type 0} → ProgramForm T → ProgramForm T
-first_only no_program = no_program
 first_only (plain wide s) = plain wide (alternative_only s)
 first_only (commands r value) = commands r value
-first_only (left_out r value) = no_program
-first_only (before_commands r value) = no_program
+first_only _ = no_program
 
 -- a choice of any number of parsers, but for none
 abbrev pub program_choices : {P T : Type 0} → (P → List Names) → (P → List (List ℕ))
@@ -164,7 +155,7 @@ program_command adjacent apart called s =
 
 -- a field of a product; a product of named fields is a wide one
 abbrev pub program_field : {T : Type 0} → ProgramForm T → ProgramForm T
-program_field (plain wide s) = plain (wide || is_product s) (inner_field s)
+program_field (plain wide s) = plain (wide || is_product s) (flat_field s)
 program_field s = s
 
 -- the last field: commands, or a product that ends in them
@@ -180,27 +171,24 @@ abbrev pub program_both : {A B : Type 0} → List Names → List Names → Progr
     → ProgramForm (A × B)
 program_both own others (plain wide s) (plain other t) =
     plain (wide || other) (flat_both own others s t)
-program_both {A = A} {B = B} own others (plain wide (complete ByName q first)) (before_commands r rest) =
+program_both {A = A} {B = B} own others (plain wide (complete ByName q first))
+    (before_commands r rest) =
     program_if (are_all_apart own others)
     (before_commands (either q r) (FieldThen A B q first rest))
 program_both own others _ _ = no_program
 
 -- the constructor of a product
 abbrev pub program_con : {A B : Type 0} → Closure A B → ProgramForm A → ProgramForm B
-program_con f no_program = no_program
 program_con f (plain wide s) = plain wide (flat_con f s)
-program_con f (commands r value) = no_program
-program_con f (left_out r value) = no_program
 program_con {A = A} {B = B} f (before_commands r value) =
     before_commands r (ClosedCells A B value f)
+program_con f _ = no_program
 
 -- it is a program
 abbrev pub is_program : {T : Type 0} → ProgramForm T → Bool
 is_program no_program = false
 is_program (plain wide s) = is_record s
-is_program (commands r value) = true
-is_program (left_out r value) = true
-is_program (before_commands r value) = true
+is_program _ = true
 
 -- the keys that may stand in a program
 abbrev pub program_roles : {T : Type 0} → ProgramForm T → Roles
@@ -221,8 +209,5 @@ program_value (before_commands r value) = value
 
 -- what it is to a flat record
 abbrev pub flat_form : {T : Type 0} → ProgramForm T → FlatForm T
-flat_form no_program = not_flat
 flat_form (plain wide s) = unless wide s
-flat_form (commands r value) = not_flat
-flat_form (left_out r value) = not_flat
-flat_form (before_commands r value) = not_flat
+flat_form _ = not_flat

@@ -5,7 +5,7 @@ use Rattle.std.specs.List.{Contains}
 use Rattle.bpaf_doc.specs.Names.{Names}
 use Rattle.bpaf_laws.specs.Command.{Called, opening_words}
 use Rattle.bpaf_laws.specs.Reading.{Outcome}
-use Rattle.bpaf_exact.specs.Flat.{ByName}
+use Rattle.bpaf_exact.specs.Flat.{ByName, Variables}
 use Rattle.bpaf_exact.specs.Names.{Owns}
 use Rattle.bpaf_exact.specs.Pieces.{Cells, Roles, LinePiece, Cut, pieces}
 use Rattle.bpaf_exact.specs.ProgramForm.{ProgramForm, no_program, plain, commands, left_out}
@@ -171,12 +171,10 @@ abbrev pub ProgramFormSays : {P T : Type 0} → List Names → ProgramForm T →
 ProgramFormSays names no_program kind said p = Unit {0}
 ProgramFormSays names (plain wide s) kind (of_pieces said) p = Says names s kind (said p)
 ProgramFormSays names (plain wide s) kind (of_cells said) p = ⊥
-ProgramFormSays names (commands r value) kind (of_pieces said) p = ⊥
 ProgramFormSays names (commands r value) kind (of_cells said) p = IsSaid value (said p)
-ProgramFormSays names (left_out r value) kind (of_pieces said) p = ⊥
 ProgramFormSays names (left_out r value) kind (of_cells said) p = IsSaid value (said p)
-ProgramFormSays names (before_commands r value) kind (of_pieces said) p = ⊥
 ProgramFormSays names (before_commands r value) kind (of_cells said) p = IsSaid value (said p)
+ProgramFormSays names _ kind (of_pieces said) p = ⊥
 
 -- a value of such a parser does
 pub record ProgramSays {P T : Type 0} (names : List Names) (form : ProgramForm T)
@@ -186,13 +184,11 @@ pub record ProgramSays {P T : Type 0} (names : List Names) (form : ProgramForm T
 -- values of fields of this form do
 abbrev pub ProgramFieldsFormSay : {P V : Type 0} → List Names → ProgramForm V
     → ProgramFieldsSaid P V → P → Type 0
-ProgramFieldsFormSay names no_program said p = Unit {0}
 ProgramFieldsFormSay names (plain wide s) (of_all_pieces said) p = FieldsSay names s (said p)
 ProgramFieldsFormSay names (plain wide s) (of_all_cells said) p = ⊥
-ProgramFieldsFormSay names (commands r value) said p = Unit {0}
-ProgramFieldsFormSay names (left_out r value) said p = Unit {0}
 ProgramFieldsFormSay names (before_commands r value) (of_all_pieces said) p = ⊥
 ProgramFieldsFormSay names (before_commands r value) (of_all_cells said) p = IsSaid value (said p)
+ProgramFieldsFormSay names _ said p = Unit {0}
 
 -- the values of such fields do
 pub record ProgramFieldsSay {P V : Type 0} (names : List Names) (form : ProgramForm V)
@@ -200,7 +196,7 @@ pub record ProgramFieldsSay {P V : Type 0} (names : List Names) (form : ProgramF
   pub by : ProgramFieldsFormSay names form said p
 
 -- fields of this form keep to it, and their values say so
-pub record FieldsKeep {P V : Type 0} (outcome : Outcome V) (names : List Names) (s : ProgramForm V)
-    (said : ProgramFieldsSaid P V) (p : P) : Type 0 where
-  pub law : ProgramFormLaw outcome names [] s
+pub record FieldsKeep {P V : Type 0} (variables : Variables) (outcome : Outcome V)
+    (names : List Names) (s : ProgramForm V) (said : ProgramFieldsSaid P V) (p : P) : Type 0 where
+  pub law : ProgramFormLaw variables outcome names [] s
   pub says : ProgramFieldsSay names s said p

@@ -4,7 +4,7 @@ use Rattle.std.specs.Prelude.{◌≡◌, ◌≤◌, ◌⊎◌, ℕ, Bool, true, 
 use Rattle.std.specs.Prelude.{None, Result, Ok, Err, if◌then◌else◌, ◌==◌, not}
 use Rattle.std.specs.List.{list_all}
 use Rattle.bpaf_base.specs.declared.arg.Arg.{Arg}
-use Rattle.bpaf_base.specs.declared.arg.Arg.TheVariants.{Short, Long, ArgWord, Word, PosWord}
+use Rattle.bpaf_base.specs.declared.arg.Arg.TheVariants.{Short, Long}
 use Rattle.bpaf_line.specs.declared.error.Error.{Error}
 use Rattle.bpaf_line.specs.Situation.{Situation, Context, item_in, open_count, with_current}
 use Rattle.bpaf_laws.specs.Choice.{depth}
@@ -13,8 +13,8 @@ use Rattle.bpaf_laws.specs.Command.{opening_words}
 use Rattle.bpaf_laws.specs.Reading.{Outcome}
 use Rattle.bpaf_exact.specs.Pieces.{Cells, Role, Foreign, Alone, WithNext, Roles, LinePiece}
 use Rattle.bpaf_exact.specs.Pieces.{is_value, pieces, Apart, IsNamed}
-use Rattle.bpaf_exact.specs.Flat.{OfMemory, OfMissing, class, cells, NonePresent, NoneOutside}
-use Rattle.bpaf_exact.specs.Flat.{GivesAll}
+use Rattle.bpaf_exact.specs.Flat.{OfMemory, OfMissing, class, cells, NonePresent, IsWholeIn}
+use Rattle.bpaf_exact.specs.Flat.{Variables}
 use Rattle.bpaf_exact.specs.Wrappers.{Closure}
 
 -- which values some cells have
@@ -65,9 +65,7 @@ is_dashed (b ∷ bs) = b == 45
 abbrev pub is_spelled : Arg → Bool
 is_spelled (Short c attached word) = is_dashed word
 is_spelled (Long name attached word) = is_dashed word
-is_spelled (ArgWord text) = true
-is_spelled (Word text) = true
-is_spelled (PosWord text) = true
+is_spelled _ = true
 
 -- all items of a line are such
 abbrev pub IsSpelledLine : Context → Type 0
@@ -126,15 +124,24 @@ LeavesToOthers {V = V} r value =
     (q : Roles) → IsNamed q → Apart q r → (cs : Cells) (v : V) → AllSpelled cs → value cs v
     → pieces q cs ≡ []
 
+-- the answer is one of these values, with nothing left, or it is want of memory
+abbrev pub GivesAll : {V : Type 0} → (V → Type 0) → Result V Error → Situation → Type 0
+GivesAll value (Ok v) t = value v × NonePresent (cells t)
+GivesAll value (Err e) t = class e ≡ OfMemory
+
 -- The laws of a program, and of commands as the last field of one, with the items that may stand in
 -- it. Where it has a value, each answer is one, with nothing left, or it is want of memory.
-pub record ProgramLaw (V : Type 0) (outcome : Outcome V) (r : Roles) (value : CellsValue V)
+pub record ProgramLaw (variables : Variables) (V : Type 0) (outcome : Outcome V) (r : Roles)
+    (value : CellsValue V)
     : Type 0 where
   pub others : LeavesToOthers r value
-  pub deep : (s t : Situation) (v : V) → NoneOutside s → outcome s (Ok v) t → depth s ≤ depth t
-  pub ok : (s t : Situation) (v : V) → NoneOutside s → IsSpelledLine s.context → outcome s (Ok v) t
+  pub deep : (s t : Situation) (v : V) → IsWholeIn variables s → outcome s (Ok v) t
+      → depth s ≤ depth t
+  pub ok : (s t : Situation) (v : V) → IsWholeIn variables s → IsSpelledLine s.context
+      → outcome s (Ok v) t
       → NonePresent (cells t) → value (cells s) v
-  pub answers : (s t : Situation) (a : Result V Error) (w : V) → NoneOutside s → outcome s a t
+  pub answers : (s t : Situation) (a : Result V Error) (w : V) → IsWholeIn variables s
+      → outcome s a t
       → value (cells s) w → GivesAll (value (cells s)) a t
 
 -- the word is missing, and nothing is taken; or memory is wanted
@@ -145,11 +152,11 @@ FindsNoCommand s (Err e) t =
 
 -- The laws of a command, or a choice of them, with its words: what has a value is opened by one of
 -- them; where none is the first thing present it is missing.
-pub record CommandsLaw (T : Type 0) (outcome : Outcome T) (r : Roles) (words : List (List ℕ))
-    (value : CellsValue T) : Type 0 where
-  pub program : ProgramLaw T outcome r value
+pub record CommandsLaw (variables : Variables) (T : Type 0) (outcome : Outcome T) (r : Roles)
+    (words : List (List ℕ)) (value : CellsValue T) : Type 0 where
+  pub program : ProgramLaw variables T outcome r value
   pub opened : (cs : Cells) (v : T) → value cs v → (ds : Cells) × Opens words cs ds
-  pub none : (s t : Situation) (a : Result T Error) → NoneOutside s → outcome s a t
+  pub none : (s t : Situation) (a : Result T Error) → IsWholeIn variables s → outcome s a t
       → OpensNone words (cells s) → FindsNoCommand s a t
 
 -- What runs behind a command's word: a value only where nothing is left present.

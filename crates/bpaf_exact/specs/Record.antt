@@ -4,14 +4,14 @@ use Rattle.bpaf_line.specs.declared.error.Error.{Error}
 use Rattle.bpaf_line.specs.Situation.{Context, Situation, item_in, open_count}
 use Rattle.bpaf_laws.specs.Reading.{Outcome}
 use Rattle.bpaf_exact.specs.Pieces.{Cells, Roles, LinePiece, Cut}
-use Rattle.bpaf_exact.specs.Flat.{OfMemory, class, first_cells, FieldKind, ReadOff, share, left}
+use Rattle.bpaf_exact.specs.Flat.{OfMemory, class, first_cells, FieldKind, ReadOff, portion, left}
 use Rattle.bpaf_exact.specs.Flat.{FieldsReading, HasValue}
 
 -- each item of a line is present at first, but for the marker
 abbrev pub line_cells : Context → Cells
 line_cells context = first_cells (item_in context) (length context.line)
 
--- v is a value of the record on the line: the line is cut into pieces, and each field's share of
+-- v is a value of the record on the line: the line is cut into pieces, and each field's portion of
 -- them
 -- has its value
 abbrev pub RecordValue : {V : Type 0} → Roles → (List LinePiece → V → Type 0) → Context → V → Type 0
@@ -26,8 +26,7 @@ pub data RunAnswer (V : Type 0) : Type 0 where
 -- no value is answered
 abbrev pub IsNoValue : {V : Type 0} → RunAnswer V → Type 0
 IsNoValue (Accepted v) = ⊥
-IsNoValue NoMemory = Unit {0}
-IsNoValue Refusal = Unit {0}
+IsNoValue _ = Unit {0}
 
 -- What the steps of a run after the parser make of its answer: a value only where nothing is left
 -- present.
@@ -53,7 +52,7 @@ pub record IsExact (V : Type 0) (r : Roles) (reading : FieldsReading V) (context
     (a : RunAnswer V) : Type 0 where
   -- a value only where it is one of the record's
   pub sound : (v : V) → a ≡ Accepted v → RecordValue r reading.value context v
-  -- where each field has a value on its share, one of the record's values, or want of memory
+  -- where each field has a value on its portion, one of the record's values, or want of memory
   pub complete : (os : List LinePiece) → Cut r (line_cells context) os → reading.each os
       → IsAcceptedOrWant (λ w. RecordValue r reading.value context w) a
   -- where one has none, no value
@@ -63,7 +62,7 @@ pub record IsExact (V : Type 0) (r : Roles) (reading : FieldsReading V) (context
 -- the last field of a product, or a record of one field alone: no piece is left to others
 pub record LastValue (T : Type 0) (k : FieldKind) (q : Roles) (value : List LinePiece → T → Type 0)
     (os : List LinePiece) (v : T) : Type 0 where
-  pub read : value (share k q os) v
+  pub read : value (portion k q os) v
   pub none_left : left k q os ≡ []
 
 -- how it reads the pieces
@@ -71,5 +70,5 @@ abbrev pub last_reading : {T : Type 0} → FieldKind → Roles → (List LinePie
     → FieldsReading T
 last_reading {T = T} k q value = record {
   value = LastValue T k q value;
-  each = λ os. HasValue value (share k q os) × (left k q os ≡ []);
+  each = λ os. HasValue value (portion k q os) × (left k q os ≡ []);
 }

@@ -6,12 +6,11 @@ use Rattle.std.specs.List.{Contains}
 use Rattle.bpaf_doc.specs.Names.{Names}
 use Rattle.bpaf_base.specs.Items.{item_text}
 use Rattle.bpaf_base.specs.declared.arg.Arg.{Arg}
-use Rattle.bpaf_exact.specs.Pieces.{LinePiece, One, Roles, Two, is_own, mine, others}
+use Rattle.bpaf_exact.specs.Pieces.{LinePiece, One, Roles, Two, is_own, mine, others, stands_behind}
 use Rattle.bpaf_exact.specs.Names.{is_key_of_any}
 use Rattle.bpaf_exact.specs.Flat.{FieldKind, ByName, front, back}
 use Rattle.bpaf_exact.specs.Single.{Own, repeated}
 use Rattle.bpaf_exact.specs.Leaves.{HaveValues}
-use Rattle.bpaf_exact.specs.Pieces.{stands_behind}
 use Rattle.bpaf_exact.specs.Wrappers.{Closure}
 use Rattle.bpaf_exact.specs.Gathered.{IsLast}
 use Rattle.bpaf_exact.specs.FlatForm.{FlatForm, not_flat, alternative, single, complete, product}

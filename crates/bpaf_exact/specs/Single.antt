@@ -6,9 +6,9 @@ use Rattle.bpaf_line.specs.Situation.{Situation, open_count}
 use Rattle.bpaf_laws.specs.Reading.{Outcome}
 use Rattle.bpaf_laws.specs.Repeat.{ListOutcome, UntilRest, UntilFault}
 use Rattle.bpaf_exact.specs.Pieces.{Cells, Roles, LinePiece, pieces, TakesPiece, TakesPieces}
-use Rattle.bpaf_exact.specs.Flat.{OfMemory, OfMissing, Caught, Refused, class, cells, NoneOutside}
+use Rattle.bpaf_exact.specs.Flat.{OfMemory, OfMissing, Caught, Refused, class, cells, IsWholeIn}
 use Rattle.bpaf_exact.specs.Flat.{Steady, FieldKind, ByName, OneWord, EachWord, front, back}
-use Rattle.bpaf_exact.specs.Flat.{OwnItems}
+use Rattle.bpaf_exact.specs.Flat.{OwnItems, Variables}
 
 -- how one evaluation reads a value off the front of the own pieces, and which it leaves
 abbrev pub Groups : Type 0 → Type 1
@@ -47,8 +47,7 @@ pub record Gap (T : Type 0) : Type 1 where
 
 -- a value read off the front of the own pieces, of which at least one was taken
 pub record TookGroup (T : Type 0) (k : FieldKind) (q : Roles) (group : Groups T) (s : Situation)
-    (v : T)
-    (t : Situation) : Type 0 where
+    (v : T) (t : Situation) : Type 0 where
   pub steady : Steady s t
   pub takes : TakesAny q (cells s) (cells t)
   pub found : front k (pieces q (cells s)) ≡ [] → ⊥
@@ -110,16 +109,15 @@ ReadsWords {T = T} (OneWord stops) group = WordByWord T stops group
 ReadsWords (EachWord stops) group = ⊥
 
 -- the laws of a field without a repeat or default
-pub record SingleLaw (T : Type 0) (outcome : Outcome T) (k : FieldKind) (q : Roles)
-    (group : Groups T)
-    (gap : Gap T) : Type 0 where
+pub record SingleLaw (variables : Variables) (T : Type 0) (outcome : Outcome T) (k : FieldKind)
+    (q : Roles) (group : Groups T) (gap : Gap T) : Type 0 where
   pub own : OwnItems k q
   pub words : ReadsWords k group
   pub starts : (v : T) (rest : List LinePiece) → group [] v rest → ⊥
   pub no_absent : (v : T) → gap.has ≡ false → gap.absent v → ⊥
-  pub ok : (s t : Situation) (v : T) → NoneOutside s → outcome s (Ok v) t
+  pub ok : (s t : Situation) (v : T) → IsWholeIn variables s → outcome s (Ok v) t
       → SingleOk T k q group gap s v t
-  pub err : (s t : Situation) (e : Error) → NoneOutside s → outcome s (Err e) t
+  pub err : (s t : Situation) (e : Error) → IsWholeIn variables s → outcome s (Err e) t
       → SingleErr T k q group gap s e t
 
 -- The own list under a repeat; the absent value must be there also where it isn't used: the repeat

@@ -1,27 +1,11 @@
 -- What depends on the environment: the forms of keys that have names there.
-use Rattle.std.specs.Prelude.{◌≡◌, ℕ, Bool, true, false, List, [], ◌∷◌, Option}
-use Rattle.std.specs.Prelude.{Result}
-use Rattle.bpaf_line.specs.declared.error.Error.{Error}
-use Rattle.bpaf_line.specs.Situation.{Situation}
+use Rattle.std.specs.Prelude.{ℕ, Bool, true, false, List, [], ◌∷◌, Option}
 use Rattle.bpaf_text.specs.Named.{Named as Key, KeyWithValue}
 use Rattle.bpaf_laws.specs.Environment.{first_set}
-use Rattle.bpaf_laws.specs.Reading.{Outcome}
 use Rattle.bpaf_exact.specs.FlatForm.{FlatForm}
 use Rattle.bpaf_exact.specs.Leaves.{flag_field, variable_flag, argument_field, variable_argument}
 use Rattle.bpaf_exact.specs.ProgramForm.{ProgramForm, plain}
-
--- the variables of an environment, by their names, each with its value
-abbrev pub Variables : Type 0
-Variables = List (List ℕ × List ℕ)
-
--- what is answered where the environment has these variables
-abbrev pub WithVariables : {T : Type 0} → Variables → Outcome T → Outcome T
-WithVariables variables outcome s r t = (s.context.env ≡ variables) × outcome s r t
-
--- each evaluation leaves the environment as it is
-abbrev pub KeepsVariables : {T : Type 0} → Outcome T → Type 0
-KeepsVariables {T = T} outcome =
-    (s t : Situation) (r : Result T Error) → outcome s r t → t.context.env ≡ s.context.env
+use Rattle.bpaf_exact.specs.Flat.{Variables}
 
 -- a key without a name in the environment is such a field; one with names there is a wide one, by
 -- the text of the first that is set

@@ -105,8 +105,7 @@ pub data FallbackValue (T : Type 0) (group : Groups T) (gap : Gap T)
 
 -- the same round a field without a repeat or default
 pub record ClosedGroup (A B : Type 0) (group : Groups A) (f : Closure A B) (os : List LinePiece)
-    (v : B)
-    (rest : List LinePiece) : Type 0 where
+    (v : B) (rest : List LinePiece) : Type 0 where
   pub from : A
   pub read : group os from rest
   pub made : f.yes from v
@@ -118,8 +117,7 @@ closed_gap {A = A} gap f =
 
 -- and round an alternative
 pub record ClosedPiece (A B : Type 0) (value : LinePiece → A → Type 0) (f : Closure A B)
-    (o : LinePiece)
-    (v : B) : Type 0 where
+    (o : LinePiece) (v : B) : Type 0 where
   pub from : A
   pub read : value o from
   pub made : f.yes from v

@@ -1,5 +1,5 @@
 -- An answer of a record's parser is exact by the record's own values, told by known names.
-use Rattle.std.proofs.Common.{◌≡◌, All, Bool, IfOk, IsUtf8, List, Ok, Err, Result, inl, refl}
+use Rattle.std.proofs.Common.{[], ◌≡◌, All, Bool, IfOk, IsUtf8, List, Ok, Err, Result, inl, refl}
 use Rattle.bpaf_doc.specs.Names.{Names}
 use Rattle.bpaf_doc.specs.Shape.{Shape}
 use Rattle.bpaf_words.specs.Arguments.{Given}
@@ -85,6 +85,6 @@ module _ {T V : Type 0} {outcome : Outcome T} {fields : Readings V} {makes : V �
                 cut_into = value.read.cut_into;
                 cut = value.read.cut;
               })
-              ((record_law T law names Own refl seen.law).has_each value.read.cut_into v
+              ((record_law [] T law names Own refl (seen.law [])).has_each value.read.cut_into v
               value.read.read));
         }

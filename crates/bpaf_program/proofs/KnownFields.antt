@@ -31,7 +31,8 @@ use Rattle.bpaf_program.proofs.ShownShorts.{default_shows, many_shows, one_shows
 -- a switch shows the same short names, whatever its help is
 switch_shows : (shorts : List ℕ) (longs : List (List ℕ)) (help : Option (List Piece))
     → let names : Names = record { shorts = shorts; longs = longs } in
-    ShowsShorts (λ shape. shape ≡ flag_shape (record (key_named names) { help = help }) (Some false))
+    ShowsShorts
+    (λ shape. shape ≡ flag_shape (record (key_named names) { help = help }) (Some false))
     (known_switch names).shorts
 switch_shows [] [] help = one_shows _
 switch_shows [] (long ∷ longs) help = one_shows _
@@ -46,7 +47,7 @@ pub switch_known : (names : Names) (help : Option (List Piece)) {named : Named}
     (λ shape. shape ≡ flag_shape named absent)
 switch_known names help named_is present_is absent_is =
     rw (named_is, present_is, absent_is) (record {
-      law = flag_field_law Bool IsKept (record (key_named names) { help = help }) true
+      law = λ env. flag_field_law env Bool IsKept (record (key_named names) { help = help }) true
           (Some false) refl;
       shown = switch_shows names.shorts names.longs help;
     })
@@ -57,7 +58,7 @@ pub argument_known : {T : Type 0} (means : List ℕ → T → Type 0) (key : Key
     → IsKnownParser (known_argument means key) (ArgumentOutcome means argument)
     (λ shape. shape ≡ argument_shape argument)
 argument_known {T} means key bare is =
-    rw is (record { law = argument_field_law T means key bare; shown = one_shows _ })
+    rw is (record { law = λ env. argument_field_law env T means key bare; shown = one_shows _ })
 
 -- a word shows no short name
 word_shows : (place : Position) (metavar : List ℕ) (help : Option (List Piece))
@@ -73,7 +74,7 @@ pub word_known : {T : Type 0} (means : List ℕ → T → Type 0) (place : Posit
     (λ shape. shape ≡ positional_shape position metavar help)
 word_known {T} means place is {metavar} help =
     rw is (record {
-      law = positional_field_law T means place metavar;
+      law = λ env. positional_field_law env T means place metavar;
       shown = word_shows place metavar help;
     })
 
@@ -84,7 +85,7 @@ module _ {T : Type 0} {known : KnownParser T} {outcome : Outcome T} {describes :
       → IsKnownParser (known_many known) (ManyOutcome outcome catch) (ManyDescribes describes)
   many_known none =
       rw none (record {
-        law = many_law T outcome false known.all known.words known.form is.law;
+        law = λ env. many_law env T outcome false known.all known.words known.form (is.law env);
         shown = many_shows is.shown;
       })
 
@@ -94,7 +95,7 @@ module _ {T : Type 0} {known : KnownParser T} {outcome : Outcome T} {describes :
       (OptionalDescribes describes)
   optional_known none =
       rw none (record {
-        law = optional_law T outcome false known.all known.words known.form is.law;
+        law = λ env. optional_law env T outcome false known.all known.words known.form (is.law env);
         shown = optional_shows is.shown;
       })
 
@@ -106,8 +107,8 @@ module _ {T : Type 0} {known : KnownParser T} {outcome : Outcome T} {describes :
       (FallbackOutcome outcome (GivesClone clones kept)) (DefaultDescribes describes shown)
   default_known {clones} equal value is_kept shown =
       rw is_kept (record {
-        law = narrower_program_form T _ _
+        law = λ env. narrower_program_form env T _ _
             (no_more (λ s t r o. fallback_kept equal outcome value s r t o)) known.all [] _
-            (fallback_law T outcome IsKept value known.all known.words known.form is.law);
+            (fallback_law env T outcome IsKept value known.all known.words known.form (is.law env));
         shown = default_shows is.shown shown;
       })

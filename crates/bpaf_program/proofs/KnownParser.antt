@@ -1,6 +1,6 @@
 -- The parsers of a program are known where what they are made of is.
-use Rattle.std.proofs.Common.{◌≡◌, All, true, false, List, [], ℕ}
-use Rattle.std.proofs.Common.{Result, Ok, Err, IfOk, IsUtf8, ap, inl, refl, subst, sym, ◌∙◌}
+use Rattle.std.proofs.Common.{◌≡◌, All, true, false, List, [], ℕ, Result, Ok, Err, IfOk, IsUtf8, ap}
+use Rattle.std.proofs.Common.{inl, refl, subst, sym, ◌∙◌}
 use Rattle.bpaf_doc.specs.Shape.{Shape}
 use Rattle.bpaf_words.specs.Arguments.{Given}
 use Rattle.bpaf_line.specs.Constructing.{IsContext}
@@ -19,24 +19,20 @@ use Rattle.bpaf.specs.Ending.{EndsRun}
 use Rattle.bpaf.specs.Info.{RunInfo, plain_info}
 use Rattle.bpaf.specs.Known.{known_names}
 use Rattle.bpaf.specs.Run.{RunsWords}
-use Rattle.bpaf_exact.specs.ProgramForm.{is_program}
-use Rattle.bpaf_exact.specs.ProgramForm.{program_field, program_value}
+use Rattle.bpaf_exact.specs.ProgramForm.{is_program, program_field, program_value}
 use Rattle.bpaf_exact.proofs.Narrow.{AllowsNoMore, no_more}
 use Rattle.bpaf_exact.proofs.ProgramForm.{narrower_program_form, program_alone_law}
 use Rattle.bpaf_exact.proofs.ProgramForm.{program_both_law, program_choice_law, program_con_law}
 use Rattle.bpaf_exact.proofs.ProgramForm.{program_field_law}
 use Rattle.bpaf_exact.proofs.ByTables.{map_law}
-use Rattle.bpaf_exact.proofs.Variables.{program_with}
 use Rattle.bpaf_record.specs.Commands.{plain_command_law}
 use Rattle.bpaf_record.specs.Program.{AnswersAsProgram, IsProgramValueOf}
 use Rattle.bpaf_record.specs.Record.{IsValueOrWant}
 use Rattle.bpaf_record.proofs.OneLine.{same_names}
 use Rattle.bpaf_record.proofs.Programs as programs
-use Rattle.bpaf_program.specs.KnownParser.{AreKnownFields, IsKnownParser, KnownParser}
-use Rattle.bpaf_program.specs.KnownParser.{ShowsShorts}
-use Rattle.bpaf_program.specs.KnownParser.{known_both, known_choice, known_command}
-use Rattle.bpaf_program.specs.KnownParser.{known_con, known_last, known_map}
-use Rattle.bpaf_program.specs.KnownParser.{program_names}
+use Rattle.bpaf_program.specs.KnownParser.{AreKnownFields, IsKnownParser, KnownParser, ShowsShorts}
+use Rattle.bpaf_program.specs.KnownParser.{known_both, known_choice, known_command, known_con}
+use Rattle.bpaf_program.specs.KnownParser.{known_last, known_map, program_names}
 use Rattle.bpaf_program.specs.ReadBy.{AnswersProgramReadBy, IsProgramReadBy}
 use Rattle.bpaf_program.proofs.Shown.{line_context}
 use Rattle.bpaf_program.proofs.ShownShorts.{both_show, choice_shows, command_shows, last_shows}
@@ -77,8 +73,9 @@ command_known {T} word known {command} same called_is plain_is info_is {outcome}
       ap (λ c. c.adjacent) same ∙ plain_is,
       ap (λ c. c.info) same ∙ info_is,
     ) (record {
-      law = plain_command_law T outcome describes plain_info (named_only word) _ true known.all
-          known.words known.form is.law;
+      law = λ env. plain_command_law env T outcome describes plain_info
+          (named_only word) _ true known.all
+          known.words known.form (is.law env);
       shown = command_shows is.shown (named_only word) command.help;
     })
 
@@ -89,8 +86,9 @@ pub choice_known : {T : Type 0} (first second : KnownParser T) {one two : Outcom
     → IsKnownParser (known_choice first second) (ChoiceOutcome one two)
     (ChoiceDescribes describes shows)
 choice_known {T} first second {one} {two} these those = record {
-  law = program_choice_law T one two first.all second.all first.words second.words first.form
-      second.form these.law those.law;
+  law = λ env. program_choice_law env T one two first.all second.all first.words second.words
+      first.form
+      second.form (these.law env) (those.law env);
   shown = choice_shows these.shown those.shown;
 }
 
@@ -100,8 +98,9 @@ pub map_known : {A B : Type 0} (make : A → B) (known : KnownParser A) {outcome
     → {answers : A → B → Type 0} → ((x : A) (v : B) → answers x v → v ≡ make x)
     → IsKnownParser (known_map make known) (MapOutcome outcome answers) describes
 map_known {A} {B} make known {outcome} inner {answers} only = record {
-  law = narrower_program_form B _ _ (map_within outcome only) known.all known.words _
-      (map_law A B outcome (λ x v. v ≡ make x) known.all known.words known.form inner.law);
+  law = λ env. narrower_program_form env B _ _ (map_within outcome only) known.all known.words _
+      (map_law env A B outcome (λ x v. v ≡ make x) known.all known.words known.form
+      (inner.law env));
   shown = inner.shown;
 }
 
@@ -110,8 +109,8 @@ pub last_known : {T : Type 0} (known : KnownParser T) {outcome : Outcome T}
     {describes : Shape → Type 0} → IsKnownParser known outcome describes
     → AreKnownFields (known_last known) outcome (LastDescribes describes)
 last_known {T} known {outcome} inner = record {
-  law = program_alone_law T outcome known.all known.words (program_field known.form)
-      (program_field_law T outcome known.all known.words known.form inner.law);
+  law = λ env. program_alone_law env T outcome known.all known.words (program_field known.form)
+      (program_field_law env T outcome known.all known.words known.form (inner.law env));
   shown = last_shows inner.shown;
 }
 
@@ -122,8 +121,10 @@ pub both_known : {A B : Type 0} (first : KnownParser A) (rest : KnownParser B) {
     → AreKnownFields (known_both first rest) (BothOutcome one outcome)
     (BothDescribes describes describe)
 both_known {A} {B} first rest {one} {outcome} is more = record {
-  law = program_both_law A B one outcome first.all rest.all first.words (program_field first.form)
-      rest.form (program_field_law A one first.all first.words first.form is.law) more.law;
+  law = λ env. program_both_law env A B one outcome first.all rest.all first.words
+      (program_field first.form)
+      rest.form (program_field_law env A one first.all first.words first.form (is.law env))
+      (more.law env);
   shown = both_show is.shown more.shown;
 }
 
@@ -134,8 +135,8 @@ pub con_known : {A B : Type 0} (make : A → B) (known : KnownParser A) {outcome
     → IsKnownParser (known_con make known) (ProductOutcome outcome answers)
     (ProductDescribes describe)
 con_known {A} {B} make known {outcome} fields {answers} only = record {
-  law = narrower_program_form B _ _ (con_within outcome only) known.all [] _
-      (program_con_law A B outcome (λ x v. v ≡ make x) known.all known.form fields.law);
+  law = λ env. narrower_program_form env B _ _ (con_within outcome only) known.all [] _
+      (program_con_law env A B outcome (λ x v. v ≡ make x) known.all known.form (fields.law env));
   shown = product_shows fields.shown;
 }
 
@@ -202,5 +203,5 @@ pub program_exactly : {T : Type 0} (known : KnownParser T) → is_program known.
 program_exactly {T} known program {outcome} {describes} {r = r} runs is info_is own given_is texts =
     own_exactly known is.shown own texts r (programs.answers_as_program T outcome describes
     plain_info known.all known.words known.form own
-    (program_with T outcome own.env known.all known.words known.form is.law) program
+    (is.law own.env) program
     is.shown.same r (rw (info_is, given_is) at runs))

@@ -1,7 +1,7 @@
 -- Flat records all of whose values on the same words look alike.
-use Rattle.std.proofs.Common.{refl, ◌≡◌, All, Bool, true, false, IsUtf8, List, [], ◌∷◌, ◌++◌, Some, map}
-use Rattle.std.proofs.Common.{ℕ, ap, string_bytes, subst, sym, ◌∙◌}
-use Rattle.std.specs.Prelude.{option_map}
+use Rattle.std.proofs.Common.{refl, ◌≡◌, All, Bool, true, false, IsUtf8, List, [], ◌∷◌, ◌++◌, Some}
+use Rattle.std.proofs.Common.{map, ℕ, ap, string_bytes, subst, sym, ◌∙◌}
+use Rattle.std.specs.Prelude.{option_map, not}
 use Rattle.bpaf_doc.specs.Names.{Names}
 use Rattle.bpaf_text.specs.Meaning.{SpellsUnsigned}
 use Rattle.bpaf_text.specs.Named.{KeyWithValue, key_named}
@@ -14,17 +14,14 @@ use Rattle.bpaf_laws.specs.Product.{BothOutcome, ProductOutcome}
 use Rattle.bpaf_laws.specs.Reading.{Outcome}
 use Rattle.bpaf_laws.specs.Repeat.{ManyOutcome}
 use Rattle.bpaf_laws.specs.Turn.{TurnOutcome}
-use Rattle.bpaf.specs.declared.leaves.positional.Position.TheVariants.{Unrestricted}
+use Rattle.bpaf.specs.declared.leaves.positional.Position.TheVariants.{Unrestricted, NonStrict}
 use Rattle.bpaf.specs.Positional.{PositionalOutcome}
 use Rattle.bpaf_exact.specs.FlatForm.{FlatForm, FormLaw, flat_alone, flat_both, flat_con}
-use Rattle.bpaf_exact.specs.FlatForm.{flat_fallback, flat_field, flat_optional}
-use Rattle.bpaf_exact.specs.FlatForm.{flat_many, flat_record, is_record, product_reading}
-use Rattle.bpaf_exact.specs.FlatForm.{product_roles}
-use Rattle.bpaf_exact.specs.Flat.{is_behind}
+use Rattle.bpaf_exact.specs.FlatForm.{flat_fallback, flat_field, flat_optional, flat_many}
+use Rattle.bpaf_exact.specs.FlatForm.{flat_record, is_record, product_reading, product_roles}
+use Rattle.bpaf_exact.specs.Flat.{is_behind, Variables}
 use Rattle.bpaf_exact.specs.Pieces.{LinePiece}
-use Rattle.bpaf_record.specs.Positional.{value_before}
-use Rattle.std.specs.Prelude.{not}
-use Rattle.bpaf.specs.declared.leaves.positional.Position.TheVariants.{NonStrict}
+use Rattle.bpaf_record.specs.Positional.{value_before, positional_field_law}
 use Rattle.bpaf_exact.specs.Leaves.{SideValue, WordEval, argument_field, flag_field, word_by}
 use Rattle.bpaf_exact.specs.Leaves.{word_field}
 use Rattle.bpaf_exact.specs.ProgramForm.{plain}
@@ -32,15 +29,13 @@ use Rattle.bpaf_exact.specs.OneView.{Alike, HasOneView, pair_view}
 use Rattle.bpaf_exact.specs.Record.{RecordValue, line_cells}
 use Rattle.bpaf_exact.specs.Wrappers.{kept_closure, map_closure}
 use Rattle.bpaf_exact.proofs.Arguments.{argument_field_law}
-use Rattle.bpaf_exact.proofs.FlatForm.{flat_alone_law, flat_both_law, flat_con_law}
-use Rattle.bpaf_exact.proofs.FlatForm.{flat_field_law}
+use Rattle.bpaf_exact.proofs.FlatForm.{flat_alone_law, flat_both_law, flat_con_law, flat_field_law}
 use Rattle.bpaf_exact.proofs.Flags.{flag_field_law}
 use Rattle.bpaf_exact.proofs.OneView.{alone_view, argument_view, both_view, con_view, field_view}
 use Rattle.bpaf_exact.proofs.OneView.{fallback_view, flag_view, many_view, optional_field_view}
 use Rattle.bpaf_exact.proofs.OneView.{record_looks_one, side_view, word_view}
 use Rattle.bpaf_exact.proofs.Positionals.{word_by_law}
-use Rattle.bpaf_exact.proofs.ByTables.{fallback_law, many_field_law, optional_law}
-use Rattle.bpaf_record.specs.Positional.{positional_field_law}
+use Rattle.bpaf_exact.proofs.ByTables.{fallback_law, many_law, optional_law}
 use Rattle.bpaf_record.proofs.OneLine.{same_context}
 use Rattle.bpaf_program.specs.ReadBy.{IsReadBy}
 use Rattle.bpaf_program.specs.Values.{IsKept, MeansText, String}
@@ -48,7 +43,7 @@ use Rattle.bpaf_program.specs.Values.{IsKept, MeansText, String}
 -- a form that this outcome, of a parser with these keys, keeps to, and whose values look alike
 pub record IsSeen {T X : Type 0} (outcome : Outcome T) (see : T → X) (names : List Names)
     (form : FlatForm T) : Type 0 where
-  pub law : FormLaw outcome names form
+  pub law : (variables : Variables) → FormLaw variables outcome names form
   pub view : HasOneView see form
 
 -- a switch
@@ -56,7 +51,7 @@ pub switch_seen : (names : Names)
     → IsSeen (FlagOutcome IsKept (key_named names) true (Some false)) (λ b. b) (names ∷ [])
     (flag_field IsKept (key_named names) true (Some false))
 switch_seen names = record {
-  law = flag_field_law Bool IsKept (key_named names) true (Some false) refl;
+  law = λ env. flag_field_law env Bool IsKept (key_named names) true (Some false) refl;
   view = flag_view Bool Bool (λ b. b) IsKept (λ kept v w a b. a ∙ sym b) (key_named names) true
       (Some false);
 }
@@ -66,7 +61,7 @@ pub argument_seen : {T X : Type 0} (see : T → X) (means : List ℕ → T → T
     → ((text : List ℕ) → Alike see (means text)) → (key : KeyWithValue) → key.named.envs ≡ []
     → IsSeen (ArgumentOutcome means key) see (key.named.names ∷ []) (argument_field means key)
 argument_seen {T} {X} see means one key bare = record {
-  law = argument_field_law T means key bare;
+  law = λ env. argument_field_law env T means key bare;
   view = argument_view T X see means one key;
 }
 
@@ -92,7 +87,7 @@ pub word_seen : {T X : Type 0} (see : T → X) (means : List ℕ → T → Type 
     → ((text : List ℕ) → Alike see (means text)) → (metavar : List ℕ)
     → IsSeen (PositionalOutcome means Unrestricted metavar) see [] (word_field means)
 word_seen {T} {X} see means one metavar = record {
-  law = positional_field_law T means Unrestricted metavar;
+  law = λ env. positional_field_law env T means Unrestricted metavar;
   view = word_view T X see means one;
 }
 
@@ -107,7 +102,7 @@ pub side_word_seen : (behind : Bool)
     → IsSeen (WordEval String (not behind) (SideValue behind MeansText)) string_bytes []
     (word_by (not behind) (SideValue behind MeansText))
 side_word_seen behind = record {
-  law = word_by_law _ (not behind) (SideValue behind MeansText) (before behind);
+  law = λ env. word_by_law env _ (not behind) (SideValue behind MeansText) (before behind);
   view = side_view _ (List ℕ) string_bytes (not behind) behind MeansText one_text;
 }
   where
@@ -122,16 +117,16 @@ module _ {T X : Type 0} {outcome : Outcome T} {see : T → X} {names : List Name
   pub many_seen : IsSeen (ManyOutcome outcome false) (λ values. map see values.items) names
       (flat_many form)
   many_seen = record {
-    law = many_field_law T outcome false names form is.law;
-    view = many_view T X see outcome names form is.law is.view;
+    law = λ env. many_law env T outcome false names [] (plain false form) (is.law env);
+    view = many_view [] T X see outcome names form (is.law []) is.view;
   }
 
   -- what may be left out
   pub optional_seen : IsSeen (TurnOutcome outcome false true) (option_map see) names
       (flat_optional form)
   optional_seen = record {
-    law = optional_law T outcome false names [] (plain false form) is.law;
-    view = optional_field_view T X see outcome names form is.law is.view;
+    law = λ env. optional_law env T outcome false names [] (plain false form) (is.law env);
+    view = optional_field_view [] T X see outcome names form (is.law []) is.view;
   }
 
   -- what has a default
@@ -139,8 +134,9 @@ module _ {T X : Type 0} {outcome : Outcome T} {see : T → X} {names : List Name
       → IsSeen (FallbackOutcome outcome (GivesClone clones kept)) see names
       (flat_fallback (kept_closure (clones kept)) form)
   fallback_seen clones kept one = record {
-    law = fallback_law T outcome clones kept names [] (plain false form) is.law;
-    view = fallback_view T X see outcome (kept_closure (clones kept)) one names form is.law is.view;
+    law = λ env. fallback_law env T outcome clones kept names [] (plain false form) (is.law env);
+    view = fallback_view [] T X see outcome (kept_closure (clones kept)) one names form
+        (is.law []) is.view;
   }
 
   -- what is this value where it is left out
@@ -152,14 +148,14 @@ module _ {T X : Type 0} {outcome : Outcome T} {see : T → X} {names : List Name
   -- a field
   pub field_seen : IsSeen outcome see names (flat_field form)
   field_seen = record {
-    law = flat_field_law T outcome names form is.law;
-    view = field_view T X see outcome names form is.law is.view;
+    law = λ env. flat_field_law env T outcome names form (is.law env);
+    view = field_view [] T X see outcome names form (is.law []) is.view;
   }
 
   -- a last field
   pub alone_seen : IsSeen outcome see names (flat_alone form)
   alone_seen = record {
-    law = flat_alone_law T outcome names form is.law;
+    law = λ env. flat_alone_law env T outcome names form (is.law env);
     view = alone_view T X see form is.view;
   }
 
@@ -169,7 +165,7 @@ module _ {T X : Type 0} {outcome : Outcome T} {see : T → X} {names : List Name
       → IsSeen (ProductOutcome outcome (λ x v. v ≡ make x)) look names
       (flat_con (map_closure (λ x v. v ≡ make x)) form)
   con_seen {V} {Y} make look same = record {
-    law = flat_con_law T V outcome (λ x v. v ≡ make x) names form is.law;
+    law = λ env. flat_con_law env T V outcome (λ x v. v ≡ make x) names form (is.law env);
     view = con_view T V X Y see look (map_closure (λ x v. v ≡ make x))
         (record {
           same = λ x y v w e f g. ap look f ∙ (same x y e ∙ sym (ap look g));
@@ -183,7 +179,8 @@ module _ {T X : Type 0} {outcome : Outcome T} {see : T → X} {names : List Name
       → Alike see (IsReadBy known given form)
   reads_one record_is known given texts v w a b =
       let one = same_context given texts known a.context b.context a.is_context b.is_context in
-      record_looks_one T X see outcome names form record_is is.law is.view (line_cells b.context) v w
+      record_looks_one T X see [] outcome names form record_is (is.law []) is.view
+      (line_cells b.context) v w
       (subst (λ context. RecordValue (product_roles (flat_record form))
       (product_reading (flat_record form)).value context v) one a.read) b.read
 
@@ -195,6 +192,7 @@ pub both_seen : {A B X Y : Type 0} {see : A → X} {look : B → Y} {own others 
     (flat_both own others first rest)
 both_seen {A} {B} {X} {Y} {see} {look} {own} {others} {first} {rest} {outcome} {outcomes} one more =
     record {
-      law = flat_both_law A B outcome outcomes own others first rest one.law more.law;
+      law = λ env. flat_both_law env A B outcome outcomes own others first rest (one.law env)
+          (more.law env);
       view = both_view A B X Y see look own others first rest one.view more.view;
     }

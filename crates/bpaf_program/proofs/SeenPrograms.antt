@@ -40,7 +40,7 @@ pub record_look : {T X : Type 0} {outcome : Outcome T} {see : T → X} {names : 
     {form : FlatForm T} → IsSeen outcome see names form → is_record form ≡ true
     → LooksOne see (program_value (plain false form))
 record_look {T} {X} {outcome} {see} {names} {form} is record_is =
-    record_looks_one T X see outcome names form record_is is.law is.view
+    record_looks_one T X see [] outcome names form record_is (is.law []) is.view
 
 module _ {T X : Type 0} {see : T → X} where
   -- a command over what looks alike

@@ -12,6 +12,7 @@ use Rattle.bpaf_exact.specs.ProgramForm.{program_alone, program_both, program_ch
 use Rattle.bpaf_exact.specs.ProgramForm.{program_command, program_con, program_field}
 use Rattle.bpaf_exact.specs.SameParts.{FieldsShowTheSame, ShowsTheSame}
 use Rattle.bpaf_exact.specs.Wrappers.{Closure, map_closure}
+use Rattle.bpaf_exact.specs.Flat.{Variables}
 
 -- the short names of flags and of arguments among parts
 abbrev pub shorts_of : List Part → ShortNames
@@ -119,11 +120,12 @@ pub record FieldsShowShorts (describe : List Shape → Type 0) (names : ShortNam
 -- a parser is known: it keeps to the law of its form, and shows the known short names
 pub record IsKnownParser {T : Type 0} (known : KnownParser T) (outcome : Outcome T)
     (describes : Shape → Type 0) : Type 0 where
-  pub law : ProgramFormLaw outcome known.all known.words known.form
+  pub law : (variables : Variables)
+      → ProgramFormLaw variables outcome known.all known.words known.form
   pub shown : ShowsShorts describes known.shorts
 
 -- so are fields
 pub record AreKnownFields {T : Type 0} (known : KnownParser T) (outcome : Outcome T)
     (describe : List Shape → Type 0) : Type 0 where
-  pub law : ProgramFormLaw outcome known.all [] known.form
+  pub law : (variables : Variables) → ProgramFormLaw variables outcome known.all [] known.form
   pub shown : FieldsShowShorts describe known.shorts

@@ -59,7 +59,7 @@ impl<T: Drop, P: Parser<T>> Program<T> for OptionParser<T, P> {
 
 /// The value that the words give a flat record, as [`Program::run`], and exactly.
 ///
-/// Where each field of the record has a value on its share of the words' line, only want of memory
+/// Where each field of the record has a value on its portion of the words' line, only want of memory
 /// keeps the value from coming: the status is 1, and on `err` stands `Error: out of memory`, or
 /// a beginning of that where a write failed.
 ///

@@ -5,8 +5,8 @@ use Rattle.bpaf_doc.specs.Names.{Names}
 use Rattle.bpaf_exact.specs.Flat.{FieldKind, ByName, OneWord, EachWord}
 use Rattle.bpaf_exact.specs.FlatForm.{FlatForm, not_flat, alternative, single, complete, product}
 use Rattle.bpaf_exact.specs.FlatForm.{alternative_only, flat_alone, flat_both, flat_choice}
-use Rattle.bpaf_exact.specs.FlatForm.{flat_closed, flat_con, flat_either, flat_fallback, flat_last}
-use Rattle.bpaf_exact.specs.FlatForm.{flat_optional, flat_repeat, inner_field, is_named, is_product}
+use Rattle.bpaf_exact.specs.FlatForm.{flat_closed, flat_con, flat_fallback, flat_last}
+use Rattle.bpaf_exact.specs.FlatForm.{flat_optional, flat_repeat, flat_field, is_named, is_product}
 use Rattle.bpaf_exact.specs.FlatForm.{is_record, may_follow, only_if, unless}
 use Rattle.bpaf_exact.specs.Names.{are_all_apart}
 use Rattle.bpaf_exact.specs.Single.{repeated}
@@ -15,57 +15,45 @@ use Rattle.bpaf_record.specs.Form.{alone_form, alternative_form, before_form, cl
 use Rattle.bpaf_record.specs.Form.{completed_form, field_form, form_if, form_of, is_named_kind}
 use Rattle.bpaf_record.specs.Form.{is_product_form, is_record_form, joined_form, kind_of, made_form}
 use Rattle.bpaf_record.specs.Form.{may_stand, unless_form}
-use Rattle.bpaf_record.specs.declared.form.Form.TheVariants.{Complete, Product}
+use Rattle.bpaf_record.specs.declared.form.Form.TheVariants.{Alternative, Complete, NotFlat}
+use Rattle.bpaf_record.specs.declared.form.Form.TheVariants.{Product}
+use Rattle.bpaf_record.specs.declared.form.Form.{Form}
+use Rattle.bpaf_exact.specs.Alternative.{either_value}
+use Rattle.bpaf_exact.specs.Pieces.{either}
 
 -- a closure
 pub closed_is : {A B : Type 0} (f : Closure A B) (s : FlatForm A)
     → closed_form (form_of s) ≡ form_of (flat_closed f s)
 closed_is f not_flat = refl
-closed_is f (alternative q value) = refl
-closed_is f (single k q group gap) = refl
-closed_is f (complete k q value) = refl
-closed_is f (product named q fields) = refl
+closed_is f _ = refl
 
 -- a repeated word is a word
 repeated_is : (k : FieldKind) → kind_of k ≡ kind_of (repeated k)
 repeated_is ByName = refl
-repeated_is (OneWord stops) = refl
-repeated_is (EachWord stops) = refl
+repeated_is _ = refl
 
 -- a repeat, and what is made of its list
 listed_is : {T B : Type 0} (f : Closure (List T) B) (s : FlatForm T)
     → completed_form (form_of s) ≡ form_of (flat_closed f (flat_repeat s))
-listed_is f not_flat = refl
-listed_is f (alternative q value) = refl
 listed_is f (single k q group gap) = ap Complete (repeated_is k)
-listed_is f (complete k q value) = refl
-listed_is f (product named q fields) = refl
+listed_is f _ = refl
 
 -- last
 pub last_is : {T : Type 0} (s : FlatForm T) → completed_form (form_of s) ≡ form_of (flat_last s)
-last_is not_flat = refl
-last_is (alternative q value) = refl
 last_is (single k q group gap) = ap Complete (repeated_is k)
-last_is (complete k q value) = refl
-last_is (product named q fields) = refl
+last_is _ = refl
 
 -- optional
 optional_is : {T : Type 0} (s : FlatForm T)
     → completed_form (form_of s) ≡ form_of (flat_optional s)
 optional_is not_flat = refl
-optional_is (alternative q value) = refl
-optional_is (single k q group gap) = refl
-optional_is (complete k q value) = refl
-optional_is (product named q fields) = refl
+optional_is _ = refl
 
 -- a default
 pub fallback_is : {T : Type 0} (f : Closure (Unit {0}) T) (s : FlatForm T)
     → completed_form (form_of s) ≡ form_of (flat_fallback f s)
 fallback_is f not_flat = refl
-fallback_is f (alternative q value) = refl
-fallback_is f (single k q group gap) = refl
-fallback_is f (complete k q value) = refl
-fallback_is f (product named q fields) = refl
+fallback_is f _ = refl
 
 -- a repeat that may catch
 pub listed_unless : {T B : Type 0} (catch : Bool) (f : Closure (List T) B) (s : FlatForm T)
@@ -88,77 +76,57 @@ and_true false = refl
 -- a flat record
 pub record_is : {T : Type 0} (s : FlatForm T) → is_record_form (form_of s) ≡ is_record s
 record_is not_flat = refl
-record_is (alternative q value) = refl
-record_is (single k q group gap) = refl
-record_is (complete k q value) = refl
-record_is (product named q fields) = refl
+record_is _ = refl
 
 -- a product
 pub product_is : {T : Type 0} (s : FlatForm T) → is_product_form (form_of s) ≡ is_product s
 product_is not_flat = refl
-product_is (alternative q value) = refl
-product_is (single k q group gap) = refl
-product_is (complete k q value) = refl
-product_is (product named q fields) = refl
+product_is _ = refl
 
 -- a field of a product
-pub field_is : {T : Type 0} (s : FlatForm T) → field_form (form_of s) ≡ form_of (inner_field s)
-field_is not_flat = refl
-field_is (alternative q value) = refl
-field_is (single k q group gap) = refl
-field_is (complete k q value) = refl
+pub field_is : {T : Type 0} (s : FlatForm T) → field_form (form_of s) ≡ form_of (flat_field s)
 field_is (product true q fields) = refl
-field_is (product false q fields) = refl
+field_is _ = refl
 
 -- a named one
 named_is : (k : FieldKind) → is_named_kind (kind_of k) ≡ is_named k
 named_is ByName = refl
-named_is (OneWord stops) = refl
-named_is (EachWord stops) = refl
+named_is _ = refl
 
 -- the last field
 pub alone_is : {T : Type 0} (s : FlatForm T) → alone_form (form_of s) ≡ form_of (flat_alone s)
-alone_is not_flat = refl
-alone_is (alternative q value) = refl
-alone_is (single k q group gap) = refl
 alone_is (complete k q value) = ap Product (named_is k)
 alone_is (product true q fields) = refl
-alone_is (product false q fields) = refl
+alone_is _ = refl
 
 -- a constructor
 pub con_is : {A B : Type 0} (f : Closure A B) (s : FlatForm A)
     → made_form (form_of s) ≡ form_of (flat_con f s)
 con_is f not_flat = refl
-con_is f (alternative q value) = refl
-con_is f (single k q group gap) = refl
-con_is f (complete k q value) = refl
-con_is f (product named q fields) = refl
+con_is f _ = refl
 
 -- a choice of one alone
 pub only_is : {T : Type 0} (s : FlatForm T)
     → alternative_form (form_of s) ≡ form_of (alternative_only s)
 only_is not_flat = refl
-only_is (alternative q value) = refl
-only_is (single k q group gap) = refl
-only_is (complete k q value) = refl
-only_is (product named q fields) = refl
-
--- a choice of two whose keys are apart
-either_is : {T : Type 0} (s t : FlatForm T)
-    → joined_form true (form_of s) (form_of t) ≡ form_of (flat_either s t)
-either_is (alternative q value) (alternative r other) = refl
-either_is _ _ = refl
+only_is _ = refl
 
 -- a choice of two
 pub choice_is : {T : Type 0} (own others : List Names) (s t : FlatForm T)
     → joined_form (are_all_apart own others) (form_of s) (form_of t)
     ≡ form_of (flat_choice own others s t)
-choice_is own others s t = joined_is (are_all_apart own others)
+choice_is own others (alternative q value) (alternative r other) = by_test (are_all_apart own others)
   where
-    joined_is : (apart : Bool)
-        → joined_form apart (form_of s) (form_of t) ≡ form_of (only_if apart (flat_either s t))
-    joined_is true = either_is s t
-    joined_is false = refl
+    by_test : (apart : Bool) → joined_form apart Alternative Alternative
+        ≡ form_of (only_if apart (alternative (either q r) (either_value q value other)))
+    by_test true = refl
+    by_test false = refl
+choice_is own others _ _ = not_joined _ _ refl (are_all_apart own others)
+  where
+    not_joined : (s t : Form) → joined_form true s t ≡ NotFlat → (apart : Bool)
+        → joined_form apart s t ≡ NotFlat
+    not_joined s t none true = none
+    not_joined s t none false = refl
 
 -- where a test holds
 if_is : {T : Type 0} (b : Bool) (s : FlatForm T) → form_if b (form_of s) ≡ form_of (only_if b s)
@@ -170,10 +138,9 @@ stands : (k : FieldKind) (own others : List Names)
     → may_stand (kind_of k) (are_all_apart own others) (list_all (λ names. false) others)
     ≡ may_follow k own others
 stands ByName own others = refl
-stands (OneWord stops) own [] = refl
 stands (OneWord stops) own (names ∷ others) = refl
-stands (EachWord stops) own [] = refl
 stands (EachWord stops) own (names ∷ others) = refl
+stands _ own [] = refl
 
 -- a field before others
 pub both_is : {A B : Type 0} (own others : List Names) (s : FlatForm A) (t : FlatForm B)

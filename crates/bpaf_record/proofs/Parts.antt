@@ -1,7 +1,7 @@
 -- What the combinators make of a part of a program.
-use Rattle.std.proofs.Common.{◌≡◌, ℕ, ◌+◌, ◌<◌, ◌≤◌, Bool, true, false, not, ◌&&◌, ◌||◌, List, [], ◌∷◌}
-use Rattle.std.proofs.Common.{◌++◌, length, take, drop, flat_map, slice_index_or, refl, sym, ap}
-use Rattle.std.proofs.Common.{◌∙◌, ap₂, arith, append-nil, if◌then◌else◌}
+use Rattle.std.proofs.Common.{◌≡◌, ℕ, ◌+◌, ◌<◌, ◌≤◌, Bool, true, false, not, ◌&&◌, ◌||◌, List, []}
+use Rattle.std.proofs.Common.{◌∷◌, ◌++◌, length, take, drop, flat_map, slice_index_or, refl, sym}
+use Rattle.std.proofs.Common.{ap, ◌∙◌, ap₂, arith, append-nil, if◌then◌else◌}
 use Rattle.std.specs.List.{list_all}
 use Rattle.std.proofs.lemmas.List.{drop_all, drop_more, take_more}
 use Rattle.std.proofs.lemmas.List.Concat.{flat_map-append}
@@ -9,8 +9,7 @@ use Rattle.std.proofs.lemmas.List.Folds.{list_all-append}
 use Rattle.bpaf_doc.specs.Names.{Names}
 use Rattle.bpaf_laws.specs.Command.{Called, opening_words}
 use Rattle.bpaf_exact.specs.Flat.{ByName, OneWord, EachWord, ReadOff}
-use Rattle.bpaf_exact.specs.FlatForm.{FlatForm, complete}
-use Rattle.bpaf_exact.specs.FlatForm.{flat_record, is_record, product_reading}
+use Rattle.bpaf_exact.specs.FlatForm.{FlatForm, complete, flat_record, is_record, product_reading}
 use Rattle.bpaf_exact.specs.FlatForm.{product_roles}
 use Rattle.bpaf_exact.specs.Names.{are_all_apart}
 use Rattle.bpaf_exact.specs.ProgramForm.{ProgramForm, no_program, plain, commands, left_out}
@@ -30,10 +29,9 @@ use Rattle.bpaf_record.specs.declared.part.ProgramPart.TheVariants.{BeforeComman
 use Rattle.bpaf_record.specs.Commands.{keys_inside}
 use Rattle.bpaf_record.specs.Form.{form_of, is_record_form}
 use Rattle.bpaf_record.specs.Part.{part_of, part_if, flat_part, closed_part, completed_part}
-use Rattle.bpaf_record.specs.Part.{dressed_part}
-use Rattle.bpaf_record.specs.Part.{optional_part, chosen_part, first_part, is_program_part}
-use Rattle.bpaf_record.specs.Part.{command_part, field_part, last_part, before_part, made_part}
-use Rattle.bpaf_record.specs.Part.{parts_rest}
+use Rattle.bpaf_record.specs.Part.{dressed_part, optional_part, chosen_part, first_part}
+use Rattle.bpaf_record.specs.Part.{is_program_part, command_part, field_part, last_part}
+use Rattle.bpaf_record.specs.Part.{before_part, made_part, parts_rest}
 use Rattle.bpaf_record.proofs.Forms.{alone_is, both_is, choice_is, closed_is, con_is, fallback_is}
 use Rattle.bpaf_record.proofs.Forms.{field_is, last_is, listed_unless, only_is, optional_unless}
 use Rattle.bpaf_record.proofs.Forms.{product_is, record_is}
@@ -47,57 +45,40 @@ if_is false s = refl
 -- a closure
 pub closed_part_is : {A B : Type 0} (f : Closure A B) (s : ProgramForm A)
     → closed_part (part_of s) ≡ part_of (program_closed f s)
-closed_part_is f no_program = refl
 closed_part_is f (plain wide s) = ap (Flat wide) (closed_is f s)
-closed_part_is f (commands r value) = refl
-closed_part_is f (left_out r value) = refl
-closed_part_is f (before_commands r value) = refl
+closed_part_is f _ = refl
 
 -- another look
 pub dressed_part_is : {T : Type 0} (s : ProgramForm T)
     → dressed_part (part_of s) ≡ part_of (program_dressed s)
-dressed_part_is no_program = refl
 dressed_part_is (plain wide s) = ap (λ other. Flat (wide || other) (form_of s)) (product_is s)
-dressed_part_is (commands r value) = refl
-dressed_part_is (left_out r value) = refl
-dressed_part_is (before_commands r value) = refl
+dressed_part_is _ = refl
 
 -- what is made of a repeat
 pub repeat_part_is : {T B : Type 0} (catch : Bool) (f : Closure (List T) B) (s : ProgramForm T)
     → completed_part catch (part_of s) ≡ part_of (program_repeat catch f s)
-repeat_part_is catch f no_program = refl
 repeat_part_is catch f (plain wide s) = ap (Flat wide) (listed_unless catch f s)
-repeat_part_is catch f (commands r value) = refl
-repeat_part_is catch f (left_out r value) = refl
-repeat_part_is catch f (before_commands r value) = refl
+repeat_part_is catch f _ = refl
 
 -- its last value
 pub last_part_is : {T : Type 0} (s : ProgramForm T)
     → completed_part false (part_of s) ≡ part_of (program_last s)
-last_part_is no_program = refl
 last_part_is (plain wide s) = ap (Flat wide) (last_is s)
-last_part_is (commands r value) = refl
-last_part_is (left_out r value) = refl
-last_part_is (before_commands r value) = refl
+last_part_is _ = refl
 
 -- a default
 pub fallback_part_is : {T : Type 0} (f : Closure (Unit {0}) T) (s : ProgramForm T)
     → completed_part false (part_of s) ≡ part_of (program_fallback f s)
-fallback_part_is f no_program = refl
 fallback_part_is f (plain wide s) = ap (Flat wide) (fallback_is f s)
-fallback_part_is f (commands r value) = refl
-fallback_part_is f (left_out r value) = refl
-fallback_part_is f (before_commands r value) = refl
+fallback_part_is f _ = refl
 
 -- what may be left out
 pub optional_part_is : {T : Type 0} (catch : Bool) (s : ProgramForm T)
     → optional_part catch (part_of s) ≡ part_of (program_optional catch s)
-optional_part_is catch no_program = refl
 optional_part_is catch (plain wide s) = ap (Flat wide) (optional_unless catch s)
 optional_part_is true (commands r value) = refl
 optional_part_is false (commands r value) = refl
-optional_part_is catch (left_out r value) = refl
-optional_part_is catch (before_commands r value) = refl
+optional_part_is catch _ = refl
 
 -- a choice of two
 pub choice_part_is : {T : Type 0} (own others : List Names) (words more : List (List ℕ))
@@ -112,29 +93,19 @@ choice_part_is own others words more _ _ = refl
 
 -- a choice of one alone
 first_part_is : {T : Type 0} (s : ProgramForm T) → first_part (part_of s) ≡ part_of (first_only s)
-first_part_is no_program = refl
 first_part_is (plain wide s) = ap (Flat wide) (only_is s)
-first_part_is (commands r value) = refl
-first_part_is (left_out r value) = refl
-first_part_is (before_commands r value) = refl
+first_part_is _ = refl
 
 -- a flat record
 pub record_part_is : {T : Type 0} (s : ProgramForm T)
     → is_record_form (flat_part (part_of s)) ≡ is_record (flat_form s)
-record_part_is no_program = refl
-record_part_is (plain true s) = refl
 record_part_is (plain false s) = record_is s
-record_part_is (commands r value) = refl
-record_part_is (left_out r value) = refl
-record_part_is (before_commands r value) = refl
+record_part_is _ = refl
 
 -- a program
 pub program_part_is : {T : Type 0} (s : ProgramForm T) → is_program_part (part_of s) ≡ is_program s
-program_part_is no_program = refl
 program_part_is (plain wide s) = record_is s
-program_part_is (commands r value) = refl
-program_part_is (left_out r value) = refl
-program_part_is (before_commands r value) = refl
+program_part_is _ = refl
 
 -- a command over no program
 over_none : (b : Bool) → part_if (b && false) Commands ≡ NoPart
@@ -191,12 +162,9 @@ keys_entered test false names b e = refl
 
 -- a field of a product
 field_part_is : {T : Type 0} (s : ProgramForm T) → field_part (part_of s) ≡ part_of (program_field s)
-field_part_is no_program = refl
 field_part_is (plain wide s) =
     ap₂ (λ other form. Flat (wide || other) form) (product_is s) (field_is s)
-field_part_is (commands r value) = refl
-field_part_is (left_out r value) = refl
-field_part_is (before_commands r value) = refl
+field_part_is _ = refl
 
 -- the last field
 pub alone_part_is : {T : Type 0} (s : ProgramForm T)
@@ -204,11 +172,8 @@ pub alone_part_is : {T : Type 0} (s : ProgramForm T)
 alone_part_is {T} s = ap last_part (field_part_is s) ∙ by_field (program_field s)
   where
     by_field : (s : ProgramForm T) → last_part (part_of s) ≡ part_of (program_alone s)
-    by_field no_program = refl
     by_field (plain wide s) = ap (Flat wide) (alone_is s)
-    by_field (commands r value) = refl
-    by_field (left_out r value) = refl
-    by_field (before_commands r value) = refl
+    by_field _ = refl
 
 -- a named field before commands
 named_part_is : {A B : Type 0} (own others : List Names) (wide : Bool) (s : FlatForm A)
@@ -242,11 +207,8 @@ both_part_is {A} {B} own others s t =
 -- a constructor
 pub con_part_is : {A B : Type 0} (f : Closure A B) (s : ProgramForm A)
     → made_part (part_of s) ≡ part_of (program_con f s)
-con_part_is f no_program = refl
 con_part_is f (plain wide s) = ap (Flat wide) (con_is f s)
-con_part_is f (commands r value) = refl
-con_part_is f (left_out r value) = refl
-con_part_is f (before_commands r value) = refl
+con_part_is f _ = refl
 
 -- a choice of what stands before and of parsers
 rest_part_is : {P T : Type 0} (keys : P → List Names) (words : P → List (List ℕ))

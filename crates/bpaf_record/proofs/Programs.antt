@@ -1,5 +1,5 @@
 -- Each answer that the table of a run allows to a program is exact.
-use Rattle.std.proofs.Common.{◌≡◌, ℕ, true, List, Result, Ok, Err, IfOk, refl, subst}
+use Rattle.std.proofs.Common.{◌≡◌, ℕ, true, List, Result, Ok, Err, IfOk, refl, subst, sym}
 use Rattle.bpaf_doc.specs.Names.{Names}
 use Rattle.bpaf_doc.specs.Shape.{Shape}
 use Rattle.bpaf_words.specs.Arguments.{Given}
@@ -13,7 +13,7 @@ use Rattle.bpaf.specs.Run.{RunsWords, ran, no_line as none_there, no_memory as w
 use Rattle.bpaf_exact.specs.ProgramForm.{ProgramForm, ProgramFormLaw, is_program, program_value}
 use Rattle.bpaf_exact.specs.Record.{Accepted, IsAcceptedOrWant, line_cells}
 use Rattle.bpaf_exact.specs.SameParts.{ShowsTheSame}
-use Rattle.bpaf_exact.specs.Variables.{WithVariables}
+use Rattle.bpaf_exact.specs.Flat.{Variables}
 use Rattle.bpaf_exact.proofs.ProgramForm.{runs_as_program}
 use Rattle.std.proofs.lemmas.Bool.{and_parts}
 use Rattle.bpaf_exact.specs.Says.{SaidKind}
@@ -23,12 +23,12 @@ use Rattle.bpaf_record.specs.Program.{AnswersAsProgram, IsProgramValueOf, TellsO
 use Rattle.bpaf_record.specs.Program.{is_whole_program}
 use Rattle.bpaf_record.specs.Record.{answer_of, IsValueOrWant}
 use Rattle.bpaf_record.proofs.OneLine.{never_without, one_context}
-use Rattle.bpaf_record.proofs.Running.{given_variables, run_ran, runs_with}
+use Rattle.bpaf_record.proofs.Running.{given_variables, run_ran}
 use Rattle.bpaf_record.proofs.OnLine.{context_spelled}
 
 module _ (T : Type 0) (outcome : Outcome T) (describes : Shape → Type 0) (info : RunInfo)
     (names : List Names) (words : List (List ℕ)) (form : ProgramForm T) (given : Given)
-    (law : ProgramFormLaw (WithVariables given.env outcome) names words form)
+    (law : ProgramFormLaw given.env outcome names words form)
     (program : is_program form ≡ true) (shows : ShowsTheSame describes) where
   -- a value of the program on the words
   abbrev IsValue : T → Type 0
@@ -56,12 +56,11 @@ module _ (T : Type 0) (outcome : Outcome T) (describes : Shape → Type 0) (info
   pub answers_as_program : (r : Result T ParseFailure) → RunsWords T outcome describes info given r
       → AnswersAsProgram T describes info form given r
   answers_as_program r (ran context answer t is run) =
-      let here = WithVariables given.env outcome in
-      let exact = runs_as_program T here names words form program law context
+      let here = subst (λ env. ProgramFormLaw env outcome names words form)
+      (sym (given_variables info given context is)) law in
+      let exact = runs_as_program T outcome names words form program context here
       (context_spelled info given context is) (answer_of r)
-      (run_ran T here describes info (beginning context) t r
-      (runs_with outcome describes info given.env (beginning context) t r
-      (given_variables info given context is) run)) in
+      (run_ran T outcome describes info (beginning context) t r run) in
       record {
         sound = sound_on context is r exact.0;
         answered = λ texts v there. answer_on context is r (exact.1 v
@@ -84,14 +83,15 @@ is_program_form form names info e = (and_parts (is_program form) _ e).0
 -- a value of an exact answer says what its parser says
 pub tells_of_words : {P T : Type 0} {describes : Shape → Type 0} {info : RunInfo}
     {form : ProgramForm T} {kind : SaidKind} {said : ProgramSaid P T} {p : P}
-    (outcome : Outcome T) {names : List Names} (words : List (List ℕ))
-    → ProgramFormLaw outcome names words form → ProgramSays names form kind said p
+    (env : Variables) (outcome : Outcome T) {names : List Names} (words : List (List ℕ))
+    → ProgramFormLaw env outcome names words form → ProgramSays names form kind said p
     → is_program form ≡ true → {given : Given}
     (r : Result T ParseFailure) → AnswersAsProgram T describes info form given r
     → IfOk r (TellsOfWords describes info form (cells_said said p) given)
-tells_of_words {form = form} outcome words law says is (Ok v) exact =
+tells_of_words {form = form} env outcome words law says is (Ok v) exact =
     let value = exact.sound in record {
       is_value = value;
-      told = program_says outcome words form law says is (line_cells value.context) v value.read;
+      told = program_says env outcome words form law says is (line_cells value.context) v
+          value.read;
     }
-tells_of_words outcome words law says is (Err f) exact = tt
+tells_of_words env outcome words law says is (Err f) exact = tt

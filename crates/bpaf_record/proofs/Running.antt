@@ -1,6 +1,6 @@
 -- Each answer that the table of a run allows to a flat record is exact.
 use Rattle.std.proofs.Common.{◌≡◌, true, List, Some, None, Result, Ok, Err, IfOk, All, IsUtf8, refl}
-use Rattle.std.proofs.Common.{[], ap, subst, ⊎_elim}
+use Rattle.std.proofs.Common.{[], ap, subst, sym, ⊎_elim}
 use Rattle.std.proofs.lemmas.Bool.{and_parts}
 use Rattle.bpaf_doc.specs.Names.{Names}
 use Rattle.bpaf_doc.specs.Shape.{Shape}
@@ -16,7 +16,7 @@ use Rattle.bpaf.specs.Info.{RunInfo}
 use Rattle.bpaf.specs.Known.{IsLineContext}
 use Rattle.bpaf.specs.Run.{Runs, value, leftover, refused, ran, no_line as none_there}
 use Rattle.bpaf.specs.Run.{no_memory as wanted}
-use Rattle.bpaf_exact.specs.Flat.{FieldsLaw, FieldsReading}
+use Rattle.bpaf_exact.specs.Flat.{FieldsLaw, FieldsReading, Variables}
 use Rattle.bpaf_exact.specs.Pieces.{Cut, Roles}
 use Rattle.bpaf_exact.specs.Record.{RunRan, run_value, run_leftover, run_memory, run_refusal}
 use Rattle.bpaf_exact.specs.Record.{IsNoValue, IsAcceptedOrWant, IsExact, RecordValue, line_cells}
@@ -25,12 +25,10 @@ use Rattle.bpaf_exact.specs.FlatForm.{flat_record}
 use Rattle.bpaf_exact.proofs.Classes.{memory_class, not_memory}
 use Rattle.bpaf_exact.proofs.Accepted.{cut_holds_together}
 use Rattle.bpaf_exact.proofs.Exact.{runs_exactly}
-use Rattle.bpaf_exact.proofs.FlatForm.{record_law}
+use Rattle.bpaf_exact.proofs.FlatForm.{record_law, flat_record_law}
 use Rattle.bpaf_exact.proofs.Says.{record_says}
 use Rattle.bpaf_exact.specs.SameParts.{ShowsTheSame}
-use Rattle.bpaf_exact.specs.Variables.{Variables, WithVariables}
 use Rattle.bpaf_exact.specs.Says.{Said, SaidKind, Says}
-use Rattle.bpaf_exact.proofs.FlatForm.{flat_record_law}
 use Rattle.bpaf_exact.proofs.ProgramForm.{record_owns}
 use Rattle.bpaf_exact.proofs.Sharing.{cut_fit}
 use Rattle.bpaf_record.specs.Record.{is_flat_record, answer_of, AnswersExactly, RunsWordsExactly}
@@ -49,18 +47,6 @@ pub given_variables : {describes : Shape → Type 0} (info : RunInfo) (given : G
     (context : Context) → IsLineContext describes info given context → context.env ≡ given.env
 given_variables info given context is = ⊎_elim (λ one. one.2.env)
     (λ any. (any (record { flags = []; arguments = [] })).env) is
-
--- a run in an environment is one of what is answered in it
-pub runs_with : {T : Type 0} (outcome : Outcome T) (describes : Shape → Type 0) (info : RunInfo)
-    (variables : Variables) (s t : Situation) (r : Result T ParseFailure)
-    → s.context.env ≡ variables → Runs T outcome (EndsRun describes info) s r t
-    → Runs T (WithVariables variables outcome) (EndsRun describes info) s r t
-runs_with outcome describes info variables s t r same (value v after o none) =
-    value v after (same, o) none
-runs_with outcome describes info variables s t r same (leftover v left f after o ends) =
-    leftover v left f after (same, o) ends
-runs_with outcome describes info variables s t r same (refused e left f after o ends) =
-    refused e left f after (same, o) ends
 
 module _ (T : Type 0) (outcome : Outcome T) (describes : Shape → Type 0) (info : RunInfo) where
   -- a run that leaves items
@@ -89,7 +75,7 @@ module _ (T : Type 0) (outcome : Outcome T) (describes : Shape → Type 0) (info
 
 module _ (T : Type 0) (outcome : Outcome T) (describes : Shape → Type 0) (info : RunInfo) where
   module _ (names : List Names) (form : FlatForm T) (given : Given)
-      (law : FormLaw (WithVariables given.env outcome) names form)
+      (law : FormLaw given.env outcome names form)
       (flat : is_record form ≡ true) (shows : ShowsTheSame describes) where
     -- a value of the record on words
     abbrev IsValue : T → Type 0
@@ -104,8 +90,8 @@ module _ (T : Type 0) (outcome : Outcome T) (describes : Shape → Type 0) (info
     reading = product_reading (flat_record form)
 
     -- they keep to the laws
-    fields_law : FieldsLaw T (WithVariables given.env outcome) roles reading
-    fields_law = record_law T (WithVariables given.env outcome) names form flat law
+    fields_law : FieldsLaw given.env T outcome roles reading
+    fields_law = record_law given.env T outcome names form flat law
 
     -- the pieces that the words are cut into
     abbrev Line : Type 0
@@ -169,11 +155,10 @@ module _ (T : Type 0) (outcome : Outcome T) (describes : Shape → Type 0) (info
     -- each answer to words is exact
     pub answers_exactly : RunsWordsExactly outcome describes info form given
     answers_exactly r (ran context answer t is run) =
-        let here = WithVariables given.env outcome in
-        let exact = runs_exactly T here names form flat law context (answer_of r)
-        (run_ran T here describes info (beginning context) t r
-        (runs_with outcome describes info given.env (beginning context) t r
-        (given_variables info given context is) run)) in
+        let here = subst (λ env. FormLaw env outcome names form)
+        (sym (given_variables info given context is)) law in
+        let exact = runs_exactly T outcome names form flat context here (answer_of r)
+        (run_ran T outcome describes info (beginning context) t r run) in
         record {
           sound = sound_on context is r exact r refl;
           complete = complete_on context is r exact;
@@ -204,17 +189,18 @@ is_flat_form form names info e = (and_parts (is_record form) _ e).0
 
 -- a value of an exact answer says what its parser says
 pub says_of_words : {T : Type 0} {describes : Shape → Type 0} {info : RunInfo} {form : FlatForm T}
-    {kind : SaidKind} {said : Said T} (outcome : Outcome T) {names : List Names}
-    → is_record form ≡ true → FormLaw outcome names form → Says names form kind said
+    {kind : SaidKind} {said : Said T} (env : Variables) (outcome : Outcome T) {names : List Names}
+    → is_record form ≡ true → FormLaw env outcome names form → Says names form kind said
     → {given : Given} (r : Result T ParseFailure) → AnswersExactly T describes info form given r
     → IfOk r (SaysOfWords describes info form said given)
-says_of_words {T} {form = form} outcome {names} flat law says (Ok v) exact =
+says_of_words {T} {form = form} env outcome {names} flat law says (Ok v) exact =
     let value = exact.sound.is_value in
     record {
       is_value = value;
       told = record_says form says value.read.cut_into v
           (cut_fit (product_roles (flat_record form)) names
-          (record_owns T outcome names form flat (flat_record_law T outcome names form law))
+          (record_owns env T outcome names form flat
+          (flat_record_law env T outcome names form law))
           value.read.cut) value.read.read;
     }
-says_of_words outcome flat law says (Err f) exact = tt
+says_of_words env outcome flat law says (Err f) exact = tt

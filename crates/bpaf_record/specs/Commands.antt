@@ -16,16 +16,13 @@ use Rattle.bpaf.specs.Ending.{EndsRun, memory, usage, passed_on, refused as told
 use Rattle.bpaf.specs.Ending.{leftover as told_leftover}
 use Rattle.bpaf.specs.Info.{RunInfo}
 use Rattle.bpaf.specs.Run.{Runs, value as ran_value, leftover, refused}
-use Rattle.bpaf_exact.specs.Flat.{class_of}
+use Rattle.bpaf_exact.specs.Flat.{class_of, Variables}
 use Rattle.bpaf_exact.specs.Programs.{CommandEval, command_value, command_leftover, command_refused}
 use Rattle.bpaf_exact.specs.Programs.{command_missing, command_memory}
 use Rattle.bpaf_exact.proofs.Classes.{not_memory}
 use Rattle.bpaf_exact.proofs.Narrow.{no_more}
 use Rattle.bpaf_exact.specs.ProgramForm.{ProgramForm, ProgramFormLaw, program_command}
-use Rattle.bpaf_exact.specs.Variables.{Variables, WithVariables}
-use Rattle.bpaf_exact.proofs.Environments.{command_with}
-use Rattle.bpaf_exact.proofs.ProgramForm.{program_command_law}
-use Rattle.bpaf_exact.proofs.Variables.{kept}
+use Rattle.bpaf_exact.proofs.ProgramForm.{program_command_law, kept}
 use Rattle.bpaf.specs.Leftover.{IsLeftover, conflict, only_once, not_expected}
 use Rattle.bpaf_line.specs.declared.error.Message.{Message}
 use Rattle.bpaf_exact.proofs.Counts.{open_counted}
@@ -96,30 +93,25 @@ module _ (T : Type 0) (inner : Outcome T) (describes : Shape → Type 0) (info :
   command_eval s t r (no_memory e p at h) = command_memory (ap class_of h)
 
 -- A plain command keeps to the law of its form, where what runs behind its word does.
-pub plain_command_law : (T : Type 0) (inner : Outcome T) (describes : Shape → Type 0)
-    (info : RunInfo) (called : Called) (shows : Part → Type 0) (apart : Bool)
-    (names : List Names) (words : List (List ℕ)) (form : ProgramForm T)
-    → ProgramFormLaw inner names words form
-    → ProgramFormLaw (CommandOutcome T inner (EndsRun describes info) called shows) names
+pub plain_command_law : (env : Variables) (T : Type 0) (inner : Outcome T)
+    (describes : Shape → Type 0) (info : RunInfo) (called : Called) (shows : Part → Type 0)
+    (apart : Bool) (names : List Names) (words : List (List ℕ)) (form : ProgramForm T)
+    → ProgramFormLaw env inner names words form
+    → ProgramFormLaw env (CommandOutcome T inner (EndsRun describes info) called shows) names
     (opening_words called) (program_command false apart called form)
-plain_command_law T inner describes info called shows apart names words form l =
-    kept (no_more (λ s t r o. command_eval T inner describes info called shows s t r o)) names
+plain_command_law env T inner describes info called shows apart names words form l =
+    kept env (no_more (λ s t r o. command_eval T inner describes info called shows s t r o)) names
     (opening_words called) (program_command false apart called form)
-    (program_command_law T inner apart called names words form l)
+    (program_command_law env T inner apart called names words form l)
 
--- So it does in an environment; an adjacent one has none.
-pub either_command_law : (T : Type 0) (inner : Outcome T) (describes : Shape → Type 0)
-    (info : RunInfo) (called : Called) (shows : Part → Type 0) (adjacent apart : Bool)
-    (names : List Names) (words : List (List ℕ)) (variables : Variables) (form : ProgramForm T)
-    → ProgramFormLaw (WithVariables variables inner) names words form
-    → ProgramFormLaw (WithVariables variables
-    (EitherCommandOutcome adjacent T inner (EndsRun describes info) called shows)) names
+-- An adjacent one has none.
+pub either_command_law : (env : Variables) (T : Type 0) (inner : Outcome T)
+    (describes : Shape → Type 0) (info : RunInfo) (called : Called) (shows : Part → Type 0)
+    (adjacent apart : Bool) (names : List Names) (words : List (List ℕ)) (form : ProgramForm T)
+    → ProgramFormLaw env inner names words form
+    → ProgramFormLaw env
+    (EitherCommandOutcome adjacent T inner (EndsRun describes info) called shows) names
     (opening_words called) (program_command adjacent apart called form)
-either_command_law T inner describes info called shows true apart names words variables form l = tt
-either_command_law T inner describes info called shows false apart names words variables form l =
-    let command = program_command false apart called form in
-    kept (no_more (λ s t r o.
-    (o.0, command_eval T inner describes info called shows s t r o.1))) names
-    (opening_words called) command
-    (kept (command_with variables inner called) names (opening_words called) command
-    (program_command_law T (WithVariables variables inner) apart called names words form l))
+either_command_law env T inner describes info called shows true apart names words form l = tt
+either_command_law env T inner describes info called shows false apart names words form l =
+    plain_command_law env T inner describes info called shows apart names words form l

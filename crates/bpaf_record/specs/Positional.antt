@@ -8,7 +8,7 @@ use Rattle.bpaf_line.specs.declared.error.Message.{Message}
 use Rattle.bpaf_line.specs.declared.error.Message.TheVariants.{Memory, Missing, ParseFailed}
 use Rattle.bpaf_line.specs.declared.error.Message.TheVariants.{StrictPos, NonStrictPos}
 use Rattle.bpaf_line.specs.Situation.{Situation}
-use Rattle.bpaf_exact.specs.Flat.{OneWord, class, class_of, is_behind}
+use Rattle.bpaf_exact.specs.Flat.{OneWord, class, class_of, is_behind, Variables}
 use Rattle.bpaf_exact.specs.Leaves.{SideValue, WordValue, WordEval, word_by, word_fault}
 use Rattle.bpaf_exact.specs.Leaves.{word_memory, word_missing, word_passed, word_read}
 use Rattle.bpaf_exact.specs.FlatForm.{FlatForm, FormLaw}
@@ -129,13 +129,14 @@ module _ (T : Type 0) (means : List ℕ → T → Type 0) (position : Position) 
   word_within s t (Err e) o = refusals s t e e.0 refl o
 
 -- a positional word keeps to the laws of its form
-pub positional_field_law : (T : Type 0) (means : List ℕ → T → Type 0) (position : Position)
-    (metavar : List ℕ)
-    → FormLaw (PositionalOutcome means position metavar) [] (positional_field means position)
-positional_field_law T means position metavar =
-    narrower_form T _ _ (no_more (word_within T means position metavar)) []
+pub positional_field_law : (env : Variables) (T : Type 0) (means : List ℕ → T → Type 0)
+    (position : Position) (metavar : List ℕ)
+    → FormLaw env (PositionalOutcome means position metavar) [] (positional_field means position)
+positional_field_law env T means position metavar =
+    narrower_form env T _ _ (no_more (word_within T means position metavar)) []
     (positional_field means position)
-    (word_by_law T (stops_at position) (PositionValue means position) (value_before means position))
+    (word_by_law env T (stops_at position) (PositionValue means position)
+    (value_before means position))
 
 -- its value says what its word's text means, and on which side it stands
 pub positional_says : {T : Type 0} (means : List ℕ → T → Type 0) (position : Position)

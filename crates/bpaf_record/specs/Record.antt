@@ -65,7 +65,7 @@ pub record PiecesOf {T : Type 0} (describes : Shape → Type 0) (info : RunInfo)
   pub cut_into : List LinePiece
   pub cut : Cut (product_roles (flat_record form)) (line_cells context) cut_into
 
--- each field of the record has a value on its share of these
+-- each field of the record has a value on its portion of these
 abbrev pub EachHasValue : {T : Type 0} → FlatForm T → List LinePiece → Type 0
 EachHasValue form = (product_reading (flat_record form)).each
 
@@ -79,7 +79,7 @@ pub record AnswersExactly (T : Type 0) (describes : Shape → Type 0) (info : Ru
     (form : FlatForm T) (given : Given) (r : Result T ParseFailure) : Type 0 where
   -- it is a value only where that is one of the record's, on a line that holds together
   pub sound : IfOk r (HasWholeLine describes info form given)
-  -- where each field has a value on its share of the pieces, it is one of the record's, made of
+  -- where each field has a value on its portion of the pieces, it is one of the record's, made of
   -- such, or want of memory
   pub complete : All IsUtf8 given.words → (line : PiecesOf describes info form given)
       → EachHasValue form line.cut_into → IsValueOrWant (IsValueOf describes info form given) r

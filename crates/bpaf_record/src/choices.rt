@@ -2,7 +2,7 @@
 ghost use Rattle.std.specs.Prelude.{◌≡◌, ◌≤◌, length, take, drop, flat_map, true};
 ghost use Rattle.std.specs.List.{list_all};
 ghost use Rattle.bpaf_exact.specs.ProgramForm.{program_choices};
-ghost use Rattle.bpaf_exact.specs.Variables.{Variables};
+ghost use Rattle.bpaf_exact.specs.Flat.{Variables};
 ghost use Rattle.bpaf_record.specs.Part.{part_of, parts_rest};
 
 use crate::field::{FlatField, ProgramField};
@@ -15,8 +15,6 @@ use std::marker::PhantomData;
 /// Of required flags and arguments alone, whose names are apart; or of commands alone, whose words
 /// are.
 impl<T: Drop, A: ProgramField<T>, B: ProgramField<T>> ProgramField<T> for ParseOrElse<A, B> {
-    ghost use Rattle.bpaf_exact.proofs.Variables.{kept};
-    ghost use Rattle.bpaf_exact.proofs.Environments.{choice_with};
     ghost use Rattle.std.specs.Prelude.{◌++◌};
     ghost use Rattle.bpaf_exact.specs.Flat.{ByName};
     ghost use Rattle.bpaf_exact.specs.Says.{of_kind};
@@ -71,10 +69,9 @@ impl<T: Drop, A: ProgramField<T>, B: ProgramField<T>> ProgramField<T> for ParseO
     }
 
     ghost law = { λ p a variables.
-        kept (choice_with variables (A.outcome p.this) (B.outcome p.that)) _ _ _
-        (program_choice_law T _ _ (A.keys p.this true) (B.keys p.that true) (A.words p.this)
-        (B.words p.that) (A.program_form p.this variables) (B.program_form p.that variables)
-        (A.law p.this a.0 variables) (B.law p.that a.1 variables)) };
+        program_choice_law variables T _ _ (A.keys p.this true) (B.keys p.that true)
+        (A.words p.this) (B.words p.that) (A.program_form p.this variables)
+        (B.program_form p.that variables) (A.law p.this a.0 variables) (B.law p.that a.1 variables) };
 
     ghost shows = { λ p. choice_shows (A.shows p.this) (B.shows p.that) };
 
@@ -157,9 +154,6 @@ fn join_all<T, P: ProgramField<T>>(parsers: &[P]) -> ProgramPart
 /// Of required flags and arguments alone, whose names are apart; or of commands alone, whose words
 /// are. A choice of none is nothing.
 impl<T: Drop, P: ProgramField<T> + Drop> ProgramField<T> for ParseChoice<P> {
-    ghost use Rattle.bpaf_exact.specs.Variables.{WithVariables};
-    ghost use Rattle.bpaf_exact.proofs.Variables.{kept};
-    ghost use Rattle.bpaf_exact.proofs.Environments.{choices_with};
     ghost use Rattle.bpaf_exact.specs.Flat.{ByName};
     ghost use Rattle.bpaf_exact.specs.Says.{of_kind};
     ghost use Rattle.bpaf_exact.specs.FlatForm.{EachAgrees};
@@ -195,10 +189,9 @@ impl<T: Drop, P: ProgramField<T> + Drop> ProgramField<T> for ParseChoice<P> {
     }
 
     ghost law = { λ p a variables.
-        kept (choices_with variables P.outcome p.parsers.items) _ _ _
-        (program_choices_law _ T (λ q. WithVariables variables (P.outcome q)) (λ q. P.keys q true)
+        program_choices_law variables _ T P.outcome (λ q. P.keys q true)
         P.words (λ q. P.program_form q variables) P.agrees (λ q b. P.law q b variables)
-        p.parsers.items a) };
+        p.parsers.items a };
 
     ghost shows = { λ p. choices_show P.describes P.shows p.parsers.items };
 

@@ -10,8 +10,6 @@ use std::fmt::Display;
 
 /// A closure that never refuses needs no premise.
 impl<T, R, P: ProgramField<T>, F: Fn(T) -> R> ProgramField<R> for ParseMap<T, P, F, R> {
-    ghost use Rattle.bpaf_exact.proofs.Variables.{kept};
-    ghost use Rattle.bpaf_exact.proofs.Environments.{map_with};
     ghost use Rattle.bpaf_exact.specs.Wrappers.{map_closure};
     ghost use Rattle.bpaf_exact.specs.ProgramForm.{program_closed};
     ghost use Rattle.bpaf_exact.specs.ProgramSays.{said_closed};
@@ -47,9 +45,8 @@ impl<T, R, P: ProgramField<T>, F: Fn(T) -> R> ProgramField<R> for ParseMap<T, P,
     }
 
     ghost law = { λ p a variables.
-        kept (map_with variables (P.outcome p.inner) (λ x y. F.post p.map_fn x y)) _ _ _
-        (map_law T R _ (λ x y. F.post p.map_fn x y) (P.keys p.inner true) (P.words p.inner)
-        (P.program_form p.inner variables) (P.law p.inner a variables)) };
+        map_law variables T R _ (λ x y. F.post p.map_fn x y) (P.keys p.inner true) (P.words p.inner)
+        (P.program_form p.inner variables) (P.law p.inner a variables) };
 
     ghost shows = { λ p. P.shows p.inner };
 
@@ -63,9 +60,7 @@ impl<T, R, P: FlatField<T>, F> FlatField<R> for ParseMap<T, P, F, R> {}
 /// present.
 impl<T, R, E: Display + Drop, P: ProgramField<T>, F: Fn(T) -> Result<R, E>> ProgramField<R>
     for ParseWith<T, P, F, E, R> {
-    ghost use Rattle.bpaf_exact.specs.Variables.{Variables};
-    ghost use Rattle.bpaf_exact.proofs.Variables.{kept};
-    ghost use Rattle.bpaf_exact.proofs.Environments.{parse_with};
+    ghost use Rattle.bpaf_exact.specs.Flat.{Variables};
     ghost use Rattle.bpaf_exact.specs.Wrappers.{parse_closure};
     ghost use Rattle.bpaf_exact.specs.ProgramForm.{program_closed, ProgramAgrees};
     ghost use Rattle.bpaf_exact.specs.ProgramSays.{said_closed};
@@ -103,11 +98,9 @@ impl<T, R, E: Display + Drop, P: ProgramField<T>, F: Fn(T) -> Result<R, E>> Prog
     }
 
     ghost law = { λ p a variables.
-        kept (parse_with variables (P.outcome p.inner) (λ x y. F.post p.parse_fn x y) E.output)
-        _ _ _
-        (parse_law T R _ _ (λ x y. F.post p.parse_fn x y) E.output (P.keys p.inner true)
+        parse_law variables T R _ _ (λ x y. F.post p.parse_fn x y) E.output (P.keys p.inner true)
         (P.words p.inner) (P.program_form p.inner variables) (a.1 variables)
-        (P.law p.inner a.0 variables)) };
+        (P.law p.inner a.0 variables) };
 
     ghost shows = { λ p. P.shows p.inner };
 
@@ -120,9 +113,7 @@ impl<T, R, E: Display + Drop, P: FlatField<T>, F> FlatField<R> for ParseWith<T, 
 /// Whether the check is true has to depend on the pieces alone, or round commands on what is
 /// present.
 impl<'m, T: Drop, P: ProgramField<T>, F: Fn(&T) -> bool> ProgramField<T> for ParseGuard<'m, P, F> {
-    ghost use Rattle.bpaf_exact.specs.Variables.{Variables};
-    ghost use Rattle.bpaf_exact.proofs.Variables.{kept};
-    ghost use Rattle.bpaf_exact.proofs.Environments.{guard_with};
+    ghost use Rattle.bpaf_exact.specs.Flat.{Variables};
     ghost use Rattle.std.specs.Fn.{FnReturnsAt};
     ghost use Rattle.bpaf_exact.specs.Wrappers.{guard_closure};
     ghost use Rattle.bpaf_exact.specs.ProgramForm.{program_closed, ProgramAgrees};
@@ -161,11 +152,9 @@ impl<'m, T: Drop, P: ProgramField<T>, F: Fn(&T) -> bool> ProgramField<T> for Par
     }
 
     ghost law = { λ p a variables.
-        kept (guard_with variables (P.outcome p.inner) (FnReturnsAt F.Fn p.check) p.message.now)
-        _ _ _
-        (guard_law T _ (FnReturnsAt F.Fn p.check) p.message.now (P.keys p.inner true)
+        guard_law variables T _ (FnReturnsAt F.Fn p.check) p.message.now (P.keys p.inner true)
         (P.words p.inner) (P.program_form p.inner variables) (a.1 variables)
-        (P.law p.inner a.0 variables)) };
+        (P.law p.inner a.0 variables) };
 
     ghost shows = { λ p. P.shows p.inner };
 

@@ -13,7 +13,7 @@ pub trait CommandLine<T> {
     ghost use Rattle.bpaf_line.specs.declared.failure.ParseFailure.{ParseFailure};
     ghost use Rattle.bpaf_words.specs.Arguments.{Given};
     ghost use Rattle.bpaf.specs.Run.{IsNotWant};
-    ghost use Rattle.bpaf_exact.specs.Variables.{Variables};
+    ghost use Rattle.bpaf_exact.specs.Flat.{Variables};
 
     /// Whether they are a program, where the environment has some variables.
     ghost is_whole: { Self → Variables → Bool };

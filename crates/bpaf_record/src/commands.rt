@@ -11,7 +11,6 @@ use bpaf::parsers::ParseCommand;
 /// A plain command over a program whose own keys are apart from those of its help and version. Its
 /// words aren't empty, and none begins with a dash. An adjacent command is nothing to a program.
 impl<T: Drop, P: ProgramField<T>> ProgramField<T> for ParseCommand<T, P> {
-    ghost use Rattle.bpaf_exact.specs.Variables.{WithVariables};
     ghost use Rattle.bpaf_laws.specs.Command.{CommandPart, opening_words};
     ghost use Rattle.bpaf_exact.specs.Flat.{ByName};
     ghost use Rattle.bpaf_exact.specs.Says.{of_kind};
@@ -57,16 +56,16 @@ impl<T: Drop, P: ProgramField<T>> ProgramField<T> for ParseCommand<T, P> {
         names_pass(&self.names, test)
     }
 
-    ghost law = { λ p a variables. either_command_law T (P.outcome p.inner)
+    ghost law = { λ p a variables. either_command_law variables T (P.outcome p.inner)
         (P.describes p.inner) p.info p.names (CommandPart p.names p.help (P.describes p.inner))
         p.adjacent (are_unusual (P.keys p.inner false) p.info) (P.keys p.inner true)
-        (P.words p.inner) variables (P.program_form p.inner variables)
+        (P.words p.inner) (P.program_form p.inner variables)
         (P.law p.inner a variables) };
 
     ghost shows = { λ p. command_shows (P.shows p.inner) p.names p.help };
 
-    ghost said = { λ p a variables. program_command_says (λ p. p.inner) p
-        (WithVariables variables (P.outcome p.inner))
+    ghost said = { λ p a variables. program_command_says (λ p. p.inner) p variables
+        (P.outcome p.inner)
         (P.words p.inner) p.adjacent (are_unusual (P.keys p.inner false) p.info) (λ p. p.names)
         (P.law p.inner a variables) (P.said p.inner a variables) };
 }

@@ -10,8 +10,6 @@ use std::fmt::Display;
 
 /// With `catch` it is no flat field, nor optional commands.
 impl<T: Drop, P: ProgramField<T>> ProgramField<Option<T>> for ParseOptional<P> {
-    ghost use Rattle.bpaf_exact.proofs.Variables.{kept};
-    ghost use Rattle.bpaf_exact.proofs.Environments.{turn_with};
     ghost use Rattle.bpaf_exact.proofs.SameParts.{optional_shows};
     ghost use Rattle.bpaf_exact.specs.ProgramForm.{program_optional};
     ghost use Rattle.bpaf_exact.specs.ProgramSays.{said_optional};
@@ -45,9 +43,8 @@ impl<T: Drop, P: ProgramField<T>> ProgramField<Option<T>> for ParseOptional<P> {
     }
 
     ghost law = { λ p a variables.
-        kept (turn_with variables (P.outcome p.inner) p.catch true) _ _ _
-        (optional_law T _ p.catch (P.keys p.inner true) (P.words p.inner)
-        (P.program_form p.inner variables) (P.law p.inner a variables)) };
+        optional_law variables T _ p.catch (P.keys p.inner true) (P.words p.inner)
+        (P.program_form p.inner variables) (P.law p.inner a variables) };
 
     ghost shows = { λ p. optional_shows (P.shows p.inner) };
 
@@ -58,8 +55,6 @@ impl<T: Drop, P: ProgramField<T>> ProgramField<Option<T>> for ParseOptional<P> {
 impl<T: Drop, P: FlatField<T>> FlatField<Option<T>> for ParseOptional<P> {}
 
 impl<T: Clone, P: ProgramField<T>> ProgramField<T> for ParseFallback<P, T> {
-    ghost use Rattle.bpaf_exact.proofs.Variables.{kept};
-    ghost use Rattle.bpaf_exact.proofs.Environments.{fallback_with};
     ghost use Rattle.bpaf_exact.specs.Wrappers.{kept_closure};
     ghost use Rattle.bpaf_laws.specs.Default.{GivesClone};
     ghost use Rattle.bpaf_exact.proofs.SameParts.{default_shows};
@@ -96,9 +91,8 @@ impl<T: Clone, P: ProgramField<T>> ProgramField<T> for ParseFallback<P, T> {
     }
 
     ghost law = { λ p a variables.
-        kept (fallback_with variables (P.outcome p.inner) (GivesClone T.is_clone p.value)) _ _ _
-        (fallback_law T _ T.is_clone p.value (P.keys p.inner true) (P.words p.inner)
-        (P.program_form p.inner variables) (P.law p.inner a variables)) };
+        fallback_law variables T _ T.is_clone p.value (P.keys p.inner true) (P.words p.inner)
+        (P.program_form p.inner variables) (P.law p.inner a variables) };
 
     ghost shows = { λ p. default_shows (P.shows p.inner) p.shown };
 
@@ -111,8 +105,6 @@ impl<T: Clone, P: FlatField<T>> FlatField<T> for ParseFallback<P, T> {}
 /// The closure must not refuse where it may give a value.
 impl<T, E: Display + Drop, P: ProgramField<T>, F: Fn() -> Result<T, E>> ProgramField<T>
     for ParseFallbackWith<T, P, F, E> {
-    ghost use Rattle.bpaf_exact.proofs.Variables.{kept};
-    ghost use Rattle.bpaf_exact.proofs.Environments.{fallback_with};
     ghost use Rattle.bpaf_exact.specs.Wrappers.{Decides, answer_closure};
     ghost use Rattle.bpaf_laws.specs.Default.{GivesAnswer};
     ghost use Rattle.bpaf_exact.proofs.SameParts.{default_shows};
@@ -150,10 +142,8 @@ impl<T, E: Display + Drop, P: ProgramField<T>, F: Fn() -> Result<T, E>> ProgramF
     }
 
     ghost law = { λ p a variables.
-        kept (fallback_with variables (P.outcome p.inner)
-        (GivesAnswer (λ r. F.post p.fallback r) E.output)) _ _ _
-        (fallback_with_law T _ _ (λ r. F.post p.fallback r) E.output (P.keys p.inner true)
-        (P.words p.inner) (P.program_form p.inner variables) a.1 (P.law p.inner a.0 variables)) };
+        fallback_with_law variables T _ _ (λ r. F.post p.fallback r) E.output (P.keys p.inner true)
+        (P.words p.inner) (P.program_form p.inner variables) a.1 (P.law p.inner a.0 variables) };
 
     ghost shows = { λ p. default_shows (P.shows p.inner) p.shown };
 

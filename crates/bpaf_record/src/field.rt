@@ -15,7 +15,7 @@ pub trait ProgramField<T>: Parser<T> {
     ghost use Rattle.bpaf_exact.specs.ProgramForm.{ProgramForm, ProgramFormLaw};
     ghost use Rattle.bpaf_exact.specs.ProgramSays.{ProgramSaid, ProgramSays};
     ghost use Rattle.bpaf_exact.specs.Says.{SaidKind};
-    ghost use Rattle.bpaf_exact.specs.Variables.{Variables, WithVariables};
+    ghost use Rattle.bpaf_exact.specs.Flat.{Variables};
     ghost use Rattle.bpaf_record.specs.Part.{part_of};
 
     /// The names of its flags and arguments, one after the other, with or without those inside its
@@ -54,7 +54,7 @@ pub trait ProgramField<T>: Parser<T> {
 
     /// What it answers and takes depends on what is its own alone, as its form says.
     ghost law: { (p : Self) → agrees p → (variables : Variables)
-        → ProgramFormLaw (WithVariables variables (Self.Parser.outcome p)) (keys p true) (words p)
+        → ProgramFormLaw variables (Self.Parser.outcome p) (keys p true) (words p)
         (program_form p variables) };
 
     /// It shows the same parts, whichever shape it shows, so that words have one line.
@@ -76,7 +76,7 @@ pub trait ProgramFields<V>: Fields<V> {
     ghost use Rattle.bpaf_exact.specs.SameParts.{FieldsShowTheSame};
     ghost use Rattle.bpaf_exact.specs.ProgramForm.{ProgramForm};
     ghost use Rattle.bpaf_exact.specs.ProgramSays.{FieldsKeep, ProgramFieldsSaid};
-    ghost use Rattle.bpaf_exact.specs.Variables.{Variables, WithVariables};
+    ghost use Rattle.bpaf_exact.specs.Flat.{Variables};
     ghost use Rattle.bpaf_record.specs.Part.{part_of};
 
     /// The names of their flags and arguments, one after the other, with or without those inside
@@ -105,7 +105,7 @@ pub trait ProgramFields<V>: Fields<V> {
     /// What they answer and take depends on what is present alone, as their form says, and their
     /// values say so.
     ghost keeps: { (p : Self) → agrees p → (variables : Variables)
-        → FieldsKeep (WithVariables variables (Self.Fields.outcome p)) (keys p true)
+        → FieldsKeep variables (Self.Fields.outcome p) (keys p true)
         (program_form p variables) (says variables) p };
 
     /// They show the same parts, whichever shapes they show.

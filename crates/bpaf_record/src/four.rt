@@ -19,7 +19,6 @@ impl<
 > ProgramFields<FourValues<S, T, U, V, W>> for Four<A, B, C, D, R> {
     ghost use Rattle.bpaf_exact.specs.ProgramSays.{fields_said_inside};
     ghost use Rattle.bpaf_exact.proofs.SameParts.{both_show};
-    ghost use Rattle.bpaf_exact.proofs.Environments.{kept_variables};
     ghost use Rattle.bpaf_exact.proofs.Keeping.{keep_before, keep_inside};
     ghost use Rattle.std.specs.Prelude.{true};
 
@@ -47,22 +46,19 @@ impl<
     }
 
     ghost keeps = { λ p a variables. keep_inside (λ q. q.fields) p
-        (keep_before variables (λ q. q.first) (λ q. q.rest) p.fields _
-        (kept_variables (A.lawful p.fields.first)) (λ q. A.kind q variables) (λ q. A.keys q true)
-        (A.words p.fields.first) _ (A.says variables)
+        (keep_before (λ q. q.first) (λ q. q.rest) p.fields _ (λ q. A.kind q variables)
+        (λ q. A.keys q true) (A.words p.fields.first) _ (A.says variables)
         (A.law p.fields.first a.0 variables) (A.said p.fields.first a.0 variables)
-        (keep_before variables (λ q. q.first) (λ q. q.rest) p.fields.rest _
-        (kept_variables (B.lawful p.fields.rest.first)) (λ q. B.kind q variables)
+        (keep_before (λ q. q.first) (λ q. q.rest) p.fields.rest _ (λ q. B.kind q variables)
         (λ q. B.keys q true) (B.words p.fields.rest.first) _ (B.says variables)
         (B.law p.fields.rest.first a.1.0 variables) (B.said p.fields.rest.first a.1.0 variables)
-        (keep_before variables (λ q. q.first) (λ q. q.rest) p.fields.rest.rest _
-        (kept_variables (C.lawful p.fields.rest.rest.first)) (λ q. C.kind q variables)
+        (keep_before (λ q. q.first) (λ q. q.rest) p.fields.rest.rest _ (λ q. C.kind q variables)
         (λ q. C.keys q true) (C.words p.fields.rest.rest.first) _ (C.says variables)
         (C.law p.fields.rest.rest.first a.1.1.0 variables)
         (C.said p.fields.rest.rest.first a.1.1.0 variables)
-        (keep_before variables (λ q. q.first) (λ q. q.rest) p.fields.rest.rest.rest _
-        (kept_variables (D.lawful p.fields.rest.rest.rest.first)) (λ q. D.kind q variables)
-        (λ q. D.keys q true) (D.words p.fields.rest.rest.rest.first) _ (D.says variables)
+        (keep_before (λ q. q.first) (λ q. q.rest) p.fields.rest.rest.rest _
+        (λ q. D.kind q variables) (λ q. D.keys q true)
+        (D.words p.fields.rest.rest.rest.first) _ (D.says variables)
         (D.law p.fields.rest.rest.rest.first a.1.1.1.0 variables)
         (D.said p.fields.rest.rest.rest.first a.1.1.1.0 variables)
         (R.keeps p.fields.rest.rest.rest.rest a.1.1.1.1 variables))))) };

@@ -135,7 +135,6 @@ impl<T: FromText> FlatField<T> for ParseArgument<T> {}
 /// With `strict` or `non_strict` it may stand in a program, but in no flat record. A repeat or a
 /// default of it with `non_strict` leaves words behind `--` to the fields after it.
 impl<T: FromText> ProgramField<T> for ParsePositional<T> {
-    ghost use Rattle.bpaf_exact.proofs.Variables.{program_with};
     ghost use Rattle.bpaf_exact.specs.Flat.{OneWord};
     ghost use Rattle.bpaf_exact.specs.Says.{of_kind};
     ghost use Rattle.bpaf_exact.specs.Says.{WordSays};
@@ -176,9 +175,7 @@ impl<T: FromText> ProgramField<T> for ParsePositional<T> {
     }
 
     ghost law = { λ p a variables.
-        program_with T _ variables [] [] (plain (is_sided p.position)
-        (positional_field T.means p.position))
-        (positional_field_law T T.means p.position p.metavar.0.now) };
+        positional_field_law variables T T.means p.position p.metavar.0.now };
 
     ghost shows = { λ p. one_shape (positional_shape p.position p.metavar.0.now p.help) };
 
@@ -189,7 +186,6 @@ impl<T: FromText> FlatField<T> for ParsePositional<T> {}
 
 /// A kept value may stand in a program, as a field that takes no piece, but in no flat record.
 impl<T: Clone> ProgramField<T> for ParsePure<T> {
-    ghost use Rattle.bpaf_exact.proofs.Variables.{program_with};
     ghost use Rattle.bpaf_doc.specs.Shape.{Skip};
     ghost use Rattle.bpaf_exact.specs.Flat.{ByName};
     ghost use Rattle.bpaf_exact.specs.Says.{of_kind};
@@ -227,8 +223,7 @@ impl<T: Clone> ProgramField<T> for ParsePure<T> {
     }
 
     ghost law = { λ p a variables.
-        program_with T _ variables [] [] (plain true (pure_field (T.is_clone p.value)))
-        (pure_field_law T T.is_clone p.value) };
+        pure_field_law T T.is_clone p.value };
 
     ghost shows = { λ p. one_shape Skip };
 

@@ -10,7 +10,6 @@ use bpaf::{Both, Last};
 use std::marker::PhantomData;
 
 impl<T: Drop, A: ProgramField<T>> ProgramFields<T> for Last<A> {
-    ghost use Rattle.bpaf_exact.specs.Variables.{WithVariables};
     ghost use Rattle.bpaf_exact.specs.ProgramForm.{program_alone, program_field};
     ghost use Rattle.bpaf_exact.specs.ProgramSays.{said_alone};
     ghost use Rattle.bpaf_exact.proofs.Keeping.{keep_last};
@@ -36,7 +35,7 @@ impl<T: Drop, A: ProgramField<T>> ProgramFields<T> for Last<A> {
     }
 
     ghost keeps = { λ p a variables. keep_last (λ q. q.last) p
-        (WithVariables variables (A.outcome p.last)) (λ q. A.kind q variables)
+        (A.outcome p.last) (λ q. A.kind q variables)
         (λ q. A.keys q true) (A.words p.last) _ (A.says variables)
         (A.law p.last a variables) (A.said p.last a variables) };
 
@@ -48,7 +47,6 @@ impl<T: Drop, A: FlatField<T>> FlatFields<T> for Last<A> {}
 /// Where a named field stands behind a positional one, a positional one before commands, or two
 /// share a name, they are nothing.
 impl<T: Drop, V, A: ProgramField<T>, R: ProgramFields<V>> ProgramFields<(T, V)> for Both<A, R> {
-    ghost use Rattle.bpaf_exact.proofs.Environments.{kept_variables};
     ghost use Rattle.std.specs.Prelude.{◌++◌};
     ghost use Rattle.bpaf_exact.specs.ProgramForm.{program_both, program_field};
     ghost use Rattle.bpaf_exact.specs.ProgramSays.{said_both};
@@ -83,9 +81,8 @@ impl<T: Drop, V, A: ProgramField<T>, R: ProgramFields<V>> ProgramFields<(T, V)> 
         first && rest
     }
 
-    ghost keeps = { λ p a variables. keep_before variables (λ q. q.first) (λ q. q.rest) p _
-        (kept_variables (A.lawful p.first)) (λ q. A.kind q variables) (λ q. A.keys q true)
-        (A.words p.first) _ (A.says variables)
+    ghost keeps = { λ p a variables. keep_before (λ q. q.first) (λ q. q.rest) p _
+        (λ q. A.kind q variables) (λ q. A.keys q true) (A.words p.first) _ (A.says variables)
         (A.law p.first a.0 variables) (A.said p.first a.0 variables)
         (R.keeps p.rest a.1 variables) };
 
@@ -95,9 +92,6 @@ impl<T: Drop, V, A: ProgramField<T>, R: ProgramFields<V>> ProgramFields<(T, V)> 
 impl<T: Drop, V, A: FlatField<T>, R: FlatFields<V>> FlatFields<(T, V)> for Both<A, R> {}
 
 impl<V, T, P: ProgramFields<V>, F: Fn(V) -> T> ProgramField<T> for ParseCon<V, P, F> {
-    ghost use Rattle.bpaf_exact.specs.Variables.{WithVariables};
-    ghost use Rattle.bpaf_exact.proofs.Variables.{kept};
-    ghost use Rattle.bpaf_exact.proofs.Environments.{product_with};
     ghost use Rattle.bpaf_exact.specs.ProgramForm.{program_con};
     ghost use Rattle.bpaf_exact.specs.ProgramSays.{program_kind, said_con};
     ghost use Rattle.bpaf_exact.specs.Wrappers.{map_closure};
@@ -133,14 +127,13 @@ impl<V, T, P: ProgramFields<V>, F: Fn(V) -> T> ProgramField<T> for ParseCon<V, P
     }
 
     ghost law = { λ p a variables.
-        kept (product_with variables (P.outcome p.fields) (λ x y. F.post p.make x y)) _ _ _
-        (program_con_law V T _ (λ x y. F.post p.make x y) (P.keys p.fields true)
-        (P.program_form p.fields variables) (P.keeps p.fields a variables).law) };
+        program_con_law variables V T _ (λ x y. F.post p.make x y) (P.keys p.fields true)
+        (P.program_form p.fields variables) (P.keeps p.fields a variables).law };
 
     ghost shows = { λ p. product_shows (P.shows p.fields) };
 
-    ghost said = { λ p a variables. program_con_says (λ p. p.fields) p
-        (WithVariables variables (P.outcome p.fields))
+    ghost said = { λ p a variables. program_con_says variables (λ p. p.fields) p
+        (P.outcome p.fields)
         (λ q. P.keys q true) (λ p. map_closure (λ x y. F.post p.make x y))
         (P.keeps p.fields a variables).law (P.keeps p.fields a variables).says };
 }

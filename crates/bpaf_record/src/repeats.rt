@@ -10,8 +10,6 @@ use bpaf::parsers::{ParseCollect, ParseCount, ParseLast, ParseMany, ParseSome};
 
 /// With `catch` it is no flat field, nor round another repeat or a default.
 impl<T: Drop, P: ProgramField<T>> ProgramField<Vec<T>> for ParseMany<P> {
-    ghost use Rattle.bpaf_exact.proofs.Variables.{kept};
-    ghost use Rattle.bpaf_exact.proofs.Environments.{kept_variables, many_with};
     ghost use Rattle.bpaf_exact.specs.Says.{repeated_kind};
     ghost use Rattle.bpaf_exact.specs.Gathered.{list_closure};
     ghost use Rattle.bpaf_exact.proofs.SameParts.{many_shows};
@@ -47,10 +45,8 @@ impl<T: Drop, P: ProgramField<T>> ProgramField<Vec<T>> for ParseMany<P> {
     }
 
     ghost law = { λ p a variables.
-        kept (many_with variables (P.outcome p.inner) (kept_variables (P.lawful p.inner))
-        p.catch) _ _ _
-        (many_law T _ p.catch (P.keys p.inner true) (P.words p.inner)
-        (P.program_form p.inner variables) (P.law p.inner a variables)) };
+        many_law variables T _ p.catch (P.keys p.inner true) (P.words p.inner)
+        (P.program_form p.inner variables) (P.law p.inner a variables) };
 
     ghost shows = { λ p. many_shows (P.shows p.inner) };
 
@@ -62,8 +58,6 @@ impl<T: Drop, P: FlatField<T>> FlatField<Vec<T>> for ParseMany<P> {}
 
 /// As `many`.
 impl<'m, T: Drop, P: ProgramField<T>> ProgramField<Vec<T>> for ParseSome<'m, P> {
-    ghost use Rattle.bpaf_exact.proofs.Variables.{kept};
-    ghost use Rattle.bpaf_exact.proofs.Environments.{kept_variables, some_with};
     ghost use Rattle.bpaf_exact.specs.Says.{repeated_kind};
     ghost use Rattle.bpaf_exact.specs.Gathered.{some_closure};
     ghost use Rattle.bpaf_exact.proofs.SameParts.{some_shows};
@@ -99,10 +93,8 @@ impl<'m, T: Drop, P: ProgramField<T>> ProgramField<Vec<T>> for ParseSome<'m, P> 
     }
 
     ghost law = { λ p a variables.
-        kept (some_with variables (P.outcome p.inner) (kept_variables (P.lawful p.inner))
-        p.catch p.message.now) _ _ _
-        (some_law T _ p.catch p.message.now (P.keys p.inner true) (P.words p.inner)
-        (P.program_form p.inner variables) (P.law p.inner a variables)) };
+        some_law variables T _ p.catch p.message.now (P.keys p.inner true) (P.words p.inner)
+        (P.program_form p.inner variables) (P.law p.inner a variables) };
 
     ghost shows = { λ p. some_shows (P.shows p.inner) };
 
@@ -114,8 +106,6 @@ impl<'m, T: Drop, P: FlatField<T>> FlatField<Vec<T>> for ParseSome<'m, P> {}
 
 /// As `many`.
 impl<T: Drop, C: FromList<T> + Drop, P: ProgramField<T>> ProgramField<C> for ParseCollect<P, C, T> {
-    ghost use Rattle.bpaf_exact.proofs.Variables.{kept};
-    ghost use Rattle.bpaf_exact.proofs.Environments.{collect_with, kept_variables};
     ghost use Rattle.bpaf_exact.specs.Says.{repeated_kind};
     ghost use Rattle.bpaf_exact.specs.Gathered.{collect_closure};
     ghost use Rattle.bpaf_exact.proofs.SameParts.{many_shows};
@@ -152,10 +142,8 @@ impl<T: Drop, C: FromList<T> + Drop, P: ProgramField<T>> ProgramField<C> for Par
     }
 
     ghost law = { λ p a variables.
-        kept (collect_with variables (P.outcome p.inner) (kept_variables (P.lawful p.inner))
-        p.catch C.fills) _ _ _
-        (collect_law T C _ p.catch C.fills (P.keys p.inner true) (P.words p.inner)
-        (P.program_form p.inner variables) (P.law p.inner a variables)) };
+        collect_law variables T C _ p.catch C.fills (P.keys p.inner true) (P.words p.inner)
+        (P.program_form p.inner variables) (P.law p.inner a variables) };
 
     ghost shows = { λ p. many_shows (P.shows p.inner) };
 
@@ -167,8 +155,6 @@ impl<T: Drop, C: FromList<T> + Drop, P: ProgramField<T>> ProgramField<C> for Par
 impl<T: Drop, C: FromList<T> + Drop, P: FlatField<T>> FlatField<C> for ParseCollect<P, C, T> {}
 
 impl<T: Drop, P: ProgramField<T>> ProgramField<usize> for ParseCount<P, T> {
-    ghost use Rattle.bpaf_exact.proofs.Variables.{kept};
-    ghost use Rattle.bpaf_exact.proofs.Environments.{count_with, kept_variables};
     ghost use Rattle.bpaf_exact.specs.Says.{repeated_kind};
     ghost use Rattle.bpaf_exact.specs.Gathered.{count_closure};
     ghost use Rattle.bpaf_exact.proofs.SameParts.{many_shows};
@@ -205,9 +191,8 @@ impl<T: Drop, P: ProgramField<T>> ProgramField<usize> for ParseCount<P, T> {
     }
 
     ghost law = { λ p a variables.
-        kept (count_with variables (P.outcome p.inner) (kept_variables (P.lawful p.inner))) _ _ _
-        (count_law T _ (P.keys p.inner true) (P.words p.inner)
-        (P.program_form p.inner variables) (P.law p.inner a variables)) };
+        count_law variables T _ (P.keys p.inner true) (P.words p.inner)
+        (P.program_form p.inner variables) (P.law p.inner a variables) };
 
     ghost shows = { λ p. many_shows (P.shows p.inner) };
 
@@ -218,8 +203,6 @@ impl<T: Drop, P: ProgramField<T>> ProgramField<usize> for ParseCount<P, T> {
 impl<T: Drop, P: FlatField<T>> FlatField<usize> for ParseCount<P, T> {}
 
 impl<T: Drop, P: ProgramField<T>> ProgramField<T> for ParseLast<P> {
-    ghost use Rattle.bpaf_exact.proofs.Variables.{kept};
-    ghost use Rattle.bpaf_exact.proofs.Environments.{kept_variables, last_with};
     ghost use Rattle.bpaf_exact.specs.Says.{repeated_kind};
     ghost use Rattle.bpaf_exact.proofs.SameParts.{some_shows};
     ghost use Rattle.bpaf_exact.specs.ProgramForm.{program_last};
@@ -253,9 +236,8 @@ impl<T: Drop, P: ProgramField<T>> ProgramField<T> for ParseLast<P> {
     }
 
     ghost law = { λ p a variables.
-        kept (last_with variables (P.outcome p.inner) (kept_variables (P.lawful p.inner))) _ _ _
-        (last_law T _ (P.keys p.inner true) (P.words p.inner)
-        (P.program_form p.inner variables) (P.law p.inner a variables)) };
+        last_law variables T _ (P.keys p.inner true) (P.words p.inner)
+        (P.program_form p.inner variables) (P.law p.inner a variables) };
 
     ghost shows = { λ p. some_shows (P.shows p.inner) };
 

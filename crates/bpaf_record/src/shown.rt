@@ -42,7 +42,7 @@ impl<T, P: ProgramField<T>> ProgramField<T> for ParseUsage<P> {
     }
 
     ghost law = { λ p a variables.
-        program_dressed_law T _ (P.keys p.inner true) (P.words p.inner)
+        program_dressed_law variables T _ (P.keys p.inner true) (P.words p.inner)
         (P.program_form p.inner variables) (P.law p.inner a variables) };
 
     ghost shows = { λ p. usage_shows (P.shows p.inner) p.usage };
@@ -86,7 +86,7 @@ impl<T, P: ProgramField<T>> ProgramField<T> for ParseGroupHelp<P> {
     }
 
     ghost law = { λ p a variables.
-        program_dressed_law T _ (P.keys p.inner true) (P.words p.inner)
+        program_dressed_law variables T _ (P.keys p.inner true) (P.words p.inner)
         (P.program_form p.inner variables) (P.law p.inner a variables) };
 
     ghost shows = { λ p. section_shows (P.shows p.inner) p.message };
@@ -100,8 +100,6 @@ impl<T, P: FlatField<T>> FlatField<T> for ParseGroupHelp<P> {}
 /// What isn't shown may stand in a program, with the values that it has, but in no flat record: its
 /// short names aren't known in joined words.
 impl<T, P: ProgramField<T>> ProgramField<T> for ParseHide<P> {
-    ghost use Rattle.bpaf_exact.proofs.Variables.{kept};
-    ghost use Rattle.bpaf_exact.proofs.Environments.{hide_with};
     ghost use Rattle.bpaf_doc.specs.Shape.{Skip};
     ghost use Rattle.bpaf_exact.proofs.SameParts.{one_shape};
     ghost use Rattle.bpaf_exact.specs.ProgramForm.{program_dressed};
@@ -135,9 +133,8 @@ impl<T, P: ProgramField<T>> ProgramField<T> for ParseHide<P> {
     }
 
     ghost law = { λ p a variables.
-        kept (hide_with variables (P.outcome p.inner)) _ _ _
-        (hide_law T _ (P.keys p.inner true) (P.words p.inner) (P.program_form p.inner variables)
-        (P.law p.inner a variables)) };
+        hide_law variables T _ (P.keys p.inner true) (P.words p.inner)
+        (P.program_form p.inner variables) (P.law p.inner a variables) };
 
     ghost shows = { λ p. one_shape Skip };
 

@@ -1,5 +1,5 @@
 use Rattle.std.proofs.Common.{◌≡◌, take, drop, flat_map, true}
-use Rattle.bpaf_exact.specs.Variables.{Variables}
+use Rattle.bpaf_exact.specs.Flat.{Variables}
 use Rattle.bpaf_record.specs.Part.{part_of, parts_rest}
 use Rattle.bpaf_record.proofs.choices.join_rest.Given as goal
 

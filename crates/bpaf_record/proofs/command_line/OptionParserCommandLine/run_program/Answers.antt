@@ -1,6 +1,5 @@
 use Rattle.std.proofs.Common.{true, false}
 use Rattle.bpaf_words.specs.Arguments.{given_of}
-use Rattle.bpaf_exact.specs.Variables.{WithVariables}
 use Rattle.bpaf_record.proofs.Programs.{answers_as_program, is_program_form, tells_of_words}
 use Rattle.bpaf_record.proofs.command_line.OptionParserCommandLine.run_program.Goals as goal
 
@@ -36,7 +35,7 @@ returns-clause-fields g c agrees =
     let program = is_program_form form (g.P.ProgramField.keys parser false)
     c.args.self.now.info c.requires.program in
     let law = g.met.P.ProgramField.law parser agrees given.env in
-    tells_of_words (WithVariables given.env (g.P.Parser.outcome parser))
+    tells_of_words given.env (g.P.Parser.outcome parser)
     (g.P.ProgramField.words parser) law (g.met.P.ProgramField.said parser agrees given.env) program _
     (answers_as_program g.row.T.Denot (g.P.Parser.outcome parser)
     (g.P.Parser.describes parser) c.args.self.now.info (g.P.ProgramField.keys parser true)

@@ -1,7 +1,6 @@
 use Rattle.std.proofs.Common.{true, false}
 use Rattle.bpaf_words.specs.Arguments.{given_of}
 use Rattle.bpaf_exact.specs.ProgramForm.{flat_form}
-use Rattle.bpaf_exact.specs.Variables.{WithVariables}
 use Rattle.bpaf_exact.proofs.ProgramForm.{flat_form_law}
 use Rattle.bpaf_exact.proofs.ProgramSays.{flat_says}
 use Rattle.bpaf_record.proofs.Running.{answers_exactly, is_flat_form, says_of_words}
@@ -12,7 +11,7 @@ returns-clause-each_exact g c agrees r o =
     let parser = c.args.self.now.inner in
     let given = given_of c.args.args in
     let form = g.P.ProgramField.program_form parser given.env in
-    let law = flat_form_law g.row.T.Denot (WithVariables given.env (g.P.Parser.outcome parser))
+    let law = flat_form_law given.env g.row.T.Denot (g.P.Parser.outcome parser)
     (g.P.ProgramField.keys parser true) (g.P.ProgramField.words parser) form
     (g.met.P.ProgramField.law parser agrees given.env) in
     answers_exactly g.row.T.Denot (g.P.Parser.outcome parser)
@@ -27,7 +26,7 @@ returns-clause-exact g c agrees =
     let parser = c.args.self.now.inner in
     let given = given_of c.args.args in
     let form = g.P.ProgramField.program_form parser given.env in
-    let law = flat_form_law g.row.T.Denot (WithVariables given.env (g.P.Parser.outcome parser))
+    let law = flat_form_law given.env g.row.T.Denot (g.P.Parser.outcome parser)
     (g.P.ProgramField.keys parser true) (g.P.ProgramField.words parser) form
     (g.met.P.ProgramField.law parser agrees given.env) in
     answers_exactly g.row.T.Denot (g.P.Parser.outcome parser)
@@ -42,12 +41,12 @@ returns-clause-fields g c agrees =
     let parser = c.args.self.now.inner in
     let given = given_of c.args.args in
     let form = g.P.ProgramField.program_form parser given.env in
-    let here = WithVariables given.env (g.P.Parser.outcome parser) in
-    let law = flat_form_law g.row.T.Denot here (g.P.ProgramField.keys parser true)
+    let law = flat_form_law given.env g.row.T.Denot (g.P.Parser.outcome parser)
+    (g.P.ProgramField.keys parser true)
     (g.P.ProgramField.words parser) form (g.met.P.ProgramField.law parser agrees given.env) in
     let flat = is_flat_form (flat_form form) (g.P.ProgramField.keys parser false)
     c.args.self.now.info c.requires.record in
-    says_of_words here flat law
+    says_of_words given.env (g.P.Parser.outcome parser) flat law
     (flat_says form (g.met.P.ProgramField.said parser agrees given.env)) _
     (answers_exactly g.row.T.Denot (g.P.Parser.outcome parser)
     (g.P.Parser.describes parser) c.args.self.now.info (g.P.ProgramField.keys parser true)
