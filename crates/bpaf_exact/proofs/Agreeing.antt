@@ -64,8 +64,7 @@ module _ {A B : Type 0} (f : Closure A B) (decides : Decides f) where
       made value one x y v w a b this that = respects.same x y v w (one x y a b) this that
 
       by_form : (s : ProgramForm A) → HasOneValue s → HasOneValue (program_closed f s)
-      by_form (plain wide s) one =
-          closed_view A B A B (λ v. v) (λ v. v) f respects s one
+      by_form (plain wide s) one = closed_view A B A B (λ v. v) (λ v. v) f respects s one
       by_form (commands r value) one =
           λ cs v w a b. made (value cs) (one cs) a.from b.from v w a.read b.read a.made b.made
       by_form (left_out r value) one =

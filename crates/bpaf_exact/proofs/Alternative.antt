@@ -43,8 +43,7 @@ front_alone T value o v {left = left} {rest = rest} e means g =
 pub took_front : (T : Type 0) (value : LinePiece → T → Type 0) (k : FieldKind) (q : Roles)
     (s t : Situation) (v : T) (o : LinePiece) → Steady s t → TakesFirst q (cells s) o (cells t)
     → pieces q (cells s) ≡ o ∷ pieces q (cells t) → value o v
-    → (front k (o ∷ pieces q (cells t)) ≡ [] → ⊥)
-    → TookGroup T k q (FrontOf T value) s v t
+    → (front k (o ∷ pieces q (cells t)) ≡ [] → ⊥) → TookGroup T k q (FrontOf T value) s v t
 took_front T value k q s t v o st f e means some =
     let takes = first_takes q f in record {
       steady = st;
@@ -114,8 +113,7 @@ module _ {env : Variables} (A B : Type 0) (inner : Outcome A) (q : Roles)
 
   -- nor can one whose value the closure refuses
   refused_value : (x : A) (o : LinePiece) → value o x → f.no x → (v : B)
-      → ClosedPiece A B value f o v
-      → ⊥
+      → ClosedPiece A B value f o v → ⊥
   refused_value x o g n v c = agrees o c.from x v c.read g c.made n
 
   -- a value that the closure gave
@@ -213,8 +211,7 @@ module _ {env : Variables} (A B : Type 0) (inner : Outcome A) (k : FieldKind) (q
     of_front = λ os v g. record {
       from = g.from;
       read = u.of_front os g.from g.read;
-      made =
-          g.made;
+      made = g.made;
     };
     by_each = λ os v rest g. let a = u.by_each os g.from rest g.read in
         (record { from = g.from; read = a.0; made = g.made }, a.1);

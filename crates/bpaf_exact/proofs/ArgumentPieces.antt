@@ -98,8 +98,7 @@ module _ (T : Type 0) (means : List ℕ → T → Type 0) (argument : KeyWithVal
       → SingleErr T ByName roles group (argument_gap means set) s e t
   variable_fault s t e text same read c none =
       let here = subst (λ z. first_set z argument.named.envs ≡ Some text) same read.set in
-      subst (λ gap. SingleErr T ByName roles group gap s e t)
-      (ap (argument_gap means) (sym here))
+      subst (λ gap. SingleErr T ByName roles group gap s e t) (ap (argument_gap means) (sym here))
       (of_absent c refl (no_key argument s read.no_key) none)
 
   -- without one there is no value

@@ -55,15 +55,13 @@ module _ (T : Type 0) (means : List ℕ → T → Type 0) (argument : KeyWithVal
       cc
 
   -- the text stands behind its key
-  gets_pair : (s t : Situation) (text : List ℕ) → GetsText argument s text t
-      → TookPair q s t text
+  gets_pair : (s t : Situation) (text : List ℕ) → GetsText argument s text t → TookPair q s t text
   gets_pair s t text gets = ⊎_elim (takes_pair argument once s t text)
       (λ variable. absurd (never_set s text variable.set)) gets
 
   -- a value is that of the first piece
   argument_ok : {env : Variables} (s t : Situation) (v : T) → IsWholeIn env s
-      → ArgumentOutcome means argument s (Ok v) t
-      → AlternativeOk T q value s v t
+      → ArgumentOutcome means argument s (Ok v) t → AlternativeOk T q value s v t
   argument_ok s t v w o =
       let m = gets_pair s t o.0 o.1 in
       first_alternative T q value s t v (Two m.key m.word) m.steady
@@ -82,8 +80,7 @@ module _ (T : Type 0) (means : List ℕ → T → Type 0) (argument : KeyWithVal
       let same = subst (λ b. TakesBefore b argument s t) once o.1 in
       let lacks = subst (λ z. LacksText argument z (NoArgument key metavar)) same o.0 in
       let m = match_of (is_key_with_value argument) s key lacks.0.matches in
-      let b = bare_taken (is_key_with_value argument) q s key
-      (test argument) lacks.0 m lacks.1 in
+      let b = bare_taken (is_key_with_value argument) q s key (test argument) lacks.0 m lacks.1 in
       first_refused T q value s t e (One m.item) b.tail c (ap (λ z. z.path) same) b.is (λ v y. y)
   argument_err s t e other c o =
       missing_same T q value s t e
@@ -114,8 +111,7 @@ module _ (T : Type 0) (means : List ℕ → T → Type 0) (argument : KeyWithVal
 
   -- a value is that of the first piece, or of the variable
   variable_ok : (s t : Situation) (v : T) → IsWholeIn variables s
-      → ArgumentOutcome means argument s (Ok v) t
-      → SingleOk T ByName roles group gap s v t
+      → ArgumentOutcome means argument s (Ok v) t → SingleOk T ByName roles group gap s v t
   variable_ok s t v w o = ⊎_elim
       (λ takes. let m = takes_pair argument once s t o.0 takes in
       took (took_front T (ArgumentValue means) ByName roles s t v (Two m.key m.word) m.steady
@@ -134,8 +130,7 @@ module _ (T : Type 0) (means : List ℕ → T → Type 0) (argument : KeyWithVal
       (λ v rest g. let d : Two m.key m.word ∷ pieces roles (cells t) ≡ g.piece ∷ rest =
       sym (first_pieces roles (named argument) m.takes) ∙ g.is in
       let j : g.piece ≡ Two m.key m.word = cc in
-      o.2.0 v (subst (λ z. means z v) m.text_is
-      (subst (λ z. ArgumentValue means z v) j g.means))))
+      o.2.0 v (subst (λ z. means z v) m.text_is (subst (λ z. ArgumentValue means z v) j g.means))))
       (λ read. variable_fault T means argument group variables s t e o.0 same read c o.2.0) o.1
   variable_err s t e (NoArgument key metavar) c same o =
       let left = subst (λ b. TakesBefore b argument s t) once o.1 in
@@ -162,8 +157,7 @@ module _ (T : Type 0) (means : List ℕ → T → Type 0) (argument : KeyWithVal
 
 -- an argument without a name in the environment keeps to the laws of its form
 pub argument_field_law : (env : Variables) (T : Type 0) (means : List ℕ → T → Type 0)
-    (argument : KeyWithValue)
-    → argument.named.envs ≡ []
+    (argument : KeyWithValue) → argument.named.envs ≡ []
     → FormLaw env (ArgumentOutcome means argument) (argument.named.names ∷ [])
     (argument_field means argument)
 argument_field_law env T means argument e = by_last argument.last refl

@@ -83,8 +83,7 @@ foreign_without : (p q : Roles) (cs : Cells) → IsNamed p → Apart p q → pie
     → pieces p cs ≡ []
 foreign_without p q [] n a e = e
 foreign_without p q (None ∷ cs) n a e = foreign_without p q cs n a e
-foreign_without p q (Some k ∷ cs) n a e =
-    by_role (q k) refl e (λ h. foreign_without p q cs n a h)
+foreign_without p q (Some k ∷ cs) n a e = by_role (q k) refl e (λ h. foreign_without p q cs n a h)
   where
     by_role : (x : Role) → q k ≡ x → pieces p (without_piece x k (without q cs)) ≡ []
         → (pieces p (without q cs) ≡ [] → pieces p cs ≡ []) → pieces p (Some k ∷ cs) ≡ []

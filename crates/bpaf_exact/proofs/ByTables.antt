@@ -165,24 +165,20 @@ listed_law env {T} {B} inner idle catch f c outcome within names agrees words =
         (flat_listed_law env T B inner idle f c names s (agrees s l) l)
 
 -- many
-many_within : (T : Type 0) (inner : Outcome T)
-    → AllowsNoMore (Vec T)
+many_within : (T : Type 0) (inner : Outcome T) → AllowsNoMore (Vec T)
     (ClosedEval (List T) (Vec T) (RepeatOutcome inner false) (list_closure T) Refused)
     (ManyOutcome inner false)
 many_within T inner = no_more by_answer
   where
     by_answer : (s t : Situation) (r : Result (Vec T) Error) → ManyOutcome inner false s r t
         → ClosedEval (List T) (Vec T) (RepeatOutcome inner false) (list_closure T) Refused s r t
-    by_answer s t (Ok v) o =
-        closed_yes o refl
-    by_answer s t (Err e) o =
-        closed_err o
+    by_answer s t (Ok v) o = closed_yes o refl
+    by_answer s t (Err e) o = closed_err o
 
 -- keeps to the laws of its form
 pub many_law : (env : Variables) (T : Type 0) (inner : Outcome T) (catch : Bool)
     (names : List Names) (words : List (List ℕ)) (s : ProgramForm T)
-    → ProgramFormLaw env inner names words s
-    → ProgramFormLaw env (ManyOutcome inner catch) names []
+    → ProgramFormLaw env inner names words s → ProgramFormLaw env (ManyOutcome inner catch) names []
     (program_repeat catch (list_closure T) s)
 many_law env T inner catch names words =
     listed_law env inner false catch (list_closure T) Refused (ManyOutcome inner)
@@ -194,18 +190,15 @@ not_nil : (T : Type 0) (values : List T) → is_nil values ≡ false → values 
 not_nil T values e f = true≢false (sym (ap is_nil f) ∙ e)
 
 -- its answers, as those of a closure on the list
-some_within : (T : Type 0) (inner : Outcome T) (message : List ℕ)
-    → AllowsNoMore (Vec T)
+some_within : (T : Type 0) (inner : Outcome T) (message : List ℕ) → AllowsNoMore (Vec T)
     (ClosedEval (List T) (Vec T) (RepeatOutcome inner false) (some_closure T) Caught)
     (SomeOutcome inner false message)
 some_within T inner message = no_more by_answer
   where
     by_answer : (s t : Situation) (r : Result (Vec T) Error) → SomeOutcome inner false message s r t
         → ClosedEval (List T) (Vec T) (RepeatOutcome inner false) (some_closure T) Caught s r t
-    by_answer s t (Ok v) o =
-        closed_yes o.0 (refl, not_nil T v.items o.1)
-    by_answer s t (Err e) (inl o) =
-        closed_err o
+    by_answer s t (Ok v) o = closed_yes o.0 (refl, not_nil T v.items o.1)
+    by_answer s t (Err e) (inl o) = closed_err o
     by_answer s t (Err e) (inr o) =
         ⊎_elim (λ told. closed_no o.0 refl (ap class_of told))
         (λ memory. closed_memory o.0 (ap class_of memory)) o.1
@@ -221,20 +214,16 @@ some_law env T inner catch message names words =
     (some_within T inner message) names (some_agrees env T inner names) words
 
 -- collect
-collect_within : (T C : Type 0) (inner : Outcome T) (fills : List T → C → Type 0)
-    → AllowsNoMore C
+collect_within : (T C : Type 0) (inner : Outcome T) (fills : List T → C → Type 0) → AllowsNoMore C
     (ClosedEval (List T) C (RepeatOutcome inner false) (collect_closure fills) Refused)
     (CollectOutcome inner false fills)
 collect_within T C inner fills = no_more by_answer
   where
     by_answer : (s t : Situation) (r : Result C Error) → CollectOutcome inner false fills s r t
         → ClosedEval (List T) C (RepeatOutcome inner false) (collect_closure fills) Refused s r t
-    by_answer s t (Ok v) o =
-        closed_yes o.1 o.2
-    by_answer s t (Err e) (inl o) =
-        closed_err o
-    by_answer s t (Err e) (inr o) =
-        closed_memory o.1 (memory_class e.0 o.2)
+    by_answer s t (Ok v) o = closed_yes o.1 o.2
+    by_answer s t (Err e) (inl o) = closed_err o
+    by_answer s t (Err e) (inr o) = closed_memory o.1 (memory_class e.0 o.2)
 
 -- keeps to the laws of its form
 pub collect_law : (env : Variables) (T C : Type 0) (inner : Outcome T) (catch : Bool)
@@ -308,8 +297,7 @@ fallback_within T inner gives f given = no_more by_answer
         (λ memory. fallback_memory (memory_class e.0 memory)) o.0)
     by_answer s t (Err e) (inr o) = subst (FallbackEval T inner f s (Err e)) (sym o.0.1)
         (⊎_elim (λ memory. fallback_memory memory)
-        (λ told. fallback_no o.0.0.2 (can_catch_of o.0.0.0 o.0.0.3) told.0 told.1)
-        (given.no e o.1))
+        (λ told. fallback_no o.0.0.2 (can_catch_of o.0.0.0 o.0.0.3) told.0 told.1) (given.no e o.1))
 
 -- a kept value
 pub fallback_law : (env : Variables) (T : Type 0) (inner : Outcome T) (clones : T → T → Type 0)
@@ -340,8 +328,7 @@ fallback_with_law env T E inner answers shown names words s decides =
       yes = λ v g. g;
       no = λ e g. ⊎_elim (λ memory. inl (ap class_of memory))
           (λ told. inr ((g.0, g.1), ap class_of told.1)) g.2;
-    })) names _
-    (flat_fallback_law env T inner (answer_closure answers) decides names s l)) s
+    })) names _ (flat_fallback_law env T inner (answer_closure answers) decides names s l)) s
 
 -- a hidden refusal is one of the same class
 hidden_class : (m : Message) → class_of m ≡ class_of (hidden m)
@@ -358,5 +345,4 @@ hide_law env T inner names words s l =
     (record {
       value = λ s t v o. o;
       refusal = λ s t e o. (o.0, o.1, hidden_class o.0.0 ∙ ap class_of (sym o.2));
-    })
-    names words s l)
+    }) names words s l)

@@ -103,8 +103,7 @@ has_item s p w free =
     let l = present_in_line s p free in
     let a : s.start ≤ p = ⊎_elim
     (λ (ahead : p < s.start). absurd (true≢false (sym (w.front p ahead) ∙ free)))
-    (λ (within : s.start ≤ p). within)
-    (cases_lt p s.start) in
+    (λ (within : s.start ≤ p). within) (cases_lt p s.start) in
     let b = w.end in
     by_item (open_item s p) refl
     (open_has_item s p
@@ -124,8 +123,7 @@ has_item s p w free =
 
 -- the one that took the leftmost place that only one took, by their cells
 left_of : {env : Variables} (s m n : Situation) (p : ℕ) → IsWholeIn env s → Steady s m → Steady s n
-    → is_taken m p ≡ true
-    → is_taken n p ≡ false → ((q : ℕ) → q < p → is_taken m q ≡ is_taken n q)
+    → is_taken m p ≡ true → is_taken n p ≡ false → ((q : ℕ) → q < p → is_taken m q ≡ is_taken n q)
     → TookLeft (cells m) (cells n)
 unfolding cells
 left_of s m n p w a b took free same =
@@ -134,8 +132,7 @@ left_of s m n p w a b took free same =
     subst (λ c. TookLeft (first_cells (open_item m) (length c.line))
     (first_cells (open_item n) (length n.context.line))) (sym st.context)
     (left_cells (open_item m) (open_item n) (length n.context.line) p i.item
-    (present_in_line n p free) (closed_item m p took) i.is
-    (λ q l. steady_item n m st q (same q l)))
+    (present_in_line n p free) (closed_item m p took) i.is (λ q l. steady_item n m st q (same q l)))
 
 -- of two tests that differ the second fails where the first holds
 differ : (a b : Bool) → a ≡ not b → a ≡ true → b ≡ false
@@ -351,8 +348,7 @@ module _ {env : Variables} (T : Type 0) (a b : Outcome T) (qa qb : Roles)
       let free = differ (is_taken sa p) (is_taken sb p) win.0.differs win.1 in
       subst (λ z. AlternativeOk T (either qa qb) vr s z t) d
       (first_won s sa t x i
-      (took_other qb vb s sa sb y j
-      (left_of s sa sb p w i.steady j.steady win.1 free win.0.first))
+      (took_other qb vb s sa sb y j (left_of s sa sb p w i.steady j.steady win.1 free win.0.first))
       (saved_steady sa sb t p k.1)
       (cells_same sa t (same_scope (saved_steady sa sb t p k.1)) k.1.taken))
   winner_ok s sa sb t x y v (false, Some p) w i j win k =
@@ -474,16 +470,14 @@ module _ {env : Variables} (T : Type 0) (a b : Outcome T) (qa qb : Roles)
 
   -- the value of one, where the other refused, is no refusal
   one_no_refusal : (q : Roles) (v : LinePiece → T → Type 0) (s m t : Situation) (x : T)
-      (e g : Error)
-      → AlternativeOk T q v s x m → OneOk s (branch_of x m) e (Err g) t → ⊥
+      (e g : Error) → AlternativeOk T q v s x m → OneOk s (branch_of x m) e (Err g) t → ⊥
   one_no_refusal q v s m t x e g i (inl o) =
       never_untouched q v s m x i (and_parts (is_untouched s m) (is_wrong_input e.0) o.0).0
   one_no_refusal q v s m t x e g i (inr o) = let h = o.1.0 in cc
 
   -- the refusal where both paths are equally deep
   equal_err : (s sa sb t : Situation) (g : Error) (x y : Result T Error) → IsWholeIn env s
-      → a s x sa
-      → b s y sb → IsNotMemory x → IsNotMemory y → EqualDepths s x sa y sb (Err g) t
+      → a s x sa → b s y sb → IsNotMemory x → IsNotMemory y → EqualDepths s x sa y sb (Err g) t
       → AlternativeErr T (either qa qb) vr s g t
   equal_err s sa sb t g (Ok x) (Ok y) w f h hf hg (inl o) = let i = o.1.0 in absurd cc
   equal_err s sa sb t g (Ok x) (Ok y) w f h hf hg (inr o) =
@@ -512,6 +506,5 @@ module _ {env : Variables} (T : Type 0) (a b : Outcome T) (qa qb : Roles)
   choice_law = record {
     named = union_named qa qb (either qa qb) u;
     ok = choice_ok;
-    err =
-        choice_err;
+    err = choice_err;
   }

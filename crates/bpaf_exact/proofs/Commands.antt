@@ -119,8 +119,7 @@ module _ {env : Variables} (T : Type 0) (inner : Outcome T) (r : Roles) (words :
 
   -- the path gets no shorter
   optional_deep : (s t : Situation) (v : Option T) → IsWholeIn env s
-      → OptionalEval T inner s (Ok v) t
-      → depth s ≤ depth t
+      → OptionalEval T inner s (Ok v) t → depth s ≤ depth t
   optional_deep s t v w (optional_some {v = x} i) = l.program.deep s t x w i
   optional_deep s t v w (optional_none i stops) = omega arith
 
@@ -212,8 +211,7 @@ opens_right words others (opens_later o) = opens_later (opens_right words others
 -- words that are apart don't open the same cells
 pub opens_apart : (words others : List (List ℕ)) → WordsApart words others → {cs ds es : Cells}
     → Opens words cs ds → Opens others cs es → ⊥
-opens_apart words others a (opens_here {k = k} h) (opens_here i) =
-    true≢false (sym i ∙ a k h)
+opens_apart words others a (opens_here {k = k} h) (opens_here i) = true≢false (sym i ∙ a k h)
 opens_apart words others a (opens_later o) (opens_later p) = opens_apart words others a o p
 
 -- a missing item is no wrong input
@@ -293,8 +291,7 @@ module _ {env : Variables} (T : Type 0) (a b : Outcome T) (ra rb : Roles) (wa wb
       (λ other. ⊎_elim
       (λ deeper. of_second (subst (λ z. b s z o.sb) (sym deeper.1) o.second_ran)
       (alike_same deeper.2))
-      (λ equal. of_equal s o.sa o.sb t o.a o.b v o.first_ran o.second_ran equal.1) other)
-      o.chosen
+      (λ equal. of_equal s o.sa o.sb t o.a o.b v o.first_ran o.second_ran equal.1) other) o.chosen
 
   -- the path gets no shorter
   choice_deep : (s t : Situation) (v : T) → IsWholeIn env s → ChoiceOutcome a b s (Ok v) t
@@ -350,8 +347,7 @@ module _ {env : Variables} (T : Type 0) (a b : Outcome T) (ra rb : Roles) (wa wb
 
   -- nothing else can be of it
   passed : (s m : Situation) (e : Error) → is_memory e.0 ≡ false
-      → FindsNoCommand {T = T} s (Err e) m
-      → Passed s e m
+      → FindsNoCommand {T = T} s (Err e) m → Passed s e m
   passed s m e h (inl memory) = absurd (not_memory e.0 h memory)
   passed s m e h (inr found) = found
 
@@ -385,8 +381,7 @@ module _ {env : Variables} (T : Type 0) (a b : Outcome T) (ra rb : Roles) (wa wb
 
   -- nor where the second has
   second_fails : (s sa sb t : Situation) (x y : Result T Error) (g : Error) (u : T)
-      → IsWholeIn env s
-      → a s x sa → b s y sb → IsNotMemory x → IsNotMemory y
+      → IsWholeIn env s → a s x sa → b s y sb → IsNotMemory x → IsNotMemory y
       → Chosen s x sa y sb (Err g) t → vb (cells s) u → ⊥
   second_fails s sa sb t x (Err d) g u w i j hx hy chosen h =
       not_memory d.0 hy (lb.program.answers s sb (Err d) u w j h)
@@ -420,8 +415,7 @@ module _ {env : Variables} (T : Type 0) (a b : Outcome T) (ra rb : Roles) (wa wb
   -- where no word opens anything
   none_chosen : (s sa sb t : Situation) (x y : Result T Error) (g : Error) → IsWholeIn env s
       → a s x sa → b s y sb → IsNotMemory x → IsNotMemory y → OpensNone wa (cells s)
-      → OpensNone wb (cells s)
-      → Chosen s x sa y sb (Err g) t → FindsNoCommand {T = T} s (Err g) t
+      → OpensNone wb (cells s) → Chosen s x sa y sb (Err g) t → FindsNoCommand {T = T} s (Err g) t
   none_chosen s sa sb t (Ok x) y g w i j hx hy na nb chosen = absurd (la.none s sa (Ok x) w i na)
   none_chosen s sa sb t (Err d) (Ok y) g w i j hx hy na nb chosen =
       absurd (lb.none s sb (Ok y) w j nb)
@@ -457,8 +451,7 @@ module _ {env : Variables} (T : Type 0) (a b : Outcome T) (ra rb : Roles) (wa wb
   choice_none s t (Ok v) w o n = by_branch (branch_ok s t v o)
     where
       by_branch : BranchOk s v t → ⊥
-      by_branch (of_first {m = m} i e) =
-          la.none s m (Ok v) w i (λ ds p. n ds (opens_left wa wb p))
+      by_branch (of_first {m = m} i e) = la.none s m (Ok v) w i (λ ds p. n ds (opens_left wa wb p))
       by_branch (of_second {m = m} i e) =
           lb.none s m (Ok v) w i (λ ds p. n ds (opens_right wa wb p))
   choice_none s t (Err e) w (inr o) n = inl (memory_class e.0 o.0)
@@ -501,8 +494,7 @@ module _ (V : Type 0) (outcome : Outcome V) (r : Roles) (value : CellsValue V)
 
   -- all that isn't taken lies in the scope
   whole : IsWholeIn context.env s
-  whole =
-      record { end = refl; front = λ p l. absurd (omega arith); environment = refl }
+  whole = record { end = refl; front = λ p l. absurd (omega arith); environment = refl }
 
   -- a value comes only where it is one of the program's
   pub program_sound : IsSpelledLine context → (a : RunAnswer V) → RunRan V outcome s a → (v : V)

@@ -36,8 +36,7 @@ takes_any_fewer q t = let i = takes_fewer q t.one in let j = takes_some_fewer q 
     omega arith
 
 -- the count of a set of places, with the first place set apart
-count_first : (set : ℕ → Bool) (n : ℕ)
-    → count_below set (suc n)
+count_first : (set : ℕ → Bool) (n : ℕ) → count_below set (suc n)
     ≡ (if set zero then (count_below (λ p. set (suc p)) n + 1) else count_below
     (λ p. set (suc p)) n)
 count_first set zero = refl
@@ -81,8 +80,7 @@ pub open_present : (s : Situation) → open_count s ≡ present_count (cells s)
 unfolding cells
 open_present s =
     count_below-same (is_open s) (λ p. is_some (open_item s p)) (length s.context.line)
-    (λ p l. open_some s p)
-    ∙ count_cells (open_item s) (length s.context.line)
+    (λ p l. open_some s p) ∙ count_cells (open_item s) (length s.context.line)
 
 -- an open place is counted
 pub open_counted : (s : Situation) (p : ℕ) → is_open s p ≡ true → open_count s ≡ 0 → ⊥

@@ -57,8 +57,7 @@ module _ (V : Type 0) (outcome : Outcome V) (r : Roles) (reading : FieldsReading
 
   -- the scope is the whole line
   whole : IsWholeIn context.env s
-  whole =
-      record { end = refl; front = λ p l. absurd (omega arith); environment = refl }
+  whole = record { end = refl; front = λ p l. absurd (omega arith); environment = refl }
 
   -- where no item is counted none is present
   nothing_left : (t : Situation) (v : V) → outcome s (Ok v) t → open_count t ≡ 0
@@ -112,8 +111,7 @@ module _ (V : Type 0) (outcome : Outcome V) (r : Roles) (reading : FieldsReading
   -- THE THEOREM: on every line each answer of a run is a value of the record, want of memory, or a
   -- refusal where the record has no value.
   pub exact : (a : RunAnswer V) → RunRan V outcome s a → IsExact V r reading context a
-  exact a ran =
-      record { sound = sound a ran; complete = complete a ran; refused = refused a ran }
+  exact a ran = record { sound = sound a ran; complete = complete a ran; refused = refused a ran }
 
 -- each answer of a run of a flat record is exact
 pub runs_exactly : (V : Type 0) (outcome : Outcome V) (names : List Names) (s : FlatForm V)

@@ -75,8 +75,7 @@ module _ (T : Type 0) (clones : T → T → Type 0) (key : Key) (present : T)
       → AlternativeOk T (flag_roles key.names) (FlagValue (clones present)) s v t
   flag_ok s t v w o = ⊎_elim
       (λ here. ⊎_elim (λ takes. flag_found T clones key present s t v takes here.1)
-      (λ set. absurd (never_set s set.1)) here.0)
-      (λ none. absurd none.1) o
+      (λ set. absurd (never_set s set.1)) here.0) (λ none. absurd none.1) o
 
   -- a refusal: there is no piece
   flag_err : (s t : Situation) (e : Error) (m : Message) → class e ≡ class_of m
@@ -172,8 +171,7 @@ module _ (T : Type 0) (clones : T → T → Type 0) (key : Key) (present : T) (a
   set_here s b e f = subst (λ z. is_set z key.envs ≡ b) e f
 
   switch_ok : (s t : Situation) (v : T) → IsWholeIn variables s
-      → FlagOutcome clones key present absent s (Ok v) t
-      → SingleOk T ByName roles group gap s v t
+      → FlagOutcome clones key present absent s (Ok v) t → SingleOk T ByName roles group gap s v t
   switch_ok s t v w o = ⊎_elim
       (λ here. ⊎_elim (λ takes. switch_found s t v takes here.1)
       (λ set. switch_none s t v set.0.0 set.0.1

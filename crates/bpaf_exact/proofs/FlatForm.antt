@@ -55,8 +55,7 @@ never_refuses A B f n _ = λ os x y v a b g h. n y h
 
 -- where a test holds
 if_law : (env : Variables) (T : Type 0) (outcome : Outcome T) (names : List Names) (s : FlatForm T)
-    (b : Bool)
-    → (b ≡ true → FormLaw env outcome names s) → FormLaw env outcome names (only_if b s)
+    (b : Bool) → (b ≡ true → FormLaw env outcome names s) → FormLaw env outcome names (only_if b s)
 if_law env T outcome names s true f = f refl
 if_law env T outcome names s false f = tt
 
@@ -74,8 +73,7 @@ flat_choice_law env T a b own others _ _ la lb = tt
 
 -- an alternative alone
 pub only_law : (env : Variables) (T : Type 0) (outcome : Outcome T) (names : List Names)
-    (s : FlatForm T)
-    → FormLaw env outcome names s → FormLaw env outcome names (alternative_only s)
+    (s : FlatForm T) → FormLaw env outcome names s → FormLaw env outcome names (alternative_only s)
 only_law env T outcome names (alternative q value) l = l
 only_law env T outcome names _ l = tt
 
@@ -120,8 +118,7 @@ flat_listed_law env T B inner idle f c names _ g l = tt
 
 -- some needs no premise: of the lists that the same pieces give, all are empty or none is
 pub some_agrees : (env : Variables) (T : Type 0) (inner : Outcome T) (names : List Names)
-    (s : FlatForm T)
-    → FormLaw env inner names s → Agrees (some_closure T) (flat_repeat s)
+    (s : FlatForm T) → FormLaw env inner names s → Agrees (some_closure T) (flat_repeat s)
 some_agrees env T inner names (alternative q value) l =
     some_agrees_on T inner ByName q _ _ (alternative_single T inner q value l.0)
 some_agrees env T inner names (single k q group gap) l = some_agrees_on T inner k q group gap l.0
@@ -155,8 +152,7 @@ flat_fallback_law env T inner f decides names =
 
 -- a field of a product, which may be a product of named fields
 pub flat_field_law : (env : Variables) (T : Type 0) (outcome : Outcome T) (names : List Names)
-    (s : FlatForm T)
-    → FormLaw env outcome names s → FormLaw env outcome names (flat_field s)
+    (s : FlatForm T) → FormLaw env outcome names s → FormLaw env outcome names (flat_field s)
 flat_field_law env T outcome names (product true q fields) l = (l.2, l.1)
 flat_field_law env T outcome names (alternative q value) l =
     flat_whole_law env outcome outcome (λ k. k) (SingleValue T) names (λ k q o. o)
@@ -172,8 +168,7 @@ nobody e = cc
 
 -- fields that may follow keep apart
 follows : (k : FieldKind) (q r : Roles) (own others : List Names) → Owns (keys k q) own
-    → Owns r others
-    → may_follow k own others ≡ true → Before k q r
+    → Owns r others → may_follow k own others ≡ true → Before k q r
 follows ByName q r own others a b h = apart_of_names q r own others a b h
 follows (OneWord z) q r own (names ∷ others) a b h = absurd cc
 follows (EachWord z) q r own (names ∷ others) a b h = absurd cc
@@ -209,8 +204,7 @@ no_names = record { own = λ k e. absurd cc }
 
 -- the last field, or one alone
 pub flat_alone_law : (env : Variables) (T : Type 0) (outcome : Outcome T) (names : List Names)
-    (s : FlatForm T)
-    → FormLaw env outcome names s → FormLaw env outcome names (flat_alone s)
+    (s : FlatForm T) → FormLaw env outcome names s → FormLaw env outcome names (flat_alone s)
 flat_alone_law env T outcome names (complete k q value) l = (
   last_law T outcome k q value l.0,
   subst (Owns (either (keys k q) no_roles)) (append-nil names)
@@ -242,16 +236,14 @@ flat_con_law env A B inner makes names _ l = tt
 
 -- a flat record is a product
 pub flat_record_law : (env : Variables) (T : Type 0) (outcome : Outcome T) (names : List Names)
-    (s : FlatForm T)
-    → FormLaw env outcome names s → FormLaw env outcome names (flat_record s)
+    (s : FlatForm T) → FormLaw env outcome names s → FormLaw env outcome names (flat_record s)
 flat_record_law env T outcome names (product named q fields) l = l
 flat_record_law env T outcome names s l =
     flat_alone_law env T outcome names (flat_field s) (flat_field_law env T outcome names s l)
 
 -- each flat record keeps to the laws of a list of fields
 pub record_law : (env : Variables) (T : Type 0) (outcome : Outcome T) (names : List Names)
-    (s : FlatForm T)
-    → is_record s ≡ true → FormLaw env outcome names s
+    (s : FlatForm T) → is_record s ≡ true → FormLaw env outcome names s
     → FieldsLaw env T outcome (product_roles (flat_record s)) (product_reading (flat_record s))
 record_law env T outcome names not_flat h l = absurd cc
 record_law env T outcome names s h l = (flat_record_law env T outcome names s l).0

@@ -89,11 +89,7 @@ module _ {env : Variables} (T : Type 0) (inner : Outcome T)
       record {
         steady = i.steady;
         takes = i.takes;
-        read = λ n. record {
-          list = vs;
-          own = i.read n;
-          is = record { before = o.0; is = refl };
-        };
+        read = λ n. record { list = vs; own = i.read n; is = record { before = o.0; is = refl } };
         rest = i.rest;
       }
   last_took s t v w (inr o) = absurd (again_ok s o.0 t v w o.1 o.2)

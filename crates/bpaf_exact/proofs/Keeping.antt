@@ -39,8 +39,7 @@ pub keep_before : {env : Variables} {P Q R A B : Type 0} (first : R → P) (rest
     (s : ProgramForm A) (said : ProgramSaid P A)
     → ProgramFormLaw env outcome (names (first r)) words s
     → ProgramSays (names (first r)) s (kind (first r)) said (first r)
-    → {behind : Outcome B} {others : List Names} {t : ProgramForm B}
-    {more : ProgramFieldsSaid Q B}
+    → {behind : Outcome B} {others : List Names} {t : ProgramForm B} {more : ProgramFieldsSaid Q B}
     → FieldsKeep env behind others t more (rest r)
     → FieldsKeep env (BothOutcome outcome behind) (names (first r) ++ others)
     (program_both (names (first r)) others (program_field s) t)
@@ -51,6 +50,5 @@ keep_before {env} {P} {Q} {R} {A} {B} first rest r outcome kind names words s sa
           (program_field s) t
           (program_field_law env A outcome (names (first r)) words s law) kept.law;
       says = program_both_say first rest r outcome behind kind names words others env law kept.law
-          says
-          kept.says;
+          says kept.says;
     }

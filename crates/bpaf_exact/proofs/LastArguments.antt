@@ -65,16 +65,13 @@ module _ (T : Type 0) (means : List ℕ → T → Type 0) (argument : KeyWithVal
   -- some keys with their texts
   took_some : (s t : Situation) (texts : List (List ℕ)) → TakesKeysWithTexts argument s texts t
       → TookSome s t
-  took_some s t [] same =
-      record { pairs = []; is = ap (λ z. pieces q (cells z)) (sym same) }
+  took_some s t [] same = record { pairs = []; is = ap (λ z. pieces q (cells z)) (sym same) }
   took_some s t (text ∷ texts) o =
       let m = took_pair argument s o.0 text o.1 in
       let rest = took_some o.0 t texts o.2 in
       record {
         pairs = Two m.key m.word ∷ rest.pairs;
-        is =
-            first_pieces q (named argument) m.takes
-            ∙ ap (λ z. Two m.key m.word ∷ z) rest.is;
+        is = first_pieces q (named argument) m.takes ∙ ap (λ z. Two m.key m.word ∷ z) rest.is;
       }
 
   -- all of them are the pieces, and this is the text of the last one
@@ -134,8 +131,7 @@ module _ (T : Type 0) (means : List ℕ → T → Type 0) (argument : KeyWithVal
       subst (λ z. TookAll s z text) (sym o.2)
       (all_one s o.0 text (took_pair argument s o.0 text o.1))
   took_texts s t text (x ∷ before) o =
-      all_more s o.0 t x text (took_pair argument s o.0 x o.1)
-      (took_texts o.0 t text before o.2)
+      all_more s o.0 t x text (took_pair argument s o.0 x o.1) (took_texts o.0 t text before o.2)
 
   -- the text of an argument is that of the last of its pieces, of which none is left
   record GotAll (s t : Situation) (text : List ℕ) : Type 0 where
@@ -215,8 +211,7 @@ module _ (T : Type 0) (means : List ℕ → T → Type 0) (argument : KeyWithVal
   bare_refused s t e k tail c some is =
       let there : pieces q (cells s) ≡ some.pairs ++ One k ∷ tail =
       some.is ∙ ap (λ z. some.pairs ++ z) is in
-      of_piece c
-      (λ none. not_there some.pairs (sym there ∙ none))
+      of_piece c (λ none. not_there some.pairs (sym there ∙ none))
       (λ v rest g. bare_spoils some.pairs tail g.before k g.key g.word g.have_values
       (sym there ∙ g.is))
     where
@@ -233,8 +228,7 @@ module _ (T : Type 0) (means : List ℕ → T → Type 0) (argument : KeyWithVal
       (λ takes. let got = takes_all s t o.0 takes in
       of_piece c (takes_nonempty q got.pieces_are.any.one) (fault_group s t o.0 got o.2.0))
       (λ read. variable_fault T means argument (LastGroup T means) variables s t e o.0 same read c
-      o.2.0)
-      o.1
+      o.2.0) o.1
   last_err s t e (NoArgument key metavar) c same o =
       let before = subst (λ b. TakesBefore b argument s t) all o.1 in
       let m = match_of (is_key_with_value argument) t key o.0.0.matches in

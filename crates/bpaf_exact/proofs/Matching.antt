@@ -50,8 +50,7 @@ match_of test s p e = by_item (open_item s p) refl e
           item = k;
           is = f;
           passes = h;
-          in_line =
-              open_in_line s p (open_item_there s p k f).0;
+          in_line = open_in_line s p (open_item_there s p k f).0;
         }
 
 -- a role by a test
@@ -65,8 +64,7 @@ pub by_test : (test : Arg → Bool) (own : Role)
 by_test test own =
     record {
       yes = λ k e. ap (λ b. if b then own else Foreign) e;
-      no =
-          λ k e. ap (λ b. if b then own else Foreign) e;
+      no = λ k e. ap (λ b. if b then own else Foreign) e;
     }
 
 -- only keys have a role by a test that asks for names
@@ -144,8 +142,7 @@ behind_of s p text e =
           is = f;
           value = v.0;
           text_is = v.1;
-          in_line =
-              open_in_line s (suc p) (open_item_there s (suc p) w f).0;
+          in_line = open_in_line s (suc p) (open_item_there s (suc p) w f).0;
         }
 
 -- where no text is behind a key, no value is there
@@ -198,15 +195,13 @@ first_alternative T q value s t v o st m f =
       takes = first_takes q f;
       means = m;
       first = inl f;
-      readable =
-          λ p os w e g. f;
+      readable = λ p os w e g. f;
     }
 
 -- the first piece can't be read
 pub first_refused : (T : Type 0) (q : Roles) (value : LinePiece → T → Type 0) (s t : Situation)
     (e : Error) (o : LinePiece) (os : List LinePiece) → class e ≡ Refused → t.path ≡ s.path
-    → pieces q (cells s) ≡ o ∷ os
-    → ((v : T) → value o v → ⊥) → AlternativeErr T q value s e t
+    → pieces q (cells s) ≡ o ∷ os → ((v : T) → value o v → ⊥) → AlternativeErr T q value s e t
 first_refused T q value s t e o os c p h n =
     alternative_refused c p (subst (HasBad T value) (sym h) (bad_here n))
     (λ x xs w g m. let d : x ≡ o = (let k = sym h ∙ g in cc) in n w (subst (λ z. value z w) d m))

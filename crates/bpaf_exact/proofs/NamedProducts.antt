@@ -34,8 +34,7 @@ module _ (q : Roles) (k : Arg) (cs : Cells) (os : List LinePiece) where
       ap (λ b. if b then (with_next k cs ∷ mine q os) else mine q os) (own_next q k cs ∙ h)
 
   -- another item begins none
-  mine_passes : (x : Role) → is_own_role (q k) ≡ false
-      → mine q (begin_piece x k cs os) ≡ mine q os
+  mine_passes : (x : Role) → is_own_role (q k) ≡ false → mine q (begin_piece x k cs os) ≡ mine q os
   mine_passes Foreign h = refl
   mine_passes Alone h = ap (λ b. if b then (One k ∷ mine q os) else mine q os) h
   mine_passes WithNext h =
@@ -67,8 +66,7 @@ module _ (p q r : Roles) (u : Union p q r) where
       by_owner : Belongs p q r k → mine p (pieces r cs) ≡ pieces p cs
           → mine p (pieces r (Some k ∷ cs)) ≡ pieces p (Some k ∷ cs)
       by_owner (to_first h g f) behind =
-          mine_begin p k cs (pieces r cs) (r k) h
-          ∙ ap₂ (λ x os. begin_piece x k cs os) g behind
+          mine_begin p k cs (pieces r cs) (r k) h ∙ ap₂ (λ x os. begin_piece x k cs os) g behind
       by_owner (to_second h g f) behind =
           mine_passes p k cs (pieces r cs) (r k) (ap is_own_role f)
           ∙ (behind ∙ sym (begin_foreign k cs (pieces p cs) f))
@@ -274,8 +272,7 @@ module _ {env : Variables} (A B : Type 0) (fields : Outcome A) (makes : A → B 
   con_takes : (s t : Situation) (v u : B) → IsWholeIn env s → ProductOutcome fields makes s (Ok v) t
       → made (pieces q (cells s)) u → pieces q (cells t) ≡ []
   con_takes s t v u w o h =
-      ap (pieces q) (ap cells o.4 ∙ current_cells o.0)
-      ∙ l.takes_all s o.0 o.1 h.from w o.2 h.read
+      ap (pieces q) (ap cells o.4 ∙ current_cells o.0) ∙ l.takes_all s o.0 o.1 h.from w o.2 h.read
 
   -- with its constructor a product keeps to the laws of a named field
   pub named_con_law : FieldLaw env B (ProductOutcome fields makes) ByName q made

@@ -64,12 +64,10 @@ repeat_needs {T} {said} needs vs some (says_in_turn turns) = in_turn [] vs refl 
 pub last_needs : {T : Type 0} {said : Said T} → NeedsPiece said → NeedsPiece (LastSays said)
 last_needs needs = record {
   some = λ v last. repeat_needs needs last.values
-      (λ none. not_empty last.is.before v [] (sym none ∙ last.is.is))
-      last.told;
+      (λ none. not_empty last.is.before v [] (sym none ∙ last.is.is)) last.told;
 }
 
 -- And a repeat without values has no piece.
-pub no_values : {T : Type 0} {said : Said T} {os : List LinePiece} → RepeatSays said os []
-    → os ≡ []
+pub no_values : {T : Type 0} {said : Said T} {os : List LinePiece} → RepeatSays said os [] → os ≡ []
 no_values (says_alone a none e told) = none
 no_values (says_in_turn own_none) = refl

@@ -70,8 +70,7 @@ front_view T X see value u os rest others v w a b =
 
 -- a present value
 flag_piece : (T X : Type 0) (see : T → X) (present : T → Type 0) → Alike see present
-    → (o : LinePiece)
-    → Alike see (FlagValue present o)
+    → (o : LinePiece) → Alike see (FlagValue present o)
 flag_piece T X see present u (One k) v w a b = u v w a b
 flag_piece T X see present u (Two k x) v w a b = absurd a
 
@@ -211,8 +210,7 @@ module _ {env : Variables} (T X : Type 0) (see : T → X) (inner : Outcome T)
 
   -- where there is no piece there is none
   none_single : (os : List LinePiece) (v : T) → os ≡ [] → gap.has ≡ false
-      → SingleValue T group gap os v
-      → ⊥
+      → SingleValue T group gap os v → ⊥
   none_single os v e h (of_group g) = l.starts v [] (subst (λ z. group z v []) e g)
   none_single os v e h (of_gap a) = l.no_absent v h a
 
@@ -249,14 +247,12 @@ module _ (env : Variables) (T X : Type 0) (see : T → X) (inner : Outcome T) wh
   whole_view look kind value each names (alternative q one) l u =
       each ByName q _ _ (alternative_single T inner q one l.0) (front_view T X see one u)
       (λ v w a b. absurd a)
-  whole_view look kind value each names (single k q group gap) l u =
-      each k q group gap l.0 u.0 u.1
+  whole_view look kind value each names (single k q group gap) l u = each k q group gap l.0 u.0 u.1
   whole_view look kind value each names _ l u = tt
 
   -- the list of a repeat
   pub repeat_view : (names : List Names) (s : FlatForm T) → FormLaw env inner names s
-      → HasOneView see s
-      → HasOneView (map see) (flat_repeat s)
+      → HasOneView see s → HasOneView (map see) (flat_repeat s)
   repeat_view = whole_view (map see) repeated (OwnList T) (list_view T X see inner)
 
   -- a field that may be left out
@@ -276,8 +272,7 @@ module _ (env : Variables) (T X : Type 0) (see : T → X) (inner : Outcome T) wh
 
   -- any field of a record
   pub field_view : (names : List Names) (s : FlatForm T) → FormLaw env inner names s
-      → HasOneView see s
-      → HasOneView see (flat_field s)
+      → HasOneView see s → HasOneView see (flat_field s)
   field_view names (complete k q value) l u = u
   field_view names (product true q fields) l u = u
   field_view names (product false q fields) l u = u
@@ -288,8 +283,7 @@ module _ (env : Variables) (T X : Type 0) (see : T → X) (inner : Outcome T) wh
 
 -- many
 pub many_view : (env : Variables) (T X : Type 0) (see : T → X) (inner : Outcome T)
-    (names : List Names) (s : FlatForm T)
-    → FormLaw env inner names s → HasOneView see s
+    (names : List Names) (s : FlatForm T) → FormLaw env inner names s → HasOneView see s
     → HasOneView (λ values. map see values.items) (flat_many s)
 many_view env T X see inner names s l u =
     closed_view (List T) (Vec T) (List X) (List X) (map see) (λ values. map see values.items)
@@ -298,8 +292,7 @@ many_view env T X see inner names s l u =
       same = λ x y v w e f g. ap (map see) f
           ∙ (e ∙ sym (ap (map see) g));
       apart = λ x y v e f n. n;
-    }) (flat_repeat s)
-    (repeat_view env T X see inner names s l u)
+    }) (flat_repeat s) (repeat_view env T X see inner names s l u)
 
 -- Products.
 
@@ -322,8 +315,7 @@ module _ (T X : Type 0) (see : T → X) where
 
   -- a record
   record_view : (env : Variables) (inner : Outcome T) (names : List Names) (s : FlatForm T)
-      → FormLaw env inner names s
-      → HasOneView see s → HasOneView see (flat_record s)
+      → FormLaw env inner names s → HasOneView see s → HasOneView see (flat_record s)
   record_view env inner names (product named q fields) l u = u
   record_view env inner names s l u =
       alone_view (flat_field s) (field_view env T X see inner names s l u)
@@ -336,11 +328,9 @@ module _ (T X : Type 0) (see : T → X) where
 
   -- an exact answer looks like each value of the record
   like_this : {env : Variables} (inner : Outcome T) (r : Roles) (reading : FieldsReading T)
-      (context : Context)
-      → FieldsLaw env T inner r reading
+      (context : Context) → FieldsLaw env T inner r reading
       → Alike see (λ v. RecordValue r reading.value context v) → (a : RunAnswer T) (v : T)
-      → IsExact T r reading context a
-      → RecordValue r reading.value context v → LooksLike see v a
+      → IsExact T r reading context a → RecordValue r reading.value context v → LooksLike see v a
   like_this inner r reading context l one (Accepted w) v e h = one w v (e.sound w refl) h
   like_this inner r reading context l one NoMemory v e h = tt
   like_this inner r reading context l one Refusal v e h =
@@ -354,8 +344,7 @@ module _ (T X : Type 0) (see : T → X) where
       cs)
   record_looks_one env outcome names s h l u cs v w a b =
       let f = record_law env T outcome names s h l in
-      let c = one_cut
-      (product_roles (flat_record s)) _ a.cut_into b.cut_into f.named a.cut b.cut in
+      let c = one_cut (product_roles (flat_record s)) _ a.cut_into b.cut_into f.named a.cut b.cut in
       product_view (flat_record s) (record_view env outcome names s l u) b.cut_into v w
       (subst (λ os. (product_reading (flat_record s)).value os v) c a.read) b.read
 

@@ -51,8 +51,7 @@ tail_one : (at left : ℕ → Option Arg) (p : ℕ) → TakenOne at left (suc p)
 tail_one at left p taken =
     record {
       gone = taken.gone;
-      others =
-          λ q other. taken.others (suc q) (λ e. other (omega arith));
+      others = λ q other. taken.others (suc q) (λ e. other (omega arith));
     }
 
 -- and what was taken with the next

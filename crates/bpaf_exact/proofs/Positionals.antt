@@ -104,20 +104,17 @@ module _ (T : Type 0) (b : Bool) (value : LinePiece → T → Type 0)
 
   -- a value is that of the first word
   word_ok : {env : Variables} (s t : Situation) (v : T) → IsWholeIn env s
-      → WordEval T b value s (Ok v) t
-      → SingleOk T (OneWord b) word_roles group (no_gap T) s v t
+      → WordEval T b value s (Ok v) t → SingleOk T (OneWord b) word_roles group (no_gap T) s v t
   word_ok s t v w (word_read {p = p} {strict = strict} {text = text} takes y) =
       let m = took_word s t p strict text takes in
       let e = word_pieces m.takes in
       took
       (took_front T value (OneWord b) word_roles s t v (One m.word) m.steady m.takes e
-      (y m.word m.text_is)
-      (some_front m.word _ (λ h. clear h (One m.word) v (y m.word m.text_is))))
+      (y m.word m.text_is) (some_front m.word _ (λ h. clear h (One m.word) v (y m.word m.text_is))))
 
   -- a refusal: there is no word, or the first can't be read
   word_err : {env : Variables} (s t : Situation) (e : Error) → IsWholeIn env s
-      → WordEval T b value s (Err e) t
-      → SingleErr T (OneWord b) word_roles group (no_gap T) s e t
+      → WordEval T b value s (Err e) t → SingleErr T (OneWord b) word_roles group (no_gap T) s e t
   word_err s t e w (word_fault {p = p} {strict = strict} {text = text} takes before n c) =
       let m = took_word s t p strict text takes in
       let i = word_pieces m.takes in
@@ -136,8 +133,7 @@ module _ (T : Type 0) (b : Bool) (value : LinePiece → T → Type 0)
       of_missing (catch_other c) refl
       (ap (front (OneWord b)) (word_pieces m.takes)
       ∙ passed_by b h (One m.word) (pieces word_roles (cells t)) (word_is m.word true text
-      m.text_is).1)
-      (λ missing. absurd cc)
+      m.text_is).1) (λ missing. absurd cc)
   word_err s t e w (word_memory c) = of_memory c
 
   -- the first word alone is read, and by a repeat each

@@ -32,8 +32,7 @@ none_outside_after s t w k = record {
 
 -- nothing has changed
 pub steady_refl : (s : Situation) → Steady s s
-steady_refl s =
-    record { context = refl; start = refl; end = refl; path = refl; keeps = λ p h. h }
+steady_refl s = record { context = refl; start = refl; end = refl; path = refl; keeps = λ p h. h }
 
 -- nor in two steps
 pub steady_trans : {s m t : Situation} → Steady s m → Steady m t → Steady s t
@@ -49,8 +48,7 @@ steady_trans a b =
 
 -- A cut by the keys of others holds no key of one's own.
 pub no_own_in_cut : (q r : Roles) {cs : Cells} {os : List LinePiece} → IsNamed q → Apart q r
-    → Cut r cs os
-    → pieces q cs ≡ []
+    → Cut r cs os → pieces q cs ≡ []
 no_own_in_cut q r n a at_end = refl
 no_own_in_cut q r n a (passed c) = no_own_in_cut q r n a c
 no_own_in_cut q r n a (flag {k = k} {cs = cs} e c) =
@@ -68,8 +66,7 @@ either_foreign _ y z e h = cc
 
 -- with a piece of others more all are of others
 others_all : (q : Roles) (o : LinePiece) (os : List LinePiece) → is_own q o ≡ false
-    → others q os ≡ os
-    → others q (o ∷ os) ≡ o ∷ os
+    → others q os ≡ os → others q (o ∷ os) ≡ o ∷ os
 others_all q o os h e = others_foreign q o os h ∙ ap (λ z. o ∷ z) e
 
 -- a cut whose pieces are all of others
@@ -87,23 +84,20 @@ widen q r n a (flag {k = k} {os = os} e c) =
     let f = a.right k (ap is_own_role e) in
     record {
       cut = flag (either_foreign (q k) (r k) Alone f e) i.cut;
-      all =
-          others_all q (One k) os (ap is_own_role f) i.all;
+      all = others_all q (One k) os (ap is_own_role f) i.all;
     }
 widen q r n a (argument {k = k} {w = w} {os = os} e v c) =
     let i = widen q r n a c in
     let f = a.right k (ap is_own_role e) in
     record {
       cut = argument (either_foreign (q k) (r k) WithNext f e) v i.cut;
-      all =
-          others_all q (Two k w) os (ap is_own_role f) i.all;
+      all = others_all q (Two k w) os (ap is_own_role f) i.all;
     }
 widen q r n a (word {w = w} {os = os} h c) =
     let i = widen q r n a c in
     record {
       cut = word h i.cut;
-      all =
-          others_all q (One w) os (ap is_own_role (word_foreign q w n h)) i.all;
+      all = others_all q (One w) os (ap is_own_role (word_foreign q w n h)) i.all;
     }
 
 -- a cut by the others' keys alone
@@ -126,8 +120,7 @@ narrow q r n p (flag {k = k} {cs = cs} {os = os} e c) =
     let i = narrow q r n (nil_rest (q k) k cs (pieces q cs) p) c in
     record {
       cut = flag (other_role (q k) (r k) Alone f e) i.cut;
-      all =
-          others_all q (One k) os (ap is_own_role f) i.all;
+      all = others_all q (One k) os (ap is_own_role f) i.all;
     }
 narrow q r n p (argument {k = k} {w = w} {cs = cs} {os = os} e v c) =
     let f = nil_foreign (q k) k (Some w ∷ cs) (pieces q (Some w ∷ cs)) p in
@@ -136,15 +129,13 @@ narrow q r n p (argument {k = k} {w = w} {cs = cs} {os = os} e v c) =
     (nil_rest (q k) k (Some w ∷ cs) (pieces q (Some w ∷ cs)) p)) c in
     record {
       cut = argument (other_role (q k) (r k) WithNext f e) v i.cut;
-      all =
-          others_all q (Two k w) os (ap is_own_role f) i.all;
+      all = others_all q (Two k w) os (ap is_own_role f) i.all;
     }
 narrow q r n p (word {w = w} {cs = cs} {os = os} h c) =
     let i = narrow q r n (nil_rest (q w) w cs (pieces q cs) p) c in
     record {
       cut = word h i.cut;
-      all =
-          others_all q (One w) os (ap is_own_role (word_foreign q w n h)) i.all;
+      all = others_all q (One w) os (ap is_own_role (word_foreign q w n h)) i.all;
     }
 
 -- What is read off the pieces, seen from before a field was evaluated.
@@ -242,8 +233,7 @@ both_named : (k : FieldKind) (q r : Roles) → OwnItems k q → IsNamed r
     → IsNamed (either (keys k q) r)
 both_named ByName q r n m =
     record {
-      only_keys =
-          λ a h. either_foreign (q a) (r a) Foreign (n.only_keys a h) (m.only_keys a h);
+      only_keys = λ a h. either_foreign (q a) (r a) Foreign (n.only_keys a h) (m.only_keys a h);
     }
 both_named _ q r n m = m
 
@@ -320,8 +310,7 @@ module _ {env : Variables} (A B : Type 0) (first : Outcome A) (rest : Outcome B)
 
   -- its values are read off a cut
   both_reads : (s t : Situation) (v : A × B) → IsWholeIn env s → BothOutcome first rest s (Ok v) t
-      → NonePresent (cells t)
-      → ReadOff (A × B) (either (keys k q) r) reading.value (cells s) v
+      → NonePresent (cells t) → ReadOff (A × B) (either (keys k q) r) reading.value (cells s) v
   both_reads s t v w o e =
       let h = values_of_both A B first rest s t v o in
       let i = lf.ok s h.middle v.0 w h.first_ran in
@@ -348,8 +337,7 @@ module _ {env : Variables} (A B : Type 0) (first : Outcome A) (rest : Outcome B)
       → Cut r (cells m) (left k q os)
   rest_cut s m x os w f c h =
       let i = lf.ok s m x w f in
-      step_on k q r lf.own b i.takes
-      (i.rest (lf.takes_all s m x h.0 w f (own_value s os c h))) c
+      step_on k q r lf.own b i.takes (i.rest (lf.takes_all s m x h.0 w f (own_value s os c h))) c
 
   -- so the others leave nothing
   both_take : (s t : Situation) (u : A × B) (os : List LinePiece) → IsWholeIn env s

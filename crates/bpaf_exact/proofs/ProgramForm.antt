@@ -53,8 +53,7 @@ program_if_law env T outcome names words s false f = tt
 
 -- a flat record owns its keys
 pub record_owns : (env : Variables) (T : Type 0) (outcome : Outcome T) (names : List Names)
-    (s : FlatForm T)
-    → is_record s ≡ true → FormLaw env outcome names (flat_record s)
+    (s : FlatForm T) → is_record s ≡ true → FormLaw env outcome names (flat_record s)
     → Owns (product_roles (flat_record s)) names
 record_owns env T outcome names not_flat h l = absurd cc
 record_owns env T outcome names _ h l = l.1
@@ -292,8 +291,7 @@ runs_as_program V outcome names words s h context l spelled a ran =
 
 -- an outcome that allows no more keeps to the same laws
 narrower_program : {env : Variables} (V : Type 0) (a b : Outcome V) → AllowsNoMore V a b
-    → (r : Roles)
-    (value : CellsValue V) → ProgramLaw env V a r value → ProgramLaw env V b r value
+    → (r : Roles) (value : CellsValue V) → ProgramLaw env V a r value → ProgramLaw env V b r value
 narrower_program {env} V a b n r value l = record {
   others = l.others;
   deep = λ s t v w o. l.deep s t v w (n.value s t v o);
@@ -341,8 +339,7 @@ behind_is_all : {P X : Type 0} (each : P → List X) (before : List X) (ps : Lis
     → all_behind each before ps ≡ before ++ flat_map each ps
 behind_is_all each before [] = sym (append-nil before)
 behind_is_all each before (p ∷ ps) =
-    behind_is_all each (before ++ each p) ps
-    ∙ append_assoc before (each p) (flat_map each ps)
+    behind_is_all each (before ++ each p) ps ∙ append_assoc before (each p) (flat_map each ps)
 
 module _ (env : Variables) (P T : Type 0) (outcome : P → Outcome T) (keys : P → List Names)
     (words : P → List (List ℕ)) (form : P → ProgramForm T) (agrees : P → Type 0)

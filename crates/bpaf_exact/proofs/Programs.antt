@@ -120,8 +120,7 @@ word_of words at (suc n) ds o =
           before = later w.place w.before;
         }
       where
-        later : (p : ℕ) → ((q : ℕ) → q < p → at (suc q) ≡ None) → (q : ℕ) → q < suc p
-            → at q ≡ None
+        later : (p : ℕ) → ((q : ℕ) → q < p → at (suc q) ≡ None) → (q : ℕ) → q < suc p → at q ≡ None
         later p before zero l = e
         later p before (suc q) l = before q (omega arith)
 
@@ -227,8 +226,7 @@ module _ (called : Called) (s : Situation) (p : ℕ)
         (λ (before : q < p). closed_outside behind q (outside q before)
         ∙ sym (none_before q before))
         (λ (after : p ≤ q). same_item s behind q (same_scope q after) refl
-        (taken_other s p q other))
-        (cases_lt q p);
+        (taken_other s p q other)) (cases_lt q p);
   }
     where
       outside : (q : ℕ) → q < p → in_scope behind q ≡ false
@@ -245,8 +243,7 @@ module _ (called : Called) (s : Situation) (p : ℕ)
       opens_at (opening_words called) (open_item s) (open_item behind) (length s.context.line) p
       m.item m.in_line m.is
       (passes_at (is_one_of (opening_words called)) (item_at s p) m.item
-      (open_item_there s p m.item m.is).1 at.named)
-      none_before behind_one
+      (open_item_there s p m.item m.is).1 at.named) none_before behind_one
 
   -- what isn't taken lies in the scope behind it
   pub whole_behind : {env : Variables} → IsWholeIn env s → IsWholeIn env behind
@@ -319,11 +316,9 @@ module _ {env : Variables} (T : Type 0) (inner : Outcome T) (r : Roles) (value :
 
   -- an Ok took the word, and has the value of what is behind it
   command_ok : (s t : Situation) (v : T) → IsWholeIn env s → IsSpelledLine s.context
-      → CommandEval T inner called s (Ok v) t
-      → NonePresent (cells t) → opened_value (cells s) v
+      → CommandEval T inner called s (Ok v) t → NonePresent (cells t) → opened_value (cells s) v
   command_ok s t v w spelled (command_value {p = p} at i e) n =
-      from_behind s p v at
-      (l.ok (inside called s p) t v (whole_behind called s p at w) spelled i n)
+      from_behind s p v at (l.ok (inside called s p) t v (whole_behind called s p at w) spelled i n)
 
   -- what its program answers behind the word where there is a value
   answer_behind : (s m : Situation) (p : ℕ) (a : Result T Error) (u : T) → IsWholeIn env s
@@ -352,8 +347,7 @@ module _ {env : Variables} (T : Type 0) (inner : Outcome T) (r : Roles) (value :
   command_none : (s t : Situation) (a : Result T Error) → IsWholeIn env s
       → CommandEval T inner called s a t → OpensNone words (cells s) → FindsNoCommand s a t
   unfolding cells
-  command_none s t a w (command_value {p = p} at i e) n =
-      absurd (n _ (opens_cells called s p at))
+  command_none s t a w (command_value {p = p} at i e) n = absurd (n _ (opens_cells called s p at))
   command_none s t a w (command_leftover {p = p} at i left) n =
       absurd (n _ (opens_cells called s p at))
   command_none s t a w (command_refused {p = p} at i spared) n =

@@ -27,8 +27,7 @@ module _ (T : Type 0) (clones : T → T → Type 0) (kept : T) where
 
   -- a value takes nothing
   pure_ok : {env : Variables} (s t : Situation) (v : T) → IsWholeIn env s
-      → PureOutcome (GivesClone clones kept) s (Ok v) t
-      → FieldTook T ByName no_roles value s v t
+      → PureOutcome (GivesClone clones kept) s (Ok v) t → FieldTook T ByName no_roles value s v t
   pure_ok s t v w o =
       subst (FieldTook T ByName no_roles value s v) (sym o.1)
       (record {

@@ -121,8 +121,7 @@ module _ {env : Variables} (A B : Type 0) (fields : Outcome A) (makes : A → B 
   -- a constructor changes nothing
   con_steady : (s t : Situation) (v : B) → IsWholeIn env s → ProductOutcome fields makes s (Ok v) t
       → Steady s t
-  con_steady s t v w o =
-      subst (Steady s) (sym o.4) (same_steady (l.steady s o.0 o.1 w o.2))
+  con_steady s t v w o = subst (Steady s) (sym o.4) (same_steady (l.steady s o.0 o.1 w o.2))
 
   -- its value is made of those that are read off a cut
   con_reads : (s t : Situation) (v : B) → IsWholeIn env s → ProductOutcome fields makes s (Ok v) t
@@ -132,8 +131,7 @@ module _ {env : Variables} (A B : Type 0) (fields : Outcome A) (makes : A → B 
       record {
         cut_into = a.cut_into;
         cut = a.cut;
-        read =
-            record { from = o.1; read = a.read; made = o.3 };
+        read = record { from = o.1; read = a.read; made = o.3 };
       }
 
   -- a product with its constructor keeps to the laws of a list of fields

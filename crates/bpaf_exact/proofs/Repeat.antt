@@ -114,8 +114,7 @@ module _ {env : Variables} (T : Type 0) (inner : Outcome T) (k : FieldKind) (q :
   not_less s m e = let h = same_count s m e in omega arith
 
   -- where a piece was taken fewer are
-  fewer_count : (s m : Situation) → TakesAny q (cells s) (cells m)
-      → open_count m < open_count s
+  fewer_count : (s m : Situation) → TakesAny q (cells s) (cells m) → open_count m < open_count s
   fewer_count s m t =
       let a = takes_any_fewer q t in
       let b = open_present m in
@@ -187,8 +186,7 @@ module _ {env : Variables} (T : Type 0) (inner : Outcome T) (k : FieldKind) (q :
   later_took : (vs : List T) (s m t : Situation) → IsWholeIn env s → Turns inner false false s vs m
       → TurnOutcome inner false false m (Ok None) t → Took s vs t
   later_took [] s m t w turns stop =
-      stop_took s t w
-      (subst (λ z. TurnOutcome inner false false z (Ok None) t) (sym turns) stop)
+      stop_took s t w (subst (λ z. TurnOutcome inner false false z (Ok None) t) (sym turns) stop)
   later_took (v ∷ vs) s m t w turns stop =
       step_took s turns.0 t v vs (took_item s turns.0 turns.1.1) (l.ok s turns.0 v w turns.1.0)
       (λ st. later_took vs turns.0 m t (none_outside_after s turns.0 w st) turns.2 stop)
@@ -236,11 +234,9 @@ module _ {env : Variables} (T : Type 0) (inner : Outcome T) (k : FieldKind) (q :
       let none : us ≡ [] = own_nil (own m) us (same_own s m same ∙ own_none_left s p) i.list in
       record {
         steady = steady_trans st i.steady;
-        takes =
-            some_trans q (same_takes q same) i.takes;
+        takes = some_trans q (same_takes q same) i.takes;
         none = i.none ∙ same_left s m same;
-        list =
-            absent_alone s m v us none h p ab;
+        list = absent_alone s m v us none h p ab;
       }
   first_step s m t v us (took h) more =
       let i = took_more s m t v us h (more h.steady) in
@@ -248,8 +244,7 @@ module _ {env : Variables} (T : Type 0) (inner : Outcome T) (k : FieldKind) (q :
         steady = i.steady;
         takes = i.takes;
         none = i.none;
-        list =
-            with_absent gap.has refl (own s) v us i.absent i.list;
+        list = with_absent gap.has refl (own s) v us i.absent i.list;
       }
 
   -- a first value that took nothing
@@ -275,8 +270,7 @@ module _ {env : Variables} (T : Type 0) (inner : Outcome T) (k : FieldKind) (q :
         steady = steady_refl s;
         takes = takes_none;
         none = all_left s p;
-        list =
-            listed g (subst (λ os. Own T group os []) (sym (own_none_left s p)) own_none);
+        list = listed g (subst (λ os. Own T group os []) (sym (own_none_left s p)) own_none);
       }
   first_stop s m e h (of_absent c g p n) = absurd (no_stop s m e Refused h c (λ i. cc) (λ i. cc))
   first_stop s m e h (of_piece c p n) = absurd (no_stop s m e Refused h c (λ i. cc) (λ i. cc))
@@ -294,8 +288,7 @@ module _ {env : Variables} (T : Type 0) (inner : Outcome T) (k : FieldKind) (q :
       → Turns inner false first s vs m → TurnOutcome inner false (is_nil vs) m (Ok None) t
       → RepeatTook s vs t
   turns_took first [] s m t w turns stop =
-      first_stopped s t w
-      (subst (λ z. TurnOutcome inner false true z (Ok None) t) (sym turns) stop)
+      first_stopped s t w (subst (λ z. TurnOutcome inner false true z (Ok None) t) (sym turns) stop)
   turns_took first (v ∷ vs) s m t w turns stop =
       first_step s turns.0 t v vs (l.ok s turns.0 v w turns.1.0)
       (λ st. later_took vs turns.0 m t (none_outside_after s turns.0 w st) turns.2 stop)
@@ -335,12 +328,10 @@ module _ {env : Variables} (T : Type 0) (inner : Outcome T) (k : FieldKind) (q :
 
   -- where the pieces can be read a refusal is want of memory
   failed_gives : (s t : Situation) (e : Error) (ws : List T) → IsWholeIn env s
-      → (gap.has ≡ true → (a : T) × gap.absent a) → OwnView (own s) ws
-      → (Stops e s t → ⊥)
+      → (gap.has ≡ true → (a : T) × gap.absent a) → OwnView (own s) ws → (Stops e s t → ⊥)
       → SingleErr T k q group gap s e t → class e ≡ OfMemory
   failed_gives s t e ws w ab o n (of_memory c) = c
-  failed_gives s t e ws w ab o n (of_missing c g p same) =
-      absurd (n (stops_by s t e c same))
+  failed_gives s t e ws w ab o n (of_missing c g p same) = absurd (n (stops_by s t e c same))
   failed_gives s t e ws w ab o n (of_absent c g p none) = let a = ab g in absurd (none a.0 a.1)
   failed_gives s t e ws w ab (view_none p x) n (of_piece c ne none) = absurd (ne (nil_each k _ p))
   failed_gives s t e ws w ab (view_more v rest us x g o) n (of_piece c ne none) =
@@ -405,8 +396,7 @@ module _ {env : Variables} (T : Type 0) (inner : Outcome T) (k : FieldKind) (q :
   turns_fail first [] s m t e ws w view turns fails =
       by_view view (subst (λ z. TurnOutcome inner false true z (Err e) t) (sym turns) fails)
     where
-      by_view : ListView (own s) ws → TurnOutcome inner false true s (Err e) t
-          → class e ≡ OfMemory
+      by_view : ListView (own s) ws → TurnOutcome inner false true s (Err e) t → class e ≡ OfMemory
       by_view (all_read ab o n) one = turn_fails true s t e ws w ab (own_view _ ws o) one
       by_view (gap_read h a ab p) (inl one) = gap_failed s t a e h ab p (l.err s t e w one.0)
       by_view (gap_read h a ab p) (inr one) = memory_class e.0 one.0
@@ -422,8 +412,7 @@ module _ {env : Variables} (T : Type 0) (inner : Outcome T) (k : FieldKind) (q :
 
   -- where there is an own list a repeat fails for want of memory alone
   repeat_fails : (idle : Bool) (s t : Situation) (e : Error) (ws : List T) → IsWholeIn env s
-      → RepeatOutcome inner idle s (Err e) t → OwnList T group gap (own s) ws
-      → class e ≡ OfMemory
+      → RepeatOutcome inner idle s (Err e) t → OwnList T group gap (own s) ws → class e ≡ OfMemory
   repeat_fails false s t e ws w o own_list =
       turns_fail true o.values s o.last t e ws w (list_view _ ws own_list) o.steps o.fails
   repeat_fails true s t e ws w o own_list =

@@ -25,8 +25,7 @@ front_one T value os rest v g = (g.piece, g.is)
 
 -- where one evaluation reads one piece, two have no value
 group_once : {T : Type 0} (group : Groups T) → OneByOne group
-    → (o p : LinePiece) (os : List LinePiece)
-    (v : T) → group (o ∷ p ∷ os) v [] → ⊥
+    → (o p : LinePiece) (os : List LinePiece) (v : T) → group (o ∷ p ∷ os) v [] → ⊥
 group_once group one o p os v g = let i = one (o ∷ p ∷ os) [] v g in let e = i.1 in cc
 
 module _ (T : Type 0) (group : Groups T) (gap : Gap T) (one : OneByOne group) where
@@ -102,14 +101,12 @@ module _ (T : Type 0) (value : LinePiece → T → Type 0) (gap : Gap T) where
   pub repeat_bad : (os : List LinePiece) (vs : List T) → HasBad T value os
       → OwnList T (FrontOf T value) gap os vs → ⊥
   repeat_bad os vs b (listed h o) = own_bad T value os vs b o
-  repeat_bad os vs b (listed_and_absent {v = v} {vs = us} h a o) =
-      own_bad T value os (v ∷ us) b o
+  repeat_bad os vs b (listed_and_absent {v = v} {vs = us} h a o) = own_bad T value os (v ∷ us) b o
   repeat_bad os vs b (only_absent h a) = elim b [ ]
 
   -- nor has `last`
   pub last_bad : (os : List LinePiece) (v : T) → HasBad T value os
-      → LastOf T (FrontOf T value) gap os v
-      → ⊥
+      → LastOf T (FrontOf T value) gap os v → ⊥
   last_bad os v b h = repeat_bad os h.list b h.own
 
   -- nor what has no repeat or default

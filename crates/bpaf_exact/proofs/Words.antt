@@ -86,8 +86,7 @@ begin_alone k cs os e = ap (λ z. begin_piece z k cs os) e
 
 -- Where no key is cut off, the pieces are the words that are present.
 pub words_of_cut : (q r : Roles) {cs : Cells} {os : List LinePiece} → IsWords q → NoKeys r
-    → Cut r cs os
-    → pieces q cs ≡ os
+    → Cut r cs os → pieces q cs ≡ os
 words_of_cut q r n f at_end = refl
 words_of_cut q r n f (passed c) = words_of_cut q r n f c
 words_of_cut q r n f (flag {k = k} e c) = let g = f.none k in cc

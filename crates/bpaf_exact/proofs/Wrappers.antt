@@ -35,8 +35,7 @@ module _ {env : Variables} (A B : Type 0) (inner : Outcome A) (k : FieldKind) (q
       record {
         steady = a.steady;
         takes = a.takes;
-        read =
-            λ n. record { from = x; read = a.read n; made = y };
+        read = λ n. record { from = x; read = a.read n; made = y };
         rest = a.rest;
       }
 
@@ -107,10 +106,8 @@ module _ {env : Variables} (T : Type 0) (inner : Outcome T) (k : FieldKind) (q :
       record {
         steady = st;
         takes = same_takes q same;
-        read =
-            λ n. nothing_read (pieces q (cells s)) v p ab;
-        rest =
-            λ n. nothing_left _ _ p (ap (pieces q) same);
+        read = λ n. nothing_read (pieces q (cells s)) v p ab;
+        rest = λ n. nothing_left _ _ p (ap (pieces q) same);
       }
   single_took s t v (took h) = record {
     steady = h.steady;
@@ -121,8 +118,7 @@ module _ {env : Variables} (T : Type 0) (inner : Outcome T) (k : FieldKind) (q :
 
   -- what the front means the pieces mean
   of_front : (z : FieldKind) (os : List LinePiece) (v : T) → ReadsWords z group
-      → group (front z os) v []
-      → group os v (back z os)
+      → group (front z os) v [] → group os v (back z os)
   of_front ByName os v u g = g
   of_front (OneWord b) os v u g = u.of_front os v g
   of_front (EachWord b) os v u g = absurd u
@@ -189,8 +185,7 @@ module _ {env : Variables} (T : Type 0) (inner : Outcome T) (k : FieldKind) (q :
         steady = a.steady;
         takes = a.takes;
         read = λ n. some_value (a.read n);
-        rest =
-            a.rest;
+        rest = a.rest;
       }
   optional_ok s t v w (optional_none {e = e} {m = m} i h) =
       let a = stop_missing s m e h (l.err s m e w i) in
@@ -230,8 +225,7 @@ module _ {env : Variables} (T : Type 0) (inner : Outcome T) (k : FieldKind) (q :
       → front k (pieces q (cells s)) ≡ [] → gap.has ≡ false → SingleErr T k q group gap s e t
       → class e ≡ OfMemory
   none_fails s t e w n p b (of_memory c) = c
-  none_fails s t e w n p b (of_missing c g p' same) =
-      absurd (n (stops_by s t e c same))
+  none_fails s t e w n p b (of_missing c g p' same) = absurd (n (stops_by s t e c same))
   none_fails s t e w n p b (of_absent c g p' x) = absurd cc
   none_fails s t e w n p b (of_piece c ne x) = absurd (ne p)
 
@@ -287,8 +281,7 @@ module _ {env : Variables} (T : Type 0) (inner : Outcome T) (k : FieldKind) (q :
           steady = a.steady;
           takes = a.takes;
           read = λ n. own_value (a.read n);
-          rest =
-              a.rest;
+          rest = a.rest;
         }
     fallback_took s t v w (fallback_given {e = e} {m = m} i h y) =
         let a = catch_nothing s m e h (l.err s m e w i) in
