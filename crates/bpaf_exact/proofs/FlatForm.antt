@@ -71,12 +71,6 @@ flat_choice_law env T a b own others (alternative q x) (alternative r y) la lb =
     ))
 flat_choice_law env T a b own others _ _ la lb = tt
 
--- an alternative alone
-pub only_law : (env : Variables) (T : Type 0) (outcome : Outcome T) (names : List Names)
-    (s : FlatForm T) → FormLaw env outcome names s → FormLaw env outcome names (alternative_only s)
-only_law env T outcome names (alternative q value) l = l
-only_law env T outcome names _ l = tt
-
 -- a repeat has the keys of the field
 repeated_keys : (k : FieldKind) (q : Roles) (names : List Names) → Owns (keys k q) names
     → Owns (keys (repeated k) q) names
@@ -150,17 +144,57 @@ flat_fallback_law env T inner f decides names =
     (λ group gap. FallbackValue T group gap f) names (λ k q o. o)
     (λ k q group gap l. fallback_law T inner k q group gap l f decides)
 
--- a field of a product, which may be a product of named fields
-pub flat_field_law : (env : Variables) (T : Type 0) (outcome : Outcome T) (names : List Names)
-    (s : FlatForm T) → FormLaw env outcome names s → FormLaw env outcome names (flat_field s)
-flat_field_law env T outcome names (product true q fields) l = (l.2, l.1)
-flat_field_law env T outcome names (alternative q value) l =
-    flat_whole_law env outcome outcome (λ k. k) (SingleValue T) names (λ k q o. o)
-    (single_law T outcome) (alternative q value) l
-flat_field_law env T outcome names (single k q group gap) l =
-    (single_law T outcome k q group gap l.0, l.1)
-flat_field_law env T outcome names not_flat l = tt
-flat_field_law env T outcome names _ l = l
+-- no item without a key
+pub no_names : Owns no_roles []
+no_names = record { own = λ k e. absurd cc }
+
+module _ (env : Variables) (T : Type 0) (outcome : Outcome T) (names : List Names) where
+  -- the law of a form
+  abbrev Law : FlatForm T → Type 0
+  Law = FormLaw env outcome names
+
+  -- an alternative alone
+  pub only_law : (s : FlatForm T) → Law s → Law (alternative_only s)
+  only_law (alternative q value) l = l
+  only_law _ l = tt
+
+  -- a field of a product, which may be a product of named fields
+  pub flat_field_law : (s : FlatForm T) → Law s → Law (flat_field s)
+  flat_field_law (product true q fields) l = (l.2, l.1)
+  flat_field_law (alternative q value) l =
+      flat_whole_law env outcome outcome (λ k. k) (SingleValue T) names (λ k q o. o)
+      (single_law T outcome) (alternative q value) l
+  flat_field_law (single k q group gap) l = (single_law T outcome k q group gap l.0, l.1)
+  flat_field_law not_flat l = tt
+  flat_field_law _ l = l
+
+  -- the last field, or one alone
+  pub flat_alone_law : (s : FlatForm T) → Law s → Law (flat_alone s)
+  flat_alone_law (complete k q value) l = (
+    last_law T outcome k q value l.0,
+    subst (Owns (either (keys k q) no_roles)) (append-nil names)
+        (either_owns (keys k q) no_roles names [] l.1 no_names),
+    by_name k l.0,
+  )
+    where
+      by_name : (j : FieldKind) → FieldLaw env T outcome j q value
+          → NamedLaw env (is_named j) outcome (either (keys j q) no_roles) (LastValue T j q value)
+      by_name ByName l = named_last_law T outcome q value l
+      by_name (OneWord z) l = tt
+      by_name (EachWord z) l = tt
+  flat_alone_law (product false q fields) l = l
+  flat_alone_law _ l = tt
+
+  -- a flat record is a product
+  pub flat_record_law : (s : FlatForm T) → Law s → Law (flat_record s)
+  flat_record_law (product named q fields) l = l
+  flat_record_law s l = flat_alone_law (flat_field s) (flat_field_law s l)
+
+  -- each flat record keeps to the laws of a list of fields
+  pub record_law : (s : FlatForm T) → is_record s ≡ true → Law s
+      → FieldsLaw env T outcome (product_roles (flat_record s)) (product_reading (flat_record s))
+  record_law not_flat h l = absurd cc
+  record_law s h l = (flat_record_law s l).0
 
 -- no is no yes
 nobody : false ≡ true → ⊥
@@ -198,28 +232,6 @@ flat_both_law env A B first rest own others (complete k q fv) (product named r f
     by_names (EachWord z) all l m apart = tt
 flat_both_law env A B first rest own others _ _ la lb = tt
 
--- no item without a key
-pub no_names : Owns no_roles []
-no_names = record { own = λ k e. absurd cc }
-
--- the last field, or one alone
-pub flat_alone_law : (env : Variables) (T : Type 0) (outcome : Outcome T) (names : List Names)
-    (s : FlatForm T) → FormLaw env outcome names s → FormLaw env outcome names (flat_alone s)
-flat_alone_law env T outcome names (complete k q value) l = (
-  last_law T outcome k q value l.0,
-  subst (Owns (either (keys k q) no_roles)) (append-nil names)
-      (either_owns (keys k q) no_roles names [] l.1 no_names),
-  by_name k l.0,
-)
-  where
-    by_name : (j : FieldKind) → FieldLaw env T outcome j q value
-        → NamedLaw env (is_named j) outcome (either (keys j q) no_roles) (LastValue T j q value)
-    by_name ByName l = named_last_law T outcome q value l
-    by_name (OneWord z) l = tt
-    by_name (EachWord z) l = tt
-flat_alone_law env T outcome names (product false q fields) l = l
-flat_alone_law env T outcome names _ l = tt
-
 -- the constructor of a product
 pub flat_con_law : (env : Variables) (A B : Type 0) (inner : Outcome A) (makes : A → B → Type 0)
     (names : List Names) (s : FlatForm A) → FormLaw env inner names s
@@ -233,17 +245,3 @@ flat_con_law env A B inner makes names (product named q fields) l =
     by_name true l = named_con_law A B inner makes q fields.value l
     by_name false l = tt
 flat_con_law env A B inner makes names _ l = tt
-
--- a flat record is a product
-pub flat_record_law : (env : Variables) (T : Type 0) (outcome : Outcome T) (names : List Names)
-    (s : FlatForm T) → FormLaw env outcome names s → FormLaw env outcome names (flat_record s)
-flat_record_law env T outcome names (product named q fields) l = l
-flat_record_law env T outcome names s l =
-    flat_alone_law env T outcome names (flat_field s) (flat_field_law env T outcome names s l)
-
--- each flat record keeps to the laws of a list of fields
-pub record_law : (env : Variables) (T : Type 0) (outcome : Outcome T) (names : List Names)
-    (s : FlatForm T) → is_record s ≡ true → FormLaw env outcome names s
-    → FieldsLaw env T outcome (product_roles (flat_record s)) (product_reading (flat_record s))
-record_law env T outcome names not_flat h l = absurd cc
-record_law env T outcome names s h l = (flat_record_law env T outcome names s l).0

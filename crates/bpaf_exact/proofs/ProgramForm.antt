@@ -43,14 +43,6 @@ use Rattle.bpaf_exact.proofs.Narrow.{AllowsNoMore, narrower_form, narrower_gives
 use Rattle.bpaf_exact.proofs.Names.{apart_of_names, either_owns}
 use Rattle.bpaf_exact.proofs.Programs.{command_law, record_program}
 
--- where a test holds
-program_if_law : (env : Variables) (T : Type 0) (outcome : Outcome T) (names : List Names)
-    (words : List (List ℕ))
-    (s : ProgramForm T) (b : Bool) → (b ≡ true → ProgramFormLaw env outcome names words s)
-    → ProgramFormLaw env outcome names words (program_if b s)
-program_if_law env T outcome names words s true f = f refl
-program_if_law env T outcome names words s false f = tt
-
 -- a flat record owns its keys
 pub record_owns : (env : Variables) (T : Type 0) (outcome : Outcome T) (names : List Names)
     (s : FlatForm T) → is_record s ≡ true → FormLaw env outcome names (flat_record s)
@@ -58,20 +50,69 @@ pub record_owns : (env : Variables) (T : Type 0) (outcome : Outcome T) (names : 
 record_owns env T outcome names not_flat h l = absurd cc
 record_owns env T outcome names _ h l = l.1
 
--- a whole program
-whole_program_law : (env : Variables) (T : Type 0) (outcome : Outcome T) (names : List Names)
-    (words : List (List ℕ)) (s : ProgramForm T) → ProgramFormLaw env outcome names words s
-    → ProgramFormLaw env outcome names words (whole_program s)
-whole_program_law env T outcome names words no_program l = tt
-whole_program_law env T outcome names words (plain wide s) l =
-    program_if_law env T outcome names words _ (is_record s)
-    (λ h. (
+module _ (env : Variables) (T : Type 0) (outcome : Outcome T) (names : List Names)
+    (words : List (List ℕ)) where
+  -- the law of a form
+  abbrev Law : ProgramForm T → Type 0
+  Law = ProgramFormLaw env outcome names words
+
+  -- where a test holds
+  program_if_law : (s : ProgramForm T) (b : Bool) → (b ≡ true → Law s) → Law (program_if b s)
+  program_if_law s true f = f refl
+  program_if_law s false f = tt
+
+  -- a whole program
+  whole_program_law : (s : ProgramForm T) → Law s → Law (whole_program s)
+  whole_program_law no_program l = tt
+  whole_program_law (plain wide s) l =
+      program_if_law _ (is_record s)
+      (λ h. (
+        record_program T outcome (product_roles (flat_record s)) (product_reading (flat_record s))
+            (record_law env T outcome names s h l),
+        record_owns env T outcome names s h (flat_record_law env T outcome names s l),
+      ))
+  whole_program_law (commands r value) l = (l.0.program, l.1)
+  whole_program_law _ l = l
+
+  -- another look
+  pub program_dressed_law : (s : ProgramForm T) → Law s → Law (program_dressed s)
+  program_dressed_law no_program l = tt
+  program_dressed_law (before_commands r value) l = tt
+  program_dressed_law _ l = l
+
+  -- a field of a product
+  pub program_field_law : (s : ProgramForm T) → Law s → Law (program_field s)
+  program_field_law (plain wide s) l = flat_field_law env T outcome names s l
+  program_field_law s l = l
+
+  -- the last field
+  pub program_alone_law : (s : ProgramForm T) → Law s
+      → ProgramFormLaw env outcome names [] (program_alone s)
+  program_alone_law no_program l = tt
+  program_alone_law (plain wide s) l = flat_alone_law env T outcome names s l
+  program_alone_law (commands r value) l = (l.0.program, l.1)
+  program_alone_law _ l = l
+
+  -- the first of a choice
+  first_only_law : (s : ProgramForm T) → Law s → Law (first_only s)
+  first_only_law (plain wide s) l = only_law env T outcome names s l
+  first_only_law (commands r value) l = l
+  first_only_law _ l = tt
+
+  -- a flat record's form keeps to its law
+  pub flat_form_law : (s : ProgramForm T) → Law s → FormLaw env outcome names (flat_form s)
+  flat_form_law (plain false s) l = l
+  flat_form_law _ l = tt
+
+  -- a program keeps to the laws of one
+  program_law : (s : ProgramForm T) → is_program s ≡ true → Law s
+      → ProgramLaw env T outcome (program_roles s) (program_value s)
+  program_law no_program h l = absurd cc
+  program_law (plain wide s) h l =
       record_program T outcome (product_roles (flat_record s)) (product_reading (flat_record s))
-          (record_law env T outcome names s h l),
-      record_owns env T outcome names s h (flat_record_law env T outcome names s l),
-    ))
-whole_program_law env T outcome names words (commands r value) l = (l.0.program, l.1)
-whole_program_law env T outcome names words _ l = l
+      (record_law env T outcome names s h l)
+  program_law (commands r value) h l = l.0.program
+  program_law _ h l = l.0
 
 -- a command that opens a program
 opened_form_law : (env : Variables) (T : Type 0) (inner : Outcome T) (called : Called)
@@ -103,14 +144,6 @@ pub flat_only_law : (env : Variables) {A B : Type 0} (inner : Outcome A) (outcom
     → ProgramFormLaw env outcome names more (flat_only g s)
 flat_only_law env inner outcome names words more g law (plain wide s) l = law s l
 flat_only_law env inner outcome names words more g law _ l = tt
-
--- another look
-pub program_dressed_law : (env : Variables) (T : Type 0) (outcome : Outcome T) (names : List Names)
-    (words : List (List ℕ)) (s : ProgramForm T) → ProgramFormLaw env outcome names words s
-    → ProgramFormLaw env outcome names words (program_dressed s)
-program_dressed_law env T outcome names words no_program l = tt
-program_dressed_law env T outcome names words (before_commands r value) l = tt
-program_dressed_law env T outcome names words _ l = l
 
 -- a closure
 pub program_closed_law : (env : Variables) (A B : Type 0) (inner : Outcome A) (f : Closure A B)
@@ -217,24 +250,6 @@ program_choice_law env T a b own others words more (commands q va) (commands r v
     ))
 program_choice_law env T a b own others words more _ _ la lb = tt
 
--- a field of a product
-pub program_field_law : (env : Variables) (T : Type 0) (outcome : Outcome T) (names : List Names)
-    (words : List (List ℕ)) (s : ProgramForm T) → ProgramFormLaw env outcome names words s
-    → ProgramFormLaw env outcome names words (program_field s)
-program_field_law env T outcome names words (plain wide s) l =
-    flat_field_law env T outcome names s l
-program_field_law env T outcome names words s l = l
-
--- the last field
-pub program_alone_law : (env : Variables) (T : Type 0) (outcome : Outcome T) (names : List Names)
-    (words : List (List ℕ)) (s : ProgramForm T) → ProgramFormLaw env outcome names words s
-    → ProgramFormLaw env outcome names [] (program_alone s)
-program_alone_law env T outcome names words no_program l = tt
-program_alone_law env T outcome names words (plain wide s) l =
-    flat_alone_law env T outcome names s l
-program_alone_law env T outcome names words (commands r value) l = (l.0.program, l.1)
-program_alone_law env T outcome names words _ l = l
-
 -- a field before others
 pub program_both_law : (env : Variables) (A B : Type 0) (first : Outcome A) (rest : Outcome B)
     (own others : List Names) (words : List (List ℕ)) (s : ProgramForm A) (t : ProgramForm B)
@@ -261,18 +276,6 @@ program_con_law env A B inner makes names (plain wide s) l =
 program_con_law env A B inner makes names (before_commands r value) l =
     (con_program A B inner makes r value l.0, l.1)
 program_con_law env A B inner makes names _ l = tt
-
--- a program keeps to the laws of one
-program_law : (env : Variables) (T : Type 0) (outcome : Outcome T) (names : List Names)
-    (words : List (List ℕ))
-    (s : ProgramForm T) → is_program s ≡ true → ProgramFormLaw env outcome names words s
-    → ProgramLaw env T outcome (program_roles s) (program_value s)
-program_law env T outcome names words no_program h l = absurd cc
-program_law env T outcome names words (plain wide s) h l =
-    record_program T outcome (product_roles (flat_record s)) (product_reading (flat_record s))
-    (record_law env T outcome names s h l)
-program_law env T outcome names words (commands r value) h l = l.0.program
-program_law env T outcome names words _ h l = l.0
 
 -- THE THEOREM: on every line, spelled by words, an answer of a run of a program is a value only
 -- where that is one of the program's; and where it has a value, it is one, or want of memory.
@@ -321,14 +324,6 @@ narrower_program_form env T a b n names words (left_out r value) l =
 narrower_program_form env T a b n names words (before_commands r value) l =
     (narrower_program T a b n r value l.0, l.1)
 
--- the first of a choice
-first_only_law : (env : Variables) (T : Type 0) (outcome : Outcome T) (names : List Names)
-    (words : List (List ℕ)) (s : ProgramForm T) → ProgramFormLaw env outcome names words s
-    → ProgramFormLaw env outcome names words (first_only s)
-first_only_law env T outcome names words (plain wide s) l = only_law env T outcome names s l
-first_only_law env T outcome names words (commands r value) l = l
-first_only_law env T outcome names words _ l = tt
-
 -- what all parsers of a list have, behind what stands before
 abbrev all_behind : {P X : Type 0} → (P → List X) → List X → List P → List X
 all_behind each before [] = before
@@ -371,16 +366,3 @@ module _ (env : Variables) (P T : Type 0) (outcome : P → Outcome T) (keys : P 
       (behind_is_all words (words p) ps)
       (program_rest_law ps each.1 (outcome p) (keys p) (words p) (first_only (form p))
       (first_only_law env T (outcome p) (keys p) (words p) (form p) (law p each.0))))
-
--- a flat record's form keeps to its law
-pub flat_form_law : (env : Variables) (T : Type 0) (outcome : Outcome T) (names : List Names)
-    (words : List (List ℕ)) (s : ProgramForm T) → ProgramFormLaw env outcome names words s
-    → FormLaw env outcome names (flat_form s)
-flat_form_law env T outcome names words (plain false s) l = l
-flat_form_law env T outcome names words _ l = tt
-
--- what is answered as by others keeps to their law
-pub kept : (env : Variables) {T : Type 0} {a b : Outcome T} → AllowsNoMore T a b
-    → (names : List Names) (words : List (List ℕ)) (s : ProgramForm T)
-    → ProgramFormLaw env a names words s → ProgramFormLaw env b names words s
-kept env {T} {a} {b} n names words s l = narrower_program_form env T a b n names words s l
