@@ -323,21 +323,17 @@ module _ {env : Variables} (T : Type 0) (a b : Outcome T) (ra rb : Roles) (wa wb
   first_closed : (cs : Cells) (u : T) → vb cs u → OpensNone wa cs
   first_closed cs u h ds o = let i = lb.opened cs u h in opens_apart wa wb apart o i.1
 
-  -- where the first has a value each value of the choice is one of its
-  first_gives : (s t : Situation) (v u : T) → IsWholeIn env s → BranchOk s v t → va (cells s) u
-      → GivesAll (value (cells s)) (Ok v) t
-  first_gives s t v u w (of_first {m = m} i e) h =
+  -- where either has a value each value of the choice is one of its
+  choice_gives : (s t : Situation) (v u : T) → IsWholeIn env s → BranchOk s v t
+      → value (cells s) u → GivesAll (value (cells s)) (Ok v) t
+  choice_gives s t v u w (of_first {m = m} i e) (first_value h) =
       let g = la.program.answers s m (Ok v) u w i h in
       (first_value g.0, subst NonePresent (sym e.cells_alike) g.1)
-  first_gives s t v u w (of_second {m = m} i e) h =
+  choice_gives s t v u w (of_second {m = m} i e) (first_value h) =
       absurd (lb.none s m (Ok v) w i (second_closed (cells s) u h))
-
-  -- so where the second has
-  second_gives : (s t : Situation) (v u : T) → IsWholeIn env s → BranchOk s v t → vb (cells s) u
-      → GivesAll (value (cells s)) (Ok v) t
-  second_gives s t v u w (of_first {m = m} i e) h =
+  choice_gives s t v u w (of_first {m = m} i e) (second_value h) =
       absurd (la.none s m (Ok v) w i (first_closed (cells s) u h))
-  second_gives s t v u w (of_second {m = m} i e) h =
+  choice_gives s t v u w (of_second {m = m} i e) (second_value h) =
       let g = lb.program.answers s m (Ok v) u w i h in
       (second_value g.0, subst NonePresent (sym e.cells_alike) g.1)
 
@@ -402,8 +398,7 @@ module _ {env : Variables} (T : Type 0) (a b : Outcome T) (ra rb : Roles) (wa wb
   -- each answer
   choice_answers : (s t : Situation) (r : Result T Error) (u : T) → IsWholeIn env s
       → ChoiceOutcome a b s r t → value (cells s) u → GivesAll (value (cells s)) r t
-  choice_answers s t (Ok v) u w o (first_value h) = first_gives s t v u w (branch_ok s t v o) h
-  choice_answers s t (Ok v) u w o (second_value h) = second_gives s t v u w (branch_ok s t v o) h
+  choice_answers s t (Ok v) u w o h = choice_gives s t v u w (branch_ok s t v o) h
   choice_answers s t (Err e) u w (inr o) h = memory_class e.0 o.0
   choice_answers s t (Err e) u w (inl o) (first_value h) =
       absurd (first_fails s o.sa o.sb t o.a o.b e u w o.first_ran o.second_ran o.first_spared
