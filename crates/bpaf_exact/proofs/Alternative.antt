@@ -55,8 +55,7 @@ took_front T value k q s t v o st f e means some =
 
 -- An alternative is a field without a repeat or default.
 module _ {env : Variables} (T : Type 0) (outcome : Outcome T) (q : Roles)
-    (value : LinePiece → T → Type 0)
-    (l : AlternativeLaw env T outcome q value) where
+    (value : LinePiece → T → Type 0) (l : AlternativeLaw env T outcome q value) where
   -- its value is that of the first piece, where all others can be read
   alternative_reads : (s t : Situation) (v : T) (a : AlternativeOk T q value s v t)
       → TakesFirst q (cells s) a.piece (cells t) ⊎ HasBad T value (pieces q (cells t))
@@ -103,8 +102,7 @@ module _ {env : Variables} (T : Type 0) (outcome : Outcome T) (q : Roles)
 
 -- inner closures round an alternative
 module _ {env : Variables} (A B : Type 0) (inner : Outcome A) (q : Roles)
-    (value : LinePiece → A → Type 0)
-    (l : AlternativeLaw env A inner q value) (f : Closure A B)
+    (value : LinePiece → A → Type 0) (l : AlternativeLaw env A inner q value) (f : Closure A B)
     (agrees : (o : LinePiece) → AgreesOn (value o) f) where
   -- a piece that can't be read can't be read through a closure either
   closed_bad : (os : List LinePiece) → HasBad A value os → HasBad B (ClosedPiece A B value f) os

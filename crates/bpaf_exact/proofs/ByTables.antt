@@ -148,9 +148,8 @@ optional_law env T inner catch names words _ l = tt
 -- the laws of its form
 listed_law : (env : Variables) {T B : Type 0} (inner : Outcome T) (idle catch : Bool)
     (f : Closure (List T) B) (c : ErrorClass) (outcome : Bool → Outcome B)
-    → AllowsNoMore B (ClosedEval (List T) B (RepeatOutcome inner idle) f c) (outcome false)
-    → (names : List Names)
-    → ((s : FlatForm T) → FormLaw env inner names s → Agrees f (flat_repeat s))
+    → AllowsNoMore B (ClosedEval (List T) B (RepeatOutcome inner idle) f c) (outcome false) →
+    (names : List Names) → ((s : FlatForm T) → FormLaw env inner names s → Agrees f (flat_repeat s))
     → (words : List (List ℕ)) (s : ProgramForm T) → ProgramFormLaw env inner names words s
     → ProgramFormLaw env (outcome catch) names [] (program_repeat catch f s)
 listed_law env {T} {B} inner idle catch f c outcome within names agrees words =

@@ -228,9 +228,8 @@ module _ (T : Type 0) (qa qb r : Roles) (u : Union qa qb r) (va vb vr : LinePiec
   }
 
 module _ {env : Variables} (T : Type 0) (a b : Outcome T) (qa qb : Roles)
-    (va vb : LinePiece → T → Type 0)
-    (la : AlternativeLaw env T a qa va) (lb : AlternativeLaw env T b qb vb)
-    (apart : Apart qa qb) where
+    (va vb : LinePiece → T → Type 0) (la : AlternativeLaw env T a qa va)
+    (lb : AlternativeLaw env T b qb vb) (apart : Apart qa qb) where
   -- the items of both
   u : Union qa qb (either qa qb)
   u = either_union qa qb la.named lb.named apart
@@ -362,9 +361,8 @@ module _ {env : Variables} (T : Type 0) (a b : Outcome T) (qa qb : Roles)
       (cells_same sb t (same_scope (saved_steady sb sa t p k.1)) k.1.taken))
 
   -- the value of one, where the other refused
-  alone_ok : (s m t : Situation) (x v : T) (e : Error)
-      → AlternativeOk T (either qa qb) vr s x m → OneOk s (branch_of x m) e (Ok v) t
-      → AlternativeOk T (either qa qb) vr s v t
+  alone_ok : (s m t : Situation) (x v : T) (e : Error) → AlternativeOk T (either qa qb) vr s x m
+      → OneOk s (branch_of x m) e (Ok v) t → AlternativeOk T (either qa qb) vr s v t
   alone_ok s m t x v e i (inl o) = let h = o.1 in absurd cc
   alone_ok s m t x v e i (inr o) =
       let given = o.1.0 in

@@ -67,9 +67,8 @@ module _ (A B : Type 0) (inner : Outcome A) (r : Roles) (value : CellsValue A) (
       closed_ok l s t v w spelled (closed_yes {x = x} i y) n =
           record { from = x; read = l.ok s t x w spelled i n; made = y }
 
-      closed_answers : ProgramLaw env A inner r value
-          → (s t : Situation) (a : Result B Error) (u : B)
-          → IsWholeIn env s → ClosedEval A B inner f c s a t → closed (cells s) u
+      closed_answers : ProgramLaw env A inner r value → (s t : Situation) (a : Result B Error)
+          (u : B) → IsWholeIn env s → ClosedEval A B inner f c s a t → closed (cells s) u
           → GivesAll (closed (cells s)) a t
       closed_answers l s t a u w (closed_yes {x = x} i y) h =
           let g = l.answers s t (Ok x) h.from w i h.read in

@@ -136,9 +136,8 @@ flat_optional_law env T inner names =
 
 -- what has a value that stands for it
 pub flat_fallback_law : (env : Variables) (T : Type 0) (inner : Outcome T)
-    (f : Closure (Unit {0}) T) → Decides f
-    → (names : List Names) (s : FlatForm T) → FormLaw env inner names s
-    → FormLaw env (FallbackEval T inner f) names (flat_fallback f s)
+    (f : Closure (Unit {0}) T) → Decides f → (names : List Names) (s : FlatForm T)
+    → FormLaw env inner names s → FormLaw env (FallbackEval T inner f) names (flat_fallback f s)
 flat_fallback_law env T inner f decides names =
     flat_whole_law env inner (FallbackEval T inner f) (λ k. k)
     (λ group gap. FallbackValue T group gap f) names (λ k q o. o)

@@ -25,9 +25,8 @@ no_last T vs v l e = by_before l.before (sym l.is ∙ e)
     by_before [] h = cc
     by_before (x ∷ xs) h = cc
 
-module _ {env : Variables} (T : Type 0) (inner : Outcome T)
-    (k : FieldKind) (q : Roles) (group : Groups T) (gap : Gap T)
-    (l : SingleLaw env T inner k q group gap) where
+module _ {env : Variables} (T : Type 0) (inner : Outcome T) (k : FieldKind) (q : Roles)
+    (group : Groups T) (gap : Gap T) (l : SingleLaw env T inner k q group gap) where
   -- the laws of the list
   rl : FieldLaw env (List T) (RepeatOutcome inner true) (repeated k) q (OwnList T group gap)
   rl = repeat_law T inner k q group gap l true

@@ -193,9 +193,8 @@ module _ (T : Type 0) (means : List ℕ → T → Type 0) (argument : KeyWithVal
       read o.2) o.1
 
   -- where a last text means no value, the pieces have none
-  fault_group : (s t : Situation) (text : List ℕ) → GotAll s t text
-      → ((v : T) → means text v → ⊥) → (v : T) (rest : List LinePiece)
-      → LastGroup T means (pieces q (cells s)) v rest → ⊥
+  fault_group : (s t : Situation) (text : List ℕ) → GotAll s t text → ((v : T) → means text v → ⊥) →
+      (v : T) (rest : List LinePiece) → LastGroup T means (pieces q (cells s)) v rest → ⊥
   fault_group s t text got nothing v rest g =
       let a = got.pieces_are in
       let same : Two g.key g.word ≡ Two a.key a.word =

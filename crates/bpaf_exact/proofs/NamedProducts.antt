@@ -206,8 +206,7 @@ none_of_nobody (Some k ∷ cs) = none_of_nobody cs
 
 -- The last of named fields.
 module _ {env : Variables} (T : Type 0) (outcome : Outcome T) (q : Roles)
-    (value : List LinePiece → T → Type 0)
-    (l : FieldLaw env T outcome ByName q value) where
+    (value : List LinePiece → T → Type 0) (l : FieldLaw env T outcome ByName q value) where
   -- its items
   abbrev alone : Roles
   alone = either q no_roles

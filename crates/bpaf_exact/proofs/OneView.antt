@@ -160,10 +160,9 @@ if_view T X see s false u = tt
 
 -- Fields without a repeat or default, and what is made of them.
 
-module _ {env : Variables} (T X : Type 0) (see : T → X) (inner : Outcome T)
-    (k : FieldKind) (q : Roles) (group : Groups T)
-    (gap : Gap T) (l : SingleLaw env T inner k q group gap) (one : OneGroup see group)
-    (absent : Alike see gap.absent) where
+module _ {env : Variables} (T X : Type 0) (see : T → X) (inner : Outcome T) (k : FieldKind)
+    (q : Roles) (group : Groups T) (gap : Gap T) (l : SingleLaw env T inner k q group gap)
+    (one : OneGroup see group) (absent : Alike see gap.absent) where
   -- own lists of the same pieces look alike
   own_view : (os : List LinePiece) (vs ws : List T) → Own T group os vs → Own T group os ws
       → map see vs ≡ map see ws

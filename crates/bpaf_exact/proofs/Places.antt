@@ -107,9 +107,8 @@ take_one r at left (suc n) (suc p) k l e h none taken =
 
 -- with the value after it
 pub take_two : (r : Roles) (at left : ℕ → Option Arg) (n p : ℕ) (k w : Arg) → suc p < n
-    → at p ≡ Some k → at (suc p) ≡ Some w → r k ≡ WithNext → is_value w ≡ true
-    → NoneBefore r at p → TakenTwo at left p
-    → TakesFirst r (first_cells at n) (Two k w) (first_cells left n)
+    → at p ≡ Some k → at (suc p) ≡ Some w → r k ≡ WithNext → is_value w ≡ true → NoneBefore r at p
+    → TakenTwo at left p → TakesFirst r (first_cells at n) (Two k w) (first_cells left n)
 take_two r at left zero p k w l e f h v none taken = absurd (omega arith)
 take_two r at left (suc zero) zero k w l e f h v none taken = absurd (omega arith)
 take_two r at left (suc (suc n)) zero k w l e f h v none taken =

@@ -178,10 +178,9 @@ word_back k q r {cs = cs} no_keys shares leaves n f t e c =
     }
 
 -- of any field
-pub step_back : (k : FieldKind) (q r : Roles) (T : Type 0)
-    (value : List LinePiece → T → Type 0) {s m : Situation} {v : T} {os : List LinePiece}
-    → OwnItems k q → Before k q r → FieldTook T k q value s v m → Cut r (cells m) os
-    → StepBack k q r (cells s) os
+pub step_back : (k : FieldKind) (q r : Roles) (T : Type 0) (value : List LinePiece → T → Type 0)
+    {s m : Situation} {v : T} {os : List LinePiece} → OwnItems k q → Before k q r
+    → FieldTook T k q value s v m → Cut r (cells m) os → StepBack k q r (cells s) os
 step_back ByName q r T value n b f c = named_back q r n b f.takes c
 step_back (OneWord z) q r T value n b f c =
     word_back (OneWord z) q r refl (λ ps. refl) (λ ps. refl) n (record { none = b }) f.takes

@@ -71,8 +71,7 @@ module _ {P Q A B : Type 0} (inside : Q → P) (q : Q) where
   -- a closure
   pub program_closed_says : {s : ProgramForm A} {said : ProgramSaid P A} {kind : SaidKind}
       {names : List Names} (f : Q → Closure A B) → ProgramSays names s kind said (inside q)
-      → ProgramSays names (program_closed (f q) s) kind
-      (said_closed inside f said) q
+      → ProgramSays names (program_closed (f q) s) kind (said_closed inside f said) q
   program_closed_says {s = plain wide s} {said = of_pieces said} f h =
       record { by = closed_says (f q) h.by }
   program_closed_says {s = commands r value} {said = of_cells said} f h =
@@ -116,8 +115,7 @@ module _ {P Q T : Type 0} (inside : Q → P) (q : Q) where
   -- another look
   pub program_dressed_says : {s : ProgramForm T} {said : ProgramSaid P T} {kind : SaidKind}
       {names : List Names} → ProgramSays names s kind said (inside q)
-      → ProgramSays names (program_dressed s) kind
-      (said_dressed inside said) q
+      → ProgramSays names (program_dressed s) kind (said_dressed inside said) q
   program_dressed_says {s = plain wide s} {said = of_pieces said} h = record { by = h.by }
   program_dressed_says {s = commands r value} {said = of_cells said} h = record { by = h.by }
   program_dressed_says {s = left_out r value} {said = of_cells said} h = record { by = h.by }
@@ -129,8 +127,7 @@ module _ {P Q T : Type 0} (inside : Q → P) (q : Q) where
   -- what may be left out
   pub program_optional_says : {s : ProgramForm T} {said : ProgramSaid P T} {kind : SaidKind}
       {names : List Names} (catch : Bool) → ProgramSays names s kind said (inside q)
-      → ProgramSays names (program_optional catch s) kind
-      (said_optional inside said) q
+      → ProgramSays names (program_optional catch s) kind (said_optional inside said) q
   program_optional_says {s = plain wide s} {said = of_pieces said} catch h =
       record { by = unless_says catch (optional_says h.by) }
   program_optional_says {s = plain wide s} {said = of_cells said} catch h = absurd h.by

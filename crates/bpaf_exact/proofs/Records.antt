@@ -27,9 +27,8 @@ count_none no_place = refl
 count_none (none_here n) = count_none n
 
 -- The last field of a product, or a record of one field alone.
-module _ {env : Variables} (T : Type 0) (outcome : Outcome T)
-    (k : FieldKind) (q : Roles) (value : List LinePiece → T → Type 0)
-    (l : FieldLaw env T outcome k q value) where
+module _ {env : Variables} (T : Type 0) (outcome : Outcome T) (k : FieldKind) (q : Roles)
+    (value : List LinePiece → T → Type 0) (l : FieldLaw env T outcome k q value) where
   -- a field may stand before none
   pub before_none : Before k q no_roles
   before_none = by_kind k
@@ -76,9 +75,8 @@ module _ {env : Variables} (T : Type 0) (outcome : Outcome T)
 
   -- so nothing is left
   last_takes : (s t : Situation) (v : T) (os : List LinePiece) → IsWholeIn env s
-      → outcome s (Ok v) t
-      → Cut (either (keys k q) no_roles) (cells s) os → (last_reading k q value).each os
-      → NonePresent (cells t)
+      → outcome s (Ok v) t → Cut (either (keys k q) no_roles) (cells s) os
+      → (last_reading k q value).each os → NonePresent (cells t)
   last_takes s t v os w o c h =
       let i = l.ok s t v w o in
       let all = l.takes_all s t v h.0.0 w o (own_value s os c h.0) in

@@ -24,8 +24,7 @@ use Rattle.bpaf_exact.proofs.Repeat.{any_some, same_takes, no_stop, stops_by}
 
 -- outer closures
 module _ {env : Variables} (A B : Type 0) (inner : Outcome A) (k : FieldKind) (q : Roles)
-    (value : List LinePiece → A → Type 0)
-    (l : FieldLaw env A inner k q value) (f : Closure A B)
+    (value : List LinePiece → A → Type 0) (l : FieldLaw env A inner k q value) (f : Closure A B)
     (agrees : (os : List LinePiece) → AgreesOn (value os) f) (c : ErrorClass) where
   -- a value that the closure gave
   closed_ok : (s t : Situation) (v : B) → IsWholeIn env s → ClosedEval A B inner f c s (Ok v) t
