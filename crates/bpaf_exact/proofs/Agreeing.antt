@@ -1,18 +1,15 @@
 -- The premise of exactness, of closures that can't tell apart the values on the same pieces.
 use Rattle.std.proofs.Common.{◌≡◌, ℕ, List, [], ◌∷◌, sym, subst, ◌∙◌}
-use Rattle.bpaf_text.specs.Meaning.{SpellsUnsigned}
-use Rattle.bpaf_text.specs.Named.{KeyWithValue}
+use Rattle.bpaf_text.specs.{Meaning.SpellsUnsigned, Named.KeyWithValue}
 use Rattle.bpaf_laws.specs.Environment.{first_set}
 use Rattle.bpaf_exact.specs.FlatForm.{Agrees, FlatForm, alternative, complete, not_flat, product}
-use Rattle.bpaf_exact.specs.FlatForm.{single}
-use Rattle.bpaf_exact.specs.Leaves.{argument_field, variable_argument}
-use Rattle.bpaf_exact.specs.OneView.{Alike, HasOneView, ProgramOneView, Respects}
 use Rattle.bpaf_exact.specs.ProgramForm.{ProgramAgrees, ProgramForm, commands, left_out, plain}
-use Rattle.bpaf_exact.specs.ProgramForm.{program_closed}
-use Rattle.bpaf_exact.specs.Variables.{argument_form, key_form}
-use Rattle.bpaf_exact.specs.Wrappers.{AgreesOn, Closure, Decides}
+use Rattle.bpaf_exact.specs.{FlatForm.single, Leaves.argument_field, Leaves.variable_argument}
+use Rattle.bpaf_exact.specs.{OneView.Alike, OneView.HasOneView, OneView.ProgramOneView}
+use Rattle.bpaf_exact.specs.{OneView.Respects, ProgramForm.program_closed, Variables.argument_form}
+use Rattle.bpaf_exact.specs.{Variables.key_form, Wrappers.AgreesOn, Wrappers.Closure}
+use Rattle.bpaf_exact.specs.{Wrappers.Decides, Flat.Variables}
 use Rattle.bpaf_exact.proofs.OneView.{argument_view, closed_view, variable_argument_view}
-use Rattle.bpaf_exact.specs.Flat.{Variables}
 
 -- the values of a parser on the same pieces are one
 abbrev pub HasOneValue : {T : Type 0} → ProgramForm T → Type 0

@@ -2,32 +2,28 @@
 use Rattle.std.proofs.Common.{◌≡◌, ℕ, Bool, true, false, List, [], ◌∷◌, Ok, refl, sym, ap, ◌∙◌}
 use Rattle.std.proofs.Common.{None, subst, ⊎_elim}
 use Rattle.bpaf_text.specs.Named.{KeyWithValue, argument_part}
-use Rattle.bpaf_line.specs.declared.error.Error.{Error}
-use Rattle.bpaf_line.specs.declared.error.Message.{Message}
 use Rattle.bpaf_line.specs.declared.error.Message.TheVariants.{Memory, NoArgument, ParseFailed}
-use Rattle.bpaf_line.specs.Situation.{Situation}
+use Rattle.bpaf_line.specs.{declared.error.Error.Error, declared.error.Message.Message}
+use Rattle.bpaf_line.specs.{Situation.Situation}
 use Rattle.bpaf_laws.specs.Argument.{ArgumentOutcome, ArgumentFails, TakesOwnText, TakesBefore}
 use Rattle.bpaf_laws.specs.Argument.{GetsText, IsVariable, LacksText, is_key_with_value}
 use Rattle.bpaf_laws.specs.Environment.{first_set}
-use Rattle.bpaf_exact.specs.Pieces.{Roles, LinePiece, One, Two, pieces}
 use Rattle.bpaf_exact.specs.Flat.{ByName, class, class_of, cells, IsWholeIn, Variables}
 use Rattle.bpaf_exact.specs.Alternative.{AlternativeOk, AlternativeErr, alternative_memory}
-use Rattle.bpaf_exact.specs.Alternative.{AlternativeLaw}
 use Rattle.bpaf_exact.specs.Single.{FrontOf, Gap, Groups, SingleErr, SingleLaw, SingleOk, took}
-use Rattle.bpaf_exact.specs.Single.{of_memory, of_piece}
 use Rattle.bpaf_exact.specs.Leaves.{argument_roles, ArgumentValue, argument_by, argument_field}
 use Rattle.bpaf_exact.specs.Leaves.{argument_gap, argument_group, argument_with, variable_argument}
-use Rattle.bpaf_exact.specs.FlatForm.{FormLaw}
-use Rattle.bpaf_exact.specs.ProgramForm.{ProgramFormLaw}
-use Rattle.bpaf_exact.specs.Variables.{argument_form, key_form}
-use Rattle.bpaf_exact.proofs.Alternative.{took_front}
+use Rattle.bpaf_exact.specs.{Pieces.Roles, Pieces.LinePiece, Pieces.One, Pieces.Two, Pieces.pieces}
+use Rattle.bpaf_exact.specs.{Alternative.AlternativeLaw, Single.of_memory, Single.of_piece}
+use Rattle.bpaf_exact.specs.{FlatForm.FormLaw, ProgramForm.ProgramFormLaw, Variables.argument_form}
+use Rattle.bpaf_exact.specs.{Variables.key_form}
 use Rattle.bpaf_exact.proofs.ArgumentPieces.{TookPair, gap_empty, named, nowhere, owns, took_pair}
 use Rattle.bpaf_exact.proofs.ArgumentPieces.{test, no_key, variable_fault, variable_read}
-use Rattle.bpaf_exact.proofs.Classes.{missing_class}
-use Rattle.bpaf_exact.proofs.First.{first_pieces, first_takes, takes_nonempty}
-use Rattle.bpaf_exact.proofs.LastArguments.{last_argument_law}
 use Rattle.bpaf_exact.proofs.Matching.{match_of, bare_taken, first_alternative, first_refused}
-use Rattle.bpaf_exact.proofs.Matching.{missing_same, absence_missing}
+use Rattle.bpaf_exact.proofs.{Alternative.took_front, Classes.missing_class, First.first_pieces}
+use Rattle.bpaf_exact.proofs.{First.first_takes, First.takes_nonempty}
+use Rattle.bpaf_exact.proofs.{LastArguments.last_argument_law, Matching.missing_same}
+use Rattle.bpaf_exact.proofs.{Matching.absence_missing}
 
 -- the text of an argument behind its key
 takes_pair : (argument : KeyWithValue) → argument.last ≡ false → (s t : Situation) (text : List ℕ)

@@ -3,27 +3,22 @@
 use Rattle.std.proofs.Common.{◌≡◌, ◌≤◌, Bool, true, false, List, [], ◌∷◌, length, Some, None}
 use Rattle.std.proofs.Common.{Result, Ok, Err, refl, sym, ap, ◌∙◌, subst, arith, if◌then◌else◌}
 use Rattle.bpaf_base.specs.declared.arg.Arg.{Arg}
-use Rattle.bpaf_line.specs.declared.error.Error.{Error}
-use Rattle.bpaf_line.specs.Situation.{Situation}
-use Rattle.bpaf_laws.specs.Choice.{depth}
-use Rattle.bpaf_laws.specs.Product.{BothOutcome, ProductOutcome}
-use Rattle.bpaf_laws.specs.Reading.{Outcome}
+use Rattle.bpaf_line.specs.{declared.error.Error.Error, Situation.Situation}
+use Rattle.bpaf_laws.specs.{Choice.depth, Product.BothOutcome, Product.ProductOutcome}
+use Rattle.bpaf_laws.specs.{Reading.Outcome}
 use Rattle.bpaf_exact.specs.Pieces.{Cells, Role, Foreign, Alone, WithNext, Roles, LinePiece, pieces}
 use Rattle.bpaf_exact.specs.Pieces.{Apart, is_own_role, is_value, IsNamed, TakesPiece, takes_one}
 use Rattle.bpaf_exact.specs.Pieces.{takes_two, takes_later, TakesPieces, takes_none, takes_more}
-use Rattle.bpaf_exact.specs.Pieces.{either, either_role}
 use Rattle.bpaf_exact.specs.Flat.{OfMemory, class, cells, NonePresent, IsWholeIn, ByName, FieldLaw}
-use Rattle.bpaf_exact.specs.Flat.{Variables}
 use Rattle.bpaf_exact.specs.Programs.{CellsValue, without, without_piece, without_value, FieldThen}
 use Rattle.bpaf_exact.specs.Programs.{LeavesToOthers, ProgramLaw, ClosedCells, is_spelled}
 use Rattle.bpaf_exact.specs.Programs.{IsSpelledLine, AllSpelled, no_cell, empty_cell, spelled_cell}
-use Rattle.bpaf_exact.specs.Programs.{GivesAll}
-use Rattle.bpaf_exact.specs.Wrappers.{map_closure}
+use Rattle.bpaf_exact.specs.{Pieces.either, Pieces.either_role, Flat.Variables, Programs.GivesAll}
+use Rattle.bpaf_exact.specs.{Wrappers.map_closure}
 use Rattle.bpaf_exact.proofs.Cells.{begin_foreign, nil_rest, nil_foreign, value_foreign}
 use Rattle.bpaf_exact.proofs.Product.{none_outside_after, values_of_both, RefusedBy, for_memory}
-use Rattle.bpaf_exact.proofs.Product.{by_first, by_rest, refused_by}
-use Rattle.bpaf_exact.proofs.Programs.{cells_spelled}
-use Rattle.bpaf_exact.proofs.Records.{current_cells}
+use Rattle.bpaf_exact.proofs.{Product.by_first, Product.by_rest, Product.refused_by}
+use Rattle.bpaf_exact.proofs.{Programs.cells_spelled, Records.current_cells}
 
 -- What is left without the own pieces.
 

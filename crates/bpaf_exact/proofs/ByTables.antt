@@ -3,18 +3,14 @@ use Rattle.std.proofs.Common.{◌≡◌, ℕ, Bool, true, false, List, [], Optio
 use Rattle.std.proofs.Common.{Err, refl, sym, ap, ◌∙◌, subst, inl, inr, ◌⊎◌, ⊎_elim, true≢false}
 use Rattle.std.specs.Global.{Vec}
 use Rattle.bpaf_doc.specs.Names.{Names}
-use Rattle.bpaf_line.specs.declared.error.Error.{Error}
-use Rattle.bpaf_line.specs.Messages.{can_catch}
-use Rattle.bpaf_line.specs.declared.error.Message.{Message}
-use Rattle.bpaf_line.specs.declared.error.Message.TheVariants.{Missing}
-use Rattle.bpaf_laws.specs.Hide.{HideOutcome, hidden}
-use Rattle.bpaf_line.specs.Situation.{Situation}
-use Rattle.bpaf_laws.specs.Default.{Gives, GivesClone, GivesAnswer, FallbackOutcome}
-use Rattle.bpaf_laws.specs.Reading.{Outcome}
+use Rattle.bpaf_line.specs.{declared.error.Error.Error, Messages.can_catch}
+use Rattle.bpaf_line.specs.{declared.error.Message.Message}
+use Rattle.bpaf_line.specs.{declared.error.Message.TheVariants.Missing, Situation.Situation}
 use Rattle.bpaf_laws.specs.Repeat.{ManyOutcome, SomeOutcome, CollectOutcome, CountOutcome}
-use Rattle.bpaf_laws.specs.Repeat.{LastOutcome, is_nil}
-use Rattle.bpaf_laws.specs.Turn.{TurnOutcome}
-use Rattle.bpaf_laws.specs.Transform.{MapOutcome, ParseOutcome, GuardOutcome}
+use Rattle.bpaf_laws.specs.{Hide.HideOutcome, Hide.hidden, Default.Gives, Default.GivesClone}
+use Rattle.bpaf_laws.specs.{Default.GivesAnswer, Default.FallbackOutcome, Reading.Outcome}
+use Rattle.bpaf_laws.specs.{Repeat.LastOutcome, Repeat.is_nil, Turn.TurnOutcome}
+use Rattle.bpaf_laws.specs.{Transform.MapOutcome, Transform.ParseOutcome, Transform.GuardOutcome}
 use Rattle.bpaf_exact.specs.Flat.{OfMemory, Caught, Refused, class, class_of, Variables, ErrorClass}
 use Rattle.bpaf_exact.specs.Single.{CanCatch, RepeatOutcome, catch_missing, catch_other}
 use Rattle.bpaf_exact.specs.Wrappers.{Closure, Decides, map_closure, parse_closure, guard_closure}
@@ -22,21 +18,19 @@ use Rattle.bpaf_exact.specs.Wrappers.{answer_closure, kept_closure, ClosedEval, 
 use Rattle.bpaf_exact.specs.Wrappers.{closed_no, closed_memory, closed_err, OptionalEval}
 use Rattle.bpaf_exact.specs.Wrappers.{optional_some, optional_none, optional_err, optional_memory}
 use Rattle.bpaf_exact.specs.Wrappers.{FallbackEval, fallback_ok, fallback_given, fallback_no}
-use Rattle.bpaf_exact.specs.Wrappers.{fallback_memory, fallback_err}
 use Rattle.bpaf_exact.specs.Gathered.{list_closure, some_closure, count_closure, collect_closure}
 use Rattle.bpaf_exact.specs.FlatForm.{FlatForm, FormLaw, flat_repeat, flat_last, flat_fallback}
-use Rattle.bpaf_exact.specs.FlatForm.{unless, Agrees, flat_closed}
-use Rattle.bpaf_exact.proofs.Classes.{memory_class, caught_class, kept_class, stops_at, goes_on}
 use Rattle.bpaf_exact.specs.ProgramForm.{ProgramForm, plain, commands, ProgramFormLaw}
 use Rattle.bpaf_exact.specs.ProgramForm.{ProgramAgrees, program_closed, program_dressed}
 use Rattle.bpaf_exact.specs.ProgramForm.{program_fallback, program_last, program_optional}
-use Rattle.bpaf_exact.specs.ProgramForm.{program_repeat}
-use Rattle.bpaf_exact.proofs.Narrow.{AllowsNoMore, narrower_form, no_more}
+use Rattle.bpaf_exact.specs.{Wrappers.fallback_memory, Wrappers.fallback_err, FlatForm.unless}
+use Rattle.bpaf_exact.specs.{FlatForm.Agrees, FlatForm.flat_closed, ProgramForm.program_repeat}
+use Rattle.bpaf_exact.proofs.Classes.{memory_class, caught_class, kept_class, stops_at, goes_on}
 use Rattle.bpaf_exact.proofs.ProgramForm.{flat_only_law, narrower_program_form, program_closed_law}
 use Rattle.bpaf_exact.proofs.ProgramForm.{program_dressed_law, program_never_refuses}
-use Rattle.bpaf_exact.proofs.ProgramForm.{program_optional_law}
 use Rattle.bpaf_exact.proofs.FlatForm.{never_refuses, flat_listed_law, some_agrees, flat_last_law}
-use Rattle.bpaf_exact.proofs.FlatForm.{flat_fallback_law}
+use Rattle.bpaf_exact.proofs.{Narrow.AllowsNoMore, Narrow.narrower_form, Narrow.no_more}
+use Rattle.bpaf_exact.proofs.{ProgramForm.program_optional_law, FlatForm.flat_fallback_law}
 
 -- map
 map_within : (A B : Type 0) (inner : Outcome A) (answers : A → B → Type 0)

@@ -2,13 +2,11 @@
 use Rattle.std.proofs.Common.{◌≡◌, ℕ, zero, suc, ◌+◌, ◌<◌, ◌≤◌, Bool, true, false, ◌∷◌, length}
 use Rattle.std.proofs.Common.{Option, Some, None, refl, ◌∙◌, if◌then◌else◌, arith}
 use Rattle.std.specs.Option.{option_map_or, is_some}
-use Rattle.bpaf_base.specs.declared.arg.Arg.{Arg}
-use Rattle.bpaf_base.specs.Items.{any_item}
+use Rattle.bpaf_base.specs.{declared.arg.Arg.Arg, Items.any_item}
 use Rattle.bpaf_line.specs.Situation.{Situation, open_count, count_below, is_open, item_at}
 use Rattle.bpaf_line.specs.Taking.{open_item}
 use Rattle.bpaf_index.proofs.Counts.{count_below-same, count_below-some}
-use Rattle.bpaf_line.proofs.Matches.{open_has_item}
-use Rattle.bpaf_line.proofs.Places.{open_in_line}
+use Rattle.bpaf_line.proofs.{Matches.open_has_item, Places.open_in_line}
 use Rattle.bpaf_exact.specs.Pieces.{Cells, Roles, LinePiece, TakesPiece, takes_one, takes_two}
 use Rattle.bpaf_exact.specs.Pieces.{takes_later, TakesPieces, takes_none, takes_more}
 use Rattle.bpaf_exact.specs.Flat.{cells, first_cells}

@@ -8,19 +8,14 @@ use Rattle.bpaf_doc.specs.Names.{Names}
 use Rattle.bpaf_line.specs.Situation.{Context, Situation, beginning, item_in, is_marker, open_count}
 use Rattle.bpaf_line.specs.Taking.{open_item}
 use Rattle.bpaf_laws.specs.Reading.{Outcome}
-use Rattle.bpaf_exact.specs.Pieces.{Roles, LinePiece, Cut}
 use Rattle.bpaf_exact.specs.Flat.{cells, NonePresent, IsWholeIn, FieldsLaw, FieldsReading, ReadOff}
 use Rattle.bpaf_exact.specs.Record.{line_cells, RecordValue, RunAnswer, Accepted, RunRan, run_value}
 use Rattle.bpaf_exact.specs.Record.{run_leftover, run_memory, run_refusal, IsNoValue}
-use Rattle.bpaf_exact.specs.Record.{IsAcceptedOrWant, IsExact}
 use Rattle.bpaf_exact.specs.FlatForm.{FlatForm, FormLaw, is_record, product_roles, product_reading}
-use Rattle.bpaf_exact.specs.FlatForm.{flat_record}
-use Rattle.bpaf_exact.specs.Theorem.{RunsExactly}
-use Rattle.bpaf_exact.proofs.Counts.{open_present}
-use Rattle.bpaf_exact.proofs.Cuts.{one_cut}
-use Rattle.bpaf_exact.proofs.Places.{same_cells}
-use Rattle.bpaf_exact.proofs.Records.{none_counted, count_none}
-use Rattle.bpaf_exact.proofs.FlatForm.{record_law}
+use Rattle.bpaf_exact.specs.{Pieces.Roles, Pieces.LinePiece, Pieces.Cut, Record.IsAcceptedOrWant}
+use Rattle.bpaf_exact.specs.{Record.IsExact, FlatForm.flat_record, Theorem.RunsExactly}
+use Rattle.bpaf_exact.proofs.{Counts.open_present, Cuts.one_cut, Places.same_cells}
+use Rattle.bpaf_exact.proofs.{Records.none_counted, Records.count_none, FlatForm.record_law}
 
 -- at the beginning each item is present, but for the marker
 open_at_first : (context : Context) (p : ℕ) → p < length context.line

@@ -4,32 +4,23 @@ use Rattle.std.proofs.Common.{refl, sym, ap, ◌∙◌, subst, ⊎_elim, true≢
 use Rattle.std.specs.Option.{is_some}
 use Rattle.bpaf_text.specs.Named.{Named as Key, flag_part}
 use Rattle.bpaf_base.specs.Items.{is_key_of}
-use Rattle.bpaf_line.specs.declared.error.Error.{Error}
-use Rattle.bpaf_line.specs.declared.error.Message.{Message}
-use Rattle.bpaf_line.specs.declared.error.Message.TheVariants.{Memory}
-use Rattle.bpaf_line.specs.Situation.{Situation, take_place}
-use Rattle.bpaf_line.specs.Taking.{HasNone, TakesFlag}
+use Rattle.bpaf_line.specs.{declared.error.Error.Error, declared.error.Message.Message}
+use Rattle.bpaf_line.specs.{declared.error.Message.TheVariants.Memory, Situation.Situation}
+use Rattle.bpaf_line.specs.{Situation.take_place, Taking.HasNone, Taking.TakesFlag}
 use Rattle.bpaf_laws.specs.Environment.{first_set, is_set}
 use Rattle.bpaf_laws.specs.Flag.{FlagOutcome, FlagFails, IsAbsentValue}
-use Rattle.bpaf_exact.specs.Pieces.{Alone, Roles, LinePiece, One, IsNamed}
-use Rattle.bpaf_exact.specs.Flat.{class, class_of, IsWholeIn, ByName, Variables}
-use Rattle.bpaf_exact.specs.Names.{Owns}
 use Rattle.bpaf_exact.specs.Single.{Groups, Gap, FrontOf, SingleOk, gave_absent, took, SingleErr}
-use Rattle.bpaf_exact.specs.Single.{of_memory, of_missing, SingleLaw}
 use Rattle.bpaf_exact.specs.Alternative.{AlternativeOk, AlternativeErr, alternative_memory}
-use Rattle.bpaf_exact.specs.Alternative.{AlternativeLaw}
 use Rattle.bpaf_exact.specs.Leaves.{flag_roles, FlagValue, flag_gap, flag_field, variable_flag}
-use Rattle.bpaf_exact.specs.FlatForm.{FormLaw}
-use Rattle.bpaf_exact.specs.ProgramForm.{ProgramFormLaw}
-use Rattle.bpaf_exact.specs.Variables.{key_form, flag_form}
-use Rattle.bpaf_exact.proofs.Classes.{missing_class}
-use Rattle.bpaf_exact.proofs.Product.{steady_refl}
-use Rattle.bpaf_exact.proofs.First.{first_pieces}
-use Rattle.bpaf_exact.proofs.Alternative.{took_front}
-use Rattle.bpaf_exact.proofs.Places.{take_steady}
+use Rattle.bpaf_exact.specs.{Pieces.Alone, Pieces.Roles, Pieces.LinePiece, Pieces.One}
+use Rattle.bpaf_exact.specs.{Pieces.IsNamed, Flat.class, Flat.class_of, Flat.IsWholeIn, Flat.ByName}
+use Rattle.bpaf_exact.specs.{Flat.Variables, Names.Owns, Single.of_memory, Single.of_missing}
+use Rattle.bpaf_exact.specs.{Single.SingleLaw, Alternative.AlternativeLaw, FlatForm.FormLaw}
+use Rattle.bpaf_exact.specs.{ProgramForm.ProgramFormLaw, Variables.key_form, Variables.flag_form}
 use Rattle.bpaf_exact.proofs.Matching.{match_of, ByTest, by_test, test_named, no_pieces, one_taken}
 use Rattle.bpaf_exact.proofs.Matching.{first_alternative, missing_same, absence_missing, test_owns}
-use Rattle.bpaf_exact.proofs.Matching.{absence_caught}
+use Rattle.bpaf_exact.proofs.{Classes.missing_class, Product.steady_refl, First.first_pieces}
+use Rattle.bpaf_exact.proofs.{Alternative.took_front, Places.take_steady, Matching.absence_caught}
 
 -- a flag
 module _ (T : Type 0) (clones : T → T → Type 0) (key : Key) (present : T) where

@@ -1,36 +1,30 @@
 -- Each form that is made of flat fields keeps to its laws.
 use Rattle.std.proofs.Common.{◌≡◌, Bool, true, false, ◌&&◌, List, [], ◌∷◌, ◌++◌, refl, subst}
-use Rattle.std.proofs.Common.{append-nil}
-use Rattle.std.proofs.lemmas.Bool.{false_from_ne_true}
+use Rattle.std.proofs.{Common.append-nil, lemmas.Bool.false_from_ne_true}
 use Rattle.bpaf_doc.specs.Names.{Names}
-use Rattle.bpaf_laws.specs.Choice.{ChoiceOutcome}
-use Rattle.bpaf_laws.specs.Product.{BothOutcome, ProductOutcome}
-use Rattle.bpaf_laws.specs.Reading.{Outcome}
-use Rattle.bpaf_laws.specs.Repeat.{LastOutcome}
-use Rattle.bpaf_exact.specs.Pieces.{Roles, no_roles, either, LinePiece}
-use Rattle.bpaf_exact.specs.Names.{Owns, are_all_apart}
+use Rattle.bpaf_laws.specs.{Choice.ChoiceOutcome, Product.BothOutcome, Product.ProductOutcome}
+use Rattle.bpaf_laws.specs.{Reading.Outcome, Repeat.LastOutcome}
 use Rattle.bpaf_exact.specs.Flat.{ErrorClass, Refused, FieldKind, ByName, OneWord, EachWord, Before}
-use Rattle.bpaf_exact.specs.Flat.{FieldLaw, FieldsLaw, both_reading, keys, Variables}
 use Rattle.bpaf_exact.specs.Single.{RepeatOutcome, repeated, SingleValue, Groups, Gap, SingleLaw}
 use Rattle.bpaf_exact.specs.Wrappers.{Closure, Decides, map_closure, ClosedEval, OptionalEval}
-use Rattle.bpaf_exact.specs.Wrappers.{FallbackEval, OptionalValue, FallbackValue}
-use Rattle.bpaf_exact.specs.Gathered.{some_closure, LastOf}
 use Rattle.bpaf_exact.specs.FlatForm.{FlatForm, not_flat, alternative, single, complete, product}
 use Rattle.bpaf_exact.specs.FlatForm.{FormLaw, Agrees, only_if, flat_closed, flat_choice}
 use Rattle.bpaf_exact.specs.FlatForm.{alternative_only, flat_repeat, flat_last, flat_optional}
 use Rattle.bpaf_exact.specs.FlatForm.{flat_fallback, flat_field, may_follow, flat_both, flat_alone}
 use Rattle.bpaf_exact.specs.FlatForm.{flat_con, flat_record, NamedLaw, is_named, is_record}
 use Rattle.bpaf_exact.specs.FlatForm.{made_reading, product_reading, product_roles, flat_whole}
-use Rattle.bpaf_exact.specs.Record.{LastValue}
-use Rattle.bpaf_exact.proofs.Names.{foreign_of, apart_of_names, either_owns}
+use Rattle.bpaf_exact.specs.{Pieces.Roles, Pieces.no_roles, Pieces.either, Pieces.LinePiece}
+use Rattle.bpaf_exact.specs.{Names.Owns, Names.are_all_apart, Flat.FieldLaw, Flat.FieldsLaw}
+use Rattle.bpaf_exact.specs.{Flat.both_reading, Flat.keys, Flat.Variables, Wrappers.FallbackEval}
+use Rattle.bpaf_exact.specs.{Wrappers.OptionalValue, Wrappers.FallbackValue, Gathered.some_closure}
+use Rattle.bpaf_exact.specs.{Gathered.LastOf, Record.LastValue}
 use Rattle.bpaf_exact.proofs.Alternative.{alternative_single, closed_alternative, closed_single}
-use Rattle.bpaf_exact.proofs.Choice.{choice_law}
-use Rattle.bpaf_exact.proofs.Repeat.{repeat_law}
 use Rattle.bpaf_exact.proofs.Wrappers.{closed_law, single_law, optional_law, fallback_law}
-use Rattle.bpaf_exact.proofs.Gathered.{some_agrees_on, last_of_law}
 use Rattle.bpaf_exact.proofs.NamedProducts.{named_both_law, named_con_law, named_last_law}
-use Rattle.bpaf_exact.proofs.Product.{both_law}
-use Rattle.bpaf_exact.proofs.Records.{con_law, last_law}
+use Rattle.bpaf_exact.proofs.{Names.foreign_of, Names.apart_of_names, Names.either_owns}
+use Rattle.bpaf_exact.proofs.{Choice.choice_law, Repeat.repeat_law, Gathered.some_agrees_on}
+use Rattle.bpaf_exact.proofs.{Gathered.last_of_law, Product.both_law, Records.con_law}
+use Rattle.bpaf_exact.proofs.{Records.last_law}
 
 -- a closure round a field
 pub flat_closed_law : (env : Variables) (A B : Type 0) (inner : Outcome A) (f : Closure A B)

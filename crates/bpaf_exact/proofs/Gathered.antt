@@ -1,21 +1,17 @@
 -- some and last keep to the laws of a field.
 use Rattle.std.proofs.Common.{◌≡◌, true, false, List, [], ◌∷◌, ◌++◌, Ok, Err, refl, sym, ◌∙◌, inl}
 use Rattle.std.proofs.Common.{inr, ap}
-use Rattle.bpaf_line.specs.declared.error.Error.{Error}
-use Rattle.bpaf_line.specs.Situation.{Situation}
-use Rattle.bpaf_laws.specs.Reading.{Outcome}
-use Rattle.bpaf_laws.specs.Repeat.{LastOutcome, UntilRest}
-use Rattle.bpaf_exact.proofs.Fronts.{back_all, nil_each}
-use Rattle.bpaf_exact.specs.Pieces.{Roles, LinePiece, pieces}
+use Rattle.bpaf_line.specs.{declared.error.Error.Error, Situation.Situation}
+use Rattle.bpaf_laws.specs.{Reading.Outcome, Repeat.LastOutcome, Repeat.UntilRest}
+use Rattle.bpaf_exact.proofs.{Fronts.back_all, Fronts.nil_each, Product.none_outside_after}
+use Rattle.bpaf_exact.proofs.{Repeat.repeat_law, Repeat.repeat_took, Repeat.own_nil}
 use Rattle.bpaf_exact.specs.Flat.{cells, IsWholeIn, FieldKind, front, back, FieldTook, FieldLaw}
-use Rattle.bpaf_exact.specs.Flat.{NoKeysLeft, OfMemory, class, Variables}
 use Rattle.bpaf_exact.specs.Single.{Groups, Gap, SingleOk, gave_absent, took, SingleLaw, OwnList}
 use Rattle.bpaf_exact.specs.Single.{listed, listed_and_absent, only_absent, Own, own_none, own_more}
-use Rattle.bpaf_exact.specs.Single.{repeated, RepeatOutcome}
-use Rattle.bpaf_exact.specs.Wrappers.{AgreesOn}
-use Rattle.bpaf_exact.specs.Gathered.{some_closure, IsLast, LastOf}
-use Rattle.bpaf_exact.proofs.Product.{none_outside_after}
-use Rattle.bpaf_exact.proofs.Repeat.{repeat_law, repeat_took, own_nil}
+use Rattle.bpaf_exact.specs.{Pieces.Roles, Pieces.LinePiece, Pieces.pieces, Flat.NoKeysLeft}
+use Rattle.bpaf_exact.specs.{Flat.OfMemory, Flat.class, Flat.Variables, Single.repeated}
+use Rattle.bpaf_exact.specs.{Single.RepeatOutcome, Wrappers.AgreesOn, Gathered.some_closure}
+use Rattle.bpaf_exact.specs.{Gathered.IsLast, Gathered.LastOf}
 
 -- a list with a last value isn't empty
 no_last : (T : Type 0) (vs : List T) (v : T) → IsLast T vs v → vs ≡ [] → ⊥

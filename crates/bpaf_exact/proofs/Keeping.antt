@@ -1,16 +1,14 @@
 -- What fields keep to, and what their values say: of a field before others, as of those others.
 use Rattle.std.proofs.Common.{ℕ, List, ◌++◌}
 use Rattle.bpaf_doc.specs.Names.{Names}
-use Rattle.bpaf_laws.specs.Product.{BothOutcome}
-use Rattle.bpaf_laws.specs.Reading.{Outcome}
-use Rattle.bpaf_exact.specs.Says.{SaidKind}
+use Rattle.bpaf_laws.specs.{Product.BothOutcome, Reading.Outcome}
 use Rattle.bpaf_exact.specs.ProgramForm.{ProgramForm, ProgramFormLaw, program_alone, program_both}
-use Rattle.bpaf_exact.specs.ProgramForm.{program_field}
 use Rattle.bpaf_exact.specs.ProgramSays.{FieldsKeep, ProgramFieldsSaid, ProgramSaid, ProgramSays}
-use Rattle.bpaf_exact.specs.ProgramSays.{fields_said_inside, said_alone, said_both}
+use Rattle.bpaf_exact.specs.{Says.SaidKind, ProgramForm.program_field}
+use Rattle.bpaf_exact.specs.{ProgramSays.fields_said_inside, ProgramSays.said_alone}
+use Rattle.bpaf_exact.specs.{ProgramSays.said_both, Flat.Variables}
 use Rattle.bpaf_exact.proofs.ProgramForm.{program_alone_law, program_both_law, program_field_law}
 use Rattle.bpaf_exact.proofs.ProgramSays.{inside_say, program_alone_says, program_both_say}
-use Rattle.bpaf_exact.specs.Flat.{Variables}
 
 -- the last field
 pub keep_last : {env : Variables} {P R A : Type 0} (last : R → P) (r : R) (outcome : Outcome A)

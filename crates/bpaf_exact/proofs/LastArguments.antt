@@ -2,27 +2,22 @@
 use Rattle.std.proofs.Common.{◌≡◌, ℕ, true, List, [], ◌∷◌, ◌++◌, Ok, refl, sym, ap, ◌∙◌, subst}
 use Rattle.std.proofs.Common.{⊎_elim}
 use Rattle.bpaf_text.specs.Named.{KeyWithValue}
-use Rattle.bpaf_base.specs.declared.arg.Arg.{Arg}
-use Rattle.bpaf_base.specs.Items.{item_text}
-use Rattle.bpaf_line.specs.declared.error.Error.{Error}
-use Rattle.bpaf_line.specs.declared.error.Message.{Message}
+use Rattle.bpaf_base.specs.{declared.arg.Arg.Arg, Items.item_text}
 use Rattle.bpaf_line.specs.declared.error.Message.TheVariants.{Memory, NoArgument, ParseFailed}
-use Rattle.bpaf_line.specs.Situation.{Situation}
+use Rattle.bpaf_line.specs.{declared.error.Error.Error, declared.error.Message.Message}
+use Rattle.bpaf_line.specs.{Situation.Situation}
 use Rattle.bpaf_laws.specs.Argument.{ArgumentOutcome, ArgumentFails, TakesKeysWithTexts}
 use Rattle.bpaf_laws.specs.Argument.{TakesOwnText, TakesBefore, is_key_with_value}
 use Rattle.bpaf_laws.specs.Environment.{first_set}
 use Rattle.bpaf_exact.specs.Pieces.{Roles, LinePiece, One, Two, pieces, takes_none, takes_more}
 use Rattle.bpaf_exact.specs.Flat.{class, class_of, cells, IsWholeIn, ByName, Steady, Refused}
-use Rattle.bpaf_exact.specs.Flat.{Variables}
 use Rattle.bpaf_exact.specs.Single.{Gap, TakesAny, SingleOk, took, SingleErr, of_memory, of_piece}
-use Rattle.bpaf_exact.specs.Single.{SingleLaw}
 use Rattle.bpaf_exact.specs.Leaves.{argument_gap, argument_roles, HaveValues, no_more, one_more}
-use Rattle.bpaf_exact.specs.Leaves.{LastGroup}
+use Rattle.bpaf_exact.specs.{Flat.Variables, Single.SingleLaw, Leaves.LastGroup}
 use Rattle.bpaf_exact.proofs.ArgumentPieces.{TookPair, test, named, took_pair, no_key, nowhere}
 use Rattle.bpaf_exact.proofs.ArgumentPieces.{variable_read, variable_fault, gap_empty}
-use Rattle.bpaf_exact.proofs.First.{first_takes, first_pieces, takes_nonempty}
-use Rattle.bpaf_exact.proofs.Matching.{match_of, bare_taken}
-use Rattle.bpaf_exact.proofs.Product.{steady_trans}
+use Rattle.bpaf_exact.proofs.{First.first_takes, First.first_pieces, First.takes_nonempty}
+use Rattle.bpaf_exact.proofs.{Matching.match_of, Matching.bare_taken, Product.steady_trans}
 
 -- a list with a last element isn't empty
 not_nil : {T : Type 0} (xs : List T) (x : T) → xs ++ x ∷ [] ≡ [] → ⊥

@@ -2,25 +2,21 @@
 use Rattle.std.proofs.Common.{◌≡◌, true, false, List, [], ◌∷◌, Some, None, Ok, Err, refl, sym, ap}
 use Rattle.std.proofs.Common.{ap₂, ◌∙◌, subst, if◌then◌else◌}
 use Rattle.bpaf_base.specs.declared.arg.Arg.{Arg}
-use Rattle.bpaf_line.specs.declared.error.Error.{Error}
-use Rattle.bpaf_line.specs.Situation.{Situation}
-use Rattle.bpaf_laws.specs.Product.{BothOutcome, ProductOutcome}
-use Rattle.bpaf_laws.specs.Reading.{Outcome}
+use Rattle.bpaf_line.specs.{declared.error.Error.Error, Situation.Situation}
+use Rattle.bpaf_laws.specs.{Product.BothOutcome, Product.ProductOutcome, Reading.Outcome}
 use Rattle.bpaf_exact.specs.Flat.{ByName, FieldLaw, FieldTook, FieldsReading, IsWholeIn, OfMemory}
-use Rattle.bpaf_exact.specs.Flat.{both_reading, cells, class, Variables}
 use Rattle.bpaf_exact.specs.Pieces.{Alone, Apart, Cells, Foreign, LinePiece, One, Role, Roles}
 use Rattle.bpaf_exact.specs.Pieces.{TakesPieces, WithNext, begin_piece, either, is_own_role, mine}
 use Rattle.bpaf_exact.specs.Pieces.{no_roles, others, pieces, takes_more, takes_none, with_next}
-use Rattle.bpaf_exact.specs.Record.{LastValue}
-use Rattle.bpaf_exact.specs.Wrappers.{ClosedValue, map_closure}
-use Rattle.bpaf_exact.proofs.Cells.{begin_foreign, keeps_other_some}
+use Rattle.bpaf_exact.specs.{Flat.both_reading, Flat.cells, Flat.class, Flat.Variables}
+use Rattle.bpaf_exact.specs.{Record.LastValue, Wrappers.ClosedValue, Wrappers.map_closure}
 use Rattle.bpaf_exact.proofs.First.{Belongs, Union, belongs, both_nil, either_union, own_next}
 use Rattle.bpaf_exact.proofs.First.{swap_union, takes_left, to_first, to_none, to_second}
-use Rattle.bpaf_exact.proofs.First.{union_named}
 use Rattle.bpaf_exact.proofs.Product.{RefusedBy, by_first, by_rest, for_memory, none_outside_after}
-use Rattle.bpaf_exact.proofs.Product.{refused_by, steady_trans, values_of_both}
-use Rattle.bpaf_exact.proofs.Records.{before_none, current_cells, same_steady}
-use Rattle.bpaf_exact.proofs.Repeat.{some_trans}
+use Rattle.bpaf_exact.proofs.{Cells.begin_foreign, Cells.keeps_other_some, First.union_named}
+use Rattle.bpaf_exact.proofs.{Product.refused_by, Product.steady_trans, Product.values_of_both}
+use Rattle.bpaf_exact.proofs.{Records.before_none, Records.current_cells, Records.same_steady}
+use Rattle.bpaf_exact.proofs.{Repeat.some_trans}
 
 -- The pieces of two fields together.
 

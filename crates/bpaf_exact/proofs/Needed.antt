@@ -1,12 +1,10 @@
 -- Which values need a piece of their own: those of which nothing is said without one.
 use Rattle.std.proofs.Common.{◌≡◌, ◌≢◌, ℕ, Bool, List, [], ◌∷◌, ◌++◌, Option, None, refl, sym, ◌∙◌}
-use Rattle.bpaf_exact.specs.Pieces.{LinePiece, Two}
 use Rattle.bpaf_exact.specs.Says.{Said, FlagSays, says_present, says_absent, ArgumentSays}
 use Rattle.bpaf_exact.specs.Says.{says_variable, says_variable_text, says_text, says_last_text}
 use Rattle.bpaf_exact.specs.Says.{MadeSays, FrontSays, RepeatSays, says_in_turn, says_alone}
-use Rattle.bpaf_exact.specs.Says.{LastSays}
-use Rattle.bpaf_exact.specs.Single.{Own, own_none, own_more}
-use Rattle.bpaf_exact.specs.Wrappers.{Closure}
+use Rattle.bpaf_exact.specs.{Pieces.LinePiece, Pieces.Two, Says.LastSays, Single.Own}
+use Rattle.bpaf_exact.specs.{Single.own_none, Single.own_more, Wrappers.Closure}
 
 -- no value says so of no piece
 pub record NeedsPiece {T : Type 0} (said : Said T) : Type 0 where

@@ -2,38 +2,32 @@
 -- of a line look alike.
 use Rattle.std.proofs.Common.{◌≡◌, ℕ, Bool, true, false, List, [], ◌∷◌, map, Option, Some, None}
 use Rattle.std.proofs.Common.{refl, sym, ap, ◌∙◌, subst}
-use Rattle.std.specs.Global.{Vec}
-use Rattle.std.specs.Prelude.{option_map}
+use Rattle.std.specs.{Global.Vec, Prelude.option_map}
 use Rattle.bpaf_doc.specs.Names.{Names}
 use Rattle.bpaf_text.specs.Named.{Named as Key, KeyWithValue}
 use Rattle.bpaf_base.specs.Items.{item_text}
 use Rattle.bpaf_line.specs.Situation.{Context}
 use Rattle.bpaf_laws.specs.Reading.{Outcome}
-use Rattle.bpaf_exact.specs.Pieces.{Cells, Roles, LinePiece, One, Two}
 use Rattle.bpaf_exact.specs.Flat.{FieldsLaw, FieldsReading, FieldKind, ByName, ReadOff, Variables}
 use Rattle.bpaf_exact.specs.Single.{Groups, Gap, FrontOf, Own, own_none, own_more, SingleLaw}
 use Rattle.bpaf_exact.specs.Single.{SingleValue, of_group, of_gap, OwnList, listed}
-use Rattle.bpaf_exact.specs.Single.{listed_and_absent, only_absent, repeated}
 use Rattle.bpaf_exact.specs.Wrappers.{Closure, OptionalValue, some_value, no_value, FallbackValue}
-use Rattle.bpaf_exact.specs.Wrappers.{own_value, kept_value}
-use Rattle.bpaf_exact.specs.Gathered.{list_closure}
 use Rattle.bpaf_exact.specs.Leaves.{FlagValue, ArgumentValue, WordValue, flag_field, LastGroup}
 use Rattle.bpaf_exact.specs.Leaves.{SideValue, argument_by, argument_field, argument_group}
-use Rattle.bpaf_exact.specs.Leaves.{variable_argument, word_by, word_field}
 use Rattle.bpaf_exact.specs.Record.{RunAnswer, Accepted, NoMemory, Refusal, RecordValue, IsExact}
-use Rattle.bpaf_exact.specs.Record.{line_cells}
 use Rattle.bpaf_exact.specs.FlatForm.{FlatForm, alternative, single, complete, product, FormLaw}
 use Rattle.bpaf_exact.specs.FlatForm.{only_if, flat_closed, flat_repeat, flat_many, flat_optional}
 use Rattle.bpaf_exact.specs.FlatForm.{flat_fallback, flat_field, may_follow, flat_both, flat_alone}
 use Rattle.bpaf_exact.specs.FlatForm.{flat_con, flat_record, is_record, product_roles}
-use Rattle.bpaf_exact.specs.FlatForm.{product_reading, flat_whole}
 use Rattle.bpaf_exact.specs.OneView.{Alike, OneGroup, HasOneView, Respects, pair_view, LooksLike}
-use Rattle.bpaf_exact.specs.OneView.{RunsToOne}
-use Rattle.bpaf_exact.proofs.Alternative.{alternative_single}
-use Rattle.bpaf_exact.proofs.Cuts.{one_cut}
-use Rattle.bpaf_exact.proofs.LastArguments.{last_same}
-use Rattle.bpaf_exact.proofs.FlatForm.{record_law}
-use Rattle.bpaf_exact.proofs.Exact.{runs_exactly}
+use Rattle.bpaf_exact.specs.{Pieces.Cells, Pieces.Roles, Pieces.LinePiece, Pieces.One, Pieces.Two}
+use Rattle.bpaf_exact.specs.{Single.listed_and_absent, Single.only_absent, Single.repeated}
+use Rattle.bpaf_exact.specs.{Wrappers.own_value, Wrappers.kept_value, Gathered.list_closure}
+use Rattle.bpaf_exact.specs.{Leaves.variable_argument, Leaves.word_by, Leaves.word_field}
+use Rattle.bpaf_exact.specs.{Record.line_cells, FlatForm.product_reading, FlatForm.flat_whole}
+use Rattle.bpaf_exact.specs.{OneView.RunsToOne}
+use Rattle.bpaf_exact.proofs.{Alternative.alternative_single, Cuts.one_cut, LastArguments.last_same}
+use Rattle.bpaf_exact.proofs.{FlatForm.record_law, Exact.runs_exactly}
 
 -- Closures.
 

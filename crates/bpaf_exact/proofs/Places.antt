@@ -7,9 +7,8 @@ use Rattle.bpaf_line.specs.Situation.{Situation, is_open, is_taken, in_scope, it
 use Rattle.bpaf_line.specs.Taking.{open_item}
 use Rattle.bpaf_line.proofs.Places.{taken_here, taken_other, taken_stays}
 use Rattle.bpaf_exact.specs.Pieces.{Cells, Alone, WithNext, Roles, LinePiece, One, Two, is_value}
-use Rattle.bpaf_exact.specs.Pieces.{with_next, pieces}
-use Rattle.bpaf_exact.specs.Flat.{first_cells, Steady}
 use Rattle.bpaf_exact.specs.Alternative.{NotOwn, TakesFirst, first_one, first_two, first_later}
+use Rattle.bpaf_exact.specs.{Pieces.with_next, Pieces.pieces, Flat.first_cells, Flat.Steady}
 use Rattle.bpaf_exact.proofs.First.{begin_at}
 
 -- taking a place changes what is taken and the current place alone

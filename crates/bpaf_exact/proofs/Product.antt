@@ -1,25 +1,21 @@
 -- A field before other fields: the laws of a product from those of its parts.
 use Rattle.std.proofs.Common.{◌≡◌, true, false, List, [], ◌∷◌, length, Some, Result, Ok, Err, refl}
 use Rattle.std.proofs.Common.{inl, inr, Bool, sym, ap, ◌∙◌, subst, if◌then◌else◌, ◌<◌}
-use Rattle.bpaf_line.specs.declared.error.Error.{Error}
-use Rattle.bpaf_line.specs.Situation.{Situation}
-use Rattle.bpaf_line.specs.Messages.{is_memory}
-use Rattle.bpaf_laws.specs.Product.{BothOutcome, joined}
-use Rattle.bpaf_laws.specs.Reading.{Outcome}
-use Rattle.bpaf_laws.specs.Spared.{IsNotMemory}
+use Rattle.bpaf_line.specs.{declared.error.Error.Error, Situation.Situation, Messages.is_memory}
+use Rattle.bpaf_laws.specs.{Product.BothOutcome, Product.joined, Reading.Outcome}
+use Rattle.bpaf_laws.specs.{Spared.IsNotMemory}
 use Rattle.bpaf_exact.specs.Pieces.{no_roles, Cells, Role, Foreign, Alone, WithNext, Roles}
 use Rattle.bpaf_exact.specs.Pieces.{LinePiece, One, Two, is_own_role, is_own, others, either_role}
 use Rattle.bpaf_exact.specs.Pieces.{either, IsNamed, Apart, Cut, at_end, passed, flag, argument}
-use Rattle.bpaf_exact.specs.Pieces.{word, pieces, TakesPieces}
 use Rattle.bpaf_exact.specs.Flat.{cells, NonePresent, IsWholeIn, Steady, FieldKind, ByName, OneWord}
 use Rattle.bpaf_exact.specs.Flat.{EachWord, front, back, portion, left, keys, IsWords, OwnItems}
 use Rattle.bpaf_exact.specs.Flat.{NoKeysLeft, FieldTook, FieldLaw, ReadOff, FieldsLaw, Before}
 use Rattle.bpaf_exact.specs.Flat.{FieldsReading, both_reading, class, OfMemory, HasValue, Variables}
-use Rattle.bpaf_exact.proofs.Classes.{memory_class, not_memory}
+use Rattle.bpaf_exact.specs.Pieces.{word, pieces, TakesPieces}
 use Rattle.bpaf_exact.proofs.Cells.{value_foreign, word_foreign, begin_foreign, nil_rest}
 use Rattle.bpaf_exact.proofs.Cells.{nil_foreign, pieces_of_cut, others_foreign, put_back_some}
-use Rattle.bpaf_exact.proofs.Cells.{take_some_from}
 use Rattle.bpaf_exact.proofs.Words.{NoKeys, put_words_back, take_words_from, words_of_cut}
+use Rattle.bpaf_exact.proofs.{Classes.memory_class, Classes.not_memory, Cells.take_some_from}
 
 -- what isn't taken stays in the scope
 pub none_outside_after : {env : Variables} (s t : Situation) → IsWholeIn env s → Steady s t

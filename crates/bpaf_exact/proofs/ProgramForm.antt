@@ -2,25 +2,18 @@
 use Rattle.std.proofs.Common.{◌≡◌, ℕ, Bool, true, false, not, ◌||◌, List, [], ◌∷◌, ◌++◌, Option}
 use Rattle.std.proofs.Common.{Some, None, refl, sym, ap, ◌∙◌, subst, bytes_eq, ⊎_elim, true≢false}
 use Rattle.std.proofs.Common.{append_assoc, append-nil, inl, inr}
-use Rattle.std.specs.Prelude.{flat_map}
-use Rattle.std.specs.List.{list_all}
-use Rattle.std.specs.Option.{option_map_or}
 use Rattle.std.proofs.lemmas.Bool.{and_parts, or_cases, false_from_ne_true}
 use Rattle.std.proofs.lemmas.Slice.Eq.{bytes_eq-Decides}
+use Rattle.std.specs.{Prelude.flat_map, List.list_all, Option.option_map_or}
 use Rattle.bpaf_doc.specs.Names.{Names}
 use Rattle.bpaf_base.specs.declared.arg.Arg.{Arg}
 use Rattle.bpaf_base.specs.Items.{command_word, is_command_word, is_text_among}
 use Rattle.bpaf_line.specs.Situation.{Context, beginning}
-use Rattle.bpaf_laws.specs.Choice.{ChoiceOutcome}
-use Rattle.bpaf_laws.specs.Choices.{ChoicesOutcome, Nested}
-use Rattle.bpaf_laws.specs.Command.{Called, is_one_of, opening_words}
-use Rattle.bpaf_laws.specs.Product.{BothOutcome, ProductOutcome}
-use Rattle.bpaf_laws.specs.Reading.{Outcome}
-use Rattle.bpaf_exact.specs.Pieces.{Roles}
-use Rattle.bpaf_exact.specs.Flat.{Refused, ByName, cells, Variables}
+use Rattle.bpaf_laws.specs.{Choice.ChoiceOutcome, Choices.ChoicesOutcome, Choices.Nested}
+use Rattle.bpaf_laws.specs.{Command.Called, Command.is_one_of, Command.opening_words}
+use Rattle.bpaf_laws.specs.{Product.BothOutcome, Product.ProductOutcome, Reading.Outcome}
 use Rattle.bpaf_exact.specs.FlatForm.{FlatForm, FormLaw, not_flat, complete, is_record}
 use Rattle.bpaf_exact.specs.FlatForm.{product_roles, product_reading, flat_record, EachAgrees}
-use Rattle.bpaf_exact.specs.Names.{Owns, are_all_apart}
 use Rattle.bpaf_exact.specs.Record.{line_cells, RunAnswer, Accepted, RunRan, IsAcceptedOrWant}
 use Rattle.bpaf_exact.specs.ProgramForm.{ProgramForm, no_program, plain, commands, left_out}
 use Rattle.bpaf_exact.specs.ProgramForm.{before_commands, ProgramFormLaw, ProgramAgrees, program_if}
@@ -29,16 +22,18 @@ use Rattle.bpaf_exact.specs.ProgramForm.{are_words_apart, program_choice, whole_
 use Rattle.bpaf_exact.specs.ProgramForm.{opened_form, program_command, program_field, program_alone}
 use Rattle.bpaf_exact.specs.ProgramForm.{program_both, program_con, is_program, program_roles}
 use Rattle.bpaf_exact.specs.ProgramForm.{program_value, program_rest, first_only, program_choices}
-use Rattle.bpaf_exact.specs.ProgramForm.{program_dressed, flat_form}
 use Rattle.bpaf_exact.specs.Programs.{CellsValue, ProgramLaw, CommandEval, are_plain, WordsApart}
-use Rattle.bpaf_exact.specs.Programs.{FindsNoCommand, IsSpelledLine, GivesAll}
-use Rattle.bpaf_exact.specs.Wrappers.{Closure, ClosedEval, OptionalEval, map_closure}
-use Rattle.bpaf_exact.proofs.BeforeCommands.{before_law, con_program}
+use Rattle.bpaf_exact.specs.{Pieces.Roles, Flat.Refused, Flat.ByName, Flat.cells, Flat.Variables}
+use Rattle.bpaf_exact.specs.{Names.Owns, Names.are_all_apart, ProgramForm.program_dressed}
+use Rattle.bpaf_exact.specs.{ProgramForm.flat_form, Programs.FindsNoCommand, Programs.IsSpelledLine}
+use Rattle.bpaf_exact.specs.{Programs.GivesAll, Wrappers.Closure, Wrappers.ClosedEval}
+use Rattle.bpaf_exact.specs.{Wrappers.OptionalEval, Wrappers.map_closure}
 use Rattle.bpaf_exact.proofs.Commands.{closed_program, closed_commands, optional_commands}
 use Rattle.bpaf_exact.proofs.Commands.{choice_commands, program_sound, program_complete}
 use Rattle.bpaf_exact.proofs.FlatForm.{flat_closed_law, flat_optional_law, flat_choice_law}
 use Rattle.bpaf_exact.proofs.FlatForm.{flat_field_law, flat_alone_law, flat_both_law, flat_con_law}
 use Rattle.bpaf_exact.proofs.FlatForm.{flat_record_law, record_law, only_law, never_refuses}
+use Rattle.bpaf_exact.proofs.BeforeCommands.{before_law, con_program}
 use Rattle.bpaf_exact.proofs.Narrow.{AllowsNoMore, narrower_form, narrower_gives}
 use Rattle.bpaf_exact.proofs.Names.{apart_of_names, either_owns}
 use Rattle.bpaf_exact.proofs.Programs.{command_law, record_program}

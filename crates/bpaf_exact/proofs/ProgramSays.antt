@@ -3,17 +3,12 @@ use Rattle.std.proofs.Common.{◌≡◌, ℕ, zero, suc, Bool, true, false, List
 use Rattle.std.proofs.Common.{Option, not, ◌&&◌, ◌||◌, refl, sym, subst, arith}
 use Rattle.std.specs.List.{Contains}
 use Rattle.bpaf_doc.specs.Names.{Names}
-use Rattle.bpaf_laws.specs.Command.{Called, opening_words}
-use Rattle.bpaf_laws.specs.Environment.{first_set}
-use Rattle.bpaf_laws.specs.Reading.{Outcome}
-use Rattle.bpaf_exact.specs.Pieces.{Roles, LinePiece, pieces}
-use Rattle.bpaf_exact.specs.Flat.{ByName, Variables}
+use Rattle.bpaf_laws.specs.{Command.Called, Command.opening_words, Environment.first_set}
+use Rattle.bpaf_laws.specs.{Reading.Outcome}
 use Rattle.bpaf_exact.specs.Says.{SaidKind, of_kind, repeated_kind, Said, Says, MadeSays, FormSays}
-use Rattle.bpaf_exact.specs.Says.{FallbackSays, LastSays, RepeatSays}
 use Rattle.bpaf_exact.specs.FlatForm.{FlatForm, alternative, complete, EachAgrees, alternative_only}
 use Rattle.bpaf_exact.specs.FlatForm.{flat_field, is_product, is_record, product_roles, flat_record}
 use Rattle.bpaf_exact.specs.FlatForm.{unless, flat_fallback, flat_closed, flat_last, flat_repeat}
-use Rattle.bpaf_exact.specs.Names.{are_all_apart}
 use Rattle.bpaf_exact.specs.ProgramForm.{ProgramForm, no_program, plain, commands, left_out}
 use Rattle.bpaf_exact.specs.ProgramForm.{before_commands, ProgramFormLaw, program_if, flat_only}
 use Rattle.bpaf_exact.specs.ProgramForm.{program_closed, program_dressed, program_optional}
@@ -24,7 +19,6 @@ use Rattle.bpaf_exact.specs.ProgramForm.{is_program, program_value, are_words_ap
 use Rattle.bpaf_exact.specs.ProgramForm.{program_fallback, program_last, program_repeat}
 use Rattle.bpaf_exact.specs.Programs.{CellsValue, CommandValue, ChoiceValue, first_value}
 use Rattle.bpaf_exact.specs.Programs.{second_value, OptionalCommands, some_command, no_command}
-use Rattle.bpaf_exact.specs.Programs.{ClosedCells, are_plain, without}
 use Rattle.bpaf_exact.specs.ProgramSays.{ProgramSaid, of_pieces, of_cells, ProgramFieldsSaid}
 use Rattle.bpaf_exact.specs.ProgramSays.{of_all_pieces, of_all_cells, IsSaid, ProgramFormSays}
 use Rattle.bpaf_exact.specs.ProgramSays.{program_kind, ProgramSays, ProgramFieldsFormSay}
@@ -32,15 +26,15 @@ use Rattle.bpaf_exact.specs.ProgramSays.{ProgramFieldsSay, cells_said, pieces_sa
 use Rattle.bpaf_exact.specs.ProgramSays.{said_alone, said_both, said_con, said_choices, said_closed}
 use Rattle.bpaf_exact.specs.ProgramSays.{said_command, said_dressed, said_flat, said_optional}
 use Rattle.bpaf_exact.specs.ProgramSays.{said_fallback, said_last, said_repeat, fields_said_inside}
-use Rattle.bpaf_exact.specs.Wrappers.{Closure}
+use Rattle.bpaf_exact.specs.{Pieces.Roles, Pieces.LinePiece, Pieces.pieces, Flat.ByName}
+use Rattle.bpaf_exact.specs.{Flat.Variables, Says.FallbackSays, Says.LastSays, Says.RepeatSays}
+use Rattle.bpaf_exact.specs.{Names.are_all_apart, Programs.ClosedCells, Programs.are_plain}
+use Rattle.bpaf_exact.specs.{Programs.without, Wrappers.Closure, Variables.key_form}
 use Rattle.bpaf_exact.proofs.Says.{FormOwns, alone_says, both_say, by_name, choice_into}
 use Rattle.bpaf_exact.proofs.Says.{choice_says, closed_says, con_says, field_owned, field_says}
 use Rattle.bpaf_exact.proofs.Says.{optional_says, owned, record_says, unless_says, fallback_says}
-use Rattle.bpaf_exact.proofs.Says.{last_says, listed_says}
-use Rattle.bpaf_exact.proofs.FlatForm.{flat_record_law}
-use Rattle.bpaf_exact.proofs.ProgramForm.{record_owns}
-use Rattle.bpaf_exact.proofs.Sharing.{cut_fit, pieces_own}
-use Rattle.bpaf_exact.specs.Variables.{key_form}
+use Rattle.bpaf_exact.proofs.{Says.last_says, Says.listed_says, FlatForm.flat_record_law}
+use Rattle.bpaf_exact.proofs.{ProgramForm.record_owns, Sharing.cut_fit, Sharing.pieces_own}
 
 -- where a test holds
 if_says : {P T : Type 0} (names : List Names) (b : Bool) (s : ProgramForm T) (kind : SaidKind)

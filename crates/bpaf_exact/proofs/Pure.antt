@@ -1,18 +1,12 @@
 -- A kept value is a field that takes no piece.
 use Rattle.std.proofs.Common.{◌≡◌, List, [], ◌∷◌, None, Ok, Err, Some, refl, subst, sym}
-use Rattle.bpaf_line.specs.Situation.{Situation}
-use Rattle.bpaf_line.specs.declared.error.Error.{Error}
-use Rattle.bpaf_laws.specs.Default.{GivesClone}
-use Rattle.bpaf_laws.specs.Pure.{PureOutcome}
+use Rattle.bpaf_line.specs.{Situation.Situation, declared.error.Error.Error}
+use Rattle.bpaf_laws.specs.{Default.GivesClone, Pure.PureOutcome}
 use Rattle.bpaf_doc.specs.Names.{Names}
 use Rattle.bpaf_exact.specs.Flat.{ByName, FieldTook, IsWholeIn, OfMemory, cells, class, Variables}
-use Rattle.bpaf_exact.specs.FlatForm.{FormLaw}
-use Rattle.bpaf_exact.specs.Leaves.{pure_field}
 use Rattle.bpaf_exact.specs.Pieces.{Cells, LinePiece, TakesPieces, no_roles, pieces, takes_none}
-use Rattle.bpaf_exact.specs.Says.{Says, of_kind}
-use Rattle.bpaf_exact.proofs.Classes.{memory_class}
-use Rattle.bpaf_exact.proofs.FlatForm.{no_names}
-use Rattle.bpaf_exact.proofs.Records.{current_cells}
+use Rattle.bpaf_exact.specs.{FlatForm.FormLaw, Leaves.pure_field, Says.Says, Says.of_kind}
+use Rattle.bpaf_exact.proofs.{Classes.memory_class, FlatForm.no_names, Records.current_cells}
 
 -- no piece is its own
 none_pieces : (cs : Cells) → pieces no_roles cs ≡ []

@@ -5,28 +5,17 @@ use Rattle.bpaf_doc.specs.Names.{Names}
 use Rattle.bpaf_text.specs.Named.{Named as Key, KeyWithValue}
 use Rattle.bpaf_laws.specs.Reading.{Outcome}
 use Rattle.bpaf_exact.specs.Pieces.{Roles, LinePiece, One, Two, is_own, mine, others, either}
-use Rattle.bpaf_exact.specs.Pieces.{no_roles, stands_behind}
 use Rattle.bpaf_exact.specs.Flat.{FieldKind, ByName, OneWord, EachWord, FieldsReading, keys, front}
-use Rattle.bpaf_exact.specs.Flat.{back, both_reading, Variables}
-use Rattle.bpaf_exact.specs.Names.{Owns, are_all_apart}
 use Rattle.bpaf_exact.specs.Single.{Groups, Gap, FrontOf, Own, own_none, own_more, OwnList, listed}
 use Rattle.bpaf_exact.specs.Single.{listed_and_absent, only_absent, SingleValue, of_group, of_gap}
-use Rattle.bpaf_exact.specs.Single.{repeated}
 use Rattle.bpaf_exact.specs.Wrappers.{Closure, OptionalValue, some_value, no_value, FallbackValue}
-use Rattle.bpaf_exact.specs.Wrappers.{own_value, kept_value}
-use Rattle.bpaf_exact.specs.Gathered.{LastOf}
-use Rattle.bpaf_exact.specs.Alternative.{pick_type, either_value}
 use Rattle.bpaf_exact.specs.Leaves.{flag_field, flag_gap, FlagValue, argument_field, argument_by}
 use Rattle.bpaf_exact.specs.Leaves.{argument_gap, argument_group, variable_argument, variable_flag}
-use Rattle.bpaf_exact.specs.Leaves.{ArgumentValue, SideValue, WordValue, word_by}
-use Rattle.bpaf_exact.proofs.Fronts.{all_front}
-use Rattle.bpaf_exact.specs.Record.{LastValue}
 use Rattle.bpaf_exact.specs.FlatForm.{FlatForm, FormLaw, not_flat, alternative, single, complete}
 use Rattle.bpaf_exact.specs.FlatForm.{product, only_if, flat_closed, flat_choice, alternative_only}
 use Rattle.bpaf_exact.specs.FlatForm.{flat_repeat, flat_last, flat_optional, flat_fallback, unless}
 use Rattle.bpaf_exact.specs.FlatForm.{flat_field, is_named, may_follow, product_roles, flat_both}
 use Rattle.bpaf_exact.specs.FlatForm.{flat_alone, flat_con, flat_record, product_reading}
-use Rattle.bpaf_exact.specs.FlatForm.{flat_whole}
 use Rattle.bpaf_exact.specs.Says.{SaidKind, form_kind, of_kind, keyed, repeated_kind, AllOwn, Fits}
 use Rattle.bpaf_exact.specs.Says.{Said, FlagSays, says_present, says_absent, says_variable}
 use Rattle.bpaf_exact.specs.Says.{ArgumentSays, says_variable_text, says_text, says_last_text}
@@ -34,13 +23,18 @@ use Rattle.bpaf_exact.specs.Says.{WordSays, EitherSays, says_this, says_that, Ma
 use Rattle.bpaf_exact.specs.Says.{OptionalSays, says_some, says_none, FallbackSays, says_own}
 use Rattle.bpaf_exact.specs.Says.{says_kept, FrontSays, RepeatSays, says_in_turn, says_alone}
 use Rattle.bpaf_exact.specs.Says.{LastSays, FieldsSaid, RecordSays, FormSays, Says, FieldsFormSays}
-use Rattle.bpaf_exact.specs.Says.{FieldsSay, its_pieces, words_after}
-use Rattle.bpaf_exact.proofs.Names.{apart_of_names}
+use Rattle.bpaf_exact.specs.{Pieces.no_roles, Pieces.stands_behind, Flat.back, Flat.both_reading}
+use Rattle.bpaf_exact.specs.{Flat.Variables, Names.Owns, Names.are_all_apart, Single.repeated}
+use Rattle.bpaf_exact.specs.{Wrappers.own_value, Wrappers.kept_value, Gathered.LastOf}
+use Rattle.bpaf_exact.specs.{Alternative.pick_type, Alternative.either_value, Leaves.ArgumentValue}
+use Rattle.bpaf_exact.specs.{Leaves.SideValue, Leaves.WordValue, Leaves.word_by, Record.LastValue}
+use Rattle.bpaf_exact.specs.{FlatForm.flat_whole, Says.FieldsSay, Says.its_pieces, Says.words_after}
 use Rattle.bpaf_exact.proofs.Sharing.{mine_rest, others_fit, others_rest, rest_fit, apart_none}
 use Rattle.bpaf_exact.proofs.Sharing.{each_own, first_fits, no_fits, own_fit, second_fits}
 use Rattle.bpaf_exact.proofs.Sharing.{mine_keyed, others_unkeyed, mine_within, first_within}
 use Rattle.bpaf_exact.proofs.Sharing.{second_within, mine_of_others, mine_none, others_none}
-use Rattle.bpaf_exact.proofs.Sharing.{all_mine, others_both, none_behind}
+use Rattle.bpaf_exact.proofs.{Fronts.all_front, Names.apart_of_names, Sharing.all_mine}
+use Rattle.bpaf_exact.proofs.{Sharing.others_both, Sharing.none_behind}
 
 -- Leaves.
 

@@ -1,20 +1,17 @@
 -- A surplus occurrence, a surplus word and an occurrence without a value leave a field no value.
 use Rattle.std.proofs.Common.{◌≡◌, ℕ, Bool, true, false, List, [], ◌∷◌, Option, Some, None, subst}
 use Rattle.bpaf_doc.specs.Names.{Names}
-use Rattle.bpaf_exact.specs.Pieces.{Roles, LinePiece}
 use Rattle.bpaf_exact.specs.Flat.{FieldKind, FieldsReading, HasValue, both_reading, portion, left}
 use Rattle.bpaf_exact.specs.Single.{Groups, Gap, FrontOf, own_none, own_more, OwnList, listed}
 use Rattle.bpaf_exact.specs.Single.{listed_and_absent, only_absent, SingleValue, of_group, of_gap}
 use Rattle.bpaf_exact.specs.Wrappers.{Closure, OptionalValue, some_value, no_value, FallbackValue}
-use Rattle.bpaf_exact.specs.Wrappers.{own_value, kept_value}
-use Rattle.bpaf_exact.specs.Gathered.{LastOf}
-use Rattle.bpaf_exact.specs.Alternative.{HasBad}
-use Rattle.bpaf_exact.specs.Record.{last_reading}
-use Rattle.bpaf_exact.specs.Leaves.{flag_by, argument_by, word_field}
 use Rattle.bpaf_exact.specs.FlatForm.{FlatForm, not_flat, alternative, single, complete, product}
 use Rattle.bpaf_exact.specs.FlatForm.{flat_closed, flat_optional, flat_fallback, flat_field, unless}
-use Rattle.bpaf_exact.specs.FlatForm.{is_product}
-use Rattle.bpaf_exact.specs.Accepted.{OneByOne, AtMostOne, HasNoSurplus, IsPartOf}
+use Rattle.bpaf_exact.specs.{Pieces.Roles, Pieces.LinePiece, Wrappers.own_value}
+use Rattle.bpaf_exact.specs.{Wrappers.kept_value, Gathered.LastOf, Alternative.HasBad}
+use Rattle.bpaf_exact.specs.{Record.last_reading, Leaves.flag_by, Leaves.argument_by}
+use Rattle.bpaf_exact.specs.{Leaves.word_field, FlatForm.is_product, Accepted.OneByOne}
+use Rattle.bpaf_exact.specs.{Accepted.AtMostOne, Accepted.HasNoSurplus, Accepted.IsPartOf}
 use Rattle.bpaf_exact.proofs.Alternative.{own_bad}
 
 -- A surplus occurrence.

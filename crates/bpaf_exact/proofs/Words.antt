@@ -1,8 +1,7 @@
 -- Cuts of what named fields left: words alone.
 use Rattle.std.proofs.Common.{◌≡◌, Bool, true, false, List, [], ◌∷◌, Some, None, refl, sym, ap, ◌∙◌}
 use Rattle.std.proofs.Common.{if◌then◌else◌}
-use Rattle.bpaf_base.specs.declared.arg.Arg.{Arg}
-use Rattle.bpaf_base.specs.Items.{is_positional}
+use Rattle.bpaf_base.specs.{declared.arg.Arg.Arg, Items.is_positional}
 use Rattle.bpaf_exact.specs.Pieces.{Cells, Role, Foreign, Alone, WithNext, Roles, LinePiece, One}
 use Rattle.bpaf_exact.specs.Pieces.{Cut, at_end, passed, flag, argument, word, begin_piece, pieces}
 use Rattle.bpaf_exact.specs.Pieces.{TakesPiece, takes_one, takes_two, takes_later, TakesPieces}
