@@ -49,11 +49,22 @@ pub stops_by : (s m : Situation) (e : Error) → CanCatch e
 stops_by s m e (catch_missing c) same = nothing_found c (same_count s m (same c))
 stops_by s m e (catch_other c) same = caught c
 
--- a turn stops only where something is missing or the error can be caught otherwise
-pub no_stop : (s m : Situation) (e : Error) (c : ErrorClass) → Stops e s m → class e ≡ c
-    → (c ≡ OfMissing → ⊥) → (c ≡ Caught → ⊥) → ⊥
-no_stop s m e c (nothing_found h n) g a b = a (sym g ∙ h)
-no_stop s m e c (caught h) g a b = b (sym g ∙ h)
+-- a turn stops at what can be caught
+pub stopped_by : {s m : Situation} {e : Error} → Stops e s m → CanCatch e
+stopped_by (nothing_found c same) = catch_missing c
+stopped_by (caught c) = catch_other c
+
+-- where it can be caught there is no piece, and no absent value
+pub catch_none : {T : Type 0} {k : FieldKind} {q : Roles} {group : Groups T} {gap : Gap T}
+    (s m : Situation) (e : Error) → CanCatch e → SingleErr T k q group gap s e m
+    → (gap.has ≡ false) × (front k (pieces q (cells s)) ≡ [])
+catch_none s m e h (of_missing c g p same) = (g, p)
+catch_none s m e (catch_missing h) (of_memory c) = absurd cc
+catch_none s m e (catch_other h) (of_memory c) = absurd cc
+catch_none s m e (catch_missing h) (of_absent c g p n) = absurd cc
+catch_none s m e (catch_other h) (of_absent c g p n) = absurd cc
+catch_none s m e (catch_missing h) (of_piece c p n) = absurd cc
+catch_none s m e (catch_other h) (of_piece c p n) = absurd cc
 
 module _ {env : Variables} (T : Type 0) (inner : Outcome T) (k : FieldKind) (q : Roles)
     (group : Groups T) (gap : Gap T) (l : SingleLaw env T inner k q group gap) where
@@ -142,10 +153,10 @@ module _ {env : Variables} (T : Type 0) (inner : Outcome T) (k : FieldKind) (q :
   -- a turn that stops after a value
   stop_after : (s m : Situation) (e : Error) → Stops e s m → SingleErr T k q group gap s e m
       → Took s [] s
-  stop_after s m e h (of_memory c) = absurd (no_stop s m e OfMemory h c (λ i. cc) (λ i. cc))
-  stop_after s m e h (of_missing c g p same) = ended s s (steady_refl s) p refl (λ i. absurd cc)
-  stop_after s m e h (of_absent c g p n) = absurd (no_stop s m e Refused h c (λ i. cc) (λ i. cc))
-  stop_after s m e h (of_piece c p n) = absurd (no_stop s m e Refused h c (λ i. cc) (λ i. cc))
+  stop_after s m e h refused =
+      let a = catch_none s m e (stopped_by h) refused in
+      let g = a.0 in
+      ended s s (steady_refl s) a.1 refl (λ i. absurd cc)
 
   -- one value more
   took_more : (s m t : Situation) (v : T) (vs : List T) → TookGroup T k q group s v m
@@ -261,16 +272,13 @@ module _ {env : Variables} (T : Type 0) (inner : Outcome T) (k : FieldKind) (q :
   -- a first turn that stops
   first_stop : (s m : Situation) (e : Error) → Stops e s m → SingleErr T k q group gap s e m
       → RepeatTook s [] s
-  first_stop s m e h (of_memory c) = absurd (no_stop s m e OfMemory h c (λ i. cc) (λ i. cc))
-  first_stop s m e h (of_missing c g p same) =
-      record {
+  first_stop s m e h refused =
+      let a = catch_none s m e (stopped_by h) refused in record {
         steady = steady_refl s;
         takes = takes_none;
-        none = all_left s p;
-        list = listed g (subst (λ os. Own T group os []) (sym (own_none_left s p)) own_none);
+        none = all_left s a.1;
+        list = listed a.0 (subst (λ os. Own T group os []) (sym (own_none_left s a.1)) own_none);
       }
-  first_stop s m e h (of_absent c g p n) = absurd (no_stop s m e Refused h c (λ i. cc) (λ i. cc))
-  first_stop s m e h (of_piece c p n) = absurd (no_stop s m e Refused h c (λ i. cc) (λ i. cc))
 
   -- a first turn that stops read all
   first_stopped : (s t : Situation) → IsWholeIn env s → TurnOutcome inner false true s (Ok None) t
