@@ -3,6 +3,13 @@ use Rattle.std.proofs.Common.{◌≡◌, Bool, true, false, List, [], ◌∷◌,
 use Rattle.bpaf_exact.specs.Flat.{FieldKind, ByName, OneWord, EachWord, back, front, from_marker}
 use Rattle.bpaf_exact.specs.{Pieces.Cells, Pieces.LinePiece, Pieces.Roles, Pieces.pieces}
 use Rattle.bpaf_exact.specs.{Flat.NoKeysLeft, Flat.is_behind, Flat.up_to_marker, Single.repeated}
+use Rattle.std.proofs.Common.{◌++◌}
+
+-- a list that something stands in isn't empty
+pub never_nil : {T : Type 0} (before : List T) (x : T) (behind : List T)
+    → before ++ x ∷ behind ≡ [] → ⊥
+never_nil [] x behind e = cc
+never_nil (y ∷ before) x behind e = cc
 
 -- where no piece stands before the first one behind `--`, all stand from there on
 none_before : (os : List LinePiece) → up_to_marker os ≡ [] → from_marker os ≡ os

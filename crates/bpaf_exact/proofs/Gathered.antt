@@ -12,14 +12,11 @@ use Rattle.bpaf_exact.specs.{Pieces.Roles, Pieces.LinePiece, Pieces.pieces, Flat
 use Rattle.bpaf_exact.specs.{Flat.OfMemory, Flat.class, Flat.Variables, Single.repeated}
 use Rattle.bpaf_exact.specs.{Single.RepeatOutcome, Wrappers.AgreesOn, Gathered.some_closure}
 use Rattle.bpaf_exact.specs.{Gathered.IsLast, Gathered.LastOf}
+use Rattle.bpaf_exact.proofs.Fronts.{never_nil}
 
 -- a list with a last value isn't empty
 no_last : (T : Type 0) (vs : List T) (v : T) → IsLast T vs v → vs ≡ [] → ⊥
-no_last T vs v l e = by_before l.before (sym l.is ∙ e)
-  where
-    by_before : (b : List T) → b ++ (v ∷ []) ≡ [] → ⊥
-    by_before [] h = cc
-    by_before (x ∷ xs) h = cc
+no_last T vs v l e = never_nil l.before v [] (sym l.is ∙ e)
 
 module _ {env : Variables} (T : Type 0) (inner : Outcome T) (k : FieldKind) (q : Roles)
     (group : Groups T) (gap : Gap T) (l : SingleLaw env T inner k q group gap) where

@@ -18,11 +18,7 @@ use Rattle.bpaf_exact.proofs.ArgumentPieces.{TookPair, test, named, took_pair, n
 use Rattle.bpaf_exact.proofs.ArgumentPieces.{variable_read, variable_fault, gap_empty}
 use Rattle.bpaf_exact.proofs.{First.first_takes, First.first_pieces, First.takes_nonempty}
 use Rattle.bpaf_exact.proofs.{Matching.match_of, Matching.bare_taken, Product.steady_trans}
-
--- a list with a last element isn't empty
-not_nil : {T : Type 0} (xs : List T) (x : T) → xs ++ x ∷ [] ≡ [] → ⊥
-not_nil [] x e = cc
-not_nil (y ∷ xs) x e = cc
+use Rattle.bpaf_exact.proofs.Fronts.{never_nil}
 
 -- the last element of a list is one
 pub last_same : (T : Type 0) (xs ys : List T) (v w : T) → xs ++ (v ∷ []) ≡ ys ++ (w ∷ []) → v ≡ w
@@ -38,11 +34,8 @@ bare_spoils : (pairs tail before : List LinePiece) (k j w : Arg) → HaveValues 
     → pairs ++ One k ∷ tail ≡ before ++ Two j w ∷ [] → ⊥
 bare_spoils [] tail before k j w no_more e = cc
 bare_spoils [] tail before k j w (one_more h) e = cc
-bare_spoils (o ∷ pairs) tail before k j w no_more e = not_there pairs cc
-  where
-    not_there : (ps : List LinePiece) → ps ++ One k ∷ tail ≡ [] → ⊥
-    not_there [] f = cc
-    not_there (p ∷ ps) f = cc
+bare_spoils (o ∷ pairs) tail before k j w no_more e =
+    absurd (never_nil pairs (One k) tail cc)
 bare_spoils (o ∷ pairs) tail before k j w (one_more {os = os} h) e =
     bare_spoils pairs tail os k j w h cc
 
@@ -205,13 +198,9 @@ module _ (T : Type 0) (means : List ℕ → T → Type 0) (argument : KeyWithVal
   bare_refused s t e k tail c some is =
       let there : pieces q (cells s) ≡ some.pairs ++ One k ∷ tail =
       some.is ∙ ap (λ z. some.pairs ++ z) is in
-      of_piece c (λ none. not_there some.pairs (sym there ∙ none))
+      of_piece c (λ none. never_nil some.pairs (One k) tail (sym there ∙ none))
       (λ v rest g. bare_spoils some.pairs tail g.before k g.key g.word g.have_values
       (sym there ∙ g.is))
-    where
-      not_there : (ps : List LinePiece) → ps ++ One k ∷ tail ≡ [] → ⊥
-      not_there [] f = cc
-      not_there (p ∷ ps) f = cc
 
   -- a refusal: no piece, one without a value, or a last one that means none
   last_err : (s t : Situation) (e : Error) (m : Message) → class e ≡ class_of m
@@ -237,7 +226,7 @@ module _ (T : Type 0) (means : List ℕ → T → Type 0) (argument : KeyWithVal
   last_argument_law = record {
     own = named argument;
     words = tt;
-    starts = λ v rest g. not_nil g.before (Two g.key g.word) (sym g.is);
+    starts = λ v rest g. never_nil g.before (Two g.key g.word) [] (sym g.is);
     no_absent = gap_empty T means argument (LastGroup T means) variables;
     ok = last_ok;
     err = λ s t e w o. last_err s t e e.0 refl w.environment o;

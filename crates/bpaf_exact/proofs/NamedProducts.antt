@@ -195,7 +195,7 @@ module _ {env : Variables} (A B : Type 0) (first : Outcome A) (rest : Outcome B)
   }
 
 -- no item is nobody's own
-none_of_nobody : (cs : Cells) → pieces no_roles cs ≡ []
+pub none_of_nobody : (cs : Cells) → pieces no_roles cs ≡ []
 none_of_nobody [] = refl
 none_of_nobody (None ∷ cs) = none_of_nobody cs
 none_of_nobody (Some k ∷ cs) = none_of_nobody cs

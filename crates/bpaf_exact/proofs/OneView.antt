@@ -28,6 +28,7 @@ use Rattle.bpaf_exact.specs.{Record.line_cells, FlatForm.product_reading, FlatFo
 use Rattle.bpaf_exact.specs.{OneView.RunsToOne}
 use Rattle.bpaf_exact.proofs.{Alternative.alternative_single, Cuts.one_cut, LastArguments.last_same}
 use Rattle.bpaf_exact.proofs.{FlatForm.record_law, Exact.runs_exactly}
+use Rattle.bpaf_exact.proofs.Repeat.{own_nil}
 
 -- Closures.
 
@@ -172,12 +173,7 @@ module _ {env : Variables} (T X : Type 0) (see : T → X) (inner : Outcome T) (k
 
   -- no piece has no own list but the empty one
   own_never : (v : T) (vs : List T) → Own T group [] (v ∷ vs) → ⊥
-  own_never v vs o = by_list [] (v ∷ vs) refl refl o
-    where
-      by_list : (os : List LinePiece) (ws : List T) → os ≡ [] → ws ≡ v ∷ vs → Own T group os ws → ⊥
-      by_list os ws e f own_none = cc
-      by_list os ws e f (own_more {rest = rest} {v = w} g o) =
-          l.starts w rest (subst (λ z. group z w rest) e g)
+  own_never v vs o = let e = own_nil T inner k q group gap l [] (v ∷ vs) refl o in cc
 
   -- so do they under a repeat
   pub list_view : (os : List LinePiece) → Alike (map see) (OwnList T group gap os)

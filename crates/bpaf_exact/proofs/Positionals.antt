@@ -20,6 +20,7 @@ use Rattle.bpaf_exact.proofs.Fronts.{back_more, back_one, front_more, front_one,
 use Rattle.bpaf_exact.proofs.Matching.{match_of, ByTest, by_test, no_pieces, one_taken}
 use Rattle.bpaf_exact.proofs.{Fronts.of_front_one, First.begin_at, Alternative.took_front}
 use Rattle.bpaf_exact.proofs.{Places.take_steady}
+use Rattle.bpaf_exact.proofs.Words.{never_two}
 
 -- the text and the side of a word are those of its item
 pub word_is : (w : Arg) (strict : Bool) (text : List ℕ) → word_text w ≡ Some (strict, text)
@@ -51,19 +52,12 @@ module _ (T : Type 0) (b : Bool) (value : LinePiece → T → Type 0)
   test : ByTest is_positional word_roles Alone
   test = by_test is_positional Alone
 
-  -- a word is a piece by itself
-  never_two : (k : Arg) → word_roles k ≡ WithNext → ⊥
-  never_two k e = by_word (is_positional k) e
-    where
-      by_word : (b : Bool) → (if b then Alone else Foreign) ≡ WithNext → ⊥
-      by_word true h = cc
-      by_word false h = cc
-
   -- the first word heads the pieces
   word_pieces : {cs ds : Cells} {o : LinePiece} → TakesFirst word_roles cs o ds
       → pieces word_roles cs ≡ o ∷ pieces word_roles ds
   word_pieces (first_one {k = k} {cs = cs} e) = begin_at k cs (pieces word_roles cs) e
-  word_pieces (first_two {k = k} e v) = absurd (never_two k e)
+  word_pieces (first_two {k = k} e v) = absurd (never_two word_roles k (record { words = λ k. refl
+  }) e)
   word_pieces (first_later {c = None} h t) = word_pieces t
   word_pieces (first_later {c = Some k} {cs = cs} {ds = ds} h t) =
       let a = begin_at k cs (pieces word_roles cs) h in

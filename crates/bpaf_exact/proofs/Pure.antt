@@ -7,12 +7,7 @@ use Rattle.bpaf_exact.specs.Flat.{ByName, FieldTook, IsWholeIn, OfMemory, cells,
 use Rattle.bpaf_exact.specs.Pieces.{Cells, LinePiece, TakesPieces, no_roles, pieces, takes_none}
 use Rattle.bpaf_exact.specs.{FlatForm.FormLaw, Leaves.pure_field, Says.Says, Says.of_kind}
 use Rattle.bpaf_exact.proofs.{Classes.memory_class, FlatForm.no_names, Records.current_cells}
-
--- no piece is its own
-none_pieces : (cs : Cells) → pieces no_roles cs ≡ []
-none_pieces [] = refl
-none_pieces (None ∷ cs) = none_pieces cs
-none_pieces (Some k ∷ cs) = none_pieces cs
+use Rattle.bpaf_exact.proofs.NamedProducts.{none_of_nobody}
 
 module _ (T : Type 0) (clones : T → T → Type 0) (kept : T) where
   -- what it stands for
@@ -49,7 +44,7 @@ module _ (T : Type 0) (clones : T → T → Type 0) (kept : T) where
     record {
       own = record { only_keys = λ k h. refl };
       ok = pure_ok;
-      takes_all = λ s t v u w o h. none_pieces (cells t);
+      takes_all = λ s t v u w o h. none_of_nobody (cells t);
       refuses = λ s t e v w o h. pure_refuses s t e o;
     },
     no_names,

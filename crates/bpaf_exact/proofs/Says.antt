@@ -35,6 +35,7 @@ use Rattle.bpaf_exact.proofs.Sharing.{mine_keyed, others_unkeyed, mine_within, f
 use Rattle.bpaf_exact.proofs.Sharing.{second_within, mine_of_others, mine_none, others_none}
 use Rattle.bpaf_exact.proofs.{Fronts.all_front, Names.apart_of_names, Sharing.all_mine}
 use Rattle.bpaf_exact.proofs.{Sharing.others_both, Sharing.none_behind}
+use Rattle.bpaf_exact.proofs.Fronts.{never_nil}
 
 -- Leaves.
 
@@ -92,11 +93,6 @@ module _ {T : Type 0} (means : List ℕ → T → Type 0) where
   pair_piece (One k) v m = absurd m
   pair_piece (Two k w) v m = says_text k w refl m
 
-  -- no piece behind others is none
-  not_none : (before : List LinePiece) (o : LinePiece) → before ++ o ∷ [] ≡ [] → ⊥
-  not_none [] o e = cc
-  not_none (p ∷ before) o e = cc
-
   -- all its keys
   argument_group_says : {set : Option (List ℕ)} (last : Bool) (os rest : List LinePiece) (v : T)
       → argument_group means last os v rest → FrontSays (ArgumentSays means last set) os v rest
@@ -105,7 +101,7 @@ module _ {T : Type 0} (means : List ℕ → T → Type 0) where
   argument_group_says true os rest v g = record {
     part = os;
     is = sym (ap (λ z. os ++ z) g.none_left ∙ append-nil os);
-    some = λ e. not_none g.before (Two g.key g.word) (sym g.is ∙ e);
+    some = λ e. never_nil g.before (Two g.key g.word) [] (sym g.is ∙ e);
     told = says_last_text g.before g.key g.word refl g.have_values g.is g.meant;
   }
 

@@ -21,7 +21,7 @@ word_of q k n e = by_word (is_positional k) (sym (n.words k) ∙ e)
     by_word false h = cc
 
 -- and a piece by itself
-never_two : (q : Roles) (k : Arg) → IsWords q → q k ≡ WithNext → ⊥
+pub never_two : (q : Roles) (k : Arg) → IsWords q → q k ≡ WithNext → ⊥
 never_two q k n e = by_word (is_positional k) (sym (n.words k) ∙ e)
   where
     by_word : (b : Bool) → (if b then Alone else Foreign) ≡ WithNext → ⊥
