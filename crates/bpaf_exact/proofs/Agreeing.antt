@@ -4,9 +4,9 @@ use Rattle.bpaf_text.specs.{Meaning.SpellsUnsigned, Named.KeyWithValue}
 use Rattle.bpaf_laws.specs.Environment.{first_set}
 use Rattle.bpaf_exact.specs.FlatForm.{Agrees, FlatForm, alternative, complete, not_flat, product}
 use Rattle.bpaf_exact.specs.ProgramForm.{ProgramAgrees, ProgramForm, commands, left_out, plain}
-use Rattle.bpaf_exact.specs.{FlatForm.single, Leaves.argument_field, Leaves.variable_argument}
-use Rattle.bpaf_exact.specs.{OneView.Alike, OneView.HasOneView, OneView.ProgramOneView}
-use Rattle.bpaf_exact.specs.{OneView.Respects, ProgramForm.program_closed, Variables.argument_form}
+use Rattle.bpaf_exact.specs.{FlatForm.single, ProgramForm.program_closed, Leaves.argument_field}
+use Rattle.bpaf_exact.specs.{Leaves.variable_argument, OneView.Alike, OneView.HasOneView}
+use Rattle.bpaf_exact.specs.{OneView.ProgramOneView, OneView.Respects, Variables.argument_form}
 use Rattle.bpaf_exact.specs.{Variables.key_form, Wrappers.AgreesOn, Wrappers.Closure}
 use Rattle.bpaf_exact.specs.{Wrappers.Decides, Flat.Variables}
 use Rattle.bpaf_exact.proofs.OneView.{argument_view, closed_view, variable_argument_view}

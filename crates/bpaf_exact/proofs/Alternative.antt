@@ -10,10 +10,10 @@ use Rattle.bpaf_exact.specs.Wrappers.{Closure, AgreesOn, ClosedEval, closed_yes,
 use Rattle.bpaf_exact.specs.Wrappers.{closed_memory, closed_err, ClosedGroup, closed_gap}
 use Rattle.bpaf_exact.specs.Alternative.{TakesFirst, HasBad, bad_here, bad_later, AlternativeOk}
 use Rattle.bpaf_exact.specs.Alternative.{AlternativeErr, alternative_memory, alternative_missing}
-use Rattle.bpaf_exact.specs.{Flat.ByName, Flat.OneWord, Flat.EachWord, Flat.Variables, Pieces.Roles}
-use Rattle.bpaf_exact.specs.{Pieces.LinePiece, Pieces.pieces, Pieces.takes_none, Single.SingleLaw}
-use Rattle.bpaf_exact.specs.{Wrappers.ClosedPiece, Alternative.alternative_refused}
-use Rattle.bpaf_exact.specs.{Alternative.AlternativeLaw}
+use Rattle.bpaf_exact.specs.{Flat.ByName, Flat.OneWord, Flat.EachWord, Flat.Variables}
+use Rattle.bpaf_exact.specs.{Single.SingleLaw, Wrappers.ClosedPiece}
+use Rattle.bpaf_exact.specs.{Alternative.alternative_refused, Alternative.AlternativeLaw}
+use Rattle.bpaf_exact.specs.{Pieces.Roles, Pieces.LinePiece, Pieces.pieces, Pieces.takes_none}
 use Rattle.bpaf_exact.proofs.First.{first_pieces, first_takes, takes_nonempty, bad_given_back}
 use Rattle.bpaf_exact.proofs.First.{bad_nonempty}
 

@@ -13,17 +13,17 @@ use Rattle.bpaf_exact.specs.Alternative.{AlternativeOk, AlternativeErr, alternat
 use Rattle.bpaf_exact.specs.Single.{FrontOf, Gap, Groups, SingleErr, SingleLaw, SingleOk, took}
 use Rattle.bpaf_exact.specs.Leaves.{argument_roles, ArgumentValue, argument_by, argument_field}
 use Rattle.bpaf_exact.specs.Leaves.{argument_gap, argument_group, argument_with, variable_argument}
-use Rattle.bpaf_exact.specs.{Pieces.Roles, Pieces.LinePiece, Pieces.One, Pieces.Two, Pieces.pieces}
 use Rattle.bpaf_exact.specs.{Alternative.AlternativeLaw, Single.of_memory, Single.of_piece}
+use Rattle.bpaf_exact.specs.{Pieces.Roles, Pieces.LinePiece, Pieces.One, Pieces.Two, Pieces.pieces}
 use Rattle.bpaf_exact.specs.{FlatForm.FormLaw, ProgramForm.ProgramFormLaw, Variables.argument_form}
 use Rattle.bpaf_exact.specs.{Variables.key_form}
 use Rattle.bpaf_exact.proofs.ArgumentPieces.{TookPair, gap_empty, named, nowhere, owns, took_pair}
 use Rattle.bpaf_exact.proofs.ArgumentPieces.{test, no_key, variable_fault, variable_read}
 use Rattle.bpaf_exact.proofs.Matching.{match_of, bare_taken, first_alternative, first_refused}
+use Rattle.bpaf_exact.proofs.{Matching.missing_same, Matching.absence_missing}
 use Rattle.bpaf_exact.proofs.{Alternative.took_front, Classes.missing_class, First.first_pieces}
 use Rattle.bpaf_exact.proofs.{First.first_takes, First.takes_nonempty}
-use Rattle.bpaf_exact.proofs.{LastArguments.last_argument_law, Matching.missing_same}
-use Rattle.bpaf_exact.proofs.{Matching.absence_missing}
+use Rattle.bpaf_exact.proofs.{LastArguments.last_argument_law}
 
 -- the text of an argument behind its key
 takes_pair : (argument : KeyWithValue) → argument.last ≡ false → (s t : Situation) (text : List ℕ)

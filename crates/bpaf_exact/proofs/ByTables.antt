@@ -7,9 +7,9 @@ use Rattle.bpaf_line.specs.{declared.error.Error.Error, Messages.can_catch}
 use Rattle.bpaf_line.specs.{declared.error.Message.Message}
 use Rattle.bpaf_line.specs.{declared.error.Message.TheVariants.Missing, Situation.Situation}
 use Rattle.bpaf_laws.specs.Repeat.{ManyOutcome, SomeOutcome, CollectOutcome, CountOutcome}
-use Rattle.bpaf_laws.specs.{Hide.HideOutcome, Hide.hidden, Default.Gives, Default.GivesClone}
-use Rattle.bpaf_laws.specs.{Default.GivesAnswer, Default.FallbackOutcome, Reading.Outcome}
-use Rattle.bpaf_laws.specs.{Repeat.LastOutcome, Repeat.is_nil, Turn.TurnOutcome}
+use Rattle.bpaf_laws.specs.{Repeat.LastOutcome, Repeat.is_nil, Hide.HideOutcome, Hide.hidden}
+use Rattle.bpaf_laws.specs.{Default.Gives, Default.GivesClone, Default.GivesAnswer}
+use Rattle.bpaf_laws.specs.{Default.FallbackOutcome, Reading.Outcome, Turn.TurnOutcome}
 use Rattle.bpaf_laws.specs.{Transform.MapOutcome, Transform.ParseOutcome, Transform.GuardOutcome}
 use Rattle.bpaf_exact.specs.Flat.{OfMemory, Caught, Refused, class, class_of, Variables, ErrorClass}
 use Rattle.bpaf_exact.specs.Single.{CanCatch, RepeatOutcome, catch_missing, catch_other}
@@ -29,8 +29,8 @@ use Rattle.bpaf_exact.proofs.Classes.{memory_class, caught_class, kept_class, st
 use Rattle.bpaf_exact.proofs.ProgramForm.{flat_only_law, narrower_program_form, program_closed_law}
 use Rattle.bpaf_exact.proofs.ProgramForm.{program_dressed_law, program_never_refuses}
 use Rattle.bpaf_exact.proofs.FlatForm.{never_refuses, flat_listed_law, some_agrees, flat_last_law}
-use Rattle.bpaf_exact.proofs.{Narrow.AllowsNoMore, Narrow.narrower_form, Narrow.no_more}
 use Rattle.bpaf_exact.proofs.{ProgramForm.program_optional_law, FlatForm.flat_fallback_law}
+use Rattle.bpaf_exact.proofs.{Narrow.AllowsNoMore, Narrow.narrower_form, Narrow.no_more}
 
 -- map
 map_within : (A B : Type 0) (inner : Outcome A) (answers : A → B → Type 0)

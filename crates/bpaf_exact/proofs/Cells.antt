@@ -47,10 +47,10 @@ begin_cong Foreign k cs ds h e = e
 begin_cong Alone k cs ds h e = ap (λ z. One k ∷ z) e
 begin_cong WithNext k cs ds h e = cc
 
--- an item that isn't the field's own begins no piece
-pub begin_foreign : {x : Role} (k : Arg) (cs : Cells) (os : List LinePiece) → x ≡ Foreign
-    → begin_piece x k cs os ≡ os
-begin_foreign k cs os e = ap (λ z. begin_piece z k cs os) e
+-- an item begins a piece by its role
+pub begin_at : {x y : Role} (k : Arg) (cs : Cells) (os : List LinePiece) → x ≡ y
+    → begin_piece x k cs os ≡ begin_piece y k cs os
+begin_at k cs os e = ap (λ z. begin_piece z k cs os) e
 
 -- where no piece begins there is none behind
 pub nil_rest : (x : Role) (k : Arg) (cs : Cells) (os : List LinePiece) → begin_piece x k cs os ≡ []
@@ -82,10 +82,10 @@ same_next q k n (takes_later {c = Some j} t) = refl
 pub keeps_other : (q r : Roles) {cs ds : Cells} {o : LinePiece} → IsNamed q → IsNamed r → Apart q r
     → TakesPiece q cs o ds → pieces r ds ≡ pieces r cs
 keeps_other q r nq nr a (takes_one {k = k} {cs = cs} e) =
-    sym (begin_foreign k cs (pieces r cs) (a.left k (ap is_own_role e)))
+    sym (begin_at k cs (pieces r cs) (a.left k (ap is_own_role e)))
 keeps_other q r nq nr a (takes_two {k = k} {w = w} {cs = cs} e v) =
-    sym (begin_foreign k (Some w ∷ cs) (pieces r (Some w ∷ cs)) (a.left k (ap is_own_role e))
-    ∙ begin_foreign w cs (pieces r cs) (value_foreign r w nr v))
+    sym (begin_at k (Some w ∷ cs) (pieces r (Some w ∷ cs)) (a.left k (ap is_own_role e))
+    ∙ begin_at w cs (pieces r cs) (value_foreign r w nr v))
 keeps_other q r nq nr a (takes_later {c = None} t) = keeps_other q r nq nr a t
 keeps_other q r nq nr a (takes_later {c = Some k} {cs = cs} {ds = ds} t) =
     begin_cong (r k) k cs ds (same_next q k nq t) (keeps_other q r nq nr a t)
@@ -131,7 +131,7 @@ pieces_of_cut q r n (flag {k = k} {cs = cs} {os = os} e c) =
     flag_mine q (q k) (r k) k cs (pieces q cs) (mine q os) e (pieces_of_cut q r n c)
 pieces_of_cut q r n (argument {k = k} {w = w} {cs = cs} {os = os} e v c) =
     argument_mine (q k) (r k) k w cs (pieces q (Some w ∷ cs)) (mine q os) e v
-    (begin_foreign w cs (pieces q cs) (value_foreign q w n v) ∙ pieces_of_cut q r n c)
+    (begin_at w cs (pieces q cs) (value_foreign q w n v) ∙ pieces_of_cut q r n c)
 pieces_of_cut q r n (word {w = w} {cs = cs} {os = os} h c) =
     foreign_mine (q w) w cs (One w) (pieces q cs) (mine q os) (word_foreign q w n h)
     (pieces_of_cut q r n c)

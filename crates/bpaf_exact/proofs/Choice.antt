@@ -24,12 +24,11 @@ use Rattle.bpaf_exact.specs.{Flat.IsWholeIn, Flat.Steady, Flat.Variables, Altern
 use Rattle.bpaf_exact.proofs.First.{Union, swap_union, either_union, union_named, takes_left}
 use Rattle.bpaf_exact.proofs.First.{bad_given_back, bad_left, HeadOf, owner, first_mine}
 use Rattle.bpaf_exact.proofs.First.{first_alone, both_nil, TookLeft, left_here, left_later}
-use Rattle.bpaf_exact.proofs.{Cells.keeps_other, Classes.memory_class, Classes.not_memory}
-use Rattle.bpaf_exact.proofs.{Combining.combined_refused, Combining.combined_missing}
-use Rattle.bpaf_exact.proofs.{Counts.open_present, Counts.takes_fewer, Places.same_cells}
-use Rattle.bpaf_exact.proofs.{Places.same_item, Places.closed_item, Product.steady_refl}
-use Rattle.bpaf_exact.proofs.{Product.steady_trans, Product.none_outside_after, First.first_both}
-use Rattle.bpaf_exact.proofs.{First.not_left, First.never_same}
+use Rattle.bpaf_exact.proofs.{First.first_both, First.not_left, First.never_same, Cells.keeps_other}
+use Rattle.bpaf_exact.proofs.{Classes.memory_class, Classes.not_memory, Combining.combined_refused}
+use Rattle.bpaf_exact.proofs.{Combining.combined_missing, Counts.open_present, Counts.takes_fewer}
+use Rattle.bpaf_exact.proofs.{Places.same_cells, Places.same_item, Places.closed_item}
+use Rattle.bpaf_exact.proofs.{Product.steady_refl, Product.steady_trans, Product.none_outside_after}
 
 -- the same scope of the same line
 pub record SameScope (m n : Situation) : Type 0 where

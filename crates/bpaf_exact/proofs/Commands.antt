@@ -21,10 +21,10 @@ use Rattle.bpaf_exact.specs.Programs.{CellsValue, Opens, opens_here, opens_later
 use Rattle.bpaf_exact.specs.Programs.{ChoiceValue, first_value, second_value, OptionalCommands}
 use Rattle.bpaf_exact.specs.Programs.{some_command, no_command, ClosedCells, ProgramLaw}
 use Rattle.bpaf_exact.specs.Programs.{CommandsLaw, FindsNoCommand, WordsApart, IsSpelledLine}
-use Rattle.bpaf_exact.specs.Pieces.{Cells, Roles, pieces, either}
-use Rattle.bpaf_exact.specs.Single.{Stops, nothing_found, caught, present_count}
 use Rattle.bpaf_exact.specs.Wrappers.{optional_none, optional_err, optional_memory}
 use Rattle.bpaf_exact.specs.Programs.{GivesAll}
+use Rattle.bpaf_exact.specs.Pieces.{Cells, Roles, pieces, either}
+use Rattle.bpaf_exact.specs.Single.{Stops, nothing_found, caught, present_count}
 use Rattle.bpaf_exact.proofs.{BeforeCommands.apart_first, BeforeCommands.apart_second}
 use Rattle.bpaf_exact.proofs.{Choice.same_scope, Choice.cells_same, Choice.saved_steady}
 use Rattle.bpaf_exact.proofs.{Classes.memory_class, Classes.not_memory, Combining.combined_missing}

@@ -12,8 +12,8 @@ use Rattle.bpaf_exact.specs.Flat.{cells, NonePresent, IsWholeIn, FieldsLaw, Fiel
 use Rattle.bpaf_exact.specs.Record.{line_cells, RecordValue, RunAnswer, Accepted, RunRan, run_value}
 use Rattle.bpaf_exact.specs.Record.{run_leftover, run_memory, run_refusal, IsNoValue}
 use Rattle.bpaf_exact.specs.FlatForm.{FlatForm, FormLaw, is_record, product_roles, product_reading}
-use Rattle.bpaf_exact.specs.{Pieces.Roles, Pieces.LinePiece, Pieces.Cut, Record.IsAcceptedOrWant}
-use Rattle.bpaf_exact.specs.{Record.IsExact, FlatForm.flat_record, Theorem.RunsExactly}
+use Rattle.bpaf_exact.specs.{Record.IsAcceptedOrWant, Record.IsExact, FlatForm.flat_record}
+use Rattle.bpaf_exact.specs.{Pieces.Roles, Pieces.LinePiece, Pieces.Cut, Theorem.RunsExactly}
 use Rattle.bpaf_exact.proofs.{Counts.open_present, Cuts.one_cut, Places.same_cells}
 use Rattle.bpaf_exact.proofs.{Records.none_counted, Records.count_none, FlatForm.record_law}
 

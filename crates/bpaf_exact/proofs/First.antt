@@ -9,6 +9,7 @@ use Rattle.bpaf_exact.specs.Pieces.{takes_one, takes_two, takes_later}
 use Rattle.bpaf_exact.specs.Alternative.{TakesFirst, first_one, first_two, first_later, HasBad}
 use Rattle.bpaf_exact.specs.Alternative.{bad_here, bad_later}
 use Rattle.bpaf_exact.proofs.Cells.{value_foreign, nil_rest, nil_foreign, keeps_other, same_next}
+use Rattle.bpaf_exact.proofs.Cells.{begin_at}
 
 -- taking the first piece is taking one
 pub first_takes : (q : Roles) {cs ds : Cells} {o : LinePiece} → TakesFirst q cs o ds
@@ -16,11 +17,6 @@ pub first_takes : (q : Roles) {cs ds : Cells} {o : LinePiece} → TakesFirst q c
 first_takes q (first_one e) = takes_one e
 first_takes q (first_two e v) = takes_two e v
 first_takes q (first_later n t) = takes_later (first_takes q t)
-
--- an item begins a piece by its role
-pub begin_at : {x y : Role} (k : Arg) (cs : Cells) (os : List LinePiece) → x ≡ y
-    → begin_piece x k cs os ≡ begin_piece y k cs os
-begin_at k cs os e = ap (λ z. begin_piece z k cs os) e
 
 -- a key with a value next to it
 two_next : (k w : Arg) (cs : Cells) → is_value w ≡ true → with_next k (Some w ∷ cs) ≡ Two k w

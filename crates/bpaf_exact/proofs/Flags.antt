@@ -12,15 +12,16 @@ use Rattle.bpaf_laws.specs.Flag.{FlagOutcome, FlagFails, IsAbsentValue}
 use Rattle.bpaf_exact.specs.Single.{Groups, Gap, FrontOf, SingleOk, gave_absent, took, SingleErr}
 use Rattle.bpaf_exact.specs.Alternative.{AlternativeOk, AlternativeErr, alternative_memory}
 use Rattle.bpaf_exact.specs.Leaves.{flag_roles, FlagValue, flag_gap, flag_field, variable_flag}
-use Rattle.bpaf_exact.specs.{Pieces.Alone, Pieces.Roles, Pieces.LinePiece, Pieces.One}
-use Rattle.bpaf_exact.specs.{Pieces.IsNamed, Flat.class, Flat.class_of, Flat.IsWholeIn, Flat.ByName}
-use Rattle.bpaf_exact.specs.{Flat.Variables, Names.Owns, Single.of_memory, Single.of_missing}
-use Rattle.bpaf_exact.specs.{Single.SingleLaw, Alternative.AlternativeLaw, FlatForm.FormLaw}
-use Rattle.bpaf_exact.specs.{ProgramForm.ProgramFormLaw, Variables.key_form, Variables.flag_form}
+use Rattle.bpaf_exact.specs.{Single.of_memory, Single.of_missing, Single.SingleLaw}
+use Rattle.bpaf_exact.specs.{Alternative.AlternativeLaw, Pieces.Alone, Pieces.Roles}
+use Rattle.bpaf_exact.specs.{Pieces.LinePiece, Pieces.One, Pieces.IsNamed, Flat.class}
+use Rattle.bpaf_exact.specs.{Flat.class_of, Flat.IsWholeIn, Flat.ByName, Flat.Variables, Names.Owns}
+use Rattle.bpaf_exact.specs.{FlatForm.FormLaw, ProgramForm.ProgramFormLaw, Variables.key_form}
+use Rattle.bpaf_exact.specs.{Variables.flag_form}
 use Rattle.bpaf_exact.proofs.Matching.{match_of, ByTest, by_test, test_named, no_pieces, one_taken}
 use Rattle.bpaf_exact.proofs.Matching.{first_alternative, missing_same, absence_missing, test_owns}
-use Rattle.bpaf_exact.proofs.{Classes.missing_class, Product.steady_refl, First.first_pieces}
-use Rattle.bpaf_exact.proofs.{Alternative.took_front, Places.take_steady, Matching.absence_caught}
+use Rattle.bpaf_exact.proofs.{Matching.absence_caught, Classes.missing_class, Product.steady_refl}
+use Rattle.bpaf_exact.proofs.{First.first_pieces, Alternative.took_front, Places.take_steady}
 
 -- a flag
 module _ (T : Type 0) (clones : T → T → Type 0) (key : Key) (present : T) where

@@ -13,11 +13,11 @@ use Rattle.bpaf_exact.specs.FlatForm.{alternative_only, flat_repeat, flat_last, 
 use Rattle.bpaf_exact.specs.FlatForm.{flat_fallback, flat_field, may_follow, flat_both, flat_alone}
 use Rattle.bpaf_exact.specs.FlatForm.{flat_con, flat_record, NamedLaw, is_named, is_record}
 use Rattle.bpaf_exact.specs.FlatForm.{made_reading, product_reading, product_roles, flat_whole}
-use Rattle.bpaf_exact.specs.{Pieces.Roles, Pieces.no_roles, Pieces.either, Pieces.LinePiece}
-use Rattle.bpaf_exact.specs.{Names.Owns, Names.are_all_apart, Flat.FieldLaw, Flat.FieldsLaw}
-use Rattle.bpaf_exact.specs.{Flat.both_reading, Flat.keys, Flat.Variables, Wrappers.FallbackEval}
-use Rattle.bpaf_exact.specs.{Wrappers.OptionalValue, Wrappers.FallbackValue, Gathered.some_closure}
-use Rattle.bpaf_exact.specs.{Gathered.LastOf, Record.LastValue}
+use Rattle.bpaf_exact.specs.{Flat.FieldLaw, Flat.FieldsLaw, Flat.both_reading, Flat.keys}
+use Rattle.bpaf_exact.specs.{Flat.Variables, Wrappers.FallbackEval, Wrappers.OptionalValue}
+use Rattle.bpaf_exact.specs.{Wrappers.FallbackValue, Pieces.Roles, Pieces.no_roles, Pieces.either}
+use Rattle.bpaf_exact.specs.{Pieces.LinePiece, Names.Owns, Names.are_all_apart}
+use Rattle.bpaf_exact.specs.{Gathered.some_closure, Gathered.LastOf, Record.LastValue}
 use Rattle.bpaf_exact.proofs.Alternative.{alternative_single, closed_alternative, closed_single}
 use Rattle.bpaf_exact.proofs.Wrappers.{closed_law, single_law, optional_law, fallback_law}
 use Rattle.bpaf_exact.proofs.NamedProducts.{named_both_law, named_con_law, named_last_law}

@@ -1,9 +1,8 @@
 -- What a field takes of pieces, and what it leaves.
-use Rattle.std.proofs.Common.{◌≡◌, Bool, true, false, List, [], ◌∷◌, ap, refl, if◌then◌else◌}
+use Rattle.std.proofs.Common.{◌≡◌, Bool, true, false, List, [], ◌∷◌, ap, refl, if◌then◌else◌, ◌++◌}
 use Rattle.bpaf_exact.specs.Flat.{FieldKind, ByName, OneWord, EachWord, back, front, from_marker}
-use Rattle.bpaf_exact.specs.{Pieces.Cells, Pieces.LinePiece, Pieces.Roles, Pieces.pieces}
-use Rattle.bpaf_exact.specs.{Flat.NoKeysLeft, Flat.is_behind, Flat.up_to_marker, Single.repeated}
-use Rattle.std.proofs.Common.{◌++◌}
+use Rattle.bpaf_exact.specs.{Flat.NoKeysLeft, Flat.is_behind, Flat.up_to_marker, Pieces.Cells}
+use Rattle.bpaf_exact.specs.{Pieces.LinePiece, Pieces.Roles, Pieces.pieces, Single.repeated}
 
 -- a list that something stands in isn't empty
 pub never_nil : {T : Type 0} (before : List T) (x : T) (behind : List T)

@@ -3,16 +3,16 @@ use Rattle.std.proofs.Common.{◌≡◌, true, false, List, [], ◌∷◌, ◌++
 use Rattle.std.proofs.Common.{inr, ap}
 use Rattle.bpaf_line.specs.{declared.error.Error.Error, Situation.Situation}
 use Rattle.bpaf_laws.specs.{Reading.Outcome, Repeat.LastOutcome, Repeat.UntilRest}
-use Rattle.bpaf_exact.proofs.{Fronts.back_all, Fronts.nil_each, Product.none_outside_after}
-use Rattle.bpaf_exact.proofs.{Repeat.repeat_law, Repeat.repeat_took, Repeat.own_nil}
+use Rattle.bpaf_exact.proofs.Fronts.{back_all, nil_each, never_nil}
+use Rattle.bpaf_exact.proofs.Product.{none_outside_after}
+use Rattle.bpaf_exact.proofs.Repeat.{repeat_law, repeat_took, own_nil}
 use Rattle.bpaf_exact.specs.Flat.{cells, IsWholeIn, FieldKind, front, back, FieldTook, FieldLaw}
 use Rattle.bpaf_exact.specs.Single.{Groups, Gap, SingleOk, gave_absent, took, SingleLaw, OwnList}
 use Rattle.bpaf_exact.specs.Single.{listed, listed_and_absent, only_absent, Own, own_none, own_more}
-use Rattle.bpaf_exact.specs.{Pieces.Roles, Pieces.LinePiece, Pieces.pieces, Flat.NoKeysLeft}
-use Rattle.bpaf_exact.specs.{Flat.OfMemory, Flat.class, Flat.Variables, Single.repeated}
-use Rattle.bpaf_exact.specs.{Single.RepeatOutcome, Wrappers.AgreesOn, Gathered.some_closure}
+use Rattle.bpaf_exact.specs.{Flat.NoKeysLeft, Flat.OfMemory, Flat.class, Flat.Variables}
+use Rattle.bpaf_exact.specs.{Single.repeated, Single.RepeatOutcome, Pieces.Roles, Pieces.LinePiece}
+use Rattle.bpaf_exact.specs.{Pieces.pieces, Wrappers.AgreesOn, Gathered.some_closure}
 use Rattle.bpaf_exact.specs.{Gathered.IsLast, Gathered.LastOf}
-use Rattle.bpaf_exact.proofs.Fronts.{never_nil}
 
 -- a list with a last value isn't empty
 no_last : (T : Type 0) (vs : List T) (v : T) → IsLast T vs v → vs ≡ [] → ⊥

@@ -18,7 +18,7 @@ use Rattle.bpaf_exact.proofs.ArgumentPieces.{TookPair, test, named, took_pair, n
 use Rattle.bpaf_exact.proofs.ArgumentPieces.{variable_read, variable_fault, gap_empty}
 use Rattle.bpaf_exact.proofs.{First.first_takes, First.first_pieces, First.takes_nonempty}
 use Rattle.bpaf_exact.proofs.{Matching.match_of, Matching.bare_taken, Product.steady_trans}
-use Rattle.bpaf_exact.proofs.Fronts.{never_nil}
+use Rattle.bpaf_exact.proofs.{Fronts.never_nil}
 
 -- the last element of a list is one
 pub last_same : (T : Type 0) (xs ys : List T) (v w : T) → xs ++ (v ∷ []) ≡ ys ++ (w ∷ []) → v ≡ w

@@ -22,9 +22,9 @@ use Rattle.bpaf_exact.specs.Pieces.{is_value, is_key, is_own_role, IsNamed, piec
 use Rattle.bpaf_exact.specs.Names.{Owns}
 use Rattle.bpaf_exact.specs.Single.{CanCatch, catch_missing, catch_other}
 use Rattle.bpaf_exact.proofs.Places.{take_steady, NoneBefore, take_one, take_two, none_present}
+use Rattle.bpaf_exact.proofs.{Places.BareHead, Places.bare_first, Places.open_one, Places.open_two}
 use Rattle.bpaf_exact.proofs.{Classes.missing_class, Product.steady_refl, Product.steady_trans}
-use Rattle.bpaf_exact.proofs.{First.first_takes, Names.named_key, Places.BareHead}
-use Rattle.bpaf_exact.proofs.{Places.bare_first, Places.open_one, Places.open_two}
+use Rattle.bpaf_exact.proofs.{First.first_takes, Names.named_key}
 
 -- the item of a match
 pub record Match (test : Arg → Bool) (s : Situation) (p : ℕ) : Type 0 where

@@ -13,8 +13,8 @@ use Rattle.bpaf_exact.specs.{Record.LastValue, Wrappers.ClosedValue, Wrappers.ma
 use Rattle.bpaf_exact.proofs.First.{Belongs, Union, belongs, both_nil, either_union, own_next}
 use Rattle.bpaf_exact.proofs.First.{swap_union, takes_left, to_first, to_none, to_second}
 use Rattle.bpaf_exact.proofs.Product.{RefusedBy, by_first, by_rest, for_memory, none_outside_after}
-use Rattle.bpaf_exact.proofs.{Cells.begin_foreign, Cells.keeps_other_some, First.union_named}
-use Rattle.bpaf_exact.proofs.{Product.refused_by, Product.steady_trans, Product.values_of_both}
+use Rattle.bpaf_exact.proofs.{First.union_named, Product.refused_by, Product.steady_trans}
+use Rattle.bpaf_exact.proofs.{Product.values_of_both, Cells.keeps_other_some, Cells.begin_at}
 use Rattle.bpaf_exact.proofs.{Records.before_none, Records.current_cells, Records.same_steady}
 use Rattle.bpaf_exact.proofs.{Repeat.some_trans}
 
@@ -65,10 +65,10 @@ module _ (p q r : Roles) (u : Union p q r) where
           mine_begin p k cs (pieces r cs) (r k) h ∙ ap₂ (λ x os. begin_piece x k cs os) g behind
       by_owner (to_second h g f) behind =
           mine_passes p k cs (pieces r cs) (r k) (ap is_own_role f)
-          ∙ (behind ∙ sym (begin_foreign k cs (pieces p cs) f))
+          ∙ (behind ∙ sym (begin_at k cs (pieces p cs) f))
       by_owner (to_none f g h) behind =
           mine_passes p k cs (pieces r cs) (r k) (ap is_own_role f)
-          ∙ (behind ∙ sym (begin_foreign k cs (pieces p cs) f))
+          ∙ (behind ∙ sym (begin_at k cs (pieces p cs) f))
 
   -- and the others the second one's
   pub others_of_both : (cs : Cells) → others p (pieces r cs) ≡ pieces q cs
@@ -80,7 +80,7 @@ module _ (p q r : Roles) (u : Union p q r) where
           → others p (pieces r (Some k ∷ cs)) ≡ pieces q (Some k ∷ cs)
       by_owner (to_first h g f) behind =
           others_pass p k cs (pieces r cs) (r k) h
-          ∙ (behind ∙ sym (begin_foreign k cs (pieces q cs) f))
+          ∙ (behind ∙ sym (begin_at k cs (pieces q cs) f))
       by_owner (to_second h g f) behind =
           others_begin p k cs (pieces r cs) (r k) (ap is_own_role f)
           ∙ ap₂ (λ x os. begin_piece x k cs os) g behind

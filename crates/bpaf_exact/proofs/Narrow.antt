@@ -8,8 +8,9 @@ use Rattle.bpaf_exact.specs.Flat.{ByName, FieldKind, FieldLaw, FieldsLaw, Fields
 use Rattle.bpaf_exact.specs.FlatForm.{FlatForm, not_flat, alternative, single, complete, product}
 use Rattle.bpaf_exact.specs.Single.{CanCatch, Gap, Groups, SingleErr, catch_missing, catch_other}
 use Rattle.bpaf_exact.specs.{Alternative.alternative_refused, Flat.class, Flat.Variables}
-use Rattle.bpaf_exact.specs.{FlatForm.FormLaw, FlatForm.NamedLaw, Pieces.LinePiece, Pieces.Roles}
-use Rattle.bpaf_exact.specs.{Single.of_absent, Single.of_memory, Single.of_missing, Single.of_piece}
+use Rattle.bpaf_exact.specs.{FlatForm.FormLaw, FlatForm.NamedLaw, Single.of_absent}
+use Rattle.bpaf_exact.specs.{Single.of_memory, Single.of_missing, Single.of_piece, Pieces.LinePiece}
+use Rattle.bpaf_exact.specs.{Pieces.Roles}
 
 -- what b allows a allows too, of a refusal one of the same class
 pub record AllowsNoMore (T : Type 0) (a b : Outcome T) : Type 0 where

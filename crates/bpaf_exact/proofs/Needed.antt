@@ -3,7 +3,7 @@ use Rattle.std.proofs.Common.{◌≡◌, ◌≢◌, ℕ, Bool, List, [], ◌∷�
 use Rattle.bpaf_exact.specs.Says.{Said, FlagSays, says_present, says_absent, ArgumentSays}
 use Rattle.bpaf_exact.specs.Says.{says_variable, says_variable_text, says_text, says_last_text}
 use Rattle.bpaf_exact.specs.Says.{MadeSays, FrontSays, RepeatSays, says_in_turn, says_alone}
-use Rattle.bpaf_exact.specs.{Pieces.LinePiece, Pieces.Two, Says.LastSays, Single.Own}
+use Rattle.bpaf_exact.specs.{Says.LastSays, Pieces.LinePiece, Pieces.Two, Single.Own}
 use Rattle.bpaf_exact.specs.{Single.own_none, Single.own_more, Wrappers.Closure}
 
 -- no value says so of no piece

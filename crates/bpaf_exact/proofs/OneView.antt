@@ -20,15 +20,14 @@ use Rattle.bpaf_exact.specs.FlatForm.{only_if, flat_closed, flat_repeat, flat_ma
 use Rattle.bpaf_exact.specs.FlatForm.{flat_fallback, flat_field, may_follow, flat_both, flat_alone}
 use Rattle.bpaf_exact.specs.FlatForm.{flat_con, flat_record, is_record, product_roles}
 use Rattle.bpaf_exact.specs.OneView.{Alike, OneGroup, HasOneView, Respects, pair_view, LooksLike}
-use Rattle.bpaf_exact.specs.{Pieces.Cells, Pieces.Roles, Pieces.LinePiece, Pieces.One, Pieces.Two}
 use Rattle.bpaf_exact.specs.{Single.listed_and_absent, Single.only_absent, Single.repeated}
-use Rattle.bpaf_exact.specs.{Wrappers.own_value, Wrappers.kept_value, Gathered.list_closure}
-use Rattle.bpaf_exact.specs.{Leaves.variable_argument, Leaves.word_by, Leaves.word_field}
-use Rattle.bpaf_exact.specs.{Record.line_cells, FlatForm.product_reading, FlatForm.flat_whole}
-use Rattle.bpaf_exact.specs.{OneView.RunsToOne}
+use Rattle.bpaf_exact.specs.{Wrappers.own_value, Wrappers.kept_value, Leaves.variable_argument}
+use Rattle.bpaf_exact.specs.{Leaves.word_by, Leaves.word_field, Record.line_cells}
+use Rattle.bpaf_exact.specs.{FlatForm.product_reading, FlatForm.flat_whole, OneView.RunsToOne}
+use Rattle.bpaf_exact.specs.{Pieces.Cells, Pieces.Roles, Pieces.LinePiece, Pieces.One, Pieces.Two}
+use Rattle.bpaf_exact.specs.{Gathered.list_closure}
 use Rattle.bpaf_exact.proofs.{Alternative.alternative_single, Cuts.one_cut, LastArguments.last_same}
-use Rattle.bpaf_exact.proofs.{FlatForm.record_law, Exact.runs_exactly}
-use Rattle.bpaf_exact.proofs.Repeat.{own_nil}
+use Rattle.bpaf_exact.proofs.{FlatForm.record_law, Exact.runs_exactly, Repeat.own_nil}
 
 -- Closures.
 

@@ -9,7 +9,7 @@ use Rattle.bpaf_line.proofs.Places.{taken_here, taken_other, taken_stays}
 use Rattle.bpaf_exact.specs.Pieces.{Cells, Alone, WithNext, Roles, LinePiece, One, Two, is_value}
 use Rattle.bpaf_exact.specs.Alternative.{NotOwn, TakesFirst, first_one, first_two, first_later}
 use Rattle.bpaf_exact.specs.{Pieces.with_next, Pieces.pieces, Flat.first_cells, Flat.Steady}
-use Rattle.bpaf_exact.proofs.First.{begin_at}
+use Rattle.bpaf_exact.proofs.Cells.{begin_at}
 
 -- taking a place changes what is taken and the current place alone
 pub take_steady : (s : Situation) (p : ℕ) → Steady s (take_place s p)

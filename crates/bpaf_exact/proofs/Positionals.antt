@@ -7,20 +7,18 @@ use Rattle.bpaf_base.specs.declared.arg.Arg.TheVariants.{Word, PosWord}
 use Rattle.bpaf_base.specs.Items.{is_positional, word_text, item_text}
 use Rattle.bpaf_line.specs.{declared.error.Error.Error, Situation.Situation, Taking.TakesText}
 use Rattle.bpaf_line.proofs.Matches.{open_item_there}
-use Rattle.bpaf_exact.specs.Pieces.{Cells, Foreign, Alone, WithNext, LinePiece, One, word_roles}
+use Rattle.bpaf_exact.specs.Pieces.{Cells, Alone, LinePiece, One, word_roles, pieces, stands_behind}
 use Rattle.bpaf_exact.specs.Flat.{cells, IsWholeIn, Steady, EachWord, OneWord, front, back}
 use Rattle.bpaf_exact.specs.Single.{Groups, FrontOf, no_gap, SingleOk, took, SingleErr, of_memory}
 use Rattle.bpaf_exact.specs.Single.{catch_missing, catch_other, of_missing, of_piece, WordByWord}
 use Rattle.bpaf_exact.specs.Alternative.{TakesFirst, first_one, first_two, first_later}
 use Rattle.bpaf_exact.specs.Leaves.{WordEval, word_by, word_fault, word_memory, word_missing}
-use Rattle.bpaf_exact.specs.{Pieces.pieces, Pieces.stands_behind, Flat.is_behind, Flat.Variables}
-use Rattle.bpaf_exact.specs.{Single.SingleLaw, Leaves.word_passed, Leaves.word_read}
-use Rattle.bpaf_exact.specs.{FlatForm.FormLaw}
+use Rattle.bpaf_exact.specs.{Flat.is_behind, Flat.Variables, Single.SingleLaw, Leaves.word_passed}
+use Rattle.bpaf_exact.specs.{Leaves.word_read, FlatForm.FormLaw}
 use Rattle.bpaf_exact.proofs.Fronts.{back_more, back_one, front_more, front_one, of_front_more}
 use Rattle.bpaf_exact.proofs.Matching.{match_of, ByTest, by_test, no_pieces, one_taken}
-use Rattle.bpaf_exact.proofs.{Fronts.of_front_one, First.begin_at, Alternative.took_front}
-use Rattle.bpaf_exact.proofs.{Places.take_steady}
-use Rattle.bpaf_exact.proofs.Words.{never_two}
+use Rattle.bpaf_exact.proofs.{Fronts.of_front_one, Alternative.took_front, Places.take_steady}
+use Rattle.bpaf_exact.proofs.{Words.never_two, Cells.begin_at}
 
 -- the text and the side of a word are those of its item
 pub word_is : (w : Arg) (strict : Bool) (text : List ℕ) → word_text w ≡ Some (strict, text)
@@ -56,7 +54,8 @@ module _ (T : Type 0) (b : Bool) (value : LinePiece → T → Type 0)
   word_pieces : {cs ds : Cells} {o : LinePiece} → TakesFirst word_roles cs o ds
       → pieces word_roles cs ≡ o ∷ pieces word_roles ds
   word_pieces (first_one {k = k} {cs = cs} e) = begin_at k cs (pieces word_roles cs) e
-  word_pieces (first_two {k = k} e v) = absurd (never_two word_roles k (record { words = λ k. refl
+  word_pieces (first_two {k = k} e v) = absurd (never_two word_roles k (record {
+    words = λ k. refl;
   }) e)
   word_pieces (first_later {c = None} h t) = word_pieces t
   word_pieces (first_later {c = Some k} {cs = cs} {ds = ds} h t) =

@@ -12,10 +12,10 @@ use Rattle.bpaf_exact.specs.Flat.{EachWord, front, back, portion, left, keys, Is
 use Rattle.bpaf_exact.specs.Flat.{NoKeysLeft, FieldTook, FieldLaw, ReadOff, FieldsLaw, Before}
 use Rattle.bpaf_exact.specs.Flat.{FieldsReading, both_reading, class, OfMemory, HasValue, Variables}
 use Rattle.bpaf_exact.specs.Pieces.{word, pieces, TakesPieces}
-use Rattle.bpaf_exact.proofs.Cells.{value_foreign, word_foreign, begin_foreign, nil_rest}
-use Rattle.bpaf_exact.proofs.Cells.{nil_foreign, pieces_of_cut, others_foreign, put_back_some}
+use Rattle.bpaf_exact.proofs.Cells.{value_foreign, word_foreign, nil_rest, nil_foreign}
+use Rattle.bpaf_exact.proofs.Cells.{pieces_of_cut, others_foreign, put_back_some, take_some_from}
 use Rattle.bpaf_exact.proofs.Words.{NoKeys, put_words_back, take_words_from, words_of_cut}
-use Rattle.bpaf_exact.proofs.{Classes.memory_class, Classes.not_memory, Cells.take_some_from}
+use Rattle.bpaf_exact.proofs.{Cells.begin_at, Classes.memory_class, Classes.not_memory}
 
 -- what isn't taken stays in the scope
 pub none_outside_after : {env : Variables} (s t : Situation) → IsWholeIn env s → Steady s t
@@ -48,12 +48,12 @@ pub no_own_in_cut : (q r : Roles) {cs : Cells} {os : List LinePiece} → IsNamed
 no_own_in_cut q r n a at_end = refl
 no_own_in_cut q r n a (passed c) = no_own_in_cut q r n a c
 no_own_in_cut q r n a (flag {k = k} {cs = cs} e c) =
-    begin_foreign k cs (pieces q cs) (a.right k (ap is_own_role e)) ∙ no_own_in_cut q r n a c
+    begin_at k cs (pieces q cs) (a.right k (ap is_own_role e)) ∙ no_own_in_cut q r n a c
 no_own_in_cut q r n a (argument {k = k} {w = w} {cs = cs} e v c) =
-    begin_foreign k (Some w ∷ cs) (pieces q (Some w ∷ cs)) (a.right k (ap is_own_role e))
-    ∙ (begin_foreign w cs (pieces q cs) (value_foreign q w n v) ∙ no_own_in_cut q r n a c)
+    begin_at k (Some w ∷ cs) (pieces q (Some w ∷ cs)) (a.right k (ap is_own_role e))
+    ∙ (begin_at w cs (pieces q cs) (value_foreign q w n v) ∙ no_own_in_cut q r n a c)
 no_own_in_cut q r n a (word {w = w} {cs = cs} h c) =
-    begin_foreign w cs (pieces q cs) (word_foreign q w n h) ∙ no_own_in_cut q r n a c
+    begin_at w cs (pieces q cs) (word_foreign q w n h) ∙ no_own_in_cut q r n a c
 
 -- an item that isn't the first's has the role that it has to the second
 either_foreign : (x y z : Role) → x ≡ Foreign → y ≡ z → either_role x y ≡ z

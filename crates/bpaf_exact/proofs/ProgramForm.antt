@@ -23,10 +23,10 @@ use Rattle.bpaf_exact.specs.ProgramForm.{opened_form, program_command, program_f
 use Rattle.bpaf_exact.specs.ProgramForm.{program_both, program_con, is_program, program_roles}
 use Rattle.bpaf_exact.specs.ProgramForm.{program_value, program_rest, first_only, program_choices}
 use Rattle.bpaf_exact.specs.Programs.{CellsValue, ProgramLaw, CommandEval, are_plain, WordsApart}
+use Rattle.bpaf_exact.specs.{ProgramForm.program_dressed, ProgramForm.flat_form}
+use Rattle.bpaf_exact.specs.{Programs.FindsNoCommand, Programs.IsSpelledLine, Programs.GivesAll}
 use Rattle.bpaf_exact.specs.{Pieces.Roles, Flat.Refused, Flat.ByName, Flat.cells, Flat.Variables}
-use Rattle.bpaf_exact.specs.{Names.Owns, Names.are_all_apart, ProgramForm.program_dressed}
-use Rattle.bpaf_exact.specs.{ProgramForm.flat_form, Programs.FindsNoCommand, Programs.IsSpelledLine}
-use Rattle.bpaf_exact.specs.{Programs.GivesAll, Wrappers.Closure, Wrappers.ClosedEval}
+use Rattle.bpaf_exact.specs.{Names.Owns, Names.are_all_apart, Wrappers.Closure, Wrappers.ClosedEval}
 use Rattle.bpaf_exact.specs.{Wrappers.OptionalEval, Wrappers.map_closure}
 use Rattle.bpaf_exact.proofs.Commands.{closed_program, closed_commands, optional_commands}
 use Rattle.bpaf_exact.proofs.Commands.{choice_commands, program_sound, program_complete}

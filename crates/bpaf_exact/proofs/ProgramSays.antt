@@ -26,10 +26,11 @@ use Rattle.bpaf_exact.specs.ProgramSays.{ProgramFieldsSay, cells_said, pieces_sa
 use Rattle.bpaf_exact.specs.ProgramSays.{said_alone, said_both, said_con, said_choices, said_closed}
 use Rattle.bpaf_exact.specs.ProgramSays.{said_command, said_dressed, said_flat, said_optional}
 use Rattle.bpaf_exact.specs.ProgramSays.{said_fallback, said_last, said_repeat, fields_said_inside}
+use Rattle.bpaf_exact.specs.{Says.FallbackSays, Says.LastSays, Says.RepeatSays}
+use Rattle.bpaf_exact.specs.{Programs.ClosedCells, Programs.are_plain, Programs.without}
 use Rattle.bpaf_exact.specs.{Pieces.Roles, Pieces.LinePiece, Pieces.pieces, Flat.ByName}
-use Rattle.bpaf_exact.specs.{Flat.Variables, Says.FallbackSays, Says.LastSays, Says.RepeatSays}
-use Rattle.bpaf_exact.specs.{Names.are_all_apart, Programs.ClosedCells, Programs.are_plain}
-use Rattle.bpaf_exact.specs.{Programs.without, Wrappers.Closure, Variables.key_form}
+use Rattle.bpaf_exact.specs.{Flat.Variables, Names.are_all_apart, Wrappers.Closure}
+use Rattle.bpaf_exact.specs.{Variables.key_form}
 use Rattle.bpaf_exact.proofs.Says.{FormOwns, alone_says, both_say, by_name, choice_into}
 use Rattle.bpaf_exact.proofs.Says.{choice_says, closed_says, con_says, field_owned, field_says}
 use Rattle.bpaf_exact.proofs.Says.{optional_says, owned, record_says, unless_says, fallback_says}

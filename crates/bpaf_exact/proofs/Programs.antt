@@ -14,20 +14,20 @@ use Rattle.bpaf_line.specs.{Situation.is_taken, Situation.item_at, Taking.open_i
 use Rattle.bpaf_line.proofs.Places.{open_in_scope, taken_here, taken_other, taken_stays}
 use Rattle.bpaf_line.proofs.Matches.{match_is_open, open_item_there}
 use Rattle.bpaf_laws.specs.Command.{Called, IsNotOpened, IsOpenedAt, inside, is_one_of}
-use Rattle.bpaf_laws.specs.{Choice.depth, Command.opening_words, Reading.Outcome}
+use Rattle.bpaf_laws.specs.{Command.opening_words, Choice.depth, Reading.Outcome}
 use Rattle.bpaf_exact.specs.Flat.{cells, first_cells, NonePresent, IsWholeIn, FieldsLaw}
 use Rattle.bpaf_exact.specs.Programs.{CellsValue, Opens, opens_here, opens_later, OpensNone}
 use Rattle.bpaf_exact.specs.Programs.{is_dashed, is_spelled, IsSpelledLine, AllSpelled, no_cell}
 use Rattle.bpaf_exact.specs.Programs.{empty_cell, spelled_cell, are_plain, CommandValue}
 use Rattle.bpaf_exact.specs.Programs.{LeavesToOthers, ProgramLaw, FindsNoCommand, CommandsLaw}
 use Rattle.bpaf_exact.specs.Programs.{CommandEval, command_value, command_leftover, command_refused}
-use Rattle.bpaf_exact.specs.Pieces.{Cells, Roles, pieces, IsNamed, is_key}
 use Rattle.bpaf_exact.specs.Flat.{FieldsReading, ReadOff, Variables}
 use Rattle.bpaf_exact.specs.Programs.{command_missing, command_memory, GivesAll}
-use Rattle.bpaf_exact.proofs.{Cells.begin_foreign, Choice.HasItem, Choice.has_item}
-use Rattle.bpaf_exact.proofs.{Counts.open_present, Matching.match_of, Places.same_cells}
-use Rattle.bpaf_exact.proofs.{Places.same_item, Places.closed_item, Places.TakenOne}
-use Rattle.bpaf_exact.proofs.{Product.no_own_in_cut, Records.count_none}
+use Rattle.bpaf_exact.specs.Pieces.{Cells, Roles, pieces, IsNamed, is_key}
+use Rattle.bpaf_exact.proofs.{Choice.HasItem, Choice.has_item, Counts.open_present}
+use Rattle.bpaf_exact.proofs.{Matching.match_of, Places.same_cells, Places.same_item}
+use Rattle.bpaf_exact.proofs.{Places.closed_item, Places.TakenOne, Product.no_own_in_cut}
+use Rattle.bpaf_exact.proofs.{Records.count_none, Cells.begin_at}
 
 -- A command's word on cells.
 
@@ -149,7 +149,7 @@ opens_pieces : (words : List (List ℕ)) (q : Roles) → are_plain words ≡ tru
     → {cs ds : Cells} → AllSpelled cs → Opens words cs ds → pieces q cs ≡ pieces q ds
 opens_pieces words q plain n no_cell o = elim o [ ]
 opens_pieces words q plain n (spelled_cell s a) (opens_here {k = k} {cs = cs} h) =
-    begin_foreign k cs (pieces q cs) (n.only_keys k (no_key words plain k s h))
+    begin_at k cs (pieces q cs) (n.only_keys k (no_key words plain k s h))
 opens_pieces words q plain n (empty_cell a) (opens_later o) = opens_pieces words q plain n a o
 
 -- what is behind it is spelled

@@ -5,15 +5,15 @@ use Rattle.bpaf_line.specs.{declared.error.Error.Error, Situation.Situation, Sit
 use Rattle.bpaf_laws.specs.{Reading.Outcome, Repeat.Turns, Repeat.stops, Repeat.rests}
 use Rattle.bpaf_laws.specs.{Repeat.is_nil, Turn.TurnOutcome}
 use Rattle.bpaf_exact.specs.Pieces.{Cells, Roles, LinePiece, pieces, TakesPieces, takes_none}
-use Rattle.bpaf_exact.specs.Flat.{ErrorClass, OfMemory, OfMissing, Caught, Refused, class, cells}
-use Rattle.bpaf_exact.specs.Flat.{IsWholeIn, Steady, FieldKind, ByName, OneWord, EachWord, front}
+use Rattle.bpaf_exact.specs.Flat.{OfMemory, OfMissing, class, cells, IsWholeIn, Steady, FieldKind}
+use Rattle.bpaf_exact.specs.Flat.{ByName, OneWord, EachWord, front, back, OwnItems, FieldLaw}
 use Rattle.bpaf_exact.specs.Single.{Groups, Own, own_none, own_more, TakesAny, Readable, Gap}
 use Rattle.bpaf_exact.specs.Single.{TookGroup, SingleOk, gave_absent, took, SingleErr, of_memory}
 use Rattle.bpaf_exact.specs.Single.{of_missing, of_absent, of_piece, SingleLaw, OwnList, listed}
 use Rattle.bpaf_exact.specs.Single.{listed_and_absent, only_absent, repeated, Stops, nothing_found}
 use Rattle.bpaf_exact.specs.Single.{caught, CanCatch, catch_missing, catch_other, RepeatOutcome}
-use Rattle.bpaf_exact.specs.{Pieces.takes_more, Flat.back, Flat.OwnItems, Flat.FieldLaw}
-use Rattle.bpaf_exact.specs.{Flat.Variables, Single.ReadsWords, Single.present_count}
+use Rattle.bpaf_exact.specs.{Pieces.takes_more, Flat.Variables, Single.ReadsWords}
+use Rattle.bpaf_exact.specs.{Single.present_count}
 use Rattle.bpaf_exact.proofs.Classes.{memory_class, stops_at, goes_on}
 use Rattle.bpaf_exact.proofs.Fronts.{back_all, each_nil, nil_each, no_keys_left}
 use Rattle.bpaf_exact.proofs.Product.{none_outside_after, steady_refl, steady_trans}

@@ -4,7 +4,7 @@ use Rattle.std.proofs.Common.{append_assoc, append-nil, map, slice_get}
 use Rattle.std.proofs.lemmas.List.{map-append}
 use Rattle.bpaf_doc.specs.Shape.{Shown, Command, Shape, Shapes, Or, Optional, Required, Many}
 use Rattle.bpaf_doc.specs.Shape.{Suffix, Subsection, CustomUsage, Skip, none, ◌then◌, members}
-use Rattle.bpaf_doc.specs.{declared.doc.Piece.Piece, Shape.alternatives, Shape.shapes_of}
+use Rattle.bpaf_doc.specs.{Shape.alternatives, Shape.shapes_of, declared.doc.Piece.Piece}
 use Rattle.bpaf_doc.specs.{Walks.parts, Walks.parts_of_all}
 use Rattle.bpaf_laws.specs.{Choice.ChoiceDescribes, Choice.either_shape, Choices.ChoicesDescribes}
 use Rattle.bpaf_laws.specs.{Choices.Nested, Default.DefaultDescribes, Default.OptionalDescribes}

@@ -24,18 +24,18 @@ use Rattle.bpaf_exact.specs.Says.{OptionalSays, says_some, says_none, FallbackSa
 use Rattle.bpaf_exact.specs.Says.{says_kept, FrontSays, RepeatSays, says_in_turn, says_alone}
 use Rattle.bpaf_exact.specs.Says.{LastSays, FieldsSaid, RecordSays, FormSays, Says, FieldsFormSays}
 use Rattle.bpaf_exact.specs.{Pieces.no_roles, Pieces.stands_behind, Flat.back, Flat.both_reading}
-use Rattle.bpaf_exact.specs.{Flat.Variables, Names.Owns, Names.are_all_apart, Single.repeated}
-use Rattle.bpaf_exact.specs.{Wrappers.own_value, Wrappers.kept_value, Gathered.LastOf}
-use Rattle.bpaf_exact.specs.{Alternative.pick_type, Alternative.either_value, Leaves.ArgumentValue}
-use Rattle.bpaf_exact.specs.{Leaves.SideValue, Leaves.WordValue, Leaves.word_by, Record.LastValue}
-use Rattle.bpaf_exact.specs.{FlatForm.flat_whole, Says.FieldsSay, Says.its_pieces, Says.words_after}
+use Rattle.bpaf_exact.specs.{Flat.Variables, Single.repeated, Wrappers.own_value}
+use Rattle.bpaf_exact.specs.{Wrappers.kept_value, Leaves.ArgumentValue, Leaves.SideValue}
+use Rattle.bpaf_exact.specs.{Leaves.WordValue, Leaves.word_by, FlatForm.flat_whole, Says.FieldsSay}
+use Rattle.bpaf_exact.specs.{Says.its_pieces, Says.words_after, Names.Owns, Names.are_all_apart}
+use Rattle.bpaf_exact.specs.{Gathered.LastOf, Alternative.pick_type, Alternative.either_value}
+use Rattle.bpaf_exact.specs.{Record.LastValue}
 use Rattle.bpaf_exact.proofs.Sharing.{mine_rest, others_fit, others_rest, rest_fit, apart_none}
 use Rattle.bpaf_exact.proofs.Sharing.{each_own, first_fits, no_fits, own_fit, second_fits}
 use Rattle.bpaf_exact.proofs.Sharing.{mine_keyed, others_unkeyed, mine_within, first_within}
 use Rattle.bpaf_exact.proofs.Sharing.{second_within, mine_of_others, mine_none, others_none}
-use Rattle.bpaf_exact.proofs.{Fronts.all_front, Names.apart_of_names, Sharing.all_mine}
-use Rattle.bpaf_exact.proofs.{Sharing.others_both, Sharing.none_behind}
-use Rattle.bpaf_exact.proofs.Fronts.{never_nil}
+use Rattle.bpaf_exact.proofs.{Sharing.all_mine, Sharing.others_both, Sharing.none_behind}
+use Rattle.bpaf_exact.proofs.{Fronts.all_front, Fronts.never_nil, Names.apart_of_names}
 
 -- Leaves.
 

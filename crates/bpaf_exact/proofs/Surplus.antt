@@ -7,11 +7,11 @@ use Rattle.bpaf_exact.specs.Single.{listed_and_absent, only_absent, SingleValue,
 use Rattle.bpaf_exact.specs.Wrappers.{Closure, OptionalValue, some_value, no_value, FallbackValue}
 use Rattle.bpaf_exact.specs.FlatForm.{FlatForm, not_flat, alternative, single, complete, product}
 use Rattle.bpaf_exact.specs.FlatForm.{flat_closed, flat_optional, flat_fallback, flat_field, unless}
-use Rattle.bpaf_exact.specs.{Pieces.Roles, Pieces.LinePiece, Wrappers.own_value}
-use Rattle.bpaf_exact.specs.{Wrappers.kept_value, Gathered.LastOf, Alternative.HasBad}
+use Rattle.bpaf_exact.specs.{Wrappers.own_value, Wrappers.kept_value, FlatForm.is_product}
+use Rattle.bpaf_exact.specs.{Pieces.Roles, Pieces.LinePiece, Gathered.LastOf, Alternative.HasBad}
 use Rattle.bpaf_exact.specs.{Record.last_reading, Leaves.flag_by, Leaves.argument_by}
-use Rattle.bpaf_exact.specs.{Leaves.word_field, FlatForm.is_product, Accepted.OneByOne}
-use Rattle.bpaf_exact.specs.{Accepted.AtMostOne, Accepted.HasNoSurplus, Accepted.IsPartOf}
+use Rattle.bpaf_exact.specs.{Leaves.word_field, Accepted.OneByOne, Accepted.AtMostOne}
+use Rattle.bpaf_exact.specs.{Accepted.HasNoSurplus, Accepted.IsPartOf}
 use Rattle.bpaf_exact.proofs.Alternative.{own_bad}
 
 -- A surplus occurrence.
