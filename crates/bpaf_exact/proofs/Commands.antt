@@ -30,6 +30,7 @@ use Rattle.bpaf_exact.proofs.{Choice.same_scope, Choice.cells_same, Choice.saved
 use Rattle.bpaf_exact.proofs.{Classes.memory_class, Classes.not_memory, Combining.combined_missing}
 use Rattle.bpaf_exact.proofs.{Combining.is_missing_of, Counts.open_present, Exact.first_cells_are}
 use Rattle.bpaf_exact.proofs.{Exact.no_value, Records.none_counted, Records.count_none}
+use Rattle.bpaf_exact.proofs.Exact.{all_whole}
 
 -- Closures.
 module _ (A B : Type 0) (inner : Outcome A) (r : Roles) (value : CellsValue A) (f : Closure A B)
@@ -478,10 +479,6 @@ module _ (V : Type 0) (outcome : Outcome V) (r : Roles) (value : CellsValue V)
   abbrev s : Situation
   s = beginning context
 
-  -- all that isn't taken lies in the scope
-  whole : IsWholeIn context.env s
-  whole = record { end = refl; front = λ p l. absurd (omega arith); environment = refl }
-
   -- a value comes only where it is one of the program's
   pub program_sound : IsSpelledLine context → (a : RunAnswer V) → RunRan V outcome s a → (v : V)
       → a ≡ Accepted v → value (line_cells context) v
@@ -489,7 +486,8 @@ module _ (V : Type 0) (outcome : Outcome V) (r : Roles) (value : CellsValue V)
       let d : x ≡ v = cc in
       subst (λ cs. value cs v) (first_cells_are context)
       (subst (value (cells s)) d
-      (l.ok s t x whole spelled o (none_counted (cells t) (sym (open_present t) ∙ e))))
+      (l.ok s t x (all_whole context) spelled o
+      (none_counted (cells t) (sym (open_present t) ∙ e))))
   program_sound spelled a (run_leftover o e n) v h = absurd (no_value a v n h)
   program_sound spelled a (run_memory o e) v h = absurd cc
   program_sound spelled a (run_refusal o e n) v h = absurd (no_value a v n h)
@@ -499,12 +497,12 @@ module _ (V : Type 0) (outcome : Outcome V) (r : Roles) (value : CellsValue V)
       → value (line_cells context) u → IsAcceptedOrWant (value (line_cells context)) a
   program_complete a (run_value {v = x} {t = t} o e) u h =
       subst (λ cs. value cs x) (first_cells_are context)
-      (l.answers s t (Ok x) u whole o
+      (l.answers s t (Ok x) u (all_whole context) o
       (subst (λ cs. value cs u) (sym (first_cells_are context)) h)).0
   program_complete a (run_leftover {v = x} {t = t} o e n) u h =
-      absurd (e (open_present t ∙ count_none (l.answers s t (Ok x) u whole o
+      absurd (e (open_present t ∙ count_none (l.answers s t (Ok x) u (all_whole context) o
       (subst (λ cs. value cs u) (sym (first_cells_are context)) h)).1))
   program_complete a (run_memory o e) u h = tt
   program_complete a (run_refusal {e = x} {t = t} o e n) u h =
-      absurd (e (l.answers s t (Err x) u whole o
+      absurd (e (l.answers s t (Err x) u (all_whole context) o
       (subst (λ cs. value cs u) (sym (first_cells_are context)) h)))

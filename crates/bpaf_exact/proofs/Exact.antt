@@ -39,6 +39,10 @@ first_cells_are context =
     same_cells (open_item (beginning context)) (item_in context) (length context.line)
     (open_at_first context)
 
+-- at the beginning the scope is the whole line
+pub all_whole : (context : Context) → IsWholeIn context.env (beginning context)
+all_whole context = record { end = refl; front = λ p l. absurd (omega arith); environment = refl }
+
 -- no value is none
 pub no_value : {V : Type 0} (a : RunAnswer V) (v : V) → IsNoValue a → a ≡ Accepted v → ⊥
 no_value (Accepted x) v n h = n
@@ -49,10 +53,6 @@ module _ (V : Type 0) (outcome : Outcome V) (r : Roles) (reading : FieldsReading
   -- the situation at the beginning
   abbrev s : Situation
   s = beginning context
-
-  -- the scope is the whole line
-  whole : IsWholeIn context.env s
-  whole = record { end = refl; front = λ p l. absurd (omega arith); environment = refl }
 
   -- where no item is counted none is present
   nothing_left : (t : Situation) (v : V) → outcome s (Ok v) t → open_count t ≡ 0
@@ -77,7 +77,7 @@ module _ (V : Type 0) (outcome : Outcome V) (r : Roles) (reading : FieldsReading
       → RecordValue r reading.value context v
   sound a (run_value {v = x} {t = t} o e) v h =
       let d : x ≡ v = cc in
-      let i = l.ok s t x whole o (nothing_left t x o e) in
+      let i = l.ok s t x (all_whole context) o (nothing_left t x o e) in
       subst (λ z. RecordValue r reading.value context z) d (to_line x i)
   sound a (run_leftover o e n) v h = absurd (no_value a v n h)
   sound a (run_memory o e) v h = absurd cc
@@ -88,12 +88,12 @@ module _ (V : Type 0) (outcome : Outcome V) (r : Roles) (reading : FieldsReading
       → Cut r (line_cells context) os → reading.each os
       → IsAcceptedOrWant (λ w. RecordValue r reading.value context w) a
   complete a (run_value {v = x} {t = t} o e) os c h =
-      to_line x (l.ok s t x whole o (nothing_left t x o e))
+      to_line x (l.ok s t x (all_whole context) o (nothing_left t x o e))
   complete a (run_leftover {v = x} {t = t} o e n) os c h =
-      absurd (e (counts_none t x o (l.takes_all s t x os whole o (from_line os c) h)))
+      absurd (e (counts_none t x o (l.takes_all s t x os (all_whole context) o (from_line os c) h)))
   complete a (run_memory o e) os c h = tt
   complete a (run_refusal {e = x} {t = t} o e n) os c h =
-      absurd (e (l.refuses s t x os whole o (from_line os c) h))
+      absurd (e (l.refuses s t x os (all_whole context) o (from_line os c) h))
 
   -- where one has none, no answer is a value: the line has one cut
   refused : (a : RunAnswer V) → RunRan V outcome s a → (os : List LinePiece)

@@ -261,7 +261,8 @@ program_choice_says this that r own others words more {s = plain wide s} {t = pl
 program_choice_says {T = T} this that r own others words more {s = commands q va}
     {t = commands u vb} {a = of_cells a} {b = of_cells b} h g =
     record {
-      by = if_says (own ++ others) (are_words_apart words more) _ (of_kind ByName) _ r (λ on. either);
+      by = if_says (own ++ others) (are_words_apart words more) _ (of_kind ByName) _ r
+          (λ on. either);
     }
   where
     either : IsSaid (ChoiceValue T va vb) (ChoiceValue T (a (this r)) (b (that r)))

@@ -112,8 +112,8 @@ back (OneWord stops) [] = []
 back (OneWord false) (o ∷ os) = os
 back (OneWord true) (o ∷ os) = if is_behind o then o ∷ os else os
 
--- Of the pieces that the fields before it left, a field's portion: for a named field those that begin
--- with one of its names; for a positional field what it takes of them.
+-- Of the pieces that the fields before it left, a field's portion: for a named field those that
+-- begin with one of its names; for a positional field what it takes of them.
 abbrev pub portion : FieldKind → Roles → List LinePiece → List LinePiece
 portion ByName q os = mine q os
 portion k q os = front k os
