@@ -86,12 +86,11 @@ module _ (T : Type 0) (means : List ℕ → T → Type 0) (argument : KeyWithVal
 
   -- an argument keeps to the laws of an alternative
   argument_law : {env : Variables} → AlternativeLaw env T (ArgumentOutcome means argument) q value
-  argument_law =
-      record {
-        named = named argument;
-        ok = argument_ok;
-        err = λ s t e w o. argument_err s t e e.0 refl o;
-      }
+  argument_law = record {
+    named = named argument;
+    ok = argument_ok;
+    err = λ s t e w o. argument_err s t e e.0 refl o;
+  }
 
 -- an argument with names there, where the environment has these variables
 module _ (T : Type 0) (means : List ℕ → T → Type 0) (argument : KeyWithValue)

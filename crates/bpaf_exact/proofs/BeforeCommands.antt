@@ -86,8 +86,7 @@ foreign_without p q (Some k ∷ cs) n a e = by_role (q k) refl e (λ h. foreign_
         let ds = without q cs in
         begin_at k cs (pieces p cs) (nil_foreign (p k) k ds (pieces p ds) h)
         ∙ more (nil_rest (p k) k ds (pieces p ds) h)
-    by_role Alone r h more =
-        begin_at k cs (pieces p cs) (a.right k (ap is_own_role r)) ∙ more h
+    by_role Alone r h more = begin_at k cs (pieces p cs) (a.right k (ap is_own_role r)) ∙ more h
     by_role WithNext r h more =
         begin_at k cs (pieces p cs) (a.right k (ap is_own_role r))
         ∙ more (foreign_value p (without q cs) n h)

@@ -168,18 +168,16 @@ pub record CutAlike (q r : Roles) (cs : Cells) (os : List LinePiece) : Type 0 wh
 -- a piece given back to its place is cut off there again
 pub put_back : (q r : Roles) {cs ds : Cells} {o : LinePiece} {os : List LinePiece}
     → TakesPiece q cs o ds → Cut (either q r) ds os → CutAlike q (either q r) cs os
-put_back q r (takes_one {k = k} {cs = cs} e) (passed {os = os} c) =
-    record {
-      now = One k ∷ os;
-      cut = flag (either_own (q k) (r k) Alone e refl) c;
-      alike = others_own q (One k) os (ap is_own_role e);
-    }
-put_back q r (takes_two {k = k} {w = w} {cs = cs} e v) (passed (passed {os = os} c)) =
-    record {
-      now = Two k w ∷ os;
-      cut = argument (either_own (q k) (r k) WithNext e refl) v c;
-      alike = others_own q (Two k w) os (ap is_own_role e);
-    }
+put_back q r (takes_one {k = k} {cs = cs} e) (passed {os = os} c) = record {
+  now = One k ∷ os;
+  cut = flag (either_own (q k) (r k) Alone e refl) c;
+  alike = others_own q (One k) os (ap is_own_role e);
+}
+put_back q r (takes_two {k = k} {w = w} {cs = cs} e v) (passed (passed {os = os} c)) = record {
+  now = Two k w ∷ os;
+  cut = argument (either_own (q k) (r k) WithNext e refl) v c;
+  alike = others_own q (Two k w) os (ap is_own_role e);
+}
 put_back q r (takes_later {c = None} t) (passed c) = let i = put_back q r t c in
     record { now = i.now; cut = passed i.cut; alike = i.alike }
 put_back q r (takes_later {c = Some k} t) (flag e c) =
@@ -221,12 +219,11 @@ take_from q r n (takes_one {k = k} e) (argument g v c) = let h =
 take_from q r n (takes_one {k = k} e) (word h c) = let g = word_foreign q k n h in absurd cc
 take_from q r n (takes_two {k = k} e v) (flag g c) = let h =
     either_not (q k) (r k) WithNext Alone e refl g in absurd cc
-take_from q r n (takes_two {k = k} {w = w} e v) (argument {os = os} g u c) =
-    record {
-      now = os;
-      cut = passed (passed c);
-      alike = sym (others_own q (Two k w) os (ap is_own_role e));
-    }
+take_from q r n (takes_two {k = k} {w = w} e v) (argument {os = os} g u c) = record {
+  now = os;
+  cut = passed (passed c);
+  alike = sym (others_own q (Two k w) os (ap is_own_role e));
+}
 take_from q r n (takes_two {k = k} e v) (word h c) = let g = word_foreign q k n h in absurd cc
 take_from q r n (takes_later {c = None} t) (passed c) = let i = take_from q r n t c in
     record { now = i.now; cut = passed i.cut; alike = i.alike }

@@ -137,14 +137,13 @@ differ_not a false e f = absurd (true≢false (sym e ∙ f))
 
 -- conflict notes change nothing that is taken
 pub saved_steady : (s other t : Situation) (place : ℕ) → ConflictsSaved s other place t → Steady s t
-saved_steady s other t place c =
-    record {
-      context = c.context;
-      start = c.start;
-      end = c.end;
-      path = c.path;
-      keeps = λ p h. c.taken p ∙ h;
-    }
+saved_steady s other t place c = record {
+  context = c.context;
+  start = c.start;
+  end = c.end;
+  path = c.path;
+  keeps = λ p h. c.taken p ∙ h;
+}
 
 -- a piece that was taken is one of the field's own
 pub takes_own : (q : Roles) {cs ds : Cells} {o : LinePiece} → TakesPiece q cs o ds

@@ -42,13 +42,12 @@ module _ (A B : Type 0) (inner : Outcome A) (r : Roles) (value : CellsValue A) (
   -- round a program
   pub closed_program : {env : Variables} → ProgramLaw env A inner r value
       → ProgramLaw env B (ClosedEval A B inner f c) r closed
-  closed_program {env} l =
-      record {
-        others = λ q n a cs v s h. l.others q n a cs h.from s h.read;
-        deep = closed_deep l;
-        ok = closed_ok l;
-        answers = closed_answers l;
-      }
+  closed_program {env} l = record {
+    others = λ q n a cs v s h. l.others q n a cs h.from s h.read;
+    deep = closed_deep l;
+    ok = closed_ok l;
+    answers = closed_answers l;
+  }
     where
       closed_deep : ProgramLaw env A inner r value → (s t : Situation) (v : B) → IsWholeIn env s
           → ClosedEval A B inner f c s (Ok v) t → depth s ≤ depth t
@@ -76,12 +75,11 @@ module _ (A B : Type 0) (inner : Outcome A) (r : Roles) (value : CellsValue A) (
   pub closed_commands : {env : Variables} (words : List (List ℕ))
       → CommandsLaw env A inner r words value
       → CommandsLaw env B (ClosedEval A B inner f c) r words closed
-  closed_commands {env} words l =
-      record {
-        program = closed_program l.program;
-        opened = λ cs v h. l.opened cs h.from h.read;
-        none = closed_none l;
-      }
+  closed_commands {env} words l = record {
+    program = closed_program l.program;
+    opened = λ cs v h. l.opened cs h.from h.read;
+    none = closed_none l;
+  }
     where
       closed_none : CommandsLaw env A inner r words value → (s t : Situation) (a : Result B Error)
           → IsWholeIn env s → ClosedEval A B inner f c s a t → OpensNone words (cells s)

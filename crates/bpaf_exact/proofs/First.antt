@@ -131,10 +131,9 @@ either_union qa qb na nb a = record {
 
 -- they are keys
 pub union_named : (qa qb r : Roles) → Union qa qb r → IsNamed r
-union_named qa qb r u =
-    record {
-      only_keys = λ k h. u.none k (u.named_left.only_keys k h) (u.named_right.only_keys k h);
-    }
+union_named qa qb r u = record {
+  only_keys = λ k h. u.none k (u.named_left.only_keys k h) (u.named_right.only_keys k h);
+}
 
 -- an item of the first keeps its role
 left_role : (qa qb r : Roles) (k : Arg) (x : Role) → Union qa qb r → is_own_role x ≡ true → qa k ≡ x

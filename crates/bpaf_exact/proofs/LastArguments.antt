@@ -34,8 +34,7 @@ bare_spoils : (pairs tail before : List LinePiece) (k j w : Arg) → HaveValues 
     → pairs ++ One k ∷ tail ≡ before ++ Two j w ∷ [] → ⊥
 bare_spoils [] tail before k j w no_more e = cc
 bare_spoils [] tail before k j w (one_more h) e = cc
-bare_spoils (o ∷ pairs) tail before k j w no_more e =
-    absurd (never_nil pairs (One k) tail cc)
+bare_spoils (o ∷ pairs) tail before k j w no_more e = absurd (never_nil pairs (One k) tail cc)
 bare_spoils (o ∷ pairs) tail before k j w (one_more {os = os} h) e =
     bare_spoils pairs tail os k j w h cc
 

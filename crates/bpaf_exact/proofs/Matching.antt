@@ -41,13 +41,12 @@ match_of test s p e = by_item (open_item s p) refl e
     by_item : (c : Option Arg) → open_item s p ≡ c → option_map_or test c false ≡ true
         → Match test s p
     by_item None f h = absurd cc
-    by_item (Some k) f h =
-        record {
-          item = k;
-          is = f;
-          passes = h;
-          in_line = open_in_line s p (open_item_there s p k f).0;
-        }
+    by_item (Some k) f h = record {
+      item = k;
+      is = f;
+      passes = h;
+      in_line = open_in_line s p (open_item_there s p k f).0;
+    }
 
 -- a role by a test
 pub record ByTest (test : Arg → Bool) (r : Roles) (own : Role) : Type 0 where
@@ -57,11 +56,10 @@ pub record ByTest (test : Arg → Bool) (r : Roles) (own : Role) : Type 0 where
 -- the roles that a test gives
 pub by_test : (test : Arg → Bool) (own : Role)
     → ByTest test (λ k. if test k then own else Foreign) own
-by_test test own =
-    record {
-      yes = λ k e. ap (λ b. if b then own else Foreign) e;
-      no = λ k e. ap (λ b. if b then own else Foreign) e;
-    }
+by_test test own = record {
+  yes = λ k e. ap (λ b. if b then own else Foreign) e;
+  no = λ k e. ap (λ b. if b then own else Foreign) e;
+}
 
 -- only keys have a role by a test that asks for names
 pub test_named : (test : Arg → Bool) (names : Names) (own : Role)
@@ -184,15 +182,14 @@ bare_taken test r s p t f m e =
 pub first_alternative : (T : Type 0) (q : Roles) (value : LinePiece → T → Type 0) (s t : Situation)
     (v : T) (o : LinePiece) → Steady s t → value o v → TakesFirst q (cells s) o (cells t)
     → AlternativeOk T q value s v t
-first_alternative T q value s t v o st m f =
-    record {
-      steady = st;
-      piece = o;
-      takes = first_takes q f;
-      means = m;
-      first = inl f;
-      readable = λ p os w e g. f;
-    }
+first_alternative T q value s t v o st m f = record {
+  steady = st;
+  piece = o;
+  takes = first_takes q f;
+  means = m;
+  first = inl f;
+  readable = λ p os w e g. f;
+}
 
 -- the first piece can't be read
 pub first_refused : (T : Type 0) (q : Roles) (value : LinePiece → T → Type 0) (s t : Situation)

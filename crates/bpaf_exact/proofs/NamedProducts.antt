@@ -79,8 +79,7 @@ module _ (p q r : Roles) (u : Union p q r) where
       by_owner : Belongs p q r k → others p (pieces r cs) ≡ pieces q cs
           → others p (pieces r (Some k ∷ cs)) ≡ pieces q (Some k ∷ cs)
       by_owner (to_first h g f) behind =
-          others_pass p k cs (pieces r cs) (r k) h
-          ∙ (behind ∙ sym (begin_at k cs (pieces q cs) f))
+          others_pass p k cs (pieces r cs) (r k) h ∙ (behind ∙ sym (begin_at k cs (pieces q cs) f))
       by_owner (to_second h g f) behind =
           others_begin p k cs (pieces r cs) (r k) (ap is_own_role f)
           ∙ ap₂ (λ x os. begin_piece x k cs os) g behind

@@ -47,11 +47,10 @@ tail_before r at p none = record { before = λ q l. none.before (suc q) (omega a
 -- so is what was taken
 tail_one : (at left : ℕ → Option Arg) (p : ℕ) → TakenOne at left (suc p)
     → TakenOne (λ q. at (suc q)) (λ q. left (suc q)) p
-tail_one at left p taken =
-    record {
-      gone = taken.gone;
-      others = λ q other. taken.others (suc q) (λ e. other (omega arith));
-    }
+tail_one at left p taken = record {
+  gone = taken.gone;
+  others = λ q other. taken.others (suc q) (λ e. other (omega arith));
+}
 
 -- and what was taken with the next
 tail_two : (at left : ℕ → Option Arg) (p : ℕ) → TakenTwo at left (suc p)

@@ -32,15 +32,14 @@ steady_refl s = record { context = refl; start = refl; end = refl; path = refl; 
 
 -- nor in two steps
 pub steady_trans : {s m t : Situation} → Steady s m → Steady m t → Steady s t
-steady_trans a b =
-    record {
-      context = b.context ∙ a.context;
-      start = b.start ∙ a.start;
-      end = b.end
-          ∙ a.end;
-      path = b.path ∙ a.path;
-      keeps = λ p h. b.keeps p (a.keeps p h);
-    }
+steady_trans a b = record {
+  context = b.context ∙ a.context;
+  start = b.start ∙ a.start;
+  end = b.end
+      ∙ a.end;
+  path = b.path ∙ a.path;
+  keeps = λ p h. b.keeps p (a.keeps p h);
+}
 
 -- A cut by the keys of others holds no key of one's own.
 pub no_own_in_cut : (q r : Roles) {cs : Cells} {os : List LinePiece} → IsNamed q → Apart q r
@@ -226,10 +225,9 @@ step_on (EachWord z) q r n b t e c = word_on (EachWord z) q r n (record { none =
 -- the keys of all are keys
 both_named : (k : FieldKind) (q r : Roles) → OwnItems k q → IsNamed r
     → IsNamed (either (keys k q) r)
-both_named ByName q r n m =
-    record {
-      only_keys = λ a h. either_foreign (q a) (r a) Foreign (n.only_keys a h) (m.only_keys a h);
-    }
+both_named ByName q r n m = record {
+  only_keys = λ a h. either_foreign (q a) (r a) Foreign (n.only_keys a h) (m.only_keys a h);
+}
 both_named _ q r n m = m
 
 -- two values of fields that were all evaluated

@@ -258,14 +258,13 @@ module _ {env : Variables} (T : Type 0) (inner : Outcome T) (k : FieldKind) (q :
   -- a first value that took nothing
   first_idle : (s t : Situation) (v : T) → IsWholeIn env s → open_count s ≤ open_count t
       → SingleOk T k q group gap s v t → RepeatTook s (v ∷ []) t
-  first_idle s t v w e (gave_absent h p ab same st) =
-      record {
-        steady = st;
-        takes = same_takes q same;
-        none = ap (pieces q) same
-            ∙ all_left s p;
-        list = absent_alone s t v [] refl h p ab;
-      }
+  first_idle s t v w e (gave_absent h p ab same st) = record {
+    steady = st;
+    takes = same_takes q same;
+    none = ap (pieces q) same
+        ∙ all_left s p;
+    list = absent_alone s t v [] refl h p ab;
+  }
   first_idle s t v w e (took h) = let f = fewer_count s t h.takes in
       absurd (omega arith)
 

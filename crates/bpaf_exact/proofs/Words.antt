@@ -87,8 +87,7 @@ words_of_cut q r n f (passed c) = words_of_cut q r n f c
 words_of_cut q r n f (flag {k = k} e c) = let g = f.none k in cc
 words_of_cut q r n f (argument {k = k} e v c) = let g = f.none k in cc
 words_of_cut q r n f (word {w = w} {cs = cs} {os = os} h c) =
-    begin_at w cs (pieces q cs) (alone_word q w n h)
-    ∙ ap (λ z. One w ∷ z) (words_of_cut q r n f c)
+    begin_at w cs (pieces q cs) (alone_word q w n h) ∙ ap (λ z. One w ∷ z) (words_of_cut q r n f c)
 
 -- Where nothing is present the cut is empty, and only there.
 pub empty_cut : (r : Roles) {cs : Cells} → NonePresent cs → Cut r cs []

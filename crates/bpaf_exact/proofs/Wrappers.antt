@@ -98,13 +98,12 @@ module _ {env : Variables} (T : Type 0) (inner : Outcome T) (k : FieldKind) (q :
   -- one evaluation, as that of a field
   single_took : (s t : Situation) (v : T) → SingleOk T k q group gap s v t
       → FieldTook T k q (SingleValue T group gap) s v t
-  single_took s t v (gave_absent h p ab same st) =
-      record {
-        steady = st;
-        takes = same_takes q same;
-        read = λ n. nothing_read (pieces q (cells s)) v p ab;
-        rest = λ n. nothing_left _ _ p (ap (pieces q) same);
-      }
+  single_took s t v (gave_absent h p ab same st) = record {
+    steady = st;
+    takes = same_takes q same;
+    read = λ n. nothing_read (pieces q (cells s)) v p ab;
+    rest = λ n. nothing_left _ _ p (ap (pieces q) same);
+  }
   single_took s t v (took h) = record {
     steady = h.steady;
     takes = any_some q h.takes;
@@ -237,13 +236,12 @@ module _ {env : Variables} (T : Type 0) (inner : Outcome T) (k : FieldKind) (q :
 
   -- what may be left out keeps to the laws of a field
   pub optional_law : FieldLaw env (Option T) (OptionalEval T inner) k q (OptionalValue T group gap)
-  optional_law =
-      record {
-        own = l.own;
-        ok = optional_ok;
-        takes_all = λ s t u v w i g. optional_takes s t u v w i (optional_view _ v g);
-        refuses = λ s t e v w i g. optional_refuses s t e v w i (optional_view _ v g);
-      }
+  optional_law = record {
+    own = l.own;
+    ok = optional_ok;
+    takes_all = λ s t u v w i g. optional_takes s t u v w i (optional_view _ v g);
+    refuses = λ s t e v w i g. optional_refuses s t e v w i (optional_view _ v g);
+  }
 
   -- fallback
 
@@ -312,10 +310,9 @@ module _ {env : Variables} (T : Type 0) (inner : Outcome T) (k : FieldKind) (q :
         none_fails s m g (λ c same. n c) p b (l.err s m g w i)
 
     pub fallback_law : FieldLaw env T (FallbackEval T inner f) k q (FallbackValue T group gap f)
-    fallback_law =
-        record {
-          own = l.own;
-          ok = fallback_took;
-          takes_all = λ s t u v w i g. fallback_takes s t u v w i (fallback_view _ v g);
-          refuses = λ s t e v w i g. fallback_refuses s t e v w i (fallback_view _ v g);
-        }
+    fallback_law = record {
+      own = l.own;
+      ok = fallback_took;
+      takes_all = λ s t u v w i g. fallback_takes s t u v w i (fallback_view _ v g);
+      refuses = λ s t e v w i g. fallback_refuses s t e v w i (fallback_view _ v g);
+    }
