@@ -1,18 +1,15 @@
 -- The premise of exactness, of closures that can't tell apart the values on the same pieces.
 use Rattle.std.proofs.Common.{◌≡◌, ℕ, List, [], ◌∷◌, sym, subst, ◌∙◌}
-use Rattle.bpaf_text.specs.Meaning.{SpellsUnsigned}
-use Rattle.bpaf_text.specs.Named.{KeyWithValue}
+use Rattle.bpaf_text.specs.{Meaning.SpellsUnsigned, Named.KeyWithValue}
 use Rattle.bpaf_laws.specs.Environment.{first_set}
 use Rattle.bpaf_exact.specs.FlatForm.{Agrees, FlatForm, alternative, complete, not_flat, product}
-use Rattle.bpaf_exact.specs.FlatForm.{single}
-use Rattle.bpaf_exact.specs.Leaves.{argument_field, variable_argument}
-use Rattle.bpaf_exact.specs.OneView.{Alike, HasOneView, ProgramOneView, Respects}
 use Rattle.bpaf_exact.specs.ProgramForm.{ProgramAgrees, ProgramForm, commands, left_out, plain}
-use Rattle.bpaf_exact.specs.ProgramForm.{program_closed}
-use Rattle.bpaf_exact.specs.Variables.{argument_form, key_form}
-use Rattle.bpaf_exact.specs.Wrappers.{AgreesOn, Closure, Decides}
+use Rattle.bpaf_exact.specs.{FlatForm.single, ProgramForm.program_closed, Leaves.argument_field}
+use Rattle.bpaf_exact.specs.{Leaves.variable_argument, OneView.Alike, OneView.HasOneView}
+use Rattle.bpaf_exact.specs.{OneView.ProgramOneView, OneView.Respects, Variables.argument_form}
+use Rattle.bpaf_exact.specs.{Variables.key_form, Wrappers.AgreesOn, Wrappers.Closure}
+use Rattle.bpaf_exact.specs.{Wrappers.Decides, Flat.Variables}
 use Rattle.bpaf_exact.proofs.OneView.{argument_view, closed_view, variable_argument_view}
-use Rattle.bpaf_exact.specs.Flat.{Variables}
 
 -- the values of a parser on the same pieces are one
 abbrev pub HasOneValue : {T : Type 0} → ProgramForm T → Type 0
@@ -64,8 +61,7 @@ module _ {A B : Type 0} (f : Closure A B) (decides : Decides f) where
       made value one x y v w a b this that = respects.same x y v w (one x y a b) this that
 
       by_form : (s : ProgramForm A) → HasOneValue s → HasOneValue (program_closed f s)
-      by_form (plain wide s) one =
-          closed_view A B A B (λ v. v) (λ v. v) f respects s one
+      by_form (plain wide s) one = closed_view A B A B (λ v. v) (λ v. v) f respects s one
       by_form (commands r value) one =
           λ cs v w a b. made (value cs) (one cs) a.from b.from v w a.read b.read a.made b.made
       by_form (left_out r value) one =

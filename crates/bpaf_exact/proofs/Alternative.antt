@@ -1,21 +1,19 @@
 -- Alternatives as fields, and closures round alternatives and single fields.
 use Rattle.std.proofs.Common.{◌≡◌, List, [], ◌∷◌, Ok, Err, refl, sym, ap, ◌∙◌, subst, inl, inr, ◌⊎◌}
-use Rattle.bpaf_line.specs.declared.error.Error.{Error}
-use Rattle.bpaf_line.specs.Situation.{Situation}
+use Rattle.bpaf_line.specs.{declared.error.Error.Error, Situation.Situation}
 use Rattle.bpaf_laws.specs.Reading.{Outcome}
 use Rattle.bpaf_exact.specs.Flat.{front, Refused, class, cells, IsWholeIn, Steady, FieldKind}
-use Rattle.bpaf_exact.specs.Flat.{ByName, OneWord, EachWord, Variables}
-use Rattle.bpaf_exact.specs.Pieces.{Roles, LinePiece, pieces, takes_none}
 use Rattle.bpaf_exact.specs.Single.{Groups, FrontOf, Own, own_none, own_more, Readable, Gap, no_gap}
 use Rattle.bpaf_exact.specs.Single.{TookGroup, SingleOk, gave_absent, took, SingleErr, of_memory}
 use Rattle.bpaf_exact.specs.Single.{catch_missing, of_missing, of_absent, of_piece, ReadsWords}
-use Rattle.bpaf_exact.specs.Single.{SingleLaw}
 use Rattle.bpaf_exact.specs.Wrappers.{Closure, AgreesOn, ClosedEval, closed_yes, closed_no}
 use Rattle.bpaf_exact.specs.Wrappers.{closed_memory, closed_err, ClosedGroup, closed_gap}
-use Rattle.bpaf_exact.specs.Wrappers.{ClosedPiece}
 use Rattle.bpaf_exact.specs.Alternative.{TakesFirst, HasBad, bad_here, bad_later, AlternativeOk}
 use Rattle.bpaf_exact.specs.Alternative.{AlternativeErr, alternative_memory, alternative_missing}
-use Rattle.bpaf_exact.specs.Alternative.{alternative_refused, AlternativeLaw}
+use Rattle.bpaf_exact.specs.{Flat.ByName, Flat.OneWord, Flat.EachWord, Flat.Variables}
+use Rattle.bpaf_exact.specs.{Single.SingleLaw, Wrappers.ClosedPiece}
+use Rattle.bpaf_exact.specs.{Alternative.alternative_refused, Alternative.AlternativeLaw}
+use Rattle.bpaf_exact.specs.{Pieces.Roles, Pieces.LinePiece, Pieces.pieces, Pieces.takes_none}
 use Rattle.bpaf_exact.proofs.First.{first_pieces, first_takes, takes_nonempty, bad_given_back}
 use Rattle.bpaf_exact.proofs.First.{bad_nonempty}
 
@@ -43,8 +41,7 @@ front_alone T value o v {left = left} {rest = rest} e means g =
 pub took_front : (T : Type 0) (value : LinePiece → T → Type 0) (k : FieldKind) (q : Roles)
     (s t : Situation) (v : T) (o : LinePiece) → Steady s t → TakesFirst q (cells s) o (cells t)
     → pieces q (cells s) ≡ o ∷ pieces q (cells t) → value o v
-    → (front k (o ∷ pieces q (cells t)) ≡ [] → ⊥)
-    → TookGroup T k q (FrontOf T value) s v t
+    → (front k (o ∷ pieces q (cells t)) ≡ [] → ⊥) → TookGroup T k q (FrontOf T value) s v t
 took_front T value k q s t v o st f e means some =
     let takes = first_takes q f in record {
       steady = st;
@@ -56,8 +53,7 @@ took_front T value k q s t v o st f e means some =
 
 -- An alternative is a field without a repeat or default.
 module _ {env : Variables} (T : Type 0) (outcome : Outcome T) (q : Roles)
-    (value : LinePiece → T → Type 0)
-    (l : AlternativeLaw env T outcome q value) where
+    (value : LinePiece → T → Type 0) (l : AlternativeLaw env T outcome q value) where
   -- its value is that of the first piece, where all others can be read
   alternative_reads : (s t : Situation) (v : T) (a : AlternativeOk T q value s v t)
       → TakesFirst q (cells s) a.piece (cells t) ⊎ HasBad T value (pieces q (cells t))
@@ -104,8 +100,7 @@ module _ {env : Variables} (T : Type 0) (outcome : Outcome T) (q : Roles)
 
 -- inner closures round an alternative
 module _ {env : Variables} (A B : Type 0) (inner : Outcome A) (q : Roles)
-    (value : LinePiece → A → Type 0)
-    (l : AlternativeLaw env A inner q value) (f : Closure A B)
+    (value : LinePiece → A → Type 0) (l : AlternativeLaw env A inner q value) (f : Closure A B)
     (agrees : (o : LinePiece) → AgreesOn (value o) f) where
   -- a piece that can't be read can't be read through a closure either
   closed_bad : (os : List LinePiece) → HasBad A value os → HasBad B (ClosedPiece A B value f) os
@@ -114,8 +109,7 @@ module _ {env : Variables} (A B : Type 0) (inner : Outcome A) (q : Roles)
 
   -- nor can one whose value the closure refuses
   refused_value : (x : A) (o : LinePiece) → value o x → f.no x → (v : B)
-      → ClosedPiece A B value f o v
-      → ⊥
+      → ClosedPiece A B value f o v → ⊥
   refused_value x o g n v c = agrees o c.from x v c.read g c.made n
 
   -- a value that the closure gave
@@ -213,8 +207,7 @@ module _ {env : Variables} (A B : Type 0) (inner : Outcome A) (k : FieldKind) (q
     of_front = λ os v g. record {
       from = g.from;
       read = u.of_front os g.from g.read;
-      made =
-          g.made;
+      made = g.made;
     };
     by_each = λ os v rest g. let a = u.by_each os g.from rest g.read in
         (record { from = g.from; read = a.0; made = g.made }, a.1);

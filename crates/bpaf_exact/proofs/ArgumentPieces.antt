@@ -1,26 +1,20 @@
 -- A key of an argument and its value are a piece.
 use Rattle.std.proofs.Common.{◌≡◌, ℕ, true, false, List, [], ◌∷◌, Option, Some, None, refl, sym, ap}
-use Rattle.std.proofs.Common.{◌∙◌, subst}
-use Rattle.std.proofs.lemmas.Bool.{and_parts}
+use Rattle.std.proofs.{Common.◌∙◌, Common.subst, lemmas.Bool.and_parts}
 use Rattle.bpaf_text.specs.Named.{KeyWithValue, argument_part}
-use Rattle.bpaf_base.specs.declared.arg.Arg.{Arg}
-use Rattle.bpaf_base.specs.Items.{is_key_of, item_text}
-use Rattle.bpaf_line.specs.declared.error.Error.{Error}
-use Rattle.bpaf_line.specs.declared.error.Message.{Message}
-use Rattle.bpaf_line.specs.Situation.{Situation, with_current}
+use Rattle.bpaf_base.specs.{declared.arg.Arg.Arg, Items.is_key_of, Items.item_text}
+use Rattle.bpaf_line.specs.{declared.error.Error.Error, declared.error.Message.Message}
+use Rattle.bpaf_line.specs.{Situation.Situation, Situation.with_current}
 use Rattle.bpaf_laws.specs.Argument.{TakesKeyWithText, HasNoKey, IsNowhere, ReadsVariable}
-use Rattle.bpaf_laws.specs.Argument.{is_key_with_value}
-use Rattle.bpaf_laws.specs.Environment.{first_set}
-use Rattle.bpaf_exact.specs.Pieces.{WithNext, Roles, Two, IsNamed, pieces}
+use Rattle.bpaf_laws.specs.{Argument.is_key_with_value, Environment.first_set}
 use Rattle.bpaf_exact.specs.Flat.{ByName, Refused, Steady, cells, class, class_of, Variables}
-use Rattle.bpaf_exact.specs.Alternative.{TakesFirst}
-use Rattle.bpaf_exact.specs.Leaves.{argument_gap, argument_roles}
-use Rattle.bpaf_exact.specs.Names.{Owns}
 use Rattle.bpaf_exact.specs.Single.{Groups, SingleErr, SingleOk, gave_absent, of_absent, of_missing}
+use Rattle.bpaf_exact.specs.{Pieces.WithNext, Pieces.Roles, Pieces.Two, Pieces.IsNamed}
+use Rattle.bpaf_exact.specs.{Pieces.pieces, Alternative.TakesFirst, Leaves.argument_gap}
+use Rattle.bpaf_exact.specs.{Leaves.argument_roles, Names.Owns}
 use Rattle.bpaf_exact.proofs.Matching.{match_of, ByTest, by_test, test_named, test_owns, behind_of}
 use Rattle.bpaf_exact.proofs.Matching.{pair_is, two_taken, two_steady, no_pieces, absence_caught}
-use Rattle.bpaf_exact.proofs.Product.{steady_refl}
-use Rattle.bpaf_exact.proofs.Records.{current_cells, same_steady}
+use Rattle.bpaf_exact.proofs.{Product.steady_refl, Records.current_cells, Records.same_steady}
 
 -- the first key of some roles and its value, which has this text, are the first piece
 pub record TookPair (q : Roles) (s t : Situation) (text : List ℕ) : Type 0 where
@@ -98,8 +92,7 @@ module _ (T : Type 0) (means : List ℕ → T → Type 0) (argument : KeyWithVal
       → SingleErr T ByName roles group (argument_gap means set) s e t
   variable_fault s t e text same read c none =
       let here = subst (λ z. first_set z argument.named.envs ≡ Some text) same read.set in
-      subst (λ gap. SingleErr T ByName roles group gap s e t)
-      (ap (argument_gap means) (sym here))
+      subst (λ gap. SingleErr T ByName roles group gap s e t) (ap (argument_gap means) (sym here))
       (of_absent c refl (no_key argument s read.no_key) none)
 
   -- without one there is no value

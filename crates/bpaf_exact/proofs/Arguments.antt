@@ -2,32 +2,28 @@
 use Rattle.std.proofs.Common.{◌≡◌, ℕ, Bool, true, false, List, [], ◌∷◌, Ok, refl, sym, ap, ◌∙◌}
 use Rattle.std.proofs.Common.{None, subst, ⊎_elim}
 use Rattle.bpaf_text.specs.Named.{KeyWithValue, argument_part}
-use Rattle.bpaf_line.specs.declared.error.Error.{Error}
-use Rattle.bpaf_line.specs.declared.error.Message.{Message}
 use Rattle.bpaf_line.specs.declared.error.Message.TheVariants.{Memory, NoArgument, ParseFailed}
-use Rattle.bpaf_line.specs.Situation.{Situation}
+use Rattle.bpaf_line.specs.{declared.error.Error.Error, declared.error.Message.Message}
+use Rattle.bpaf_line.specs.{Situation.Situation}
 use Rattle.bpaf_laws.specs.Argument.{ArgumentOutcome, ArgumentFails, TakesOwnText, TakesBefore}
 use Rattle.bpaf_laws.specs.Argument.{GetsText, IsVariable, LacksText, is_key_with_value}
 use Rattle.bpaf_laws.specs.Environment.{first_set}
-use Rattle.bpaf_exact.specs.Pieces.{Roles, LinePiece, One, Two, pieces}
 use Rattle.bpaf_exact.specs.Flat.{ByName, class, class_of, cells, IsWholeIn, Variables}
 use Rattle.bpaf_exact.specs.Alternative.{AlternativeOk, AlternativeErr, alternative_memory}
-use Rattle.bpaf_exact.specs.Alternative.{AlternativeLaw}
 use Rattle.bpaf_exact.specs.Single.{FrontOf, Gap, Groups, SingleErr, SingleLaw, SingleOk, took}
-use Rattle.bpaf_exact.specs.Single.{of_memory, of_piece}
 use Rattle.bpaf_exact.specs.Leaves.{argument_roles, ArgumentValue, argument_by, argument_field}
 use Rattle.bpaf_exact.specs.Leaves.{argument_gap, argument_group, argument_with, variable_argument}
-use Rattle.bpaf_exact.specs.FlatForm.{FormLaw}
-use Rattle.bpaf_exact.specs.ProgramForm.{ProgramFormLaw}
-use Rattle.bpaf_exact.specs.Variables.{argument_form, key_form}
-use Rattle.bpaf_exact.proofs.Alternative.{took_front}
+use Rattle.bpaf_exact.specs.{Alternative.AlternativeLaw, Single.of_memory, Single.of_piece}
+use Rattle.bpaf_exact.specs.{Pieces.Roles, Pieces.LinePiece, Pieces.One, Pieces.Two, Pieces.pieces}
+use Rattle.bpaf_exact.specs.{FlatForm.FormLaw, ProgramForm.ProgramFormLaw, Variables.argument_form}
+use Rattle.bpaf_exact.specs.{Variables.key_form}
 use Rattle.bpaf_exact.proofs.ArgumentPieces.{TookPair, gap_empty, named, nowhere, owns, took_pair}
 use Rattle.bpaf_exact.proofs.ArgumentPieces.{test, no_key, variable_fault, variable_read}
-use Rattle.bpaf_exact.proofs.Classes.{missing_class}
-use Rattle.bpaf_exact.proofs.First.{first_pieces, first_takes, takes_nonempty}
-use Rattle.bpaf_exact.proofs.LastArguments.{last_argument_law}
 use Rattle.bpaf_exact.proofs.Matching.{match_of, bare_taken, first_alternative, first_refused}
-use Rattle.bpaf_exact.proofs.Matching.{missing_same, absence_missing}
+use Rattle.bpaf_exact.proofs.{Matching.missing_same, Matching.absence_missing}
+use Rattle.bpaf_exact.proofs.{Alternative.took_front, Classes.missing_class, First.first_pieces}
+use Rattle.bpaf_exact.proofs.{First.first_takes, First.takes_nonempty}
+use Rattle.bpaf_exact.proofs.{LastArguments.last_argument_law}
 
 -- the text of an argument behind its key
 takes_pair : (argument : KeyWithValue) → argument.last ≡ false → (s t : Situation) (text : List ℕ)
@@ -55,15 +51,13 @@ module _ (T : Type 0) (means : List ℕ → T → Type 0) (argument : KeyWithVal
       cc
 
   -- the text stands behind its key
-  gets_pair : (s t : Situation) (text : List ℕ) → GetsText argument s text t
-      → TookPair q s t text
+  gets_pair : (s t : Situation) (text : List ℕ) → GetsText argument s text t → TookPair q s t text
   gets_pair s t text gets = ⊎_elim (takes_pair argument once s t text)
       (λ variable. absurd (never_set s text variable.set)) gets
 
   -- a value is that of the first piece
   argument_ok : {env : Variables} (s t : Situation) (v : T) → IsWholeIn env s
-      → ArgumentOutcome means argument s (Ok v) t
-      → AlternativeOk T q value s v t
+      → ArgumentOutcome means argument s (Ok v) t → AlternativeOk T q value s v t
   argument_ok s t v w o =
       let m = gets_pair s t o.0 o.1 in
       first_alternative T q value s t v (Two m.key m.word) m.steady
@@ -82,8 +76,7 @@ module _ (T : Type 0) (means : List ℕ → T → Type 0) (argument : KeyWithVal
       let same = subst (λ b. TakesBefore b argument s t) once o.1 in
       let lacks = subst (λ z. LacksText argument z (NoArgument key metavar)) same o.0 in
       let m = match_of (is_key_with_value argument) s key lacks.0.matches in
-      let b = bare_taken (is_key_with_value argument) q s key
-      (test argument) lacks.0 m lacks.1 in
+      let b = bare_taken (is_key_with_value argument) q s key (test argument) lacks.0 m lacks.1 in
       first_refused T q value s t e (One m.item) b.tail c (ap (λ z. z.path) same) b.is (λ v y. y)
   argument_err s t e other c o =
       missing_same T q value s t e
@@ -93,12 +86,11 @@ module _ (T : Type 0) (means : List ℕ → T → Type 0) (argument : KeyWithVal
 
   -- an argument keeps to the laws of an alternative
   argument_law : {env : Variables} → AlternativeLaw env T (ArgumentOutcome means argument) q value
-  argument_law =
-      record {
-        named = named argument;
-        ok = argument_ok;
-        err = λ s t e w o. argument_err s t e e.0 refl o;
-      }
+  argument_law = record {
+    named = named argument;
+    ok = argument_ok;
+    err = λ s t e w o. argument_err s t e e.0 refl o;
+  }
 
 -- an argument with names there, where the environment has these variables
 module _ (T : Type 0) (means : List ℕ → T → Type 0) (argument : KeyWithValue)
@@ -114,8 +106,7 @@ module _ (T : Type 0) (means : List ℕ → T → Type 0) (argument : KeyWithVal
 
   -- a value is that of the first piece, or of the variable
   variable_ok : (s t : Situation) (v : T) → IsWholeIn variables s
-      → ArgumentOutcome means argument s (Ok v) t
-      → SingleOk T ByName roles group gap s v t
+      → ArgumentOutcome means argument s (Ok v) t → SingleOk T ByName roles group gap s v t
   variable_ok s t v w o = ⊎_elim
       (λ takes. let m = takes_pair argument once s t o.0 takes in
       took (took_front T (ArgumentValue means) ByName roles s t v (Two m.key m.word) m.steady
@@ -134,8 +125,7 @@ module _ (T : Type 0) (means : List ℕ → T → Type 0) (argument : KeyWithVal
       (λ v rest g. let d : Two m.key m.word ∷ pieces roles (cells t) ≡ g.piece ∷ rest =
       sym (first_pieces roles (named argument) m.takes) ∙ g.is in
       let j : g.piece ≡ Two m.key m.word = cc in
-      o.2.0 v (subst (λ z. means z v) m.text_is
-      (subst (λ z. ArgumentValue means z v) j g.means))))
+      o.2.0 v (subst (λ z. means z v) m.text_is (subst (λ z. ArgumentValue means z v) j g.means))))
       (λ read. variable_fault T means argument group variables s t e o.0 same read c o.2.0) o.1
   variable_err s t e (NoArgument key metavar) c same o =
       let left = subst (λ b. TakesBefore b argument s t) once o.1 in
@@ -162,8 +152,7 @@ module _ (T : Type 0) (means : List ℕ → T → Type 0) (argument : KeyWithVal
 
 -- an argument without a name in the environment keeps to the laws of its form
 pub argument_field_law : (env : Variables) (T : Type 0) (means : List ℕ → T → Type 0)
-    (argument : KeyWithValue)
-    → argument.named.envs ≡ []
+    (argument : KeyWithValue) → argument.named.envs ≡ []
     → FormLaw env (ArgumentOutcome means argument) (argument.named.names ∷ [])
     (argument_field means argument)
 argument_field_law env T means argument e = by_last argument.last refl

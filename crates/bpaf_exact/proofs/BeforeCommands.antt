@@ -3,27 +3,22 @@
 use Rattle.std.proofs.Common.{◌≡◌, ◌≤◌, Bool, true, false, List, [], ◌∷◌, length, Some, None}
 use Rattle.std.proofs.Common.{Result, Ok, Err, refl, sym, ap, ◌∙◌, subst, arith, if◌then◌else◌}
 use Rattle.bpaf_base.specs.declared.arg.Arg.{Arg}
-use Rattle.bpaf_line.specs.declared.error.Error.{Error}
-use Rattle.bpaf_line.specs.Situation.{Situation}
-use Rattle.bpaf_laws.specs.Choice.{depth}
-use Rattle.bpaf_laws.specs.Product.{BothOutcome, ProductOutcome}
-use Rattle.bpaf_laws.specs.Reading.{Outcome}
+use Rattle.bpaf_line.specs.{declared.error.Error.Error, Situation.Situation}
+use Rattle.bpaf_laws.specs.{Choice.depth, Product.BothOutcome, Product.ProductOutcome}
+use Rattle.bpaf_laws.specs.{Reading.Outcome}
 use Rattle.bpaf_exact.specs.Pieces.{Cells, Role, Foreign, Alone, WithNext, Roles, LinePiece, pieces}
 use Rattle.bpaf_exact.specs.Pieces.{Apart, is_own_role, is_value, IsNamed, TakesPiece, takes_one}
 use Rattle.bpaf_exact.specs.Pieces.{takes_two, takes_later, TakesPieces, takes_none, takes_more}
-use Rattle.bpaf_exact.specs.Pieces.{either, either_role}
 use Rattle.bpaf_exact.specs.Flat.{OfMemory, class, cells, NonePresent, IsWholeIn, ByName, FieldLaw}
-use Rattle.bpaf_exact.specs.Flat.{Variables}
 use Rattle.bpaf_exact.specs.Programs.{CellsValue, without, without_piece, without_value, FieldThen}
 use Rattle.bpaf_exact.specs.Programs.{LeavesToOthers, ProgramLaw, ClosedCells, is_spelled}
 use Rattle.bpaf_exact.specs.Programs.{IsSpelledLine, AllSpelled, no_cell, empty_cell, spelled_cell}
-use Rattle.bpaf_exact.specs.Programs.{GivesAll}
-use Rattle.bpaf_exact.specs.Wrappers.{map_closure}
-use Rattle.bpaf_exact.proofs.Cells.{begin_foreign, nil_rest, nil_foreign, value_foreign}
+use Rattle.bpaf_exact.specs.{Pieces.either, Pieces.either_role, Flat.Variables, Programs.GivesAll}
+use Rattle.bpaf_exact.specs.{Wrappers.map_closure}
 use Rattle.bpaf_exact.proofs.Product.{none_outside_after, values_of_both, RefusedBy, for_memory}
-use Rattle.bpaf_exact.proofs.Product.{by_first, by_rest, refused_by}
-use Rattle.bpaf_exact.proofs.Programs.{cells_spelled}
-use Rattle.bpaf_exact.proofs.Records.{current_cells}
+use Rattle.bpaf_exact.proofs.{Cells.nil_rest, Cells.nil_foreign, Cells.value_foreign}
+use Rattle.bpaf_exact.proofs.{Cells.begin_at, Product.by_first, Product.by_rest, Product.refused_by}
+use Rattle.bpaf_exact.proofs.{Programs.cells_spelled, Records.current_cells}
 
 -- What is left without the own pieces.
 
@@ -75,7 +70,7 @@ foreign_value p (Some w ∷ cs) n e = by_test (is_value w) refl e
   where
     by_test : (b : Bool) → is_value w ≡ b
         → pieces p ((if b then None else Some w) ∷ cs) ≡ [] → pieces p (Some w ∷ cs) ≡ []
-    by_test true v h = begin_foreign w cs (pieces p cs) (value_foreign p w n v) ∙ h
+    by_test true v h = begin_at w cs (pieces p cs) (value_foreign p w n v) ∙ h
     by_test false v h = h
 
 -- where another field has none of its own on what is left, it has none at all
@@ -83,19 +78,17 @@ foreign_without : (p q : Roles) (cs : Cells) → IsNamed p → Apart p q → pie
     → pieces p cs ≡ []
 foreign_without p q [] n a e = e
 foreign_without p q (None ∷ cs) n a e = foreign_without p q cs n a e
-foreign_without p q (Some k ∷ cs) n a e =
-    by_role (q k) refl e (λ h. foreign_without p q cs n a h)
+foreign_without p q (Some k ∷ cs) n a e = by_role (q k) refl e (λ h. foreign_without p q cs n a h)
   where
     by_role : (x : Role) → q k ≡ x → pieces p (without_piece x k (without q cs)) ≡ []
         → (pieces p (without q cs) ≡ [] → pieces p cs ≡ []) → pieces p (Some k ∷ cs) ≡ []
     by_role Foreign r h more =
         let ds = without q cs in
-        begin_foreign k cs (pieces p cs) (nil_foreign (p k) k ds (pieces p ds) h)
+        begin_at k cs (pieces p cs) (nil_foreign (p k) k ds (pieces p ds) h)
         ∙ more (nil_rest (p k) k ds (pieces p ds) h)
-    by_role Alone r h more =
-        begin_foreign k cs (pieces p cs) (a.right k (ap is_own_role r)) ∙ more h
+    by_role Alone r h more = begin_at k cs (pieces p cs) (a.right k (ap is_own_role r)) ∙ more h
     by_role WithNext r h more =
-        begin_foreign k cs (pieces p cs) (a.right k (ap is_own_role r))
+        begin_at k cs (pieces p cs) (a.right k (ap is_own_role r))
         ∙ more (foreign_value p (without q cs) n h)
 
 -- what is left is spelled

@@ -3,18 +3,14 @@ use Rattle.std.proofs.Common.{◌≡◌, ℕ, Bool, true, false, List, [], Optio
 use Rattle.std.proofs.Common.{Err, refl, sym, ap, ◌∙◌, subst, inl, inr, ◌⊎◌, ⊎_elim, true≢false}
 use Rattle.std.specs.Global.{Vec}
 use Rattle.bpaf_doc.specs.Names.{Names}
-use Rattle.bpaf_line.specs.declared.error.Error.{Error}
-use Rattle.bpaf_line.specs.Messages.{can_catch}
-use Rattle.bpaf_line.specs.declared.error.Message.{Message}
-use Rattle.bpaf_line.specs.declared.error.Message.TheVariants.{Missing}
-use Rattle.bpaf_laws.specs.Hide.{HideOutcome, hidden}
-use Rattle.bpaf_line.specs.Situation.{Situation}
-use Rattle.bpaf_laws.specs.Default.{Gives, GivesClone, GivesAnswer, FallbackOutcome}
-use Rattle.bpaf_laws.specs.Reading.{Outcome}
+use Rattle.bpaf_line.specs.{declared.error.Error.Error, Messages.can_catch}
+use Rattle.bpaf_line.specs.{declared.error.Message.Message}
+use Rattle.bpaf_line.specs.{declared.error.Message.TheVariants.Missing, Situation.Situation}
 use Rattle.bpaf_laws.specs.Repeat.{ManyOutcome, SomeOutcome, CollectOutcome, CountOutcome}
-use Rattle.bpaf_laws.specs.Repeat.{LastOutcome, is_nil}
-use Rattle.bpaf_laws.specs.Turn.{TurnOutcome}
-use Rattle.bpaf_laws.specs.Transform.{MapOutcome, ParseOutcome, GuardOutcome}
+use Rattle.bpaf_laws.specs.{Repeat.LastOutcome, Repeat.is_nil, Hide.HideOutcome, Hide.hidden}
+use Rattle.bpaf_laws.specs.{Default.Gives, Default.GivesClone, Default.GivesAnswer}
+use Rattle.bpaf_laws.specs.{Default.FallbackOutcome, Reading.Outcome, Turn.TurnOutcome}
+use Rattle.bpaf_laws.specs.{Transform.MapOutcome, Transform.ParseOutcome, Transform.GuardOutcome}
 use Rattle.bpaf_exact.specs.Flat.{OfMemory, Caught, Refused, class, class_of, Variables, ErrorClass}
 use Rattle.bpaf_exact.specs.Single.{CanCatch, RepeatOutcome, catch_missing, catch_other}
 use Rattle.bpaf_exact.specs.Wrappers.{Closure, Decides, map_closure, parse_closure, guard_closure}
@@ -22,21 +18,19 @@ use Rattle.bpaf_exact.specs.Wrappers.{answer_closure, kept_closure, ClosedEval, 
 use Rattle.bpaf_exact.specs.Wrappers.{closed_no, closed_memory, closed_err, OptionalEval}
 use Rattle.bpaf_exact.specs.Wrappers.{optional_some, optional_none, optional_err, optional_memory}
 use Rattle.bpaf_exact.specs.Wrappers.{FallbackEval, fallback_ok, fallback_given, fallback_no}
-use Rattle.bpaf_exact.specs.Wrappers.{fallback_memory, fallback_err}
 use Rattle.bpaf_exact.specs.Gathered.{list_closure, some_closure, count_closure, collect_closure}
 use Rattle.bpaf_exact.specs.FlatForm.{FlatForm, FormLaw, flat_repeat, flat_last, flat_fallback}
-use Rattle.bpaf_exact.specs.FlatForm.{unless, Agrees, flat_closed}
-use Rattle.bpaf_exact.proofs.Classes.{memory_class, caught_class, kept_class, stops_at, goes_on}
 use Rattle.bpaf_exact.specs.ProgramForm.{ProgramForm, plain, commands, ProgramFormLaw}
 use Rattle.bpaf_exact.specs.ProgramForm.{ProgramAgrees, program_closed, program_dressed}
 use Rattle.bpaf_exact.specs.ProgramForm.{program_fallback, program_last, program_optional}
-use Rattle.bpaf_exact.specs.ProgramForm.{program_repeat}
-use Rattle.bpaf_exact.proofs.Narrow.{AllowsNoMore, narrower_form, no_more}
+use Rattle.bpaf_exact.specs.{Wrappers.fallback_memory, Wrappers.fallback_err, FlatForm.unless}
+use Rattle.bpaf_exact.specs.{FlatForm.Agrees, FlatForm.flat_closed, ProgramForm.program_repeat}
+use Rattle.bpaf_exact.proofs.Classes.{memory_class, caught_class, kept_class, stops_at, goes_on}
 use Rattle.bpaf_exact.proofs.ProgramForm.{flat_only_law, narrower_program_form, program_closed_law}
 use Rattle.bpaf_exact.proofs.ProgramForm.{program_dressed_law, program_never_refuses}
-use Rattle.bpaf_exact.proofs.ProgramForm.{program_optional_law}
 use Rattle.bpaf_exact.proofs.FlatForm.{never_refuses, flat_listed_law, some_agrees, flat_last_law}
-use Rattle.bpaf_exact.proofs.FlatForm.{flat_fallback_law}
+use Rattle.bpaf_exact.proofs.{ProgramForm.program_optional_law, FlatForm.flat_fallback_law}
+use Rattle.bpaf_exact.proofs.{Narrow.AllowsNoMore, Narrow.narrower_form, Narrow.no_more}
 
 -- map
 map_within : (A B : Type 0) (inner : Outcome A) (answers : A → B → Type 0)
@@ -148,9 +142,8 @@ optional_law env T inner catch names words _ l = tt
 -- the laws of its form
 listed_law : (env : Variables) {T B : Type 0} (inner : Outcome T) (idle catch : Bool)
     (f : Closure (List T) B) (c : ErrorClass) (outcome : Bool → Outcome B)
-    → AllowsNoMore B (ClosedEval (List T) B (RepeatOutcome inner idle) f c) (outcome false)
-    → (names : List Names)
-    → ((s : FlatForm T) → FormLaw env inner names s → Agrees f (flat_repeat s))
+    → AllowsNoMore B (ClosedEval (List T) B (RepeatOutcome inner idle) f c) (outcome false) →
+    (names : List Names) → ((s : FlatForm T) → FormLaw env inner names s → Agrees f (flat_repeat s))
     → (words : List (List ℕ)) (s : ProgramForm T) → ProgramFormLaw env inner names words s
     → ProgramFormLaw env (outcome catch) names [] (program_repeat catch f s)
 listed_law env {T} {B} inner idle catch f c outcome within names agrees words =
@@ -165,24 +158,20 @@ listed_law env {T} {B} inner idle catch f c outcome within names agrees words =
         (flat_listed_law env T B inner idle f c names s (agrees s l) l)
 
 -- many
-many_within : (T : Type 0) (inner : Outcome T)
-    → AllowsNoMore (Vec T)
+many_within : (T : Type 0) (inner : Outcome T) → AllowsNoMore (Vec T)
     (ClosedEval (List T) (Vec T) (RepeatOutcome inner false) (list_closure T) Refused)
     (ManyOutcome inner false)
 many_within T inner = no_more by_answer
   where
     by_answer : (s t : Situation) (r : Result (Vec T) Error) → ManyOutcome inner false s r t
         → ClosedEval (List T) (Vec T) (RepeatOutcome inner false) (list_closure T) Refused s r t
-    by_answer s t (Ok v) o =
-        closed_yes o refl
-    by_answer s t (Err e) o =
-        closed_err o
+    by_answer s t (Ok v) o = closed_yes o refl
+    by_answer s t (Err e) o = closed_err o
 
 -- keeps to the laws of its form
 pub many_law : (env : Variables) (T : Type 0) (inner : Outcome T) (catch : Bool)
     (names : List Names) (words : List (List ℕ)) (s : ProgramForm T)
-    → ProgramFormLaw env inner names words s
-    → ProgramFormLaw env (ManyOutcome inner catch) names []
+    → ProgramFormLaw env inner names words s → ProgramFormLaw env (ManyOutcome inner catch) names []
     (program_repeat catch (list_closure T) s)
 many_law env T inner catch names words =
     listed_law env inner false catch (list_closure T) Refused (ManyOutcome inner)
@@ -194,18 +183,15 @@ not_nil : (T : Type 0) (values : List T) → is_nil values ≡ false → values 
 not_nil T values e f = true≢false (sym (ap is_nil f) ∙ e)
 
 -- its answers, as those of a closure on the list
-some_within : (T : Type 0) (inner : Outcome T) (message : List ℕ)
-    → AllowsNoMore (Vec T)
+some_within : (T : Type 0) (inner : Outcome T) (message : List ℕ) → AllowsNoMore (Vec T)
     (ClosedEval (List T) (Vec T) (RepeatOutcome inner false) (some_closure T) Caught)
     (SomeOutcome inner false message)
 some_within T inner message = no_more by_answer
   where
     by_answer : (s t : Situation) (r : Result (Vec T) Error) → SomeOutcome inner false message s r t
         → ClosedEval (List T) (Vec T) (RepeatOutcome inner false) (some_closure T) Caught s r t
-    by_answer s t (Ok v) o =
-        closed_yes o.0 (refl, not_nil T v.items o.1)
-    by_answer s t (Err e) (inl o) =
-        closed_err o
+    by_answer s t (Ok v) o = closed_yes o.0 (refl, not_nil T v.items o.1)
+    by_answer s t (Err e) (inl o) = closed_err o
     by_answer s t (Err e) (inr o) =
         ⊎_elim (λ told. closed_no o.0 refl (ap class_of told))
         (λ memory. closed_memory o.0 (ap class_of memory)) o.1
@@ -221,20 +207,16 @@ some_law env T inner catch message names words =
     (some_within T inner message) names (some_agrees env T inner names) words
 
 -- collect
-collect_within : (T C : Type 0) (inner : Outcome T) (fills : List T → C → Type 0)
-    → AllowsNoMore C
+collect_within : (T C : Type 0) (inner : Outcome T) (fills : List T → C → Type 0) → AllowsNoMore C
     (ClosedEval (List T) C (RepeatOutcome inner false) (collect_closure fills) Refused)
     (CollectOutcome inner false fills)
 collect_within T C inner fills = no_more by_answer
   where
     by_answer : (s t : Situation) (r : Result C Error) → CollectOutcome inner false fills s r t
         → ClosedEval (List T) C (RepeatOutcome inner false) (collect_closure fills) Refused s r t
-    by_answer s t (Ok v) o =
-        closed_yes o.1 o.2
-    by_answer s t (Err e) (inl o) =
-        closed_err o
-    by_answer s t (Err e) (inr o) =
-        closed_memory o.1 (memory_class e.0 o.2)
+    by_answer s t (Ok v) o = closed_yes o.1 o.2
+    by_answer s t (Err e) (inl o) = closed_err o
+    by_answer s t (Err e) (inr o) = closed_memory o.1 (memory_class e.0 o.2)
 
 -- keeps to the laws of its form
 pub collect_law : (env : Variables) (T C : Type 0) (inner : Outcome T) (catch : Bool)
@@ -308,8 +290,7 @@ fallback_within T inner gives f given = no_more by_answer
         (λ memory. fallback_memory (memory_class e.0 memory)) o.0)
     by_answer s t (Err e) (inr o) = subst (FallbackEval T inner f s (Err e)) (sym o.0.1)
         (⊎_elim (λ memory. fallback_memory memory)
-        (λ told. fallback_no o.0.0.2 (can_catch_of o.0.0.0 o.0.0.3) told.0 told.1)
-        (given.no e o.1))
+        (λ told. fallback_no o.0.0.2 (can_catch_of o.0.0.0 o.0.0.3) told.0 told.1) (given.no e o.1))
 
 -- a kept value
 pub fallback_law : (env : Variables) (T : Type 0) (inner : Outcome T) (clones : T → T → Type 0)
@@ -340,8 +321,7 @@ fallback_with_law env T E inner answers shown names words s decides =
       yes = λ v g. g;
       no = λ e g. ⊎_elim (λ memory. inl (ap class_of memory))
           (λ told. inr ((g.0, g.1), ap class_of told.1)) g.2;
-    })) names _
-    (flat_fallback_law env T inner (answer_closure answers) decides names s l)) s
+    })) names _ (flat_fallback_law env T inner (answer_closure answers) decides names s l)) s
 
 -- a hidden refusal is one of the same class
 hidden_class : (m : Message) → class_of m ≡ class_of (hidden m)
@@ -358,5 +338,4 @@ hide_law env T inner names words s l =
     (record {
       value = λ s t v o. o;
       refusal = λ s t e o. (o.0, o.1, hidden_class o.0.0 ∙ ap class_of (sym o.2));
-    })
-    names words s l)
+    }) names words s l)

@@ -47,10 +47,10 @@ begin_cong Foreign k cs ds h e = e
 begin_cong Alone k cs ds h e = ap (λ z. One k ∷ z) e
 begin_cong WithNext k cs ds h e = cc
 
--- an item that isn't the field's own begins no piece
-pub begin_foreign : {x : Role} (k : Arg) (cs : Cells) (os : List LinePiece) → x ≡ Foreign
-    → begin_piece x k cs os ≡ os
-begin_foreign k cs os e = ap (λ z. begin_piece z k cs os) e
+-- an item begins a piece by its role
+pub begin_at : {x y : Role} (k : Arg) (cs : Cells) (os : List LinePiece) → x ≡ y
+    → begin_piece x k cs os ≡ begin_piece y k cs os
+begin_at k cs os e = ap (λ z. begin_piece z k cs os) e
 
 -- where no piece begins there is none behind
 pub nil_rest : (x : Role) (k : Arg) (cs : Cells) (os : List LinePiece) → begin_piece x k cs os ≡ []
@@ -60,8 +60,7 @@ nil_rest _ k cs os e = cc
 
 -- and the item isn't the field's own
 pub nil_foreign : (x : Role) (k : Arg) (cs : Cells) (os : List LinePiece)
-    → begin_piece x k cs os ≡ []
-    → x ≡ Foreign
+    → begin_piece x k cs os ≡ [] → x ≡ Foreign
 nil_foreign Foreign k cs os e = refl
 nil_foreign _ k cs os e = cc
 
@@ -71,8 +70,7 @@ no_value_next k w cs h = ap (λ b. if b then Two k w else One k) h
 
 -- taking a piece leaves what a key before it has next to it
 pub same_next : (q : Roles) (k : Arg) {cs ds : Cells} {o : LinePiece} → IsNamed q
-    → TakesPiece q cs o ds
-    → with_next k ds ≡ with_next k cs
+    → TakesPiece q cs o ds → with_next k ds ≡ with_next k cs
 same_next q k n (takes_one {k = j} {cs = cs} e) =
     sym (no_value_next k j cs (own_not_value q j n (ap is_own_role e)))
 same_next q k n (takes_two {k = j} {w = w} {cs = cs} e v) =
@@ -84,10 +82,10 @@ same_next q k n (takes_later {c = Some j} t) = refl
 pub keeps_other : (q r : Roles) {cs ds : Cells} {o : LinePiece} → IsNamed q → IsNamed r → Apart q r
     → TakesPiece q cs o ds → pieces r ds ≡ pieces r cs
 keeps_other q r nq nr a (takes_one {k = k} {cs = cs} e) =
-    sym (begin_foreign k cs (pieces r cs) (a.left k (ap is_own_role e)))
+    sym (begin_at k cs (pieces r cs) (a.left k (ap is_own_role e)))
 keeps_other q r nq nr a (takes_two {k = k} {w = w} {cs = cs} e v) =
-    sym (begin_foreign k (Some w ∷ cs) (pieces r (Some w ∷ cs)) (a.left k (ap is_own_role e))
-    ∙ begin_foreign w cs (pieces r cs) (value_foreign r w nr v))
+    sym (begin_at k (Some w ∷ cs) (pieces r (Some w ∷ cs)) (a.left k (ap is_own_role e))
+    ∙ begin_at w cs (pieces r cs) (value_foreign r w nr v))
 keeps_other q r nq nr a (takes_later {c = None} t) = keeps_other q r nq nr a t
 keeps_other q r nq nr a (takes_later {c = Some k} {cs = cs} {ds = ds} t) =
     begin_cong (r k) k cs ds (same_next q k nq t) (keeps_other q r nq nr a t)
@@ -120,9 +118,7 @@ argument_mine WithNext y k w cs os ps e v h = let n : with_next k (Some w ∷ cs
 
 -- a word, in the same way
 foreign_mine : (x : Role) (w : Arg) (cs : Cells) (o : LinePiece) (os ps : List LinePiece)
-    → x ≡ Foreign
-    → os ≡ ps
-    → begin_piece x w cs os ≡ (if is_own_role x then (o ∷ ps) else ps)
+    → x ≡ Foreign → os ≡ ps → begin_piece x w cs os ≡ (if is_own_role x then (o ∷ ps) else ps)
 foreign_mine Foreign w cs o os ps e h = h
 foreign_mine _ w cs o os ps e h = cc
 
@@ -135,7 +131,7 @@ pieces_of_cut q r n (flag {k = k} {cs = cs} {os = os} e c) =
     flag_mine q (q k) (r k) k cs (pieces q cs) (mine q os) e (pieces_of_cut q r n c)
 pieces_of_cut q r n (argument {k = k} {w = w} {cs = cs} {os = os} e v c) =
     argument_mine (q k) (r k) k w cs (pieces q (Some w ∷ cs)) (mine q os) e v
-    (begin_foreign w cs (pieces q cs) (value_foreign q w n v) ∙ pieces_of_cut q r n c)
+    (begin_at w cs (pieces q cs) (value_foreign q w n v) ∙ pieces_of_cut q r n c)
 pieces_of_cut q r n (word {w = w} {cs = cs} {os = os} h c) =
     foreign_mine (q w) w cs (One w) (pieces q cs) (mine q os) (word_foreign q w n h)
     (pieces_of_cut q r n c)
@@ -171,49 +167,32 @@ pub record CutAlike (q r : Roles) (cs : Cells) (os : List LinePiece) : Type 0 wh
 
 -- a piece given back to its place is cut off there again
 pub put_back : (q r : Roles) {cs ds : Cells} {o : LinePiece} {os : List LinePiece}
-    → TakesPiece q cs o ds
-    → Cut (either q r) ds os → CutAlike q (either q r) cs os
-put_back q r (takes_one {k = k} {cs = cs} e) (passed {os = os} c) =
-    record {
-      now = One k ∷ os;
-      cut = flag (either_own (q k) (r k) Alone e refl) c;
-      alike =
-          others_own q (One k) os (ap is_own_role e);
-    }
-put_back q r (takes_two {k = k} {w = w} {cs = cs} e v) (passed (passed {os = os} c)) =
-    record {
-      now = Two k w ∷ os;
-      cut =
-          argument (either_own (q k) (r k) WithNext e refl) v c;
-      alike =
-          others_own q (Two k w) os (ap is_own_role e);
-    }
+    → TakesPiece q cs o ds → Cut (either q r) ds os → CutAlike q (either q r) cs os
+put_back q r (takes_one {k = k} {cs = cs} e) (passed {os = os} c) = record {
+  now = One k ∷ os;
+  cut = flag (either_own (q k) (r k) Alone e refl) c;
+  alike = others_own q (One k) os (ap is_own_role e);
+}
+put_back q r (takes_two {k = k} {w = w} {cs = cs} e v) (passed (passed {os = os} c)) = record {
+  now = Two k w ∷ os;
+  cut = argument (either_own (q k) (r k) WithNext e refl) v c;
+  alike = others_own q (Two k w) os (ap is_own_role e);
+}
 put_back q r (takes_later {c = None} t) (passed c) = let i = put_back q r t c in
     record { now = i.now; cut = passed i.cut; alike = i.alike }
 put_back q r (takes_later {c = Some k} t) (flag e c) =
     let i = put_back q r t c in
-    record {
-      now = One k ∷ i.now;
-      cut = flag e i.cut;
-      alike =
-          others_cong q (One k) _ _ i.alike;
-    }
+    record { now = One k ∷ i.now; cut = flag e i.cut; alike = others_cong q (One k) _ _ i.alike }
 put_back q r (takes_later {c = Some k} (takes_later {c = Some w} t)) (argument e v c) =
     let i = put_back q r t c in
     record {
       now = Two k w ∷ i.now;
       cut = argument e v i.cut;
-      alike =
-          others_cong q (Two k w) _ _ i.alike;
+      alike = others_cong q (Two k w) _ _ i.alike;
     }
 put_back q r (takes_later {c = Some k} t) (word h c) =
     let i = put_back q r t c in
-    record {
-      now = One k ∷ i.now;
-      cut = word h i.cut;
-      alike =
-          others_cong q (One k) _ _ i.alike;
-    }
+    record { now = One k ∷ i.now; cut = word h i.cut; alike = others_cong q (One k) _ _ i.alike }
 
 -- so are some pieces
 pub put_back_some : (q r : Roles) {cs ds : Cells} {os : List LinePiece} → TakesPieces q cs ds
@@ -240,31 +219,23 @@ take_from q r n (takes_one {k = k} e) (argument g v c) = let h =
 take_from q r n (takes_one {k = k} e) (word h c) = let g = word_foreign q k n h in absurd cc
 take_from q r n (takes_two {k = k} e v) (flag g c) = let h =
     either_not (q k) (r k) WithNext Alone e refl g in absurd cc
-take_from q r n (takes_two {k = k} {w = w} e v) (argument {os = os} g u c) =
-    record {
-      now = os;
-      cut = passed (passed c);
-      alike =
-          sym (others_own q (Two k w) os (ap is_own_role e));
-    }
+take_from q r n (takes_two {k = k} {w = w} e v) (argument {os = os} g u c) = record {
+  now = os;
+  cut = passed (passed c);
+  alike = sym (others_own q (Two k w) os (ap is_own_role e));
+}
 take_from q r n (takes_two {k = k} e v) (word h c) = let g = word_foreign q k n h in absurd cc
 take_from q r n (takes_later {c = None} t) (passed c) = let i = take_from q r n t c in
     record { now = i.now; cut = passed i.cut; alike = i.alike }
 take_from q r n (takes_later {c = Some k} t) (flag e c) =
     let i = take_from q r n t c in
-    record {
-      now = One k ∷ i.now;
-      cut = flag e i.cut;
-      alike =
-          others_cong q (One k) _ _ i.alike;
-    }
+    record { now = One k ∷ i.now; cut = flag e i.cut; alike = others_cong q (One k) _ _ i.alike }
 take_from q r n (takes_later {c = Some k} (takes_later {c = Some w} t)) (argument e v c) =
     let i = take_from q r n t c in
     record {
       now = Two k w ∷ i.now;
       cut = argument e v i.cut;
-      alike =
-          others_cong q (Two k w) _ _ i.alike;
+      alike = others_cong q (Two k w) _ _ i.alike;
     }
 take_from q r n (takes_later {c = Some k} (takes_one {k = w} e')) (argument e v c) = let g =
     value_foreign q w n v in absurd cc
@@ -272,17 +243,11 @@ take_from q r n (takes_later {c = Some k} (takes_two {k = w} e' v')) (argument e
     value_foreign q w n v in absurd cc
 take_from q r n (takes_later {c = Some k} t) (word h c) =
     let i = take_from q r n t c in
-    record {
-      now = One k ∷ i.now;
-      cut = word h i.cut;
-      alike =
-          others_cong q (One k) _ _ i.alike;
-    }
+    record { now = One k ∷ i.now; cut = word h i.cut; alike = others_cong q (One k) _ _ i.alike }
 
 -- when some pieces are
 pub take_some_from : (q r : Roles) {cs ds : Cells} {os : List LinePiece} → IsNamed q
-    → TakesPieces q cs ds
-    → Cut (either q r) cs os → CutAlike q (either q r) ds os
+    → TakesPieces q cs ds → Cut (either q r) cs os → CutAlike q (either q r) ds os
 take_some_from q r {os = os} n takes_none c = record { now = os; cut = c; alike = refl }
 take_some_from q r n (takes_more t more) c =
     let j = take_from q r n t c in

@@ -2,42 +2,33 @@
 use Rattle.std.proofs.Common.{◌≡◌, ℕ, suc, zero, ◌<◌, Bool, true, false, not, ◌&&◌, List, [], ◌∷◌}
 use Rattle.std.proofs.Common.{length, Option, Some, None, Result, Ok, Err, refl, sym, ap, ap₂, ◌∙◌}
 use Rattle.std.proofs.Common.{◌≤◌, subst, inl, inr, ◌⊎◌, ⊎_elim, arith, true≢false, nat_le, nat_lt}
-use Rattle.std.specs.Option.{option_map_or}
 use Rattle.std.proofs.lemmas.Bool.{eqb-true, le-leb, lt-ltb, and_parts, cases_lt}
-use Rattle.bpaf_base.specs.declared.arg.Arg.{Arg}
-use Rattle.bpaf_line.specs.declared.error.Error.{Error}
-use Rattle.bpaf_line.specs.Combining.{Combines}
-use Rattle.bpaf_line.specs.Conflicts.{IsWinner, ConflictsSaved}
-use Rattle.bpaf_line.specs.Messages.{is_memory, is_wrong_input}
-use Rattle.bpaf_line.specs.Situation.{Situation, is_taken, item_in, open_count}
-use Rattle.bpaf_line.specs.Taking.{open_item}
-use Rattle.bpaf_line.proofs.Places.{present_in_line}
-use Rattle.bpaf_line.proofs.Matches.{open_has_item}
-use Rattle.bpaf_base.specs.Items.{any_item}
+use Rattle.std.specs.Option.{option_map_or}
+use Rattle.bpaf_base.specs.{declared.arg.Arg.Arg, Items.any_item}
+use Rattle.bpaf_line.specs.{declared.error.Error.Error, Combining.Combines, Conflicts.IsWinner}
+use Rattle.bpaf_line.specs.{Conflicts.ConflictsSaved, Messages.is_memory, Messages.is_wrong_input}
+use Rattle.bpaf_line.specs.{Situation.Situation, Situation.is_taken, Situation.item_in}
+use Rattle.bpaf_line.specs.{Situation.open_count, Taking.open_item}
+use Rattle.bpaf_line.proofs.{Places.present_in_line, Matches.open_has_item}
 use Rattle.bpaf_laws.proofs.ChoiceLaws.{not_winner}
 use Rattle.bpaf_laws.specs.Choice.{branch_of, ChoiceOutcome, EqualDepths, OneOk, Winner}
-use Rattle.bpaf_laws.specs.Choice.{BranchesEval}
-use Rattle.bpaf_laws.specs.Reading.{Outcome}
-use Rattle.bpaf_laws.specs.Spared.{IsNotMemory}
-use Rattle.bpaf_laws.specs.Turn.{is_untouched}
+use Rattle.bpaf_laws.specs.{Choice.BranchesEval, Reading.Outcome, Spared.IsNotMemory}
+use Rattle.bpaf_laws.specs.{Turn.is_untouched}
 use Rattle.bpaf_exact.specs.Pieces.{Cells, Roles, LinePiece, One, Two, is_own_role, is_own, Apart}
 use Rattle.bpaf_exact.specs.Pieces.{either, pieces, TakesPiece, takes_one, takes_two, takes_later}
 use Rattle.bpaf_exact.specs.Flat.{OfMemory, OfMissing, Refused, class, cells, first_cells}
-use Rattle.bpaf_exact.specs.Flat.{IsWholeIn, Steady, Variables}
 use Rattle.bpaf_exact.specs.Alternative.{TakesFirst, HasBad, AlternativeOk, AlternativeErr}
 use Rattle.bpaf_exact.specs.Alternative.{alternative_memory, alternative_missing}
 use Rattle.bpaf_exact.specs.Alternative.{alternative_refused, AlternativeLaw, either_value}
-use Rattle.bpaf_exact.specs.Alternative.{pick_type}
-use Rattle.bpaf_exact.proofs.Cells.{keeps_other}
-use Rattle.bpaf_exact.proofs.Classes.{memory_class, not_memory}
-use Rattle.bpaf_exact.proofs.Combining.{combined_refused, combined_missing}
-use Rattle.bpaf_exact.proofs.Counts.{open_present, takes_fewer}
-use Rattle.bpaf_exact.proofs.Places.{same_cells, same_item, closed_item}
-use Rattle.bpaf_exact.proofs.Product.{steady_refl, steady_trans, none_outside_after}
+use Rattle.bpaf_exact.specs.{Flat.IsWholeIn, Flat.Steady, Flat.Variables, Alternative.pick_type}
 use Rattle.bpaf_exact.proofs.First.{Union, swap_union, either_union, union_named, takes_left}
 use Rattle.bpaf_exact.proofs.First.{bad_given_back, bad_left, HeadOf, owner, first_mine}
 use Rattle.bpaf_exact.proofs.First.{first_alone, both_nil, TookLeft, left_here, left_later}
-use Rattle.bpaf_exact.proofs.First.{first_both, not_left, never_same}
+use Rattle.bpaf_exact.proofs.{First.first_both, First.not_left, First.never_same, Cells.keeps_other}
+use Rattle.bpaf_exact.proofs.{Classes.memory_class, Classes.not_memory, Combining.combined_refused}
+use Rattle.bpaf_exact.proofs.{Combining.combined_missing, Counts.open_present, Counts.takes_fewer}
+use Rattle.bpaf_exact.proofs.{Places.same_cells, Places.same_item, Places.closed_item}
+use Rattle.bpaf_exact.proofs.{Product.steady_refl, Product.steady_trans, Product.none_outside_after}
 
 -- the same scope of the same line
 pub record SameScope (m n : Situation) : Type 0 where
@@ -103,8 +94,7 @@ has_item s p w free =
     let l = present_in_line s p free in
     let a : s.start ≤ p = ⊎_elim
     (λ (ahead : p < s.start). absurd (true≢false (sym (w.front p ahead) ∙ free)))
-    (λ (within : s.start ≤ p). within)
-    (cases_lt p s.start) in
+    (λ (within : s.start ≤ p). within) (cases_lt p s.start) in
     let b = w.end in
     by_item (open_item s p) refl
     (open_has_item s p
@@ -124,8 +114,7 @@ has_item s p w free =
 
 -- the one that took the leftmost place that only one took, by their cells
 left_of : {env : Variables} (s m n : Situation) (p : ℕ) → IsWholeIn env s → Steady s m → Steady s n
-    → is_taken m p ≡ true
-    → is_taken n p ≡ false → ((q : ℕ) → q < p → is_taken m q ≡ is_taken n q)
+    → is_taken m p ≡ true → is_taken n p ≡ false → ((q : ℕ) → q < p → is_taken m q ≡ is_taken n q)
     → TookLeft (cells m) (cells n)
 unfolding cells
 left_of s m n p w a b took free same =
@@ -134,8 +123,7 @@ left_of s m n p w a b took free same =
     subst (λ c. TookLeft (first_cells (open_item m) (length c.line))
     (first_cells (open_item n) (length n.context.line))) (sym st.context)
     (left_cells (open_item m) (open_item n) (length n.context.line) p i.item
-    (present_in_line n p free) (closed_item m p took) i.is
-    (λ q l. steady_item n m st q (same q l)))
+    (present_in_line n p free) (closed_item m p took) i.is (λ q l. steady_item n m st q (same q l)))
 
 -- of two tests that differ the second fails where the first holds
 differ : (a b : Bool) → a ≡ not b → a ≡ true → b ≡ false
@@ -149,14 +137,13 @@ differ_not a false e f = absurd (true≢false (sym e ∙ f))
 
 -- conflict notes change nothing that is taken
 pub saved_steady : (s other t : Situation) (place : ℕ) → ConflictsSaved s other place t → Steady s t
-saved_steady s other t place c =
-    record {
-      context = c.context;
-      start = c.start;
-      end = c.end;
-      path = c.path;
-      keeps = λ p h. c.taken p ∙ h;
-    }
+saved_steady s other t place c = record {
+  context = c.context;
+  start = c.start;
+  end = c.end;
+  path = c.path;
+  keeps = λ p h. c.taken p ∙ h;
+}
 
 -- a piece that was taken is one of the field's own
 pub takes_own : (q : Roles) {cs ds : Cells} {o : LinePiece} → TakesPiece q cs o ds
@@ -231,9 +218,8 @@ module _ (T : Type 0) (qa qb r : Roles) (u : Union qa qb r) (va vb vr : LinePiec
   }
 
 module _ {env : Variables} (T : Type 0) (a b : Outcome T) (qa qb : Roles)
-    (va vb : LinePiece → T → Type 0)
-    (la : AlternativeLaw env T a qa va) (lb : AlternativeLaw env T b qb vb)
-    (apart : Apart qa qb) where
+    (va vb : LinePiece → T → Type 0) (la : AlternativeLaw env T a qa va)
+    (lb : AlternativeLaw env T b qb vb) (apart : Apart qa qb) where
   -- the items of both
   u : Union qa qb (either qa qb)
   u = either_union qa qb la.named lb.named apart
@@ -351,8 +337,7 @@ module _ {env : Variables} (T : Type 0) (a b : Outcome T) (qa qb : Roles)
       let free = differ (is_taken sa p) (is_taken sb p) win.0.differs win.1 in
       subst (λ z. AlternativeOk T (either qa qb) vr s z t) d
       (first_won s sa t x i
-      (took_other qb vb s sa sb y j
-      (left_of s sa sb p w i.steady j.steady win.1 free win.0.first))
+      (took_other qb vb s sa sb y j (left_of s sa sb p w i.steady j.steady win.1 free win.0.first))
       (saved_steady sa sb t p k.1)
       (cells_same sa t (same_scope (saved_steady sa sb t p k.1)) k.1.taken))
   winner_ok s sa sb t x y v (false, Some p) w i j win k =
@@ -366,9 +351,8 @@ module _ {env : Variables} (T : Type 0) (a b : Outcome T) (qa qb : Roles)
       (cells_same sb t (same_scope (saved_steady sb sa t p k.1)) k.1.taken))
 
   -- the value of one, where the other refused
-  alone_ok : (s m t : Situation) (x v : T) (e : Error)
-      → AlternativeOk T (either qa qb) vr s x m → OneOk s (branch_of x m) e (Ok v) t
-      → AlternativeOk T (either qa qb) vr s v t
+  alone_ok : (s m t : Situation) (x v : T) (e : Error) → AlternativeOk T (either qa qb) vr s x m
+      → OneOk s (branch_of x m) e (Ok v) t → AlternativeOk T (either qa qb) vr s v t
   alone_ok s m t x v e i (inl o) = let h = o.1 in absurd cc
   alone_ok s m t x v e i (inr o) =
       let given = o.1.0 in
@@ -474,16 +458,14 @@ module _ {env : Variables} (T : Type 0) (a b : Outcome T) (qa qb : Roles)
 
   -- the value of one, where the other refused, is no refusal
   one_no_refusal : (q : Roles) (v : LinePiece → T → Type 0) (s m t : Situation) (x : T)
-      (e g : Error)
-      → AlternativeOk T q v s x m → OneOk s (branch_of x m) e (Err g) t → ⊥
+      (e g : Error) → AlternativeOk T q v s x m → OneOk s (branch_of x m) e (Err g) t → ⊥
   one_no_refusal q v s m t x e g i (inl o) =
       never_untouched q v s m x i (and_parts (is_untouched s m) (is_wrong_input e.0) o.0).0
   one_no_refusal q v s m t x e g i (inr o) = let h = o.1.0 in cc
 
   -- the refusal where both paths are equally deep
   equal_err : (s sa sb t : Situation) (g : Error) (x y : Result T Error) → IsWholeIn env s
-      → a s x sa
-      → b s y sb → IsNotMemory x → IsNotMemory y → EqualDepths s x sa y sb (Err g) t
+      → a s x sa → b s y sb → IsNotMemory x → IsNotMemory y → EqualDepths s x sa y sb (Err g) t
       → AlternativeErr T (either qa qb) vr s g t
   equal_err s sa sb t g (Ok x) (Ok y) w f h hf hg (inl o) = let i = o.1.0 in absurd cc
   equal_err s sa sb t g (Ok x) (Ok y) w f h hf hg (inr o) =
@@ -512,6 +494,5 @@ module _ {env : Variables} (T : Type 0) (a b : Outcome T) (qa qb : Roles)
   choice_law = record {
     named = union_named qa qb (either qa qb) u;
     ok = choice_ok;
-    err =
-        choice_err;
+    err = choice_err;
   }

@@ -2,11 +2,10 @@
 use Rattle.std.proofs.Common.{◌≡◌, Bool, true, false, not, ◌&&◌, if◌then◌else◌, refl, sym, ap, ap₂}
 use Rattle.std.proofs.Common.{◌∙◌, inl, inr, ◌⊎◌, ⊎_elim, true≢false}
 use Rattle.std.proofs.lemmas.Bool.{eqb-true, eq-eqb}
-use Rattle.bpaf_line.specs.declared.error.Error.{Error}
-use Rattle.bpaf_line.specs.declared.error.Message.{Message}
 use Rattle.bpaf_line.specs.declared.error.Message.TheVariants.{Memory, Missing, ParseFailure}
-use Rattle.bpaf_line.specs.Messages.{is_memory, can_catch}
-use Rattle.bpaf_line.specs.Situation.{Situation, open_count}
+use Rattle.bpaf_line.specs.{declared.error.Error.Error, declared.error.Message.Message}
+use Rattle.bpaf_line.specs.{Messages.is_memory, Messages.can_catch, Situation.Situation}
+use Rattle.bpaf_line.specs.{Situation.open_count}
 use Rattle.bpaf_laws.specs.Turn.{stops_step, stops_spared, is_untouched}
 use Rattle.bpaf_exact.specs.Flat.{OfMemory, OfMissing, Caught, is_missing, class_of_tests, class_of}
 use Rattle.bpaf_exact.specs.Single.{Stops, nothing_found, caught}

@@ -1,43 +1,36 @@
 -- Closures round commands, choices of them, and commands that may be left out keep to the laws.
 use Rattle.std.proofs.Common.{◌≡◌, ◌≤◌, ℕ, Bool, true, false, ◌||◌, List, [], ◌++◌, length, Option}
 use Rattle.std.proofs.Common.{Some, None, Result, Ok, Err, refl, sym, ap, ◌∙◌, subst, inl, inr}
-use Rattle.std.proofs.Common.{⊎_elim, arith, true≢false}
-use Rattle.std.proofs.lemmas.Bool.{and_parts}
-use Rattle.std.proofs.lemmas.List.Folds.{list_any-append}
+use Rattle.std.proofs.{Common.⊎_elim, Common.arith, Common.true≢false, lemmas.Bool.and_parts}
+use Rattle.std.proofs.{lemmas.List.Folds.list_any-append}
 use Rattle.bpaf_base.specs.Items.{is_command_word}
-use Rattle.bpaf_line.specs.declared.error.Error.{Error}
-use Rattle.bpaf_line.specs.declared.error.Message.{Message}
-use Rattle.bpaf_line.specs.declared.error.Message.TheVariants.{Missing}
-use Rattle.bpaf_line.specs.Conflicts.{ConflictsSaved}
-use Rattle.bpaf_line.specs.Messages.{is_memory, is_wrong_input}
-use Rattle.bpaf_line.specs.Situation.{Situation, Context, beginning}
+use Rattle.bpaf_line.specs.{declared.error.Error.Error, declared.error.Message.Message}
+use Rattle.bpaf_line.specs.{declared.error.Message.TheVariants.Missing, Conflicts.ConflictsSaved}
+use Rattle.bpaf_line.specs.{Messages.is_memory, Messages.is_wrong_input, Situation.Situation}
+use Rattle.bpaf_line.specs.{Situation.Context, Situation.beginning}
 use Rattle.bpaf_laws.specs.Choice.{Chosen, depth, branch_of, ChoiceOutcome, EqualDepths, OneOk}
-use Rattle.bpaf_laws.specs.Choice.{Winner}
-use Rattle.bpaf_laws.specs.Command.{is_one_of}
-use Rattle.bpaf_laws.specs.Reading.{Outcome}
-use Rattle.bpaf_laws.specs.Spared.{IsNotMemory}
-use Rattle.bpaf_laws.specs.Turn.{is_untouched}
-use Rattle.bpaf_exact.specs.Pieces.{Cells, Roles, pieces, either}
+use Rattle.bpaf_laws.specs.{Choice.Winner, Command.is_one_of, Reading.Outcome, Spared.IsNotMemory}
+use Rattle.bpaf_laws.specs.{Turn.is_untouched}
 use Rattle.bpaf_exact.specs.Flat.{ErrorClass, OfMemory, OfMissing, is_missing, class, cells}
 use Rattle.bpaf_exact.specs.Flat.{NonePresent, no_place, none_here, IsWholeIn, Variables}
 use Rattle.bpaf_exact.specs.Record.{line_cells, RunAnswer, Accepted, RunRan, run_value}
 use Rattle.bpaf_exact.specs.Record.{run_leftover, run_memory, run_refusal, IsAcceptedOrWant}
-use Rattle.bpaf_exact.specs.Single.{Stops, nothing_found, caught, present_count}
 use Rattle.bpaf_exact.specs.Wrappers.{Closure, AgreesOn, ClosedEval, closed_yes, closed_no}
 use Rattle.bpaf_exact.specs.Wrappers.{closed_memory, closed_err, OptionalEval, optional_some}
-use Rattle.bpaf_exact.specs.Wrappers.{optional_none, optional_err, optional_memory}
 use Rattle.bpaf_exact.specs.Programs.{CellsValue, Opens, opens_here, opens_later, OpensNone}
 use Rattle.bpaf_exact.specs.Programs.{ChoiceValue, first_value, second_value, OptionalCommands}
 use Rattle.bpaf_exact.specs.Programs.{some_command, no_command, ClosedCells, ProgramLaw}
 use Rattle.bpaf_exact.specs.Programs.{CommandsLaw, FindsNoCommand, WordsApart, IsSpelledLine}
+use Rattle.bpaf_exact.specs.Wrappers.{optional_none, optional_err, optional_memory}
 use Rattle.bpaf_exact.specs.Programs.{GivesAll}
-use Rattle.bpaf_exact.proofs.BeforeCommands.{apart_first, apart_second}
-use Rattle.bpaf_exact.proofs.Choice.{same_scope, cells_same, saved_steady}
-use Rattle.bpaf_exact.proofs.Classes.{memory_class, not_memory}
-use Rattle.bpaf_exact.proofs.Combining.{combined_missing, is_missing_of}
-use Rattle.bpaf_exact.proofs.Counts.{open_present}
-use Rattle.bpaf_exact.proofs.Exact.{first_cells_are, no_value}
-use Rattle.bpaf_exact.proofs.Records.{none_counted, count_none}
+use Rattle.bpaf_exact.specs.Pieces.{Cells, Roles, pieces, either}
+use Rattle.bpaf_exact.specs.Single.{Stops, nothing_found, caught, present_count}
+use Rattle.bpaf_exact.proofs.{BeforeCommands.apart_first, BeforeCommands.apart_second}
+use Rattle.bpaf_exact.proofs.{Choice.same_scope, Choice.cells_same, Choice.saved_steady}
+use Rattle.bpaf_exact.proofs.{Classes.memory_class, Classes.not_memory, Combining.combined_missing}
+use Rattle.bpaf_exact.proofs.{Combining.is_missing_of, Counts.open_present, Exact.first_cells_are}
+use Rattle.bpaf_exact.proofs.{Exact.no_value, Records.none_counted, Records.count_none}
+use Rattle.bpaf_exact.proofs.Exact.{all_whole}
 
 -- Closures.
 module _ (A B : Type 0) (inner : Outcome A) (r : Roles) (value : CellsValue A) (f : Closure A B)
@@ -49,13 +42,12 @@ module _ (A B : Type 0) (inner : Outcome A) (r : Roles) (value : CellsValue A) (
   -- round a program
   pub closed_program : {env : Variables} → ProgramLaw env A inner r value
       → ProgramLaw env B (ClosedEval A B inner f c) r closed
-  closed_program {env} l =
-      record {
-        others = λ q n a cs v s h. l.others q n a cs h.from s h.read;
-        deep = closed_deep l;
-        ok = closed_ok l;
-        answers = closed_answers l;
-      }
+  closed_program {env} l = record {
+    others = λ q n a cs v s h. l.others q n a cs h.from s h.read;
+    deep = closed_deep l;
+    ok = closed_ok l;
+    answers = closed_answers l;
+  }
     where
       closed_deep : ProgramLaw env A inner r value → (s t : Situation) (v : B) → IsWholeIn env s
           → ClosedEval A B inner f c s (Ok v) t → depth s ≤ depth t
@@ -67,9 +59,8 @@ module _ (A B : Type 0) (inner : Outcome A) (r : Roles) (value : CellsValue A) (
       closed_ok l s t v w spelled (closed_yes {x = x} i y) n =
           record { from = x; read = l.ok s t x w spelled i n; made = y }
 
-      closed_answers : ProgramLaw env A inner r value
-          → (s t : Situation) (a : Result B Error) (u : B)
-          → IsWholeIn env s → ClosedEval A B inner f c s a t → closed (cells s) u
+      closed_answers : ProgramLaw env A inner r value → (s t : Situation) (a : Result B Error)
+          (u : B) → IsWholeIn env s → ClosedEval A B inner f c s a t → closed (cells s) u
           → GivesAll (closed (cells s)) a t
       closed_answers l s t a u w (closed_yes {x = x} i y) h =
           let g = l.answers s t (Ok x) h.from w i h.read in
@@ -84,12 +75,11 @@ module _ (A B : Type 0) (inner : Outcome A) (r : Roles) (value : CellsValue A) (
   pub closed_commands : {env : Variables} (words : List (List ℕ))
       → CommandsLaw env A inner r words value
       → CommandsLaw env B (ClosedEval A B inner f c) r words closed
-  closed_commands {env} words l =
-      record {
-        program = closed_program l.program;
-        opened = λ cs v h. l.opened cs h.from h.read;
-        none = closed_none l;
-      }
+  closed_commands {env} words l = record {
+    program = closed_program l.program;
+    opened = λ cs v h. l.opened cs h.from h.read;
+    none = closed_none l;
+  }
     where
       closed_none : CommandsLaw env A inner r words value → (s t : Situation) (a : Result B Error)
           → IsWholeIn env s → ClosedEval A B inner f c s a t → OpensNone words (cells s)
@@ -119,8 +109,7 @@ module _ {env : Variables} (T : Type 0) (inner : Outcome T) (r : Roles) (words :
 
   -- the path gets no shorter
   optional_deep : (s t : Situation) (v : Option T) → IsWholeIn env s
-      → OptionalEval T inner s (Ok v) t
-      → depth s ≤ depth t
+      → OptionalEval T inner s (Ok v) t → depth s ≤ depth t
   optional_deep s t v w (optional_some {v = x} i) = l.program.deep s t x w i
   optional_deep s t v w (optional_none i stops) = omega arith
 
@@ -212,8 +201,7 @@ opens_right words others (opens_later o) = opens_later (opens_right words others
 -- words that are apart don't open the same cells
 pub opens_apart : (words others : List (List ℕ)) → WordsApart words others → {cs ds es : Cells}
     → Opens words cs ds → Opens others cs es → ⊥
-opens_apart words others a (opens_here {k = k} h) (opens_here i) =
-    true≢false (sym i ∙ a k h)
+opens_apart words others a (opens_here {k = k} h) (opens_here i) = true≢false (sym i ∙ a k h)
 opens_apart words others a (opens_later o) (opens_later p) = opens_apart words others a o p
 
 -- a missing item is no wrong input
@@ -293,8 +281,7 @@ module _ {env : Variables} (T : Type 0) (a b : Outcome T) (ra rb : Roles) (wa wb
       (λ other. ⊎_elim
       (λ deeper. of_second (subst (λ z. b s z o.sb) (sym deeper.1) o.second_ran)
       (alike_same deeper.2))
-      (λ equal. of_equal s o.sa o.sb t o.a o.b v o.first_ran o.second_ran equal.1) other)
-      o.chosen
+      (λ equal. of_equal s o.sa o.sb t o.a o.b v o.first_ran o.second_ran equal.1) other) o.chosen
 
   -- the path gets no shorter
   choice_deep : (s t : Situation) (v : T) → IsWholeIn env s → ChoiceOutcome a b s (Ok v) t
@@ -326,21 +313,17 @@ module _ {env : Variables} (T : Type 0) (a b : Outcome T) (ra rb : Roles) (wa wb
   first_closed : (cs : Cells) (u : T) → vb cs u → OpensNone wa cs
   first_closed cs u h ds o = let i = lb.opened cs u h in opens_apart wa wb apart o i.1
 
-  -- where the first has a value each value of the choice is one of its
-  first_gives : (s t : Situation) (v u : T) → IsWholeIn env s → BranchOk s v t → va (cells s) u
-      → GivesAll (value (cells s)) (Ok v) t
-  first_gives s t v u w (of_first {m = m} i e) h =
+  -- where either has a value each value of the choice is one of its
+  choice_gives : (s t : Situation) (v u : T) → IsWholeIn env s → BranchOk s v t
+      → value (cells s) u → GivesAll (value (cells s)) (Ok v) t
+  choice_gives s t v u w (of_first {m = m} i e) (first_value h) =
       let g = la.program.answers s m (Ok v) u w i h in
       (first_value g.0, subst NonePresent (sym e.cells_alike) g.1)
-  first_gives s t v u w (of_second {m = m} i e) h =
+  choice_gives s t v u w (of_second {m = m} i e) (first_value h) =
       absurd (lb.none s m (Ok v) w i (second_closed (cells s) u h))
-
-  -- so where the second has
-  second_gives : (s t : Situation) (v u : T) → IsWholeIn env s → BranchOk s v t → vb (cells s) u
-      → GivesAll (value (cells s)) (Ok v) t
-  second_gives s t v u w (of_first {m = m} i e) h =
+  choice_gives s t v u w (of_first {m = m} i e) (second_value h) =
       absurd (la.none s m (Ok v) w i (first_closed (cells s) u h))
-  second_gives s t v u w (of_second {m = m} i e) h =
+  choice_gives s t v u w (of_second {m = m} i e) (second_value h) =
       let g = lb.program.answers s m (Ok v) u w i h in
       (second_value g.0, subst NonePresent (sym e.cells_alike) g.1)
 
@@ -350,8 +333,7 @@ module _ {env : Variables} (T : Type 0) (a b : Outcome T) (ra rb : Roles) (wa wb
 
   -- nothing else can be of it
   passed : (s m : Situation) (e : Error) → is_memory e.0 ≡ false
-      → FindsNoCommand {T = T} s (Err e) m
-      → Passed s e m
+      → FindsNoCommand {T = T} s (Err e) m → Passed s e m
   passed s m e h (inl memory) = absurd (not_memory e.0 h memory)
   passed s m e h (inr found) = found
 
@@ -385,8 +367,7 @@ module _ {env : Variables} (T : Type 0) (a b : Outcome T) (ra rb : Roles) (wa wb
 
   -- nor where the second has
   second_fails : (s sa sb t : Situation) (x y : Result T Error) (g : Error) (u : T)
-      → IsWholeIn env s
-      → a s x sa → b s y sb → IsNotMemory x → IsNotMemory y
+      → IsWholeIn env s → a s x sa → b s y sb → IsNotMemory x → IsNotMemory y
       → Chosen s x sa y sb (Err g) t → vb (cells s) u → ⊥
   second_fails s sa sb t x (Err d) g u w i j hx hy chosen h =
       not_memory d.0 hy (lb.program.answers s sb (Err d) u w j h)
@@ -407,8 +388,7 @@ module _ {env : Variables} (T : Type 0) (a b : Outcome T) (ra rb : Roles) (wa wb
   -- each answer
   choice_answers : (s t : Situation) (r : Result T Error) (u : T) → IsWholeIn env s
       → ChoiceOutcome a b s r t → value (cells s) u → GivesAll (value (cells s)) r t
-  choice_answers s t (Ok v) u w o (first_value h) = first_gives s t v u w (branch_ok s t v o) h
-  choice_answers s t (Ok v) u w o (second_value h) = second_gives s t v u w (branch_ok s t v o) h
+  choice_answers s t (Ok v) u w o h = choice_gives s t v u w (branch_ok s t v o) h
   choice_answers s t (Err e) u w (inr o) h = memory_class e.0 o.0
   choice_answers s t (Err e) u w (inl o) (first_value h) =
       absurd (first_fails s o.sa o.sb t o.a o.b e u w o.first_ran o.second_ran o.first_spared
@@ -420,8 +400,7 @@ module _ {env : Variables} (T : Type 0) (a b : Outcome T) (ra rb : Roles) (wa wb
   -- where no word opens anything
   none_chosen : (s sa sb t : Situation) (x y : Result T Error) (g : Error) → IsWholeIn env s
       → a s x sa → b s y sb → IsNotMemory x → IsNotMemory y → OpensNone wa (cells s)
-      → OpensNone wb (cells s)
-      → Chosen s x sa y sb (Err g) t → FindsNoCommand {T = T} s (Err g) t
+      → OpensNone wb (cells s) → Chosen s x sa y sb (Err g) t → FindsNoCommand {T = T} s (Err g) t
   none_chosen s sa sb t (Ok x) y g w i j hx hy na nb chosen = absurd (la.none s sa (Ok x) w i na)
   none_chosen s sa sb t (Err d) (Ok y) g w i j hx hy na nb chosen =
       absurd (lb.none s sb (Ok y) w j nb)
@@ -457,8 +436,7 @@ module _ {env : Variables} (T : Type 0) (a b : Outcome T) (ra rb : Roles) (wa wb
   choice_none s t (Ok v) w o n = by_branch (branch_ok s t v o)
     where
       by_branch : BranchOk s v t → ⊥
-      by_branch (of_first {m = m} i e) =
-          la.none s m (Ok v) w i (λ ds p. n ds (opens_left wa wb p))
+      by_branch (of_first {m = m} i e) = la.none s m (Ok v) w i (λ ds p. n ds (opens_left wa wb p))
       by_branch (of_second {m = m} i e) =
           lb.none s m (Ok v) w i (λ ds p. n ds (opens_right wa wb p))
   choice_none s t (Err e) w (inr o) n = inl (memory_class e.0 o.0)
@@ -499,11 +477,6 @@ module _ (V : Type 0) (outcome : Outcome V) (r : Roles) (value : CellsValue V)
   abbrev s : Situation
   s = beginning context
 
-  -- all that isn't taken lies in the scope
-  whole : IsWholeIn context.env s
-  whole =
-      record { end = refl; front = λ p l. absurd (omega arith); environment = refl }
-
   -- a value comes only where it is one of the program's
   pub program_sound : IsSpelledLine context → (a : RunAnswer V) → RunRan V outcome s a → (v : V)
       → a ≡ Accepted v → value (line_cells context) v
@@ -511,7 +484,8 @@ module _ (V : Type 0) (outcome : Outcome V) (r : Roles) (value : CellsValue V)
       let d : x ≡ v = cc in
       subst (λ cs. value cs v) (first_cells_are context)
       (subst (value (cells s)) d
-      (l.ok s t x whole spelled o (none_counted (cells t) (sym (open_present t) ∙ e))))
+      (l.ok s t x (all_whole context) spelled o
+      (none_counted (cells t) (sym (open_present t) ∙ e))))
   program_sound spelled a (run_leftover o e n) v h = absurd (no_value a v n h)
   program_sound spelled a (run_memory o e) v h = absurd cc
   program_sound spelled a (run_refusal o e n) v h = absurd (no_value a v n h)
@@ -521,12 +495,12 @@ module _ (V : Type 0) (outcome : Outcome V) (r : Roles) (value : CellsValue V)
       → value (line_cells context) u → IsAcceptedOrWant (value (line_cells context)) a
   program_complete a (run_value {v = x} {t = t} o e) u h =
       subst (λ cs. value cs x) (first_cells_are context)
-      (l.answers s t (Ok x) u whole o
+      (l.answers s t (Ok x) u (all_whole context) o
       (subst (λ cs. value cs u) (sym (first_cells_are context)) h)).0
   program_complete a (run_leftover {v = x} {t = t} o e n) u h =
-      absurd (e (open_present t ∙ count_none (l.answers s t (Ok x) u whole o
+      absurd (e (open_present t ∙ count_none (l.answers s t (Ok x) u (all_whole context) o
       (subst (λ cs. value cs u) (sym (first_cells_are context)) h)).1))
   program_complete a (run_memory o e) u h = tt
   program_complete a (run_refusal {e = x} {t = t} o e n) u h =
-      absurd (e (l.answers s t (Err x) u whole o
+      absurd (e (l.answers s t (Err x) u (all_whole context) o
       (subst (λ cs. value cs u) (sym (first_cells_are context)) h)))

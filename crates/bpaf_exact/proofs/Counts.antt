@@ -2,13 +2,11 @@
 use Rattle.std.proofs.Common.{◌≡◌, ℕ, zero, suc, ◌+◌, ◌<◌, ◌≤◌, Bool, true, false, ◌∷◌, length}
 use Rattle.std.proofs.Common.{Option, Some, None, refl, ◌∙◌, if◌then◌else◌, arith}
 use Rattle.std.specs.Option.{option_map_or, is_some}
-use Rattle.bpaf_base.specs.declared.arg.Arg.{Arg}
-use Rattle.bpaf_base.specs.Items.{any_item}
+use Rattle.bpaf_base.specs.{declared.arg.Arg.Arg, Items.any_item}
 use Rattle.bpaf_line.specs.Situation.{Situation, open_count, count_below, is_open, item_at}
 use Rattle.bpaf_line.specs.Taking.{open_item}
 use Rattle.bpaf_index.proofs.Counts.{count_below-same, count_below-some}
-use Rattle.bpaf_line.proofs.Matches.{open_has_item}
-use Rattle.bpaf_line.proofs.Places.{open_in_line}
+use Rattle.bpaf_line.proofs.{Matches.open_has_item, Places.open_in_line}
 use Rattle.bpaf_exact.specs.Pieces.{Cells, Roles, LinePiece, TakesPiece, takes_one, takes_two}
 use Rattle.bpaf_exact.specs.Pieces.{takes_later, TakesPieces, takes_none, takes_more}
 use Rattle.bpaf_exact.specs.Flat.{cells, first_cells}
@@ -36,8 +34,7 @@ takes_any_fewer q t = let i = takes_fewer q t.one in let j = takes_some_fewer q 
     omega arith
 
 -- the count of a set of places, with the first place set apart
-count_first : (set : ℕ → Bool) (n : ℕ)
-    → count_below set (suc n)
+count_first : (set : ℕ → Bool) (n : ℕ) → count_below set (suc n)
     ≡ (if set zero then (count_below (λ p. set (suc p)) n + 1) else count_below
     (λ p. set (suc p)) n)
 count_first set zero = refl
@@ -81,8 +78,7 @@ pub open_present : (s : Situation) → open_count s ≡ present_count (cells s)
 unfolding cells
 open_present s =
     count_below-same (is_open s) (λ p. is_some (open_item s p)) (length s.context.line)
-    (λ p l. open_some s p)
-    ∙ count_cells (open_item s) (length s.context.line)
+    (λ p l. open_some s p) ∙ count_cells (open_item s) (length s.context.line)
 
 -- an open place is counted
 pub open_counted : (s : Situation) (p : ℕ) → is_open s p ≡ true → open_count s ≡ 0 → ⊥

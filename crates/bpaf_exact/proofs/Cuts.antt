@@ -6,8 +6,7 @@ use Rattle.bpaf_exact.proofs.Cells.{word_foreign}
 
 -- two cuts of the same cells are one
 pub one_cut : (r : Roles) (cs : Cells) (os ps : List LinePiece) → IsNamed r → Cut r cs os
-    → Cut r cs ps
-    → os ≡ ps
+    → Cut r cs ps → os ≡ ps
 one_cut r cs os ps n at_end at_end = refl
 one_cut r cs os ps n (passed c) (passed d) = one_cut r _ _ _ n c d
 one_cut r cs os ps n (flag {k = k} e c) (flag f d) = ap (λ z. One k ∷ z) (one_cut r _ _ _ n c d)

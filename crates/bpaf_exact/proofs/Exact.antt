@@ -8,19 +8,14 @@ use Rattle.bpaf_doc.specs.Names.{Names}
 use Rattle.bpaf_line.specs.Situation.{Context, Situation, beginning, item_in, is_marker, open_count}
 use Rattle.bpaf_line.specs.Taking.{open_item}
 use Rattle.bpaf_laws.specs.Reading.{Outcome}
-use Rattle.bpaf_exact.specs.Pieces.{Roles, LinePiece, Cut}
 use Rattle.bpaf_exact.specs.Flat.{cells, NonePresent, IsWholeIn, FieldsLaw, FieldsReading, ReadOff}
 use Rattle.bpaf_exact.specs.Record.{line_cells, RecordValue, RunAnswer, Accepted, RunRan, run_value}
 use Rattle.bpaf_exact.specs.Record.{run_leftover, run_memory, run_refusal, IsNoValue}
-use Rattle.bpaf_exact.specs.Record.{IsAcceptedOrWant, IsExact}
 use Rattle.bpaf_exact.specs.FlatForm.{FlatForm, FormLaw, is_record, product_roles, product_reading}
-use Rattle.bpaf_exact.specs.FlatForm.{flat_record}
-use Rattle.bpaf_exact.specs.Theorem.{RunsExactly}
-use Rattle.bpaf_exact.proofs.Counts.{open_present}
-use Rattle.bpaf_exact.proofs.Cuts.{one_cut}
-use Rattle.bpaf_exact.proofs.Places.{same_cells}
-use Rattle.bpaf_exact.proofs.Records.{none_counted, count_none}
-use Rattle.bpaf_exact.proofs.FlatForm.{record_law}
+use Rattle.bpaf_exact.specs.{Record.IsAcceptedOrWant, Record.IsExact, FlatForm.flat_record}
+use Rattle.bpaf_exact.specs.{Pieces.Roles, Pieces.LinePiece, Pieces.Cut, Theorem.RunsExactly}
+use Rattle.bpaf_exact.proofs.{Counts.open_present, Cuts.one_cut, Places.same_cells}
+use Rattle.bpaf_exact.proofs.{Records.none_counted, Records.count_none, FlatForm.record_law}
 
 -- at the beginning each item is present, but for the marker
 open_at_first : (context : Context) (p : ℕ) → p < length context.line
@@ -44,6 +39,10 @@ first_cells_are context =
     same_cells (open_item (beginning context)) (item_in context) (length context.line)
     (open_at_first context)
 
+-- at the beginning the scope is the whole line
+pub all_whole : (context : Context) → IsWholeIn context.env (beginning context)
+all_whole context = record { end = refl; front = λ p l. absurd (omega arith); environment = refl }
+
 -- no value is none
 pub no_value : {V : Type 0} (a : RunAnswer V) (v : V) → IsNoValue a → a ≡ Accepted v → ⊥
 no_value (Accepted x) v n h = n
@@ -54,11 +53,6 @@ module _ (V : Type 0) (outcome : Outcome V) (r : Roles) (reading : FieldsReading
   -- the situation at the beginning
   abbrev s : Situation
   s = beginning context
-
-  -- the scope is the whole line
-  whole : IsWholeIn context.env s
-  whole =
-      record { end = refl; front = λ p l. absurd (omega arith); environment = refl }
 
   -- where no item is counted none is present
   nothing_left : (t : Situation) (v : V) → outcome s (Ok v) t → open_count t ≡ 0
@@ -83,7 +77,7 @@ module _ (V : Type 0) (outcome : Outcome V) (r : Roles) (reading : FieldsReading
       → RecordValue r reading.value context v
   sound a (run_value {v = x} {t = t} o e) v h =
       let d : x ≡ v = cc in
-      let i = l.ok s t x whole o (nothing_left t x o e) in
+      let i = l.ok s t x (all_whole context) o (nothing_left t x o e) in
       subst (λ z. RecordValue r reading.value context z) d (to_line x i)
   sound a (run_leftover o e n) v h = absurd (no_value a v n h)
   sound a (run_memory o e) v h = absurd cc
@@ -94,12 +88,12 @@ module _ (V : Type 0) (outcome : Outcome V) (r : Roles) (reading : FieldsReading
       → Cut r (line_cells context) os → reading.each os
       → IsAcceptedOrWant (λ w. RecordValue r reading.value context w) a
   complete a (run_value {v = x} {t = t} o e) os c h =
-      to_line x (l.ok s t x whole o (nothing_left t x o e))
+      to_line x (l.ok s t x (all_whole context) o (nothing_left t x o e))
   complete a (run_leftover {v = x} {t = t} o e n) os c h =
-      absurd (e (counts_none t x o (l.takes_all s t x os whole o (from_line os c) h)))
+      absurd (e (counts_none t x o (l.takes_all s t x os (all_whole context) o (from_line os c) h)))
   complete a (run_memory o e) os c h = tt
   complete a (run_refusal {e = x} {t = t} o e n) os c h =
-      absurd (e (l.refuses s t x os whole o (from_line os c) h))
+      absurd (e (l.refuses s t x os (all_whole context) o (from_line os c) h))
 
   -- where one has none, no answer is a value: the line has one cut
   refused : (a : RunAnswer V) → RunRan V outcome s a → (os : List LinePiece)
@@ -112,8 +106,7 @@ module _ (V : Type 0) (outcome : Outcome V) (r : Roles) (reading : FieldsReading
   -- THE THEOREM: on every line each answer of a run is a value of the record, want of memory, or a
   -- refusal where the record has no value.
   pub exact : (a : RunAnswer V) → RunRan V outcome s a → IsExact V r reading context a
-  exact a ran =
-      record { sound = sound a ran; complete = complete a ran; refused = refused a ran }
+  exact a ran = record { sound = sound a ran; complete = complete a ran; refused = refused a ran }
 
 -- each answer of a run of a flat record is exact
 pub runs_exactly : (V : Type 0) (outcome : Outcome V) (names : List Names) (s : FlatForm V)

@@ -9,6 +9,7 @@ use Rattle.bpaf_exact.specs.Pieces.{takes_one, takes_two, takes_later}
 use Rattle.bpaf_exact.specs.Alternative.{TakesFirst, first_one, first_two, first_later, HasBad}
 use Rattle.bpaf_exact.specs.Alternative.{bad_here, bad_later}
 use Rattle.bpaf_exact.proofs.Cells.{value_foreign, nil_rest, nil_foreign, keeps_other, same_next}
+use Rattle.bpaf_exact.proofs.Cells.{begin_at}
 
 -- taking the first piece is taking one
 pub first_takes : (q : Roles) {cs ds : Cells} {o : LinePiece} → TakesFirst q cs o ds
@@ -16,11 +17,6 @@ pub first_takes : (q : Roles) {cs ds : Cells} {o : LinePiece} → TakesFirst q c
 first_takes q (first_one e) = takes_one e
 first_takes q (first_two e v) = takes_two e v
 first_takes q (first_later n t) = takes_later (first_takes q t)
-
--- an item begins a piece by its role
-pub begin_at : {x y : Role} (k : Arg) (cs : Cells) (os : List LinePiece) → x ≡ y
-    → begin_piece x k cs os ≡ begin_piece y k cs os
-begin_at k cs os e = ap (λ z. begin_piece z k cs os) e
 
 -- a key with a value next to it
 two_next : (k w : Arg) (cs : Cells) → is_value w ≡ true → with_next k (Some w ∷ cs) ≡ Two k w
@@ -49,8 +45,7 @@ first_pieces q n (first_later {c = Some k} {cs = cs} {ds = ds} h t) =
 
 -- what was taken was there
 pub takes_nonempty : (q : Roles) {cs ds : Cells} {o : LinePiece} → TakesPiece q cs o ds
-    → pieces q cs ≡ []
-    → ⊥
+    → pieces q cs ≡ [] → ⊥
 takes_nonempty q (takes_one {k = k} {cs = cs} e) h = let f =
     nil_foreign (q k) k cs (pieces q cs) h in cc
 takes_nonempty q (takes_two {k = k} {w = w} {cs = cs} e v) h = let f =
@@ -82,8 +77,7 @@ module _ (T : Type 0) (value : LinePiece → T → Type 0) where
 
   -- A piece that can't be read stays one when others are given back.
   pub bad_given_back : (q : Roles) {cs ds : Cells} {o : LinePiece} → IsNamed q
-      → TakesPiece q cs o ds
-      → HasBad T value (pieces q ds) → HasBad T value (pieces q cs)
+      → TakesPiece q cs o ds → HasBad T value (pieces q ds) → HasBad T value (pieces q cs)
   bad_given_back q n (takes_one {k = k} {cs = cs} e) h =
       subst (HasBad T value) (sym (begin_at k cs (pieces q cs) e)) (bad_later h)
   bad_given_back q n (takes_two {k = k} {w = w} {cs = cs} e v) h =
@@ -137,11 +131,9 @@ either_union qa qb na nb a = record {
 
 -- they are keys
 pub union_named : (qa qb r : Roles) → Union qa qb r → IsNamed r
-union_named qa qb r u =
-    record {
-      only_keys =
-          λ k h. u.none k (u.named_left.only_keys k h) (u.named_right.only_keys k h);
-    }
+union_named qa qb r u = record {
+  only_keys = λ k h. u.none k (u.named_left.only_keys k h) (u.named_right.only_keys k h);
+}
 
 -- an item of the first keeps its role
 left_role : (qa qb r : Roles) (k : Arg) (x : Role) → Union qa qb r → is_own_role x ≡ true → qa k ≡ x
@@ -150,8 +142,7 @@ left_role qa qb r k x u h e = u.left k (ap is_own_role e ∙ h) ∙ e
 
 -- what the first takes both take
 pub takes_left : (qa qb r : Roles) {cs ds : Cells} {o : LinePiece} → Union qa qb r
-    → TakesPiece qa cs o ds
-    → TakesPiece r cs o ds
+    → TakesPiece qa cs o ds → TakesPiece r cs o ds
 takes_left qa qb r u (takes_one {k = k} e) = takes_one (left_role qa qb r k Alone u refl e)
 takes_left qa qb r u (takes_two {k = k} e v) = takes_two (left_role qa qb r k WithNext u refl e) v
 takes_left qa qb r u (takes_later t) = takes_later (takes_left qa qb r u t)
@@ -248,8 +239,7 @@ owner qa qb r (Some k ∷ cs) o os u e =
     rest_owner f g (inl h) = inl (other_head qa f h.0, h.1)
     rest_owner f g (inr h) = inr (other_head qb g h.0, h.1)
 
-    by_owner : Belongs qa qb r k
-        → (r k ≡ Foreign
+    by_owner : Belongs qa qb r k → (r k ≡ Foreign
         → HeadOf qa cs o × (is_own qa o ≡ true) ⊎ HeadOf qb cs o × (is_own qb o ≡ true))
         → HeadOf qa (Some k ∷ cs) o × (is_own qa o ≡ true) ⊎ HeadOf qb (Some k ∷ cs) o
         × (is_own qb o ≡ true)
@@ -260,8 +250,7 @@ owner qa qb r (Some k ∷ cs) o os u e =
 -- An item that isn't the first field's own goes before the first piece only where it isn't the
 -- other's either.
 not_either : (qa qb r : Roles) (k : Arg) (cs : Cells) (o : LinePiece) (os : List LinePiece)
-    → Union qa qb r
-    → qa k ≡ Foreign → is_own qa o ≡ true → pieces r (Some k ∷ cs) ≡ o ∷ os
+    → Union qa qb r → qa k ≡ Foreign → is_own qa o ≡ true → pieces r (Some k ∷ cs) ≡ o ∷ os
     → (r k ≡ Foreign) × (pieces r cs ≡ o ∷ os)
 not_either qa qb r k cs o os u f h e = by_owner (belongs qa qb r k u)
   where
@@ -287,8 +276,7 @@ first_mine qa qb r {o = o} {os = os} u e h (first_later {c = Some k} {cs = cs} n
 
 -- The same where the other field has no piece.
 pub first_alone : (qa qb r : Roles) {cs ds : Cells} {oa : LinePiece} → Union qa qb r
-    → pieces qb cs ≡ []
-    → TakesFirst qa cs oa ds → TakesFirst r cs oa ds
+    → pieces qb cs ≡ [] → TakesFirst qa cs oa ds → TakesFirst r cs oa ds
 first_alone qa qb r u e (first_one {k = k} x) = first_one (left_role qa qb r k Alone u refl x)
 first_alone qa qb r u e (first_two {k = k} x v) =
     first_two (left_role qa qb r k WithNext u refl x) v
@@ -304,8 +292,7 @@ both_nil qa qb r [] u e f = refl
 both_nil qa qb r (None ∷ cs) u e f = both_nil qa qb r cs u e f
 both_nil qa qb r (Some k ∷ cs) u e f =
     begin_at k cs (pieces r cs)
-    (u.none k (nil_foreign (qa k) k cs (pieces qa cs) e)
-    (nil_foreign (qb k) k cs (pieces qb cs) f))
+    (u.none k (nil_foreign (qa k) k cs (pieces qa cs) e) (nil_foreign (qb k) k cs (pieces qb cs) f))
     ∙ both_nil qa qb r cs u (nil_rest (qa k) k cs (pieces qa cs) e)
     (nil_rest (qb k) k cs (pieces qb cs) f)
 
@@ -410,8 +397,7 @@ module _ (T : Type 0) (va vr : LinePiece → T → Type 0) (qa qb r : Roles) (u 
       (bad_here (λ v x. h v (back (One k) v (g (One k) refl) x)))
   bad_at WithNext y k cs os ps e g f (bad_here h) =
       subst (λ z. HasBad T vr (begin_piece z k cs ps)) (sym (e refl))
-      (bad_here (λ v x. h v
-      (back (with_next k cs) v (g (with_next k cs) (own_next qa k cs)) x)))
+      (bad_here (λ v x. h v (back (with_next k cs) v (g (with_next k cs) (own_next qa k cs)) x)))
   bad_at _ y k cs os ps e g f (bad_later h) =
       subst (λ z. HasBad T vr (begin_piece z k cs ps)) (sym (e refl)) (bad_later (f h))
 

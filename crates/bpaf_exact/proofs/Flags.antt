@@ -4,32 +4,24 @@ use Rattle.std.proofs.Common.{refl, sym, ap, ◌∙◌, subst, ⊎_elim, true≢
 use Rattle.std.specs.Option.{is_some}
 use Rattle.bpaf_text.specs.Named.{Named as Key, flag_part}
 use Rattle.bpaf_base.specs.Items.{is_key_of}
-use Rattle.bpaf_line.specs.declared.error.Error.{Error}
-use Rattle.bpaf_line.specs.declared.error.Message.{Message}
-use Rattle.bpaf_line.specs.declared.error.Message.TheVariants.{Memory}
-use Rattle.bpaf_line.specs.Situation.{Situation, take_place}
-use Rattle.bpaf_line.specs.Taking.{HasNone, TakesFlag}
+use Rattle.bpaf_line.specs.{declared.error.Error.Error, declared.error.Message.Message}
+use Rattle.bpaf_line.specs.{declared.error.Message.TheVariants.Memory, Situation.Situation}
+use Rattle.bpaf_line.specs.{Situation.take_place, Taking.HasNone, Taking.TakesFlag}
 use Rattle.bpaf_laws.specs.Environment.{first_set, is_set}
 use Rattle.bpaf_laws.specs.Flag.{FlagOutcome, FlagFails, IsAbsentValue}
-use Rattle.bpaf_exact.specs.Pieces.{Alone, Roles, LinePiece, One, IsNamed}
-use Rattle.bpaf_exact.specs.Flat.{class, class_of, IsWholeIn, ByName, Variables}
-use Rattle.bpaf_exact.specs.Names.{Owns}
 use Rattle.bpaf_exact.specs.Single.{Groups, Gap, FrontOf, SingleOk, gave_absent, took, SingleErr}
-use Rattle.bpaf_exact.specs.Single.{of_memory, of_missing, SingleLaw}
 use Rattle.bpaf_exact.specs.Alternative.{AlternativeOk, AlternativeErr, alternative_memory}
-use Rattle.bpaf_exact.specs.Alternative.{AlternativeLaw}
 use Rattle.bpaf_exact.specs.Leaves.{flag_roles, FlagValue, flag_gap, flag_field, variable_flag}
-use Rattle.bpaf_exact.specs.FlatForm.{FormLaw}
-use Rattle.bpaf_exact.specs.ProgramForm.{ProgramFormLaw}
-use Rattle.bpaf_exact.specs.Variables.{key_form, flag_form}
-use Rattle.bpaf_exact.proofs.Classes.{missing_class}
-use Rattle.bpaf_exact.proofs.Product.{steady_refl}
-use Rattle.bpaf_exact.proofs.First.{first_pieces}
-use Rattle.bpaf_exact.proofs.Alternative.{took_front}
-use Rattle.bpaf_exact.proofs.Places.{take_steady}
+use Rattle.bpaf_exact.specs.{Single.of_memory, Single.of_missing, Single.SingleLaw}
+use Rattle.bpaf_exact.specs.{Alternative.AlternativeLaw, Pieces.Alone, Pieces.Roles}
+use Rattle.bpaf_exact.specs.{Pieces.LinePiece, Pieces.One, Pieces.IsNamed, Flat.class}
+use Rattle.bpaf_exact.specs.{Flat.class_of, Flat.IsWholeIn, Flat.ByName, Flat.Variables, Names.Owns}
+use Rattle.bpaf_exact.specs.{FlatForm.FormLaw, ProgramForm.ProgramFormLaw, Variables.key_form}
+use Rattle.bpaf_exact.specs.{Variables.flag_form}
 use Rattle.bpaf_exact.proofs.Matching.{match_of, ByTest, by_test, test_named, no_pieces, one_taken}
 use Rattle.bpaf_exact.proofs.Matching.{first_alternative, missing_same, absence_missing, test_owns}
-use Rattle.bpaf_exact.proofs.Matching.{absence_caught}
+use Rattle.bpaf_exact.proofs.{Matching.absence_caught, Classes.missing_class, Product.steady_refl}
+use Rattle.bpaf_exact.proofs.{First.first_pieces, Alternative.took_front, Places.take_steady}
 
 -- a flag
 module _ (T : Type 0) (clones : T → T → Type 0) (key : Key) (present : T) where
@@ -75,8 +67,7 @@ module _ (T : Type 0) (clones : T → T → Type 0) (key : Key) (present : T)
       → AlternativeOk T (flag_roles key.names) (FlagValue (clones present)) s v t
   flag_ok s t v w o = ⊎_elim
       (λ here. ⊎_elim (λ takes. flag_found T clones key present s t v takes here.1)
-      (λ set. absurd (never_set s set.1)) here.0)
-      (λ none. absurd none.1) o
+      (λ set. absurd (never_set s set.1)) here.0) (λ none. absurd none.1) o
 
   -- a refusal: there is no piece
   flag_err : (s t : Situation) (e : Error) (m : Message) → class e ≡ class_of m
@@ -172,8 +163,7 @@ module _ (T : Type 0) (clones : T → T → Type 0) (key : Key) (present : T) (a
   set_here s b e f = subst (λ z. is_set z key.envs ≡ b) e f
 
   switch_ok : (s t : Situation) (v : T) → IsWholeIn variables s
-      → FlagOutcome clones key present absent s (Ok v) t
-      → SingleOk T ByName roles group gap s v t
+      → FlagOutcome clones key present absent s (Ok v) t → SingleOk T ByName roles group gap s v t
   switch_ok s t v w o = ⊎_elim
       (λ here. ⊎_elim (λ takes. switch_found s t v takes here.1)
       (λ set. switch_none s t v set.0.0 set.0.1

@@ -1,36 +1,30 @@
 -- Each form that is made of flat fields keeps to its laws.
 use Rattle.std.proofs.Common.{◌≡◌, Bool, true, false, ◌&&◌, List, [], ◌∷◌, ◌++◌, refl, subst}
-use Rattle.std.proofs.Common.{append-nil}
-use Rattle.std.proofs.lemmas.Bool.{false_from_ne_true}
+use Rattle.std.proofs.{Common.append-nil, lemmas.Bool.false_from_ne_true}
 use Rattle.bpaf_doc.specs.Names.{Names}
-use Rattle.bpaf_laws.specs.Choice.{ChoiceOutcome}
-use Rattle.bpaf_laws.specs.Product.{BothOutcome, ProductOutcome}
-use Rattle.bpaf_laws.specs.Reading.{Outcome}
-use Rattle.bpaf_laws.specs.Repeat.{LastOutcome}
-use Rattle.bpaf_exact.specs.Pieces.{Roles, no_roles, either, LinePiece}
-use Rattle.bpaf_exact.specs.Names.{Owns, are_all_apart}
+use Rattle.bpaf_laws.specs.{Choice.ChoiceOutcome, Product.BothOutcome, Product.ProductOutcome}
+use Rattle.bpaf_laws.specs.{Reading.Outcome, Repeat.LastOutcome}
 use Rattle.bpaf_exact.specs.Flat.{ErrorClass, Refused, FieldKind, ByName, OneWord, EachWord, Before}
-use Rattle.bpaf_exact.specs.Flat.{FieldLaw, FieldsLaw, both_reading, keys, Variables}
 use Rattle.bpaf_exact.specs.Single.{RepeatOutcome, repeated, SingleValue, Groups, Gap, SingleLaw}
 use Rattle.bpaf_exact.specs.Wrappers.{Closure, Decides, map_closure, ClosedEval, OptionalEval}
-use Rattle.bpaf_exact.specs.Wrappers.{FallbackEval, OptionalValue, FallbackValue}
-use Rattle.bpaf_exact.specs.Gathered.{some_closure, LastOf}
 use Rattle.bpaf_exact.specs.FlatForm.{FlatForm, not_flat, alternative, single, complete, product}
 use Rattle.bpaf_exact.specs.FlatForm.{FormLaw, Agrees, only_if, flat_closed, flat_choice}
 use Rattle.bpaf_exact.specs.FlatForm.{alternative_only, flat_repeat, flat_last, flat_optional}
 use Rattle.bpaf_exact.specs.FlatForm.{flat_fallback, flat_field, may_follow, flat_both, flat_alone}
 use Rattle.bpaf_exact.specs.FlatForm.{flat_con, flat_record, NamedLaw, is_named, is_record}
 use Rattle.bpaf_exact.specs.FlatForm.{made_reading, product_reading, product_roles, flat_whole}
-use Rattle.bpaf_exact.specs.Record.{LastValue}
-use Rattle.bpaf_exact.proofs.Names.{foreign_of, apart_of_names, either_owns}
+use Rattle.bpaf_exact.specs.{Flat.FieldLaw, Flat.FieldsLaw, Flat.both_reading, Flat.keys}
+use Rattle.bpaf_exact.specs.{Flat.Variables, Wrappers.FallbackEval, Wrappers.OptionalValue}
+use Rattle.bpaf_exact.specs.{Wrappers.FallbackValue, Pieces.Roles, Pieces.no_roles, Pieces.either}
+use Rattle.bpaf_exact.specs.{Pieces.LinePiece, Names.Owns, Names.are_all_apart}
+use Rattle.bpaf_exact.specs.{Gathered.some_closure, Gathered.LastOf, Record.LastValue}
 use Rattle.bpaf_exact.proofs.Alternative.{alternative_single, closed_alternative, closed_single}
-use Rattle.bpaf_exact.proofs.Choice.{choice_law}
-use Rattle.bpaf_exact.proofs.Repeat.{repeat_law}
 use Rattle.bpaf_exact.proofs.Wrappers.{closed_law, single_law, optional_law, fallback_law}
-use Rattle.bpaf_exact.proofs.Gathered.{some_agrees_on, last_of_law}
 use Rattle.bpaf_exact.proofs.NamedProducts.{named_both_law, named_con_law, named_last_law}
-use Rattle.bpaf_exact.proofs.Product.{both_law}
-use Rattle.bpaf_exact.proofs.Records.{con_law, last_law}
+use Rattle.bpaf_exact.proofs.{Names.foreign_of, Names.apart_of_names, Names.either_owns}
+use Rattle.bpaf_exact.proofs.{Choice.choice_law, Repeat.repeat_law, Gathered.some_agrees_on}
+use Rattle.bpaf_exact.proofs.{Gathered.last_of_law, Product.both_law, Records.con_law}
+use Rattle.bpaf_exact.proofs.{Records.last_law}
 
 -- a closure round a field
 pub flat_closed_law : (env : Variables) (A B : Type 0) (inner : Outcome A) (f : Closure A B)
@@ -55,8 +49,7 @@ never_refuses A B f n _ = λ os x y v a b g h. n y h
 
 -- where a test holds
 if_law : (env : Variables) (T : Type 0) (outcome : Outcome T) (names : List Names) (s : FlatForm T)
-    (b : Bool)
-    → (b ≡ true → FormLaw env outcome names s) → FormLaw env outcome names (only_if b s)
+    (b : Bool) → (b ≡ true → FormLaw env outcome names s) → FormLaw env outcome names (only_if b s)
 if_law env T outcome names s true f = f refl
 if_law env T outcome names s false f = tt
 
@@ -71,13 +64,6 @@ flat_choice_law env T a b own others (alternative q x) (alternative r y) la lb =
       either_owns q r own others la.1 lb.1,
     ))
 flat_choice_law env T a b own others _ _ la lb = tt
-
--- an alternative alone
-pub only_law : (env : Variables) (T : Type 0) (outcome : Outcome T) (names : List Names)
-    (s : FlatForm T)
-    → FormLaw env outcome names s → FormLaw env outcome names (alternative_only s)
-only_law env T outcome names (alternative q value) l = l
-only_law env T outcome names _ l = tt
 
 -- a repeat has the keys of the field
 repeated_keys : (k : FieldKind) (q : Roles) (names : List Names) → Owns (keys k q) names
@@ -120,8 +106,7 @@ flat_listed_law env T B inner idle f c names _ g l = tt
 
 -- some needs no premise: of the lists that the same pieces give, all are empty or none is
 pub some_agrees : (env : Variables) (T : Type 0) (inner : Outcome T) (names : List Names)
-    (s : FlatForm T)
-    → FormLaw env inner names s → Agrees (some_closure T) (flat_repeat s)
+    (s : FlatForm T) → FormLaw env inner names s → Agrees (some_closure T) (flat_repeat s)
 some_agrees env T inner names (alternative q value) l =
     some_agrees_on T inner ByName q _ _ (alternative_single T inner q value l.0)
 some_agrees env T inner names (single k q group gap) l = some_agrees_on T inner k q group gap l.0
@@ -145,26 +130,64 @@ flat_optional_law env T inner names =
 
 -- what has a value that stands for it
 pub flat_fallback_law : (env : Variables) (T : Type 0) (inner : Outcome T)
-    (f : Closure (Unit {0}) T) → Decides f
-    → (names : List Names) (s : FlatForm T) → FormLaw env inner names s
-    → FormLaw env (FallbackEval T inner f) names (flat_fallback f s)
+    (f : Closure (Unit {0}) T) → Decides f → (names : List Names) (s : FlatForm T)
+    → FormLaw env inner names s → FormLaw env (FallbackEval T inner f) names (flat_fallback f s)
 flat_fallback_law env T inner f decides names =
     flat_whole_law env inner (FallbackEval T inner f) (λ k. k)
     (λ group gap. FallbackValue T group gap f) names (λ k q o. o)
     (λ k q group gap l. fallback_law T inner k q group gap l f decides)
 
--- a field of a product, which may be a product of named fields
-pub flat_field_law : (env : Variables) (T : Type 0) (outcome : Outcome T) (names : List Names)
-    (s : FlatForm T)
-    → FormLaw env outcome names s → FormLaw env outcome names (flat_field s)
-flat_field_law env T outcome names (product true q fields) l = (l.2, l.1)
-flat_field_law env T outcome names (alternative q value) l =
-    flat_whole_law env outcome outcome (λ k. k) (SingleValue T) names (λ k q o. o)
-    (single_law T outcome) (alternative q value) l
-flat_field_law env T outcome names (single k q group gap) l =
-    (single_law T outcome k q group gap l.0, l.1)
-flat_field_law env T outcome names not_flat l = tt
-flat_field_law env T outcome names _ l = l
+-- no item without a key
+pub no_names : Owns no_roles []
+no_names = record { own = λ k e. absurd cc }
+
+module _ (env : Variables) (T : Type 0) (outcome : Outcome T) (names : List Names) where
+  -- the law of a form
+  abbrev Law : FlatForm T → Type 0
+  Law = FormLaw env outcome names
+
+  -- an alternative alone
+  pub only_law : (s : FlatForm T) → Law s → Law (alternative_only s)
+  only_law (alternative q value) l = l
+  only_law _ l = tt
+
+  -- a field of a product, which may be a product of named fields
+  pub flat_field_law : (s : FlatForm T) → Law s → Law (flat_field s)
+  flat_field_law (product true q fields) l = (l.2, l.1)
+  flat_field_law (alternative q value) l =
+      flat_whole_law env outcome outcome (λ k. k) (SingleValue T) names (λ k q o. o)
+      (single_law T outcome) (alternative q value) l
+  flat_field_law (single k q group gap) l = (single_law T outcome k q group gap l.0, l.1)
+  flat_field_law not_flat l = tt
+  flat_field_law _ l = l
+
+  -- the last field, or one alone
+  pub flat_alone_law : (s : FlatForm T) → Law s → Law (flat_alone s)
+  flat_alone_law (complete k q value) l = (
+    last_law T outcome k q value l.0,
+    subst (Owns (either (keys k q) no_roles)) (append-nil names)
+        (either_owns (keys k q) no_roles names [] l.1 no_names),
+    by_name k l.0,
+  )
+    where
+      by_name : (j : FieldKind) → FieldLaw env T outcome j q value
+          → NamedLaw env (is_named j) outcome (either (keys j q) no_roles) (LastValue T j q value)
+      by_name ByName l = named_last_law T outcome q value l
+      by_name (OneWord z) l = tt
+      by_name (EachWord z) l = tt
+  flat_alone_law (product false q fields) l = l
+  flat_alone_law _ l = tt
+
+  -- a flat record is a product
+  pub flat_record_law : (s : FlatForm T) → Law s → Law (flat_record s)
+  flat_record_law (product named q fields) l = l
+  flat_record_law s l = flat_alone_law (flat_field s) (flat_field_law s l)
+
+  -- each flat record keeps to the laws of a list of fields
+  pub record_law : (s : FlatForm T) → is_record s ≡ true → Law s
+      → FieldsLaw env T outcome (product_roles (flat_record s)) (product_reading (flat_record s))
+  record_law not_flat h l = absurd cc
+  record_law s h l = (flat_record_law s l).0
 
 -- no is no yes
 nobody : false ≡ true → ⊥
@@ -172,8 +195,7 @@ nobody e = cc
 
 -- fields that may follow keep apart
 follows : (k : FieldKind) (q r : Roles) (own others : List Names) → Owns (keys k q) own
-    → Owns r others
-    → may_follow k own others ≡ true → Before k q r
+    → Owns r others → may_follow k own others ≡ true → Before k q r
 follows ByName q r own others a b h = apart_of_names q r own others a b h
 follows (OneWord z) q r own (names ∷ others) a b h = absurd cc
 follows (EachWord z) q r own (names ∷ others) a b h = absurd cc
@@ -203,29 +225,6 @@ flat_both_law env A B first rest own others (complete k q fv) (product named r f
     by_names (EachWord z) all l m apart = tt
 flat_both_law env A B first rest own others _ _ la lb = tt
 
--- no item without a key
-pub no_names : Owns no_roles []
-no_names = record { own = λ k e. absurd cc }
-
--- the last field, or one alone
-pub flat_alone_law : (env : Variables) (T : Type 0) (outcome : Outcome T) (names : List Names)
-    (s : FlatForm T)
-    → FormLaw env outcome names s → FormLaw env outcome names (flat_alone s)
-flat_alone_law env T outcome names (complete k q value) l = (
-  last_law T outcome k q value l.0,
-  subst (Owns (either (keys k q) no_roles)) (append-nil names)
-      (either_owns (keys k q) no_roles names [] l.1 no_names),
-  by_name k l.0,
-)
-  where
-    by_name : (j : FieldKind) → FieldLaw env T outcome j q value
-        → NamedLaw env (is_named j) outcome (either (keys j q) no_roles) (LastValue T j q value)
-    by_name ByName l = named_last_law T outcome q value l
-    by_name (OneWord z) l = tt
-    by_name (EachWord z) l = tt
-flat_alone_law env T outcome names (product false q fields) l = l
-flat_alone_law env T outcome names _ l = tt
-
 -- the constructor of a product
 pub flat_con_law : (env : Variables) (A B : Type 0) (inner : Outcome A) (makes : A → B → Type 0)
     (names : List Names) (s : FlatForm A) → FormLaw env inner names s
@@ -239,19 +238,3 @@ flat_con_law env A B inner makes names (product named q fields) l =
     by_name true l = named_con_law A B inner makes q fields.value l
     by_name false l = tt
 flat_con_law env A B inner makes names _ l = tt
-
--- a flat record is a product
-pub flat_record_law : (env : Variables) (T : Type 0) (outcome : Outcome T) (names : List Names)
-    (s : FlatForm T)
-    → FormLaw env outcome names s → FormLaw env outcome names (flat_record s)
-flat_record_law env T outcome names (product named q fields) l = l
-flat_record_law env T outcome names s l =
-    flat_alone_law env T outcome names (flat_field s) (flat_field_law env T outcome names s l)
-
--- each flat record keeps to the laws of a list of fields
-pub record_law : (env : Variables) (T : Type 0) (outcome : Outcome T) (names : List Names)
-    (s : FlatForm T)
-    → is_record s ≡ true → FormLaw env outcome names s
-    → FieldsLaw env T outcome (product_roles (flat_record s)) (product_reading (flat_record s))
-record_law env T outcome names not_flat h l = absurd cc
-record_law env T outcome names s h l = (flat_record_law env T outcome names s l).0

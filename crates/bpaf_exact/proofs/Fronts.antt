@@ -1,9 +1,14 @@
 -- What a field takes of pieces, and what it leaves.
-use Rattle.std.proofs.Common.{◌≡◌, Bool, true, false, List, [], ◌∷◌, ap, refl, if◌then◌else◌}
-use Rattle.bpaf_exact.specs.Pieces.{Cells, LinePiece, Roles, pieces}
+use Rattle.std.proofs.Common.{◌≡◌, Bool, true, false, List, [], ◌∷◌, ap, refl, if◌then◌else◌, ◌++◌}
 use Rattle.bpaf_exact.specs.Flat.{FieldKind, ByName, OneWord, EachWord, back, front, from_marker}
-use Rattle.bpaf_exact.specs.Flat.{NoKeysLeft, is_behind, up_to_marker}
-use Rattle.bpaf_exact.specs.Single.{repeated}
+use Rattle.bpaf_exact.specs.{Flat.NoKeysLeft, Flat.is_behind, Flat.up_to_marker, Pieces.Cells}
+use Rattle.bpaf_exact.specs.{Pieces.LinePiece, Pieces.Roles, Pieces.pieces, Single.repeated}
+
+-- a list that something stands in isn't empty
+pub never_nil : {T : Type 0} (before : List T) (x : T) (behind : List T)
+    → before ++ x ∷ behind ≡ [] → ⊥
+never_nil [] x behind e = cc
+never_nil (y ∷ before) x behind e = cc
 
 -- where no piece stands before the first one behind `--`, all stand from there on
 none_before : (os : List LinePiece) → up_to_marker os ≡ [] → from_marker os ≡ os

@@ -1,33 +1,25 @@
 -- some and last keep to the laws of a field.
 use Rattle.std.proofs.Common.{◌≡◌, true, false, List, [], ◌∷◌, ◌++◌, Ok, Err, refl, sym, ◌∙◌, inl}
 use Rattle.std.proofs.Common.{inr, ap}
-use Rattle.bpaf_line.specs.declared.error.Error.{Error}
-use Rattle.bpaf_line.specs.Situation.{Situation}
-use Rattle.bpaf_laws.specs.Reading.{Outcome}
-use Rattle.bpaf_laws.specs.Repeat.{LastOutcome, UntilRest}
-use Rattle.bpaf_exact.proofs.Fronts.{back_all, nil_each}
-use Rattle.bpaf_exact.specs.Pieces.{Roles, LinePiece, pieces}
-use Rattle.bpaf_exact.specs.Flat.{cells, IsWholeIn, FieldKind, front, back, FieldTook, FieldLaw}
-use Rattle.bpaf_exact.specs.Flat.{NoKeysLeft, OfMemory, class, Variables}
-use Rattle.bpaf_exact.specs.Single.{Groups, Gap, SingleOk, gave_absent, took, SingleLaw, OwnList}
-use Rattle.bpaf_exact.specs.Single.{listed, listed_and_absent, only_absent, Own, own_none, own_more}
-use Rattle.bpaf_exact.specs.Single.{repeated, RepeatOutcome}
-use Rattle.bpaf_exact.specs.Wrappers.{AgreesOn}
-use Rattle.bpaf_exact.specs.Gathered.{some_closure, IsLast, LastOf}
+use Rattle.bpaf_line.specs.{declared.error.Error.Error, Situation.Situation}
+use Rattle.bpaf_laws.specs.{Reading.Outcome, Repeat.LastOutcome, Repeat.UntilRest}
+use Rattle.bpaf_exact.proofs.Fronts.{back_all, nil_each, never_nil}
 use Rattle.bpaf_exact.proofs.Product.{none_outside_after}
 use Rattle.bpaf_exact.proofs.Repeat.{repeat_law, repeat_took, own_nil}
+use Rattle.bpaf_exact.specs.Flat.{cells, IsWholeIn, FieldKind, front, back, FieldTook, FieldLaw}
+use Rattle.bpaf_exact.specs.Single.{Groups, Gap, SingleOk, gave_absent, took, SingleLaw, OwnList}
+use Rattle.bpaf_exact.specs.Single.{listed, listed_and_absent, only_absent, Own, own_none, own_more}
+use Rattle.bpaf_exact.specs.{Flat.NoKeysLeft, Flat.OfMemory, Flat.class, Flat.Variables}
+use Rattle.bpaf_exact.specs.{Single.repeated, Single.RepeatOutcome, Pieces.Roles, Pieces.LinePiece}
+use Rattle.bpaf_exact.specs.{Pieces.pieces, Wrappers.AgreesOn, Gathered.some_closure}
+use Rattle.bpaf_exact.specs.{Gathered.IsLast, Gathered.LastOf}
 
 -- a list with a last value isn't empty
 no_last : (T : Type 0) (vs : List T) (v : T) → IsLast T vs v → vs ≡ [] → ⊥
-no_last T vs v l e = by_before l.before (sym l.is ∙ e)
-  where
-    by_before : (b : List T) → b ++ (v ∷ []) ≡ [] → ⊥
-    by_before [] h = cc
-    by_before (x ∷ xs) h = cc
+no_last T vs v l e = never_nil l.before v [] (sym l.is ∙ e)
 
-module _ {env : Variables} (T : Type 0) (inner : Outcome T)
-    (k : FieldKind) (q : Roles) (group : Groups T) (gap : Gap T)
-    (l : SingleLaw env T inner k q group gap) where
+module _ {env : Variables} (T : Type 0) (inner : Outcome T) (k : FieldKind) (q : Roles)
+    (group : Groups T) (gap : Gap T) (l : SingleLaw env T inner k q group gap) where
   -- the laws of the list
   rl : FieldLaw env (List T) (RepeatOutcome inner true) (repeated k) q (OwnList T group gap)
   rl = repeat_law T inner k q group gap l true
@@ -89,11 +81,7 @@ module _ {env : Variables} (T : Type 0) (inner : Outcome T)
       record {
         steady = i.steady;
         takes = i.takes;
-        read = λ n. record {
-          list = vs;
-          own = i.read n;
-          is = record { before = o.0; is = refl };
-        };
+        read = λ n. record { list = vs; own = i.read n; is = record { before = o.0; is = refl } };
         rest = i.rest;
       }
   last_took s t v w (inr o) = absurd (again_ok s o.0 t v w o.1 o.2)

@@ -1,16 +1,14 @@
 -- What fields keep to, and what their values say: of a field before others, as of those others.
 use Rattle.std.proofs.Common.{ℕ, List, ◌++◌}
 use Rattle.bpaf_doc.specs.Names.{Names}
-use Rattle.bpaf_laws.specs.Product.{BothOutcome}
-use Rattle.bpaf_laws.specs.Reading.{Outcome}
-use Rattle.bpaf_exact.specs.Says.{SaidKind}
+use Rattle.bpaf_laws.specs.{Product.BothOutcome, Reading.Outcome}
 use Rattle.bpaf_exact.specs.ProgramForm.{ProgramForm, ProgramFormLaw, program_alone, program_both}
-use Rattle.bpaf_exact.specs.ProgramForm.{program_field}
 use Rattle.bpaf_exact.specs.ProgramSays.{FieldsKeep, ProgramFieldsSaid, ProgramSaid, ProgramSays}
-use Rattle.bpaf_exact.specs.ProgramSays.{fields_said_inside, said_alone, said_both}
+use Rattle.bpaf_exact.specs.{ProgramForm.program_field, ProgramSays.fields_said_inside}
+use Rattle.bpaf_exact.specs.{ProgramSays.said_alone, ProgramSays.said_both, Says.SaidKind}
+use Rattle.bpaf_exact.specs.{Flat.Variables}
 use Rattle.bpaf_exact.proofs.ProgramForm.{program_alone_law, program_both_law, program_field_law}
 use Rattle.bpaf_exact.proofs.ProgramSays.{inside_say, program_alone_says, program_both_say}
-use Rattle.bpaf_exact.specs.Flat.{Variables}
 
 -- the last field
 pub keep_last : {env : Variables} {P R A : Type 0} (last : R → P) (r : R) (outcome : Outcome A)
@@ -39,8 +37,7 @@ pub keep_before : {env : Variables} {P Q R A B : Type 0} (first : R → P) (rest
     (s : ProgramForm A) (said : ProgramSaid P A)
     → ProgramFormLaw env outcome (names (first r)) words s
     → ProgramSays (names (first r)) s (kind (first r)) said (first r)
-    → {behind : Outcome B} {others : List Names} {t : ProgramForm B}
-    {more : ProgramFieldsSaid Q B}
+    → {behind : Outcome B} {others : List Names} {t : ProgramForm B} {more : ProgramFieldsSaid Q B}
     → FieldsKeep env behind others t more (rest r)
     → FieldsKeep env (BothOutcome outcome behind) (names (first r) ++ others)
     (program_both (names (first r)) others (program_field s) t)
@@ -51,6 +48,5 @@ keep_before {env} {P} {Q} {R} {A} {B} first rest r outcome kind names words s sa
           (program_field s) t
           (program_field_law env A outcome (names (first r)) words s law) kept.law;
       says = program_both_say first rest r outcome behind kind names words others env law kept.law
-          says
-          kept.says;
+          says kept.says;
     }

@@ -2,32 +2,23 @@
 use Rattle.std.proofs.Common.{◌≡◌, ℕ, true, List, [], ◌∷◌, ◌++◌, Ok, refl, sym, ap, ◌∙◌, subst}
 use Rattle.std.proofs.Common.{⊎_elim}
 use Rattle.bpaf_text.specs.Named.{KeyWithValue}
-use Rattle.bpaf_base.specs.declared.arg.Arg.{Arg}
-use Rattle.bpaf_base.specs.Items.{item_text}
-use Rattle.bpaf_line.specs.declared.error.Error.{Error}
-use Rattle.bpaf_line.specs.declared.error.Message.{Message}
+use Rattle.bpaf_base.specs.{declared.arg.Arg.Arg, Items.item_text}
 use Rattle.bpaf_line.specs.declared.error.Message.TheVariants.{Memory, NoArgument, ParseFailed}
-use Rattle.bpaf_line.specs.Situation.{Situation}
+use Rattle.bpaf_line.specs.{declared.error.Error.Error, declared.error.Message.Message}
+use Rattle.bpaf_line.specs.{Situation.Situation}
 use Rattle.bpaf_laws.specs.Argument.{ArgumentOutcome, ArgumentFails, TakesKeysWithTexts}
 use Rattle.bpaf_laws.specs.Argument.{TakesOwnText, TakesBefore, is_key_with_value}
 use Rattle.bpaf_laws.specs.Environment.{first_set}
 use Rattle.bpaf_exact.specs.Pieces.{Roles, LinePiece, One, Two, pieces, takes_none, takes_more}
 use Rattle.bpaf_exact.specs.Flat.{class, class_of, cells, IsWholeIn, ByName, Steady, Refused}
-use Rattle.bpaf_exact.specs.Flat.{Variables}
 use Rattle.bpaf_exact.specs.Single.{Gap, TakesAny, SingleOk, took, SingleErr, of_memory, of_piece}
-use Rattle.bpaf_exact.specs.Single.{SingleLaw}
 use Rattle.bpaf_exact.specs.Leaves.{argument_gap, argument_roles, HaveValues, no_more, one_more}
-use Rattle.bpaf_exact.specs.Leaves.{LastGroup}
+use Rattle.bpaf_exact.specs.{Flat.Variables, Single.SingleLaw, Leaves.LastGroup}
 use Rattle.bpaf_exact.proofs.ArgumentPieces.{TookPair, test, named, took_pair, no_key, nowhere}
 use Rattle.bpaf_exact.proofs.ArgumentPieces.{variable_read, variable_fault, gap_empty}
-use Rattle.bpaf_exact.proofs.First.{first_takes, first_pieces, takes_nonempty}
-use Rattle.bpaf_exact.proofs.Matching.{match_of, bare_taken}
-use Rattle.bpaf_exact.proofs.Product.{steady_trans}
-
--- a list with a last element isn't empty
-not_nil : {T : Type 0} (xs : List T) (x : T) → xs ++ x ∷ [] ≡ [] → ⊥
-not_nil [] x e = cc
-not_nil (y ∷ xs) x e = cc
+use Rattle.bpaf_exact.proofs.{First.first_takes, First.first_pieces, First.takes_nonempty}
+use Rattle.bpaf_exact.proofs.{Matching.match_of, Matching.bare_taken, Product.steady_trans}
+use Rattle.bpaf_exact.proofs.{Fronts.never_nil}
 
 -- the last element of a list is one
 pub last_same : (T : Type 0) (xs ys : List T) (v w : T) → xs ++ (v ∷ []) ≡ ys ++ (w ∷ []) → v ≡ w
@@ -43,11 +34,7 @@ bare_spoils : (pairs tail before : List LinePiece) (k j w : Arg) → HaveValues 
     → pairs ++ One k ∷ tail ≡ before ++ Two j w ∷ [] → ⊥
 bare_spoils [] tail before k j w no_more e = cc
 bare_spoils [] tail before k j w (one_more h) e = cc
-bare_spoils (o ∷ pairs) tail before k j w no_more e = not_there pairs cc
-  where
-    not_there : (ps : List LinePiece) → ps ++ One k ∷ tail ≡ [] → ⊥
-    not_there [] f = cc
-    not_there (p ∷ ps) f = cc
+bare_spoils (o ∷ pairs) tail before k j w no_more e = absurd (never_nil pairs (One k) tail cc)
 bare_spoils (o ∷ pairs) tail before k j w (one_more {os = os} h) e =
     bare_spoils pairs tail os k j w h cc
 
@@ -65,16 +52,13 @@ module _ (T : Type 0) (means : List ℕ → T → Type 0) (argument : KeyWithVal
   -- some keys with their texts
   took_some : (s t : Situation) (texts : List (List ℕ)) → TakesKeysWithTexts argument s texts t
       → TookSome s t
-  took_some s t [] same =
-      record { pairs = []; is = ap (λ z. pieces q (cells z)) (sym same) }
+  took_some s t [] same = record { pairs = []; is = ap (λ z. pieces q (cells z)) (sym same) }
   took_some s t (text ∷ texts) o =
       let m = took_pair argument s o.0 text o.1 in
       let rest = took_some o.0 t texts o.2 in
       record {
         pairs = Two m.key m.word ∷ rest.pairs;
-        is =
-            first_pieces q (named argument) m.takes
-            ∙ ap (λ z. Two m.key m.word ∷ z) rest.is;
+        is = first_pieces q (named argument) m.takes ∙ ap (λ z. Two m.key m.word ∷ z) rest.is;
       }
 
   -- all of them are the pieces, and this is the text of the last one
@@ -134,8 +118,7 @@ module _ (T : Type 0) (means : List ℕ → T → Type 0) (argument : KeyWithVal
       subst (λ z. TookAll s z text) (sym o.2)
       (all_one s o.0 text (took_pair argument s o.0 text o.1))
   took_texts s t text (x ∷ before) o =
-      all_more s o.0 t x text (took_pair argument s o.0 x o.1)
-      (took_texts o.0 t text before o.2)
+      all_more s o.0 t x text (took_pair argument s o.0 x o.1) (took_texts o.0 t text before o.2)
 
   -- the text of an argument is that of the last of its pieces, of which none is left
   record GotAll (s t : Situation) (text : List ℕ) : Type 0 where
@@ -197,9 +180,8 @@ module _ (T : Type 0) (means : List ℕ → T → Type 0) (argument : KeyWithVal
       read o.2) o.1
 
   -- where a last text means no value, the pieces have none
-  fault_group : (s t : Situation) (text : List ℕ) → GotAll s t text
-      → ((v : T) → means text v → ⊥) → (v : T) (rest : List LinePiece)
-      → LastGroup T means (pieces q (cells s)) v rest → ⊥
+  fault_group : (s t : Situation) (text : List ℕ) → GotAll s t text → ((v : T) → means text v → ⊥) →
+      (v : T) (rest : List LinePiece) → LastGroup T means (pieces q (cells s)) v rest → ⊥
   fault_group s t text got nothing v rest g =
       let a = got.pieces_are in
       let same : Two g.key g.word ≡ Two a.key a.word =
@@ -215,14 +197,9 @@ module _ (T : Type 0) (means : List ℕ → T → Type 0) (argument : KeyWithVal
   bare_refused s t e k tail c some is =
       let there : pieces q (cells s) ≡ some.pairs ++ One k ∷ tail =
       some.is ∙ ap (λ z. some.pairs ++ z) is in
-      of_piece c
-      (λ none. not_there some.pairs (sym there ∙ none))
+      of_piece c (λ none. never_nil some.pairs (One k) tail (sym there ∙ none))
       (λ v rest g. bare_spoils some.pairs tail g.before k g.key g.word g.have_values
       (sym there ∙ g.is))
-    where
-      not_there : (ps : List LinePiece) → ps ++ One k ∷ tail ≡ [] → ⊥
-      not_there [] f = cc
-      not_there (p ∷ ps) f = cc
 
   -- a refusal: no piece, one without a value, or a last one that means none
   last_err : (s t : Situation) (e : Error) (m : Message) → class e ≡ class_of m
@@ -233,8 +210,7 @@ module _ (T : Type 0) (means : List ℕ → T → Type 0) (argument : KeyWithVal
       (λ takes. let got = takes_all s t o.0 takes in
       of_piece c (takes_nonempty q got.pieces_are.any.one) (fault_group s t o.0 got o.2.0))
       (λ read. variable_fault T means argument (LastGroup T means) variables s t e o.0 same read c
-      o.2.0)
-      o.1
+      o.2.0) o.1
   last_err s t e (NoArgument key metavar) c same o =
       let before = subst (λ b. TakesBefore b argument s t) all o.1 in
       let m = match_of (is_key_with_value argument) t key o.0.0.matches in
@@ -249,7 +225,7 @@ module _ (T : Type 0) (means : List ℕ → T → Type 0) (argument : KeyWithVal
   last_argument_law = record {
     own = named argument;
     words = tt;
-    starts = λ v rest g. not_nil g.before (Two g.key g.word) (sym g.is);
+    starts = λ v rest g. never_nil g.before (Two g.key g.word) [] (sym g.is);
     no_absent = gap_empty T means argument (LastGroup T means) variables;
     ok = last_ok;
     err = λ s t e w o. last_err s t e e.0 refl w.environment o;

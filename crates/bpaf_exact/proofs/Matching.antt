@@ -3,32 +3,28 @@ use Rattle.std.proofs.Common.{◌≡◌, ℕ, suc, ◌+◌, ◌<◌, Bool, true,
 use Rattle.std.proofs.Common.{Option, Some, None, refl, sym, ap, ◌∙◌, subst, inl, if◌then◌else◌}
 use Rattle.std.proofs.Common.{option_and_then, add-one, ◌||◌}
 use Rattle.std.specs.Option.{option_map_or, is_some}
-use Rattle.bpaf_doc.specs.Names.{Names}
-use Rattle.bpaf_doc.specs.Shape.{Part}
+use Rattle.bpaf_doc.specs.{Names.Names, Shape.Part}
 use Rattle.bpaf_base.specs.declared.arg.Arg.{Arg}
 use Rattle.bpaf_base.specs.declared.arg.Arg.TheVariants.{ArgWord, Word}
 use Rattle.bpaf_base.specs.Items.{is_key_of, value_text, item_text}
+use Rattle.bpaf_line.specs.Taking.{open_item, is_match, IsFirst, HasNone, value_after}
 use Rattle.bpaf_line.specs.declared.error.Error.{Error}
 use Rattle.bpaf_line.specs.declared.error.Message.{Message}
 use Rattle.bpaf_line.specs.declared.error.Message.TheVariants.{Missing, NoEnv}
 use Rattle.bpaf_line.specs.Situation.{Situation, take_place}
-use Rattle.bpaf_line.specs.Taking.{open_item, is_match, IsFirst, HasNone, value_after}
-use Rattle.bpaf_line.proofs.Places.{open_in_line}
-use Rattle.bpaf_line.proofs.Matches.{open_item_there}
+use Rattle.bpaf_line.proofs.{Places.open_in_line, Matches.open_item_there}
 use Rattle.bpaf_laws.specs.Environment.{IsAbsence, MissesItem}
 use Rattle.bpaf_exact.specs.Pieces.{Role, Foreign, Alone, WithNext, Roles, LinePiece, One, Two}
-use Rattle.bpaf_exact.specs.Pieces.{is_value, is_key, is_own_role, IsNamed, pieces}
 use Rattle.bpaf_exact.specs.Flat.{OfMissing, Refused, is_missing, class, class_of, cells, Steady}
-use Rattle.bpaf_exact.specs.Names.{Owns}
 use Rattle.bpaf_exact.specs.Alternative.{NotOwn, TakesFirst, HasBad, bad_here, AlternativeOk}
 use Rattle.bpaf_exact.specs.Alternative.{AlternativeErr, alternative_missing, alternative_refused}
+use Rattle.bpaf_exact.specs.Pieces.{is_value, is_key, is_own_role, IsNamed, pieces}
+use Rattle.bpaf_exact.specs.Names.{Owns}
 use Rattle.bpaf_exact.specs.Single.{CanCatch, catch_missing, catch_other}
-use Rattle.bpaf_exact.proofs.Classes.{missing_class}
-use Rattle.bpaf_exact.proofs.Product.{steady_refl, steady_trans}
-use Rattle.bpaf_exact.proofs.First.{first_takes}
-use Rattle.bpaf_exact.proofs.Names.{named_key}
 use Rattle.bpaf_exact.proofs.Places.{take_steady, NoneBefore, take_one, take_two, none_present}
-use Rattle.bpaf_exact.proofs.Places.{BareHead, bare_first, open_one, open_two}
+use Rattle.bpaf_exact.proofs.{Places.BareHead, Places.bare_first, Places.open_one, Places.open_two}
+use Rattle.bpaf_exact.proofs.{Classes.missing_class, Product.steady_refl, Product.steady_trans}
+use Rattle.bpaf_exact.proofs.{First.first_takes, Names.named_key}
 
 -- the item of a match
 pub record Match (test : Arg → Bool) (s : Situation) (p : ℕ) : Type 0 where
@@ -45,14 +41,12 @@ match_of test s p e = by_item (open_item s p) refl e
     by_item : (c : Option Arg) → open_item s p ≡ c → option_map_or test c false ≡ true
         → Match test s p
     by_item None f h = absurd cc
-    by_item (Some k) f h =
-        record {
-          item = k;
-          is = f;
-          passes = h;
-          in_line =
-              open_in_line s p (open_item_there s p k f).0;
-        }
+    by_item (Some k) f h = record {
+      item = k;
+      is = f;
+      passes = h;
+      in_line = open_in_line s p (open_item_there s p k f).0;
+    }
 
 -- a role by a test
 pub record ByTest (test : Arg → Bool) (r : Roles) (own : Role) : Type 0 where
@@ -62,12 +56,10 @@ pub record ByTest (test : Arg → Bool) (r : Roles) (own : Role) : Type 0 where
 -- the roles that a test gives
 pub by_test : (test : Arg → Bool) (own : Role)
     → ByTest test (λ k. if test k then own else Foreign) own
-by_test test own =
-    record {
-      yes = λ k e. ap (λ b. if b then own else Foreign) e;
-      no =
-          λ k e. ap (λ b. if b then own else Foreign) e;
-    }
+by_test test own = record {
+  yes = λ k e. ap (λ b. if b then own else Foreign) e;
+  no = λ k e. ap (λ b. if b then own else Foreign) e;
+}
 
 -- only keys have a role by a test that asks for names
 pub test_named : (test : Arg → Bool) (names : Names) (own : Role)
@@ -144,8 +136,7 @@ behind_of s p text e =
           is = f;
           value = v.0;
           text_is = v.1;
-          in_line =
-              open_in_line s (suc p) (open_item_there s (suc p) w f).0;
+          in_line = open_in_line s (suc p) (open_item_there s (suc p) w f).0;
         }
 
 -- where no text is behind a key, no value is there
@@ -191,22 +182,19 @@ bare_taken test r s p t f m e =
 pub first_alternative : (T : Type 0) (q : Roles) (value : LinePiece → T → Type 0) (s t : Situation)
     (v : T) (o : LinePiece) → Steady s t → value o v → TakesFirst q (cells s) o (cells t)
     → AlternativeOk T q value s v t
-first_alternative T q value s t v o st m f =
-    record {
-      steady = st;
-      piece = o;
-      takes = first_takes q f;
-      means = m;
-      first = inl f;
-      readable =
-          λ p os w e g. f;
-    }
+first_alternative T q value s t v o st m f = record {
+  steady = st;
+  piece = o;
+  takes = first_takes q f;
+  means = m;
+  first = inl f;
+  readable = λ p os w e g. f;
+}
 
 -- the first piece can't be read
 pub first_refused : (T : Type 0) (q : Roles) (value : LinePiece → T → Type 0) (s t : Situation)
     (e : Error) (o : LinePiece) (os : List LinePiece) → class e ≡ Refused → t.path ≡ s.path
-    → pieces q (cells s) ≡ o ∷ os
-    → ((v : T) → value o v → ⊥) → AlternativeErr T q value s e t
+    → pieces q (cells s) ≡ o ∷ os → ((v : T) → value o v → ⊥) → AlternativeErr T q value s e t
 first_refused T q value s t e o os c p h n =
     alternative_refused c p (subst (HasBad T value) (sym h) (bad_here n))
     (λ x xs w g m. let d : x ≡ o = (let k = sym h ∙ g in cc) in n w (subst (λ z. value z w) d m))

@@ -2,25 +2,21 @@
 use Rattle.std.proofs.Common.{◌≡◌, true, false, List, [], ◌∷◌, Some, None, Ok, Err, refl, sym, ap}
 use Rattle.std.proofs.Common.{ap₂, ◌∙◌, subst, if◌then◌else◌}
 use Rattle.bpaf_base.specs.declared.arg.Arg.{Arg}
-use Rattle.bpaf_line.specs.declared.error.Error.{Error}
-use Rattle.bpaf_line.specs.Situation.{Situation}
-use Rattle.bpaf_laws.specs.Product.{BothOutcome, ProductOutcome}
-use Rattle.bpaf_laws.specs.Reading.{Outcome}
+use Rattle.bpaf_line.specs.{declared.error.Error.Error, Situation.Situation}
+use Rattle.bpaf_laws.specs.{Product.BothOutcome, Product.ProductOutcome, Reading.Outcome}
 use Rattle.bpaf_exact.specs.Flat.{ByName, FieldLaw, FieldTook, FieldsReading, IsWholeIn, OfMemory}
-use Rattle.bpaf_exact.specs.Flat.{both_reading, cells, class, Variables}
 use Rattle.bpaf_exact.specs.Pieces.{Alone, Apart, Cells, Foreign, LinePiece, One, Role, Roles}
 use Rattle.bpaf_exact.specs.Pieces.{TakesPieces, WithNext, begin_piece, either, is_own_role, mine}
 use Rattle.bpaf_exact.specs.Pieces.{no_roles, others, pieces, takes_more, takes_none, with_next}
-use Rattle.bpaf_exact.specs.Record.{LastValue}
-use Rattle.bpaf_exact.specs.Wrappers.{ClosedValue, map_closure}
-use Rattle.bpaf_exact.proofs.Cells.{begin_foreign, keeps_other_some}
+use Rattle.bpaf_exact.specs.{Flat.both_reading, Flat.cells, Flat.class, Flat.Variables}
+use Rattle.bpaf_exact.specs.{Record.LastValue, Wrappers.ClosedValue, Wrappers.map_closure}
 use Rattle.bpaf_exact.proofs.First.{Belongs, Union, belongs, both_nil, either_union, own_next}
 use Rattle.bpaf_exact.proofs.First.{swap_union, takes_left, to_first, to_none, to_second}
-use Rattle.bpaf_exact.proofs.First.{union_named}
 use Rattle.bpaf_exact.proofs.Product.{RefusedBy, by_first, by_rest, for_memory, none_outside_after}
-use Rattle.bpaf_exact.proofs.Product.{refused_by, steady_trans, values_of_both}
-use Rattle.bpaf_exact.proofs.Records.{before_none, current_cells, same_steady}
-use Rattle.bpaf_exact.proofs.Repeat.{some_trans}
+use Rattle.bpaf_exact.proofs.{First.union_named, Product.refused_by, Product.steady_trans}
+use Rattle.bpaf_exact.proofs.{Product.values_of_both, Cells.keeps_other_some, Cells.begin_at}
+use Rattle.bpaf_exact.proofs.{Records.before_none, Records.current_cells, Records.same_steady}
+use Rattle.bpaf_exact.proofs.{Repeat.some_trans}
 
 -- The pieces of two fields together.
 
@@ -34,8 +30,7 @@ module _ (q : Roles) (k : Arg) (cs : Cells) (os : List LinePiece) where
       ap (λ b. if b then (with_next k cs ∷ mine q os) else mine q os) (own_next q k cs ∙ h)
 
   -- another item begins none
-  mine_passes : (x : Role) → is_own_role (q k) ≡ false
-      → mine q (begin_piece x k cs os) ≡ mine q os
+  mine_passes : (x : Role) → is_own_role (q k) ≡ false → mine q (begin_piece x k cs os) ≡ mine q os
   mine_passes Foreign h = refl
   mine_passes Alone h = ap (λ b. if b then (One k ∷ mine q os) else mine q os) h
   mine_passes WithNext h =
@@ -67,14 +62,13 @@ module _ (p q r : Roles) (u : Union p q r) where
       by_owner : Belongs p q r k → mine p (pieces r cs) ≡ pieces p cs
           → mine p (pieces r (Some k ∷ cs)) ≡ pieces p (Some k ∷ cs)
       by_owner (to_first h g f) behind =
-          mine_begin p k cs (pieces r cs) (r k) h
-          ∙ ap₂ (λ x os. begin_piece x k cs os) g behind
+          mine_begin p k cs (pieces r cs) (r k) h ∙ ap₂ (λ x os. begin_piece x k cs os) g behind
       by_owner (to_second h g f) behind =
           mine_passes p k cs (pieces r cs) (r k) (ap is_own_role f)
-          ∙ (behind ∙ sym (begin_foreign k cs (pieces p cs) f))
+          ∙ (behind ∙ sym (begin_at k cs (pieces p cs) f))
       by_owner (to_none f g h) behind =
           mine_passes p k cs (pieces r cs) (r k) (ap is_own_role f)
-          ∙ (behind ∙ sym (begin_foreign k cs (pieces p cs) f))
+          ∙ (behind ∙ sym (begin_at k cs (pieces p cs) f))
 
   -- and the others the second one's
   pub others_of_both : (cs : Cells) → others p (pieces r cs) ≡ pieces q cs
@@ -85,8 +79,7 @@ module _ (p q r : Roles) (u : Union p q r) where
       by_owner : Belongs p q r k → others p (pieces r cs) ≡ pieces q cs
           → others p (pieces r (Some k ∷ cs)) ≡ pieces q (Some k ∷ cs)
       by_owner (to_first h g f) behind =
-          others_pass p k cs (pieces r cs) (r k) h
-          ∙ (behind ∙ sym (begin_foreign k cs (pieces q cs) f))
+          others_pass p k cs (pieces r cs) (r k) h ∙ (behind ∙ sym (begin_at k cs (pieces q cs) f))
       by_owner (to_second h g f) behind =
           others_begin p k cs (pieces r cs) (r k) (ap is_own_role f)
           ∙ ap₂ (λ x os. begin_piece x k cs os) g behind
@@ -201,15 +194,14 @@ module _ {env : Variables} (A B : Type 0) (first : Outcome A) (rest : Outcome B)
   }
 
 -- no item is nobody's own
-none_of_nobody : (cs : Cells) → pieces no_roles cs ≡ []
+pub none_of_nobody : (cs : Cells) → pieces no_roles cs ≡ []
 none_of_nobody [] = refl
 none_of_nobody (None ∷ cs) = none_of_nobody cs
 none_of_nobody (Some k ∷ cs) = none_of_nobody cs
 
 -- The last of named fields.
 module _ {env : Variables} (T : Type 0) (outcome : Outcome T) (q : Roles)
-    (value : List LinePiece → T → Type 0)
-    (l : FieldLaw env T outcome ByName q value) where
+    (value : List LinePiece → T → Type 0) (l : FieldLaw env T outcome ByName q value) where
   -- its items
   abbrev alone : Roles
   alone = either q no_roles
@@ -274,8 +266,7 @@ module _ {env : Variables} (A B : Type 0) (fields : Outcome A) (makes : A → B 
   con_takes : (s t : Situation) (v u : B) → IsWholeIn env s → ProductOutcome fields makes s (Ok v) t
       → made (pieces q (cells s)) u → pieces q (cells t) ≡ []
   con_takes s t v u w o h =
-      ap (pieces q) (ap cells o.4 ∙ current_cells o.0)
-      ∙ l.takes_all s o.0 o.1 h.from w o.2 h.read
+      ap (pieces q) (ap cells o.4 ∙ current_cells o.0) ∙ l.takes_all s o.0 o.1 h.from w o.2 h.read
 
   -- with its constructor a product keeps to the laws of a named field
   pub named_con_law : FieldLaw env B (ProductOutcome fields makes) ByName q made

@@ -94,8 +94,7 @@ pub either_owns : (q r : Roles) (keys others : List Names) → Owns q keys → O
     → Owns (either q r) (keys ++ others)
 either_owns q r keys others a b = record {
   own = λ k e.
-      list_any-append (λ names. is_key_of names k) keys others
-      ∙ ⊎_elim
+      list_any-append (λ names. is_key_of names k) keys others ∙ ⊎_elim
       (λ (one : is_own_role (q k) ≡ true). ap (λ z. z || is_key_of_any others k) (a.own k one))
       (λ (other : is_own_role (r k) ≡ true).
       ap (λ z. is_key_of_any keys k || z) (b.own k other) ∙ or_true (is_key_of_any keys k))

@@ -1,12 +1,10 @@
 -- Which values need a piece of their own: those of which nothing is said without one.
 use Rattle.std.proofs.Common.{◌≡◌, ◌≢◌, ℕ, Bool, List, [], ◌∷◌, ◌++◌, Option, None, refl, sym, ◌∙◌}
-use Rattle.bpaf_exact.specs.Pieces.{LinePiece, Two}
 use Rattle.bpaf_exact.specs.Says.{Said, FlagSays, says_present, says_absent, ArgumentSays}
 use Rattle.bpaf_exact.specs.Says.{says_variable, says_variable_text, says_text, says_last_text}
 use Rattle.bpaf_exact.specs.Says.{MadeSays, FrontSays, RepeatSays, says_in_turn, says_alone}
-use Rattle.bpaf_exact.specs.Says.{LastSays}
-use Rattle.bpaf_exact.specs.Single.{Own, own_none, own_more}
-use Rattle.bpaf_exact.specs.Wrappers.{Closure}
+use Rattle.bpaf_exact.specs.{Says.LastSays, Pieces.LinePiece, Pieces.Two, Single.Own}
+use Rattle.bpaf_exact.specs.{Single.own_none, Single.own_more, Wrappers.Closure}
 
 -- no value says so of no piece
 pub record NeedsPiece {T : Type 0} (said : Said T) : Type 0 where
@@ -64,12 +62,10 @@ repeat_needs {T} {said} needs vs some (says_in_turn turns) = in_turn [] vs refl 
 pub last_needs : {T : Type 0} {said : Said T} → NeedsPiece said → NeedsPiece (LastSays said)
 last_needs needs = record {
   some = λ v last. repeat_needs needs last.values
-      (λ none. not_empty last.is.before v [] (sym none ∙ last.is.is))
-      last.told;
+      (λ none. not_empty last.is.before v [] (sym none ∙ last.is.is)) last.told;
 }
 
 -- And a repeat without values has no piece.
-pub no_values : {T : Type 0} {said : Said T} {os : List LinePiece} → RepeatSays said os []
-    → os ≡ []
+pub no_values : {T : Type 0} {said : Said T} {os : List LinePiece} → RepeatSays said os [] → os ≡ []
 no_values (says_alone a none e told) = none
 no_values (says_in_turn own_none) = refl

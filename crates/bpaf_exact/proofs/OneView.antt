@@ -2,38 +2,32 @@
 -- of a line look alike.
 use Rattle.std.proofs.Common.{◌≡◌, ℕ, Bool, true, false, List, [], ◌∷◌, map, Option, Some, None}
 use Rattle.std.proofs.Common.{refl, sym, ap, ◌∙◌, subst}
-use Rattle.std.specs.Global.{Vec}
-use Rattle.std.specs.Prelude.{option_map}
+use Rattle.std.specs.{Global.Vec, Prelude.option_map}
 use Rattle.bpaf_doc.specs.Names.{Names}
 use Rattle.bpaf_text.specs.Named.{Named as Key, KeyWithValue}
 use Rattle.bpaf_base.specs.Items.{item_text}
 use Rattle.bpaf_line.specs.Situation.{Context}
 use Rattle.bpaf_laws.specs.Reading.{Outcome}
-use Rattle.bpaf_exact.specs.Pieces.{Cells, Roles, LinePiece, One, Two}
 use Rattle.bpaf_exact.specs.Flat.{FieldsLaw, FieldsReading, FieldKind, ByName, ReadOff, Variables}
 use Rattle.bpaf_exact.specs.Single.{Groups, Gap, FrontOf, Own, own_none, own_more, SingleLaw}
 use Rattle.bpaf_exact.specs.Single.{SingleValue, of_group, of_gap, OwnList, listed}
-use Rattle.bpaf_exact.specs.Single.{listed_and_absent, only_absent, repeated}
 use Rattle.bpaf_exact.specs.Wrappers.{Closure, OptionalValue, some_value, no_value, FallbackValue}
-use Rattle.bpaf_exact.specs.Wrappers.{own_value, kept_value}
-use Rattle.bpaf_exact.specs.Gathered.{list_closure}
 use Rattle.bpaf_exact.specs.Leaves.{FlagValue, ArgumentValue, WordValue, flag_field, LastGroup}
 use Rattle.bpaf_exact.specs.Leaves.{SideValue, argument_by, argument_field, argument_group}
-use Rattle.bpaf_exact.specs.Leaves.{variable_argument, word_by, word_field}
 use Rattle.bpaf_exact.specs.Record.{RunAnswer, Accepted, NoMemory, Refusal, RecordValue, IsExact}
-use Rattle.bpaf_exact.specs.Record.{line_cells}
 use Rattle.bpaf_exact.specs.FlatForm.{FlatForm, alternative, single, complete, product, FormLaw}
 use Rattle.bpaf_exact.specs.FlatForm.{only_if, flat_closed, flat_repeat, flat_many, flat_optional}
 use Rattle.bpaf_exact.specs.FlatForm.{flat_fallback, flat_field, may_follow, flat_both, flat_alone}
 use Rattle.bpaf_exact.specs.FlatForm.{flat_con, flat_record, is_record, product_roles}
-use Rattle.bpaf_exact.specs.FlatForm.{product_reading, flat_whole}
 use Rattle.bpaf_exact.specs.OneView.{Alike, OneGroup, HasOneView, Respects, pair_view, LooksLike}
-use Rattle.bpaf_exact.specs.OneView.{RunsToOne}
-use Rattle.bpaf_exact.proofs.Alternative.{alternative_single}
-use Rattle.bpaf_exact.proofs.Cuts.{one_cut}
-use Rattle.bpaf_exact.proofs.LastArguments.{last_same}
-use Rattle.bpaf_exact.proofs.FlatForm.{record_law}
-use Rattle.bpaf_exact.proofs.Exact.{runs_exactly}
+use Rattle.bpaf_exact.specs.{Single.listed_and_absent, Single.only_absent, Single.repeated}
+use Rattle.bpaf_exact.specs.{Wrappers.own_value, Wrappers.kept_value, Leaves.variable_argument}
+use Rattle.bpaf_exact.specs.{Leaves.word_by, Leaves.word_field, Record.line_cells}
+use Rattle.bpaf_exact.specs.{FlatForm.product_reading, FlatForm.flat_whole, OneView.RunsToOne}
+use Rattle.bpaf_exact.specs.{Pieces.Cells, Pieces.Roles, Pieces.LinePiece, Pieces.One, Pieces.Two}
+use Rattle.bpaf_exact.specs.{Gathered.list_closure}
+use Rattle.bpaf_exact.proofs.{Alternative.alternative_single, Cuts.one_cut, LastArguments.last_same}
+use Rattle.bpaf_exact.proofs.{FlatForm.record_law, Exact.runs_exactly, Repeat.own_nil}
 
 -- Closures.
 
@@ -70,8 +64,7 @@ front_view T X see value u os rest others v w a b =
 
 -- a present value
 flag_piece : (T X : Type 0) (see : T → X) (present : T → Type 0) → Alike see present
-    → (o : LinePiece)
-    → Alike see (FlagValue present o)
+    → (o : LinePiece) → Alike see (FlagValue present o)
 flag_piece T X see present u (One k) v w a b = u v w a b
 flag_piece T X see present u (Two k x) v w a b = absurd a
 
@@ -161,10 +154,9 @@ if_view T X see s false u = tt
 
 -- Fields without a repeat or default, and what is made of them.
 
-module _ {env : Variables} (T X : Type 0) (see : T → X) (inner : Outcome T)
-    (k : FieldKind) (q : Roles) (group : Groups T)
-    (gap : Gap T) (l : SingleLaw env T inner k q group gap) (one : OneGroup see group)
-    (absent : Alike see gap.absent) where
+module _ {env : Variables} (T X : Type 0) (see : T → X) (inner : Outcome T) (k : FieldKind)
+    (q : Roles) (group : Groups T) (gap : Gap T) (l : SingleLaw env T inner k q group gap)
+    (one : OneGroup see group) (absent : Alike see gap.absent) where
   -- own lists of the same pieces look alike
   own_view : (os : List LinePiece) (vs ws : List T) → Own T group os vs → Own T group os ws
       → map see vs ≡ map see ws
@@ -180,12 +172,7 @@ module _ {env : Variables} (T X : Type 0) (see : T → X) (inner : Outcome T)
 
   -- no piece has no own list but the empty one
   own_never : (v : T) (vs : List T) → Own T group [] (v ∷ vs) → ⊥
-  own_never v vs o = by_list [] (v ∷ vs) refl refl o
-    where
-      by_list : (os : List LinePiece) (ws : List T) → os ≡ [] → ws ≡ v ∷ vs → Own T group os ws → ⊥
-      by_list os ws e f own_none = cc
-      by_list os ws e f (own_more {rest = rest} {v = w} g o) =
-          l.starts w rest (subst (λ z. group z w rest) e g)
+  own_never v vs o = let e = own_nil T inner k q group gap l [] (v ∷ vs) refl o in cc
 
   -- so do they under a repeat
   pub list_view : (os : List LinePiece) → Alike (map see) (OwnList T group gap os)
@@ -211,8 +198,7 @@ module _ {env : Variables} (T X : Type 0) (see : T → X) (inner : Outcome T)
 
   -- where there is no piece there is none
   none_single : (os : List LinePiece) (v : T) → os ≡ [] → gap.has ≡ false
-      → SingleValue T group gap os v
-      → ⊥
+      → SingleValue T group gap os v → ⊥
   none_single os v e h (of_group g) = l.starts v [] (subst (λ z. group z v []) e g)
   none_single os v e h (of_gap a) = l.no_absent v h a
 
@@ -249,14 +235,12 @@ module _ (env : Variables) (T X : Type 0) (see : T → X) (inner : Outcome T) wh
   whole_view look kind value each names (alternative q one) l u =
       each ByName q _ _ (alternative_single T inner q one l.0) (front_view T X see one u)
       (λ v w a b. absurd a)
-  whole_view look kind value each names (single k q group gap) l u =
-      each k q group gap l.0 u.0 u.1
+  whole_view look kind value each names (single k q group gap) l u = each k q group gap l.0 u.0 u.1
   whole_view look kind value each names _ l u = tt
 
   -- the list of a repeat
   pub repeat_view : (names : List Names) (s : FlatForm T) → FormLaw env inner names s
-      → HasOneView see s
-      → HasOneView (map see) (flat_repeat s)
+      → HasOneView see s → HasOneView (map see) (flat_repeat s)
   repeat_view = whole_view (map see) repeated (OwnList T) (list_view T X see inner)
 
   -- a field that may be left out
@@ -276,8 +260,7 @@ module _ (env : Variables) (T X : Type 0) (see : T → X) (inner : Outcome T) wh
 
   -- any field of a record
   pub field_view : (names : List Names) (s : FlatForm T) → FormLaw env inner names s
-      → HasOneView see s
-      → HasOneView see (flat_field s)
+      → HasOneView see s → HasOneView see (flat_field s)
   field_view names (complete k q value) l u = u
   field_view names (product true q fields) l u = u
   field_view names (product false q fields) l u = u
@@ -288,8 +271,7 @@ module _ (env : Variables) (T X : Type 0) (see : T → X) (inner : Outcome T) wh
 
 -- many
 pub many_view : (env : Variables) (T X : Type 0) (see : T → X) (inner : Outcome T)
-    (names : List Names) (s : FlatForm T)
-    → FormLaw env inner names s → HasOneView see s
+    (names : List Names) (s : FlatForm T) → FormLaw env inner names s → HasOneView see s
     → HasOneView (λ values. map see values.items) (flat_many s)
 many_view env T X see inner names s l u =
     closed_view (List T) (Vec T) (List X) (List X) (map see) (λ values. map see values.items)
@@ -298,8 +280,7 @@ many_view env T X see inner names s l u =
       same = λ x y v w e f g. ap (map see) f
           ∙ (e ∙ sym (ap (map see) g));
       apart = λ x y v e f n. n;
-    }) (flat_repeat s)
-    (repeat_view env T X see inner names s l u)
+    }) (flat_repeat s) (repeat_view env T X see inner names s l u)
 
 -- Products.
 
@@ -322,8 +303,7 @@ module _ (T X : Type 0) (see : T → X) where
 
   -- a record
   record_view : (env : Variables) (inner : Outcome T) (names : List Names) (s : FlatForm T)
-      → FormLaw env inner names s
-      → HasOneView see s → HasOneView see (flat_record s)
+      → FormLaw env inner names s → HasOneView see s → HasOneView see (flat_record s)
   record_view env inner names (product named q fields) l u = u
   record_view env inner names s l u =
       alone_view (flat_field s) (field_view env T X see inner names s l u)
@@ -336,11 +316,9 @@ module _ (T X : Type 0) (see : T → X) where
 
   -- an exact answer looks like each value of the record
   like_this : {env : Variables} (inner : Outcome T) (r : Roles) (reading : FieldsReading T)
-      (context : Context)
-      → FieldsLaw env T inner r reading
+      (context : Context) → FieldsLaw env T inner r reading
       → Alike see (λ v. RecordValue r reading.value context v) → (a : RunAnswer T) (v : T)
-      → IsExact T r reading context a
-      → RecordValue r reading.value context v → LooksLike see v a
+      → IsExact T r reading context a → RecordValue r reading.value context v → LooksLike see v a
   like_this inner r reading context l one (Accepted w) v e h = one w v (e.sound w refl) h
   like_this inner r reading context l one NoMemory v e h = tt
   like_this inner r reading context l one Refusal v e h =
@@ -354,8 +332,7 @@ module _ (T X : Type 0) (see : T → X) where
       cs)
   record_looks_one env outcome names s h l u cs v w a b =
       let f = record_law env T outcome names s h l in
-      let c = one_cut
-      (product_roles (flat_record s)) _ a.cut_into b.cut_into f.named a.cut b.cut in
+      let c = one_cut (product_roles (flat_record s)) _ a.cut_into b.cut_into f.named a.cut b.cut in
       product_view (flat_record s) (record_view env outcome names s l u) b.cut_into v w
       (subst (λ os. (product_reading (flat_record s)).value os v) c a.read) b.read
 

@@ -2,13 +2,12 @@
 use Rattle.std.proofs.Common.{◌≡◌, ℕ, Bool, true, false, List, [], ◌∷◌, ◌++◌, Option, None, sym, ap}
 use Rattle.std.proofs.Common.{◌∙◌, subst, true≢false}
 use Rattle.std.specs.List.{AllZip}
-use Rattle.bpaf_exact.specs.Pieces.{LinePiece, One, Two, stands_behind}
-use Rattle.bpaf_exact.specs.Leaves.{FlagValue, ArgumentValue, WordValue}
-use Rattle.bpaf_exact.specs.Single.{Own, own_none, own_more}
 use Rattle.bpaf_exact.specs.Says.{Said, FlagSays, says_present, says_absent, ArgumentSays}
 use Rattle.bpaf_exact.specs.Says.{says_variable, says_variable_text, says_text, says_last_text}
 use Rattle.bpaf_exact.specs.Says.{WordSays, FrontSays, RepeatSays, first_item, says_in_turn}
-use Rattle.bpaf_exact.specs.Says.{says_alone}
+use Rattle.bpaf_exact.specs.{Says.says_alone, Pieces.LinePiece, Pieces.One, Pieces.Two}
+use Rattle.bpaf_exact.specs.{Pieces.stands_behind, Leaves.FlagValue, Leaves.ArgumentValue}
+use Rattle.bpaf_exact.specs.{Leaves.WordValue, Single.Own, Single.own_none, Single.own_more}
 
 -- a value that is said of one piece
 record OfOnePiece {T : Type 0} (one : LinePiece → T → Type 0) (os : List LinePiece)

@@ -7,10 +7,9 @@ use Rattle.bpaf_line.specs.Situation.{Situation, is_open, is_taken, in_scope, it
 use Rattle.bpaf_line.specs.Taking.{open_item}
 use Rattle.bpaf_line.proofs.Places.{taken_here, taken_other, taken_stays}
 use Rattle.bpaf_exact.specs.Pieces.{Cells, Alone, WithNext, Roles, LinePiece, One, Two, is_value}
-use Rattle.bpaf_exact.specs.Pieces.{with_next, pieces}
-use Rattle.bpaf_exact.specs.Flat.{first_cells, Steady}
 use Rattle.bpaf_exact.specs.Alternative.{NotOwn, TakesFirst, first_one, first_two, first_later}
-use Rattle.bpaf_exact.proofs.First.{begin_at}
+use Rattle.bpaf_exact.specs.{Pieces.with_next, Pieces.pieces, Flat.first_cells, Flat.Steady}
+use Rattle.bpaf_exact.proofs.Cells.{begin_at}
 
 -- taking a place changes what is taken and the current place alone
 pub take_steady : (s : Situation) (p : ℕ) → Steady s (take_place s p)
@@ -48,12 +47,10 @@ tail_before r at p none = record { before = λ q l. none.before (suc q) (omega a
 -- so is what was taken
 tail_one : (at left : ℕ → Option Arg) (p : ℕ) → TakenOne at left (suc p)
     → TakenOne (λ q. at (suc q)) (λ q. left (suc q)) p
-tail_one at left p taken =
-    record {
-      gone = taken.gone;
-      others =
-          λ q other. taken.others (suc q) (λ e. other (omega arith));
-    }
+tail_one at left p taken = record {
+  gone = taken.gone;
+  others = λ q other. taken.others (suc q) (λ e. other (omega arith));
+}
 
 -- and what was taken with the next
 tail_two : (at left : ℕ → Option Arg) (p : ℕ) → TakenTwo at left (suc p)
@@ -108,9 +105,8 @@ take_one r at left (suc n) (suc p) k l e h none taken =
 
 -- with the value after it
 pub take_two : (r : Roles) (at left : ℕ → Option Arg) (n p : ℕ) (k w : Arg) → suc p < n
-    → at p ≡ Some k → at (suc p) ≡ Some w → r k ≡ WithNext → is_value w ≡ true
-    → NoneBefore r at p → TakenTwo at left p
-    → TakesFirst r (first_cells at n) (Two k w) (first_cells left n)
+    → at p ≡ Some k → at (suc p) ≡ Some w → r k ≡ WithNext → is_value w ≡ true → NoneBefore r at p
+    → TakenTwo at left p → TakesFirst r (first_cells at n) (Two k w) (first_cells left n)
 take_two r at left zero p k w l e f h v none taken = absurd (omega arith)
 take_two r at left (suc zero) zero k w l e f h v none taken = absurd (omega arith)
 take_two r at left (suc (suc n)) zero k w l e f h v none taken =

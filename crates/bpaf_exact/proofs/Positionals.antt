@@ -5,27 +5,20 @@ use Rattle.std.specs.Option.{option_map_or}
 use Rattle.bpaf_base.specs.declared.arg.Arg.{Arg}
 use Rattle.bpaf_base.specs.declared.arg.Arg.TheVariants.{Word, PosWord}
 use Rattle.bpaf_base.specs.Items.{is_positional, word_text, item_text}
-use Rattle.bpaf_line.specs.declared.error.Error.{Error}
-use Rattle.bpaf_line.specs.Situation.{Situation}
-use Rattle.bpaf_line.specs.Taking.{TakesText}
+use Rattle.bpaf_line.specs.{declared.error.Error.Error, Situation.Situation, Taking.TakesText}
 use Rattle.bpaf_line.proofs.Matches.{open_item_there}
-use Rattle.bpaf_exact.specs.Pieces.{Cells, Foreign, Alone, WithNext, LinePiece, One, word_roles}
-use Rattle.bpaf_exact.specs.Pieces.{pieces, stands_behind}
+use Rattle.bpaf_exact.specs.Pieces.{Cells, Alone, LinePiece, One, word_roles, pieces, stands_behind}
 use Rattle.bpaf_exact.specs.Flat.{cells, IsWholeIn, Steady, EachWord, OneWord, front, back}
-use Rattle.bpaf_exact.specs.Flat.{is_behind, Variables}
 use Rattle.bpaf_exact.specs.Single.{Groups, FrontOf, no_gap, SingleOk, took, SingleErr, of_memory}
 use Rattle.bpaf_exact.specs.Single.{catch_missing, catch_other, of_missing, of_piece, WordByWord}
-use Rattle.bpaf_exact.specs.Single.{SingleLaw}
 use Rattle.bpaf_exact.specs.Alternative.{TakesFirst, first_one, first_two, first_later}
 use Rattle.bpaf_exact.specs.Leaves.{WordEval, word_by, word_fault, word_memory, word_missing}
-use Rattle.bpaf_exact.specs.Leaves.{word_passed, word_read}
+use Rattle.bpaf_exact.specs.{Flat.is_behind, Flat.Variables, Single.SingleLaw, Leaves.word_passed}
+use Rattle.bpaf_exact.specs.{Leaves.word_read, FlatForm.FormLaw}
 use Rattle.bpaf_exact.proofs.Fronts.{back_more, back_one, front_more, front_one, of_front_more}
-use Rattle.bpaf_exact.proofs.Fronts.{of_front_one}
-use Rattle.bpaf_exact.specs.FlatForm.{FormLaw}
-use Rattle.bpaf_exact.proofs.First.{begin_at}
-use Rattle.bpaf_exact.proofs.Alternative.{took_front}
-use Rattle.bpaf_exact.proofs.Places.{take_steady}
 use Rattle.bpaf_exact.proofs.Matching.{match_of, ByTest, by_test, no_pieces, one_taken}
+use Rattle.bpaf_exact.proofs.{Fronts.of_front_one, Alternative.took_front, Places.take_steady}
+use Rattle.bpaf_exact.proofs.{Words.never_two, Cells.begin_at}
 
 -- the text and the side of a word are those of its item
 pub word_is : (w : Arg) (strict : Bool) (text : List ℕ) → word_text w ≡ Some (strict, text)
@@ -57,19 +50,13 @@ module _ (T : Type 0) (b : Bool) (value : LinePiece → T → Type 0)
   test : ByTest is_positional word_roles Alone
   test = by_test is_positional Alone
 
-  -- a word is a piece by itself
-  never_two : (k : Arg) → word_roles k ≡ WithNext → ⊥
-  never_two k e = by_word (is_positional k) e
-    where
-      by_word : (b : Bool) → (if b then Alone else Foreign) ≡ WithNext → ⊥
-      by_word true h = cc
-      by_word false h = cc
-
   -- the first word heads the pieces
   word_pieces : {cs ds : Cells} {o : LinePiece} → TakesFirst word_roles cs o ds
       → pieces word_roles cs ≡ o ∷ pieces word_roles ds
   word_pieces (first_one {k = k} {cs = cs} e) = begin_at k cs (pieces word_roles cs) e
-  word_pieces (first_two {k = k} e v) = absurd (never_two k e)
+  word_pieces (first_two {k = k} e v) = absurd (never_two word_roles k (record {
+    words = λ k. refl;
+  }) e)
   word_pieces (first_later {c = None} h t) = word_pieces t
   word_pieces (first_later {c = Some k} {cs = cs} {ds = ds} h t) =
       let a = begin_at k cs (pieces word_roles cs) h in
@@ -104,20 +91,17 @@ module _ (T : Type 0) (b : Bool) (value : LinePiece → T → Type 0)
 
   -- a value is that of the first word
   word_ok : {env : Variables} (s t : Situation) (v : T) → IsWholeIn env s
-      → WordEval T b value s (Ok v) t
-      → SingleOk T (OneWord b) word_roles group (no_gap T) s v t
+      → WordEval T b value s (Ok v) t → SingleOk T (OneWord b) word_roles group (no_gap T) s v t
   word_ok s t v w (word_read {p = p} {strict = strict} {text = text} takes y) =
       let m = took_word s t p strict text takes in
       let e = word_pieces m.takes in
       took
       (took_front T value (OneWord b) word_roles s t v (One m.word) m.steady m.takes e
-      (y m.word m.text_is)
-      (some_front m.word _ (λ h. clear h (One m.word) v (y m.word m.text_is))))
+      (y m.word m.text_is) (some_front m.word _ (λ h. clear h (One m.word) v (y m.word m.text_is))))
 
   -- a refusal: there is no word, or the first can't be read
   word_err : {env : Variables} (s t : Situation) (e : Error) → IsWholeIn env s
-      → WordEval T b value s (Err e) t
-      → SingleErr T (OneWord b) word_roles group (no_gap T) s e t
+      → WordEval T b value s (Err e) t → SingleErr T (OneWord b) word_roles group (no_gap T) s e t
   word_err s t e w (word_fault {p = p} {strict = strict} {text = text} takes before n c) =
       let m = took_word s t p strict text takes in
       let i = word_pieces m.takes in
@@ -136,8 +120,7 @@ module _ (T : Type 0) (b : Bool) (value : LinePiece → T → Type 0)
       of_missing (catch_other c) refl
       (ap (front (OneWord b)) (word_pieces m.takes)
       ∙ passed_by b h (One m.word) (pieces word_roles (cells t)) (word_is m.word true text
-      m.text_is).1)
-      (λ missing. absurd cc)
+      m.text_is).1) (λ missing. absurd cc)
   word_err s t e w (word_memory c) = of_memory c
 
   -- the first word alone is read, and by a repeat each

@@ -1,25 +1,21 @@
 -- A field before other fields: the laws of a product from those of its parts.
 use Rattle.std.proofs.Common.{◌≡◌, true, false, List, [], ◌∷◌, length, Some, Result, Ok, Err, refl}
 use Rattle.std.proofs.Common.{inl, inr, Bool, sym, ap, ◌∙◌, subst, if◌then◌else◌, ◌<◌}
-use Rattle.bpaf_line.specs.declared.error.Error.{Error}
-use Rattle.bpaf_line.specs.Situation.{Situation}
-use Rattle.bpaf_line.specs.Messages.{is_memory}
-use Rattle.bpaf_laws.specs.Product.{BothOutcome, joined}
-use Rattle.bpaf_laws.specs.Reading.{Outcome}
-use Rattle.bpaf_laws.specs.Spared.{IsNotMemory}
+use Rattle.bpaf_line.specs.{declared.error.Error.Error, Situation.Situation, Messages.is_memory}
+use Rattle.bpaf_laws.specs.{Product.BothOutcome, Product.joined, Reading.Outcome}
+use Rattle.bpaf_laws.specs.{Spared.IsNotMemory}
 use Rattle.bpaf_exact.specs.Pieces.{no_roles, Cells, Role, Foreign, Alone, WithNext, Roles}
 use Rattle.bpaf_exact.specs.Pieces.{LinePiece, One, Two, is_own_role, is_own, others, either_role}
 use Rattle.bpaf_exact.specs.Pieces.{either, IsNamed, Apart, Cut, at_end, passed, flag, argument}
-use Rattle.bpaf_exact.specs.Pieces.{word, pieces, TakesPieces}
 use Rattle.bpaf_exact.specs.Flat.{cells, NonePresent, IsWholeIn, Steady, FieldKind, ByName, OneWord}
 use Rattle.bpaf_exact.specs.Flat.{EachWord, front, back, portion, left, keys, IsWords, OwnItems}
 use Rattle.bpaf_exact.specs.Flat.{NoKeysLeft, FieldTook, FieldLaw, ReadOff, FieldsLaw, Before}
 use Rattle.bpaf_exact.specs.Flat.{FieldsReading, both_reading, class, OfMemory, HasValue, Variables}
-use Rattle.bpaf_exact.proofs.Classes.{memory_class, not_memory}
-use Rattle.bpaf_exact.proofs.Cells.{value_foreign, word_foreign, begin_foreign, nil_rest}
-use Rattle.bpaf_exact.proofs.Cells.{nil_foreign, pieces_of_cut, others_foreign, put_back_some}
-use Rattle.bpaf_exact.proofs.Cells.{take_some_from}
+use Rattle.bpaf_exact.specs.Pieces.{word, pieces, TakesPieces}
+use Rattle.bpaf_exact.proofs.Cells.{value_foreign, word_foreign, nil_rest, nil_foreign}
+use Rattle.bpaf_exact.proofs.Cells.{pieces_of_cut, others_foreign, put_back_some, take_some_from}
 use Rattle.bpaf_exact.proofs.Words.{NoKeys, put_words_back, take_words_from, words_of_cut}
+use Rattle.bpaf_exact.proofs.{Cells.begin_at, Classes.memory_class, Classes.not_memory}
 
 -- what isn't taken stays in the scope
 pub none_outside_after : {env : Variables} (s t : Situation) → IsWholeIn env s → Steady s t
@@ -32,34 +28,31 @@ none_outside_after s t w k = record {
 
 -- nothing has changed
 pub steady_refl : (s : Situation) → Steady s s
-steady_refl s =
-    record { context = refl; start = refl; end = refl; path = refl; keeps = λ p h. h }
+steady_refl s = record { context = refl; start = refl; end = refl; path = refl; keeps = λ p h. h }
 
 -- nor in two steps
 pub steady_trans : {s m t : Situation} → Steady s m → Steady m t → Steady s t
-steady_trans a b =
-    record {
-      context = b.context ∙ a.context;
-      start = b.start ∙ a.start;
-      end = b.end
-          ∙ a.end;
-      path = b.path ∙ a.path;
-      keeps = λ p h. b.keeps p (a.keeps p h);
-    }
+steady_trans a b = record {
+  context = b.context ∙ a.context;
+  start = b.start ∙ a.start;
+  end = b.end
+      ∙ a.end;
+  path = b.path ∙ a.path;
+  keeps = λ p h. b.keeps p (a.keeps p h);
+}
 
 -- A cut by the keys of others holds no key of one's own.
 pub no_own_in_cut : (q r : Roles) {cs : Cells} {os : List LinePiece} → IsNamed q → Apart q r
-    → Cut r cs os
-    → pieces q cs ≡ []
+    → Cut r cs os → pieces q cs ≡ []
 no_own_in_cut q r n a at_end = refl
 no_own_in_cut q r n a (passed c) = no_own_in_cut q r n a c
 no_own_in_cut q r n a (flag {k = k} {cs = cs} e c) =
-    begin_foreign k cs (pieces q cs) (a.right k (ap is_own_role e)) ∙ no_own_in_cut q r n a c
+    begin_at k cs (pieces q cs) (a.right k (ap is_own_role e)) ∙ no_own_in_cut q r n a c
 no_own_in_cut q r n a (argument {k = k} {w = w} {cs = cs} e v c) =
-    begin_foreign k (Some w ∷ cs) (pieces q (Some w ∷ cs)) (a.right k (ap is_own_role e))
-    ∙ (begin_foreign w cs (pieces q cs) (value_foreign q w n v) ∙ no_own_in_cut q r n a c)
+    begin_at k (Some w ∷ cs) (pieces q (Some w ∷ cs)) (a.right k (ap is_own_role e))
+    ∙ (begin_at w cs (pieces q cs) (value_foreign q w n v) ∙ no_own_in_cut q r n a c)
 no_own_in_cut q r n a (word {w = w} {cs = cs} h c) =
-    begin_foreign w cs (pieces q cs) (word_foreign q w n h) ∙ no_own_in_cut q r n a c
+    begin_at w cs (pieces q cs) (word_foreign q w n h) ∙ no_own_in_cut q r n a c
 
 -- an item that isn't the first's has the role that it has to the second
 either_foreign : (x y z : Role) → x ≡ Foreign → y ≡ z → either_role x y ≡ z
@@ -68,8 +61,7 @@ either_foreign _ y z e h = cc
 
 -- with a piece of others more all are of others
 others_all : (q : Roles) (o : LinePiece) (os : List LinePiece) → is_own q o ≡ false
-    → others q os ≡ os
-    → others q (o ∷ os) ≡ o ∷ os
+    → others q os ≡ os → others q (o ∷ os) ≡ o ∷ os
 others_all q o os h e = others_foreign q o os h ∙ ap (λ z. o ∷ z) e
 
 -- a cut whose pieces are all of others
@@ -87,23 +79,20 @@ widen q r n a (flag {k = k} {os = os} e c) =
     let f = a.right k (ap is_own_role e) in
     record {
       cut = flag (either_foreign (q k) (r k) Alone f e) i.cut;
-      all =
-          others_all q (One k) os (ap is_own_role f) i.all;
+      all = others_all q (One k) os (ap is_own_role f) i.all;
     }
 widen q r n a (argument {k = k} {w = w} {os = os} e v c) =
     let i = widen q r n a c in
     let f = a.right k (ap is_own_role e) in
     record {
       cut = argument (either_foreign (q k) (r k) WithNext f e) v i.cut;
-      all =
-          others_all q (Two k w) os (ap is_own_role f) i.all;
+      all = others_all q (Two k w) os (ap is_own_role f) i.all;
     }
 widen q r n a (word {w = w} {os = os} h c) =
     let i = widen q r n a c in
     record {
       cut = word h i.cut;
-      all =
-          others_all q (One w) os (ap is_own_role (word_foreign q w n h)) i.all;
+      all = others_all q (One w) os (ap is_own_role (word_foreign q w n h)) i.all;
     }
 
 -- a cut by the others' keys alone
@@ -126,8 +115,7 @@ narrow q r n p (flag {k = k} {cs = cs} {os = os} e c) =
     let i = narrow q r n (nil_rest (q k) k cs (pieces q cs) p) c in
     record {
       cut = flag (other_role (q k) (r k) Alone f e) i.cut;
-      all =
-          others_all q (One k) os (ap is_own_role f) i.all;
+      all = others_all q (One k) os (ap is_own_role f) i.all;
     }
 narrow q r n p (argument {k = k} {w = w} {cs = cs} {os = os} e v c) =
     let f = nil_foreign (q k) k (Some w ∷ cs) (pieces q (Some w ∷ cs)) p in
@@ -136,15 +124,13 @@ narrow q r n p (argument {k = k} {w = w} {cs = cs} {os = os} e v c) =
     (nil_rest (q k) k (Some w ∷ cs) (pieces q (Some w ∷ cs)) p)) c in
     record {
       cut = argument (other_role (q k) (r k) WithNext f e) v i.cut;
-      all =
-          others_all q (Two k w) os (ap is_own_role f) i.all;
+      all = others_all q (Two k w) os (ap is_own_role f) i.all;
     }
 narrow q r n p (word {w = w} {cs = cs} {os = os} h c) =
     let i = narrow q r n (nil_rest (q w) w cs (pieces q cs) p) c in
     record {
       cut = word h i.cut;
-      all =
-          others_all q (One w) os (ap is_own_role (word_foreign q w n h)) i.all;
+      all = others_all q (One w) os (ap is_own_role (word_foreign q w n h)) i.all;
     }
 
 -- What is read off the pieces, seen from before a field was evaluated.
@@ -187,10 +173,9 @@ word_back k q r {cs = cs} no_keys shares leaves n f t e c =
     }
 
 -- of any field
-pub step_back : (k : FieldKind) (q r : Roles) (T : Type 0)
-    (value : List LinePiece → T → Type 0) {s m : Situation} {v : T} {os : List LinePiece}
-    → OwnItems k q → Before k q r → FieldTook T k q value s v m → Cut r (cells m) os
-    → StepBack k q r (cells s) os
+pub step_back : (k : FieldKind) (q r : Roles) (T : Type 0) (value : List LinePiece → T → Type 0)
+    {s m : Situation} {v : T} {os : List LinePiece} → OwnItems k q → Before k q r
+    → FieldTook T k q value s v m → Cut r (cells m) os → StepBack k q r (cells s) os
 step_back ByName q r T value n b f c = named_back q r n b f.takes c
 step_back (OneWord z) q r T value n b f c =
     word_back (OneWord z) q r refl (λ ps. refl) (λ ps. refl) n (record { none = b }) f.takes
@@ -240,11 +225,9 @@ step_on (EachWord z) q r n b t e c = word_on (EachWord z) q r n (record { none =
 -- the keys of all are keys
 both_named : (k : FieldKind) (q r : Roles) → OwnItems k q → IsNamed r
     → IsNamed (either (keys k q) r)
-both_named ByName q r n m =
-    record {
-      only_keys =
-          λ a h. either_foreign (q a) (r a) Foreign (n.only_keys a h) (m.only_keys a h);
-    }
+both_named ByName q r n m = record {
+  only_keys = λ a h. either_foreign (q a) (r a) Foreign (n.only_keys a h) (m.only_keys a h);
+}
 both_named _ q r n m = m
 
 -- two values of fields that were all evaluated
@@ -320,8 +303,7 @@ module _ {env : Variables} (A B : Type 0) (first : Outcome A) (rest : Outcome B)
 
   -- its values are read off a cut
   both_reads : (s t : Situation) (v : A × B) → IsWholeIn env s → BothOutcome first rest s (Ok v) t
-      → NonePresent (cells t)
-      → ReadOff (A × B) (either (keys k q) r) reading.value (cells s) v
+      → NonePresent (cells t) → ReadOff (A × B) (either (keys k q) r) reading.value (cells s) v
   both_reads s t v w o e =
       let h = values_of_both A B first rest s t v o in
       let i = lf.ok s h.middle v.0 w h.first_ran in
@@ -348,8 +330,7 @@ module _ {env : Variables} (A B : Type 0) (first : Outcome A) (rest : Outcome B)
       → Cut r (cells m) (left k q os)
   rest_cut s m x os w f c h =
       let i = lf.ok s m x w f in
-      step_on k q r lf.own b i.takes
-      (i.rest (lf.takes_all s m x h.0 w f (own_value s os c h))) c
+      step_on k q r lf.own b i.takes (i.rest (lf.takes_all s m x h.0 w f (own_value s os c h))) c
 
   -- so the others leave nothing
   both_take : (s t : Situation) (u : A × B) (os : List LinePiece) → IsWholeIn env s

@@ -2,25 +2,18 @@
 use Rattle.std.proofs.Common.{◌≡◌, ℕ, Bool, true, false, not, ◌||◌, List, [], ◌∷◌, ◌++◌, Option}
 use Rattle.std.proofs.Common.{Some, None, refl, sym, ap, ◌∙◌, subst, bytes_eq, ⊎_elim, true≢false}
 use Rattle.std.proofs.Common.{append_assoc, append-nil, inl, inr}
-use Rattle.std.specs.Prelude.{flat_map}
-use Rattle.std.specs.List.{list_all}
-use Rattle.std.specs.Option.{option_map_or}
 use Rattle.std.proofs.lemmas.Bool.{and_parts, or_cases, false_from_ne_true}
 use Rattle.std.proofs.lemmas.Slice.Eq.{bytes_eq-Decides}
+use Rattle.std.specs.{Prelude.flat_map, List.list_all, Option.option_map_or}
 use Rattle.bpaf_doc.specs.Names.{Names}
 use Rattle.bpaf_base.specs.declared.arg.Arg.{Arg}
 use Rattle.bpaf_base.specs.Items.{command_word, is_command_word, is_text_among}
 use Rattle.bpaf_line.specs.Situation.{Context, beginning}
-use Rattle.bpaf_laws.specs.Choice.{ChoiceOutcome}
-use Rattle.bpaf_laws.specs.Choices.{ChoicesOutcome, Nested}
-use Rattle.bpaf_laws.specs.Command.{Called, is_one_of, opening_words}
-use Rattle.bpaf_laws.specs.Product.{BothOutcome, ProductOutcome}
-use Rattle.bpaf_laws.specs.Reading.{Outcome}
-use Rattle.bpaf_exact.specs.Pieces.{Roles}
-use Rattle.bpaf_exact.specs.Flat.{Refused, ByName, cells, Variables}
+use Rattle.bpaf_laws.specs.{Choice.ChoiceOutcome, Choices.ChoicesOutcome, Choices.Nested}
+use Rattle.bpaf_laws.specs.{Command.Called, Command.is_one_of, Command.opening_words}
+use Rattle.bpaf_laws.specs.{Product.BothOutcome, Product.ProductOutcome, Reading.Outcome}
 use Rattle.bpaf_exact.specs.FlatForm.{FlatForm, FormLaw, not_flat, complete, is_record}
 use Rattle.bpaf_exact.specs.FlatForm.{product_roles, product_reading, flat_record, EachAgrees}
-use Rattle.bpaf_exact.specs.Names.{Owns, are_all_apart}
 use Rattle.bpaf_exact.specs.Record.{line_cells, RunAnswer, Accepted, RunRan, IsAcceptedOrWant}
 use Rattle.bpaf_exact.specs.ProgramForm.{ProgramForm, no_program, plain, commands, left_out}
 use Rattle.bpaf_exact.specs.ProgramForm.{before_commands, ProgramFormLaw, ProgramAgrees, program_if}
@@ -29,50 +22,92 @@ use Rattle.bpaf_exact.specs.ProgramForm.{are_words_apart, program_choice, whole_
 use Rattle.bpaf_exact.specs.ProgramForm.{opened_form, program_command, program_field, program_alone}
 use Rattle.bpaf_exact.specs.ProgramForm.{program_both, program_con, is_program, program_roles}
 use Rattle.bpaf_exact.specs.ProgramForm.{program_value, program_rest, first_only, program_choices}
-use Rattle.bpaf_exact.specs.ProgramForm.{program_dressed, flat_form}
 use Rattle.bpaf_exact.specs.Programs.{CellsValue, ProgramLaw, CommandEval, are_plain, WordsApart}
-use Rattle.bpaf_exact.specs.Programs.{FindsNoCommand, IsSpelledLine, GivesAll}
-use Rattle.bpaf_exact.specs.Wrappers.{Closure, ClosedEval, OptionalEval, map_closure}
-use Rattle.bpaf_exact.proofs.BeforeCommands.{before_law, con_program}
+use Rattle.bpaf_exact.specs.{ProgramForm.program_dressed, ProgramForm.flat_form}
+use Rattle.bpaf_exact.specs.{Programs.FindsNoCommand, Programs.IsSpelledLine, Programs.GivesAll}
+use Rattle.bpaf_exact.specs.{Pieces.Roles, Flat.Refused, Flat.ByName, Flat.cells, Flat.Variables}
+use Rattle.bpaf_exact.specs.{Names.Owns, Names.are_all_apart, Wrappers.Closure, Wrappers.ClosedEval}
+use Rattle.bpaf_exact.specs.{Wrappers.OptionalEval, Wrappers.map_closure}
 use Rattle.bpaf_exact.proofs.Commands.{closed_program, closed_commands, optional_commands}
 use Rattle.bpaf_exact.proofs.Commands.{choice_commands, program_sound, program_complete}
 use Rattle.bpaf_exact.proofs.FlatForm.{flat_closed_law, flat_optional_law, flat_choice_law}
 use Rattle.bpaf_exact.proofs.FlatForm.{flat_field_law, flat_alone_law, flat_both_law, flat_con_law}
 use Rattle.bpaf_exact.proofs.FlatForm.{flat_record_law, record_law, only_law, never_refuses}
+use Rattle.bpaf_exact.proofs.BeforeCommands.{before_law, con_program}
 use Rattle.bpaf_exact.proofs.Narrow.{AllowsNoMore, narrower_form, narrower_gives}
 use Rattle.bpaf_exact.proofs.Names.{apart_of_names, either_owns}
 use Rattle.bpaf_exact.proofs.Programs.{command_law, record_program}
 
--- where a test holds
-program_if_law : (env : Variables) (T : Type 0) (outcome : Outcome T) (names : List Names)
-    (words : List (List ℕ))
-    (s : ProgramForm T) (b : Bool) → (b ≡ true → ProgramFormLaw env outcome names words s)
-    → ProgramFormLaw env outcome names words (program_if b s)
-program_if_law env T outcome names words s true f = f refl
-program_if_law env T outcome names words s false f = tt
-
 -- a flat record owns its keys
 pub record_owns : (env : Variables) (T : Type 0) (outcome : Outcome T) (names : List Names)
-    (s : FlatForm T)
-    → is_record s ≡ true → FormLaw env outcome names (flat_record s)
+    (s : FlatForm T) → is_record s ≡ true → FormLaw env outcome names (flat_record s)
     → Owns (product_roles (flat_record s)) names
 record_owns env T outcome names not_flat h l = absurd cc
 record_owns env T outcome names _ h l = l.1
 
--- a whole program
-whole_program_law : (env : Variables) (T : Type 0) (outcome : Outcome T) (names : List Names)
-    (words : List (List ℕ)) (s : ProgramForm T) → ProgramFormLaw env outcome names words s
-    → ProgramFormLaw env outcome names words (whole_program s)
-whole_program_law env T outcome names words no_program l = tt
-whole_program_law env T outcome names words (plain wide s) l =
-    program_if_law env T outcome names words _ (is_record s)
-    (λ h. (
+module _ (env : Variables) (T : Type 0) (outcome : Outcome T) (names : List Names)
+    (words : List (List ℕ)) where
+  -- the law of a form
+  abbrev Law : ProgramForm T → Type 0
+  Law = ProgramFormLaw env outcome names words
+
+  -- where a test holds
+  program_if_law : (s : ProgramForm T) (b : Bool) → (b ≡ true → Law s) → Law (program_if b s)
+  program_if_law s true f = f refl
+  program_if_law s false f = tt
+
+  -- a whole program
+  whole_program_law : (s : ProgramForm T) → Law s → Law (whole_program s)
+  whole_program_law no_program l = tt
+  whole_program_law (plain wide s) l =
+      program_if_law _ (is_record s)
+      (λ h. (
+        record_program T outcome (product_roles (flat_record s)) (product_reading (flat_record s))
+            (record_law env T outcome names s h l),
+        record_owns env T outcome names s h (flat_record_law env T outcome names s l),
+      ))
+  whole_program_law (commands r value) l = (l.0.program, l.1)
+  whole_program_law _ l = l
+
+  -- another look
+  pub program_dressed_law : (s : ProgramForm T) → Law s → Law (program_dressed s)
+  program_dressed_law no_program l = tt
+  program_dressed_law (before_commands r value) l = tt
+  program_dressed_law _ l = l
+
+  -- a field of a product
+  pub program_field_law : (s : ProgramForm T) → Law s → Law (program_field s)
+  program_field_law (plain wide s) l = flat_field_law env T outcome names s l
+  program_field_law s l = l
+
+  -- the last field
+  pub program_alone_law : (s : ProgramForm T) → Law s
+      → ProgramFormLaw env outcome names [] (program_alone s)
+  program_alone_law no_program l = tt
+  program_alone_law (plain wide s) l = flat_alone_law env T outcome names s l
+  program_alone_law (commands r value) l = (l.0.program, l.1)
+  program_alone_law _ l = l
+
+  -- the first of a choice
+  first_only_law : (s : ProgramForm T) → Law s → Law (first_only s)
+  first_only_law (plain wide s) l = only_law env T outcome names s l
+  first_only_law (commands r value) l = l
+  first_only_law _ l = tt
+
+  -- a flat record's form keeps to its law
+  pub flat_form_law : (s : ProgramForm T) → Law s → FormLaw env outcome names (flat_form s)
+  flat_form_law (plain false s) l = l
+  flat_form_law _ l = tt
+
+  -- a program keeps to the laws of one
+  program_law : (s : ProgramForm T) → is_program s ≡ true → Law s
+      → ProgramLaw env T outcome (program_roles s) (program_value s)
+  program_law no_program h l = absurd cc
+  program_law (plain wide s) h l =
       record_program T outcome (product_roles (flat_record s)) (product_reading (flat_record s))
-          (record_law env T outcome names s h l),
-      record_owns env T outcome names s h (flat_record_law env T outcome names s l),
-    ))
-whole_program_law env T outcome names words (commands r value) l = (l.0.program, l.1)
-whole_program_law env T outcome names words _ l = l
+      (record_law env T outcome names s h l)
+  program_law (commands r value) h l = l.0.program
+  program_law _ h l = l.0
 
 -- a command that opens a program
 opened_form_law : (env : Variables) (T : Type 0) (inner : Outcome T) (called : Called)
@@ -104,14 +139,6 @@ pub flat_only_law : (env : Variables) {A B : Type 0} (inner : Outcome A) (outcom
     → ProgramFormLaw env outcome names more (flat_only g s)
 flat_only_law env inner outcome names words more g law (plain wide s) l = law s l
 flat_only_law env inner outcome names words more g law _ l = tt
-
--- another look
-pub program_dressed_law : (env : Variables) (T : Type 0) (outcome : Outcome T) (names : List Names)
-    (words : List (List ℕ)) (s : ProgramForm T) → ProgramFormLaw env outcome names words s
-    → ProgramFormLaw env outcome names words (program_dressed s)
-program_dressed_law env T outcome names words no_program l = tt
-program_dressed_law env T outcome names words (before_commands r value) l = tt
-program_dressed_law env T outcome names words _ l = l
 
 -- a closure
 pub program_closed_law : (env : Variables) (A B : Type 0) (inner : Outcome A) (f : Closure A B)
@@ -218,24 +245,6 @@ program_choice_law env T a b own others words more (commands q va) (commands r v
     ))
 program_choice_law env T a b own others words more _ _ la lb = tt
 
--- a field of a product
-pub program_field_law : (env : Variables) (T : Type 0) (outcome : Outcome T) (names : List Names)
-    (words : List (List ℕ)) (s : ProgramForm T) → ProgramFormLaw env outcome names words s
-    → ProgramFormLaw env outcome names words (program_field s)
-program_field_law env T outcome names words (plain wide s) l =
-    flat_field_law env T outcome names s l
-program_field_law env T outcome names words s l = l
-
--- the last field
-pub program_alone_law : (env : Variables) (T : Type 0) (outcome : Outcome T) (names : List Names)
-    (words : List (List ℕ)) (s : ProgramForm T) → ProgramFormLaw env outcome names words s
-    → ProgramFormLaw env outcome names [] (program_alone s)
-program_alone_law env T outcome names words no_program l = tt
-program_alone_law env T outcome names words (plain wide s) l =
-    flat_alone_law env T outcome names s l
-program_alone_law env T outcome names words (commands r value) l = (l.0.program, l.1)
-program_alone_law env T outcome names words _ l = l
-
 -- a field before others
 pub program_both_law : (env : Variables) (A B : Type 0) (first : Outcome A) (rest : Outcome B)
     (own others : List Names) (words : List (List ℕ)) (s : ProgramForm A) (t : ProgramForm B)
@@ -263,18 +272,6 @@ program_con_law env A B inner makes names (before_commands r value) l =
     (con_program A B inner makes r value l.0, l.1)
 program_con_law env A B inner makes names _ l = tt
 
--- a program keeps to the laws of one
-program_law : (env : Variables) (T : Type 0) (outcome : Outcome T) (names : List Names)
-    (words : List (List ℕ))
-    (s : ProgramForm T) → is_program s ≡ true → ProgramFormLaw env outcome names words s
-    → ProgramLaw env T outcome (program_roles s) (program_value s)
-program_law env T outcome names words no_program h l = absurd cc
-program_law env T outcome names words (plain wide s) h l =
-    record_program T outcome (product_roles (flat_record s)) (product_reading (flat_record s))
-    (record_law env T outcome names s h l)
-program_law env T outcome names words (commands r value) h l = l.0.program
-program_law env T outcome names words _ h l = l.0
-
 -- THE THEOREM: on every line, spelled by words, an answer of a run of a program is a value only
 -- where that is one of the program's; and where it has a value, it is one, or want of memory.
 pub runs_as_program : (V : Type 0) (outcome : Outcome V) (names : List Names)
@@ -292,8 +289,7 @@ runs_as_program V outcome names words s h context l spelled a ran =
 
 -- an outcome that allows no more keeps to the same laws
 narrower_program : {env : Variables} (V : Type 0) (a b : Outcome V) → AllowsNoMore V a b
-    → (r : Roles)
-    (value : CellsValue V) → ProgramLaw env V a r value → ProgramLaw env V b r value
+    → (r : Roles) (value : CellsValue V) → ProgramLaw env V a r value → ProgramLaw env V b r value
 narrower_program {env} V a b n r value l = record {
   others = l.others;
   deep = λ s t v w o. l.deep s t v w (n.value s t v o);
@@ -323,14 +319,6 @@ narrower_program_form env T a b n names words (left_out r value) l =
 narrower_program_form env T a b n names words (before_commands r value) l =
     (narrower_program T a b n r value l.0, l.1)
 
--- the first of a choice
-first_only_law : (env : Variables) (T : Type 0) (outcome : Outcome T) (names : List Names)
-    (words : List (List ℕ)) (s : ProgramForm T) → ProgramFormLaw env outcome names words s
-    → ProgramFormLaw env outcome names words (first_only s)
-first_only_law env T outcome names words (plain wide s) l = only_law env T outcome names s l
-first_only_law env T outcome names words (commands r value) l = l
-first_only_law env T outcome names words _ l = tt
-
 -- what all parsers of a list have, behind what stands before
 abbrev all_behind : {P X : Type 0} → (P → List X) → List X → List P → List X
 all_behind each before [] = before
@@ -341,8 +329,7 @@ behind_is_all : {P X : Type 0} (each : P → List X) (before : List X) (ps : Lis
     → all_behind each before ps ≡ before ++ flat_map each ps
 behind_is_all each before [] = sym (append-nil before)
 behind_is_all each before (p ∷ ps) =
-    behind_is_all each (before ++ each p) ps
-    ∙ append_assoc before (each p) (flat_map each ps)
+    behind_is_all each (before ++ each p) ps ∙ append_assoc before (each p) (flat_map each ps)
 
 module _ (env : Variables) (P T : Type 0) (outcome : P → Outcome T) (keys : P → List Names)
     (words : P → List (List ℕ)) (form : P → ProgramForm T) (agrees : P → Type 0)
@@ -374,16 +361,3 @@ module _ (env : Variables) (P T : Type 0) (outcome : P → Outcome T) (keys : P 
       (behind_is_all words (words p) ps)
       (program_rest_law ps each.1 (outcome p) (keys p) (words p) (first_only (form p))
       (first_only_law env T (outcome p) (keys p) (words p) (form p) (law p each.0))))
-
--- a flat record's form keeps to its law
-pub flat_form_law : (env : Variables) (T : Type 0) (outcome : Outcome T) (names : List Names)
-    (words : List (List ℕ)) (s : ProgramForm T) → ProgramFormLaw env outcome names words s
-    → FormLaw env outcome names (flat_form s)
-flat_form_law env T outcome names words (plain false s) l = l
-flat_form_law env T outcome names words _ l = tt
-
--- what is answered as by others keeps to their law
-pub kept : (env : Variables) {T : Type 0} {a b : Outcome T} → AllowsNoMore T a b
-    → (names : List Names) (words : List (List ℕ)) (s : ProgramForm T)
-    → ProgramFormLaw env a names words s → ProgramFormLaw env b names words s
-kept env {T} {a} {b} n names words s l = narrower_program_form env T a b n names words s l

@@ -3,17 +3,12 @@ use Rattle.std.proofs.Common.{◌≡◌, ℕ, zero, suc, Bool, true, false, List
 use Rattle.std.proofs.Common.{Option, not, ◌&&◌, ◌||◌, refl, sym, subst, arith}
 use Rattle.std.specs.List.{Contains}
 use Rattle.bpaf_doc.specs.Names.{Names}
-use Rattle.bpaf_laws.specs.Command.{Called, opening_words}
-use Rattle.bpaf_laws.specs.Environment.{first_set}
-use Rattle.bpaf_laws.specs.Reading.{Outcome}
-use Rattle.bpaf_exact.specs.Pieces.{Roles, LinePiece, pieces}
-use Rattle.bpaf_exact.specs.Flat.{ByName, Variables}
+use Rattle.bpaf_laws.specs.{Command.Called, Command.opening_words, Environment.first_set}
+use Rattle.bpaf_laws.specs.{Reading.Outcome}
 use Rattle.bpaf_exact.specs.Says.{SaidKind, of_kind, repeated_kind, Said, Says, MadeSays, FormSays}
-use Rattle.bpaf_exact.specs.Says.{FallbackSays, LastSays, RepeatSays}
 use Rattle.bpaf_exact.specs.FlatForm.{FlatForm, alternative, complete, EachAgrees, alternative_only}
 use Rattle.bpaf_exact.specs.FlatForm.{flat_field, is_product, is_record, product_roles, flat_record}
 use Rattle.bpaf_exact.specs.FlatForm.{unless, flat_fallback, flat_closed, flat_last, flat_repeat}
-use Rattle.bpaf_exact.specs.Names.{are_all_apart}
 use Rattle.bpaf_exact.specs.ProgramForm.{ProgramForm, no_program, plain, commands, left_out}
 use Rattle.bpaf_exact.specs.ProgramForm.{before_commands, ProgramFormLaw, program_if, flat_only}
 use Rattle.bpaf_exact.specs.ProgramForm.{program_closed, program_dressed, program_optional}
@@ -24,7 +19,6 @@ use Rattle.bpaf_exact.specs.ProgramForm.{is_program, program_value, are_words_ap
 use Rattle.bpaf_exact.specs.ProgramForm.{program_fallback, program_last, program_repeat}
 use Rattle.bpaf_exact.specs.Programs.{CellsValue, CommandValue, ChoiceValue, first_value}
 use Rattle.bpaf_exact.specs.Programs.{second_value, OptionalCommands, some_command, no_command}
-use Rattle.bpaf_exact.specs.Programs.{ClosedCells, are_plain, without}
 use Rattle.bpaf_exact.specs.ProgramSays.{ProgramSaid, of_pieces, of_cells, ProgramFieldsSaid}
 use Rattle.bpaf_exact.specs.ProgramSays.{of_all_pieces, of_all_cells, IsSaid, ProgramFormSays}
 use Rattle.bpaf_exact.specs.ProgramSays.{program_kind, ProgramSays, ProgramFieldsFormSay}
@@ -32,15 +26,16 @@ use Rattle.bpaf_exact.specs.ProgramSays.{ProgramFieldsSay, cells_said, pieces_sa
 use Rattle.bpaf_exact.specs.ProgramSays.{said_alone, said_both, said_con, said_choices, said_closed}
 use Rattle.bpaf_exact.specs.ProgramSays.{said_command, said_dressed, said_flat, said_optional}
 use Rattle.bpaf_exact.specs.ProgramSays.{said_fallback, said_last, said_repeat, fields_said_inside}
-use Rattle.bpaf_exact.specs.Wrappers.{Closure}
+use Rattle.bpaf_exact.specs.{Says.FallbackSays, Says.LastSays, Says.RepeatSays}
+use Rattle.bpaf_exact.specs.{Programs.ClosedCells, Programs.are_plain, Programs.without}
+use Rattle.bpaf_exact.specs.{Pieces.Roles, Pieces.LinePiece, Pieces.pieces, Flat.ByName}
+use Rattle.bpaf_exact.specs.{Flat.Variables, Names.are_all_apart, Wrappers.Closure}
+use Rattle.bpaf_exact.specs.{Variables.key_form}
 use Rattle.bpaf_exact.proofs.Says.{FormOwns, alone_says, both_say, by_name, choice_into}
 use Rattle.bpaf_exact.proofs.Says.{choice_says, closed_says, con_says, field_owned, field_says}
 use Rattle.bpaf_exact.proofs.Says.{optional_says, owned, record_says, unless_says, fallback_says}
-use Rattle.bpaf_exact.proofs.Says.{last_says, listed_says}
-use Rattle.bpaf_exact.proofs.FlatForm.{flat_record_law}
-use Rattle.bpaf_exact.proofs.ProgramForm.{record_owns}
-use Rattle.bpaf_exact.proofs.Sharing.{cut_fit, pieces_own}
-use Rattle.bpaf_exact.specs.Variables.{key_form}
+use Rattle.bpaf_exact.proofs.{Says.last_says, Says.listed_says, FlatForm.flat_record_law}
+use Rattle.bpaf_exact.proofs.{ProgramForm.record_owns, Sharing.cut_fit, Sharing.pieces_own}
 
 -- where a test holds
 if_says : {P T : Type 0} (names : List Names) (b : Bool) (s : ProgramForm T) (kind : SaidKind)
@@ -48,6 +43,12 @@ if_says : {P T : Type 0} (names : List Names) (b : Bool) (s : ProgramForm T) (ki
     → ProgramFormSays names (program_if b s) kind said p
 if_says names true s kind said p h = h refl
 if_says names false s kind said p h = tt
+
+-- what says so with a closure round it
+closed_said : {A B : Type 0} (f : Closure A B) (value said : CellsValue A) → IsSaid value said
+    → IsSaid (ClosedCells A B value f) (ClosedCells A B said f)
+closed_said f value said h cs v c =
+    record { from = c.from; read = h cs c.from c.read; made = c.made }
 
 module _ {P Q A B : Type 0} (inside : Q → P) (q : Q) where
   -- a combinator that takes flat fields alone
@@ -57,45 +58,30 @@ module _ {P Q A B : Type 0} (inside : Q → P) (q : Q) where
       → Says names (g s) outer (pieces q said))
       → ProgramSays names s kind said (inside q)
       → ProgramSays names (flat_only g s) outer (said_flat inside pieces said) q
-  flat_only_says pieces {s} {said} {kind} {outer} {names} g each h =
-      record { by = by_form s said h.by }
-    where
-      by_form : (s : ProgramForm A) (said : ProgramSaid P A)
-          → ProgramFormSays names s kind said (inside q)
-          → ProgramFormSays names (flat_only g s) outer (said_flat inside pieces said) q
-      by_form (plain wide s) (of_pieces said) h = each s (said (inside q)) h
-      by_form (plain wide s) (of_cells said) h = absurd h
-      by_form _ said h = tt
+  flat_only_says pieces {s = plain wide s} {said = of_pieces said} g each h =
+      record { by = each s (said (inside q)) h.by }
+  flat_only_says pieces {s = plain wide s} {said = of_cells said} g each h = absurd h.by
+  flat_only_says pieces g each h = record { by = tt }
 
   -- a closure
   pub program_closed_says : {s : ProgramForm A} {said : ProgramSaid P A} {kind : SaidKind}
       {names : List Names} (f : Q → Closure A B) → ProgramSays names s kind said (inside q)
-      → ProgramSays names (program_closed (f q) s) kind
-      (said_closed inside f said) q
-  program_closed_says {s} {said} {kind} {names} f h = record { by = by_form s said h.by }
-    where
-      made : (value said : CellsValue A) → IsSaid value said
-          → IsSaid (ClosedCells A B value (f q)) (ClosedCells A B said (f q))
-      made value said h cs v c =
-          record { from = c.from; read = h cs c.from c.read; made = c.made }
-
-      by_form : (s : ProgramForm A) (said : ProgramSaid P A)
-          → ProgramFormSays names s kind said (inside q)
-          → ProgramFormSays names (program_closed (f q) s) kind
-          (said_closed inside f said) q
-      by_form (plain wide s) (of_pieces said) h = closed_says (f q) h
-      by_form (plain wide s) (of_cells said) h = absurd h
-      by_form (commands r value) (of_pieces said) h = absurd h
-      by_form (commands r value) (of_cells said) h = made value (said (inside q)) h
-      by_form (left_out r value) (of_pieces said) h = absurd h
-      by_form (left_out r value) (of_cells said) h = made value (said (inside q)) h
-      by_form _ said h = tt
+      → ProgramSays names (program_closed (f q) s) kind (said_closed inside f said) q
+  program_closed_says {s = plain wide s} {said = of_pieces said} f h =
+      record { by = closed_says (f q) h.by }
+  program_closed_says {s = commands r value} {said = of_cells said} f h =
+      record { by = closed_said (f q) value (said (inside q)) h.by }
+  program_closed_says {s = left_out r value} {said = of_cells said} f h =
+      record { by = closed_said (f q) value (said (inside q)) h.by }
+  program_closed_says {s = plain wide s} {said = of_cells said} f h = absurd h.by
+  program_closed_says {s = commands r value} {said = of_pieces said} f h = absurd h.by
+  program_closed_says {s = left_out r value} {said = of_pieces said} f h = absurd h.by
+  program_closed_says f h = record { by = tt }
 
 -- what is made of a repeat
 pub program_repeat_says : {P Q T B : Type 0} (inside : Q → P) (q : Q) (catch : Bool)
     (f : Closure (List T) B) {s : ProgramForm T} {said : ProgramSaid P T} {kind : SaidKind}
-    {names : List Names}
-    → ProgramSays names s kind said (inside q)
+    {names : List Names} → ProgramSays names s kind said (inside q)
     → ProgramSays names (program_repeat catch f s) (repeated_kind kind)
     (said_repeat inside f said) q
 program_repeat_says inside q catch f h =
@@ -109,8 +95,7 @@ pub program_last_says : {P Q T : Type 0} (inside : Q → P) (q : Q) {s : Program
     → ProgramSays names s kind said (inside q)
     → ProgramSays names (program_last s) (repeated_kind kind) (said_last inside said) q
 program_last_says inside q h =
-    flat_only_says inside q (λ q said. LastSays said) (λ s. flat_last s) (λ s said h. last_says h)
-    h
+    flat_only_says inside q (λ q said. LastSays said) (λ s. flat_last s) (λ s said h. last_says h) h
 
 -- a fallback
 pub program_fallback_says : {P Q T : Type 0} (inside : Q → P) (q : Q)
@@ -124,53 +109,37 @@ program_fallback_says inside q f h =
 module _ {P Q T : Type 0} (inside : Q → P) (q : Q) where
   -- another look
   pub program_dressed_says : {s : ProgramForm T} {said : ProgramSaid P T} {kind : SaidKind}
-      {names : List Names}
-      → ProgramSays names s kind said (inside q)
-      → ProgramSays names (program_dressed s) kind
-      (said_dressed inside said) q
-  program_dressed_says {s} {said} {kind} {names} h = record { by = by_form s said h.by }
-    where
-      by_form : (s : ProgramForm T) (said : ProgramSaid P T)
-          → ProgramFormSays names s kind said (inside q)
-          → ProgramFormSays names (program_dressed s) kind
-          (said_dressed inside said) q
-      by_form (plain wide s) (of_pieces said) h = h
-      by_form (plain wide s) (of_cells said) h = absurd h
-      by_form (commands r value) (of_pieces said) h = absurd h
-      by_form (commands r value) (of_cells said) h = h
-      by_form (left_out r value) (of_pieces said) h = absurd h
-      by_form (left_out r value) (of_cells said) h = h
-      by_form _ said h = tt
+      {names : List Names} → ProgramSays names s kind said (inside q)
+      → ProgramSays names (program_dressed s) kind (said_dressed inside said) q
+  program_dressed_says {s = plain wide s} {said = of_pieces said} h = record { by = h.by }
+  program_dressed_says {s = commands r value} {said = of_cells said} h = record { by = h.by }
+  program_dressed_says {s = left_out r value} {said = of_cells said} h = record { by = h.by }
+  program_dressed_says {s = plain wide s} {said = of_cells said} h = absurd h.by
+  program_dressed_says {s = commands r value} {said = of_pieces said} h = absurd h.by
+  program_dressed_says {s = left_out r value} {said = of_pieces said} h = absurd h.by
+  program_dressed_says h = record { by = tt }
 
   -- what may be left out
   pub program_optional_says : {s : ProgramForm T} {said : ProgramSaid P T} {kind : SaidKind}
       {names : List Names} (catch : Bool) → ProgramSays names s kind said (inside q)
-      → ProgramSays names (program_optional catch s) kind
-      (said_optional inside said) q
-  program_optional_says {s} {said} {kind} {names} catch h = record { by = by_form s said h.by }
+      → ProgramSays names (program_optional catch s) kind (said_optional inside said) q
+  program_optional_says {s = plain wide s} {said = of_pieces said} catch h =
+      record { by = unless_says catch (optional_says h.by) }
+  program_optional_says {s = plain wide s} {said = of_cells said} catch h = absurd h.by
+  program_optional_says {s = commands r value} {said = of_pieces said} catch h = absurd h.by
+  program_optional_says {s = commands r value} {said = of_cells said} {kind} {names} catch h =
+      record { by = if_says names (not catch) _ kind _ q (λ on. optional) }
     where
-      optional : (value said : CellsValue T) → IsSaid value said
-          → IsSaid (OptionalCommands T value) (OptionalCommands T said)
-      optional value said h cs (Some v) (some_command c) = some_command (h cs v c)
-      optional value said h cs None (no_command none) = no_command none
-
-      by_form : (s : ProgramForm T) (said : ProgramSaid P T)
-          → ProgramFormSays names s kind said (inside q)
-          → ProgramFormSays names (program_optional catch s) kind
-          (said_optional inside said) q
-      by_form (plain wide s) (of_pieces said) h = unless_says catch (optional_says h)
-      by_form (plain wide s) (of_cells said) h = absurd h
-      by_form (commands r value) (of_pieces said) h = absurd h
-      by_form (commands r value) (of_cells said) h =
-          if_says names (not catch) _ kind _ q (λ on. optional value (said (inside q)) h)
-      by_form _ said h = tt
+      optional : IsSaid (OptionalCommands T value) (OptionalCommands T (said (inside q)))
+      optional cs (Some v) (some_command c) = some_command (h.by cs v c)
+      optional cs None (no_command none) = no_command none
+  program_optional_says catch h = record { by = tt }
 
   -- a value of a whole program says so of the cells
   whole_says : (env : Variables) (outcome : Outcome T) (names : List Names) (words : List (List ℕ))
       (s : ProgramForm T) (kind : SaidKind) (said : ProgramSaid P T) (p : P)
       → ProgramFormLaw env outcome names words s → ProgramFormSays names s kind said p
-      → is_program s ≡ true
-      → IsSaid (program_value s) (cells_said said p)
+      → is_program s ≡ true → IsSaid (program_value s) (cells_said said p)
   whole_says env outcome names words no_program kind said p law h is = absurd cc
   whole_says env outcome names words (plain wide s) kind (of_pieces said) p law h is =
       λ cs v read. record {
@@ -180,8 +149,7 @@ module _ {P Q T : Type 0} (inside : Q → P) (q : Q) where
         told = record_says s h read.cut_into v
             (cut_fit (product_roles (flat_record s)) names
             (record_owns env T outcome names s is (flat_record_law env T outcome names s law))
-            read.cut)
-            read.read;
+            read.cut) read.read;
       }
   whole_says env outcome names words (plain wide s) kind (of_cells said) p law h is = absurd h
   whole_says env outcome names words (commands r value) kind (of_cells said) p law h is = h
@@ -220,8 +188,7 @@ module _ {P Q T : Type 0} (inside : Q → P) (q : Q) where
           if_says names (are_plain (opening_words (called q))) _ (of_kind ByName) _ q
           (λ on. opened value h)
 
-      by_form : (s : ProgramForm T)
-          → (is_program s ≡ true → IsSaid (program_value s) Told)
+      by_form : (s : ProgramForm T) → (is_program s ≡ true → IsSaid (program_value s) Told)
           → ProgramFormSays names (opened_form (opening_words (called q)) (whole_program s))
           (of_kind ByName)
           (said_command inside called said) q
@@ -285,29 +252,27 @@ pub program_choice_says : {P Q R T : Type 0} (this : R → P) (that : R → Q) (
     → ProgramSays others t k b (that r)
     → ProgramSays (own ++ others) (program_choice own others words more s t) (of_kind ByName)
     (said_choice this that a b) r
-program_choice_says {P} {Q} {R} {T} this that r own others words more {s} {t} {a} {b} {j} {k} h g =
-    record { by = by_form s t a b h.by g.by }
+program_choice_says this that r own others words more {s = plain wide s} {t = plain other t}
+    {a = of_pieces a} {b = of_pieces b} h g = record { by = choice_says own others h.by g.by }
+program_choice_says this that r own others words more {s = plain wide s} {t = plain other t}
+    {a = of_cells a} h g = absurd h.by
+program_choice_says this that r own others words more {s = plain wide s} {t = plain other t}
+    {a = of_pieces a} {b = of_cells b} h g = absurd g.by
+program_choice_says {T = T} this that r own others words more {s = commands q va}
+    {t = commands u vb} {a = of_cells a} {b = of_cells b} h g =
+    record {
+      by = if_says (own ++ others) (are_words_apart words more) _ (of_kind ByName) _ r
+          (λ on. either);
+    }
   where
-    either : (u v x y : CellsValue T) → IsSaid u x → IsSaid v y
-        → IsSaid (ChoiceValue T u v) (ChoiceValue T x y)
-    either u v x y h g cs w (first_value c) = first_value (h cs w c)
-    either u v x y h g cs w (second_value c) = second_value (g cs w c)
-
-    by_form : (s t : ProgramForm T) (a : ProgramSaid P T) (b : ProgramSaid Q T)
-        → ProgramFormSays own s j a (this r) → ProgramFormSays others t k b (that r)
-        → ProgramFormSays (own ++ others) (program_choice own others words more s t)
-        (of_kind ByName)
-        (said_choice this that a b) r
-    by_form (plain wide s) (plain other t) (of_pieces a) (of_pieces b) h g =
-        choice_says own others h g
-    by_form (plain wide s) (plain other t) (of_cells a) b h g = absurd h
-    by_form (plain wide s) (plain other t) (of_pieces a) (of_cells b) h g = absurd g
-    by_form (commands q va) (commands u vb) (of_cells a) (of_cells b) h g =
-        if_says (own ++ others) (are_words_apart words more) _ (of_kind ByName) _ r
-        (λ on. either va vb (a (this r)) (b (that r)) h g)
-    by_form (commands q va) (commands u vb) (of_pieces a) b h g = absurd h
-    by_form (commands q va) (commands u vb) (of_cells a) (of_pieces b) h g = absurd g
-    by_form _ _ a b h g = tt
+    either : IsSaid (ChoiceValue T va vb) (ChoiceValue T (a (this r)) (b (that r)))
+    either cs w (first_value c) = first_value (h.by cs w c)
+    either cs w (second_value c) = second_value (g.by cs w c)
+program_choice_says this that r own others words more {s = commands q va} {t = commands u vb}
+    {a = of_pieces a} h g = absurd h.by
+program_choice_says this that r own others words more {s = commands q va} {t = commands u vb}
+    {a = of_cells a} {b = of_pieces b} h g = absurd g.by
+program_choice_says this that r own others words more h g = record { by = tt }
 
 -- of any number
 module _ {P Q T : Type 0} (keys : P → List Names) (words : P → List (List ℕ))
@@ -336,8 +301,7 @@ module _ {P Q T : Type 0} (keys : P → List Names) (words : P → List (List �
   first_says (of_pieces says) (of_pieces said) p (plain wide s) h into =
       record { by = by_flat s (by_name (keys p) s (kind p) (says p) h.by) }
     where
-      by_flat : (s : FlatForm T)
-          → FormSays (keys p) (alternative_only s) (of_kind ByName) (says p)
+      by_flat : (s : FlatForm T) → FormSays (keys p) (alternative_only s) (of_kind ByName) (says p)
           → FormSays names (alternative_only s) (of_kind ByName) (said q)
       by_flat (alternative r value) h = (refl, λ o v m. into (o ∷ []) v (h.1 o v m))
       by_flat _ h = tt
@@ -385,23 +349,21 @@ pub program_alone_says : (env : Variables) {P Q T : Type 0} (last : Q → P) (q 
     → ProgramSays (names (last q)) s (kind (last q)) said (last q)
     → ProgramFieldsSay (names (last q)) (program_alone (program_field s))
     (said_alone last kind names said) q
-program_alone_says env {P} {Q} {T} last q outcome kind names words {s} {said} law h =
-    record { by = by_form s said law h.by }
-  where
-    by_form : (s : ProgramForm T) (said : ProgramSaid P T)
-        → ProgramFormLaw env outcome (names (last q)) words s
-        → ProgramFormSays (names (last q)) s (kind (last q)) said (last q)
-        → ProgramFieldsFormSay (names (last q)) (program_alone (program_field s))
-        (said_alone last kind names said) q
-    by_form no_program said law h = tt
-    by_form (plain wide s) (of_pieces said) law h =
-        alone_says (field_owned env outcome (names (last q)) s law)
-        (field_says (owned env outcome (names (last q)) s law) h)
-    by_form (plain wide s) (of_cells said) law h = absurd h
-    by_form (commands r value) (of_cells said) law h = h
-    by_form (left_out r value) (of_cells said) law h = h
-    by_form (before_commands r value) (of_cells said) law h = h
-    by_form _ (of_pieces said) law h = absurd h
+program_alone_says env last q outcome kind names words {s = plain wide s} {said = of_pieces said}
+    law h = record {
+      by = alone_says (field_owned env outcome (names (last q)) s law)
+          (field_says (owned env outcome (names (last q)) s law) h.by);
+    }
+program_alone_says env last q outcome kind names words {s = no_program} law h = record { by = tt }
+program_alone_says env last q outcome kind names words {s = plain wide s} {said = of_cells said}
+    law h = absurd h.by
+program_alone_says env last q outcome kind names words {s = commands r value}
+    {said = of_cells said} law h = record { by = h.by }
+program_alone_says env last q outcome kind names words {s = left_out r value}
+    {said = of_cells said} law h = record { by = h.by }
+program_alone_says env last q outcome kind names words {s = before_commands r value}
+    {said = of_cells said} law h = record { by = h.by }
+program_alone_says env last q outcome kind names words {said = of_pieces said} law h = absurd h.by
 
 -- where a test holds
 fields_if_say : {P V : Type 0} (names : List Names) (b : Bool) (s : ProgramForm V)
@@ -436,53 +398,38 @@ module _ {P Q R A B : Type 0} (first : R → P) (rest : R → Q) (r : R) (outcom
       {more : ProgramFieldsSaid Q B} → ProgramFormLaw env outcome (names (first r)) words s
       → ProgramFormLaw env behind others [] t
       → ProgramSays (names (first r)) s (kind (first r)) said (first r)
-      → ProgramFieldsSay others t more (rest r)
-      → ProgramFieldsSay (names (first r) ++ others)
+      → ProgramFieldsSay others t more (rest r) → ProgramFieldsSay (names (first r) ++ others)
       (program_both (names (first r)) others (program_field s) t)
       (said_both first rest kind names said more) r
-  program_both_say env {s} {t} {said} {more} law laws h g =
-      record { by = by_form s t said more law laws h.by g.by }
-    where
-      by_form : (s : ProgramForm A) (t : ProgramForm B) (said : ProgramSaid P A)
-          (more : ProgramFieldsSaid Q B) → ProgramFormLaw env outcome (names (first r)) words s
-          → ProgramFormLaw env behind others [] t
-          → ProgramFormSays (names (first r)) s (kind (first r)) said (first r)
-          → ProgramFieldsFormSay others t more (rest r)
-          → ProgramFieldsFormSay (names (first r) ++ others)
-          (program_both (names (first r)) others (program_field s) t)
-          (said_both first rest kind names said more) r
-      by_form (plain wide s) (plain other t) (of_pieces said) (of_all_pieces more) law laws h g =
-          both_say (field_owned env outcome (names (first r)) s law)
-          (owned env behind others t laws)
-          (field_says (owned env outcome (names (first r)) s law) h) g
-      by_form (plain wide s) (plain other t) (of_pieces said) (of_all_cells more) law laws h g =
-          absurd g
-      by_form (plain wide s) (before_commands u value) (of_pieces said) (of_all_cells more)
-          law laws h
-          g =
-          before_says said more (wide || is_product s) (flat_field s) u value
-          (field_owned env outcome (names (first r)) s law).by
-          (field_says (owned env outcome (names (first r)) s law) h) g
-      by_form (plain wide s) (before_commands u value) (of_pieces said) (of_all_pieces more)
-          law laws h
-          g = absurd g
-      by_form (plain wide s) _ (of_cells said) more law laws h g = absurd h
-      by_form _ _ said more law laws h g = tt
+  program_both_say env {s = plain wide s} {t = plain other t} {said = of_pieces said}
+      {more = of_all_pieces more} law laws h g = record {
+        by = both_say (field_owned env outcome (names (first r)) s law)
+            (owned env behind others t laws)
+            (field_says (owned env outcome (names (first r)) s law) h.by) g.by;
+      }
+  program_both_say env {s = plain wide s} {t = plain other t} {said = of_pieces said}
+      {more = of_all_cells more} law laws h g = absurd g.by
+  program_both_say env {s = plain wide s} {t = before_commands u value} {said = of_pieces said}
+      {more = of_all_cells more} law laws h g = record {
+        by = before_says said more (wide || is_product s) (flat_field s) u value
+            (field_owned env outcome (names (first r)) s law).by
+            (field_says (owned env outcome (names (first r)) s law) h.by) g.by;
+      }
+  program_both_say env {s = plain wide s} {t = before_commands u value} {said = of_pieces said}
+      {more = of_all_pieces more} law laws h g = absurd g.by
+  program_both_say env {s = plain wide s} {said = of_cells said} law laws h g = absurd h.by
+  program_both_say env law laws h g = record { by = tt }
 
 -- fields that stand inside
 pub inside_say : {P Q V : Type 0} (inside : Q → P) (q : Q) {names : List Names}
     {s : ProgramForm V} {said : ProgramFieldsSaid P V} → ProgramFieldsSay names s said (inside q)
     → ProgramFieldsSay names s (fields_said_inside inside said) q
-inside_say {P} {Q} {V} inside q {names} {s} {said} h = record { by = by_form s said h.by }
-  where
-    by_form : (s : ProgramForm V) (said : ProgramFieldsSaid P V)
-        → ProgramFieldsFormSay names s said (inside q)
-        → ProgramFieldsFormSay names s (fields_said_inside inside said) q
-    by_form (plain wide s) (of_all_pieces said) h = h
-    by_form (plain wide s) (of_all_cells said) h = absurd h
-    by_form (before_commands r value) (of_all_pieces said) h = absurd h
-    by_form (before_commands r value) (of_all_cells said) h = h
-    by_form _ said h = tt
+inside_say inside q {s = plain wide s} {said = of_all_pieces said} h = record { by = h.by }
+inside_say inside q {s = plain wide s} {said = of_all_cells said} h = absurd h.by
+inside_say inside q {s = before_commands r value} {said = of_all_pieces said} h = absurd h.by
+inside_say inside q {s = before_commands r value} {said = of_all_cells said} h =
+    record { by = h.by }
+inside_say inside q h = record { by = tt }
 
 -- a constructor
 pub program_con_says : (env : Variables) {P Q A B : Type 0} (fields : Q → P) (q : Q)
@@ -491,24 +438,16 @@ pub program_con_says : (env : Variables) {P Q A B : Type 0} (fields : Q → P) (
     → ProgramFieldsSay (names (fields q)) s said (fields q)
     → ProgramSays (names (fields q)) (program_con (makes q) s) (program_kind s)
     (said_con fields names makes said) q
-program_con_says env {P} {Q} {A} {B} fields q outcome names makes {s} {said} law g =
-    record { by = by_form s said law g.by }
-  where
-    by_form : (s : ProgramForm A) (said : ProgramFieldsSaid P A)
-        → ProgramFormLaw env outcome (names (fields q)) [] s
-        → ProgramFieldsFormSay (names (fields q)) s said (fields q)
-        → ProgramFormSays (names (fields q)) (program_con (makes q) s) (program_kind s)
-        (said_con fields names makes said) q
-    by_form (plain wide s) (of_all_pieces said) law g =
-        con_says (makes q) (owned env outcome (names (fields q)) s law) g
-    by_form (plain wide s) (of_all_cells said) law g = absurd g
-    by_form (before_commands r value) (of_all_pieces said) law g = absurd g
-    by_form (before_commands r value) (of_all_cells said) law g = λ cs v c. record {
-      from = c.from;
-      read = g cs c.from c.read;
-      made = c.made;
-    }
-    by_form _ said law g = tt
+program_con_says env fields q outcome names makes {s = plain wide s} {said = of_all_pieces said} law
+    g = record { by = con_says (makes q) (owned env outcome (names (fields q)) s law) g.by }
+program_con_says env fields q outcome names makes {s = plain wide s} {said = of_all_cells said} law
+    g = absurd g.by
+program_con_says env fields q outcome names makes {s = before_commands r value}
+    {said = of_all_pieces said} law g = absurd g.by
+program_con_says env fields q outcome names makes {s = before_commands r value}
+    {said = of_all_cells said} law g =
+    record { by = closed_said (makes q) value (said (fields q)) g.by }
+program_con_says env fields q outcome names makes law g = record { by = tt }
 
 -- The whole.
 
@@ -516,8 +455,7 @@ program_con_says env {P} {Q} {A} {B} fields q outcome names makes {s} {said} law
 pub program_says : (env : Variables) {P T : Type 0} (outcome : Outcome T) (words : List (List ℕ))
     (s : ProgramForm T) {kind : SaidKind} {names : List Names} {said : ProgramSaid P T} {p : P}
     → ProgramFormLaw env outcome names words s → ProgramSays names s kind said p
-    → is_program s ≡ true
-    → IsSaid (program_value s) (cells_said said p)
+    → is_program s ≡ true → IsSaid (program_value s) (cells_said said p)
 program_says env outcome words s {kind} {names} {said} {p} law h is =
     whole_says (λ q. q) p env outcome names words s kind said p law h.by is
 
@@ -525,13 +463,9 @@ program_says env outcome words s {kind} {names} {said} {p} law h is =
 pub flat_says : {P T : Type 0} (s : ProgramForm T) {kind : SaidKind} {names : List Names}
     {said : ProgramSaid P T}
     {p : P} → ProgramSays names s kind said p → Says names (flat_form s) kind (pieces_said said p)
-flat_says {P} {T} s {kind} {names} {said} {p} h = by_form s said h.by
-  where
-    by_form : (s : ProgramForm T) (said : ProgramSaid P T) → ProgramFormSays names s kind said p
-        → Says names (flat_form s) kind (pieces_said said p)
-    by_form (plain wide s) (of_pieces said) h = unless_says wide h
-    by_form (plain wide s) (of_cells said) h = absurd h
-    by_form _ said h = record { by = tt }
+flat_says (plain wide s) {said = of_pieces said} h = unless_says wide h.by
+flat_says (plain wide s) {said = of_cells said} h = absurd h.by
+flat_says _ h = record { by = tt }
 
 -- a key, by what its field says without a name in the environment and with some
 pub key_says : {P T : Type 0} {names : List Names} {kind : SaidKind}
@@ -547,8 +481,7 @@ key_says {P} {T} {names} {kind} told envs_of p wide bare by_text variables here 
     by_envs : (envs : List (List ℕ)) → envs_of p ≡ envs
         → ProgramFormSays names (key_form wide bare by_text variables envs) kind
         (of_pieces (λ q. told q (first_set variables (envs_of q)))) p
-    by_envs [] e =
-        subst (λ z. Says names bare kind (told p (first_set variables z))) (sym e) here
+    by_envs [] e = subst (λ z. Says names bare kind (told p (first_set variables z))) (sym e) here
     by_envs (name ∷ envs) e = subst
         (λ z. Says names (by_text (first_set variables (name ∷ envs))) kind
         (told p (first_set variables z))) (sym e) (there (first_set variables (name ∷ envs)))

@@ -3,41 +3,31 @@
 use Rattle.std.proofs.Common.{◌≡◌, ◌≤◌, ◌<◌, ℕ, zero, suc, Bool, true, false, not, ◌&&◌, List, []}
 use Rattle.std.proofs.Common.{◌∷◌, length, Option, Some, None, Result, Ok, Err, refl, sym, ap, ◌∙◌}
 use Rattle.std.proofs.Common.{subst, inl, inr, ⊎_elim, arith, true≢false, if◌then◌else◌, ◌||◌}
-use Rattle.std.proofs.Common.{bytes_eq}
-use Rattle.std.specs.List.{list_any}
-use Rattle.std.specs.Option.{option_map_or}
-use Rattle.std.proofs.lemmas.Bool.{cases_lt, cases_Bool, and_parts}
-use Rattle.std.proofs.lemmas.Bool.Decides.{nat_tests}
-use Rattle.std.proofs.lemmas.List.{length_push}
-use Rattle.std.proofs.lemmas.Slice.Eq.{bytes_eq-Decides}
-use Rattle.bpaf_base.specs.declared.arg.Arg.{Arg}
-use Rattle.bpaf_base.specs.declared.arg.Arg.TheVariants.{Short, Long}
-use Rattle.bpaf_base.specs.Items.{any_item}
-use Rattle.bpaf_line.specs.declared.error.Error.{Error}
-use Rattle.bpaf_line.specs.Situation.{Situation, in_scope, is_taken, item_at}
-use Rattle.bpaf_line.specs.Taking.{open_item}
+use Rattle.std.proofs.{Common.bytes_eq, lemmas.Bool.cases_lt, lemmas.Bool.cases_Bool}
+use Rattle.std.proofs.{lemmas.Bool.and_parts, lemmas.Bool.Decides.nat_tests}
+use Rattle.std.proofs.{lemmas.List.length_push, lemmas.Slice.Eq.bytes_eq-Decides}
+use Rattle.std.specs.{List.list_any, Option.option_map_or}
+use Rattle.bpaf_base.specs.{declared.arg.Arg.Arg, declared.arg.Arg.TheVariants.Short}
+use Rattle.bpaf_base.specs.{declared.arg.Arg.TheVariants.Long, Items.any_item}
+use Rattle.bpaf_line.specs.{declared.error.Error.Error, Situation.Situation, Situation.in_scope}
+use Rattle.bpaf_line.specs.{Situation.is_taken, Situation.item_at, Taking.open_item}
 use Rattle.bpaf_line.proofs.Places.{open_in_scope, taken_here, taken_other, taken_stays}
 use Rattle.bpaf_line.proofs.Matches.{match_is_open, open_item_there}
-use Rattle.bpaf_laws.specs.Choice.{depth}
 use Rattle.bpaf_laws.specs.Command.{Called, IsNotOpened, IsOpenedAt, inside, is_one_of}
-use Rattle.bpaf_laws.specs.Command.{opening_words}
-use Rattle.bpaf_laws.specs.Reading.{Outcome}
-use Rattle.bpaf_exact.specs.Pieces.{Cells, Roles, pieces, IsNamed, is_key}
+use Rattle.bpaf_laws.specs.{Command.opening_words, Choice.depth, Reading.Outcome}
 use Rattle.bpaf_exact.specs.Flat.{cells, first_cells, NonePresent, IsWholeIn, FieldsLaw}
-use Rattle.bpaf_exact.specs.Flat.{FieldsReading, ReadOff, Variables}
 use Rattle.bpaf_exact.specs.Programs.{CellsValue, Opens, opens_here, opens_later, OpensNone}
 use Rattle.bpaf_exact.specs.Programs.{is_dashed, is_spelled, IsSpelledLine, AllSpelled, no_cell}
 use Rattle.bpaf_exact.specs.Programs.{empty_cell, spelled_cell, are_plain, CommandValue}
 use Rattle.bpaf_exact.specs.Programs.{LeavesToOthers, ProgramLaw, FindsNoCommand, CommandsLaw}
 use Rattle.bpaf_exact.specs.Programs.{CommandEval, command_value, command_leftover, command_refused}
+use Rattle.bpaf_exact.specs.Flat.{FieldsReading, ReadOff, Variables}
 use Rattle.bpaf_exact.specs.Programs.{command_missing, command_memory, GivesAll}
-use Rattle.bpaf_exact.proofs.Cells.{begin_foreign}
-use Rattle.bpaf_exact.proofs.Choice.{HasItem, has_item}
-use Rattle.bpaf_exact.proofs.Counts.{open_present}
-use Rattle.bpaf_exact.proofs.Matching.{match_of}
-use Rattle.bpaf_exact.proofs.Places.{same_cells, same_item, closed_item, TakenOne}
-use Rattle.bpaf_exact.proofs.Product.{no_own_in_cut}
-use Rattle.bpaf_exact.proofs.Records.{count_none}
+use Rattle.bpaf_exact.specs.Pieces.{Cells, Roles, pieces, IsNamed, is_key}
+use Rattle.bpaf_exact.proofs.{Choice.HasItem, Choice.has_item, Counts.open_present}
+use Rattle.bpaf_exact.proofs.{Matching.match_of, Places.same_cells, Places.same_item}
+use Rattle.bpaf_exact.proofs.{Places.closed_item, Places.TakenOne, Product.no_own_in_cut}
+use Rattle.bpaf_exact.proofs.{Records.count_none, Cells.begin_at}
 
 -- A command's word on cells.
 
@@ -120,8 +110,7 @@ word_of words at (suc n) ds o =
           before = later w.place w.before;
         }
       where
-        later : (p : ℕ) → ((q : ℕ) → q < p → at (suc q) ≡ None) → (q : ℕ) → q < suc p
-            → at q ≡ None
+        later : (p : ℕ) → ((q : ℕ) → q < p → at (suc q) ≡ None) → (q : ℕ) → q < suc p → at q ≡ None
         later p before zero l = e
         later p before (suc q) l = before q (omega arith)
 
@@ -160,7 +149,7 @@ opens_pieces : (words : List (List ℕ)) (q : Roles) → are_plain words ≡ tru
     → {cs ds : Cells} → AllSpelled cs → Opens words cs ds → pieces q cs ≡ pieces q ds
 opens_pieces words q plain n no_cell o = elim o [ ]
 opens_pieces words q plain n (spelled_cell s a) (opens_here {k = k} {cs = cs} h) =
-    begin_foreign k cs (pieces q cs) (n.only_keys k (no_key words plain k s h))
+    begin_at k cs (pieces q cs) (n.only_keys k (no_key words plain k s h))
 opens_pieces words q plain n (empty_cell a) (opens_later o) = opens_pieces words q plain n a o
 
 -- what is behind it is spelled
@@ -227,8 +216,7 @@ module _ (called : Called) (s : Situation) (p : ℕ)
         (λ (before : q < p). closed_outside behind q (outside q before)
         ∙ sym (none_before q before))
         (λ (after : p ≤ q). same_item s behind q (same_scope q after) refl
-        (taken_other s p q other))
-        (cases_lt q p);
+        (taken_other s p q other)) (cases_lt q p);
   }
     where
       outside : (q : ℕ) → q < p → in_scope behind q ≡ false
@@ -245,8 +233,7 @@ module _ (called : Called) (s : Situation) (p : ℕ)
       opens_at (opening_words called) (open_item s) (open_item behind) (length s.context.line) p
       m.item m.in_line m.is
       (passes_at (is_one_of (opening_words called)) (item_at s p) m.item
-      (open_item_there s p m.item m.is).1 at.named)
-      none_before behind_one
+      (open_item_there s p m.item m.is).1 at.named) none_before behind_one
 
   -- what isn't taken lies in the scope behind it
   pub whole_behind : {env : Variables} → IsWholeIn env s → IsWholeIn env behind
@@ -319,11 +306,9 @@ module _ {env : Variables} (T : Type 0) (inner : Outcome T) (r : Roles) (value :
 
   -- an Ok took the word, and has the value of what is behind it
   command_ok : (s t : Situation) (v : T) → IsWholeIn env s → IsSpelledLine s.context
-      → CommandEval T inner called s (Ok v) t
-      → NonePresent (cells t) → opened_value (cells s) v
+      → CommandEval T inner called s (Ok v) t → NonePresent (cells t) → opened_value (cells s) v
   command_ok s t v w spelled (command_value {p = p} at i e) n =
-      from_behind s p v at
-      (l.ok (inside called s p) t v (whole_behind called s p at w) spelled i n)
+      from_behind s p v at (l.ok (inside called s p) t v (whole_behind called s p at w) spelled i n)
 
   -- what its program answers behind the word where there is a value
   answer_behind : (s m : Situation) (p : ℕ) (a : Result T Error) (u : T) → IsWholeIn env s
@@ -352,8 +337,7 @@ module _ {env : Variables} (T : Type 0) (inner : Outcome T) (r : Roles) (value :
   command_none : (s t : Situation) (a : Result T Error) → IsWholeIn env s
       → CommandEval T inner called s a t → OpensNone words (cells s) → FindsNoCommand s a t
   unfolding cells
-  command_none s t a w (command_value {p = p} at i e) n =
-      absurd (n _ (opens_cells called s p at))
+  command_none s t a w (command_value {p = p} at i e) n = absurd (n _ (opens_cells called s p at))
   command_none s t a w (command_leftover {p = p} at i left) n =
       absurd (n _ (opens_cells called s p at))
   command_none s t a w (command_refused {p = p} at i spared) n =

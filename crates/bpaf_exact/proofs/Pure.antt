@@ -1,24 +1,14 @@
 -- A kept value is a field that takes no piece.
-use Rattle.std.proofs.Common.{◌≡◌, List, [], ◌∷◌, None, Ok, Err, Some, refl, subst, sym}
-use Rattle.bpaf_line.specs.Situation.{Situation}
-use Rattle.bpaf_line.specs.declared.error.Error.{Error}
-use Rattle.bpaf_laws.specs.Default.{GivesClone}
-use Rattle.bpaf_laws.specs.Pure.{PureOutcome}
+use Rattle.std.proofs.Common.{◌≡◌, List, [], Ok, Err, refl, subst, sym}
+use Rattle.bpaf_line.specs.{Situation.Situation, declared.error.Error.Error}
+use Rattle.bpaf_laws.specs.{Default.GivesClone, Pure.PureOutcome}
 use Rattle.bpaf_doc.specs.Names.{Names}
 use Rattle.bpaf_exact.specs.Flat.{ByName, FieldTook, IsWholeIn, OfMemory, cells, class, Variables}
-use Rattle.bpaf_exact.specs.FlatForm.{FormLaw}
-use Rattle.bpaf_exact.specs.Leaves.{pure_field}
-use Rattle.bpaf_exact.specs.Pieces.{Cells, LinePiece, TakesPieces, no_roles, pieces, takes_none}
-use Rattle.bpaf_exact.specs.Says.{Says, of_kind}
-use Rattle.bpaf_exact.proofs.Classes.{memory_class}
-use Rattle.bpaf_exact.proofs.FlatForm.{no_names}
-use Rattle.bpaf_exact.proofs.Records.{current_cells}
-
--- no piece is its own
-none_pieces : (cs : Cells) → pieces no_roles cs ≡ []
-none_pieces [] = refl
-none_pieces (None ∷ cs) = none_pieces cs
-none_pieces (Some k ∷ cs) = none_pieces cs
+use Rattle.bpaf_exact.specs.{Pieces.LinePiece, Pieces.TakesPieces, Pieces.no_roles}
+use Rattle.bpaf_exact.specs.{Pieces.takes_none, FlatForm.FormLaw, Leaves.pure_field, Says.Says}
+use Rattle.bpaf_exact.specs.{Says.of_kind}
+use Rattle.bpaf_exact.proofs.{Classes.memory_class, FlatForm.no_names, Records.current_cells}
+use Rattle.bpaf_exact.proofs.{NamedProducts.none_of_nobody}
 
 module _ (T : Type 0) (clones : T → T → Type 0) (kept : T) where
   -- what it stands for
@@ -27,8 +17,7 @@ module _ (T : Type 0) (clones : T → T → Type 0) (kept : T) where
 
   -- a value takes nothing
   pure_ok : {env : Variables} (s t : Situation) (v : T) → IsWholeIn env s
-      → PureOutcome (GivesClone clones kept) s (Ok v) t
-      → FieldTook T ByName no_roles value s v t
+      → PureOutcome (GivesClone clones kept) s (Ok v) t → FieldTook T ByName no_roles value s v t
   pure_ok s t v w o =
       subst (FieldTook T ByName no_roles value s v) (sym o.1)
       (record {
@@ -56,7 +45,7 @@ module _ (T : Type 0) (clones : T → T → Type 0) (kept : T) where
     record {
       own = record { only_keys = λ k h. refl };
       ok = pure_ok;
-      takes_all = λ s t v u w o h. none_pieces (cells t);
+      takes_all = λ s t v u w o h. none_of_nobody (cells t);
       refuses = λ s t e v w o h. pure_refuses s t e o;
     },
     no_names,

@@ -1,17 +1,14 @@
 -- The last field of a product, and its constructor.
 use Rattle.std.proofs.Common.{◌≡◌, List, [], ◌∷◌, Some, None, Ok, refl, sym, ap, ◌∙◌, subst, arith}
 use Rattle.bpaf_line.specs.Situation.{Situation, with_current}
-use Rattle.bpaf_laws.specs.Product.{ProductOutcome}
-use Rattle.bpaf_laws.specs.Reading.{Outcome}
+use Rattle.bpaf_laws.specs.{Product.ProductOutcome, Reading.Outcome}
 use Rattle.bpaf_exact.specs.Pieces.{Cells, Roles, Role, Foreign, LinePiece, IsNamed, Cut, either}
-use Rattle.bpaf_exact.specs.Pieces.{either_role, no_roles, pieces}
 use Rattle.bpaf_exact.specs.Flat.{cells, NonePresent, no_place, none_here, IsWholeIn, Steady}
 use Rattle.bpaf_exact.specs.Flat.{FieldKind, ByName, keys, OwnItems, FieldLaw, FieldsLaw, ReadOff}
 use Rattle.bpaf_exact.specs.Flat.{Before, FieldsReading, HasValue, portion, front, Variables}
-use Rattle.bpaf_exact.specs.Single.{present_count}
-use Rattle.bpaf_exact.specs.Wrappers.{map_closure}
-use Rattle.bpaf_exact.specs.Record.{LastValue, last_reading}
-use Rattle.bpaf_exact.specs.FlatForm.{made_reading}
+use Rattle.bpaf_exact.specs.{Pieces.either_role, Pieces.no_roles, Pieces.pieces}
+use Rattle.bpaf_exact.specs.{Single.present_count, Wrappers.map_closure, Record.LastValue}
+use Rattle.bpaf_exact.specs.{Record.last_reading, FlatForm.made_reading}
 use Rattle.bpaf_exact.proofs.Words.{empty_cut, cut_empty}
 use Rattle.bpaf_exact.proofs.Product.{step_back, none_left, own_portion, step_on}
 
@@ -27,9 +24,8 @@ count_none no_place = refl
 count_none (none_here n) = count_none n
 
 -- The last field of a product, or a record of one field alone.
-module _ {env : Variables} (T : Type 0) (outcome : Outcome T)
-    (k : FieldKind) (q : Roles) (value : List LinePiece → T → Type 0)
-    (l : FieldLaw env T outcome k q value) where
+module _ {env : Variables} (T : Type 0) (outcome : Outcome T) (k : FieldKind) (q : Roles)
+    (value : List LinePiece → T → Type 0) (l : FieldLaw env T outcome k q value) where
   -- a field may stand before none
   pub before_none : Before k q no_roles
   before_none = by_kind k
@@ -76,9 +72,8 @@ module _ {env : Variables} (T : Type 0) (outcome : Outcome T)
 
   -- so nothing is left
   last_takes : (s t : Situation) (v : T) (os : List LinePiece) → IsWholeIn env s
-      → outcome s (Ok v) t
-      → Cut (either (keys k q) no_roles) (cells s) os → (last_reading k q value).each os
-      → NonePresent (cells t)
+      → outcome s (Ok v) t → Cut (either (keys k q) no_roles) (cells s) os
+      → (last_reading k q value).each os → NonePresent (cells t)
   last_takes s t v os w o c h =
       let i = l.ok s t v w o in
       let all = l.takes_all s t v h.0.0 w o (own_value s os c h.0) in
@@ -121,8 +116,7 @@ module _ {env : Variables} (A B : Type 0) (fields : Outcome A) (makes : A → B 
   -- a constructor changes nothing
   con_steady : (s t : Situation) (v : B) → IsWholeIn env s → ProductOutcome fields makes s (Ok v) t
       → Steady s t
-  con_steady s t v w o =
-      subst (Steady s) (sym o.4) (same_steady (l.steady s o.0 o.1 w o.2))
+  con_steady s t v w o = subst (Steady s) (sym o.4) (same_steady (l.steady s o.0 o.1 w o.2))
 
   -- its value is made of those that are read off a cut
   con_reads : (s t : Situation) (v : B) → IsWholeIn env s → ProductOutcome fields makes s (Ok v) t
@@ -132,8 +126,7 @@ module _ {env : Variables} (A B : Type 0) (fields : Outcome A) (makes : A → B 
       record {
         cut_into = a.cut_into;
         cut = a.cut;
-        read =
-            record { from = o.1; read = a.read; made = o.3 };
+        read = record { from = o.1; read = a.read; made = o.3 };
       }
 
   -- a product with its constructor keeps to the laws of a list of fields

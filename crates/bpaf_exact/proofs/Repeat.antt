@@ -1,22 +1,19 @@
 -- Repeats of a field that keeps to the laws of one evaluation.
 use Rattle.std.proofs.Common.{◌≡◌, ◌<◌, ◌≤◌, Bool, true, false, List, [], ◌∷◌, None, Ok, Err, refl}
 use Rattle.std.proofs.Common.{sym, ap, ◌∙◌, subst, arith, inl, inr, ◌⊎◌, true≢false}
-use Rattle.bpaf_line.specs.declared.error.Error.{Error}
-use Rattle.bpaf_line.specs.Situation.{Situation, open_count}
-use Rattle.bpaf_laws.specs.Reading.{Outcome}
-use Rattle.bpaf_laws.specs.Repeat.{Turns, stops, rests, is_nil}
-use Rattle.bpaf_laws.specs.Turn.{TurnOutcome}
+use Rattle.bpaf_line.specs.{declared.error.Error.Error, Situation.Situation, Situation.open_count}
+use Rattle.bpaf_laws.specs.{Reading.Outcome, Repeat.Turns, Repeat.stops, Repeat.rests}
+use Rattle.bpaf_laws.specs.{Repeat.is_nil, Turn.TurnOutcome}
 use Rattle.bpaf_exact.specs.Pieces.{Cells, Roles, LinePiece, pieces, TakesPieces, takes_none}
-use Rattle.bpaf_exact.specs.Pieces.{takes_more}
-use Rattle.bpaf_exact.specs.Flat.{ErrorClass, OfMemory, OfMissing, Caught, Refused, class, cells}
-use Rattle.bpaf_exact.specs.Flat.{IsWholeIn, Steady, FieldKind, ByName, OneWord, EachWord, front}
-use Rattle.bpaf_exact.specs.Flat.{back, OwnItems, FieldLaw, Variables}
+use Rattle.bpaf_exact.specs.Flat.{OfMemory, OfMissing, class, cells, IsWholeIn, Steady, FieldKind}
+use Rattle.bpaf_exact.specs.Flat.{ByName, OneWord, EachWord, front, back, OwnItems, FieldLaw}
 use Rattle.bpaf_exact.specs.Single.{Groups, Own, own_none, own_more, TakesAny, Readable, Gap}
 use Rattle.bpaf_exact.specs.Single.{TookGroup, SingleOk, gave_absent, took, SingleErr, of_memory}
 use Rattle.bpaf_exact.specs.Single.{of_missing, of_absent, of_piece, SingleLaw, OwnList, listed}
 use Rattle.bpaf_exact.specs.Single.{listed_and_absent, only_absent, repeated, Stops, nothing_found}
 use Rattle.bpaf_exact.specs.Single.{caught, CanCatch, catch_missing, catch_other, RepeatOutcome}
-use Rattle.bpaf_exact.specs.Single.{ReadsWords, present_count}
+use Rattle.bpaf_exact.specs.{Pieces.takes_more, Flat.Variables, Single.ReadsWords}
+use Rattle.bpaf_exact.specs.{Single.present_count}
 use Rattle.bpaf_exact.proofs.Classes.{memory_class, stops_at, goes_on}
 use Rattle.bpaf_exact.proofs.Fronts.{back_all, each_nil, nil_each, no_keys_left}
 use Rattle.bpaf_exact.proofs.Product.{none_outside_after, steady_refl, steady_trans}
@@ -52,11 +49,22 @@ pub stops_by : (s m : Situation) (e : Error) → CanCatch e
 stops_by s m e (catch_missing c) same = nothing_found c (same_count s m (same c))
 stops_by s m e (catch_other c) same = caught c
 
--- a turn stops only where something is missing or the error can be caught otherwise
-pub no_stop : (s m : Situation) (e : Error) (c : ErrorClass) → Stops e s m → class e ≡ c
-    → (c ≡ OfMissing → ⊥) → (c ≡ Caught → ⊥) → ⊥
-no_stop s m e c (nothing_found h n) g a b = a (sym g ∙ h)
-no_stop s m e c (caught h) g a b = b (sym g ∙ h)
+-- a turn stops at what can be caught
+pub stopped_by : {s m : Situation} {e : Error} → Stops e s m → CanCatch e
+stopped_by (nothing_found c same) = catch_missing c
+stopped_by (caught c) = catch_other c
+
+-- where it can be caught there is no piece, and no absent value
+pub catch_none : {T : Type 0} {k : FieldKind} {q : Roles} {group : Groups T} {gap : Gap T}
+    (s m : Situation) (e : Error) → CanCatch e → SingleErr T k q group gap s e m
+    → (gap.has ≡ false) × (front k (pieces q (cells s)) ≡ [])
+catch_none s m e h (of_missing c g p same) = (g, p)
+catch_none s m e (catch_missing h) (of_memory c) = absurd cc
+catch_none s m e (catch_other h) (of_memory c) = absurd cc
+catch_none s m e (catch_missing h) (of_absent c g p n) = absurd cc
+catch_none s m e (catch_other h) (of_absent c g p n) = absurd cc
+catch_none s m e (catch_missing h) (of_piece c p n) = absurd cc
+catch_none s m e (catch_other h) (of_piece c p n) = absurd cc
 
 module _ {env : Variables} (T : Type 0) (inner : Outcome T) (k : FieldKind) (q : Roles)
     (group : Groups T) (gap : Gap T) (l : SingleLaw env T inner k q group gap) where
@@ -114,8 +122,7 @@ module _ {env : Variables} (T : Type 0) (inner : Outcome T) (k : FieldKind) (q :
   not_less s m e = let h = same_count s m e in omega arith
 
   -- where a piece was taken fewer are
-  fewer_count : (s m : Situation) → TakesAny q (cells s) (cells m)
-      → open_count m < open_count s
+  fewer_count : (s m : Situation) → TakesAny q (cells s) (cells m) → open_count m < open_count s
   fewer_count s m t =
       let a = takes_any_fewer q t in
       let b = open_present m in
@@ -146,10 +153,10 @@ module _ {env : Variables} (T : Type 0) (inner : Outcome T) (k : FieldKind) (q :
   -- a turn that stops after a value
   stop_after : (s m : Situation) (e : Error) → Stops e s m → SingleErr T k q group gap s e m
       → Took s [] s
-  stop_after s m e h (of_memory c) = absurd (no_stop s m e OfMemory h c (λ i. cc) (λ i. cc))
-  stop_after s m e h (of_missing c g p same) = ended s s (steady_refl s) p refl (λ i. absurd cc)
-  stop_after s m e h (of_absent c g p n) = absurd (no_stop s m e Refused h c (λ i. cc) (λ i. cc))
-  stop_after s m e h (of_piece c p n) = absurd (no_stop s m e Refused h c (λ i. cc) (λ i. cc))
+  stop_after s m e h refused =
+      let a = catch_none s m e (stopped_by h) refused in
+      let g = a.0 in
+      ended s s (steady_refl s) a.1 refl (λ i. absurd cc)
 
   -- one value more
   took_more : (s m t : Situation) (v : T) (vs : List T) → TookGroup T k q group s v m
@@ -187,8 +194,7 @@ module _ {env : Variables} (T : Type 0) (inner : Outcome T) (k : FieldKind) (q :
   later_took : (vs : List T) (s m t : Situation) → IsWholeIn env s → Turns inner false false s vs m
       → TurnOutcome inner false false m (Ok None) t → Took s vs t
   later_took [] s m t w turns stop =
-      stop_took s t w
-      (subst (λ z. TurnOutcome inner false false z (Ok None) t) (sym turns) stop)
+      stop_took s t w (subst (λ z. TurnOutcome inner false false z (Ok None) t) (sym turns) stop)
   later_took (v ∷ vs) s m t w turns stop =
       step_took s turns.0 t v vs (took_item s turns.0 turns.1.1) (l.ok s turns.0 v w turns.1.0)
       (λ st. later_took vs turns.0 m t (none_outside_after s turns.0 w st) turns.2 stop)
@@ -236,11 +242,9 @@ module _ {env : Variables} (T : Type 0) (inner : Outcome T) (k : FieldKind) (q :
       let none : us ≡ [] = own_nil (own m) us (same_own s m same ∙ own_none_left s p) i.list in
       record {
         steady = steady_trans st i.steady;
-        takes =
-            some_trans q (same_takes q same) i.takes;
+        takes = some_trans q (same_takes q same) i.takes;
         none = i.none ∙ same_left s m same;
-        list =
-            absent_alone s m v us none h p ab;
+        list = absent_alone s m v us none h p ab;
       }
   first_step s m t v us (took h) more =
       let i = took_more s m t v us h (more h.steady) in
@@ -248,38 +252,32 @@ module _ {env : Variables} (T : Type 0) (inner : Outcome T) (k : FieldKind) (q :
         steady = i.steady;
         takes = i.takes;
         none = i.none;
-        list =
-            with_absent gap.has refl (own s) v us i.absent i.list;
+        list = with_absent gap.has refl (own s) v us i.absent i.list;
       }
 
   -- a first value that took nothing
   first_idle : (s t : Situation) (v : T) → IsWholeIn env s → open_count s ≤ open_count t
       → SingleOk T k q group gap s v t → RepeatTook s (v ∷ []) t
-  first_idle s t v w e (gave_absent h p ab same st) =
-      record {
-        steady = st;
-        takes = same_takes q same;
-        none = ap (pieces q) same
-            ∙ all_left s p;
-        list = absent_alone s t v [] refl h p ab;
-      }
+  first_idle s t v w e (gave_absent h p ab same st) = record {
+    steady = st;
+    takes = same_takes q same;
+    none = ap (pieces q) same
+        ∙ all_left s p;
+    list = absent_alone s t v [] refl h p ab;
+  }
   first_idle s t v w e (took h) = let f = fewer_count s t h.takes in
       absurd (omega arith)
 
   -- a first turn that stops
   first_stop : (s m : Situation) (e : Error) → Stops e s m → SingleErr T k q group gap s e m
       → RepeatTook s [] s
-  first_stop s m e h (of_memory c) = absurd (no_stop s m e OfMemory h c (λ i. cc) (λ i. cc))
-  first_stop s m e h (of_missing c g p same) =
-      record {
+  first_stop s m e h refused =
+      let a = catch_none s m e (stopped_by h) refused in record {
         steady = steady_refl s;
         takes = takes_none;
-        none = all_left s p;
-        list =
-            listed g (subst (λ os. Own T group os []) (sym (own_none_left s p)) own_none);
+        none = all_left s a.1;
+        list = listed a.0 (subst (λ os. Own T group os []) (sym (own_none_left s a.1)) own_none);
       }
-  first_stop s m e h (of_absent c g p n) = absurd (no_stop s m e Refused h c (λ i. cc) (λ i. cc))
-  first_stop s m e h (of_piece c p n) = absurd (no_stop s m e Refused h c (λ i. cc) (λ i. cc))
 
   -- a first turn that stops read all
   first_stopped : (s t : Situation) → IsWholeIn env s → TurnOutcome inner false true s (Ok None) t
@@ -294,8 +292,7 @@ module _ {env : Variables} (T : Type 0) (inner : Outcome T) (k : FieldKind) (q :
       → Turns inner false first s vs m → TurnOutcome inner false (is_nil vs) m (Ok None) t
       → RepeatTook s vs t
   turns_took first [] s m t w turns stop =
-      first_stopped s t w
-      (subst (λ z. TurnOutcome inner false true z (Ok None) t) (sym turns) stop)
+      first_stopped s t w (subst (λ z. TurnOutcome inner false true z (Ok None) t) (sym turns) stop)
   turns_took first (v ∷ vs) s m t w turns stop =
       first_step s turns.0 t v vs (l.ok s turns.0 v w turns.1.0)
       (λ st. later_took vs turns.0 m t (none_outside_after s turns.0 w st) turns.2 stop)
@@ -335,12 +332,10 @@ module _ {env : Variables} (T : Type 0) (inner : Outcome T) (k : FieldKind) (q :
 
   -- where the pieces can be read a refusal is want of memory
   failed_gives : (s t : Situation) (e : Error) (ws : List T) → IsWholeIn env s
-      → (gap.has ≡ true → (a : T) × gap.absent a) → OwnView (own s) ws
-      → (Stops e s t → ⊥)
+      → (gap.has ≡ true → (a : T) × gap.absent a) → OwnView (own s) ws → (Stops e s t → ⊥)
       → SingleErr T k q group gap s e t → class e ≡ OfMemory
   failed_gives s t e ws w ab o n (of_memory c) = c
-  failed_gives s t e ws w ab o n (of_missing c g p same) =
-      absurd (n (stops_by s t e c same))
+  failed_gives s t e ws w ab o n (of_missing c g p same) = absurd (n (stops_by s t e c same))
   failed_gives s t e ws w ab o n (of_absent c g p none) = let a = ab g in absurd (none a.0 a.1)
   failed_gives s t e ws w ab (view_none p x) n (of_piece c ne none) = absurd (ne (nil_each k _ p))
   failed_gives s t e ws w ab (view_more v rest us x g o) n (of_piece c ne none) =
@@ -405,8 +400,7 @@ module _ {env : Variables} (T : Type 0) (inner : Outcome T) (k : FieldKind) (q :
   turns_fail first [] s m t e ws w view turns fails =
       by_view view (subst (λ z. TurnOutcome inner false true z (Err e) t) (sym turns) fails)
     where
-      by_view : ListView (own s) ws → TurnOutcome inner false true s (Err e) t
-          → class e ≡ OfMemory
+      by_view : ListView (own s) ws → TurnOutcome inner false true s (Err e) t → class e ≡ OfMemory
       by_view (all_read ab o n) one = turn_fails true s t e ws w ab (own_view _ ws o) one
       by_view (gap_read h a ab p) (inl one) = gap_failed s t a e h ab p (l.err s t e w one.0)
       by_view (gap_read h a ab p) (inr one) = memory_class e.0 one.0
@@ -422,8 +416,7 @@ module _ {env : Variables} (T : Type 0) (inner : Outcome T) (k : FieldKind) (q :
 
   -- where there is an own list a repeat fails for want of memory alone
   repeat_fails : (idle : Bool) (s t : Situation) (e : Error) (ws : List T) → IsWholeIn env s
-      → RepeatOutcome inner idle s (Err e) t → OwnList T group gap (own s) ws
-      → class e ≡ OfMemory
+      → RepeatOutcome inner idle s (Err e) t → OwnList T group gap (own s) ws → class e ≡ OfMemory
   repeat_fails false s t e ws w o own_list =
       turns_fail true o.values s o.last t e ws w (list_view _ ws own_list) o.steps o.fails
   repeat_fails true s t e ws w o own_list =

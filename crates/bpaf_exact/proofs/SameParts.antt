@@ -2,18 +2,16 @@
 use Rattle.std.proofs.Common.{◌≡◌, List, [], ◌∷◌, ◌++◌, Option, Some, None, refl, sym, ap, ap₂, ◌∙◌}
 use Rattle.std.proofs.Common.{append_assoc, append-nil, map, slice_get}
 use Rattle.std.proofs.lemmas.List.{map-append}
-use Rattle.bpaf_doc.specs.declared.doc.Piece.{Piece}
 use Rattle.bpaf_doc.specs.Shape.{Shown, Command, Shape, Shapes, Or, Optional, Required, Many}
 use Rattle.bpaf_doc.specs.Shape.{Suffix, Subsection, CustomUsage, Skip, none, ◌then◌, members}
-use Rattle.bpaf_doc.specs.Shape.{alternatives, shapes_of}
-use Rattle.bpaf_doc.specs.Walks.{parts, parts_of_all}
-use Rattle.bpaf_laws.specs.Choice.{ChoiceDescribes, either_shape}
-use Rattle.bpaf_laws.specs.Choices.{ChoicesDescribes, Nested}
-use Rattle.bpaf_laws.specs.Default.{DefaultDescribes, OptionalDescribes}
-use Rattle.bpaf_laws.specs.Hide.{SectionDescribes, UsageDescribes, usage_pieces}
-use Rattle.bpaf_laws.specs.Product.{BothDescribes, LastDescribes, ProductDescribes}
-use Rattle.bpaf_laws.specs.Repeat.{ManyDescribes, SomeDescribes}
-use Rattle.bpaf_laws.specs.Command.{Called, CommandDescribes}
+use Rattle.bpaf_doc.specs.{Shape.alternatives, Shape.shapes_of, declared.doc.Piece.Piece}
+use Rattle.bpaf_doc.specs.{Walks.parts, Walks.parts_of_all}
+use Rattle.bpaf_laws.specs.{Choice.ChoiceDescribes, Choice.either_shape, Choices.ChoicesDescribes}
+use Rattle.bpaf_laws.specs.{Choices.Nested, Default.DefaultDescribes, Default.OptionalDescribes}
+use Rattle.bpaf_laws.specs.{Hide.SectionDescribes, Hide.UsageDescribes, Hide.usage_pieces}
+use Rattle.bpaf_laws.specs.{Product.BothDescribes, Product.LastDescribes, Product.ProductDescribes}
+use Rattle.bpaf_laws.specs.{Repeat.ManyDescribes, Repeat.SomeDescribes, Command.Called}
+use Rattle.bpaf_laws.specs.{Command.CommandDescribes}
 use Rattle.bpaf_exact.specs.SameParts.{bare, shown_parts, FieldsShowTheSame, ShowsTheSame}
 
 -- a parser of one shape

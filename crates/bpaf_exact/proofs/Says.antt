@@ -5,28 +5,17 @@ use Rattle.bpaf_doc.specs.Names.{Names}
 use Rattle.bpaf_text.specs.Named.{Named as Key, KeyWithValue}
 use Rattle.bpaf_laws.specs.Reading.{Outcome}
 use Rattle.bpaf_exact.specs.Pieces.{Roles, LinePiece, One, Two, is_own, mine, others, either}
-use Rattle.bpaf_exact.specs.Pieces.{no_roles, stands_behind}
 use Rattle.bpaf_exact.specs.Flat.{FieldKind, ByName, OneWord, EachWord, FieldsReading, keys, front}
-use Rattle.bpaf_exact.specs.Flat.{back, both_reading, Variables}
-use Rattle.bpaf_exact.specs.Names.{Owns, are_all_apart}
 use Rattle.bpaf_exact.specs.Single.{Groups, Gap, FrontOf, Own, own_none, own_more, OwnList, listed}
 use Rattle.bpaf_exact.specs.Single.{listed_and_absent, only_absent, SingleValue, of_group, of_gap}
-use Rattle.bpaf_exact.specs.Single.{repeated}
 use Rattle.bpaf_exact.specs.Wrappers.{Closure, OptionalValue, some_value, no_value, FallbackValue}
-use Rattle.bpaf_exact.specs.Wrappers.{own_value, kept_value}
-use Rattle.bpaf_exact.specs.Gathered.{LastOf}
-use Rattle.bpaf_exact.specs.Alternative.{pick_type, either_value}
 use Rattle.bpaf_exact.specs.Leaves.{flag_field, flag_gap, FlagValue, argument_field, argument_by}
 use Rattle.bpaf_exact.specs.Leaves.{argument_gap, argument_group, variable_argument, variable_flag}
-use Rattle.bpaf_exact.specs.Leaves.{ArgumentValue, SideValue, WordValue, word_by}
-use Rattle.bpaf_exact.proofs.Fronts.{all_front}
-use Rattle.bpaf_exact.specs.Record.{LastValue}
 use Rattle.bpaf_exact.specs.FlatForm.{FlatForm, FormLaw, not_flat, alternative, single, complete}
 use Rattle.bpaf_exact.specs.FlatForm.{product, only_if, flat_closed, flat_choice, alternative_only}
 use Rattle.bpaf_exact.specs.FlatForm.{flat_repeat, flat_last, flat_optional, flat_fallback, unless}
 use Rattle.bpaf_exact.specs.FlatForm.{flat_field, is_named, may_follow, product_roles, flat_both}
 use Rattle.bpaf_exact.specs.FlatForm.{flat_alone, flat_con, flat_record, product_reading}
-use Rattle.bpaf_exact.specs.FlatForm.{flat_whole}
 use Rattle.bpaf_exact.specs.Says.{SaidKind, form_kind, of_kind, keyed, repeated_kind, AllOwn, Fits}
 use Rattle.bpaf_exact.specs.Says.{Said, FlagSays, says_present, says_absent, says_variable}
 use Rattle.bpaf_exact.specs.Says.{ArgumentSays, says_variable_text, says_text, says_last_text}
@@ -34,13 +23,19 @@ use Rattle.bpaf_exact.specs.Says.{WordSays, EitherSays, says_this, says_that, Ma
 use Rattle.bpaf_exact.specs.Says.{OptionalSays, says_some, says_none, FallbackSays, says_own}
 use Rattle.bpaf_exact.specs.Says.{says_kept, FrontSays, RepeatSays, says_in_turn, says_alone}
 use Rattle.bpaf_exact.specs.Says.{LastSays, FieldsSaid, RecordSays, FormSays, Says, FieldsFormSays}
-use Rattle.bpaf_exact.specs.Says.{FieldsSay, its_pieces, words_after}
-use Rattle.bpaf_exact.proofs.Names.{apart_of_names}
+use Rattle.bpaf_exact.specs.{Pieces.no_roles, Pieces.stands_behind, Flat.back, Flat.both_reading}
+use Rattle.bpaf_exact.specs.{Flat.Variables, Single.repeated, Wrappers.own_value}
+use Rattle.bpaf_exact.specs.{Wrappers.kept_value, Leaves.ArgumentValue, Leaves.SideValue}
+use Rattle.bpaf_exact.specs.{Leaves.WordValue, Leaves.word_by, FlatForm.flat_whole, Says.FieldsSay}
+use Rattle.bpaf_exact.specs.{Says.its_pieces, Says.words_after, Names.Owns, Names.are_all_apart}
+use Rattle.bpaf_exact.specs.{Gathered.LastOf, Alternative.pick_type, Alternative.either_value}
+use Rattle.bpaf_exact.specs.{Record.LastValue}
 use Rattle.bpaf_exact.proofs.Sharing.{mine_rest, others_fit, others_rest, rest_fit, apart_none}
 use Rattle.bpaf_exact.proofs.Sharing.{each_own, first_fits, no_fits, own_fit, second_fits}
 use Rattle.bpaf_exact.proofs.Sharing.{mine_keyed, others_unkeyed, mine_within, first_within}
 use Rattle.bpaf_exact.proofs.Sharing.{second_within, mine_of_others, mine_none, others_none}
-use Rattle.bpaf_exact.proofs.Sharing.{all_mine, others_both, none_behind}
+use Rattle.bpaf_exact.proofs.{Sharing.all_mine, Sharing.others_both, Sharing.none_behind}
+use Rattle.bpaf_exact.proofs.{Fronts.all_front, Fronts.never_nil, Names.apart_of_names}
 
 -- Leaves.
 
@@ -65,8 +60,7 @@ module _ {T : Type 0} (clones : T → T → Type 0) (present : T) where
 
   -- no key
   flag_gap_says : (absent : Option T) (set : Option (List ℕ)) (v : T)
-      → (flag_gap clones present absent set).absent v
-      → FlagSays clones present absent set [] v
+      → (flag_gap clones present absent set).absent v → FlagSays clones present absent set [] v
   flag_gap_says None None v m = absurd m
   flag_gap_says (Some a) None v m = says_absent a refl refl refl m
   flag_gap_says absent (Some text) v m = says_variable text refl refl m
@@ -99,11 +93,6 @@ module _ {T : Type 0} (means : List ℕ → T → Type 0) where
   pair_piece (One k) v m = absurd m
   pair_piece (Two k w) v m = says_text k w refl m
 
-  -- no piece behind others is none
-  not_none : (before : List LinePiece) (o : LinePiece) → before ++ o ∷ [] ≡ [] → ⊥
-  not_none [] o e = cc
-  not_none (p ∷ before) o e = cc
-
   -- all its keys
   argument_group_says : {set : Option (List ℕ)} (last : Bool) (os rest : List LinePiece) (v : T)
       → argument_group means last os v rest → FrontSays (ArgumentSays means last set) os v rest
@@ -112,7 +101,7 @@ module _ {T : Type 0} (means : List ℕ → T → Type 0) where
   argument_group_says true os rest v g = record {
     part = os;
     is = sym (ap (λ z. os ++ z) g.none_left ∙ append-nil os);
-    some = λ e. not_none g.before (Two g.key g.word) (sym g.is ∙ e);
+    some = λ e. never_nil g.before (Two g.key g.word) [] (sym g.is ∙ e);
     told = says_last_text g.before g.key g.word refl g.have_values g.is g.meant;
   }
 
@@ -151,8 +140,7 @@ OneWordSays {T = T} accepts means value =
 
 -- a word with such values
 pub word_by_says : {T : Type 0} {names : List Names} (accepts : Bool → Bool)
-    (means : List ℕ → T → Type 0)
-    (value : LinePiece → T → Type 0) → OneWordSays accepts means value
+    (means : List ℕ → T → Type 0) (value : LinePiece → T → Type 0) → OneWordSays accepts means value
     → (stops : Bool) → Says names (word_by stops value) (of_kind (OneWord stops))
     (WordSays accepts means)
 word_by_says accepts means value piece stops = record {
@@ -179,36 +167,37 @@ side_says accepts behind means accepted (Two k w) v m = absurd m
 pub closed_says : {A B : Type 0} (f : Closure A B) {s : FlatForm A} {kind : SaidKind}
     {names : List Names}
     {said : Said A} → Says names s kind said → Says names (flat_closed f s) kind (MadeSays said f)
-closed_says {A} {B} f {s} {kind} {names} {said} h = record { by = by_form s h.by }
-  where
-    made : (os : List LinePiece) (x : A) (v : B) → said os x → f.yes x v → MadeSays said f os v
-    made os x v m answer = record { from = x; told = m; made = answer }
-
-    by_form : (s : FlatForm A) → FormSays names s kind said
-        → FormSays names (flat_closed f s) kind (MadeSays said f)
-    by_form (alternative q value) h =
-        (h.0, λ o v m. made (o ∷ []) m.from v (h.1 o m.from m.read) m.made)
-    by_form (single k q group gap) h = (
-      h.0,
-      λ os rest v g. let there = h.1 os rest g.from g.read in
-          record {
-            part = there.part;
-            is = there.is;
-            some = there.some;
-            told = made there.part g.from v there.told g.made;
-          },
-      λ v m. made [] m.0 v (h.2 m.0 m.1) m.2,
-    )
-    by_form (complete k q value) h =
-        (h.0, λ os v all m. made os m.from v (h.1 os m.from all m.read) m.made)
-    by_form _ h = tt
+closed_says f {s = alternative q value} h = record {
+  by = (
+    h.by.0,
+    λ o v m. record { from = m.from; told = h.by.1 o m.from m.read; made = m.made },
+  );
+}
+closed_says f {s = single k q group gap} h = record {
+  by = (
+    h.by.0,
+    λ os rest v g. let there = h.by.1 os rest g.from g.read in record {
+      part = there.part;
+      is = there.is;
+      some = there.some;
+      told = record { from = g.from; told = there.told; made = g.made };
+    },
+    λ v m. record { from = m.0; told = h.by.2 m.0 m.1; made = m.2 },
+  );
+}
+closed_says f {s = complete k q value} h = record {
+  by = (
+    h.by.0,
+    λ os v all m. record { from = m.from; told = h.by.1 os m.from all m.read; made = m.made },
+  );
+}
+closed_says f h = record { by = tt }
 
 -- Choices.
 
 -- of two, into what each says more of
 pub choice_into : {T : Type 0} (m n names own others : List Names) (j k : SaidKind)
-    (said this that : Said T)
-    → ((os : List LinePiece) (v : T) → this os v → said os v)
+    (said this that : Said T) → ((os : List LinePiece) (v : T) → this os v → said os v)
     → ((os : List LinePiece) (v : T) → that os v → said os v)
     → (a b : FlatForm T) → FormSays m a j this → FormSays n b k that
     → FormSays names (flat_choice own others a b) (of_kind ByName) said
@@ -254,8 +243,7 @@ module _ {T : Type 0} (said : Said T) (group : Groups T) (gap : Gap T)
   whole_says [] v (of_gap a) = absent v a
 
   -- values in turn
-  turns_say : (os : List LinePiece) (vs : List T) → Own T group os vs
-      → Own T (FrontSays said) os vs
+  turns_say : (os : List LinePiece) (vs : List T) → Own T group os vs → Own T (FrontSays said) os vs
   turns_say [] [] own_none = own_none
   turns_say (o ∷ os) [] h = elim h [ ]
   turns_say os (v ∷ vs) (own_more {rest = rest} g more) =
@@ -311,8 +299,7 @@ pub record OwnsKeys {T : Type 0} (names : List Names) (s : FlatForm T) : Type 0 
 
 -- of what keeps to its law,
 pub owned : (env : Variables) {T : Type 0} (outcome : Outcome T) (names : List Names)
-    (s : FlatForm T)
-    → FormLaw env outcome names s → OwnsKeys names s
+    (s : FlatForm T) → FormLaw env outcome names s → OwnsKeys names s
 owned env outcome names (complete k q value) law = record { by = law.1 }
 owned env outcome names (product named q fields) law = record { by = law.1 }
 owned env outcome names _ law = record { by = tt }
@@ -321,22 +308,23 @@ owned env outcome names _ law = record { by = tt }
 pub field_says : {T : Type 0} {s : FlatForm T} {kind : SaidKind} {names : List Names}
     {said : Said T}
     → OwnsKeys names s → Says names s kind said → Says names (flat_field s) kind said
-field_says {T} {s} {kind} {names} {said} own h = record { by = by_form s own.by h.by }
-  where
-    by_form : (s : FlatForm T) → FormOwns names s → FormSays names s kind said
-        → FormSays names (flat_field s) kind said
-    by_form (complete k q value) own h = h
-    by_form (product true q fields) own h =
-        (h.0, λ os v all m. let fit = own_fit q names own os all in h.1 os os v fit fit m refl refl)
-    by_form (product false q fields) own h = h
-    by_form s own h =
-        whole_form_says (λ k. k) (λ j. j) (λ k. refl) (SingleValue T) said said (whole_says said)
-        names kind s h
+field_says {s = complete k q value} own h = h
+field_says {s = product true q fields} {names = names} own h = record {
+  by = (
+    h.by.0,
+    λ os v all m. let fit = own_fit q names own.by os all in
+        h.by.1 os os v fit fit m refl refl,
+  );
+}
+field_says {s = product false q fields} own h = h
+field_says {T} {s} {kind} {names} {said} own h = record {
+  by = whole_form_says (λ k. k) (λ j. j) (λ k. refl) (SingleValue T) said said (whole_says said)
+      names kind s h.by;
+}
 
 -- under `optional`
 pub optional_says : {T : Type 0} {s : FlatForm T} {kind : SaidKind} {names : List Names}
-    {said : Said T}
-    → Says names s kind said → Says names (flat_optional s) kind (OptionalSays said)
+    {said : Said T} → Says names s kind said → Says names (flat_optional s) kind (OptionalSays said)
 optional_says {T} {s} {said = said} h = record {
   by = whole_form_says (λ k. k) (λ j. j) (λ k. refl) (OptionalValue T) said (OptionalSays said)
       (optional_by said) _ _ s h.by;
@@ -389,8 +377,7 @@ unless_says false h = h
 
 -- also as a field
 pub field_owned : (env : Variables) {T : Type 0} (outcome : Outcome T) (names : List Names)
-    (s : FlatForm T)
-    → FormLaw env outcome names s → OwnsKeys names (flat_field s)
+    (s : FlatForm T) → FormLaw env outcome names s → OwnsKeys names (flat_field s)
 field_owned env outcome names not_flat law = record { by = tt }
 field_owned env outcome names (product true q fields) law = record { by = law.1 }
 field_owned env outcome names _ law = record { by = law.1 }
@@ -399,11 +386,9 @@ field_owned env outcome names _ law = record { by = law.1 }
 pub alone_says : {T : Type 0} {names : List Names} {s : FlatForm T} {kind : SaidKind}
     {said : Said T} → OwnsKeys names s → Says names s kind said
     → FieldsSay names (flat_alone s) (λ os words v. said (its_pieces kind names os words) v)
-alone_says {T} {names} {s} {kind} {said} own_keys h =
-    record { by = by_form s own_keys.by h.by }
+alone_says {T} {names} {s} {kind} {said} own_keys h = record { by = by_form s own_keys.by h.by }
   where
-    own : (k : FieldKind) (q : Roles) (value : List LinePiece → T → Type 0)
-        → Owns (keys k q) names
+    own : (k : FieldKind) (q : Roles) (value : List LinePiece → T → Type 0) → Owns (keys k q) names
         → ((os : List LinePiece) (v : T) → AllOwn k q os → value os v → said os v)
         → (whole os : List LinePiece) (v : T)
         → Fits names (either (keys k q) no_roles) whole → LastValue T k q value os v
@@ -436,8 +421,7 @@ alone_says {T} {names} {s} {kind} {said} own_keys h =
         (mine_rest q names whole os fits ∙ same) (others_rest q names whole os fits))
     by_form (complete k q value) law h = λ whole os v fits fit m same.
         subst (λ j. said (its_pieces j names whole (others (either (keys k q) no_roles) os)) v)
-        (sym h.0)
-        (own k q value law h.1 whole os v fits m same)
+        (sym h.0) (own k q value law h.1 whole os v fits m same)
     by_form _ law h = tt
 
 -- a field before others, by its kind
@@ -503,12 +487,6 @@ module _ {A B : Type 0} (own behind : List Names) (said : Said A) (rest_said : F
             (mine_none r none whole ∙ sym (mine_none r none (back (EachWord b) os)))),
       )
 
--- what a field and those behind it say
-abbrev BothSaid : {A B : Type 0} → List Names → SaidKind → Said A → FieldsSaid B
-    → FieldsSaid (A × B)
-BothSaid own kind said rest_said os words v =
-    said (its_pieces kind own os words) v.0 × rest_said os (words_after kind words) v.1
-
 -- a field before others
 pub both_say : {A B : Type 0} {own behind : List Names} {a : FlatForm A} {s : FlatForm B}
     {kind : SaidKind} {said : Said A} {rest_said : FieldsSaid B} → OwnsKeys own a
@@ -516,59 +494,43 @@ pub both_say : {A B : Type 0} {own behind : List Names} {a : FlatForm A} {s : Fl
     → FieldsSay (own ++ behind) (flat_both own behind a s)
     (λ os words v.
     said (its_pieces kind own os words) v.0 × rest_said os (words_after kind words) v.1)
-both_say {A} {B} {own} {behind} {a} {s} {kind} {said} {rest_said} own_keys behind_keys h g =
-    record { by = by_form a s own_keys.by behind_keys.by h.by g.by }
+both_say {own = own} {behind = behind} {a = complete k q first} {s = product named r fields}
+    {kind = kind} {said = said} {rest_said = rest_said} own_keys behind_keys h g =
+    record { by = by_test (may_follow k own behind) refl }
   where
-    by_test : (k : FieldKind) (named : Bool) (q r : Roles) (first : List LinePiece → A → Type 0)
-        (fields : FieldsReading B) → Owns (keys k q) own → Owns r behind → kind ≡ of_kind k
-        → ((os : List LinePiece) (v : A) → AllOwn k q os → first os v → said os v)
-        → FieldsFormSays behind (product named r fields) rest_said
-        → (may : Bool) → may_follow k own behind ≡ may
-        → FieldsFormSays (own ++ behind)
+    by_test : (may : Bool) → may_follow k own behind ≡ may → FieldsFormSays (own ++ behind)
         (only_if may (product (is_named k && named) (either (keys k q) r)
-        (both_reading k q first fields))) (BothSaid own kind said rest_said)
-    by_test k named q r first fields owned owned_behind is each rest_each false may = tt
-    by_test k named q r first fields owned owned_behind is each rest_each true may = λ whole os
-        v fits fit m same. subst
+        (both_reading k q first fields)))
+        (λ os words v.
+        said (its_pieces kind own os words) v.0 × rest_said os (words_after kind words) v.1)
+    by_test false may = tt
+    by_test true may = λ whole os v fits fit m same. subst
         (λ j. said (its_pieces j own whole (others (either (keys k q) r) os)) v.0
-        × rest_said whole (words_after j (others (either (keys k q) r) os)) v.1)
-        (sym is)
-        (kind_says own behind said rest_said q r first fields owned_behind rest_each k each owned
-        may
-        whole os v fits fit m same)
-
-    by_form : (a : FlatForm A) (s : FlatForm B) → FormOwns own a
-        → FormOwns behind s → FormSays own a kind said → FieldsFormSays behind s rest_said
-        → FieldsFormSays (own ++ behind) (flat_both own behind a s)
-        (BothSaid own kind said rest_said)
-    by_form (complete k q first) (product named r fields) law rest_law h g =
-        by_test k named q r first fields law rest_law h.0 h.1 g (may_follow k own behind) refl
-    by_form _ _ law rest_law h g = tt
+        × rest_said whole (words_after j (others (either (keys k q) r) os)) v.1) (sym h.by.0)
+        (kind_says own behind said rest_said q r first fields behind_keys.by g.by k h.by.1
+        own_keys.by may whole os v fits fit m same)
+both_say own_keys behind_keys h g = record { by = tt }
 
 -- what a constructor makes of the values of fields
 pub con_says : {A B : Type 0} {names : List Names} {s : FlatForm A} {said : FieldsSaid A}
     (f : Closure A B) → OwnsKeys names s → FieldsSay names s said
     → Says names (flat_con f s) (form_kind s) (RecordSays said names f)
-con_says {A} {B} {names} {s} {said} f own_keys g =
-    record { by = by_form s own_keys.by g.by }
-  where
-    by_form : (s : FlatForm A) → FormOwns names s → FieldsFormSays names s said
-        → FormSays names (flat_con f s) (form_kind s) (RecordSays said names f)
-    by_form (product named q fields) law g = (
-      refl,
-      λ whole os v fits fit m same other. record {
-        from = m.from;
-        fields = subst (λ z. said whole z m.from) (sym other ∙ others_unkeyed q names whole fits)
-            (g whole os m.from fits fit m.read same);
-        made = m.made;
-      },
-    )
-    by_form _ law g = tt
+con_says {names = names} {s = product named q fields} {said = said} f own_keys g = record {
+  by = (
+    refl,
+    λ whole os v fits fit m same other. record {
+      from = m.from;
+      fields = subst (λ z. said whole z m.from) (sym other ∙ others_unkeyed q names whole fits)
+          (g.by whole os m.from fits fit m.read same);
+      made = m.made;
+    },
+  );
+}
+con_says f own_keys g = record { by = tt }
 
 -- A value of a flat record says what its parser says of all pieces of the line.
 pub record_says : {T : Type 0} (s : FlatForm T) {kind : SaidKind} {names : List Names}
-    {said : Said T}
-    → Says names s kind said
+    {said : Said T} → Says names s kind said
     → (os : List LinePiece) (v : T) → Fits names (product_roles (flat_record s)) os
     → (product_reading (flat_record s)).value os v → said os v
 record_says {T} s {kind} {names} {said} h = by_form s h.by

@@ -2,19 +2,16 @@
 use Rattle.std.proofs.Common.{◌≡◌, Bool, true, false, List, [], ◌∷◌, refl, sym, ap, ◌∙◌}
 use Rattle.std.proofs.Common.{if◌then◌else◌, ◌++◌, ◌||◌, ◌⊎◌, ⊎_elim, None, Some, inl, inr}
 use Rattle.std.proofs.lemmas.List.Folds.{list_any-append}
-use Rattle.bpaf_base.specs.Items.{is_key_of, is_positional}
-use Rattle.bpaf_base.specs.declared.arg.Arg.TheVariants.{Word, PosWord}
-use Rattle.bpaf_exact.specs.Names.{are_all_apart, Owns, is_key_of_any}
+use Rattle.bpaf_base.specs.{Items.is_key_of, Items.is_positional, declared.arg.Arg.TheVariants.Word}
+use Rattle.bpaf_base.specs.{declared.arg.Arg.TheVariants.PosWord, declared.arg.Arg.Arg}
 use Rattle.bpaf_exact.specs.Pieces.{Cells, Cut, argument, at_end, begin_piece, flag, passed, pieces}
 use Rattle.bpaf_exact.specs.Pieces.{word, Role, Foreign, Alone, WithNext, Roles, LinePiece, One}
 use Rattle.bpaf_exact.specs.Pieces.{Two, is_own_role, is_own, mine, others, either, either_role}
-use Rattle.bpaf_exact.specs.Says.{EachOwn, Fits, first_item, keyed, unkeyed}
-use Rattle.bpaf_exact.proofs.First.{own_next}
-use Rattle.bpaf_exact.proofs.Names.{one_list, or_true}
+use Rattle.bpaf_exact.specs.{Names.are_all_apart, Names.Owns, Names.is_key_of_any, Says.EachOwn}
+use Rattle.bpaf_exact.specs.{Says.Fits, Says.first_item, Says.keyed, Says.unkeyed, Flat.OneWord}
+use Rattle.bpaf_exact.specs.{FlatForm.may_follow}
+use Rattle.bpaf_exact.proofs.{First.own_next, Names.one_list, Names.or_true}
 use Rattle.bpaf_doc.specs.Names.{Names}
-use Rattle.bpaf_base.specs.declared.arg.Arg.{Arg}
-use Rattle.bpaf_exact.specs.Flat.{OneWord}
-use Rattle.bpaf_exact.specs.FlatForm.{may_follow}
 
 -- a test that holds of no item fails
 fails : (c : Bool) → (c ≡ true → true ≡ false) → c ≡ false
@@ -46,8 +43,7 @@ module _ (r : Roles) (names : List Names) where
   mine_keyed [] fits = refl
   mine_keyed (o ∷ os) fits =
       ap (λ c. if c then (o ∷ mine r os) else mine r os) fits.0
-      ∙ ap (λ z. if is_key_of_any names (first_item o) then (o ∷ z) else z)
-      (mine_keyed os fits.1)
+      ∙ ap (λ z. if is_key_of_any names (first_item o) then (o ∷ z) else z) (mine_keyed os fits.1)
 
   -- and those of others the rest
   pub others_unkeyed : (os : List LinePiece) → Fits names r os → others r os ≡ unkeyed names os
@@ -151,8 +147,7 @@ pieces_own q (Some k ∷ cs) = by_role (q k) refl (pieces_own q cs)
     by_role WithNext e all = (own_next q k cs ∙ ap is_own_role e, all)
 
 -- where each own item of the one is one of the other, its pieces are among the other's
-pub mine_within : (q r : Roles)
-    → ((k : Arg) → is_own_role (q k) ≡ true → is_own_role (r k) ≡ true)
+pub mine_within : (q r : Roles) → ((k : Arg) → is_own_role (q k) ≡ true → is_own_role (r k) ≡ true)
     → (os : List LinePiece) → mine q (mine r os) ≡ mine q os
 mine_within q r part [] = refl
 mine_within q r part (o ∷ os) = by_own (is_own r o) refl (mine_within q r part os)
@@ -190,8 +185,7 @@ second_within q r k = by_role (q k)
 pub mine_of_others : (p q : Roles) → ((k : Arg) → is_own_role (q k) ≡ true → p k ≡ Foreign)
     → (os : List LinePiece) → mine q (others p os) ≡ mine q os
 mine_of_others p q apart [] = refl
-mine_of_others p q apart (o ∷ os) =
-    by_own (mine_of_others p q apart os) (is_own p o) refl
+mine_of_others p q apart (o ∷ os) = by_own (mine_of_others p q apart os) (is_own p o) refl
   where
     foreign : is_own p o ≡ true → is_own q o ≡ true → true ≡ false
     foreign own e =
@@ -225,8 +219,7 @@ all_mine q [] e = refl
 all_mine q (o ∷ os) e = by_own (is_own q o) e (all_mine q os)
   where
     by_own : (b : Bool) → (if b then others q os else (o ∷ others q os)) ≡ []
-        → (others q os ≡ [] → mine q os ≡ os)
-        → (if b then (o ∷ mine q os) else mine q os) ≡ o ∷ os
+        → (others q os ≡ [] → mine q os ≡ os) → (if b then (o ∷ mine q os) else mine q os) ≡ o ∷ os
     by_own true f h = ap (λ z. o ∷ z) (h f)
     by_own false f h = cc
 
@@ -242,8 +235,7 @@ others_both q r (o ∷ os) =
         → others r (others q os) ≡ others (either q r) os
         → others r (others q (o ∷ os)) ≡ others (either q r) (o ∷ os)
     by_role x first both h = (
-        ap (λ c. others r (if c then others q os else (o ∷ others q os))) first
-        ∙ by_own x h
+        ap (λ c. others r (if c then others q os else (o ∷ others q os))) first ∙ by_own x h
         ∙ sym (ap (λ c. if c then others (either q r) os else (o ∷ others (either q r) os)) both)
         )
       where
@@ -255,8 +247,7 @@ others_both q r (o ∷ os) =
         by_own WithNext h = h
         by_own Foreign h =
             ap (λ c. if c then others r (others q os) else (o ∷ others r (others q os)))
-            (own_first r o)
-            ∙ ap (λ z. if is_own_role (r (first_item o)) then z else (o ∷ z)) h
+            (own_first r o) ∙ ap (λ z. if is_own_role (r (first_item o)) then z else (o ∷ z)) h
 
 -- behind a positional field no item is another field's own
 pub none_behind : (r : Roles) (own behind : List Names) → Owns r behind
@@ -331,13 +322,11 @@ mine_rest r names [] os fits = no_own_left r os
 mine_rest r names (o ∷ whole) os fits =
     by_key (is_key_of_any names (first_item o)) fits.0 (mine_rest r names whole os fits.1)
   where
-    by_key : (b : Bool) → is_own r o ≡ b
-        → mine r (keyed names whole ++ others r os) ≡ mine r whole
+    by_key : (b : Bool) → is_own r o ≡ b → mine r (keyed names whole ++ others r os) ≡ mine r whole
         → mine r ((if b then (o ∷ keyed names whole) else keyed names whole) ++ others r os)
         ≡ (if is_own r o then (o ∷ mine r whole) else mine r whole)
     by_key true e h = ap (λ z. if is_own r o then (o ∷ z) else z) h
-    by_key false e h =
-        h ∙ sym (ap (λ z. if z then (o ∷ mine r whole) else mine r whole) e)
+    by_key false e h = h ∙ sym (ap (λ z. if z then (o ∷ mine r whole) else mine r whole) e)
 
 -- and those of others are the words that are left
 pub others_rest : (r : Roles) (names : List Names) (whole os : List LinePiece) → Fits names r whole
@@ -346,8 +335,7 @@ others_rest r names [] os fits = left_again r os
 others_rest r names (o ∷ whole) os fits =
     by_key (is_key_of_any names (first_item o)) fits.0 (others_rest r names whole os fits.1)
   where
-    by_key : (b : Bool) → is_own r o ≡ b
-        → others r (keyed names whole ++ others r os) ≡ others r os
+    by_key : (b : Bool) → is_own r o ≡ b → others r (keyed names whole ++ others r os) ≡ others r os
         → others r ((if b then (o ∷ keyed names whole) else keyed names whole) ++ others r os)
         ≡ others r os
     by_key true e h =

@@ -1,20 +1,17 @@
 -- A surplus occurrence, a surplus word and an occurrence without a value leave a field no value.
 use Rattle.std.proofs.Common.{◌≡◌, ℕ, Bool, true, false, List, [], ◌∷◌, Option, Some, None, subst}
 use Rattle.bpaf_doc.specs.Names.{Names}
-use Rattle.bpaf_exact.specs.Pieces.{Roles, LinePiece}
 use Rattle.bpaf_exact.specs.Flat.{FieldKind, FieldsReading, HasValue, both_reading, portion, left}
 use Rattle.bpaf_exact.specs.Single.{Groups, Gap, FrontOf, own_none, own_more, OwnList, listed}
 use Rattle.bpaf_exact.specs.Single.{listed_and_absent, only_absent, SingleValue, of_group, of_gap}
 use Rattle.bpaf_exact.specs.Wrappers.{Closure, OptionalValue, some_value, no_value, FallbackValue}
-use Rattle.bpaf_exact.specs.Wrappers.{own_value, kept_value}
-use Rattle.bpaf_exact.specs.Gathered.{LastOf}
-use Rattle.bpaf_exact.specs.Alternative.{HasBad}
-use Rattle.bpaf_exact.specs.Record.{last_reading}
-use Rattle.bpaf_exact.specs.Leaves.{flag_by, argument_by, word_field}
 use Rattle.bpaf_exact.specs.FlatForm.{FlatForm, not_flat, alternative, single, complete, product}
 use Rattle.bpaf_exact.specs.FlatForm.{flat_closed, flat_optional, flat_fallback, flat_field, unless}
-use Rattle.bpaf_exact.specs.FlatForm.{is_product}
-use Rattle.bpaf_exact.specs.Accepted.{OneByOne, AtMostOne, HasNoSurplus, IsPartOf}
+use Rattle.bpaf_exact.specs.{Wrappers.own_value, Wrappers.kept_value, FlatForm.is_product}
+use Rattle.bpaf_exact.specs.{Pieces.Roles, Pieces.LinePiece, Gathered.LastOf, Alternative.HasBad}
+use Rattle.bpaf_exact.specs.{Record.last_reading, Leaves.flag_by, Leaves.argument_by}
+use Rattle.bpaf_exact.specs.{Leaves.word_field, Accepted.OneByOne, Accepted.AtMostOne}
+use Rattle.bpaf_exact.specs.{Accepted.HasNoSurplus, Accepted.IsPartOf}
 use Rattle.bpaf_exact.proofs.Alternative.{own_bad}
 
 -- A surplus occurrence.
@@ -25,8 +22,7 @@ front_one T value os rest v g = (g.piece, g.is)
 
 -- where one evaluation reads one piece, two have no value
 group_once : {T : Type 0} (group : Groups T) → OneByOne group
-    → (o p : LinePiece) (os : List LinePiece)
-    (v : T) → group (o ∷ p ∷ os) v [] → ⊥
+    → (o p : LinePiece) (os : List LinePiece) (v : T) → group (o ∷ p ∷ os) v [] → ⊥
 group_once group one o p os v g = let i = one (o ∷ p ∷ os) [] v g in let e = i.1 in cc
 
 module _ (T : Type 0) (group : Groups T) (gap : Gap T) (one : OneByOne group) where
@@ -102,14 +98,12 @@ module _ (T : Type 0) (value : LinePiece → T → Type 0) (gap : Gap T) where
   pub repeat_bad : (os : List LinePiece) (vs : List T) → HasBad T value os
       → OwnList T (FrontOf T value) gap os vs → ⊥
   repeat_bad os vs b (listed h o) = own_bad T value os vs b o
-  repeat_bad os vs b (listed_and_absent {v = v} {vs = us} h a o) =
-      own_bad T value os (v ∷ us) b o
+  repeat_bad os vs b (listed_and_absent {v = v} {vs = us} h a o) = own_bad T value os (v ∷ us) b o
   repeat_bad os vs b (only_absent h a) = elim b [ ]
 
   -- nor has `last`
   pub last_bad : (os : List LinePiece) (v : T) → HasBad T value os
-      → LastOf T (FrontOf T value) gap os v
-      → ⊥
+      → LastOf T (FrontOf T value) gap os v → ⊥
   last_bad os v b h = repeat_bad os h.list b h.own
 
   -- nor what has no repeat or default

@@ -1,13 +1,13 @@
 -- Cuts of what named fields left: words alone.
 use Rattle.std.proofs.Common.{◌≡◌, Bool, true, false, List, [], ◌∷◌, Some, None, refl, sym, ap, ◌∙◌}
 use Rattle.std.proofs.Common.{if◌then◌else◌}
-use Rattle.bpaf_base.specs.declared.arg.Arg.{Arg}
-use Rattle.bpaf_base.specs.Items.{is_positional}
-use Rattle.bpaf_exact.specs.Pieces.{Cells, Role, Foreign, Alone, WithNext, Roles, LinePiece, One}
-use Rattle.bpaf_exact.specs.Pieces.{Cut, at_end, passed, flag, argument, word, begin_piece, pieces}
-use Rattle.bpaf_exact.specs.Pieces.{TakesPiece, takes_one, takes_two, takes_later, TakesPieces}
-use Rattle.bpaf_exact.specs.Pieces.{takes_none, takes_more}
+use Rattle.bpaf_base.specs.{declared.arg.Arg.Arg, Items.is_positional}
+use Rattle.bpaf_exact.specs.Pieces.{Cells, Foreign, Alone, WithNext, Roles, LinePiece, One, Cut}
+use Rattle.bpaf_exact.specs.Pieces.{at_end, passed, flag, argument, word, pieces, TakesPiece}
+use Rattle.bpaf_exact.specs.Pieces.{takes_one, takes_two, takes_later, TakesPieces, takes_none}
+use Rattle.bpaf_exact.specs.Pieces.{takes_more}
 use Rattle.bpaf_exact.specs.Flat.{IsWords, NonePresent, no_place, none_here}
+use Rattle.bpaf_exact.proofs.Cells.{begin_at}
 
 -- no item is a key
 pub record NoKeys (r : Roles) : Type 0 where
@@ -22,7 +22,7 @@ word_of q k n e = by_word (is_positional k) (sym (n.words k) ∙ e)
     by_word false h = cc
 
 -- and a piece by itself
-never_two : (q : Roles) (k : Arg) → IsWords q → q k ≡ WithNext → ⊥
+pub never_two : (q : Roles) (k : Arg) → IsWords q → q k ≡ WithNext → ⊥
 never_two q k n e = by_word (is_positional k) (sym (n.words k) ∙ e)
   where
     by_word : (b : Bool) → (if b then Alone else Foreign) ≡ WithNext → ⊥
@@ -79,22 +79,15 @@ take_words_from q r n f takes_none c = record { words = _; cut = c }
 take_words_from q r n f (takes_more t more) c =
     take_words_from q r n f more (take_word_from q r n f t c).cut
 
--- an item that is a piece by itself
-begin_alone : {x : Role} (k : Arg) (cs : Cells) (os : List LinePiece) → x ≡ Alone
-    → begin_piece x k cs os ≡ One k ∷ os
-begin_alone k cs os e = ap (λ z. begin_piece z k cs os) e
-
 -- Where no key is cut off, the pieces are the words that are present.
 pub words_of_cut : (q r : Roles) {cs : Cells} {os : List LinePiece} → IsWords q → NoKeys r
-    → Cut r cs os
-    → pieces q cs ≡ os
+    → Cut r cs os → pieces q cs ≡ os
 words_of_cut q r n f at_end = refl
 words_of_cut q r n f (passed c) = words_of_cut q r n f c
 words_of_cut q r n f (flag {k = k} e c) = let g = f.none k in cc
 words_of_cut q r n f (argument {k = k} e v c) = let g = f.none k in cc
 words_of_cut q r n f (word {w = w} {cs = cs} {os = os} h c) =
-    begin_alone w cs (pieces q cs) (alone_word q w n h)
-    ∙ ap (λ z. One w ∷ z) (words_of_cut q r n f c)
+    begin_at w cs (pieces q cs) (alone_word q w n h) ∙ ap (λ z. One w ∷ z) (words_of_cut q r n f c)
 
 -- Where nothing is present the cut is empty, and only there.
 pub empty_cut : (r : Roles) {cs : Cells} → NonePresent cs → Cut r cs []

@@ -1,31 +1,27 @@
 -- Closures, optional and fallback keep to the laws.
 use Rattle.std.proofs.Common.{◌≡◌, false, List, [], Option, Some, None, Ok, Err, refl, sym, ap, ◌∙◌}
 use Rattle.std.proofs.Common.{subst}
-use Rattle.bpaf_line.specs.declared.error.Error.{Error}
-use Rattle.bpaf_line.specs.Situation.{Situation}
+use Rattle.bpaf_line.specs.{declared.error.Error.Error, Situation.Situation}
 use Rattle.bpaf_laws.specs.Reading.{Outcome}
-use Rattle.bpaf_exact.specs.Pieces.{Roles, LinePiece, pieces, takes_none}
-use Rattle.bpaf_exact.specs.Flat.{ErrorClass, OfMemory, OfMissing, Caught, Refused, class, cells}
-use Rattle.bpaf_exact.specs.Flat.{IsWholeIn, FieldKind, ByName, OneWord, EachWord, front, back}
-use Rattle.bpaf_exact.specs.Flat.{NoKeysLeft, FieldTook, FieldLaw, Variables}
+use Rattle.bpaf_exact.specs.Flat.{ErrorClass, OfMemory, OfMissing, class, cells, IsWholeIn}
+use Rattle.bpaf_exact.specs.Flat.{FieldKind, ByName, OneWord, EachWord, front, back, NoKeysLeft}
 use Rattle.bpaf_exact.specs.Single.{Groups, Own, own_none, Readable, Gap, SingleOk, gave_absent}
 use Rattle.bpaf_exact.specs.Single.{took, SingleErr, of_memory, of_missing, of_absent, of_piece}
-use Rattle.bpaf_exact.specs.Single.{ReadsWords, SingleLaw, SingleValue, of_group, of_gap, Stops}
-use Rattle.bpaf_exact.specs.Single.{CanCatch, catch_missing, catch_other}
+use Rattle.bpaf_exact.specs.Single.{ReadsWords, SingleLaw, SingleValue, of_group, of_gap, CanCatch}
 use Rattle.bpaf_exact.specs.Wrappers.{Closure, Decides, AgreesOn, ClosedEval, closed_yes, closed_no}
 use Rattle.bpaf_exact.specs.Wrappers.{closed_memory, closed_err, ClosedValue, OptionalEval}
 use Rattle.bpaf_exact.specs.Wrappers.{optional_some, optional_none, optional_err, optional_memory}
 use Rattle.bpaf_exact.specs.Wrappers.{OptionalValue, some_value, no_value, FallbackEval}
 use Rattle.bpaf_exact.specs.Wrappers.{fallback_ok, fallback_given, fallback_no, fallback_memory}
 use Rattle.bpaf_exact.specs.Wrappers.{fallback_err, FallbackValue, own_value, kept_value}
-use Rattle.bpaf_exact.proofs.Product.{steady_refl}
-use Rattle.bpaf_exact.proofs.Fronts.{back_all, no_keys_left}
-use Rattle.bpaf_exact.proofs.Repeat.{any_some, same_takes, no_stop, stops_by}
+use Rattle.bpaf_exact.specs.Flat.{FieldTook, FieldLaw, Variables}
+use Rattle.bpaf_exact.specs.Pieces.{Roles, LinePiece, pieces, takes_none}
+use Rattle.bpaf_exact.proofs.Repeat.{any_some, same_takes, catch_none, stopped_by, stops_by}
+use Rattle.bpaf_exact.proofs.{Product.steady_refl, Fronts.back_all, Fronts.no_keys_left}
 
 -- outer closures
 module _ {env : Variables} (A B : Type 0) (inner : Outcome A) (k : FieldKind) (q : Roles)
-    (value : List LinePiece → A → Type 0)
-    (l : FieldLaw env A inner k q value) (f : Closure A B)
+    (value : List LinePiece → A → Type 0) (l : FieldLaw env A inner k q value) (f : Closure A B)
     (agrees : (os : List LinePiece) → AgreesOn (value os) f) (c : ErrorClass) where
   -- a value that the closure gave
   closed_ok : (s t : Situation) (v : B) → IsWholeIn env s → ClosedEval A B inner f c s (Ok v) t
@@ -35,8 +31,7 @@ module _ {env : Variables} (A B : Type 0) (inner : Outcome A) (k : FieldKind) (q
       record {
         steady = a.steady;
         takes = a.takes;
-        read =
-            λ n. record { from = x; read = a.read n; made = y };
+        read = λ n. record { from = x; read = a.read n; made = y };
         rest = a.rest;
       }
 
@@ -103,15 +98,12 @@ module _ {env : Variables} (T : Type 0) (inner : Outcome T) (k : FieldKind) (q :
   -- one evaluation, as that of a field
   single_took : (s t : Situation) (v : T) → SingleOk T k q group gap s v t
       → FieldTook T k q (SingleValue T group gap) s v t
-  single_took s t v (gave_absent h p ab same st) =
-      record {
-        steady = st;
-        takes = same_takes q same;
-        read =
-            λ n. nothing_read (pieces q (cells s)) v p ab;
-        rest =
-            λ n. nothing_left _ _ p (ap (pieces q) same);
-      }
+  single_took s t v (gave_absent h p ab same st) = record {
+    steady = st;
+    takes = same_takes q same;
+    read = λ n. nothing_read (pieces q (cells s)) v p ab;
+    rest = λ n. nothing_left _ _ p (ap (pieces q) same);
+  }
   single_took s t v (took h) = record {
     steady = h.steady;
     takes = any_some q h.takes;
@@ -121,8 +113,7 @@ module _ {env : Variables} (T : Type 0) (inner : Outcome T) (k : FieldKind) (q :
 
   -- what the front means the pieces mean
   of_front : (z : FieldKind) (os : List LinePiece) (v : T) → ReadsWords z group
-      → group (front z os) v []
-      → group os v (back z os)
+      → group (front z os) v [] → group os v (back z os)
   of_front ByName os v u g = g
   of_front (OneWord b) os v u g = u.of_front os v g
   of_front (EachWord b) os v u g = absurd u
@@ -172,14 +163,6 @@ module _ {env : Variables} (T : Type 0) (inner : Outcome T) (k : FieldKind) (q :
 
   -- optional
 
-  -- where it stops there is no piece
-  stop_missing : (s m : Situation) (e : Error) → Stops e s m → SingleErr T k q group gap s e m
-      → (gap.has ≡ false) × (front k (pieces q (cells s)) ≡ [])
-  stop_missing s m e h (of_memory c) = absurd (no_stop s m e OfMemory h c (λ i. cc) (λ i. cc))
-  stop_missing s m e h (of_missing c g p same) = (g, p)
-  stop_missing s m e h (of_absent c g p n) = absurd (no_stop s m e Refused h c (λ i. cc) (λ i. cc))
-  stop_missing s m e h (of_piece c p n) = absurd (no_stop s m e Refused h c (λ i. cc) (λ i. cc))
-
   -- a value that may be left out
   optional_ok : (s t : Situation) (v : Option T) → IsWholeIn env s → OptionalEval T inner s (Ok v) t
       → FieldTook (Option T) k q (OptionalValue T group gap) s v t
@@ -189,11 +172,10 @@ module _ {env : Variables} (T : Type 0) (inner : Outcome T) (k : FieldKind) (q :
         steady = a.steady;
         takes = a.takes;
         read = λ n. some_value (a.read n);
-        rest =
-            a.rest;
+        rest = a.rest;
       }
   optional_ok s t v w (optional_none {e = e} {m = m} i h) =
-      let a = stop_missing s m e h (l.err s m e w i) in
+      let a = catch_none s m e (stopped_by h) (l.err s m e w i) in
       record {
         steady = steady_refl s;
         takes = takes_none;
@@ -225,15 +207,15 @@ module _ {env : Variables} (T : Type 0) (inner : Outcome T) (k : FieldKind) (q :
   none_takes : (s : Situation) → front k (pieces q (cells s)) ≡ [] → NoKeysLeft k q (cells s)
   none_takes s none = no_keys_left k q (cells s) _ (nothing_left _ _ none refl)
 
-  -- where nothing is there no other refusal comes
-  none_fails : (s t : Situation) (e : Error) → IsWholeIn env s → (Stops e s t → ⊥)
+  -- where nothing is there, what isn't caught is want of memory
+  none_fails : (s t : Situation) (e : Error)
+      → (CanCatch e → (class e ≡ OfMissing → cells t ≡ cells s) → ⊥)
       → front k (pieces q (cells s)) ≡ [] → gap.has ≡ false → SingleErr T k q group gap s e t
       → class e ≡ OfMemory
-  none_fails s t e w n p b (of_memory c) = c
-  none_fails s t e w n p b (of_missing c g p' same) =
-      absurd (n (stops_by s t e c same))
-  none_fails s t e w n p b (of_absent c g p' x) = absurd cc
-  none_fails s t e w n p b (of_piece c ne x) = absurd (ne p)
+  none_fails s t e n p b (of_memory c) = c
+  none_fails s t e n p b (of_missing c g p' same) = absurd (n c same)
+  none_fails s t e n p b (of_absent c g p' x) = absurd cc
+  none_fails s t e n p b (of_piece c ne x) = absurd (ne p)
 
   -- where the portion has a value, all is taken
   optional_takes : (s t : Situation) (u v : Option T) → IsWholeIn env s
@@ -241,7 +223,7 @@ module _ {env : Variables} (T : Type 0) (inner : Outcome T) (k : FieldKind) (q :
       → NoKeysLeft k q (cells t)
   optional_takes s t u v w (optional_some {v = x} i) g = some_takes s t x v w i (l.ok s t x w i) g
   optional_takes s t u v w (optional_none {e = e} {m = m} i h) g =
-      none_takes s (stop_missing s m e h (l.err s m e w i)).1
+      none_takes s (catch_none s m e (stopped_by h) (l.err s m e w i)).1
 
   -- and a refusal is want of memory
   optional_refuses : (s t : Situation) (e : Error) (v : Option T) → IsWholeIn env s
@@ -249,36 +231,21 @@ module _ {env : Variables} (T : Type 0) (inner : Outcome T) (k : FieldKind) (q :
       → class e ≡ OfMemory
   optional_refuses s t e v w (optional_err i n) (view_some y x g) = single_refuses s t e y w i g
   optional_refuses s t e v w (optional_err i n) (view_none x y b) =
-      none_fails s t e w n x b (l.err s t e w i)
+      none_fails s t e (λ c same. n (stops_by s t e c same)) x b (l.err s t e w i)
   optional_refuses s t e v w (optional_memory c) g = c
 
   -- what may be left out keeps to the laws of a field
   pub optional_law : FieldLaw env (Option T) (OptionalEval T inner) k q (OptionalValue T group gap)
-  optional_law =
-      record {
-        own = l.own;
-        ok = optional_ok;
-        takes_all = λ s t u v w i g. optional_takes s t u v w i (optional_view _ v g);
-        refuses = λ s t e v w i g. optional_refuses s t e v w i (optional_view _ v g);
-      }
+  optional_law = record {
+    own = l.own;
+    ok = optional_ok;
+    takes_all = λ s t u v w i g. optional_takes s t u v w i (optional_view _ v g);
+    refuses = λ s t e v w i g. optional_refuses s t e v w i (optional_view _ v g);
+  }
 
   -- fallback
 
   module _ (f : Closure (Unit {0}) T) (decides : Decides f) where
-    catch_nothing : (s m : Situation) (e : Error) → CanCatch e → SingleErr T k q group gap s e m
-        → (gap.has ≡ false) × (front k (pieces q (cells s)) ≡ [])
-    catch_nothing s m e h (of_memory c) = absurd (no_catch e OfMemory h c (λ i. cc) (λ i. cc))
-      where
-        no_catch : (e : Error) (c : ErrorClass) → CanCatch e → class e ≡ c → (c ≡ OfMissing → ⊥)
-            → (c ≡ Caught → ⊥) → ⊥
-        no_catch e c (catch_missing h) g a b = a (sym g ∙ h)
-        no_catch e c (catch_other h) g a b = b (sym g ∙ h)
-    catch_nothing s m e h (of_missing c g p same) = (g, p)
-    catch_nothing s m e (catch_missing h) (of_absent c g p n) = absurd cc
-    catch_nothing s m e (catch_other h) (of_absent c g p n) = absurd cc
-    catch_nothing s m e (catch_missing h) (of_piece c p n) = absurd cc
-    catch_nothing s m e (catch_other h) (of_piece c p n) = absurd cc
-
     fallback_took : (s t : Situation) (v : T) → IsWholeIn env s → FallbackEval T inner f s (Ok v) t
         → FieldTook T k q (FallbackValue T group gap f) s v t
     fallback_took s t v w (fallback_ok i) =
@@ -287,11 +254,10 @@ module _ {env : Variables} (T : Type 0) (inner : Outcome T) (k : FieldKind) (q :
           steady = a.steady;
           takes = a.takes;
           read = λ n. own_value (a.read n);
-          rest =
-              a.rest;
+          rest = a.rest;
         }
     fallback_took s t v w (fallback_given {e = e} {m = m} i h y) =
-        let a = catch_nothing s m e h (l.err s m e w i) in
+        let a = catch_none s m e h (l.err s m e w i) in
         record {
           steady = steady_refl s;
           takes = takes_none;
@@ -320,14 +286,6 @@ module _ {env : Variables} (T : Type 0) (inner : Outcome T) (k : FieldKind) (q :
     own_missing s v a (view_group z) = not_empty _ v a.1 z
     own_missing s v a (view_gap z ab) = l.no_absent v a.0 ab
 
-    kept_fails : (s t : Situation) (e : Error) → (CanCatch e → ⊥)
-        → front k (pieces q (cells s)) ≡ [] → gap.has ≡ false → SingleErr T k q group gap s e t
-        → class e ≡ OfMemory
-    kept_fails s t e n p b (of_memory c) = c
-    kept_fails s t e n p b (of_missing c g p' same) = absurd (n c)
-    kept_fails s t e n p b (of_absent c g p' x) = absurd cc
-    kept_fails s t e n p b (of_piece c ne x) = absurd (ne p)
-
     -- where the portion has a value, all is taken
     fallback_takes : (s t : Situation) (u v : T) → IsWholeIn env s
         → FallbackEval T inner f s (Ok u) t → FallbackView (front k (pieces q (cells s))) v
@@ -336,26 +294,25 @@ module _ {env : Variables} (T : Type 0) (inner : Outcome T) (k : FieldKind) (q :
     fallback_takes s t u v w (fallback_ok i) (view_kept e h y) =
         absurd (kept_ok s t u e h (l.ok s t u w i))
     fallback_takes s t u v w (fallback_given {e = e} {m = m} i h y) g =
-        none_takes s (catch_nothing s m e h (l.err s m e w i)).1
+        none_takes s (catch_none s m e h (l.err s m e w i)).1
 
     -- and a refusal is want of memory
     fallback_refuses : (s t : Situation) (g : Error) (v : T) → IsWholeIn env s
         → FallbackEval T inner f s (Err g) t → FallbackView (front k (pieces q (cells s))) v
         → class g ≡ OfMemory
     fallback_refuses s t g v w (fallback_no {e = e} {m = m} i h n c) (view_own o) =
-        absurd (own_missing s v (catch_nothing s m e h (l.err s m e w i)) (single_view _ v o))
+        absurd (own_missing s v (catch_none s m e h (l.err s m e w i)) (single_view _ v o))
     fallback_refuses s t g v w (fallback_no i h n c) (view_kept p b z) = absurd (decides tt v z n)
     fallback_refuses s t g v w (fallback_memory c) view = c
     fallback_refuses s t g v w (fallback_err {m = m} i n) (view_own o) =
         single_refuses s m g v w i o
     fallback_refuses s t g v w (fallback_err {m = m} i n) (view_kept p b z) =
-        kept_fails s m g n p b (l.err s m g w i)
+        none_fails s m g (λ c same. n c) p b (l.err s m g w i)
 
     pub fallback_law : FieldLaw env T (FallbackEval T inner f) k q (FallbackValue T group gap f)
-    fallback_law =
-        record {
-          own = l.own;
-          ok = fallback_took;
-          takes_all = λ s t u v w i g. fallback_takes s t u v w i (fallback_view _ v g);
-          refuses = λ s t e v w i g. fallback_refuses s t e v w i (fallback_view _ v g);
-        }
+    fallback_law = record {
+      own = l.own;
+      ok = fallback_took;
+      takes_all = λ s t u v w i g. fallback_takes s t u v w i (fallback_view _ v g);
+      refuses = λ s t e v w i g. fallback_refuses s t e v w i (fallback_view _ v g);
+    }

@@ -67,9 +67,8 @@ HasNoSurplus (single k q group gap) = OneByOne group
 HasNoSurplus (complete k q value) = AtMostOne value
 HasNoSurplus _ = Unit {0}
 
--- A part of a record, with its portion of the pieces: where each field has a value, so it is with the
--- part.
+-- A part of a record, with its portion of the pieces: where each field has a value, so it is with
+-- the part.
 abbrev pub IsPartOf : (List LinePiece → Type 0) → (List LinePiece → List LinePiece)
-    → (List LinePiece → Type 0)
-    → Type 0
+    → (List LinePiece → Type 0) → Type 0
 IsPartOf each own part = (os : List LinePiece) → each os → part (own os)

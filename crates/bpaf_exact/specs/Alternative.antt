@@ -40,8 +40,7 @@ pub record AlternativeOk (T : Type 0) (q : Roles) (value : LinePiece → T → T
   pub first : TakesFirst q (cells s) piece (cells t) ⊎ HasBad T value (pieces q (cells t))
   -- where the first piece can be read, that is the one
   pub readable : (o : LinePiece) (os : List LinePiece) (w : T) → pieces q (cells s) ≡ o ∷ os
-      → value o w
-      → TakesFirst q (cells s) piece (cells t)
+      → value o w → TakesFirst q (cells s) piece (cells t)
 
 -- a refusal of an alternative
 pub data AlternativeErr (T : Type 0) (q : Roles) (value : LinePiece → T → Type 0) (s : Situation)
@@ -71,6 +70,5 @@ pick_type false a b = b
 
 -- a piece has the value that the alternative gives that it belongs to
 abbrev pub either_value : {T : Type 0} → Roles → (LinePiece → T → Type 0) → (LinePiece → T → Type 0)
-    → LinePiece
-    → T → Type 0
+    → LinePiece → T → Type 0
 either_value q a b o v = pick_type (is_own q o) (a o v) (b o v)

@@ -112,8 +112,8 @@ back (OneWord stops) [] = []
 back (OneWord false) (o ∷ os) = os
 back (OneWord true) (o ∷ os) = if is_behind o then o ∷ os else os
 
--- Of the pieces that the fields before it left, a field's portion: for a named field those that begin
--- with one of its names; for a positional field what it takes of them.
+-- Of the pieces that the fields before it left, a field's portion: for a named field those that
+-- begin with one of its names; for a positional field what it takes of them.
 abbrev pub portion : FieldKind → Roles → List LinePiece → List LinePiece
 portion ByName q os = mine q os
 portion k q os = front k os
@@ -187,8 +187,7 @@ pub record FieldsLaw (variables : Variables) (V : Type 0) (outcome : Outcome V) 
   pub named : IsNamed r
   pub steady : (s t : Situation) (v : V) → IsWholeIn variables s → outcome s (Ok v) t → Steady s t
   pub ok : (s t : Situation) (v : V) → IsWholeIn variables s → outcome s (Ok v) t
-      → NonePresent (cells t)
-      → ReadOff V r reading.value (cells s) v
+      → NonePresent (cells t) → ReadOff V r reading.value (cells s) v
   pub has_each : (os : List LinePiece) (v : V) → reading.value os v → reading.each os
   pub takes_all : (s t : Situation) (v : V) (os : List LinePiece) → IsWholeIn variables s
       → outcome s (Ok v) t → Cut r (cells s) os → reading.each os → NonePresent (cells t)

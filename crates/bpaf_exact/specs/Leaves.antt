@@ -21,8 +21,7 @@ flag_roles names k = if is_key_of names k then Alone else Foreign
 -- the items of an argument: keys with one of its names, each with its value; of an adjacent one
 -- those whose value is attached
 abbrev pub argument_roles : (adjacent : Bool) → Names → Roles
-argument_roles adjacent names k =
-    if is_argument_key names adjacent k then WithNext else Foreign
+argument_roles adjacent names k = if is_argument_key names adjacent k then WithNext else Foreign
 
 -- a key means a present value
 abbrev pub FlagValue : {T : Type 0} → (T → Type 0) → LinePiece → T → Type 0
@@ -66,8 +65,7 @@ flag_with {T = T} clones names present gap =
 
 -- a flag that must be there, or one with an absent value
 abbrev pub flag_by : {T : Type 0} → (T → T → Type 0) → Names → T → Option T → FlatForm T
-flag_by clones names present None =
-    alternative (flag_roles names) (FlagValue (clones present))
+flag_by clones names present None = alternative (flag_roles names) (FlagValue (clones present))
 flag_by clones names present (Some absent) =
     flag_with clones names present (switch_gap (clones absent))
 

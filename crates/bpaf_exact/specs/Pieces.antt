@@ -94,8 +94,7 @@ pub data Cut (r : Roles) : Cells → List LinePiece → Type 0 where
   flag : {k : Arg} {cs : Cells} {os : List LinePiece} → r k ≡ Alone → Cut r cs os
       → Cut r (Some k ∷ cs) (One k ∷ os)
   argument : {k w : Arg} {cs : Cells} {os : List LinePiece} → r k ≡ WithNext → is_value w ≡ true
-      → Cut r cs os
-      → Cut r (Some k ∷ (Some w ∷ cs)) (Two k w ∷ os)
+      → Cut r cs os → Cut r (Some k ∷ (Some w ∷ cs)) (Two k w ∷ os)
   word : {w : Arg} {cs : Cells} {os : List LinePiece} → is_positional w ≡ true → Cut r cs os
       → Cut r (Some w ∷ cs) (One w ∷ os)
 

@@ -58,8 +58,7 @@ program_if false s = no_program
 -- a closure round a field or commands
 abbrev pub program_closed : {A B : Type 0} → Closure A B → ProgramForm A → ProgramForm B
 program_closed f (plain wide s) = plain wide (flat_closed f s)
-program_closed {A = A} {B = B} f (commands r value) =
-    commands r (ClosedCells A B value f)
+program_closed {A = A} {B = B} f (commands r value) = commands r (ClosedCells A B value f)
 program_closed {A = A} {B = B} f (left_out r value) = left_out r (ClosedCells A B value f)
 program_closed f _ = no_program
 

@@ -138,11 +138,9 @@ pub record ProgramLaw (variables : Variables) (V : Type 0) (outcome : Outcome V)
   pub deep : (s t : Situation) (v : V) → IsWholeIn variables s → outcome s (Ok v) t
       → depth s ≤ depth t
   pub ok : (s t : Situation) (v : V) → IsWholeIn variables s → IsSpelledLine s.context
-      → outcome s (Ok v) t
-      → NonePresent (cells t) → value (cells s) v
+      → outcome s (Ok v) t → NonePresent (cells t) → value (cells s) v
   pub answers : (s t : Situation) (a : Result V Error) (w : V) → IsWholeIn variables s
-      → outcome s a t
-      → value (cells s) w → GivesAll (value (cells s)) a t
+      → outcome s a t → value (cells s) w → GivesAll (value (cells s)) a t
 
 -- the word is missing, and nothing is taken; or memory is wanted
 abbrev pub FindsNoCommand : {T : Type 0} → Situation → Result T Error → Situation → Type 0

@@ -25,8 +25,7 @@ pub record FrontOf (T : Type 0) (value : LinePiece → T → Type 0) (os : List 
 pub data Own (T : Type 0) (group : Groups T) : List LinePiece → List T → Type 0 where
   own_none : Own T group [] []
   own_more : {os rest : List LinePiece} {v : T} {vs : List T} → group os v rest
-      → Own T group rest vs
-      → Own T group os (v ∷ vs)
+      → Own T group rest vs → Own T group os (v ∷ vs)
 
 -- at least one piece taken
 pub record TakesAny (q : Roles) (cs ds : Cells) : Type 0 where

@@ -115,7 +115,8 @@ only_is _ = refl
 pub choice_is : {T : Type 0} (own others : List Names) (s t : FlatForm T)
     → joined_form (are_all_apart own others) (form_of s) (form_of t)
     ≡ form_of (flat_choice own others s t)
-choice_is own others (alternative q value) (alternative r other) = by_test (are_all_apart own others)
+choice_is own others (alternative q value) (alternative r other) =
+    by_test (are_all_apart own others)
   where
     by_test : (apart : Bool) → joined_form apart Alternative Alternative
         ≡ form_of (only_if apart (alternative (either q r) (either_value q value other)))

@@ -22,7 +22,7 @@ use Rattle.bpaf_exact.specs.Programs.{command_missing, command_memory}
 use Rattle.bpaf_exact.proofs.Classes.{not_memory}
 use Rattle.bpaf_exact.proofs.Narrow.{no_more}
 use Rattle.bpaf_exact.specs.ProgramForm.{ProgramForm, ProgramFormLaw, program_command}
-use Rattle.bpaf_exact.proofs.ProgramForm.{program_command_law, kept}
+use Rattle.bpaf_exact.proofs.ProgramForm.{program_command_law, narrower_program_form}
 use Rattle.bpaf.specs.Leftover.{IsLeftover, conflict, only_once, not_expected}
 use Rattle.bpaf_line.specs.declared.error.Message.{Message}
 use Rattle.bpaf_exact.proofs.Counts.{open_counted}
@@ -100,7 +100,8 @@ pub plain_command_law : (env : Variables) (T : Type 0) (inner : Outcome T)
     → ProgramFormLaw env (CommandOutcome T inner (EndsRun describes info) called shows) names
     (opening_words called) (program_command false apart called form)
 plain_command_law env T inner describes info called shows apart names words form l =
-    kept env (no_more (λ s t r o. command_eval T inner describes info called shows s t r o)) names
+    narrower_program_form env T _ _
+    (no_more (λ s t r o. command_eval T inner describes info called shows s t r o)) names
     (opening_words called) (program_command false apart called form)
     (program_command_law env T inner apart called names words form l)
 

@@ -71,7 +71,8 @@ impl<T: Drop, A: ProgramField<T>, B: ProgramField<T>> ProgramField<T> for ParseO
     ghost law = { λ p a variables.
         program_choice_law variables T _ _ (A.keys p.this true) (B.keys p.that true)
         (A.words p.this) (B.words p.that) (A.program_form p.this variables)
-        (B.program_form p.that variables) (A.law p.this a.0 variables) (B.law p.that a.1 variables) };
+        (B.program_form p.that variables) (A.law p.this a.0 variables)
+        (B.law p.that a.1 variables) };
 
     ghost shows = { λ p. choice_shows (A.shows p.this) (B.shows p.that) };
 

@@ -32,15 +32,16 @@ pub trait Record<T>: CommandLine<T> {
     ghost answers_exactly: { Self → Given → Result T ParseFailure → Type 0 };
 
     /// The value that the words give, as `run_inner`, and exactly. The record's values are read
-    /// off the words' line by itself: it is cut into pieces, and each field has its portion of them.
+    /// off the words' line by itself: it is cut into pieces, and each field has its portion of
+    /// them.
     ///
     /// - Ok(v) comes only where v is a value of the record there. Its line is whole: each key on
     ///   it is one of the record's; behind each argument's key stands its value, and no positional
     ///   field gets that one; an attached value stands nowhere else; and what is left to
     ///   positional fields are words by themselves.
-    /// - Where each field has a value on its portion, the answer is the constructor's on such values,
-    ///   or want of memory; where the record has a value, it is one of the record's, or want of
-    ///   memory.
+    /// - Where each field has a value on its portion, the answer is the constructor's on such
+    ///   values, or want of memory; where the record has a value, it is one of the record's, or
+    ///   want of memory.
     /// - Where a field has none, as for an occurrence or a word too many or one that can't be read,
     ///   no Ok is answered.
     ///
