@@ -43,20 +43,11 @@ impl Text {
     pub fn new(alloc: Global, text: &str) -> Result<Text, AllocError>
         ensures { IfOk result (λ t. t ≡ text.now) }
     {
-        if text.len() > ROOM {
-            return Text::long(alloc, text);
-        }
-        let kept = Kept::Short(ShortText::new(text));
-        Ok(Text { kept })
-    }
-
-    /// The same in memory of its own. It stays a call, so that a short text is made where it is
-    /// kept.
-    #[inline(never)]
-    fn long(alloc: Global, text: &str) -> Result<Text, AllocError>
-        ensures { IfOk result (λ t. t ≡ text.now) }
-    {
-        let kept = Kept::Long(String::from_str(alloc, text)?);
+        let kept = if text.len() <= ROOM {
+            Kept::Short(ShortText::new(text))
+        } else {
+            Kept::Long(String::from_str(alloc, text)?)
+        };
         Ok(Text { kept })
     }
 
