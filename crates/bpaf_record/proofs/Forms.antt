@@ -21,10 +21,7 @@ use Rattle.bpaf_record.specs.declared.form.Form.TheVariants.{Complete, Product}
 pub closed_is : {A B : Type 0} (f : Closure A B) (s : FlatForm A)
     → closed_form (form_of s) ≡ form_of (flat_closed f s)
 closed_is f not_flat = refl
-closed_is f (alternative q value) = refl
-closed_is f (single k q group gap) = refl
-closed_is f (complete k q value) = refl
-closed_is f (product named q fields) = refl
+closed_is f _ = refl
 
 -- a repeated word is a word
 repeated_is : (k : FieldKind) → kind_of k ≡ kind_of (repeated k)
@@ -35,37 +32,25 @@ repeated_is (EachWord stops) = refl
 -- a repeat, and what is made of its list
 listed_is : {T B : Type 0} (f : Closure (List T) B) (s : FlatForm T)
     → completed_form (form_of s) ≡ form_of (flat_closed f (flat_repeat s))
-listed_is f not_flat = refl
-listed_is f (alternative q value) = refl
 listed_is f (single k q group gap) = ap Complete (repeated_is k)
-listed_is f (complete k q value) = refl
-listed_is f (product named q fields) = refl
+listed_is f _ = refl
 
 -- last
 pub last_is : {T : Type 0} (s : FlatForm T) → completed_form (form_of s) ≡ form_of (flat_last s)
-last_is not_flat = refl
-last_is (alternative q value) = refl
 last_is (single k q group gap) = ap Complete (repeated_is k)
-last_is (complete k q value) = refl
-last_is (product named q fields) = refl
+last_is _ = refl
 
 -- optional
 optional_is : {T : Type 0} (s : FlatForm T)
     → completed_form (form_of s) ≡ form_of (flat_optional s)
 optional_is not_flat = refl
-optional_is (alternative q value) = refl
-optional_is (single k q group gap) = refl
-optional_is (complete k q value) = refl
-optional_is (product named q fields) = refl
+optional_is _ = refl
 
 -- a default
 pub fallback_is : {T : Type 0} (f : Closure (Unit {0}) T) (s : FlatForm T)
     → completed_form (form_of s) ≡ form_of (flat_fallback f s)
 fallback_is f not_flat = refl
-fallback_is f (alternative q value) = refl
-fallback_is f (single k q group gap) = refl
-fallback_is f (complete k q value) = refl
-fallback_is f (product named q fields) = refl
+fallback_is f _ = refl
 
 -- a repeat that may catch
 pub listed_unless : {T B : Type 0} (catch : Bool) (f : Closure (List T) B) (s : FlatForm T)
@@ -88,18 +73,12 @@ and_true false = refl
 -- a flat record
 pub record_is : {T : Type 0} (s : FlatForm T) → is_record_form (form_of s) ≡ is_record s
 record_is not_flat = refl
-record_is (alternative q value) = refl
-record_is (single k q group gap) = refl
-record_is (complete k q value) = refl
-record_is (product named q fields) = refl
+record_is _ = refl
 
 -- a product
 pub product_is : {T : Type 0} (s : FlatForm T) → is_product_form (form_of s) ≡ is_product s
 product_is not_flat = refl
-product_is (alternative q value) = refl
-product_is (single k q group gap) = refl
-product_is (complete k q value) = refl
-product_is (product named q fields) = refl
+product_is _ = refl
 
 -- a field of a product
 pub field_is : {T : Type 0} (s : FlatForm T) → field_form (form_of s) ≡ form_of (inner_field s)
@@ -129,19 +108,13 @@ alone_is (product false q fields) = refl
 pub con_is : {A B : Type 0} (f : Closure A B) (s : FlatForm A)
     → made_form (form_of s) ≡ form_of (flat_con f s)
 con_is f not_flat = refl
-con_is f (alternative q value) = refl
-con_is f (single k q group gap) = refl
-con_is f (complete k q value) = refl
-con_is f (product named q fields) = refl
+con_is f _ = refl
 
 -- a choice of one alone
 pub only_is : {T : Type 0} (s : FlatForm T)
     → alternative_form (form_of s) ≡ form_of (alternative_only s)
 only_is not_flat = refl
-only_is (alternative q value) = refl
-only_is (single k q group gap) = refl
-only_is (complete k q value) = refl
-only_is (product named q fields) = refl
+only_is _ = refl
 
 -- a choice of two whose keys are apart
 either_is : {T : Type 0} (s t : FlatForm T)

@@ -47,47 +47,32 @@ if_is false s = refl
 -- a closure
 pub closed_part_is : {A B : Type 0} (f : Closure A B) (s : ProgramForm A)
     → closed_part (part_of s) ≡ part_of (program_closed f s)
-closed_part_is f no_program = refl
 closed_part_is f (plain wide s) = ap (Flat wide) (closed_is f s)
-closed_part_is f (commands r value) = refl
-closed_part_is f (left_out r value) = refl
-closed_part_is f (before_commands r value) = refl
+closed_part_is f _ = refl
 
 -- another look
 pub dressed_part_is : {T : Type 0} (s : ProgramForm T)
     → dressed_part (part_of s) ≡ part_of (program_dressed s)
-dressed_part_is no_program = refl
 dressed_part_is (plain wide s) = ap (λ other. Flat (wide || other) (form_of s)) (product_is s)
-dressed_part_is (commands r value) = refl
-dressed_part_is (left_out r value) = refl
-dressed_part_is (before_commands r value) = refl
+dressed_part_is _ = refl
 
 -- what is made of a repeat
 pub repeat_part_is : {T B : Type 0} (catch : Bool) (f : Closure (List T) B) (s : ProgramForm T)
     → completed_part catch (part_of s) ≡ part_of (program_repeat catch f s)
-repeat_part_is catch f no_program = refl
 repeat_part_is catch f (plain wide s) = ap (Flat wide) (listed_unless catch f s)
-repeat_part_is catch f (commands r value) = refl
-repeat_part_is catch f (left_out r value) = refl
-repeat_part_is catch f (before_commands r value) = refl
+repeat_part_is catch f _ = refl
 
 -- its last value
 pub last_part_is : {T : Type 0} (s : ProgramForm T)
     → completed_part false (part_of s) ≡ part_of (program_last s)
-last_part_is no_program = refl
 last_part_is (plain wide s) = ap (Flat wide) (last_is s)
-last_part_is (commands r value) = refl
-last_part_is (left_out r value) = refl
-last_part_is (before_commands r value) = refl
+last_part_is _ = refl
 
 -- a default
 pub fallback_part_is : {T : Type 0} (f : Closure (Unit {0}) T) (s : ProgramForm T)
     → completed_part false (part_of s) ≡ part_of (program_fallback f s)
-fallback_part_is f no_program = refl
 fallback_part_is f (plain wide s) = ap (Flat wide) (fallback_is f s)
-fallback_part_is f (commands r value) = refl
-fallback_part_is f (left_out r value) = refl
-fallback_part_is f (before_commands r value) = refl
+fallback_part_is f _ = refl
 
 -- what may be left out
 pub optional_part_is : {T : Type 0} (catch : Bool) (s : ProgramForm T)
@@ -112,11 +97,8 @@ choice_part_is own others words more _ _ = refl
 
 -- a choice of one alone
 first_part_is : {T : Type 0} (s : ProgramForm T) → first_part (part_of s) ≡ part_of (first_only s)
-first_part_is no_program = refl
 first_part_is (plain wide s) = ap (Flat wide) (only_is s)
-first_part_is (commands r value) = refl
-first_part_is (left_out r value) = refl
-first_part_is (before_commands r value) = refl
+first_part_is _ = refl
 
 -- a flat record
 pub record_part_is : {T : Type 0} (s : ProgramForm T)
@@ -130,11 +112,8 @@ record_part_is (before_commands r value) = refl
 
 -- a program
 pub program_part_is : {T : Type 0} (s : ProgramForm T) → is_program_part (part_of s) ≡ is_program s
-program_part_is no_program = refl
 program_part_is (plain wide s) = record_is s
-program_part_is (commands r value) = refl
-program_part_is (left_out r value) = refl
-program_part_is (before_commands r value) = refl
+program_part_is _ = refl
 
 -- a command over no program
 over_none : (b : Bool) → part_if (b && false) Commands ≡ NoPart
@@ -204,11 +183,8 @@ pub alone_part_is : {T : Type 0} (s : ProgramForm T)
 alone_part_is {T} s = ap last_part (field_part_is s) ∙ by_field (program_field s)
   where
     by_field : (s : ProgramForm T) → last_part (part_of s) ≡ part_of (program_alone s)
-    by_field no_program = refl
     by_field (plain wide s) = ap (Flat wide) (alone_is s)
-    by_field (commands r value) = refl
-    by_field (left_out r value) = refl
-    by_field (before_commands r value) = refl
+    by_field _ = refl
 
 -- a named field before commands
 named_part_is : {A B : Type 0} (own others : List Names) (wide : Bool) (s : FlatForm A)
@@ -242,11 +218,8 @@ both_part_is {A} {B} own others s t =
 -- a constructor
 pub con_part_is : {A B : Type 0} (f : Closure A B) (s : ProgramForm A)
     → made_part (part_of s) ≡ part_of (program_con f s)
-con_part_is f no_program = refl
 con_part_is f (plain wide s) = ap (Flat wide) (con_is f s)
-con_part_is f (commands r value) = refl
-con_part_is f (left_out r value) = refl
-con_part_is f (before_commands r value) = refl
+con_part_is f _ = refl
 
 -- a choice of what stands before and of parsers
 rest_part_is : {P T : Type 0} (keys : P → List Names) (words : P → List (List ℕ))
